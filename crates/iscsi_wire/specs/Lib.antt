@@ -1,0 +1,4 @@
+pub mod Serial
+pub mod Fields
+pub mod Replies
+pub mod Pdus
