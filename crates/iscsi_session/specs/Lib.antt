@@ -1,0 +1,9 @@
+pub mod Settings
+pub mod Trace
+pub mod Execution
+pub mod Agenda
+pub mod Run
+pub mod Executed
+pub mod Refusals
+pub mod Lines
+pub mod Standing

@@ -1,0 +1,130 @@
+-- What has happened in a session, and what follows from it. A number of the session stands 2 ^ 32 above its
+-- first wire form, so that no number near one of the session is below 0.
+use Rattle.std.specs.Prelude.{ℕ, zero, suc, ◌+◌, ◌==◌, ◌||◌, not, Bool, true, false, List, [], ◌∷◌, ◌++◌, length, Option, Some, None, if◌then◌else◌, filter, filter_map}
+use Rattle.std.specs.List.{list_any}
+use Rattle.iscsi_wire.specs.declared.request.Request.{Request}
+use Rattle.iscsi_wire.specs.declared.reply.Reply.{Reply}
+use Rattle.iscsi_wire.specs.Serial.{number_of_first}
+use Rattle.iscsi_session.specs.declared.effect.Attr.{Attr}
+use Rattle.iscsi_session.specs.declared.effect.Why.{Why}
+
+-- a request with its number, and the place of its event in the history
+pub record Arrival : Type 0 where
+  pub event : ℕ
+  pub number : ℕ
+  pub request : Request
+
+-- a command that entered a unit's task set
+pub record Command : Type 0 where
+  pub ticket : ℕ
+  pub unit : ℕ
+  pub attr : Attr
+  pub arrival : Arrival
+
+-- what an item does
+pub data Mark : Type 0 where
+  Admits : Arrival → Mark  -- a numbered request is received, and held from now on
+  Delivers : Arrival → Mark  -- a numbered request executes
+  Leaves : Command → Mark
+  Enters : Command → Mark
+  Sends : ℕ → Reply → Mark  -- a reply goes out on a connection
+  Ignores : Why → Mark
+
+-- the items of a history, the newest first; the marks of an item stand in order. The end of an item is a moment
+abbrev pub Trace : Type 0
+Trace = List (List Mark)
+
+-- the trace after these items, oldest first
+abbrev pub after_items : List (List Mark) → Trace → Trace
+after_items [] t = t
+after_items (item ∷ items) t = after_items items (item ∷ t)
+
+-- some mark passes
+abbrev pub has : (Mark → Bool) → Trace → Bool
+has test t = list_any (list_any test) t
+
+-- what the marks show, oldest first
+abbrev pub shown : {A : Type 0} → (Mark → Option A) → Trace → List A
+shown view [] = []
+shown view (item ∷ t) = shown view t ++ filter_map view item
+
+abbrev pub first_of : {A : Type 0} → List A → Option A
+first_of [] = None
+first_of (x ∷ xs) = Some x
+
+-- ---- received numbers (RFC 7143 section 4.2.2.1)
+
+abbrev pub number_received : Mark → Option ℕ
+number_received (Admits a) = Some a.number
+number_received _ = None
+
+-- all numbers that were ever admitted
+abbrev pub received : Trace → List ℕ
+received t = shown number_received t
+
+abbrev pub contains : List ℕ → ℕ → Bool
+contains ns n = list_any (λ k. k == n) ns
+
+abbrev pub is_received : Trace → ℕ → Bool
+is_received t n = contains (received t) n
+
+-- the least number from n on that isn't among these; fuel is their count
+abbrev pub least_missing : List ℕ → ℕ → ℕ → ℕ
+least_missing ns zero n = n
+least_missing ns (suc fuel) n = elim (contains ns n) [ true ↦ least_missing ns fuel (n + 1) | false ↦ n ]
+
+-- ExpCmdSN: the least number, from the first on, that isn't received
+abbrev pub expected : ℕ → Trace → ℕ
+expected first t = least_missing (received t) (length (received t)) (number_of_first first)
+
+-- ---- requests
+
+abbrev pub admits_at : ℕ → Mark → Option Arrival
+admits_at n (Admits a) = if a.number == n then Some a else None
+admits_at n _ = None
+
+-- the request that was admitted at n
+abbrev pub admitted : Trace → ℕ → Option Arrival
+admitted t n = first_of (shown (admits_at n) t)
+
+abbrev pub delivers_number : ℕ → Mark → Bool
+delivers_number n (Delivers a) = a.number == n
+delivers_number n _ = false
+
+abbrev pub is_delivered : Trace → ℕ → Bool
+is_delivered t n = has (delivers_number n) t
+
+-- the request that is held at n: admitted, and not executed since
+abbrev pub held : Trace → ℕ → Option Arrival
+held t n = if is_delivered t n then None else admitted t n
+
+-- ---- commands (SAM-5 section 8)
+
+abbrev pub enters : Mark → Option Command
+enters (Enters c) = Some c
+enters _ = None
+
+abbrev pub leaves_ticket : ℕ → Mark → Bool
+leaves_ticket ticket (Leaves c) = c.ticket == ticket
+leaves_ticket ticket _ = false
+
+-- all commands that ever entered a set, oldest first
+abbrev pub entered : Trace → List Command
+entered t = shown enters t
+
+-- the commands of the session that entered and didn't leave, oldest first
+abbrev pub live : Trace → List Command
+live t = filter (λ c. not (has (leaves_ticket c.ticket) t)) (entered t)
+
+abbrev pub is_among : ℕ → List Command → Bool
+is_among ticket set = list_any (λ c. c.ticket == ticket) set
+
+-- the commands that are enabled now: every one, from its entry on
+abbrev pub enabled : Trace → List Command
+enabled t = live t
+
+-- ---- replies
+
+abbrev pub sent_on : Mark → Option ℕ
+sent_on (Sends conn reply) = Some conn
+sent_on _ = None

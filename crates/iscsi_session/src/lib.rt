@@ -1,0 +1,19 @@
+//! The core of an iSCSI target's command queue: one session, as a state machine without input or output.
+//! An event goes in, and its effects come out, in order.
+#![tactic(auto)]
+
+mod effect;
+mod event;
+mod fault;
+mod log;
+mod options;
+mod report;
+mod session;
+
+pub use effect::{Attr, Effect, Numbers, Why};
+pub use event::Event;
+pub use fault::SessionFault;
+pub use log::{Effects, Entry, Log};
+pub use options::Options;
+pub use report::{put_effect, put_event};
+pub use session::Session;
