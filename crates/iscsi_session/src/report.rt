@@ -11,8 +11,14 @@ use crate::fault::SessionFault;
 use iscsi_wire::{Pdu, Reply, Request};
 use itoa::Buffer;
 
-/// Room for a line with its end: no line is longer.
+#[cfg(test)]
+mod tests;
+
+/// Room for a line with its end. The longest line, that of a Reject, takes 206 bytes of it.
 pub const LONGEST_LINE: usize = 256;
+
+/// Room for an effect's text: what the blanks before it and the end of its line leave.
+const LONGEST_TEXT: usize = LONGEST_LINE - 3;
 
 /// Appends the line of an event. `NoMemory` changes nothing, and doesn't come where there is room for a line.
 pub fn put_event(event: &Event, out: &mut Vec<u8>) -> Result<(), SessionFault>
@@ -48,7 +54,7 @@ pub fn put_effect(effect: &Effect, numbers: Numbers, out: &mut Vec<u8>) -> Resul
     Ok(())
 }
 
-// The functions below append to a vector that has room for what they append.
+// The functions below append to a vector that has the room, so that no memory is asked for.
 
 fn put_arrival(conn: u16, header: &[u8; 48], out: &mut Vec<u8>)
     requires { vec_len out.old + LONGEST_LINE ≤ vec_capacity out.old }
@@ -69,9 +75,6 @@ fn put_completion(ticket: u64, status: u8, out: &mut Vec<u8>)
     put_hex(&[status], out);
     put_text(b"\n", out);
 }
-
-/// The most bytes of an effect's text: those of a Reject.
-const LONGEST_TEXT: usize = 220;
 
 fn put_effect_text(effect: &Effect, numbers: Numbers, out: &mut Vec<u8>)
     requires { vec_len out.old + LONGEST_TEXT ≤ vec_capacity out.old }
@@ -129,9 +132,9 @@ fn text_of_why(why: Why) -> &'static [u8]
 /// A word and the fields of a request.
 fn put_request(word: &[u8], request: &Request, out: &mut Vec<u8>)
     requires short { length word.now ≤ 10 }
-    requires room { vec_len out.old + 50 ≤ vec_capacity out.old }
+    requires room { vec_len out.old + LONGEST_TEXT ≤ vec_capacity out.old }
     ensures items { out.new.items ≡ out.old.items ++ (word.now ++ request_fields request.now) }
-    ensures len { vec_len out.new ≤ vec_len out.old + 50 }
+    ensures len { vec_len out.new ≤ vec_len out.old + LONGEST_TEXT }
     ensures capacity { vec_capacity out.old ≤ vec_capacity out.new }
 {
     put_decimal(word, u64::from(request.conn()), out);
@@ -140,9 +143,9 @@ fn put_request(word: &[u8], request: &Request, out: &mut Vec<u8>)
 }
 
 fn put_enter(ticket: u64, unit: u16, attr: Attr, out: &mut Vec<u8>)
-    requires { vec_len out.old + 60 ≤ vec_capacity out.old }
+    requires { vec_len out.old + LONGEST_TEXT ≤ vec_capacity out.old }
     ensures items { out.new.items ≡ out.old.items ++ (codes "enter " ++ enter_fields ticket unit attr) }
-    ensures len { vec_len out.new ≤ vec_len out.old + 60 }
+    ensures len { vec_len out.new ≤ vec_len out.old + LONGEST_TEXT }
     ensures capacity { vec_capacity out.old ≤ vec_capacity out.new }
 {
     put_decimal(b"enter ", ticket, out);
@@ -163,6 +166,7 @@ fn put_send(conn: u16, stat_sn: u32, reply: &Reply, numbers: Numbers, out: &mut 
     put_pdu(&pdu, out);
 }
 
+/// The digits of a PDU. One with a tail of 48 bytes has 192 digits.
 fn put_pdu(pdu: &Pdu, out: &mut Vec<u8>)
     requires short { length (pdu_tail pdu.now) ≤ 48 }
     requires room { vec_len out.old + 192 ≤ vec_capacity out.old }
