@@ -5,3 +5,4 @@ pub mod TraceLemmas
 pub mod NumberLemmas
 pub mod AgreeLemmas
 pub mod StepLemmas
+pub mod LineLemmas
