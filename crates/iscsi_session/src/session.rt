@@ -159,7 +159,8 @@ impl Session {
         }
         self.taken += 1;
         self.apply(event, out);
-        Ok(self.numbers())
+        let numbers = self.numbers();
+        Ok(numbers)
     }
 
     /// Takes an event that is counted.
