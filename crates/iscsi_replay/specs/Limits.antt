@@ -1,5 +1,5 @@
 -- The limits of settings.
-use Rattle.std.specs.Prelude.{ℕ, ◌&&◌, Bool}
+use Rattle.std.specs.Prelude.{◌&&◌, Bool}
 use Rattle.iscsi_session.specs.Settings.{is_within}
 use Rattle.iscsi_replay.specs.declared.settings.Settings.{Settings}
 
