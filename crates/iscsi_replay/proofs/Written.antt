@@ -30,9 +30,9 @@ front_longer a b bytes more whole is f = record {
   appended = f.appended;
 }
 
--- all waits
-pub waits_all : (a : Option (List ℕ)) (bytes : List ℕ) → AppendsBut a a bytes bytes
-waits_all a bytes = record { front = []; whole = refl; appended = Appends-nil a }
+-- nothing is written, and nothing waits
+pub waits_not : (a : Option (List ℕ)) (waiting : List ℕ) → waiting ≡ [] → AppendsBut a a waiting []
+waits_not a waiting is = record { front = []; whole = sym is; appended = Appends-nil a }
 
 -- nothing waits
 pub waits_none : (a b : Option (List ℕ)) (bytes : List ℕ) → Appends a b bytes → AppendsBut a b [] bytes
@@ -60,14 +60,15 @@ pub front_before : (a b : Option (List ℕ)) (waiting bytes : List ℕ) → Appe
 front_before a b waiting bytes h = record { front = h.front; back = waiting; whole = h.whole; appended = h.appended }
 
 -- a front of the bytes that wait is written
-pub front_after : (a b c : Option (List ℕ)) (waiting bytes : List ℕ) → AppendsBut a b waiting bytes → AppendsFront b c waiting → AppendsFront a c bytes
-front_after a b c waiting bytes h f = record {
+pub front_after : (a b c : Option (List ℕ)) (waiting put bytes : List ℕ) → put ≡ waiting → AppendsBut a b waiting bytes → AppendsFront b c put → AppendsFront a c bytes
+front_after a b c waiting put bytes is h f = record {
   front = h.front ++ f.front;
   back = f.back;
-  whole = h.whole ∙ ap (λ l. h.front ++ l) f.whole ∙ sym (append_assoc h.front f.front f.back);
+  whole = h.whole ∙ ap (λ l. h.front ++ l) (sym is ∙ f.whole) ∙ sym (append_assoc h.front f.front f.back);
   appended = Appends-trans a b c h.front f.front h.appended f.appended;
 }
 
 -- all of the bytes that wait are written
-pub all_after : (a b c : Option (List ℕ)) (waiting bytes : List ℕ) → AppendsBut a b waiting bytes → Appends b c waiting → Appends a c bytes
-all_after a b c waiting bytes h i = subst (Appends a c) (sym h.whole) (Appends-trans a b c h.front waiting h.appended i)
+pub all_after : (a b c : Option (List ℕ)) (waiting put bytes : List ℕ) → put ≡ waiting → AppendsBut a b waiting bytes → Appends b c put → Appends a c bytes
+all_after a b c waiting put bytes is h i =
+    subst (Appends a c) (ap (λ l. h.front ++ l) is ∙ sym h.whole) (Appends-trans a b c h.front put h.appended i)
