@@ -190,3 +190,6 @@ pub fn read_recording<R: Source>(
     *recording = reading.finish()?;
     Ok(())
 }
+
+#[cfg(test)]
+mod tests;
