@@ -49,3 +49,49 @@ impl fmt::Display for ReplayFault {
 }
 
 impl Error for ReplayFault {}
+
+#[cfg(test)]
+mod tests {
+    use super::*;
+    use std::test::Fail;
+
+    #[test]
+    fn has_its_line(rt: HostRuntime) -> Result<(), Fail> {
+        let cases = [
+            (
+                ReplayFault::BadLine(12),
+                "iscsi-replay: line 12: not a line of a recording",
+            ),
+            (
+                ReplayFault::LineTooLong(1048576),
+                "iscsi-replay: line 1048576: longer than 256 bytes",
+            ),
+            (
+                ReplayFault::TooManyLines,
+                "iscsi-replay: more than 1048576 lines",
+            ),
+            (
+                ReplayFault::Read,
+                "iscsi-replay: the input could not be read",
+            ),
+            (ReplayFault::NoMemory, "iscsi-replay: out of memory"),
+            (
+                ReplayFault::NoConnection,
+                "iscsi-replay: no connection line",
+            ),
+            (
+                ReplayFault::Write,
+                "iscsi-replay: the output could not be written",
+            ),
+            (
+                ReplayFault::BadSettings,
+                "iscsi-replay: a setting is out of range",
+            ),
+        ];
+        for (fault, line) in cases {
+            let text = format!(in rt.alloc(); "{fault}")?;
+            assert_eq!(rt; text.as_str(), line);
+        }
+        Ok(())
+    }
+}

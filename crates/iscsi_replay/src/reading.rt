@@ -1,15 +1,15 @@
 //! Reading a recording in pieces.
 
-ghost use Rattle.std.specs.Prelude.{◌≡◌, ◌≢◌, ◌↔◌, ◌+◌, ◌≤◌, ℕ, length, List, [], ◌∷◌, ◌++◌, ◌<◌, true, false, IfSome, IfErr, OnOk, OnErr, IfOk, IsErrOf, MatchResult, Ok};
+ghost use Rattle.std.specs.Prelude.{◌≡◌, ◌≢◌, ◌↔◌, ◌+◌, ◌≤◌, ℕ, length, List, [], ◌∷◌, ◌++◌, ◌<◌, true, false, IfSome, IfErr, OnOk, OnErr, IfOk, IsErrOf, MatchResult, Ok, vec_len};
 ghost use Rattle.std.specs.List.{list_any};
-ghost use Rattle.iscsi_replay.specs.Recorded.{view, read_end, read_of, Fails, IsSound};
+ghost use Rattle.iscsi_replay.specs.Recorded.{view, read_line, read_end, read_of, Fails, Steps, IsSound};
 ghost use Rattle.iscsi_replay.specs.Reading.{is_end, IsReading, IsSoundIn, left_of, weight, Answers};
 
 use crate::fault::ReplayFault;
 use crate::recording::{MAX_LINE, MAX_LINES, Recording};
 use crate::source::Source;
 use memchr::memchr;
-use std::alloc::Global;
+use std::alloc::{AllocError, Global};
 
 /// How many bytes are asked of the reader at once.
 const CHUNK: usize = 65536;
@@ -35,15 +35,17 @@ impl Reading {
         }
     }
 
-    /// Keeps the front of a line, of which the rest comes in a later chunk.
+    /// Keeps the front of a line, of which the rest comes yet.
+    #[tactic(auto, unfolding(crate::specs::Recorded::read_line))]
     fn keep(&mut self, front: &[u8]) -> Result<(), ReplayFault>
         requires ready { IsReading self.old }
         requires one { list_any is_end front.now ≡ false }
         ensures ready { OnOk result (IsReading self.new) }
         ensures ok { OnOk result (self.new.pending.items ≡ self.old.pending.items ++ front.now) }
-        ensures same { self.new.line ≡ self.old.line }
+        ensures line { self.new.line ≡ self.old.line }
         ensures so_far { self.new.so_far ≡ self.old.so_far }
-        ensures err { IfErr result (λ e. (rest : List ℕ) → Fails e (left_of self.old (front.now ++ rest))) }
+        // However the line goes on, this is its fault.
+        ensures err { IfErr result (λ e. (0 < length front.now) × ((x : List ℕ) → Fails e (read_line self.old.line (view self.old.so_far) ((self.old.pending.items ++ front.now) ++ x)))) }
     {
         if front.is_empty() {
             return Ok(());
@@ -60,7 +62,24 @@ impl Reading {
         }
     }
 
-    /// Takes the line that `last` and a line end complete. It isn't copied where it lies in one chunk.
+    /// Takes the line that `last` completes. It is copied only where it began in a chunk before.
+    fn complete(&mut self, last: &[u8]) -> Result<(), ReplayFault>
+        requires ready { IsReading self.old }
+        requires one { list_any is_end last.now ≡ false }
+        ensures step { Steps result (view self.new.so_far) (read_line self.old.line (view self.old.so_far) (self.old.pending.items ++ last.now)) }
+        ensures line { OnOk result (self.new.line ≡ self.old.line) }
+        ensures pending { OnOk result (self.new.pending.items ≡ []) }
+    {
+        if self.pending.is_empty() {
+            return self.so_far.take_line(self.line, last);
+        }
+        self.keep(last)?;
+        self.so_far.take_line(self.line, &self.pending)?;
+        self.pending.clear();
+        Ok(())
+    }
+
+    /// Takes the line that `last` and a line end complete.
     fn end_line(&mut self, last: &[u8]) -> Result<(), ReplayFault>
         requires ready { IsReading self.old }
         requires one { list_any is_end last.now ≡ false }
@@ -69,13 +88,7 @@ impl Reading {
         ensures err { IfErr result (λ e. (rest : List ℕ) → Fails e (left_of self.old (last.now ++ 10 ∷ rest))) }
         ensures more { OnOk result (weight self.old + length last.now + 1 ≤ weight self.new) }
     {
-        if self.pending.is_empty() {
-            self.so_far.take_line(self.line, last)?;
-        } else {
-            self.keep(last)?;
-            self.so_far.take_line(self.line, &self.pending)?;
-            self.pending.clear();
-        }
+        self.complete(last)?;
         self.line += 1;
         Ok(())
     }
@@ -147,6 +160,12 @@ fn fill<R: Source>(
     }
 }
 
+fn zeros(alloc: Global, count: usize) -> Result<Vec<u8>, AllocError>
+    ensures { IfOk result (λ bytes. vec_len bytes ≡ count) }
+{
+    vec![in alloc; 0u8; count]
+}
+
 /// Reads a recording to its end. It is replaced on `Ok`, and stays as it was on `Err`.
 ///
 /// A failing read answers `Read`, unless a fault was due by the bytes before it.
@@ -163,7 +182,7 @@ pub fn read_recording<R: Source>(
     ensures err { OnErr result (view recording.new ≡ view recording.old) }
     ensures sound { OnOk result (IsSound (view recording.new)) }
 {
-    let Ok(mut chunk) = vec![in alloc; 0u8; CHUNK] else {
+    let Ok(mut chunk) = zeros(alloc, CHUNK) else {
         return Err(ReplayFault::NoMemory);
     };
     let mut reading = Reading::new(alloc);
@@ -171,3 +190,6 @@ pub fn read_recording<R: Source>(
     *recording = reading.finish()?;
     Ok(())
 }
+
+#[cfg(test)]
+mod tests;

@@ -1,4 +1,4 @@
-use Rattle.std.proofs.Common.{◌≡◌, ◌<◌, sym, length, get_or, true, rules}
+use Rattle.std.proofs.Common.{sym, rules}
 use Rattle.iscsi_replay.proofs.Digits.{too_great}
 use Rattle.iscsi_replay.proofs.parse.digits.Goals as goal
 
