@@ -8,3 +8,4 @@ pub mod Limits
 pub mod Command
 pub mod Writing
 pub mod Replayed
+pub mod Stops
