@@ -29,8 +29,8 @@ report_longer s conns h (e ∷ es) =
     let next = report_longer s conns (h ++ e ∷ []) es in (
       lines ++ next.0,
       ap (report_until s conns) (sym (append_assoc h (e ∷ []) es)) ∙ next.1
-      ∙ ap (λ l. l ++ next.0) (report_of-push (setting_for s conns) h e)
-      ∙ append_assoc (report_until s conns h) lines next.0,
+          ∙ ap (λ l. l ++ next.0) (report_of-push (setting_for s conns) h e)
+          ∙ append_assoc (report_until s conns h) lines next.0,
     )
 
 -- the report of the events up to the i-th is a front of that of all

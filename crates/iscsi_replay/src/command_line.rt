@@ -10,13 +10,7 @@ use clap::{Arg, ArgMatches, Command, Error};
 use std::alloc::{AllocError, Global};
 
 /// An option that takes a number from 1 to `high`, and without it has the number `given`.
-fn number<'a>(
-    alloc: Global,
-    name: &'a str,
-    high: u64,
-    given: &'a str,
-    help: &'a str,
-) -> Arg<'a>
+fn number<'a>(alloc: Global, name: &'a str, high: u64, given: &'a str, help: &'a str) -> Arg<'a>
     ensures rule { rule_of result ≡ number_rule name.entry.now high given.entry.now }
     ensures local { result.global ≡ false }
 {
@@ -45,9 +39,27 @@ fn command<'a>(alloc: Global) -> Result<Command<'a>, AllocError>
     Command::new(alloc, "iscsi-replay")
         .about("Reads a recording from standard input and writes its report to standard output")
         .arg(first(alloc))?
-        .arg(number(alloc, "window", 1024, "32", "The size of the command window, 1 to 1024"))?
-        .arg(number(alloc, "units", 256, "1", "How many logical units there are, 1 to 256"))?
-        .arg(number(alloc, "depth", 1024, "64", "The most commands of a unit's task set, 1 to 1024"))?
+        .arg(number(
+            alloc,
+            "window",
+            1024,
+            "32",
+            "The size of the command window, 1 to 1024",
+        ))?
+        .arg(number(
+            alloc,
+            "units",
+            256,
+            "1",
+            "How many logical units there are, 1 to 256",
+        ))?
+        .arg(number(
+            alloc,
+            "depth",
+            1024,
+            "64",
+            "The most commands of a unit's task set, 1 to 1024",
+        ))?
         .arg(number(alloc, "level", 2, "1", "The protocol level, 1 or 2"))
 }
 

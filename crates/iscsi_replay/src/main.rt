@@ -16,9 +16,8 @@ mod stopping;
 mod watched;
 
 use fault::ReplayFault;
-use std::env;
-use std::io;
 use std::process::ExitCode;
+use std::{env, io};
 use stopping::Stop;
 use watched::Watched;
 

@@ -17,7 +17,9 @@ use crate::recording::Recording;
 use crate::settings::Settings;
 use crate::sink::{Sink, put_all};
 use crate::source::Source;
-use iscsi_session::{Effect, Event, Numbers, Options, Session, SessionFault, put_effect, put_event};
+use iscsi_session::{
+    Effect, Event, Numbers, Options, Session, SessionFault, put_effect, put_event,
+};
 use std::alloc::Global;
 
 /// The most events that a session takes: a recording has no more lines.
@@ -38,11 +40,7 @@ fn fault_of(fault: SessionFault) -> ReplayFault
 }
 
 /// Opens the session of a recording's connections.
-fn open(
-    alloc: Global,
-    settings: &Settings,
-    conns: Vec<(u16, u32)>,
-) -> Result<Session, ReplayFault>
+fn open(alloc: Global, settings: &Settings, conns: Vec<(u16, u32)>) -> Result<Session, ReplayFault>
     requires { is_valid (setting_for settings.now conns.items) ≡ true }
     ensures stands { IfOk result (λ s. StandsFor (setting_for settings.now conns.items) s []) }
     ensures memory { IfErr result (λ e. e ≡ ReplayFault.NoMemory) }

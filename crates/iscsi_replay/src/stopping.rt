@@ -1,6 +1,7 @@
 //! Why the program ends without a whole report.
 
-ghost use Rattle.std.specs.Prelude.{◌≡◌};
+ghost use Rattle.std.specs.Prelude.{◌≡◌, ◌≢◌, ◌≤◌};
+ghost use Rattle.std.specs.Process.{exit_status};
 
 use crate::fault::ReplayFault;
 use clap::error::ErrorKind;
@@ -57,8 +58,11 @@ impl Stop {
         }
     }
 
-    /// Tells why the program ends, and answers its status.
-    pub fn report<R: Print + Eprint>(&self, rt: &R) -> ExitCode {
+    /// Tells why the program ends, and answers its status, or 1 where the help couldn't be printed.
+    pub fn report<R: Print + Eprint>(&self, rt: &R) -> ExitCode
+        ensures refused { status_of self.now ≢ 0 → exit_status result ≡ status_of self.now }
+        ensures help { status_of self.now ≡ 0 → exit_status result ≤ 1 }
+    {
         match (self.tell(rt), self.status()) {
             (Err(_), 0) => ExitCode::FAILURE,
             (_, status) => ExitCode::from(status),

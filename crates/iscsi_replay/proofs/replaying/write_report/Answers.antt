@@ -5,6 +5,8 @@ use Rattle.iscsi_session.specs.Standing.{StandsFor}
 use Rattle.iscsi_replay.specs.Replayed.{setting_for}
 use Rattle.iscsi_replay.proofs.Written.{front_before, front_after, waits_not, waits_less}
 use Rattle.iscsi_replay.proofs.ReportLemmas.{front_of_all, effects_alone, waits_next, all_written}
+use Rattle.iscsi_replay.specs.Recorded.{view}
+use Rattle.iscsi_replay.proofs.RefusalLemmas.{memory_alone, event_taken}
 use Rattle.iscsi_replay.proofs.replaying.write_report.Goals as goal
 
 pub loop-event-init : goal.loop-event-init
@@ -25,7 +27,12 @@ returns-in-Err-clause-front g c =
     (front_before _ _ _ _ c.loop-event.invariant.written)
 
 pub fault_of-requires : goal.fault_of-requires
-fault_of-requires g c = ?
+fault_of-requires g c =
+    let o = setting_for c.args.settings.now c.args.recording.conns.items in
+    let items = c.deref-event-items.result.now in
+    let i = c.loop-event.event-index in
+    memory_alone _ _ _ (event_taken c.args.settings.now (view c.args.recording) items i _ c.deref-event-items.ensures.value c.requires.sound c.loop-event-test.true)
+    c.in-Err.is (c.step.ensures.refused o (take i items) c.loop-event.invariant.stands)
 
 pub returns-in_err-write_chunk-clause-front : goal.returns-in_err-write_chunk-clause-front
 returns-in_err-write_chunk-clause-front g c =
