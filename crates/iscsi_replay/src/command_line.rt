@@ -131,3 +131,6 @@ pub fn settings<'a>(alloc: Global, words: &'a [&'a str]) -> Result<Option<Settin
         level,
     }))
 }
+
+#[cfg(test)]
+mod tests;

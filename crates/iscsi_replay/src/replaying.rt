@@ -156,3 +156,6 @@ pub fn replay<R: Source, W: Sink>(
     read_recording(alloc, reader, &mut recording)?;
     write_report(alloc, settings, recording, writer)
 }
+
+#[cfg(test)]
+mod tests;
