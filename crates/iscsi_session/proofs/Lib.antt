@@ -1,1 +1,8 @@
 pub mod RunLemmas
+pub mod ListLemmas
+pub mod Missing
+pub mod TraceLemmas
+pub mod NumberLemmas
+pub mod AgreeLemmas
+pub mod StepLemmas
+pub mod LineLemmas

@@ -7,3 +7,4 @@ pub mod Executed
 pub mod Refusals
 pub mod Lines
 pub mod Standing
+pub mod Steps

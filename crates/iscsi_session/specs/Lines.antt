@@ -41,6 +41,10 @@ why_word Data = codes "data"
 abbrev pub request_fields : Request → List ℕ
 request_fields r = decimal (connection_of r) ++ (codes " " ++ (eight_digits (cmd_sn r) ++ (codes " " ++ eight_digits (itt r))))
 
+-- `ticket unit attr`
+abbrev pub enter_fields : ℕ → ℕ → Attr → List ℕ
+enter_fields ticket unit attr = decimal ticket ++ (codes " " ++ (decimal unit ++ (codes " " ++ attr_word attr)))
+
 -- an effect, with ExpCmdSN and MaxCmdSN of the end of its event
 abbrev pub effect_text : Effect → Numbers → List ℕ
 effect_text (Deliver request) n = codes "deliver " ++ request_fields request
@@ -48,7 +52,7 @@ effect_text (Immediate request) n = codes "immediate " ++ request_fields request
 effect_text (Wait request) n = codes "wait " ++ request_fields request
 effect_text (Void sn) n = codes "void " ++ eight_digits sn
 effect_text (Empty sn) n = codes "empty " ++ eight_digits sn
-effect_text (Enter ticket unit attr) n = codes "enter " ++ (decimal ticket ++ (codes " " ++ (decimal unit ++ (codes " " ++ attr_word attr))))
+effect_text (Enter ticket unit attr) n = codes "enter " ++ enter_fields ticket unit attr
 effect_text (Enable ticket unit) n = codes "enable " ++ decimal ticket
 effect_text (Leave ticket unit) n = codes "leave " ++ decimal ticket
 effect_text (Send conn stat_sn reply) n =

@@ -1,5 +1,5 @@
 -- The whole run: the log of a list of events.
-use Rattle.std.specs.Prelude.{ℕ, ◌+◌, ◌==◌, not, Bool, List, [], ◌∷◌, ◌++◌, length, map, Option, Some, None, filter, count_by}
+use Rattle.std.specs.Prelude.{ℕ, ◌+◌, ◌==◌, not, List, [], ◌∷◌, ◌++◌, length, map, Some, None, filter, count_by}
 use Rattle.std.specs.List.{flat_map}
 use Rattle.iscsi_wire.specs.Serial.{wire}
 use Rattle.iscsi_session.specs.declared.effect.Effect.{Effect}

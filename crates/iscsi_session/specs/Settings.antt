@@ -1,5 +1,5 @@
 -- The options of a session, and their limits.
-use Rattle.std.specs.Prelude.{ℕ, ◌^◌, ◌==◌, ◌&&◌, ◌||◌, not, nat_le, Bool, true, List, [], ◌∷◌, length}
+use Rattle.std.specs.Prelude.{ℕ, ◌^◌, ◌==◌, ◌&&◌, not, nat_le, Bool, true, List, [], ◌∷◌, length}
 use Rattle.std.specs.List.{list_any}
 use Rattle.iscsi_session.specs.declared.options.Options.{Options}
 
@@ -33,11 +33,13 @@ abbrev pub are_distinct : List (ℕ × ℕ) → Bool
 are_distinct [] = true
 are_distinct (conn ∷ conns) = not (is_known conn.0 conns) && are_distinct conns
 
-abbrev pub is_within : ℕ → ℕ → ℕ → Bool
-is_within low n high = nat_le low n && nat_le n high
+-- from 1 to the most
+abbrev pub is_within : ℕ → ℕ → Bool
+is_within n most = nat_le 1 n && nat_le n most
+
+abbrev pub are_sizes_valid : Setting → Bool
+are_sizes_valid o = is_within o.window 1024 && is_within o.units 256 && is_within o.depth 1024 && is_within o.level 2
 
 -- every option is within its limits
 abbrev pub is_valid : Setting → Bool
-is_valid o =
-    is_within 1 o.window 1024 && is_within 1 o.units 256 && is_within 1 o.depth 1024 && is_within 1 o.level 2
-    && is_within 1 o.events (2 ^ 48) && is_within 1 (length o.conns) 64 && are_distinct o.conns
+is_valid o = are_sizes_valid o && is_within o.events (2 ^ 48) && is_within (length o.conns) 64 && are_distinct o.conns

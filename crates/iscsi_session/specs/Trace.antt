@@ -1,6 +1,6 @@
 -- What has happened in a session, and what follows from it. A number of the session stands 2 ^ 32 above its
 -- first wire form, so that no number near one of the session is below 0.
-use Rattle.std.specs.Prelude.{ℕ, zero, suc, ◌+◌, ◌==◌, ◌||◌, not, Bool, true, false, List, [], ◌∷◌, ◌++◌, length, Option, Some, None, if◌then◌else◌, filter, filter_map}
+use Rattle.std.specs.Prelude.{ℕ, zero, suc, ◌+◌, ◌==◌, not, Bool, false, List, [], ◌∷◌, ◌++◌, length, Option, Some, None, if◌then◌else◌, filter, filter_map}
 use Rattle.std.specs.List.{list_any}
 use Rattle.iscsi_wire.specs.declared.request.Request.{Request}
 use Rattle.iscsi_wire.specs.declared.reply.Reply.{Reply}
@@ -71,7 +71,7 @@ is_received t n = contains (received t) n
 -- the least number from n on that isn't among these; fuel is their count
 abbrev pub least_missing : List ℕ → ℕ → ℕ → ℕ
 least_missing ns zero n = n
-least_missing ns (suc fuel) n = elim (contains ns n) [ true ↦ least_missing ns fuel (n + 1) | false ↦ n ]
+least_missing ns (suc fuel) n = if contains ns n then least_missing ns fuel (n + 1) else n
 
 -- ExpCmdSN: the least number, from the first on, that isn't received
 abbrev pub expected : ℕ → Trace → ℕ

@@ -15,5 +15,5 @@ pub use event::Event;
 pub use fault::SessionFault;
 pub use log::{Effects, Entry, Log};
 pub use options::Options;
-pub use report::{put_effect, put_event};
+pub use report::{LONGEST_LINE, put_effect, put_event};
 pub use session::Session;

@@ -1,0 +1,111 @@
+-- Lists of connections and commands.
+use Rattle.std.proofs.Common.{◌≡◌, ℕ, zero, suc, ◌+◌, ◌<◌, ◌==◌, ◌&&◌, ◌||◌, not, cond, Bool, true, false, List, [], ◌∷◌, length, map, filter, find, get_or, set, Some, None, refl, ap, sym, ◌∙◌, arith, nat_lt}
+use Rattle.std.specs.List.{list_any, list_all, position, position_or_len}
+use Rattle.std.proofs.lemmas.Bool.{false≢true}
+use Rattle.std.proofs.lemmas.Bool.Decides.{nat_tests}
+use Rattle.std.specs.Prelude.{IsSome}
+use Rattle.iscsi_wire.specs.Serial.{wire}
+use Rattle.iscsi_session.specs.declared.session.Live.{Live}
+use Rattle.iscsi_session.specs.Settings.{is_known}
+use Rattle.iscsi_session.specs.Standing.{stat_sn_on, are_known}
+use Rattle.iscsi_session.specs.Steps.{count_reply, without_ticket}
+
+-- ---- tests of lists
+
+pub list_any-map : {A B : Type 0} (p : B → Bool) (f : A → B) (xs : List A) → list_any p (map f xs) ≡ list_any (λ x. p (f x)) xs
+list_any-map p f [] = refl
+list_any-map p f (x ∷ xs) = ap (λ b. p (f x) || b) (list_any-map p f xs)
+
+-- where some element passes, there is a first that does
+first_place : {A : Type 0} (p : A → Bool) (xs : List A) → list_any p xs ≡ true → position_or_len p xs < length xs
+first_place p [] h = absurd (false≢true h)
+first_place p (x ∷ xs) h =
+    elim (p x) as (λ b. (b || list_any p xs) ≡ true → cond (not b) (1 + position_or_len p xs) 0 < suc (length xs)) [
+      | true ↦ λ here. omega arith
+      | false ↦ λ later. omega (arith, first_place p xs later)
+    ] h
+
+some_by : {A : Type 0} (b : Bool) (x : A) → b ≡ true → IsSome (cond b (Some x) None)
+some_by true x h = refl
+some_by false x h = absurd (false≢true h)
+
+pub IsSome-position : {A : Type 0} (p : A → Bool) (xs : List A) → list_any p xs ≡ true → IsSome (position p xs)
+IsSome-position p xs h =
+    let lt : position_or_len p xs < length xs = first_place p xs h in
+    let test : nat_lt (position_or_len p xs) (length xs) ≡ true = grind (arith, nat_tests) in
+    some_by (nat_lt (position_or_len p xs) (length xs)) (position_or_len p xs) test
+
+-- ---- StatSNs
+
+-- the first connection with the CID, by its place
+pub count_reply-at : (conns : List (ℕ × ℕ)) (cid i : ℕ) (d : ℕ × ℕ) → i < length conns → ((get_or conns i d).0 == cid) ≡ true
+    → ((k : ℕ) → k < i → ((get_or conns k d).0 == cid) ≡ false)
+    → set conns i ((get_or conns i d).0, wire ((get_or conns i d).1 + 1)) ≡ count_reply cid conns
+count_reply-at [] cid i d lt here before = absurd (omega arith)
+count_reply-at (c ∷ conns) cid zero d lt here before = sym (ap (λ b. cond b ((c.0, wire (c.1 + 1)) ∷ conns) (c ∷ count_reply cid conns)) here)
+count_reply-at (c ∷ conns) cid (suc i) d lt here before =
+    ap (λ cs. c ∷ cs) (count_reply-at conns cid i d (omega arith) here (λ k h. before (suc k) (omega arith)))
+    ∙ sym (ap (λ b. cond b ((c.0, wire (c.1 + 1)) ∷ conns) (c ∷ count_reply cid conns)) (before 0 (omega arith)))
+
+pub stat_sn_on-at : (conns : List (ℕ × ℕ)) (cid i : ℕ) (d : ℕ × ℕ) → i < length conns → ((get_or conns i d).0 == cid) ≡ true
+    → ((k : ℕ) → k < i → ((get_or conns k d).0 == cid) ≡ false)
+    → stat_sn_on cid conns ≡ wire (get_or conns i d).1
+stat_sn_on-at [] cid i d lt here before = absurd (omega arith)
+stat_sn_on-at (c ∷ conns) cid zero d lt here before = ap (λ b. cond b (wire c.1) (stat_sn_on cid conns)) here
+stat_sn_on-at (c ∷ conns) cid (suc i) d lt here before =
+    ap (λ b. cond b (wire c.1) (stat_sn_on cid conns)) (before 0 (omega arith))
+    ∙ stat_sn_on-at conns cid i d (omega arith) here (λ k h. before (suc k) (omega arith))
+
+-- a reply changes no CID
+pub cids-count_reply : (cid : ℕ) (conns : List (ℕ × ℕ)) → map (λ (c : ℕ × ℕ). c.0) (count_reply cid conns) ≡ map (λ (c : ℕ × ℕ). c.0) conns
+cids-count_reply cid [] = refl
+cids-count_reply cid (c ∷ conns) =
+    elim (c.0 == cid) as (λ b. map (λ (x : ℕ × ℕ). x.0) (cond b ((c.0, wire (c.1 + 1)) ∷ conns) (c ∷ count_reply cid conns)) ≡ c.0 ∷ map (λ (x : ℕ × ℕ). x.0) conns) [
+      | true ↦ refl
+      | false ↦ ap (λ ns. c.0 ∷ ns) (cids-count_reply cid conns)
+    ]
+
+-- the connections with these CIDs are the known ones
+pub is_known-cids : (cid : ℕ) (xs ys : List (ℕ × ℕ)) → map (λ (c : ℕ × ℕ). c.0) xs ≡ map (λ (c : ℕ × ℕ). c.0) ys → is_known cid xs ≡ is_known cid ys
+is_known-cids cid xs ys h =
+    sym (list_any-map (λ k. k == cid) (λ (c : ℕ × ℕ). c.0) xs) ∙ ap (list_any (λ k. k == cid)) h ∙ list_any-map (λ k. k == cid) (λ (c : ℕ × ℕ). c.0) ys
+
+-- ---- live commands
+
+and_first : (a b : Bool) → (a && b) ≡ true → a ≡ true
+and_first true b h = refl
+and_first false b h = absurd (false≢true h)
+
+and_second : (a b : Bool) → (a && b) ≡ true → b ≡ true
+and_second true b h = h
+and_second false b h = absurd (false≢true h)
+
+-- one of some commands that all pass
+pub find-passes : (p q : Live → Bool) (lives : List Live) (l : Live) → list_all q lives ≡ true → find p lives ≡ Some l → q l ≡ true
+find-passes p q [] l all found = absurd cc
+find-passes p q (x ∷ lives) l all found =
+    elim (p x) as (λ b. cond b (Some x) (find p lives) ≡ Some l → q l ≡ true) [
+      | true ↦ λ here. let same : x ≡ l = cc in ap q (sym same) ∙ and_first (q x) (list_all q lives) all
+      | false ↦ λ later. find-passes p q lives l (and_second (q x) (list_all q lives) all) later
+    ] found
+
+pub list_all-filter : {A : Type 0} (p q : A → Bool) (xs : List A) → list_all q xs ≡ true → list_all q (filter p xs) ≡ true
+list_all-filter p q [] all = refl
+list_all-filter p q (x ∷ xs) all =
+    elim (p x) as (λ b. list_all q (cond b (x ∷ filter p xs) (filter p xs)) ≡ true) [
+      | true ↦ ap (λ b. b && list_all q (filter p xs)) (and_first (q x) (list_all q xs) all) ∙ list_all-filter p q xs (and_second (q x) (list_all q xs) all)
+      | false ↦ list_all-filter p q xs (and_second (q x) (list_all q xs) all)
+    ]
+
+pub list_all-same : {A : Type 0} (p q : A → Bool) (xs : List A) → ((x : A) → p x ≡ q x) → list_all p xs ≡ list_all q xs
+list_all-same p q [] h = refl
+list_all-same p q (x ∷ xs) h = ap (λ b. b && list_all p xs) (h x) ∙ ap (λ b. q x && b) (list_all-same p q xs h)
+
+-- a reply leaves the commands on known connections
+pub are_known-replied : (cid : ℕ) (lives : List Live) (conns : List (ℕ × ℕ)) → are_known lives conns ≡ true → are_known lives (count_reply cid conns) ≡ true
+are_known-replied cid lives conns h =
+    list_all-same (λ l. is_known l.conn (count_reply cid conns)) (λ l. is_known l.conn conns) lives (λ l. is_known-cids l.conn (count_reply cid conns) conns (cids-count_reply cid conns)) ∙ h
+
+-- and so does a command that leaves
+pub are_known-left : (ticket : ℕ) (lives : List Live) (conns : List (ℕ × ℕ)) → are_known lives conns ≡ true → are_known (without_ticket ticket lives) conns ≡ true
+are_known-left ticket lives conns h = list_all-filter (λ l. not (l.ticket == ticket)) (λ l. is_known l.conn conns) lives h
