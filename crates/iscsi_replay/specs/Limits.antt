@@ -5,4 +5,4 @@ use Rattle.iscsi_replay.specs.declared.settings.Settings.{Settings}
 
 -- every setting is within its limits
 abbrev pub are_valid : Settings → Bool
-are_valid s = is_within 1 s.window 1024 && is_within 1 s.units 256 && is_within 1 s.depth 1024 && is_within 1 s.level 2
+are_valid s = is_within s.window 1024 && is_within s.units 256 && is_within s.depth 1024 && is_within s.level 2
