@@ -1,13 +1,22 @@
-ghost use Rattle.std.specs.Prelude.{None};
+ghost use Rattle.std.specs.Prelude.{◌≡◌, None, false};
 
 use super::*;
 use crate::watched::Watched;
 use std::io;
 use std::test::Fail;
 
-const RECORDING: &[u8] = include_bytes!("../../stdin");
+const RECORDING: &[u8] = b"conn 1 00000001\n\
+C 1 01810000000000000000000000000000000000a100000000000000010000000000000000000000000000000000000000\n\
+D 1 00\n";
 
-const REPORT: &[u8] = include_bytes!("../../stdout");
+const REPORT: &[u8] =
+    b"> C 1 01810000000000000000000000000000000000a100000000000000010000000000000000000000000000000000000000\n\
+\x20 deliver 1 00000001 000000a1\n\
+\x20 enter 1 0 simple\n\
+\x20 enable 1\n\
+> D 1 00\n\
+\x20 leave 1\n\
+\x20 send 1 21800000000000000000000000000000000000a100000000000000010000000200000021000000000000000000000000\n";
 
 const SETTINGS: Settings = Settings {
     first: 1,
@@ -77,7 +86,12 @@ impl Sink for Narrow {
 fn reports(rt: HostRuntime) {
     for size in [1, 7, usize::MAX] {
         let mut sink = Narrow::new(rt.alloc(), size, usize::MAX, true);
-        let answer = replay(rt.alloc(), &SETTINGS, &mut Watched::new(RECORDING), &mut sink);
+        let answer = replay(
+            rt.alloc(),
+            &SETTINGS,
+            &mut Watched::new(RECORDING),
+            &mut sink,
+        );
         assert_eq!(rt; answer, Ok(()));
         assert_eq!(rt; sink.taken.as_slice(), REPORT);
         assert!(rt; !sink.failed());
@@ -89,7 +103,12 @@ fn stops_at_a_failed_write(rt: HostRuntime) {
     for limit in 0..REPORT.len() {
         for refuses in [false, true] {
             let mut sink = Narrow::new(rt.alloc(), 16, limit, refuses);
-            let answer = replay(rt.alloc(), &SETTINGS, &mut Watched::new(RECORDING), &mut sink);
+            let answer = replay(
+                rt.alloc(),
+                &SETTINGS,
+                &mut Watched::new(RECORDING),
+                &mut sink,
+            );
             assert_eq!(rt; answer, Err(ReplayFault::Write));
             assert_eq!(rt; sink.taken.as_slice(), &REPORT[..limit]);
             assert!(rt; sink.failed());
@@ -106,7 +125,11 @@ fn writes_nothing(rt: HostRuntime) {
     let cases = [
         (narrow, RECORDING, ReplayFault::BadSettings),
         (SETTINGS, b"".as_slice(), ReplayFault::NoConnection),
-        (SETTINGS, b"conn 1 00000001\n\t".as_slice(), ReplayFault::BadLine(2)),
+        (
+            SETTINGS,
+            b"conn 1 00000001\n\t".as_slice(),
+            ReplayFault::BadLine(2),
+        ),
     ];
     for (settings, bytes, fault) in cases {
         let mut sink = Narrow::new(rt.alloc(), 16, usize::MAX, true);
