@@ -1,12 +1,12 @@
 //! The settings of a command line.
 
-ghost use Rattle.std.specs.Prelude.{◌≡◌, IfOk, IfSome, false, map, option_map};
+ghost use Rattle.std.specs.Prelude.{◌≡◌, IfOk, false, map, option_map};
 ghost use Rattle.clap.specs.Words.{app_of, FailsBy, found_of, rows_of, rule_of, fault_of, matches_of, first_of};
-ghost use Rattle.iscsi_replay.specs.Command.{first_rule, number_rule, replay_app, number_of_digits, IsNumberIn, SettingsAre};
+ghost use Rattle.iscsi_replay.specs.Command.{first_rule, number_rule, replay_app, number_of_digits, HasNumber, AreChecked, IsNumberIn, SettingsAre};
 
 use crate::settings::Settings;
 use clap::builder::ValueParser;
-use clap::{Arg, ArgMatches, Command, Error};
+use clap::{Arg, ArgAction, ArgMatches, Command, Error};
 use std::alloc::{AllocError, Global};
 
 /// An option that takes a number from 1 to `high`, and without it has the number `given`.
@@ -16,6 +16,7 @@ fn number<'a>(alloc: Global, name: &'a str, high: u64, given: &'a str, help: &'a
 {
     Arg::new(alloc, name)
         .long(name)
+        .action(ArgAction::Set)
         .value_parser(ValueParser::unsigned(1, high))
         .default_value(given)
         .help(help)
@@ -28,6 +29,7 @@ fn first<'a>(alloc: Global) -> Arg<'a>
 {
     Arg::new(alloc, "first")
         .long("first")
+        .action(ArgAction::Set)
         .default_value("00000001")
         .help("The first CmdSN, in eight hexadecimal digits")
 }
@@ -66,6 +68,8 @@ fn command<'a>(alloc: Global) -> Result<Command<'a>, AllocError>
 /// The matches of the words.
 fn parse<'a>(alloc: Global, words: &'a [&'a str]) -> Result<ArgMatches<'a>, Error>
     ensures ok { IfOk result (λ m. rows_of (found_of m) ≡ matches_of replay_app (map (λ w. w.now) words.entry.now)) }
+    // The parser checked each number against its limits.
+    ensures checked { IfOk result (λ m. AreChecked (rows_of (found_of m))) }
     ensures kinds { FailsBy (fault_of replay_app (map (λ w. w.now) words.entry.now)) result }
 {
     let command = command(alloc)?;
@@ -80,14 +84,16 @@ fn text<'a>(matches: &ArgMatches<'a>, id: &str) -> Option<&'a str>
 }
 
 /// The number that is the value of an option.
-fn number_of(matches: &ArgMatches<'_>, id: &str, high: u32) -> Option<u32>
-    ensures { IfSome result (IsNumberIn (first_of id.now (rows_of (found_of matches.now))) high) }
+fn number_of(matches: &ArgMatches<'_>, id: &str, high: u32) -> u32
+    requires { HasNumber high (first_of id.now (rows_of (found_of matches.now))) }
+    ensures { IsNumberIn (first_of id.now (rows_of (found_of matches.now))) high result }
 {
-    let number = text(matches, id)?.parse::<u32>().ok()?;
-    if 1 <= number && number <= high {
-        Some(number)
-    } else {
-        None
+    let Some(text) = text(matches, id) else {
+        unreachable!()
+    };
+    match text.parse::<u32>() {
+        Ok(number) => number,
+        Err(_) => unreachable!(),
     }
 }
 
@@ -111,24 +117,18 @@ pub fn settings<'a>(alloc: Global, words: &'a [&'a str]) -> Result<Option<Settin
     ensures kinds { FailsBy (fault_of replay_app (map (λ w. w.now) words.entry.now)) result }
 {
     let matches = parse(alloc, words)?;
-    let (Some(window), Some(units), Some(depth), Some(level), Some(first)) = (
-        number_of(&matches, "window", 1024),
-        number_of(&matches, "units", 256),
-        number_of(&matches, "depth", 1024),
-        number_of(&matches, "level", 2),
-        text(&matches, "first"),
-    ) else {
-        return Err(Error::from(AllocError));
+    let Some(first) = text(&matches, "first") else {
+        unreachable!()
     };
     let Some(first) = first_number(first) else {
         return Ok(None);
     };
     Ok(Some(Settings {
         first,
-        window,
-        units,
-        depth,
-        level,
+        window: number_of(&matches, "window", 1024),
+        units: number_of(&matches, "units", 256),
+        depth: number_of(&matches, "depth", 1024),
+        level: number_of(&matches, "level", 2),
     }))
 }
 

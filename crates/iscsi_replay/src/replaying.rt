@@ -1,6 +1,6 @@
 //! A recording and its report.
 
-ghost use Rattle.std.specs.Prelude.{◌≡◌, ◌≢◌, ◌↔◌, ◌++◌, ◌≤◌, true, false, [], length, IfSome, OnOk, IfOk, IfErr, IsErrOf, MatchResult};
+ghost use Rattle.std.specs.Prelude.{◌≡◌, ◌≢◌, ◌↔◌, ◌++◌, ◌<◌, true, false, [], vec_len, IfSome, OnOk, IfOk, IfErr, IsErrOf, MatchResult};
 ghost use Rattle.std.specs.List.{list_all};
 ghost use Rattle.std.specs.Io.KnownBytes.{Appends};
 ghost use Rattle.iscsi_session.specs.Settings.{is_valid};
@@ -85,6 +85,7 @@ fn put_entry(
 fn write_chunk<W: Sink>(lines: &mut Vec<u8>, writer: &mut W) -> Result<(), ReplayFault>
     requires { W.has_failed writer.old ≡ false }
     ensures ok { OnOk result (AppendsBut (W.contents writer.old) (W.contents writer.new) lines.new.items lines.old.items) }
+    ensures few { OnOk result (vec_len lines.new < 65536) }
     ensures front { AppendsFront (W.contents writer.old) (W.contents writer.new) lines.old.items }
     ensures failed { MatchResult result (λ _. W.has_failed writer.new ≡ false) (λ e. (e ≡ ReplayFault.Write) × (W.has_failed writer.new ≡ true)) }
 {
