@@ -1,13 +1,10 @@
 -- What a recording keeps, line by line.
-use Rattle.std.proofs.Common.{◌≡◌, ℕ, ◌+◌, ◌-◌, ◌<◌, ◌≤◌, Bool, true, false, cond, List, [], ◌∷◌, ◌++◌, length, get_or, Option, Some, None, Ok, Err, refl, sym, ap, ◌∙◌, subst, arith, length-append}
+use Rattle.std.proofs.Common.{◌≡◌, ℕ, ◌+◌, ◌-◌, ◌<◌, ◌≤◌, Bool, true, false, cond, List, [], ◌∷◌, ◌++◌, length, Option, Some, None, Ok, Err, refl, ap, ◌∙◌, subst, arith, length-append}
 use Rattle.std.specs.Prelude.{◌==◌, ◌&&◌, ◌||◌, not, nat_lt, ok_or, option_and_then}
 use Rattle.std.specs.List.{list_all}
 use Rattle.std.proofs.lemmas.List.Folds.{list_any-append, list_all-append}
-use Rattle.std.proofs.lemmas.List.Elements.{All-get_or}
-use Rattle.std.proofs.lemmas.List.Sums.{AllPass-from_list_all}
 use Rattle.iscsi_session.specs.declared.event.Event.{Event}
-use Rattle.iscsi_session.specs.declared.event.Event.TheVariants.{Arrive, Done}
-use Rattle.iscsi_session.specs.Settings.{Setting, is_known, are_distinct}
+use Rattle.iscsi_session.specs.Settings.{is_known, are_distinct}
 use Rattle.iscsi_session.specs.Refusals.{belongs}
 use Rattle.iscsi_replay.specs.Grammar.{line_of}
 use Rattle.iscsi_replay.specs.declared.line.Line.{Line}
@@ -15,17 +12,6 @@ use Rattle.iscsi_replay.specs.declared.line.Line.TheVariants as line
 use Rattle.iscsi_replay.specs.Recorded.{Recorded, belongs_to, is_empty, IsSound, take, read_line}
 use Rattle.iscsi_replay.specs.Reading.{IsSoundIn}
 use Rattle.iscsi_replay.specs.declared.fault.ReplayFault.TheVariants.{BadLine, LineTooLong, TooManyLines}
-
--- an event of a sound recording belongs to a session of its connections
-same_belongs : (o : Setting) (e : Event) → belongs_to o.conns e ≡ belongs o e
-same_belongs o (Arrive conn header) = refl
-same_belongs o (Done ticket status) = refl
-
-pub event_belongs : (o : Setting) (events : List Event) (i : ℕ) (d : Event) → list_all (belongs_to o.conns) events ≡ true → i < length events
-    → belongs o (get_or events i d) ≡ true
-event_belongs o events i d all lt =
-    sym (same_belongs o (get_or events i d))
-    ∙ All-get_or (λ e. belongs_to o.conns e ≡ true) events i d lt (AllPass-from_list_all (belongs_to o.conns) events all)
 
 both : (a b : Bool) → a ≡ true → b ≡ true → (a && b) ≡ true
 both true b h k = k

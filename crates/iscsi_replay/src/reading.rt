@@ -14,11 +14,12 @@ use std::alloc::{AllocError, Global};
 /// How many bytes are asked of the reader at once.
 const CHUNK: usize = 65536;
 
+/// A recording of which a front has been read.
 #[derive(Drop)]
 struct Reading {
     /// The number of the line that comes next.
     line: u32,
-    /// What has come of that line in the chunks before.
+    /// What has come of that line, where it began in a chunk before.
     pending: Vec<u8>,
     so_far: Recording,
 }
@@ -93,6 +94,7 @@ impl Reading {
         Ok(())
     }
 
+    /// Takes each line that ends in the chunk, and keeps the front of the next.
     fn take_chunk(&mut self, chunk: &[u8]) -> Result<(), ReplayFault>
         requires { IsReading self.old }
         ensures ready { OnOk result (IsReading self.new) }
@@ -160,6 +162,7 @@ fn fill<R: Source>(
     }
 }
 
+/// So many zeros.
 fn zeros(alloc: Global, count: usize) -> Result<Vec<u8>, AllocError>
     ensures { IfOk result (λ bytes. vec_len bytes ≡ count) }
 {
