@@ -1,6 +1,6 @@
 -- A session that agrees with what has happened agrees after one event more.
-use Rattle.std.proofs.Common.{◌≡◌, ℕ, zero, suc, ◌+◌, ◌-◌, ◌<◌, ◌≤◌, ◌==◌, ◌&&◌, ◌||◌, not, ⊎_elim, cond, Bool, true, false, List, [], ◌∷◌, ◌++◌, length, map, filter, Option, Some, None, is_some, refl, ap, sym, subst, ◌∙◌, arith, eq-eqb, count_by}
-use Rattle.std.specs.List.{list_all, filter_map, flat_map, range_with_len, cons_option}
+use Rattle.std.proofs.Common.{◌≡◌, ℕ, suc, ◌+◌, ◌-◌, ◌<◌, ◌≤◌, ◌==◌, ◌&&◌, ◌||◌, not, ⊎_elim, cond, Bool, true, false, List, [], ◌∷◌, ◌++◌, length, map, filter, refl, ap, sym, subst, ◌∙◌, arith, eq-eqb, count_by}
+use Rattle.std.specs.List.{list_all}
 use Rattle.std.proofs.lemmas.Bool.{cases_eq, false≢true, eqb-true}
 use Rattle.std.proofs.lemmas.List.Sums.{sum_by-cons}
 use Rattle.iscsi_session.specs.declared.effect.Numbers.{Numbers}
@@ -15,15 +15,16 @@ use Rattle.iscsi_session.specs.declared.effect.Effect.TheVariants.{Deliver, Ente
 use Rattle.iscsi_session.specs.declared.effect.Attr.TheVariants.{Simple}
 use Rattle.iscsi_session.specs.declared.effect.Why.{Why}
 use Rattle.iscsi_session.specs.Settings.{Setting, is_known}
-use Rattle.iscsi_session.specs.Trace.{Arrival, Command, Mark, Admits, Delivers, Enters, Ignores, Trace, after_items, shown, first_of, received, contains, is_received, is_delivered, held, admitted, admits_at, entered, live, is_among, sent_on}
-use Rattle.iscsi_session.specs.Execution.{exp_of, unfinished, item_of, ignored}
-use Rattle.iscsi_session.specs.Agenda.{due, turn, turns, with_turns}
+use Rattle.iscsi_session.specs.Trace.{Arrival, Command, Mark, Admits, Delivers, Enters, Ignores, Trace, after_items, shown, received, contains, is_received, is_delivered, entered, live, is_among, sent_on}
+use Rattle.iscsi_session.specs.Execution.{exp_of, unfinished, ignored}
+use Rattle.iscsi_session.specs.Agenda.{with_turns}
 use Rattle.iscsi_session.specs.Run.{first_stat_sn, newly_enabled, effects_of, numbers_of}
 use Rattle.iscsi_session.specs.Standing.{Core, number_expected, kept, is_regular, Agrees}
 use Rattle.iscsi_session.specs.Steps.{new_live, with_command, entry_effects, numbers_by}
+use Rattle.iscsi_session.proofs.AgendaLemmas.{items-next, or_second, or_false}
 use Rattle.iscsi_session.proofs.ListLemmas.{list_all-filter}
 use Rattle.iscsi_session.proofs.Missing.{expected_is}
-use Rattle.iscsi_session.proofs.TraceLemmas.{weaker, live-quiet, live-enters, all_among, none_new, unadmitted}
+use Rattle.iscsi_session.proofs.TraceLemmas.{weaker, live-quiet, live-enters, all_among, none_new}
 
 -- ---- the numbers
 
@@ -118,14 +119,6 @@ Stepped-ignored o s t why a =
 
 -- ---- the request of the next number
 
-or_second : (a b : Bool) → b ≡ true → (a || b) ≡ true
-or_second true b h = refl
-or_second false b h = h
-
-pub or_false : (b : Bool) → (b || false) ≡ b
-or_false true = refl
-or_false false = refl
-
 -- the command of an arrival
 abbrev pub command_by : Core → Arrival → Command
 command_by s a = record { ticket = s.entered + 1; unit = 0; attr = Simple; arrival = a }
@@ -198,32 +191,6 @@ effects-entered o s t a h =
 -- the items of the next number's arrival: it is admitted, and its turn comes at once
 pub items-entered : (o : Setting) (s : Core) (t : Trace) (a : Arrival) → Agrees o s t → a.number ≡ number_expected s → with_turns o t (Admits a ∷ []) ≡ entry_items s a
 items-entered o s t a h next =
-    let t' : Trace = (Admits a ∷ []) ∷ t in
-    let e : ℕ = number_expected s in
-    let here : (a.number == e) ≡ true = eq-eqb a.number e next in
-    let low : number_of_first o.first ≤ e = omega (arith, h.first) in
-    let numbers : (k : ℕ) → is_received t' k ≡ (is_received t k || (a.number == k)) = λ k. list_any-append (λ n. n == k) (received t) (a.number ∷ []) ∙ ap (λ b. is_received t k || b) (or_false (a.number == k)) in
-    let exp : exp_of o t ≡ e = agrees_expected o s t h in
-    let exp' : exp_of o t' ≡ e + 1 = expected_is o.first (e + 1) t' (omega arith)
-    (λ k l high. numbers k ∙ ⊎_elim (λ same. or_second (is_received t k) (a.number == k) (eq-eqb a.number k (next ∙ sym same))) (λ apart. ap (λ b. b || (a.number == k)) (h.below k l (omega arith))) (cases_eq k e))
-    (numbers (e + 1) ∙ ap (λ b. b || (a.number == e + 1)) (h.above (e + 1) (omega arith)) ∙ (let no : (a.number == e + 1) ≡ false = grind (arith, nat_tests) in no)) in
-    let admitted_here : admitted t' e ≡ Some a =
-    ap (λ xs. first_of (xs ++ filter_map (admits_at e) (Admits a ∷ []))) (unadmitted e t (h.above e (omega arith)))
-    ∙ ap (λ b. first_of (cons_option (cond b (Some a) None) [])) here in
-    let held_here : held t' e ≡ Some a = ap (λ b. cond b None (admitted t' e)) (h.undelivered e (omega arith)) ∙ admitted_here in
-    let due_is : due t' (exp_of o t) (exp_of o t') ≡ a ∷ [] =
-    ap (λ x. due t' x (exp_of o t')) exp ∙ ap (due t' e) exp'
-    ∙ ap (λ n. flat_map (turns_at t') (range_with_len e n)) (let one : (e + 1) - e ≡ suc zero = omega arith in one)
-    ∙ ap (λ x. list_at x ++ []) held_here in
-    let turn_is : turn t' a ≡ (Delivers a ∷ Enters (command_by s a) ∷ []) ∷ [] =
-    ap (λ n. cond (is_some (held t' n)) (item_of t' a ∷ []) []) next
-    ∙ ap (λ x. cond (is_some x) (item_of t' a ∷ []) []) held_here
-    ∙ ap (λ n. (Delivers a ∷ Enters (record { ticket = n + 1; unit = 0; attr = Simple; arrival = a }) ∷ []) ∷ []) (ap length (append-nil (entered t ++ []) ∙ append-nil (entered t)) ∙ sym h.count) in
-    ap (λ as'. (Admits a ∷ []) ∷ turns as' t') due_is
-    ∙ ap (λ items. (Admits a ∷ []) ∷ (items ++ [])) turn_is
-  where
-    list_at : Option Arrival → List Arrival
-    list_at x = elim x [ Some b ↦ b ∷ [] | None ↦ [] ]
-
-    turns_at : Trace → ℕ → List Arrival
-    turns_at t' k = elim (held t' k) [ Some b ↦ b ∷ [] | None ↦ [] ]
+    let exp : exp_of o t ≡ number_expected s = agrees_expected o s t h in
+    items-next o t a (next ∙ sym exp) (λ n high. h.above n (omega (arith, exp))) (λ n high. h.undelivered n (omega (arith, exp)))
+    ∙ ap (λ n. (Admits a ∷ []) ∷ (Delivers a ∷ Enters (record { ticket = n + 1; unit = 0; attr = Simple; arrival = a }) ∷ []) ∷ []) (ap length (append-nil (entered t ++ []) ∙ append-nil (entered t)) ∙ sym h.count)

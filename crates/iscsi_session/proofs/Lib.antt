@@ -6,3 +6,6 @@ pub mod NumberLemmas
 pub mod AgreeLemmas
 pub mod StepLemmas
 pub mod LineLemmas
+pub mod AgendaLemmas
+pub mod DeliveryLemmas
+pub mod RefusalLemmas

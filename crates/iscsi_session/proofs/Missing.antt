@@ -49,3 +49,10 @@ as_many ns first count all = omega (arith, le-length_from_below (map (λ x. x - 
 pub expected_is : (first m : ℕ) (t : Trace) → number_of_first first ≤ m → ((k : ℕ) → number_of_first first ≤ k → k < m → is_received t k ≡ true) → is_received t m ≡ false → expected first t ≡ m
 expected_is first m t low all gone =
     least_missing_is (received t) (length (received t)) (number_of_first first) m low all gone (omega (arith, as_many (received t) (number_of_first first) (m - number_of_first first) (λ k l h. all k l (omega arith))))
+
+-- all numbers before ExpCmdSN are received
+pub expected_below : (first : ℕ) (t : Trace) (k : ℕ) → number_of_first first ≤ k → k < expected first t → is_received t k ≡ true
+expected_below first t k low high = least_missing_below (received t) (length (received t)) (number_of_first first) k low high
+
+pub expected_low : (first : ℕ) (t : Trace) → number_of_first first ≤ expected first t
+expected_low first t = least_missing_low (received t) (length (received t)) (number_of_first first)

@@ -27,9 +27,10 @@ use Rattle.iscsi_session.specs.Steps.{NumberFits, numbers_by, comes_on, refusal_
 use Rattle.iscsi_session.proofs.ListLemmas.{list_all-filter, cids-count_reply, is_known-cids}
 use Rattle.iscsi_session.proofs.NumberLemmas.{is_next_number, is_window_open, wire-next}
 use Rattle.iscsi_session.proofs.TraceLemmas.{live-leaves, all_among}
+use Rattle.iscsi_session.proofs.AgendaLemmas.{or_false}
 use Rattle.iscsi_session.proofs.RunLemmas.{trace_of-push}
 use Rattle.iscsi_session.specs.declared.fault.SessionFault.TheVariants.{UnknownConnection, Exhausted}
-use Rattle.iscsi_session.proofs.AgreeLemmas.{agrees_numbers, Regular, regular_parts, agrees_expected, agrees_unfinished, Stepped, Stepped-ignored, none_enabled, enables, or_false, command_by, Agrees-entered, effects-entered, items-entered, and_parts}
+use Rattle.iscsi_session.proofs.AgreeLemmas.{agrees_numbers, Regular, regular_parts, agrees_expected, agrees_unfinished, Stepped, Stepped-ignored, none_enabled, enables, command_by, Agrees-entered, effects-entered, items-entered, and_parts}
 
 eq_sym : (a b : ℕ) → (a == b) ≡ (b == a)
 eq_sym a b = ⊎_elim (λ same. eq-eqb a b same ∙ sym (eq-eqb b a (sym same))) (λ apart. (let x : (a == b) ≡ false = grind (arith, nat_tests) in x) ∙ (let y : (b == a) ≡ false = grind (arith, nat_tests) in sym y)) (cases_eq a b)

@@ -1,6 +1,6 @@
 -- Delivery: the requests that a log delivers, against those received without a gap.
-use Rattle.std.specs.Prelude.{ℕ, ◌-◌, List, [], ◌∷◌, Some, None}
-use Rattle.std.specs.List.{flat_map, range_with_len}
+use Rattle.std.specs.Prelude.{ℕ, ◌-◌, List, [], ◌∷◌, Option, option_map}
+use Rattle.std.specs.List.{flat_map, filter_map, range_with_len}
 use Rattle.iscsi_wire.specs.declared.request.Request.{Request}
 use Rattle.iscsi_wire.specs.Serial.{number_of_first}
 use Rattle.iscsi_session.specs.declared.effect.Effect.{Effect}
@@ -8,18 +8,17 @@ use Rattle.iscsi_session.specs.declared.effect.Effect.TheVariants.{Deliver}
 use Rattle.iscsi_session.specs.declared.event.Event.{Event}
 use Rattle.iscsi_session.specs.declared.log.Entry.{Entry}
 use Rattle.iscsi_session.specs.Settings.{Setting}
-use Rattle.iscsi_session.specs.Trace.{Trace, admitted}
+use Rattle.iscsi_session.specs.Trace.{Arrival, Trace, admitted}
 use Rattle.iscsi_session.specs.Execution.{exp_of}
 use Rattle.iscsi_session.specs.Run.{trace_of}
 
--- the requests that were admitted at these numbers
-abbrev pub executed_at : Trace → List ℕ → List Request
-executed_at t [] = []
-executed_at t (k ∷ ks) = elim (admitted t k) [ None ↦ executed_at t ks | Some a ↦ a.request ∷ executed_at t ks ]
+-- the request that was admitted at a number
+abbrev pub request_at : Trace → ℕ → Option Request
+request_at t n = option_map (λ (a : Arrival). a.request) (admitted t n)
 
 -- the numbered requests from the first CmdSN on without a gap, in the order of their numbers, each once
 abbrev pub executed : Setting → List Event → List Request
-executed o h = let t = trace_of o h in executed_at t (range_with_len (number_of_first o.first) (exp_of o t - number_of_first o.first))
+executed o h = let t = trace_of o h in filter_map (request_at t) (range_with_len (number_of_first o.first) (exp_of o t - number_of_first o.first))
 
 abbrev pub delivered_by : Effect → List Request
 delivered_by (Deliver r) = r ∷ []

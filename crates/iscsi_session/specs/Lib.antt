@@ -8,3 +8,4 @@ pub mod Refusals
 pub mod Lines
 pub mod Standing
 pub mod Steps
+pub mod Rows

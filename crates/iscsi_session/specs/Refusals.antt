@@ -1,5 +1,5 @@
 -- Which events and options a session refuses, and why.
-use Rattle.std.specs.Prelude.{◌≡◌, ℕ, ◌+◌, not, nat_lt, Bool, true, List, [], ◌∷◌, length, Option, Some, None, Result, Ok, Err, ⊤, if◌then◌else◌}
+use Rattle.std.specs.Prelude.{◌≡◌, ℕ, ◌+◌, not, nat_lt, Bool, true, List, [], ◌∷◌, length, Option, Some, None, Result, Ok, Err, ⊤, ◌⊎◌, if◌then◌else◌}
 use Rattle.iscsi_session.specs.declared.event.Event.{Event}
 use Rattle.iscsi_session.specs.declared.event.Event.TheVariants.{Arrive, Done}
 use Rattle.iscsi_session.specs.declared.fault.SessionFault.{SessionFault}
@@ -30,13 +30,17 @@ abbrev pub first_refusal : Setting → ℕ → List Event → Option SessionFaul
 first_refusal o taken [] = None
 first_refusal o taken (e ∷ es) = elim (refusal_after o taken e) [ Some fault ↦ Some fault | None ↦ first_refusal o (taken + 1) es ]
 
--- why a run is refused
-abbrev pub refusal_of_run : Setting → List Event → Option SessionFault
-refusal_of_run o h = elim (refusal_of_options o) [ Some fault ↦ Some fault | None ↦ first_refusal o 0 h ]
-
 -- the answer is refused just as it must be; where it mustn't, only for want of memory
 abbrev pub RefusesAs : {A : Type 0} → Option SessionFault → Result A SessionFault → Type 0
 RefusesAs None (Ok x) = ⊤
 RefusesAs None (Err e) = e ≡ NoMemory
 RefusesAs (Some fault) (Ok x) = ⊥
 RefusesAs (Some fault) (Err e) = e ≡ fault
+
+-- the same of a run: refused for its options, or else for the first event that is refused, unless memory was
+-- wanting before that
+abbrev pub RunRefusesAs : {A : Type 0} → Option SessionFault → Option SessionFault → Result A SessionFault → Type 0
+RunRefusesAs (Some fault) of_events (Ok x) = ⊥
+RunRefusesAs (Some fault) of_events (Err e) = e ≡ fault
+RunRefusesAs None of_events (Ok x) = of_events ≡ None
+RunRefusesAs None of_events (Err e) = (e ≡ NoMemory) ⊎ (of_events ≡ Some e)

@@ -13,7 +13,7 @@ mod session;
 pub use effect::{Attr, Effect, Numbers, Why};
 pub use event::Event;
 pub use fault::SessionFault;
-pub use log::{Effects, Entry, Log};
+pub use log::{Effects, Entry, Log, run};
 pub use options::Options;
 pub use report::{LONGEST_LINE, put_effect, put_event};
 pub use session::Session;

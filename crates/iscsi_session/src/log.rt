@@ -1,8 +1,17 @@
 //! The log of a list of events.
 
-ghost use Rattle.std.specs.Prelude.{◌≡◌};
+ghost use Rattle.std.specs.Prelude.{◌≡◌, IfOk};
+ghost use Rattle.iscsi_session.specs.Settings.{setting_of};
+ghost use Rattle.iscsi_session.specs.Run.{run_of};
+ghost use Rattle.iscsi_session.specs.Executed.{executed, delivered};
+ghost use Rattle.iscsi_session.specs.Refusals.{RunRefusesAs, refusal_of_options, first_refusal};
 
 use crate::effect::{Effect, Numbers};
+use crate::event::Event;
+use crate::fault::SessionFault;
+use crate::options::Options;
+use crate::session::Session;
+use std::alloc::Global;
 use std::marker::Model;
 
 /// The effects of an event, in order.
@@ -53,3 +62,31 @@ pub struct Entry {
 
 /// One entry for each event.
 pub type Log = Vec<Entry>;
+
+/// Opens a session and takes the events, one after the other.
+///
+/// The refusal of the options, or else of the first event that is refused, is the answer.
+pub fn run(alloc: Global, options: Options, events: &[Event]) -> Result<Log, SessionFault>
+    ensures log { IfOk result (λ log. log.items ≡ run_of (setting_of options) events.now) }
+
+    // The numbered requests executed are those received from the first CmdSN on without a gap, in CmdSN
+    // order, each once.
+    ensures delivery { IfOk result (λ log. delivered log.items ≡ executed (setting_of options) events.now) }
+
+    ensures refused { RunRefusesAs (refusal_of_options (setting_of options)) (first_refusal (setting_of options) 0 events.now) result }
+{
+    let mut session = Session::open(alloc, options)?;
+    let mut log = Vec::new(alloc);
+    for event in events {
+        let mut effects = Vec::new(alloc);
+        let numbers = session.step(event, &mut effects)?;
+        if log.reserve(1).is_err() {
+            return Err(SessionFault::NoMemory);
+        }
+        log.push_reserved(Entry {
+            numbers,
+            effects: Effects::from_vec(effects),
+        });
+    }
+    Ok(log)
+}

@@ -1,0 +1,52 @@
+-- The first event of a run that is refused.
+use Rattle.std.proofs.Common.{◌≡◌, ℕ, ◌+◌, ◌<◌, ◌⊎◌, inl, inr, List, length, take, drop, get_or, Option, Some, None, Ok, Err, refl, ap, sym, ◌∙◌, arith, length-take}
+use Rattle.std.proofs.lemmas.List.{drop_more}
+use Rattle.iscsi_session.specs.declared.event.Event.{Event}
+use Rattle.iscsi_session.specs.declared.fault.SessionFault.{SessionFault}
+use Rattle.iscsi_session.specs.declared.fault.SessionFault.TheVariants.{NoMemory}
+use Rattle.iscsi_session.specs.Settings.{Setting}
+use Rattle.iscsi_session.specs.Refusals.{refusal_after, refusal_of, first_refusal, RefusesAs, RunRefusesAs}
+
+abbrev first_of_two : Option SessionFault → Option SessionFault → Option SessionFault
+first_of_two x y = elim x [ Some fault ↦ Some fault | None ↦ y ]
+
+-- the i-th event decides, or else those after it
+first_refusal-at : (o : Setting) (events : List Event) (i : ℕ) (d : Event) → i < length events
+    → first_refusal o i (drop i events) ≡ first_of_two (refusal_of o (take i events) (get_or events i d)) (first_refusal o (i + 1) (drop (i + 1) events))
+first_refusal-at o events i d lt =
+    let long : length (take i events) ≡ i = omega (arith, length-take i events) in
+    ap (first_refusal o i) (drop_more events i d lt)
+    ∙ ap (λ n. first_of_two (refusal_after o n (get_or events i d)) (first_refusal o (i + 1) (drop (i + 1) events))) (sym long)
+
+-- what an answer says of the refusal
+pub taken_none : {A : Type 0} (x : Option SessionFault) (v : A) → RefusesAs x (Ok v) → x ≡ None
+taken_none None v h = refl
+taken_none (Some fault) v h = absurd h
+
+pub refused_cases : (A : Type 0) (x : Option SessionFault) (e : SessionFault) → RefusesAs {A = A} x (Err e) → (e ≡ NoMemory) ⊎ (x ≡ Some e)
+refused_cases A None e h = inl h
+refused_cases A (Some fault) e h = inr (ap Some (sym h))
+
+pub refusal_more : (o : Setting) (events : List Event) (i : ℕ) (d : Event) (first : Option SessionFault) → i < length events → first_refusal o i (drop i events) ≡ first
+    → refusal_of o (take i events) (get_or events i d) ≡ None → first_refusal o (i + 1) (drop (i + 1) events) ≡ first
+refusal_more o events i d first lt so_far none =
+    sym (ap (λ x. first_of_two x (first_refusal o (i + 1) (drop (i + 1) events))) none) ∙ sym (first_refusal-at o events i d lt) ∙ so_far
+
+pub refusal_here : (o : Setting) (events : List Event) (i : ℕ) (d : Event) (first : Option SessionFault) (e : SessionFault) → i < length events → first_refusal o i (drop i events) ≡ first
+    → refusal_of o (take i events) (get_or events i d) ≡ Some e → first ≡ Some e
+refusal_here o events i d first e lt so_far is =
+    sym so_far ∙ first_refusal-at o events i d lt ∙ ap (λ x. first_of_two x (first_refusal o (i + 1) (drop (i + 1) events))) is
+
+-- the options are refused
+pub options_refused : (A B : Type 0) (x of_events : Option SessionFault) (e : SessionFault) → RefusesAs {A = A} x (Err e) → RunRefusesAs {A = B} x of_events (Err e)
+options_refused A B None of_events e h = inl h
+options_refused A B (Some fault) of_events e h = h
+
+-- they are not, and an event is, or memory is wanting
+pub event_refused : (B : Type 0) (x of_events : Option SessionFault) (e : SessionFault) → x ≡ None → (e ≡ NoMemory) ⊎ (of_events ≡ Some e) → RunRefusesAs {A = B} x of_events (Err e)
+event_refused B None of_events e is h = h
+event_refused B (Some fault) of_events e is h = absurd cc
+
+pub run_taken : {B : Type 0} (x of_events : Option SessionFault) (v : B) → x ≡ None → of_events ≡ None → RunRefusesAs x of_events (Ok v)
+run_taken None of_events v is none = none
+run_taken (Some fault) of_events v is none = absurd cc

@@ -1,0 +1,84 @@
+use Rattle.std.proofs.Common.{arith, ◌≡◌, ◌<◌, ◌∙◌, ◌+◌, ◌++◌, [], ◌∷◌, List, length, take, drop, ap, sym, subst, get_or, None, inl, inr, ⊎_elim, refl, ℕ}
+use Rattle.std.proofs.lemmas.Grind.{common_steps}
+use Rattle.iscsi_session.specs.declared.session.Session.{Session}
+use Rattle.std.proofs.lemmas.List.{take_more, take_all}
+use Rattle.std.proofs.lemmas.Result.{err_from_is_err_and}
+use Rattle.iscsi_session.specs.declared.effect.Effect.{Effect}
+use Rattle.iscsi_session.specs.declared.effect.Numbers.{Numbers}
+use Rattle.iscsi_session.specs.declared.event.Event.{Event}
+use Rattle.iscsi_session.specs.declared.fault.SessionFault.TheVariants.{NoMemory}
+use Rattle.iscsi_session.specs.declared.log.Entry.{Entry}
+use Rattle.iscsi_session.specs.Settings.{Setting, setting_of}
+use Rattle.iscsi_session.specs.Run.{run_of, next_entry}
+use Rattle.iscsi_session.specs.Executed.{delivered}
+use Rattle.iscsi_session.specs.Refusals.{refusal_of, refusal_of_options, first_refusal}
+use Rattle.iscsi_session.specs.Standing.{Core, StandsFor}
+use Rattle.iscsi_session.proofs.RunLemmas.{run_of-push}
+use Rattle.iscsi_session.proofs.DeliveryLemmas.{delivery}
+use Rattle.iscsi_session.proofs.RefusalLemmas.{taken_none, refused_cases, refusal_more, refusal_here, options_refused, event_refused, run_taken}
+use Rattle.iscsi_session.proofs.log.run.Goals as goal
+
+pub returns-in_err-session-clause-refused : goal.returns-in_err-session-clause-refused
+returns-in_err-session-clause-refused c =
+    let p = err_from_is_err_and c.from_residual.result c.from_residual.ensures.1 in
+    rw (p.1, p.2) (options_refused Session _ _ _ c.in_err-session.field-0.0 c.in_err-session.ensures.refused)
+
+pub returns-in_err-numbers-clause-refused : goal.returns-in_err-numbers-clause-refused
+returns-in_err-numbers-clause-refused c =
+    let o : Setting = setting_of c.args.options in
+    let i = c.loop-event.event-index in
+    let in_range : i < length c.args.events.now = omega arith in
+    let inv = c.loop-event.invariant in
+    let opened : refusal_of_options o ≡ None = taken_none (refusal_of_options o) c.in_ok-session.session c.in_ok-session.ensures.refused in
+    let cases = refused_cases Numbers (refusal_of o (take i c.args.events.now) _) c.in_err-numbers.field-0.0 (c.in_err-numbers.ensures.refused o (take i c.args.events.now) inv.stands) in
+    let p = err_from_is_err_and c.from_residual-in_err-numbers.result c.from_residual-in_err-numbers.ensures.1 in
+    rw (p.1, p.2) (event_refused _ _ _ c.in_err-numbers.field-0.0 opened
+    (⊎_elim (λ wanting. inl wanting) (λ refused. inr (refusal_here o c.args.events.now i _ (first_refusal o 0 c.args.events.now) c.in_err-numbers.field-0.0 in_range inv.refusal refused)) cases))
+
+pub returns-then-is_err-clause-refused : goal.returns-then-is_err-clause-refused
+returns-then-is_err-clause-refused c =
+    let o : Setting = setting_of c.args.options in
+    let opened : refusal_of_options o ≡ None = taken_none (refusal_of_options o) c.in_ok-session.session c.in_ok-session.ensures.refused in
+    event_refused _ _ (first_refusal o 0 c.args.events.now) NoMemory opened (inl refl)
+
+-- the log with one entry more
+log_more : (o : Setting) (events : List Event) (i : ℕ) (d : Event) (log reserved new : List Entry) (numbers : Numbers) (effects out none : List Effect) → i < length events
+    → log ≡ run_of o (take i events) → reserved ≡ log → new ≡ reserved ++ record { numbers = numbers; effects = effects } ∷ [] → effects ≡ out → out ≡ none ++ (next_entry o (take i events) (get_or events i d)).effects → none ≡ []
+    → numbers ≡ (next_entry o (take i events) (get_or events i d)).numbers → new ≡ run_of o (take (i + 1) events)
+log_more o events i d log reserved new numbers effects out none in_range so_far same pushed effects_are stepped empty shown =
+    let e : Event = get_or events i d in
+    let next : Entry = next_entry o (take i events) e in
+    let all : effects ≡ next.effects = effects_are ∙ stepped ∙ ap (λ es. es ++ next.effects) empty in
+    pushed
+    ∙ ap (λ es. es ++ record { numbers = numbers; effects = effects } ∷ []) (same ∙ so_far)
+    ∙ ap (λ n. run_of o (take i events) ++ record { numbers = n; effects = effects } ∷ []) shown
+    ∙ ap (λ es. run_of o (take i events) ++ record { numbers = next.numbers; effects = es } ∷ []) all
+    ∙ sym (run_of-push o (take i events) e)
+    ∙ ap (run_of o) (sym (take_more events i d in_range))
+
+pub loop-event-preserved : goal.loop-event-preserved
+loop-event-preserved c =
+    let o : Setting = setting_of c.args.options in
+    let i = c.loop-event.event-index in
+    let h : List Event = take i c.args.events.now in
+    let in_range : i < length c.args.events.now = omega arith in
+    let inv = c.loop-event.invariant in
+    let P : Core → List Event → Type 0 = λ s es. StandsFor o s es in
+    record {
+      stands = subst (P c.step.new.self) (sym (take_more c.args.events.now i _ in_range)) (c.in_ok-numbers.ensures.stands o h inv.stands);
+      log = log_more o c.args.events.now i _ c.loop-event.log.items c.reserve.new.self.items c.push_reserved.new.self.items c.in_ok-numbers.numbers c.from_vec.result c.step.new.out.items c.new-effects.result.items in_range inv.log c.reserve.ensures.items c.push_reserved.ensures.items c.from_vec.ensures (c.in_ok-numbers.ensures.effects o h inv.stands) c.new-effects.ensures.items (c.in_ok-numbers.ensures.numbers o h inv.stands);
+      refusal = refusal_more o c.args.events.now i _ (first_refusal o 0 c.args.events.now) in_range inv.refusal (taken_none _ c.in_ok-numbers.numbers (c.in_ok-numbers.ensures.refused o h inv.stands));
+    }
+
+pub returns-clause-delivery : goal.returns-clause-delivery
+returns-clause-delivery c =
+    let o : Setting = setting_of c.args.options in
+    ap delivered (c.loop-event.invariant.log ∙ ap (run_of o) (take_all c.loop-event.event-index c.args.events.now c.loop-event-test.false)) ∙ delivery o c.args.events.now
+
+pub returns-clause-refused : goal.returns-clause-refused
+returns-clause-refused c =
+    let o : Setting = setting_of c.args.options in
+    let opened : refusal_of_options o ≡ None = taken_none (refusal_of_options o) c.in_ok-session.session c.in_ok-session.ensures.refused in
+    let inv = c.loop-event.invariant in
+    let over : drop c.loop-event.event-index c.args.events.now ≡ [] = grind (arith, common_steps) in
+    run_taken (refusal_of_options o) (first_refusal o 0 c.args.events.now) c.loop-event.log opened (sym inv.refusal ∙ ap (first_refusal o c.loop-event.event-index) over)

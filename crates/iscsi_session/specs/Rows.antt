@@ -1,0 +1,108 @@
+-- Worked rows, computed: what the definitions give for short recordings, beside what must come.
+use Rattle.std.specs.Prelude.{◌≡◌, ℕ, ◌/◌, ◌%◌, List, [], ◌∷◌, ◌++◌, replicate, refl, Some, None}
+use Rattle.iscsi_wire.specs.declared.reply.Reply.TheVariants.{Scsi}
+use Rattle.iscsi_wire.specs.Fields.{request_of}
+use Rattle.iscsi_session.specs.declared.effect.Attr.TheVariants.{Simple}
+use Rattle.iscsi_session.specs.declared.effect.Effect.{Effect}
+use Rattle.iscsi_session.specs.declared.effect.Effect.TheVariants.{Deliver, Enter, Enable, Leave, Send, Ignore}
+use Rattle.iscsi_session.specs.declared.effect.Why.TheVariants.{Outside, Stale, Data}
+use Rattle.iscsi_session.specs.declared.event.Event.{Event}
+use Rattle.iscsi_session.specs.declared.event.Event.TheVariants.{Arrive, Done}
+use Rattle.iscsi_session.specs.declared.log.Entry.{Entry}
+use Rattle.iscsi_session.specs.Settings.{Setting}
+use Rattle.iscsi_session.specs.Run.{run_of}
+use Rattle.iscsi_session.specs.Executed.{executed}
+
+-- four bytes
+abbrev pub word : ℕ → List ℕ
+word n = n / 16777216 ∷ (n / 65536) % 256 ∷ (n / 256) % 256 ∷ n % 256 ∷ []
+
+-- a header: bytes 0 and 1, the tag and CmdSN; the others are zero
+abbrev pub head : ℕ → ℕ → ℕ → ℕ → List ℕ
+head a b t n = a ∷ b ∷ replicate 14 0 ++ word t ++ word 0 ++ word n ++ replicate 20 0
+
+-- the header of a SCSI Command that is SIMPLE
+abbrev pub command : ℕ → ℕ → List ℕ
+command t n = head 0x01 0x81 t n
+
+abbrev pub entry : ℕ → ℕ → List Effect → Entry
+entry exp max effects = record { numbers = record { exp = exp; max = max }; effects = effects }
+
+-- a session of one connection that begins with CmdSN 1 and StatSN 1
+abbrev pub setting : ℕ → ℕ → Setting
+setting conn window = record { first = 1; window = window; units = 1; depth = 64; level = 1; events = 1048576; conns = (conn, 1) ∷ [] }
+
+-- one command: it is delivered, enters and is enabled; its unit completes it with GOOD
+abbrev pub one_command : List Event
+one_command = Arrive 1 (command 0xa1 1) ∷ Done 1 0 ∷ []
+
+pub one_command_log : run_of (setting 1 32) one_command ≡
+    entry 2 0x20 (Deliver (request_of 1 (command 0xa1 1)) ∷ Enter 1 0 Simple ∷ Enable 1 0 ∷ [])
+    ∷ entry 2 0x21 (Leave 1 0 ∷ Send 1 1 (Scsi 0xa1 0 None) ∷ [])
+    ∷ []
+one_command_log = refl
+
+pub one_command_executed : executed (setting 1 32) one_command ≡ request_of 1 (command 0xa1 1) ∷ []
+one_command_executed = refl
+
+-- a unit answers CHECK CONDITION, which carries sense
+abbrev pub check_condition : List Event
+check_condition = Arrive 1 (command 0xa1 1) ∷ Done 1 2 ∷ []
+
+pub check_condition_log : run_of (setting 1 32) check_condition ≡
+    entry 2 0x20 (Deliver (request_of 1 (command 0xa1 1)) ∷ Enter 1 0 Simple ∷ Enable 1 0 ∷ [])
+    ∷ entry 2 0x21 (Leave 1 0 ∷ Send 1 1 (Scsi 0xa1 2 (Some (record { key = 4; asc = 0x44; ascq = 0 }))) ∷ [])
+    ∷ []
+check_condition_log = refl
+
+-- a window of one place: the next number has a place only once the command is completed
+abbrev pub window_of_one : List Event
+window_of_one =
+    Arrive 1 (command 0xa1 1)
+    ∷ Arrive 1 (command 0xa1 1)
+    ∷ Arrive 1 (command 0xa3 3)
+    ∷ Arrive 1 (command 0xa2 2)
+    ∷ Done 1 0
+    ∷ Arrive 1 (command 0xa2 2)
+    ∷ []
+
+pub window_of_one_log : run_of (setting 1 1) window_of_one ≡
+    entry 2 1 (Deliver (request_of 1 (command 0xa1 1)) ∷ Enter 1 0 Simple ∷ Enable 1 0 ∷ [])
+    ∷ entry 2 1 (Ignore Outside ∷ [])
+    ∷ entry 2 1 (Ignore Outside ∷ [])
+    ∷ entry 2 1 (Ignore Outside ∷ [])
+    ∷ entry 2 2 (Leave 1 0 ∷ Send 1 1 (Scsi 0xa1 0 None) ∷ [])
+    ∷ entry 3 2 (Deliver (request_of 1 (command 0xa2 2)) ∷ Enter 2 0 Simple ∷ Enable 2 0 ∷ [])
+    ∷ []
+window_of_one_log = refl
+
+pub window_of_one_executed : executed (setting 1 1) window_of_one ≡ request_of 1 (command 0xa1 1) ∷ request_of 1 (command 0xa2 2) ∷ []
+window_of_one_executed = refl
+
+-- a number that isn't the next one is passed over; completions go by ticket, in any order
+abbrev pub next_number_alone : List Event
+next_number_alone =
+    Arrive 1 (command 0xa1 1)
+    ∷ Arrive 1 (command 0xa3 3)
+    ∷ Arrive 1 (command 0xa2 2)
+    ∷ Done 3 0
+    ∷ Done 2 8
+    ∷ []
+
+pub next_number_alone_log : run_of (setting 1 32) next_number_alone ≡
+    entry 2 0x20 (Deliver (request_of 1 (command 0xa1 1)) ∷ Enter 1 0 Simple ∷ Enable 1 0 ∷ [])
+    ∷ entry 2 0x20 (Ignore Outside ∷ [])
+    ∷ entry 3 0x20 (Deliver (request_of 1 (command 0xa2 2)) ∷ Enter 2 0 Simple ∷ Enable 2 0 ∷ [])
+    ∷ entry 3 0x20 (Ignore Stale ∷ [])
+    ∷ entry 3 0x21 (Leave 2 0 ∷ Send 1 1 (Scsi 0xa2 8 None) ∷ [])
+    ∷ []
+next_number_alone_log = refl
+
+-- the greatest ticket is nobody's
+pub greatest_ticket_log : run_of (setting 65535 32) (Done 18446744073709551615 0 ∷ []) ≡ entry 1 0x20 (Ignore Stale ∷ []) ∷ []
+greatest_ticket_log = refl
+
+-- requests that aren't numbered SCSI Commands: an immediate one, and a NOP-Out
+pub other_requests_log : run_of (setting 1 32) (Arrive 1 (head 0x41 0x81 0xa1 1) ∷ Arrive 1 (head 0x00 0x80 0xb1 1) ∷ []) ≡
+    entry 1 0x20 (Ignore Data ∷ []) ∷ entry 1 0x20 (Ignore Data ∷ []) ∷ []
+other_requests_log = refl
