@@ -113,7 +113,7 @@ fn first_number(text: &str) -> Option<u32>
 pub fn settings<'a>(alloc: Global, words: &'a [&'a str]) -> Result<Option<Settings>, Error>
     // Option by option, the value that the words give it, and where they don't name it its default.
     ensures ok { IfOk result (SettingsAre (matches_of replay_app (map (λ w. w.now) words.entry.now))) }
-    // The words are refused just where the command line takes them not, and else for want of memory alone.
+    // They are refused where the command line does not take them, and else only for want of memory.
     ensures kinds { FailsBy (fault_of replay_app (map (λ w. w.now) words.entry.now)) result }
 {
     let matches = parse(alloc, words)?;
