@@ -14,6 +14,9 @@ use crate::session::Session;
 use std::alloc::Global;
 use std::marker::Model;
 
+#[cfg(test)]
+mod tests;
+
 /// The effects of an event, in order.
 #[derive(Drop)]
 pub struct Effects {
@@ -41,7 +44,8 @@ impl Effects {
     pub fn into_vec(self) -> Vec<Effect>
         ensures { result.items ≡ self }
     {
-        self.list
+        let Self { list } = self;
+        list
     }
 
     /// The effects, in order.

@@ -19,6 +19,9 @@ use iscsi_wire::{Reply, Request, Sense};
 use std::alloc::Global;
 use std::marker::Model;
 
+#[cfg(test)]
+mod tests;
+
 /// The opcode of a SCSI Command.
 const SCSI_COMMAND: u8 = 0x01;
 
@@ -124,13 +127,8 @@ impl Session {
 
     /// The most effects that the next event gives.
     pub fn effect_bound(&self) -> usize
-        ensures { (o : Setting) (h : List Event) → StandsFor o self.now h → result ≡ effect_bound_of (trace_of o h) }
-    {
-        self.bound()
-    }
-
-    fn bound(&self) -> usize
-        ensures { result ≡ 12 + 2 * length self.now.live }
+        ensures bound { (o : Setting) (h : List Event) → StandsFor o self.now h → result ≡ effect_bound_of (trace_of o h) }
+        ensures value { result ≡ 12 + 2 * length self.now.live }
     {
         ITEM_EFFECTS + 2 * self.live.len()
     }
@@ -156,12 +154,13 @@ impl Session {
         if let Some(fault) = self.refusal(event) {
             return Err(fault);
         }
-        if out.reserve(self.bound()).is_err() {
+        if out.reserve(self.effect_bound()).is_err() {
             return Err(SessionFault::NoMemory);
         }
         self.taken += 1;
         self.apply(event, out);
-        Ok(self.numbers())
+        let numbers = self.numbers();
+        Ok(numbers)
     }
 
     /// Takes an event that is counted.

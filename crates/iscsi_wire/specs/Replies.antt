@@ -1,5 +1,5 @@
 -- The bytes of replies (RFC 7143 sections 11.4, 11.6, 11.15, 11.17 and 11.19; sense: SPC fixed format).
-use Rattle.std.specs.Prelude.{ℕ, ◌+◌, ◌*◌, ◌/◌, ◌%◌, List, [], ◌∷◌, ◌++◌, length, replicate, Option, Some, None}
+use Rattle.std.specs.Prelude.{ℕ, ◌/◌, ◌%◌, List, [], ◌∷◌, ◌++◌, length, replicate, Option, Some, None}
 use Rattle.iscsi_wire.specs.declared.reply.Sense.{Sense}
 use Rattle.iscsi_wire.specs.declared.reply.Reply.{Reply}
 use Rattle.iscsi_wire.specs.declared.reply.Reply.TheVariants.{Scsi, Task, Logout, Nop, Reject}

@@ -40,12 +40,12 @@ pub returns-clause-numbers : goal.returns-clause-numbers
 returns-clause-numbers c = λ o h stands.
     let taken = taken_by c.args.self.now c.args.event.now (sym c.refusal.ensures ∙ c.in_default.is) in
     let new : c.apply.new.self ≡ after_step (counted c.args.self.now) c.args.event.now = c.apply.ensures.session ∙ ap (λ (s : Core). after_step (counted s) c.args.event.now) c.self.view_is in
-    c.numbers.ensures ∙ ap numbers_by new ∙ (stands_step o c.args.self.now h c.args.event.now stands taken.0 c.apply.ensures.fits).2
+    c.numbers-numbers.ensures ∙ ap numbers_by new ∙ (stands_step o c.args.self.now h c.args.event.now stands taken.0 c.apply.ensures.fits).2
 
 pub returns-clause-refused : goal.returns-clause-refused
 returns-clause-refused c = λ o h stands.
     let refused : refusal_of o h c.args.event.now ≡ None = sym (refusal_is o c.args.self.now h c.args.event.now stands) ∙ sym c.refusal.ensures ∙ c.in_default.is in
-    let P : Option SessionFault → Type 0 = λ x. RefusesAs {A = Numbers} x (Ok c.numbers.result) in
+    let P : Option SessionFault → Type 0 = λ x. RefusesAs {A = Numbers} x (Ok c.numbers-numbers.result) in
     subst P (sym refused) tt
 
 pub returns-clause-bound : goal.returns-clause-bound
