@@ -1,0 +1,20 @@
+use Rattle.std.proofs.Common.{◌≡◌, false, Bool, ap, ◌∙◌, []}
+use Rattle.std.specs.Prelude.{◌||◌}
+use Rattle.std.proofs.lemmas.Result.{err_from_is_err_and}
+use Rattle.iscsi_replay.proofs.LineLemmas.{not_read, not_write, not_settings}
+use Rattle.iscsi_replay.specs.declared.fault.ReplayFault.TheVariants.{Read}
+use Rattle.iscsi_replay.proofs.reading.fill.Goals as goal
+
+pub returns-in_err-take_chunk-in-Ok-clause-failed : goal.returns-in_err-take_chunk-in-Ok-clause-failed
+returns-in_err-take_chunk-in-Ok-clause-failed g c =
+    let p = err_from_is_err_and c.from_residual.result c.from_residual.ensures.1 in (
+      λ h. let is : c.in_err-take_chunk-in-Ok.field-0.0 ≡ Read = cc in absurd (not_read _ _ (c.in_err-take_chunk-in-Ok.ensures.err []) is),
+      λ h. let fresh : g.R.Source.has_failed c.read.new.self ≡ false =
+          c.in-Ok.ensures.failure ∙ ap (λ (b : Bool). b || false) c.chunks.invariant.fresh in absurd (cc),
+    )
+
+pub returns-in_err-take_chunk-in-Ok-clause-kinds : goal.returns-in_err-take_chunk-in-Ok-clause-kinds
+returns-in_err-take_chunk-in-Ok-clause-kinds g c =
+    let p = err_from_is_err_and c.from_residual.result c.from_residual.ensures.1 in
+    let due = c.in_err-take_chunk-in-Ok.ensures.err [] in
+    rw (p.1, p.2) (λ is. not_write _ _ due is, λ is. not_settings _ _ due is)

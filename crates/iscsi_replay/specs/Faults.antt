@@ -1,0 +1,14 @@
+-- The lines of the faults, without their end.
+use Rattle.std.specs.Prelude.{ℕ, List, ◌++◌, codes, decimal}
+use Rattle.iscsi_replay.specs.declared.fault.ReplayFault.{ReplayFault}
+use Rattle.iscsi_replay.specs.declared.fault.ReplayFault.TheVariants.{BadLine, LineTooLong, TooManyLines, Read, NoMemory, NoConnection, Write, BadSettings}
+
+abbrev pub fault_line : ReplayFault → List ℕ
+fault_line (BadLine line) = codes "iscsi-replay: line " ++ decimal line ++ codes ": not a line of a recording"
+fault_line (LineTooLong line) = codes "iscsi-replay: line " ++ decimal line ++ codes ": longer than 256 bytes"
+fault_line TooManyLines = codes "iscsi-replay: more than 1048576 lines"
+fault_line Read = codes "iscsi-replay: the input could not be read"
+fault_line NoMemory = codes "iscsi-replay: out of memory"
+fault_line NoConnection = codes "iscsi-replay: no connection line"
+fault_line Write = codes "iscsi-replay: the output could not be written"
+fault_line BadSettings = codes "iscsi-replay: a setting is out of range"

@@ -1,0 +1,11 @@
+pub mod Fields
+pub mod Grammar
+pub mod Faults
+pub mod Recorded
+pub mod Reading
+pub mod Watched
+pub mod Limits
+pub mod Command
+pub mod Writing
+pub mod Replayed
+pub mod Stops

@@ -1,0 +1,48 @@
+-- A recording that is being read.
+use Rattle.std.specs.Prelude.{◌≡◌, ℕ, ◌+◌, ◌-◌, ◌*◌, ◌<◌, ◌≤◌, ◌==◌, Bool, true, false, List, ◌++◌, length, Option, Some, None, Result, Ok, Err, ⊤}
+use Rattle.std.specs.List.{list_any, list_all}
+use Rattle.iscsi_session.specs.Settings.{are_distinct}
+use Rattle.iscsi_replay.specs.Recorded.{Recorded, view, belongs_to, read_lines, lines_of}
+use Rattle.iscsi_replay.specs.declared.fault.ReplayFault.{ReplayFault}
+use Rattle.iscsi_replay.specs.declared.fault.ReplayFault.TheVariants as fault
+use Rattle.iscsi_replay.specs.declared.reading.Reading.{Reading}
+
+abbrev pub is_end : ℕ → Bool
+is_end b = b == 10
+
+-- what a recording keeps that has so many lines
+pub record IsSoundIn (lines : ℕ) (r : Recorded) : Type 0 where
+  pub few : length r.conns ≤ 64
+  pub distinct : are_distinct r.conns ≡ true
+  pub known : list_all (belongs_to r.conns) r.events ≡ true
+  pub events : length r.events ≤ lines
+
+-- the reading is in line `line`, of which `pending` has come
+pub record IsReading (w : Reading) : Type 0 where
+  pub first : 1 ≤ w.line
+  pub last : w.line ≤ 1048577
+  pub short : length w.pending.items ≤ 256
+  pub room : 0 < length w.pending.items → w.line ≤ 1048576
+  pub one : list_any is_end w.pending.items ≡ false
+  pub sound : IsSoundIn (w.line - 1) (view w.so_far)
+
+-- what reading gives, if these bytes come yet
+abbrev pub left_of : Reading → List ℕ → Result Recorded ReplayFault
+left_of w bytes = read_lines w.line (view w.so_far) (lines_of (w.pending.items ++ bytes))
+
+-- the most bytes that may have come
+abbrev pub weight : Reading → ℕ
+weight w = (w.line - 1) * 257 + length w.pending.items
+
+-- the known bytes that are left are read to the same answer as all were at v
+abbrev pub ReadsOn : Option (List ℕ) → Option (List ℕ) → Reading → Reading → Type 0
+ReadsOn None new v w = ⊤
+ReadsOn (Some bytes) None v w = ⊥
+ReadsOn (Some bytes) (Some rest) v w = left_of w rest ≡ left_of v bytes
+
+-- the answer is what reading gives, unless a read answered an error or memory ran out
+abbrev pub Answers : Result (Unit {0}) ReplayFault → Recorded → Result Recorded ReplayFault → Type 0
+Answers (Ok x) new read = read ≡ Ok new
+Answers (Err fault.Read) new read = ⊤
+Answers (Err fault.NoMemory) new read = ⊤
+Answers (Err e) new read = read ≡ Err e

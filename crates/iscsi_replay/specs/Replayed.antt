@@ -1,0 +1,57 @@
+-- What a replay answers, and what it writes.
+use Rattle.std.specs.Prelude.{◌≡◌, ℕ, List, Option, Result, Ok, Err, ⊤}
+use Rattle.std.specs.Io.KnownBytes.{Appends, Keeps}
+use Rattle.iscsi_session.specs.Settings.{Setting}
+use Rattle.iscsi_session.specs.Run.{run_of}
+use Rattle.iscsi_session.specs.Lines.{report_from}
+use Rattle.iscsi_replay.specs.Recorded.{Recorded}
+use Rattle.iscsi_replay.specs.Writing.{AppendsFront}
+use Rattle.iscsi_replay.specs.declared.settings.Settings.{Settings}
+use Rattle.iscsi_replay.specs.declared.fault.ReplayFault.{ReplayFault}
+use Rattle.iscsi_replay.specs.declared.fault.ReplayFault.TheVariants as fault
+
+-- the options of the session
+abbrev pub setting_for : Settings → List (ℕ × ℕ) → Setting
+setting_for s conns = record {
+  first = s.first;
+  window = s.window;
+  units = s.units;
+  depth = s.depth;
+  level = s.level;
+  events = 1048576;
+  conns = conns;
+}
+
+-- the report of a recording
+abbrev pub report_of : Settings → Recorded → List ℕ
+report_of s r = report_from r.events (run_of (setting_for s r.conns) r.events)
+
+-- the bytes are a recording, and its report was written
+abbrev pub Reported : Settings → Result Recorded ReplayFault → Option (List ℕ) → Option (List ℕ) → Type 0
+Reported s (Ok r) old new = Appends old new (report_of s r)
+Reported s (Err e) old new = ⊥
+
+-- a front of the report was written, and nothing where the bytes are no recording
+abbrev pub FrontReported : Settings → Result Recorded ReplayFault → Option (List ℕ) → Option (List ℕ) → Type 0
+FrontReported s (Ok r) old new = AppendsFront old new (report_of s r)
+FrontReported s (Err e) old new = Keeps old new
+
+-- why a replay of bytes that are a recording may be refused
+abbrev pub CanStop : ReplayFault → Type 0
+CanStop fault.Read = ⊤
+CanStop fault.NoMemory = ⊤
+CanStop fault.Write = ⊤
+CanStop e = ⊥
+
+-- why a replay of bytes that have this fault may be refused
+abbrev pub IsFaultOr : ReplayFault → ReplayFault → Type 0
+IsFaultOr f fault.Read = ⊤
+IsFaultOr f fault.NoMemory = ⊤
+IsFaultOr f e = e ≡ f
+
+-- the answer is that of the bytes, unless memory ran out or a read or a write failed
+abbrev pub AnswersAs : Result Recorded ReplayFault → Result (Unit {0}) ReplayFault → Type 0
+AnswersAs (Ok r) (Ok x) = ⊤
+AnswersAs (Ok r) (Err e) = CanStop e
+AnswersAs (Err f) (Ok x) = ⊥
+AnswersAs (Err f) (Err e) = IsFaultOr f e

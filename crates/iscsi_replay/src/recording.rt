@@ -1,0 +1,105 @@
+//! The connections and events of a recording.
+
+ghost use Rattle.std.specs.Prelude.{◌≡◌, ok_or, [], OnErr};
+ghost use Rattle.iscsi_session.specs.Settings.{is_known};
+ghost use Rattle.iscsi_replay.specs.Recorded.{view, take, read_line, Steps};
+ghost use Rattle.iscsi_replay.specs.declared.fault.ReplayFault.TheVariants.{BadLine};
+
+use crate::fault::ReplayFault;
+use crate::line::Line;
+use crate::parse::parse_line;
+use iscsi_session::Event;
+use std::alloc::Global;
+
+/// The most lines of a recording.
+pub const MAX_LINES: u32 = 1_048_576;
+
+/// The most bytes of a line, its end not counted.
+pub const MAX_LINE: usize = 256;
+
+const MAX_CONNS: usize = 64;
+
+/// What was recorded.
+#[derive(Debug, Drop)]
+pub struct Recording {
+    /// The CID and the first StatSN of each connection.
+    pub conns: Vec<(u16, u32)>,
+    pub events: Vec<Event>,
+}
+
+impl Recording {
+    /// The recording of no line, without memory.
+    pub fn new(alloc: Global) -> Recording
+        ensures conns { result.conns.items ≡ [] }
+        ensures events { result.events.items ≡ [] }
+    {
+        Recording {
+            conns: Vec::new(alloc),
+            events: Vec::new(alloc),
+        }
+    }
+
+    fn knows(&self, cid: u16) -> bool
+        ensures { result ≡ is_known cid self.now.conns.items }
+    {
+        self.conns.iter().any(|conn| conn.0 == cid)
+    }
+
+    fn take_conn(&mut self, number: u32, cid: u16, stat_sn: u32) -> Result<(), ReplayFault>
+        ensures step { Steps result (view self.new) (ok_or (take (view self.old) (Line.Conn cid stat_sn)) (BadLine number)) }
+        ensures err { OnErr result (view self.new ≡ view self.old) }
+    {
+        if !self.events.is_empty() || self.knows(cid) || self.conns.len() >= MAX_CONNS {
+            return Err(ReplayFault::BadLine(number));
+        }
+        match self.conns.push((cid, stat_sn)) {
+            Ok(()) => Ok(()),
+            Err(_) => Err(ReplayFault::NoMemory),
+        }
+    }
+
+    fn take_event(&mut self, number: u32, event: Event) -> Result<(), ReplayFault>
+        ensures step { Steps result (view self.new) (ok_or (take (view self.old) (Line.Event event)) (BadLine number)) }
+        ensures err { OnErr result (view self.new ≡ view self.old) }
+    {
+        if let Event::Arrive { conn, .. } = event {
+            if !self.knows(conn) {
+                return Err(ReplayFault::BadLine(number));
+            }
+        }
+        match self.events.push(event) {
+            Ok(()) => Ok(()),
+            Err(_) => Err(ReplayFault::NoMemory),
+        }
+    }
+
+    /// Takes what line `number` says. On `Err` the recording stays as it was.
+    pub fn take(&mut self, number: u32, line: Line) -> Result<(), ReplayFault>
+        ensures step { Steps result (view self.new) (ok_or (take (view self.old) line) (BadLine number)) }
+        ensures err { OnErr result (view self.new ≡ view self.old) }
+    {
+        match line {
+            Line::Passed => Ok(()),
+            Line::Conn { cid, stat_sn } => self.take_conn(number, cid, stat_sn),
+            Line::Event(event) => self.take_event(number, event),
+        }
+    }
+
+    /// Takes line `number`, which has these bytes. On `Err` the recording stays as it was.
+    #[tactic(auto, unfolding(crate::specs::Recorded::read_line))]
+    pub fn take_line(&mut self, number: u32, bytes: &[u8]) -> Result<(), ReplayFault>
+        ensures step { Steps result (view self.new) (read_line number (view self.old) bytes.now) }
+        ensures err { OnErr result (view self.new ≡ view self.old) }
+    {
+        if number > MAX_LINES {
+            return Err(ReplayFault::TooManyLines);
+        }
+        if bytes.len() > MAX_LINE {
+            return Err(ReplayFault::LineTooLong(number));
+        }
+        match parse_line(bytes) {
+            Some(line) => self.take(number, line),
+            None => Err(ReplayFault::BadLine(number)),
+        }
+    }
+}

@@ -1,0 +1,162 @@
+//! A recording and its report.
+
+ghost use Rattle.std.specs.Prelude.{◌≡◌, ◌≢◌, ◌↔◌, ◌++◌, ◌<◌, true, false, [], vec_len, IfSome, OnOk, IfOk, IfErr, IsErrOf, MatchResult};
+ghost use Rattle.std.specs.List.{list_all};
+ghost use Rattle.std.specs.Io.KnownBytes.{Appends};
+ghost use Rattle.iscsi_session.specs.Settings.{is_valid};
+ghost use Rattle.iscsi_session.specs.Standing.{StandsFor};
+ghost use Rattle.iscsi_session.specs.Lines.{event_line, entry_lines};
+ghost use Rattle.iscsi_replay.specs.Limits.{are_valid};
+ghost use Rattle.iscsi_replay.specs.Recorded.{view, read_of, IsSound};
+ghost use Rattle.iscsi_replay.specs.Replayed.{setting_for, report_of, Reported, FrontReported, AnswersAs};
+ghost use Rattle.iscsi_replay.specs.Writing.{AppendsFront, AppendsBut};
+
+use crate::fault::ReplayFault;
+use crate::reading::read_recording;
+use crate::recording::Recording;
+use crate::settings::Settings;
+use crate::sink::{Sink, put_all};
+use crate::source::Source;
+use iscsi_session::{
+    Effect, Event, Numbers, Options, Session, SessionFault, put_effect, put_event,
+};
+use std::alloc::Global;
+
+/// The most events that a session takes: a recording has no more lines.
+const MAX_EVENTS: u64 = 1_048_576;
+
+/// So many bytes of a report are written at once.
+const CHUNK: usize = 65_536;
+
+/// What a refusal of the session is here, where it can only be want of memory.
+fn fault_of(fault: SessionFault) -> ReplayFault
+    requires { fault ≡ SessionFault.NoMemory }
+    ensures { result ≡ ReplayFault.NoMemory }
+{
+    match fault {
+        SessionFault::NoMemory => ReplayFault::NoMemory,
+        _ => unreachable!(),
+    }
+}
+
+/// Opens the session of a recording's connections.
+fn open(alloc: Global, settings: &Settings, conns: Vec<(u16, u32)>) -> Result<Session, ReplayFault>
+    requires { is_valid (setting_for settings.now conns.items) ≡ true }
+    ensures stands { IfOk result (λ s. StandsFor (setting_for settings.now conns.items) s []) }
+    ensures memory { IfErr result (λ e. e ≡ ReplayFault.NoMemory) }
+{
+    let options = Options {
+        first: settings.first,
+        window: settings.window,
+        units: settings.units,
+        depth: settings.depth,
+        level: settings.level,
+        events: MAX_EVENTS,
+        conns,
+    };
+    match Session::open(alloc, options) {
+        Ok(session) => Ok(session),
+        Err(fault) => Err(fault_of(fault)),
+    }
+}
+
+/// Appends the lines of an event and of its effects.
+fn put_entry(
+    event: &Event,
+    numbers: Numbers,
+    effects: &[Effect],
+    lines: &mut Vec<u8>,
+) -> Result<(), ReplayFault>
+    ensures ok { OnOk result (lines.new.items ≡ lines.old.items ++ (event_line event.now ++ entry_lines (record { numbers = numbers; effects = effects.now }))) }
+    ensures memory { IfErr result (λ e. e ≡ ReplayFault.NoMemory) }
+{
+    if let Err(fault) = put_event(event, lines) {
+        return Err(fault_of(fault));
+    }
+    for effect in effects {
+        if let Err(fault) = put_effect(effect, numbers, lines) {
+            return Err(fault_of(fault));
+        }
+    }
+    Ok(())
+}
+
+/// Writes out the lines that wait, once they are many.
+fn write_chunk<W: Sink>(lines: &mut Vec<u8>, writer: &mut W) -> Result<(), ReplayFault>
+    requires { W.has_failed writer.old ≡ false }
+    ensures ok { OnOk result (AppendsBut (W.contents writer.old) (W.contents writer.new) lines.new.items lines.old.items) }
+    ensures few { OnOk result (vec_len lines.new < 65536) }
+    ensures front { AppendsFront (W.contents writer.old) (W.contents writer.new) lines.old.items }
+    ensures failed { MatchResult result (λ _. W.has_failed writer.new ≡ false) (λ e. (e ≡ ReplayFault.Write) × (W.has_failed writer.new ≡ true)) }
+{
+    if lines.len() < CHUNK {
+        return Ok(());
+    }
+    put_all(writer, lines)?;
+    lines.clear();
+    Ok(())
+}
+
+/// Writes the report of a recording. On `Err` a front of it is written.
+fn write_report<W: Sink>(
+    alloc: Global,
+    settings: &Settings,
+    recording: Recording,
+    writer: &mut W,
+) -> Result<(), ReplayFault>
+    requires valid { are_valid settings.now ≡ true }
+    requires sound { IsSound (view recording) }
+    requires fresh { W.has_failed writer.old ≡ false }
+    ensures ok { OnOk result (Appends (W.contents writer.old) (W.contents writer.new) (report_of settings.now (view recording))) }
+    ensures front { AppendsFront (W.contents writer.old) (W.contents writer.new) (report_of settings.now (view recording)) }
+    ensures failed { IsErrOf result ReplayFault.Write ↔ (W.has_failed writer.new ≡ true) }
+    ensures kinds { IfErr result (λ e. e ≢ ReplayFault.Write → e ≡ ReplayFault.NoMemory) }
+{
+    let Recording { conns, events } = recording;
+    let mut session = open(alloc, settings, conns)?;
+    let mut effects = Vec::new(alloc);
+    let mut lines = Vec::new(alloc);
+    for event in &events {
+        effects.clear();
+        match session.step(event, &mut effects) {
+            Ok(numbers) => put_entry(event, numbers, &effects, &mut lines)?,
+            Err(fault) => return Err(fault_of(fault)),
+        }
+        write_chunk(&mut lines, writer)?;
+    }
+    put_all(writer, &lines)
+}
+
+/// Reads a recording to its end, and then writes the report of its events.
+///
+/// `BadSettings` stands before all others. After `Write`, and after `NoMemory` once the input was read, a
+/// front of the report is written, and after the others nothing.
+pub fn replay<R: Source, W: Sink>(
+    alloc: Global,
+    settings: &Settings,
+    reader: &mut R,
+    writer: &mut W,
+) -> Result<(), ReplayFault>
+    requires read_fresh { R.has_failed reader.old ≡ false }
+    requires write_fresh { W.has_failed writer.old ≡ false }
+    ensures bad { IsErrOf result ReplayFault.BadSettings ↔ (are_valid settings.now ≡ false) }
+    ensures untouched { IsErrOf result ReplayFault.BadSettings → (reader.new ≡ reader.old) × (writer.new ≡ writer.old) }
+    // The bytes are a recording, and the report of its events is written, and nothing else.
+    ensures ok { OnOk result (IfSome (R.remaining reader.old) (λ bytes. Reported settings.now (read_of bytes) (W.contents writer.old) (W.contents writer.new))) }
+    // The answer is that of the bytes, unless memory ran out or a read or a write failed.
+    ensures fault { are_valid settings.now ≡ true → IfSome (R.remaining reader.old) (λ bytes. AnswersAs (read_of bytes) result) }
+    // In any case a front of the report is written, and nothing where the bytes are no recording.
+    ensures front { IfSome (R.remaining reader.old) (λ bytes. FrontReported settings.now (read_of bytes) (W.contents writer.old) (W.contents writer.new)) }
+    ensures read_failed { IsErrOf result ReplayFault.Read ↔ (R.has_failed reader.new ≡ true) }
+    ensures write_failed { IsErrOf result ReplayFault.Write ↔ (W.has_failed writer.new ≡ true) }
+{
+    if !settings.are_valid() {
+        return Err(ReplayFault::BadSettings);
+    }
+    let mut recording = Recording::new(alloc);
+    read_recording(alloc, reader, &mut recording)?;
+    write_report(alloc, settings, recording, writer)
+}
+
+#[cfg(test)]
+mod tests;

@@ -1,0 +1,83 @@
+//! Why the program ends without a whole report.
+
+ghost use Rattle.std.specs.Prelude.{◌≡◌, ◌≢◌, ◌≤◌};
+ghost use Rattle.std.specs.Process.{exit_status};
+
+use crate::fault::ReplayFault;
+use clap::error::ErrorKind;
+use std::io;
+use std::io::{Eprint, Print};
+use std::process::ExitCode;
+
+/// Why the program ends without a whole report.
+#[derive(Debug, Drop)]
+pub enum Stop {
+    /// The replay was refused, or memory before it.
+    Fault(ReplayFault),
+    /// The command line was refused, or asks for the help.
+    CommandLine(clap::Error),
+    /// `--first` isn't eight hexadecimal digits.
+    BadFirst,
+    /// A word of the command line isn't UTF-8.
+    NotText,
+}
+
+impl Stop {
+    ghost use Rattle.iscsi_replay.specs.Stops.{status_of};
+
+    /// The status with which the program ends: 0 for the help, 1 for a fault and for want of memory, and 2
+    /// for a command line that is refused.
+    pub fn status(&self) -> u8
+        ensures { result ≡ status_of self.now }
+    {
+        match self {
+            Stop::Fault(_) => 1,
+            Stop::CommandLine(error) => match error.kind() {
+                ErrorKind::OutOfMemory => 1,
+                ErrorKind::DisplayHelp | ErrorKind::DisplayVersion => 0,
+                _ => 2,
+            },
+            Stop::BadFirst | Stop::NotText => 2,
+        }
+    }
+
+    /// Prints the help on standard output, and any other text on standard error.
+    fn tell<R: Print + Eprint>(&self, rt: &R) -> io::Result<()> {
+        match self {
+            Stop::Fault(fault) => eprintln!(rt; "{fault}"),
+            Stop::CommandLine(error) if error.kind() == ErrorKind::OutOfMemory => {
+                eprintln!(rt; "{}", ReplayFault::NoMemory)
+            }
+            Stop::CommandLine(error) => error.print(rt),
+            Stop::BadFirst => {
+                eprintln!(rt; "iscsi-replay: --first takes eight hexadecimal digits")
+            }
+            Stop::NotText => {
+                eprintln!(rt; "iscsi-replay: a word of the command line is not UTF-8")
+            }
+        }
+    }
+
+    /// Tells why the program ends, and answers its status, or 1 where the help couldn't be printed.
+    pub fn report<R: Print + Eprint>(&self, rt: &R) -> ExitCode
+        ensures refused { status_of self.now ≢ 0 → exit_status result ≡ status_of self.now }
+        ensures help { status_of self.now ≡ 0 → exit_status result ≤ 1 }
+    {
+        match (self.tell(rt), self.status()) {
+            (Err(_), 0) => ExitCode::FAILURE,
+            (_, status) => ExitCode::from(status),
+        }
+    }
+}
+
+impl From<ReplayFault> for Stop {
+    fn from(fault: ReplayFault) -> Stop {
+        Stop::Fault(fault)
+    }
+}
+
+impl From<clap::Error> for Stop {
+    fn from(error: clap::Error) -> Stop {
+        Stop::CommandLine(error)
+    }
+}
