@@ -1,8 +1,8 @@
 -- What a parse gives an option that has a default: a value, which passed its parser.
-use Rattle.std.proofs.Common.{zero, suc, ◌≡◌, ◌⊎◌, ◌∙◌, subst, ◌<◌, ◌≤◌, ap, ◌&&◌, ◌||◌, ℕ, Bool, true, false, not, true≢false, List, [], ◌∷◌, map, length, is_some, Option, Some, None, refl, sym, inl, inr, arith, rules, codes}
-use Rattle.std.specs.List.{All, Any, slice_index_or, list_any, list_all}
+use Rattle.std.proofs.Common.{zero, suc, ◌≡◌, ◌∙◌, subst, ◌<◌, ◌≤◌, ap, ◌&&◌, ℕ, Bool, true, false, not, true≢false, List, [], ◌∷◌, map, length, Option, Some, None, refl, sym, inl, inr, arith, codes}
+use Rattle.std.specs.List.{All, slice_index_or, list_any, list_all}
 use Rattle.std.specs.Str.{bytes_eq}
-use Rattle.std.specs.Prelude.{find, option_map, option_and_then, slice_get}
+use Rattle.std.specs.Prelude.{find, option_map}
 use Rattle.std.specs.Borrow.{Bor}
 use Rattle.std.proofs.lemmas.List.{length-map, get_or-map}
 use Rattle.std.proofs.lemmas.List.Elements.{All-get_or}
@@ -11,11 +11,10 @@ use Rattle.std.proofs.lemmas.Slice.Eq.{bytes_eq-Decides}
 use Rattle.clap.specs.Texts.{items_of}
 use Rattle.clap.specs.Facts.{Entry, EntryPasses, EntryValuesPass, IsFilledEntry, IsGroupEntry, PassesArg, ValuesPass, WantsDefault, args_of, groups_of, least_values, parser_of, parser_of_value, unwrap_or_range}
 use Rattle.clap.specs.Built.{IsAuto, IsParsedFrom, NamesNoGroup, SameRules}
-use Rattle.clap.specs.Matches.{found_of, first_value, has_subcommand, matched_of}
+use Rattle.clap.specs.Matches.{found_of, first_value, matched_of}
 use Rattle.clap.specs.Simple.{App, HasReadyLeaves, IsSimple, IsSimpleArg, app_of, is_ready, is_ready_leaf, shape_of}
 use Rattle.clap.specs.Values.{Accepts}
 use Rattle.clap.specs.Walk.{Rule, Text, first_of, rows_of, rule_of, rules_of}
-use Rattle.clap.specs.declared.builder.action.ArgAction.{ArgAction}
 use Rattle.clap.specs.declared.builder.action.ArgAction.TheVariants.{Set, Count}
 use Rattle.clap.specs.declared.builder.arg.Arg.{Arg}
 use Rattle.clap.specs.declared.builder.range.ValueRange.{ValueRange}

@@ -1,6 +1,6 @@
 -- A session of a sound recording refuses only for want of memory.
-use Rattle.std.proofs.Common.{◌≡◌, ℕ, ◌<◌, ◌≤◌, ◌&&◌, Bool, true, false, not, List, [], ◌∷◌, length, take, get_or, Option, Some, None, refl, sym, ap, ◌∙◌, subst, arith, length-take, nat_lt, lt-ltb, le-leb}
-use Rattle.std.specs.Prelude.{nat_le, Result, Ok, Err}
+use Rattle.std.proofs.Common.{◌≡◌, ℕ, ◌<◌, ◌≤◌, Bool, true, false, List, length, take, get_or, Option, None, refl, ◌∙◌, subst, arith, length-take, nat_lt, lt-ltb}
+use Rattle.std.specs.Prelude.{Result, Err}
 use Rattle.std.specs.List.{list_all}
 use Rattle.std.proofs.lemmas.List.Folds.{list_all_at}
 use Rattle.iscsi_session.specs.declared.event.Event.{Event}
@@ -10,7 +10,6 @@ use Rattle.iscsi_session.specs.declared.fault.SessionFault.TheVariants.{NoMemory
 use Rattle.iscsi_session.specs.Settings.{Setting, is_valid}
 use Rattle.iscsi_session.specs.Refusals.{RefusesAs, belongs, refusal_of, refusal_of_options}
 use Rattle.iscsi_replay.specs.declared.settings.Settings.{Settings}
-use Rattle.iscsi_replay.specs.Limits.{are_valid}
 use Rattle.iscsi_replay.specs.Recorded.{Recorded, IsSound, belongs_to}
 use Rattle.iscsi_replay.specs.Replayed.{setting_for}
 

@@ -1,4 +1,4 @@
-use Rattle.std.proofs.Common.{rules, ap, refl, true, ◌≡◌, ◌∙◌, subst, map}
+use Rattle.std.proofs.Common.{ap, refl, true, ◌≡◌, ◌∙◌, subst, map}
 use Rattle.std.proofs.lemmas.Result.{IfOk-weaker}
 use Rattle.clap.specs.Words.{App, app_of, is_simple, is_simple_and_free, matches_of, FailsBy, fault_of}
 use Rattle.iscsi_replay.specs.Command.{replay_app}

@@ -1,4 +1,4 @@
-use Rattle.std.proofs.Common.{◌≡◌, ℕ, ◌+◌, ◌≤◌, length, take, drop, length-take, length-drop, rules, arith, sym}
+use Rattle.std.proofs.Common.{ℕ, ◌+◌, take, length-take, length-drop, rules, arith}
 use Rattle.iscsi_replay.proofs.Written.{front_of, more_of}
 use Rattle.std.proofs.KnownBytes.{Appends-kept}
 use Rattle.iscsi_replay.proofs.sink.put_all.Goals as goal

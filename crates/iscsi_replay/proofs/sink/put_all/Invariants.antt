@@ -1,4 +1,4 @@
-use Rattle.std.proofs.Common.{◌≡◌, ℕ, ◌-◌, ◌≤◌, false, length, take}
+use Rattle.std.proofs.Common.{◌≡◌, ◌-◌, ◌≤◌, false, length, take}
 use Rattle.std.specs.Io.KnownBytes.{Appends}
 use Rattle.iscsi_replay.proofs.sink.put_all.Given as goal
 
