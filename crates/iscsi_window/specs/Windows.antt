@@ -1,5 +1,5 @@
 -- What a window answers, and what it becomes.
-use Rattle.std.specs.Prelude.{ℕ, ◌+◌, ◌-◌, ◌==◌, ◌&&◌, Bool, true, false, is_some, is_none, nat_lt, nat_le, List, [], ◌∷◌, ◌++◌, length, take, drop, replicate, position, slice_set, Option, Some, None, option_map, if◌then◌else◌}
+use Rattle.std.specs.Prelude.{ℕ, ◌+◌, ◌-◌, ◌==◌, ◌&&◌, Bool, true, false, is_some, nat_lt, nat_le, [], ◌∷◌, ◌++◌, length, take, drop, replicate, position, slice_set, Option, Some, None, option_map, if◌then◌else◌}
 use Rattle.std.specs.Option.{option_flatten}
 use Rattle.iscsi_wire.specs.Serial.{wire, lift}
 use Rattle.iscsi_wire.specs.Fields.{connection_of, opcode, lun, itt, cmd_sn, unit_of}
