@@ -25,14 +25,14 @@ held_within s conn k sound found =
 
 pub sound_set : (s : Received) (k : ℕ) (v : Option (Option Request)) → IsSound s → k < room_of s → IsSound (record s { places = set s.places k v })
 sound_set s k v sound within = record {
-    not_empty = simp length-set sound.not_empty;
-    at_most = simp length-set sound.at_most;
-    counted = simp length-set sound.counted;
-    none_above = λ j above.
-        let old : room_of s ≤ j = omega (arith, length-set s.places k v) in
-        let apart : j ≢ k = omega arith in
-        get_or-set_other s.places k j v None apart ∙ sound.none_above j old
-  }
+  not_empty = simp length-set sound.not_empty;
+  at_most = simp length-set sound.at_most;
+  counted = simp length-set sound.counted;
+  none_above = λ j above.
+      let old : room_of s ≤ j = omega (arith, length-set s.places k v) in
+      let apart : j ≢ k = omega arith in
+      get_or-set_other s.places k j v None apart ∙ sound.none_above j old;
+}
 
 -- ---- the fields
 
@@ -43,4 +43,4 @@ Keeps first turned unfinished size places = (length places.items ≡ size) × (p
 pub keeps_put : (first turned unfinished size k : ℕ) (v : Option (Option Request)) (old new : Buffer (Option (Option Request))) → Keeps first turned unfinished size old → k < length old.items - unfinished → new ≡ buffer (set old.items k v) old.capacity → Keeps first turned unfinished size new
 keeps_put first turned unfinished size k v old new keeps within put =
     subst (λ b. Keeps first turned unfinished size b) (sym put)
-      (length-set old.items k v ∙ keeps.0, keeps.1, sound_set (record { first = first; turned = turned; unfinished = unfinished; places = old.items }) k v keeps.2 within)
+    (length-set old.items k v ∙ keeps.0, keeps.1, sound_set (record { first = first; turned = turned; unfinished = unfinished; places = old.items }) k v keeps.2 within)
