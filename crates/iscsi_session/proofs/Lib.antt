@@ -3,9 +3,14 @@ pub mod ListLemmas
 pub mod Missing
 pub mod TraceLemmas
 pub mod NumberLemmas
-pub mod AgreeLemmas
-pub mod StepLemmas
 pub mod LineLemmas
-pub mod AgendaLemmas
+pub mod HeldLemmas
 pub mod DeliveryLemmas
 pub mod RefusalLemmas
+pub mod AgreeLemmas
+pub mod TurnLemmas
+pub mod ApartLemmas
+pub mod StepLemmas
+pub mod OpenLemmas
+pub mod WindowLemmas
+pub mod ArriveLemmas

@@ -79,24 +79,24 @@ window_of_one_log = refl
 pub window_of_one_executed : executed (setting 1 1) window_of_one ≡ request_of 1 (command 0xa1 1) ∷ request_of 1 (command 0xa2 2) ∷ []
 window_of_one_executed = refl
 
--- a number that isn't the next one is passed over; completions go by ticket, in any order
-abbrev pub next_number_alone : List Event
-next_number_alone =
+-- a number behind a gap is held until the gap is closed; completions go by ticket, in any order
+abbrev pub gap : List Event
+gap =
     Arrive 1 (command 0xa1 1)
     ∷ Arrive 1 (command 0xa3 3)
     ∷ Arrive 1 (command 0xa2 2)
-    ∷ Done 3 0
+    ∷ Done 4 0
     ∷ Done 2 8
     ∷ []
 
-pub next_number_alone_log : run_of (setting 1 32) next_number_alone ≡
+pub gap_log : run_of (setting 1 32) gap ≡
     entry 2 0x20 (Deliver (request_of 1 (command 0xa1 1)) ∷ Enter 1 0 Simple ∷ Enable 1 0 ∷ [])
-    ∷ entry 2 0x20 (Ignore Outside ∷ [])
-    ∷ entry 3 0x20 (Deliver (request_of 1 (command 0xa2 2)) ∷ Enter 2 0 Simple ∷ Enable 2 0 ∷ [])
-    ∷ entry 3 0x20 (Ignore Stale ∷ [])
-    ∷ entry 3 0x21 (Leave 2 0 ∷ Send 1 1 (Scsi 0xa2 8 None) ∷ [])
+    ∷ entry 2 0x20 []
+    ∷ entry 4 0x20 (Deliver (request_of 1 (command 0xa2 2)) ∷ Enter 2 0 Simple ∷ Enable 2 0 ∷ Deliver (request_of 1 (command 0xa3 3)) ∷ Enter 3 0 Simple ∷ Enable 3 0 ∷ [])
+    ∷ entry 4 0x20 (Ignore Stale ∷ [])
+    ∷ entry 4 0x21 (Leave 2 0 ∷ Send 1 1 (Scsi 0xa2 8 None) ∷ [])
     ∷ []
-next_number_alone_log = refl
+gap_log = refl
 
 -- the greatest ticket is nobody's
 pub greatest_ticket_log : run_of (setting 65535 32) (Done 18446744073709551615 0 ∷ []) ≡ entry 1 0x20 (Ignore Stale ∷ []) ∷ []

@@ -1,0 +1,13 @@
+//! The command window of an iSCSI session (RFC 7143 section 4.2.2.1): the numbers that were received and
+//! haven't turned, and the requests that are held until it is their turn.
+//!
+//! A window takes memory when it is opened, and never again.
+#![tactic(auto)]
+
+mod answer;
+mod fault;
+mod window;
+
+pub use answer::{Offer, Place, Turned};
+pub use fault::WindowFault;
+pub use window::Window;

@@ -1,0 +1,316 @@
+//! The window: a ring of places, one for each number from the expected one on.
+
+ghost use Rattle.std.specs.Prelude.{Err, ◌≡◌, ℕ, ◌+◌, ◌-◌, ◌^◌, ◌<◌, ◌≤◌, ◌⊎◌, ◌↔◌, ◌==◌, length, replicate, slice_set, slice_index_or, Option, Some, None, IsSome, OnSome, IfOk, not, position, take, option_map};
+ghost use Rattle.circular_buffer.specs.Buffer.{buffer};
+ghost use Rattle.iscsi_wire.specs.Serial.{wire, lift};
+ghost use Rattle.iscsi_window.specs.Received.{number_expected, at_place, IsSound, HasRoom};
+ghost use Rattle.iscsi_window.specs.Windows.{opened, number_last, place_in, IsInside, held_at, offer_to, offered_to, is_received_at, voided, is_command, is_asked, is_held_from, number_shown, find_command, emptied, first_from, dropped_at, turned_by, advanced, with_unfinished};
+
+use crate::answer::{Offer, Place, Turned};
+use crate::fault::WindowFault;
+use circular_buffer::HeapCircularBuffer;
+use iscsi_wire::{Request, serial_lt, unit_of};
+use std::alloc::{AllocError, Global};
+use std::marker::Model;
+
+#[cfg(test)]
+mod tests;
+
+/// The most places of a window.
+const MOST_PLACES: u32 = 1024;
+
+/// The opcode of a SCSI Command.
+const SCSI_COMMAND: u8 = 0x01;
+
+/// None for a number that wasn't received, and Some of what is held for one that was.
+type Received = Option<Option<Request>>;
+
+/// As many places as the window has, at every time.
+type Places = HeapCircularBuffer<Received>;
+
+/// The numbers that a session has received and not yet turned, and the requests that it holds for them.
+///
+/// A window of W places admits the numbers from the expected one, ExpCmdSN, to the last one, MaxCmdSN,
+/// which is W - 1 above it less one for each command that is being executed (RFC 7143 section 4.2.2.1).
+/// Numbers on the wire wrap at 2^32; each stands for the number nearest to the expected one that it shows.
+#[derive(Drop)]
+pub struct Window {
+    first: u32,
+    turned: u64,
+    unfinished: u32,
+    size: u32,
+    places: Places,
+}
+
+impl Model for Window {
+    ghost use Rattle.std.specs.Prelude.{◌≡◌, length};
+    ghost use Rattle.iscsi_window.specs.Received.{Received, IsSound};
+
+    ghost Value = { Received };
+
+    ghost view = { λ w. record { first = w.first; turned = w.turned; unfinished = w.unfinished; places = w.places.items } };
+
+    ghost invariant = { λ w. (length w.places.items ≡ w.size) × (w.places.capacity ≡ w.size) × IsSound (record { first = w.first; turned = w.turned; unfinished = w.unfinished; places = w.places.items }) };
+}
+
+impl Window {
+    /// Opens a window of `size` places, from 1 to 1024, whose first expected number is `first`.
+    ///
+    /// Refusals, in order: `BadSize`, `NoMemory`.
+    pub fn open(alloc: Global, first: u32, size: u32) -> Result<Window, WindowFault>
+        ensures ok { IfOk result (λ w. w ≡ opened first size) }
+        ensures bad_size { (result ≡ Err WindowFault.BadSize) ↔ ((size < 1) ⊎ (1024 < size)) }
+    {
+        if size < 1 || size > MOST_PLACES {
+            return Err(WindowFault::BadSize);
+        }
+        let places = empty_places(alloc, size).map_err(|_| WindowFault::NoMemory)?;
+        Ok(Window {
+            first,
+            turned: 0,
+            unfinished: 0,
+            size,
+            places,
+        })
+    }
+
+    /// How many places the window has.
+    pub fn size(&self) -> u32
+        ensures size { result ≡ length self.now.places }
+        ensures sound { IsSound self.now }
+    {
+        self.size
+    }
+
+    /// How many numbers have turned since the window was opened.
+    pub fn turned(&self) -> u64
+        ensures { result ≡ self.now.turned }
+    {
+        self.turned
+    }
+
+    /// How many commands are counted as being executed.
+    pub fn unfinished(&self) -> u32
+        ensures { result ≡ self.now.unfinished }
+    {
+        self.unfinished
+    }
+
+    /// ExpCmdSN: the number whose turn is next.
+    pub fn exp(&self) -> u32
+        ensures { result ≡ wire (number_expected self.now) }
+    {
+        self.first.wrapping_add((self.turned % (1 << 32)) as u32)
+    }
+
+    /// MaxCmdSN: the last admitted number. It is ExpCmdSN - 1 where none is admitted.
+    pub fn max(&self) -> u32
+        ensures { result ≡ wire (number_last self.now) }
+    {
+        self.exp()
+            .wrapping_add(self.size - 1)
+            .wrapping_sub(self.unfinished)
+    }
+
+    /// Where the number that the wire shows as `w` stands. A number at distance 2^31 is outside.
+    pub fn place(&self, w: u32) -> Place
+        ensures { result ≡ place_in self.now w }
+    {
+        let ahead = w.wrapping_sub(self.exp());
+        if ahead < self.size - self.unfinished {
+            Place::Inside(ahead)
+        } else {
+            Place::Outside
+        }
+    }
+
+    /// Holds the request at its CmdSN, if that is admitted and wasn't received before. Otherwise nothing
+    /// changes.
+    ///
+    /// The number counts for an immediate request too, which a caller doesn't offer: it takes no number.
+    pub fn offer(&mut self, request: &Request) -> Offer
+        ensures answer { result ≡ offer_to self.old request.now }
+        ensures state { self.new ≡ offered_to self.old request.now }
+    {
+        let Place::Inside(k) = self.place(request.cmd_sn()) else {
+            return Offer::Outside;
+        };
+        if at(&self.places, k).is_some() {
+            return Offer::Duplicate;
+        }
+        put(&mut self.places, k, Some(Some(*request)));
+        Offer::Held
+    }
+
+    /// Receives the number with nothing held for it, and answers true. Where it was received before, the
+    /// answer is false and nothing changes.
+    pub fn void(&mut self, w: u32) -> bool
+        requires { IsInside (place_in self.old w) }
+        ensures answer { result ≡ not (is_received_at self.old (place_in self.old w)) }
+        ensures state { self.new ≡ voided self.old w }
+    {
+        let Place::Inside(k) = self.place(w) else {
+            unreachable!();
+        };
+        if at(&self.places, k).is_some() {
+            return false;
+        }
+        put(&mut self.places, k, Some(None));
+        true
+    }
+
+    /// The lowest number, below the one that the wire shows as `below`, for which a SCSI Command with this
+    /// tag and to this unit is held.
+    pub fn find_held(&self, itt: u32, unit: u16, below: u32) -> Option<u32>
+        ensures { result ≡ option_map (number_shown self.now) (find_command self.now itt unit below) }
+    {
+        let exp = self.exp();
+        let ahead = ahead_of(exp, below);
+        let k = first_command(&self.places, ahead, itt, unit)?;
+        Some(exp.wrapping_add(k))
+    }
+
+    /// Takes out the request that is held for the number, which stays received. Where none is held, nothing
+    /// changes.
+    pub fn empty(&mut self, w: u32) -> Option<Request>
+        ensures answer { result ≡ held_at self.old (place_in self.old w) }
+        ensures state { self.new ≡ emptied self.old w }
+    {
+        let Place::Inside(k) = self.place(w) else {
+            return None;
+        };
+        let request = at(&self.places, k).flatten()?;
+        put(&mut self.places, k, Some(None));
+        Some(request)
+    }
+
+    /// Takes out the request with the lowest number of those that are held and came on connection `conn`, or
+    /// on any for None, and answers its number, which stays received. Where none is held, nothing changes.
+    pub fn drop_first(&mut self, conn: Option<u16>) -> Option<u32>
+        ensures answer { result ≡ option_map (number_shown self.old) (first_from self.old conn) }
+        ensures state { self.new ≡ dropped_at self.old (first_from self.old conn) }
+    {
+        let k = first_held(&self.places, conn)?;
+        let sn = self.exp().wrapping_add(k);
+        put(&mut self.places, k, Some(None));
+        Some(sn)
+    }
+
+    /// Turns the expected number, if it is received. Otherwise nothing changes.
+    ///
+    /// A command that it turned may be counted by `start_one`.
+    pub fn advance(&mut self) -> Option<Turned>
+        requires { self.old.turned < 2 ^ 64 - 1 }
+        ensures answer { result ≡ turned_by self.old }
+        ensures state { self.new ≡ advanced self.old }
+        ensures room { OnSome result (HasRoom self.new) }
+    {
+        let sn = self.exp();
+        let request = at(&self.places, 0)?;
+        // The ring is full, so its first place makes way.
+        self.places.push_back(None);
+        self.turned += 1;
+        Some(Turned { sn, request })
+    }
+
+    /// Counts a command as being executed: the last admitted number isn't admitted any more.
+    pub fn start_one(&mut self)
+        requires { HasRoom self.old }
+        ensures { self.new ≡ with_unfinished self.old (self.old.unfinished + 1) }
+    {
+        self.unfinished += 1;
+    }
+
+    /// Takes a command back from the count: one number more is admitted.
+    pub fn finish_one(&mut self)
+        requires { 0 < self.old.unfinished }
+        ensures { self.new ≡ with_unfinished self.old (self.old.unfinished - 1) }
+    {
+        self.unfinished -= 1;
+    }
+}
+
+/// So many places, and nothing received.
+fn empty_places(alloc: Global, size: u32) -> Result<Places, AllocError>
+    ensures { IfOk result (λ places. places ≡ buffer (replicate size None) size) }
+{
+    let mut places = HeapCircularBuffer::with_capacity(alloc, size as usize)?;
+    for _ in 0..size {
+        places.push_back(None);
+    }
+    Ok(places)
+}
+
+/// What place `k` has. None beyond the last place.
+fn at(places: &Places, k: u32) -> Received
+    ensures { result ≡ slice_index_or places.now.items k None }
+{
+    places.get(k as usize).copied().flatten()
+}
+
+/// Writes place `k`. Beyond the last place nothing is written.
+fn put(places: &mut Places, k: u32, received: Received)
+    ensures { places.new ≡ buffer (slice_set places.old.items k received) places.old.capacity }
+{
+    if let Some(place) = places.get_mut(k as usize) {
+        *place = received;
+    }
+}
+
+/// How far the number that the wire shows as `below` is above the expected one, and 0 for one below it.
+fn ahead_of(exp: u32, below: u32) -> u32
+    ensures { (e : ℕ) → 2 ^ 31 ≤ e → wire e ≡ exp → result ≡ lift e below - e }
+{
+    if serial_lt(exp, below) {
+        below.wrapping_sub(exp)
+    } else {
+        0
+    }
+}
+
+/// Whether a SCSI Command with this tag and to this unit is held.
+fn holds_command(received: &Received, itt: u32, unit: u16) -> bool
+    ensures { result ≡ is_command itt unit received.now }
+{
+    match received {
+        Some(Some(request)) => {
+            request.opcode() == SCSI_COMMAND
+                && request.itt() == itt
+                && unit_of(&request.lun()) == Some(unit)
+        }
+        _ => false,
+    }
+}
+
+/// Whether a request is held that came on connection `conn`, or on any for None.
+fn holds_from(received: &Received, conn: Option<u16>) -> bool
+    ensures { result ≡ is_held_from conn received.now }
+{
+    match received {
+        Some(Some(request)) => conn.is_none_or(|conn| request.conn() == conn),
+        _ => false,
+    }
+}
+
+/// The first of the places below `end` where such a command is held.
+fn first_command(places: &Places, end: u32, itt: u32, unit: u16) -> Option<u32>
+    requires { length places.now.items ≤ 1024 }
+    ensures { result ≡ position (is_command itt unit) (take end places.now.items) }
+{
+    let k = places
+        .iter()
+        .take(end as usize)
+        .position(|received| holds_command(received, itt, unit))?;
+    Some(k as u32)
+}
+
+/// The first place where a request is held that came on connection `conn`, or on any for None.
+fn first_held(places: &Places, conn: Option<u16>) -> Option<u32>
+    requires { length places.now.items ≤ 1024 }
+    ensures { result ≡ position (is_held_from conn) places.now.items }
+{
+    let k = places
+        .iter()
+        .position(|received| holds_from(received, conn))?;
+    Some(k as u32)
+}

@@ -1,0 +1,155 @@
+use crate::{Offer, Place, Turned, Window, WindowFault};
+use iscsi_wire::Request;
+use std::process::Abort;
+use std::test::Fail;
+
+/// A SCSI Command to the unit.
+fn command(conn: u16, unit: u8, itt: u8, cmd_sn: u32) -> Request {
+    let mut header = [0; 48];
+    header[0] = 0x01;
+    header[1] = 0x81;
+    header[9] = unit;
+    header[19] = itt;
+    header[24..28].copy_from_slice(&cmd_sn.to_be_bytes());
+    Request::read(conn, &header)
+}
+
+fn void(rt: &impl Abort, window: &mut Window, w: u32) -> bool {
+    assert!(rt; matches!(window.place(w), Place::Inside(_)));
+    window.void(w)
+}
+
+fn advance(rt: &impl Abort, window: &mut Window) -> Option<Turned> {
+    assert!(rt; window.turned() < u64::MAX);
+    window.advance()
+}
+
+#[test]
+fn sizes(rt: HostRuntime) -> Result<(), Fail> {
+    let alloc = rt.alloc();
+    for size in [0, 1025, u32::MAX] {
+        assert_eq!(rt;
+            Window::open(alloc, 1, size).err(),
+            Some(WindowFault::BadSize)
+        );
+    }
+    for size in [1, 1024] {
+        let window = Window::open(alloc, 1, size)?;
+        assert_eq!(rt; window.size(), size);
+        assert_eq!(rt; window.turned(), 0);
+        assert_eq!(rt; window.unfinished(), 0);
+        assert_eq!(rt; window.exp(), 1);
+        assert_eq!(rt; window.max(), size);
+    }
+    Ok(())
+}
+
+#[test]
+fn far_numbers_are_outside(rt: HostRuntime) -> Result<(), Fail> {
+    let window = Window::open(rt.alloc(), 0xffff_ffff, 1024)?;
+    assert_eq!(rt; window.max(), 0x3fe);
+    for (w, place) in [
+        (0xffff_ffff, Place::Inside(0)),
+        (0, Place::Inside(1)),
+        (0x3fe, Place::Inside(1023)),
+        (0x3ff, Place::Outside),
+        (0x7fff_fffe, Place::Outside),
+        (0x7fff_ffff, Place::Outside),
+        (0xffff_fffe, Place::Outside),
+    ] {
+        assert_eq!(rt; window.place(w), place, "of {w}");
+    }
+    Ok(())
+}
+
+#[test]
+fn requests_are_held_once(rt: HostRuntime) -> Result<(), Fail> {
+    let mut window = Window::open(rt.alloc(), 0xffff_fffe, 4)?;
+    let first = command(1, 0, 0xa1, 0xffff_fffe);
+    for (request, offer) in [
+        (first, Offer::Held),
+        (command(2, 0, 0xa9, 0xffff_fffe), Offer::Duplicate),
+        (command(2, 0, 0xa3, 1), Offer::Held),
+        (command(2, 0, 0xa4, 2), Offer::Outside),
+        (command(2, 0, 0xa0, 0xffff_fffd), Offer::Outside),
+    ] {
+        assert_eq!(rt; window.offer(&request), offer, "of {request:?}");
+    }
+    assert_eq!(rt; void(&rt, &mut window, 0), true);
+    assert_eq!(rt; void(&rt, &mut window, 0), false);
+    assert_eq!(rt; window.offer(&command(1, 0, 0xa5, 0)), Offer::Duplicate);
+    let turned = Turned {
+        sn: 0xffff_fffe,
+        request: Some(first),
+    };
+    assert_eq!(rt; advance(&rt, &mut window), Some(turned));
+    // The number that comes next wasn't received.
+    assert_eq!(rt; advance(&rt, &mut window), None);
+    assert_eq!(rt; void(&rt, &mut window, 0xffff_ffff), true);
+    for sn in [0xffff_ffff, 0] {
+        let turned = Turned { sn, request: None };
+        assert_eq!(rt; advance(&rt, &mut window), Some(turned));
+    }
+    assert_eq!(rt; window.turned(), 3);
+    assert_eq!(rt; window.exp(), 1);
+    assert_eq!(rt; window.max(), 4);
+    Ok(())
+}
+
+#[test]
+fn held_requests_are_found_and_taken_out(rt: HostRuntime) -> Result<(), Fail> {
+    let mut window = Window::open(rt.alloc(), 0xffff_fffe, 8)?;
+    let fourth = command(1, 0, 0xa1, 1);
+    for request in [
+        command(1, 7, 0xa1, 0xffff_ffff),
+        command(2, 0, 0xa1, 0),
+        fourth,
+    ] {
+        assert_eq!(rt; window.offer(&request), Offer::Held);
+    }
+    for (itt, unit, below, found) in [
+        (0xa1, 0, 5, Some(0)),
+        (0xa1, 7, 0, Some(0xffff_ffff)),
+        (0xa1, 7, 0xffff_ffff, None),
+        (0xa1, 0, 0, None),
+        (0xa2, 0, 5, None),
+        (0xa1, 0, 0x8000_0000, None),
+    ] {
+        let answer = window.find_held(itt, unit, below);
+        assert_eq!(rt; answer, found, "below {below} on {unit}");
+    }
+    assert_eq!(rt; window.drop_first(Some(2)), Some(0));
+    assert_eq!(rt; window.drop_first(Some(2)), None);
+    assert_eq!(rt; window.find_held(0xa1, 0, 5), Some(1));
+    assert_eq!(rt; window.drop_first(None), Some(0xffff_ffff));
+    assert_eq!(rt; window.empty(1), Some(fourth));
+    assert_eq!(rt; window.empty(1), None);
+    assert_eq!(rt; window.empty(0x100), None);
+    assert_eq!(rt; window.drop_first(None), None);
+    // The numbers stay received.
+    assert_eq!(rt; window.offer(&fourth), Offer::Duplicate);
+    Ok(())
+}
+
+#[test]
+fn a_command_takes_a_place(rt: HostRuntime) -> Result<(), Fail> {
+    let mut window = Window::open(rt.alloc(), 0xffff_ffff, 1)?;
+    assert_eq!(rt;
+        window.offer(&command(1, 0, 0xa1, 0xffff_ffff)),
+        Offer::Held
+    );
+    assert!(rt; window.turned() < u64::MAX);
+    if window.advance().is_some() {
+        window.start_one();
+    }
+    assert_eq!(rt; window.unfinished(), 1);
+    assert_eq!(rt; window.exp(), 0);
+    // The window is shut.
+    assert_eq!(rt; window.max(), 0xffff_ffff);
+    assert_eq!(rt; window.offer(&command(1, 0, 0xa2, 0)), Offer::Outside);
+    assert!(rt; window.unfinished() > 0);
+    window.finish_one();
+    assert_eq!(rt; window.max(), 0);
+    assert_eq!(rt; window.offer(&command(1, 0, 0xa2, 0)), Offer::Held);
+    Ok(())
+}
