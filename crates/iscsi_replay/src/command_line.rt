@@ -39,6 +39,7 @@ fn command<'a>(alloc: Global) -> Result<Command<'a>, AllocError>
     ensures { IfOk result (λ c. app_of c ≡ replay_app) }
 {
     Command::new(alloc, "iscsi-replay")
+        .bin_name("iscsi-replay")?
         .about("Reads a recording from standard input and writes its report to standard output")
         .arg(first(alloc))?
         .arg(number(

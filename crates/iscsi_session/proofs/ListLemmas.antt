@@ -1,5 +1,5 @@
 -- Lists of connections and commands.
-use Rattle.std.proofs.Common.{◌≡◌, ℕ, zero, suc, ◌+◌, ◌<◌, ◌==◌, ◌&&◌, ◌||◌, not, cond, Bool, true, false, List, [], ◌∷◌, length, map, filter, find, get_or, set, Some, None, refl, ap, sym, ◌∙◌, arith, nat_lt}
+use Rattle.std.proofs.Common.{◌≡◌, ℕ, zero, suc, ◌+◌, ◌<◌, ◌==◌, ◌&&◌, ◌||◌, not, cond, Bool, true, false, List, [], ◌∷◌, length, map, filter, find, get_or, set, Option, Some, None, refl, ap, sym, ◌∙◌, arith, nat_lt}
 use Rattle.std.specs.List.{list_any, list_all, position, position_or_len}
 use Rattle.std.proofs.lemmas.Bool.{false≢true}
 use Rattle.std.proofs.lemmas.Bool.Decides.{nat_tests}
@@ -7,7 +7,9 @@ use Rattle.std.specs.Prelude.{IsSome}
 use Rattle.iscsi_wire.specs.Serial.{wire}
 use Rattle.iscsi_session.specs.declared.session.Live.{Live}
 use Rattle.iscsi_session.specs.Settings.{is_known}
-use Rattle.iscsi_session.specs.Standing.{stat_sn_on, are_known}
+use Rattle.iscsi_wire.specs.declared.request.Request.{Request}
+use Rattle.iscsi_wire.specs.Fields.{connection_of}
+use Rattle.iscsi_session.specs.Standing.{stat_sn_on, are_known, is_place_known}
 use Rattle.iscsi_session.specs.Steps.{count_reply, without_ticket}
 
 -- ---- tests of lists
@@ -72,11 +74,11 @@ is_known-cids cid xs ys h =
 
 -- ---- live commands
 
-and_first : (a b : Bool) → (a && b) ≡ true → a ≡ true
+pub and_first : (a b : Bool) → (a && b) ≡ true → a ≡ true
 and_first true b h = refl
 and_first false b h = absurd (false≢true h)
 
-and_second : (a b : Bool) → (a && b) ≡ true → b ≡ true
+pub and_second : (a b : Bool) → (a && b) ≡ true → b ≡ true
 and_second true b h = h
 and_second false b h = absurd (false≢true h)
 
@@ -109,3 +111,12 @@ are_known-replied cid lives conns h =
 -- and so does a command that leaves
 pub are_known-left : (ticket : ℕ) (lives : List Live) (conns : List (ℕ × ℕ)) → are_known lives conns ≡ true → are_known (without_ticket ticket lives) conns ≡ true
 are_known-left ticket lives conns h = list_all-filter (λ l. not (l.ticket == ticket)) (λ l. is_known l.conn conns) lives h
+
+-- and the requests that are held
+pub are_places_known-replied : (cid : ℕ) (places : List (Option (Option Request))) (conns : List (ℕ × ℕ)) → list_all (is_place_known conns) places ≡ true → list_all (is_place_known (count_reply cid conns)) places ≡ true
+are_places_known-replied cid places conns h = list_all-same (is_place_known (count_reply cid conns)) (is_place_known conns) places same ∙ h
+  where
+    same : (p : Option (Option Request)) → is_place_known (count_reply cid conns) p ≡ is_place_known conns p
+    same None = refl
+    same (Some None) = refl
+    same (Some (Some r)) = is_known-cids (connection_of r) (count_reply cid conns) conns (cids-count_reply cid conns)

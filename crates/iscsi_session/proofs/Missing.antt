@@ -1,6 +1,6 @@
 -- The least number that isn't among some.
-use Rattle.std.proofs.Common.{◌≡◌, ℕ, zero, suc, ◌+◌, ◌-◌, ◌<◌, ◌≤◌, ◌==◌, ◌||◌, ⊎_elim, cond, Bool, true, false, List, [], ◌∷◌, length, map, refl, ap, sym, ◌∙◌, arith, eqb, eq-eqb}
-use Rattle.std.proofs.lemmas.Bool.{cases_eq, false≢true}
+use Rattle.std.proofs.Common.{◌≡◌, ℕ, zero, suc, ◌+◌, ◌-◌, ◌<◌, ◌≤◌, ◌==◌, ◌||◌, ◌⊎◌, inl, inr, ⊎_elim, cond, Bool, true, false, List, [], ◌∷◌, length, map, refl, ap, sym, ◌∙◌, arith, eqb, eq-eqb}
+use Rattle.std.proofs.lemmas.Bool.{cases_eq, cases_lt, false≢true}
 use Rattle.std.proofs.lemmas.Map.Steps.{le-length_from_below}
 use Rattle.std.proofs.lemmas.Bool.Decides.{nat_tests}
 use Rattle.std.proofs.lemmas.List.{length-map}
@@ -56,3 +56,33 @@ expected_below first t k low high = least_missing_below (received t) (length (re
 
 pub expected_low : (first : ℕ) (t : Trace) → number_of_first first ≤ expected first t
 expected_low first t = least_missing_low (received t) (length (received t)) (number_of_first first)
+
+-- the answer isn't in the list, unless all fuel was used up
+least_missing_gone : (ns : List ℕ) (fuel n : ℕ) → (contains ns (least_missing ns fuel n) ≡ false) ⊎ (least_missing ns fuel n ≡ n + fuel)
+least_missing_gone ns zero n = inr (omega arith)
+least_missing_gone ns (suc fuel) n =
+    elim (contains ns n) as (λ b. contains ns n ≡ b → (contains ns (cond b (least_missing ns fuel (n + 1)) n) ≡ false) ⊎ (cond b (least_missing ns fuel (n + 1)) n ≡ n + suc fuel)) [
+      | true ↦ λ there. ⊎_elim (λ gone. inl gone) (λ last. inr (omega (arith, last))) (least_missing_gone ns fuel (n + 1))
+      | false ↦ λ gone. inl gone
+    ] refl
+
+-- ExpCmdSN isn't received
+pub expected_gone : (first : ℕ) (t : Trace) → is_received t (expected first t) ≡ false
+expected_gone first t =
+    let ns : List ℕ = received t in
+    let e : ℕ = expected first t in
+    let start : ℕ = number_of_first first in
+    ⊎_elim (λ gone. gone)
+    (λ last. elim (is_received t e) as (λ b. is_received t e ≡ b → is_received t e ≡ false) [
+      | true ↦ λ there. absurd (omega (arith, as_many ns start (suc (length ns)) (λ k low high. ⊎_elim (λ same. ap (is_received t) (same ∙ sym last) ∙ there) (λ apart. least_missing_below ns (length ns) start k low (omega (arith, last))) (cases_eq k (start + length ns)))))
+      | false ↦ λ gone. gone
+    ] refl)
+    (least_missing_gone ns (length ns) start)
+
+-- where all before m are received, and m is, ExpCmdSN is past m
+pub expected_past : (first m : ℕ) (t : Trace) → ((k : ℕ) → number_of_first first ≤ k → k < m → is_received t k ≡ true) → is_received t m ≡ true → m < expected first t
+expected_past first m t all there =
+    let e : ℕ = expected first t in
+    ⊎_elim (λ past. past)
+    (λ not_past. absurd (false≢true (sym (expected_gone first t) ∙ ⊎_elim (λ same. ap (is_received t) same ∙ there) (λ apart. all e (expected_low first t) (omega arith)) (cases_eq e m))))
+    (cases_lt m e)

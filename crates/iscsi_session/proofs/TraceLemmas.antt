@@ -99,7 +99,7 @@ none_new set (c ∷ cs) h =
 pub received-item : (item : List Mark) (t : Trace) (n : ℕ) → is_received (item ∷ t) n ≡ (is_received t n || contains (filter_map number_received item) n)
 received-item item t n = list_any-append (λ k. k == n) (received t) (filter_map number_received item)
 
-or_none : (a b : Bool) → (a || b) ≡ false → (a ≡ false) × (b ≡ false)
+pub or_none : (a b : Bool) → (a || b) ≡ false → (a ≡ false) × (b ≡ false)
 or_none true b h = absurd (false≢true (sym h))
 or_none false b h = (refl, h)
 
@@ -127,3 +127,7 @@ unadmitted n [] h = refl
 unadmitted n (item ∷ t) h =
     let parts = or_none (is_received t n) (contains (filter_map number_received item) n) (sym (received-item item t n) ∙ h) in
     ap (λ xs. shown (admits_at n) t ++ xs) (unadmitted_item n item parts.1) ∙ append-nil (shown (admits_at n) t) ∙ unadmitted n t parts.0
+
+pub and_second : (a b : Bool) → (a && b) ≡ true → b ≡ true
+and_second true b h = h
+and_second false b h = absurd (false≢true h)

@@ -1,14 +1,19 @@
 -- What one item does (RFC 7143 section 4.2.2.1, SAM-5). The first case that fits.
-use Rattle.std.specs.Prelude.{ℕ, ◌+◌, ◌-◌, ◌==◌, not, List, [], ◌∷◌, length, Option, Some, None, if◌then◌else◌, count_by}
+use Rattle.std.specs.Prelude.{ℕ, ◌+◌, ◌-◌, ◌==◌, not, Bool, true, false, nat_lt, nat_le, List, [], ◌∷◌, length, Option, Some, None, option_map, if◌then◌else◌, count_by}
+use Rattle.std.specs.List.{list_any}
 use Rattle.iscsi_wire.specs.declared.reply.Sense.{Sense}
 use Rattle.iscsi_wire.specs.declared.reply.Reply.{Reply}
-use Rattle.iscsi_wire.specs.declared.reply.Reply.TheVariants.{Scsi}
-use Rattle.iscsi_wire.specs.Fields.{connection_of, is_immediate, itt}
-use Rattle.iscsi_session.specs.declared.effect.Attr.TheVariants.{Simple}
+use Rattle.iscsi_wire.specs.declared.reply.Reply.TheVariants.{Scsi, Reject}
+use Rattle.iscsi_wire.specs.declared.request.Request.{Request}
+use Rattle.iscsi_wire.specs.Fields.{connection_of, header_of, is_immediate, attr_code, lun, itt, unit_of}
+use Rattle.iscsi_tasks.specs.declared.task.Attr.{Attr}
+use Rattle.iscsi_tasks.specs.declared.task.Attr.TheVariants.{Simple, Ordered, Head}
 use Rattle.iscsi_session.specs.declared.effect.Why.{Why}
 use Rattle.iscsi_session.specs.declared.effect.Why.TheVariants.{Stale}
+use Rattle.iscsi_session.specs.declared.verdict.Verdict.{Verdict}
+use Rattle.iscsi_session.specs.declared.verdict.Verdict.TheVariants.{Answer, Enter}
 use Rattle.iscsi_session.specs.Settings.{Setting}
-use Rattle.iscsi_session.specs.Trace.{Arrival, Command, Mark, Delivers, Leaves, Enters, Sends, Ignores, Trace, expected, live, entered}
+use Rattle.iscsi_session.specs.Trace.{Arrival, Command, Mark, Delivers, Leaves, Enters, Sends, Ignores, Trace, expected, live, live_in, entered}
 
 -- ExpCmdSN
 abbrev pub exp_of : Setting → Trace → ℕ
@@ -22,16 +27,71 @@ unfinished t = count_by (λ c. not (is_immediate c.arrival.request)) (live t)
 abbrev pub max_of : Setting → Trace → ℕ
 max_of o t = exp_of o t + o.window - 1 - unfinished t
 
+-- ---- what executing a request comes to
+
+-- the tag that names no task
+abbrev pub NO_TAG : ℕ
+NO_TAG = 0xffff_ffff
+
+-- the unit that a request's LUN names, of so many
+abbrev pub unit_named : ℕ → Request → Option ℕ
+unit_named units r = elim (unit_of (lun r)) [ Some u ↦ if nat_lt u units then Some u else None | None ↦ None ]
+
+-- untagged commands count as SIMPLE
+abbrev pub attr_of : ℕ → Attr
+attr_of code = if code == 2 then Ordered else (if code == 3 then Head else Simple)
+
+abbrev pub reject : Request → ℕ → Verdict
+reject r reason = Answer (Reject reason (header_of r))
+
+-- LOGICAL UNIT NOT SUPPORTED
+abbrev pub no_unit : Sense
+no_unit = record { key = 5; asc = 0x25; ascq = 0 }
+
+-- a SCSI Command to a unit, whose set may be full
+abbrev pub scsi_to : Request → Option (ℕ × Bool) → Verdict
+scsi_to r None = Answer (Scsi (itt r) 0x02 (Some no_unit))
+scsi_to r (Some (unit, true)) = Answer (Scsi (itt r) 0x28 None)
+scsi_to r (Some (unit, false)) = Enter unit
+
+-- a SCSI Command, whose tag may be that of a live command
+abbrev pub scsi_verdict : Request → Bool → Option (ℕ × Bool) → Verdict
+scsi_verdict r is_used place =
+    if itt r == NO_TAG then reject r 9
+    else (if nat_lt 3 (attr_code r) then reject r 9
+    else (if is_used then reject r 7
+    else scsi_to r place))
+
+-- a live command of the session has the tag
+abbrev pub is_tag_live : Trace → ℕ → Bool
+is_tag_live t tag = list_any (λ c. itt c.arrival.request == tag) (live t)
+
+abbrev pub is_full : Setting → Trace → ℕ → Bool
+is_full o t unit = nat_le o.depth (length (live_in unit t))
+
+-- the unit that a request names, and whether its set is full
+abbrev pub place_named : Setting → Trace → Request → Option (ℕ × Bool)
+place_named o t r = option_map (λ unit. (unit, is_full o t unit)) (unit_named o.units r)
+
+abbrev pub verdict_of : Setting → Trace → Request → Verdict
+verdict_of o t r = scsi_verdict r (is_tag_live t (itt r)) (place_named o t r)
+
+-- ---- items
+
 abbrev pub reply_on : Arrival → Reply → List Mark
 reply_on a reply = Sends (connection_of a.request) reply ∷ []
 
--- a SCSI Command enters unit 0 as SIMPLE, with the next ticket
-abbrev pub scsi : Trace → Arrival → List Mark
-scsi t a = Enters (record { ticket = length (entered t) + 1; unit = 0; attr = Simple; arrival = a }) ∷ []
+-- the command that a request becomes: tickets go up by one
+abbrev pub next_command : Trace → Arrival → ℕ → Command
+next_command t a unit = record { ticket = length (entered t) + 1; unit = unit; attr = attr_of (attr_code a.request); arrival = a }
+
+abbrev pub marks_of : Trace → Arrival → Verdict → List Mark
+marks_of t a (Answer reply) = reply_on a reply
+marks_of t a (Enter unit) = Enters (next_command t a unit) ∷ []
 
 -- the item of a request whose turn it is. It isn't held any more
-abbrev pub item_of : Trace → Arrival → List Mark
-item_of t a = Delivers a ∷ scsi ((Delivers a ∷ []) ∷ t) a
+abbrev pub item_of : Setting → Trace → Arrival → List Mark
+item_of o t a = let t' = (Delivers a ∷ []) ∷ t in Delivers a ∷ marks_of t' a (verdict_of o t' a.request)
 
 -- an item that ignores its event
 abbrev pub ignored : Why → List (List Mark)

@@ -4,6 +4,8 @@ pub mod Execution
 pub mod Agenda
 pub mod Run
 pub mod Executed
+pub mod Flow
+pub mod Enabling
 pub mod Refusals
 pub mod Lines
 pub mod Standing

@@ -5,8 +5,8 @@ use Rattle.hex.specs.Hex.{encode_lower}
 use Rattle.iscsi_wire.specs.declared.request.Request.{Request}
 use Rattle.iscsi_wire.specs.Fields.{connection_of, cmd_sn, itt}
 use Rattle.iscsi_wire.specs.Replies.{bytes_4, header_of, tail_of}
-use Rattle.iscsi_session.specs.declared.effect.Attr.{Attr}
-use Rattle.iscsi_session.specs.declared.effect.Attr.TheVariants.{Simple, Ordered, Head}
+use Rattle.iscsi_tasks.specs.declared.task.Attr.{Attr}
+use Rattle.iscsi_tasks.specs.declared.task.Attr.TheVariants.{Simple, Ordered, Head}
 use Rattle.iscsi_session.specs.declared.effect.Why.{Why}
 use Rattle.iscsi_session.specs.declared.effect.Why.TheVariants.{Outside, Duplicate, Closed, Stale, Data}
 use Rattle.iscsi_session.specs.declared.effect.Effect.{Effect}

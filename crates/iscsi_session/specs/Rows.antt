@@ -1,8 +1,8 @@
 -- Worked rows, computed: what the definitions give for short recordings, beside what must come.
-use Rattle.std.specs.Prelude.{◌≡◌, ℕ, ◌/◌, ◌%◌, List, [], ◌∷◌, ◌++◌, replicate, refl, Some, None}
-use Rattle.iscsi_wire.specs.declared.reply.Reply.TheVariants.{Scsi}
+use Rattle.std.specs.Prelude.{◌≡◌, ℕ, ◌+◌, ◌/◌, ◌%◌, List, [], ◌∷◌, ◌++◌, replicate, refl, Some, None}
+use Rattle.iscsi_wire.specs.declared.reply.Reply.TheVariants.{Scsi, Reject}
 use Rattle.iscsi_wire.specs.Fields.{request_of}
-use Rattle.iscsi_session.specs.declared.effect.Attr.TheVariants.{Simple}
+use Rattle.iscsi_tasks.specs.declared.task.Attr.TheVariants.{Simple, Ordered, Head}
 use Rattle.iscsi_session.specs.declared.effect.Effect.{Effect}
 use Rattle.iscsi_session.specs.declared.effect.Effect.TheVariants.{Deliver, Enter, Enable, Leave, Send, Ignore}
 use Rattle.iscsi_session.specs.declared.effect.Why.TheVariants.{Outside, Stale, Data}
@@ -12,6 +12,7 @@ use Rattle.iscsi_session.specs.declared.log.Entry.{Entry}
 use Rattle.iscsi_session.specs.Settings.{Setting}
 use Rattle.iscsi_session.specs.Run.{run_of}
 use Rattle.iscsi_session.specs.Executed.{executed}
+use Rattle.iscsi_tasks.specs.Rules as Rules
 
 -- four bytes
 abbrev pub word : ℕ → List ℕ
@@ -24,6 +25,10 @@ head a b t n = a ∷ b ∷ replicate 14 0 ++ word t ++ word 0 ++ word n ++ repli
 -- the header of a SCSI Command that is SIMPLE
 abbrev pub command : ℕ → ℕ → List ℕ
 command t n = head 0x01 0x81 t n
+
+-- the header of a SCSI Command to a unit, with this ATTR
+abbrev pub command_to : ℕ → ℕ → ℕ → ℕ → List ℕ
+command_to u a t n = 0x01 ∷ (0x80 + a) ∷ replicate 7 0 ++ u ∷ replicate 6 0 ++ word t ++ word 0 ++ word n ++ replicate 20 0
 
 abbrev pub entry : ℕ → ℕ → List Effect → Entry
 entry exp max effects = record { numbers = record { exp = exp; max = max }; effects = effects }
@@ -40,9 +45,11 @@ pub one_command_log : run_of (setting 1 32) one_command ≡
     entry 2 0x20 (Deliver (request_of 1 (command 0xa1 1)) ∷ Enter 1 0 Simple ∷ Enable 1 0 ∷ [])
     ∷ entry 2 0x21 (Leave 1 0 ∷ Send 1 1 (Scsi 0xa1 0 None) ∷ [])
     ∷ []
+unfolding Rules.bars_as
 one_command_log = refl
 
 pub one_command_executed : executed (setting 1 32) one_command ≡ request_of 1 (command 0xa1 1) ∷ []
+unfolding Rules.bars_as
 one_command_executed = refl
 
 -- a unit answers CHECK CONDITION, which carries sense
@@ -53,6 +60,7 @@ pub check_condition_log : run_of (setting 1 32) check_condition ≡
     entry 2 0x20 (Deliver (request_of 1 (command 0xa1 1)) ∷ Enter 1 0 Simple ∷ Enable 1 0 ∷ [])
     ∷ entry 2 0x21 (Leave 1 0 ∷ Send 1 1 (Scsi 0xa1 2 (Some (record { key = 4; asc = 0x44; ascq = 0 }))) ∷ [])
     ∷ []
+unfolding Rules.bars_as
 check_condition_log = refl
 
 -- a window of one place: the next number has a place only once the command is completed
@@ -74,35 +82,110 @@ pub window_of_one_log : run_of (setting 1 1) window_of_one ≡
     ∷ entry 2 2 (Leave 1 0 ∷ Send 1 1 (Scsi 0xa1 0 None) ∷ [])
     ∷ entry 3 2 (Deliver (request_of 1 (command 0xa2 2)) ∷ Enter 2 0 Simple ∷ Enable 2 0 ∷ [])
     ∷ []
+unfolding Rules.bars_as
 window_of_one_log = refl
 
 pub window_of_one_executed : executed (setting 1 1) window_of_one ≡ request_of 1 (command 0xa1 1) ∷ request_of 1 (command 0xa2 2) ∷ []
+unfolding Rules.bars_as
 window_of_one_executed = refl
 
--- a number that isn't the next one is passed over; completions go by ticket, in any order
-abbrev pub next_number_alone : List Event
-next_number_alone =
+-- a number behind a gap is held until the gap is closed; completions go by ticket, in any order
+abbrev pub gap : List Event
+gap =
     Arrive 1 (command 0xa1 1)
     ∷ Arrive 1 (command 0xa3 3)
     ∷ Arrive 1 (command 0xa2 2)
-    ∷ Done 3 0
+    ∷ Done 4 0
     ∷ Done 2 8
     ∷ []
 
-pub next_number_alone_log : run_of (setting 1 32) next_number_alone ≡
+pub gap_log : run_of (setting 1 32) gap ≡
     entry 2 0x20 (Deliver (request_of 1 (command 0xa1 1)) ∷ Enter 1 0 Simple ∷ Enable 1 0 ∷ [])
-    ∷ entry 2 0x20 (Ignore Outside ∷ [])
-    ∷ entry 3 0x20 (Deliver (request_of 1 (command 0xa2 2)) ∷ Enter 2 0 Simple ∷ Enable 2 0 ∷ [])
-    ∷ entry 3 0x20 (Ignore Stale ∷ [])
-    ∷ entry 3 0x21 (Leave 2 0 ∷ Send 1 1 (Scsi 0xa2 8 None) ∷ [])
+    ∷ entry 2 0x20 []
+    ∷ entry 4 0x20 (Deliver (request_of 1 (command 0xa2 2)) ∷ Enter 2 0 Simple ∷ Enable 2 0 ∷ Deliver (request_of 1 (command 0xa3 3)) ∷ Enter 3 0 Simple ∷ Enable 3 0 ∷ [])
+    ∷ entry 4 0x20 (Ignore Stale ∷ [])
+    ∷ entry 4 0x21 (Leave 2 0 ∷ Send 1 1 (Scsi 0xa2 8 None) ∷ [])
     ∷ []
-next_number_alone_log = refl
+unfolding Rules.bars_as
+gap_log = refl
 
 -- the greatest ticket is nobody's
 pub greatest_ticket_log : run_of (setting 65535 32) (Done 18446744073709551615 0 ∷ []) ≡ entry 1 0x20 (Ignore Stale ∷ []) ∷ []
+unfolding Rules.bars_as
 greatest_ticket_log = refl
 
 -- requests that aren't numbered SCSI Commands: an immediate one, and a NOP-Out
 pub other_requests_log : run_of (setting 1 32) (Arrive 1 (head 0x41 0x81 0xa1 1) ∷ Arrive 1 (head 0x00 0x80 0xb1 1) ∷ []) ≡
     entry 1 0x20 (Ignore Data ∷ []) ∷ entry 1 0x20 (Ignore Data ∷ []) ∷ []
+unfolding Rules.bars_as
 other_requests_log = refl
+
+-- an ORDERED command waits for the older ones, and bars the younger ones
+abbrev pub ordered : List Event
+ordered =
+    Arrive 1 (command 0xa1 1)
+    ∷ Arrive 1 (command_to 0 2 0xa2 2)
+    ∷ Arrive 1 (command 0xa3 3)
+    ∷ Done 3 0
+    ∷ Done 1 0
+    ∷ Done 2 0
+    ∷ Done 3 0
+    ∷ Done 3 0
+    ∷ []
+
+pub ordered_log : run_of (setting 1 32) ordered ≡
+    entry 2 0x20 (Deliver (request_of 1 (command 0xa1 1)) ∷ Enter 1 0 Simple ∷ Enable 1 0 ∷ [])
+    ∷ entry 3 0x20 (Deliver (request_of 1 (command_to 0 2 0xa2 2)) ∷ Enter 2 0 Ordered ∷ [])
+    ∷ entry 4 0x20 (Deliver (request_of 1 (command 0xa3 3)) ∷ Enter 3 0 Simple ∷ [])
+    ∷ entry 4 0x20 (Ignore Stale ∷ [])
+    ∷ entry 4 0x21 (Leave 1 0 ∷ Send 1 1 (Scsi 0xa1 0 None) ∷ Enable 2 0 ∷ [])
+    ∷ entry 4 0x22 (Leave 2 0 ∷ Send 1 2 (Scsi 0xa2 0 None) ∷ Enable 3 0 ∷ [])
+    ∷ entry 4 0x23 (Leave 3 0 ∷ Send 1 3 (Scsi 0xa3 0 None) ∷ [])
+    ∷ entry 4 0x23 (Ignore Stale ∷ [])
+    ∷ []
+unfolding Rules.bars_as
+ordered_log = refl
+
+-- a HEAD OF QUEUE command is enabled at once, and bars the dormant ones
+abbrev pub head_of_queue : List Event
+head_of_queue =
+    Arrive 1 (command_to 0 2 0xa1 1)
+    ∷ Arrive 1 (command 0xa2 2)
+    ∷ Arrive 1 (command_to 0 3 0xa3 3)
+    ∷ Done 1 0
+    ∷ Done 3 0
+    ∷ Arrive 1 (command_to 0 3 0xa4 4)
+    ∷ Done 2 0
+    ∷ []
+
+pub head_of_queue_log : run_of (setting 1 32) head_of_queue ≡
+    entry 2 0x20 (Deliver (request_of 1 (command_to 0 2 0xa1 1)) ∷ Enter 1 0 Ordered ∷ Enable 1 0 ∷ [])
+    ∷ entry 3 0x20 (Deliver (request_of 1 (command 0xa2 2)) ∷ Enter 2 0 Simple ∷ [])
+    ∷ entry 4 0x20 (Deliver (request_of 1 (command_to 0 3 0xa3 3)) ∷ Enter 3 0 Head ∷ Enable 3 0 ∷ [])
+    ∷ entry 4 0x21 (Leave 1 0 ∷ Send 1 1 (Scsi 0xa1 0 None) ∷ [])
+    ∷ entry 4 0x22 (Leave 3 0 ∷ Send 1 2 (Scsi 0xa3 0 None) ∷ Enable 2 0 ∷ [])
+    ∷ entry 5 0x22 (Deliver (request_of 1 (command_to 0 3 0xa4 4)) ∷ Enter 4 0 Head ∷ Enable 4 0 ∷ [])
+    ∷ entry 5 0x23 (Leave 2 0 ∷ Send 1 3 (Scsi 0xa2 0 None) ∷ [])
+    ∷ []
+unfolding Rules.bars_as
+head_of_queue_log = refl
+
+-- a full task set, an absent unit, a tag in use, and a bad ATTR
+abbrev pub refused_commands : List Event
+refused_commands =
+    Arrive 1 (command 0xa1 1)
+    ∷ Arrive 1 (command 0xa2 2)
+    ∷ Arrive 1 (command_to 1 1 0xa3 3)
+    ∷ Arrive 1 (command 0xa1 4)
+    ∷ Arrive 1 (command_to 0 5 0xa5 5)
+    ∷ []
+
+pub refused_commands_log : run_of (record (setting 1 32) { depth = 1 }) refused_commands ≡
+    entry 2 0x20 (Deliver (request_of 1 (command 0xa1 1)) ∷ Enter 1 0 Simple ∷ Enable 1 0 ∷ [])
+    ∷ entry 3 0x21 (Deliver (request_of 1 (command 0xa2 2)) ∷ Send 1 1 (Scsi 0xa2 0x28 None) ∷ [])
+    ∷ entry 4 0x22 (Deliver (request_of 1 (command_to 1 1 0xa3 3)) ∷ Send 1 2 (Scsi 0xa3 2 (Some (record { key = 5; asc = 0x25; ascq = 0 }))) ∷ [])
+    ∷ entry 5 0x23 (Deliver (request_of 1 (command 0xa1 4)) ∷ Send 1 3 (Reject 7 (command 0xa1 4)) ∷ [])
+    ∷ entry 6 0x24 (Deliver (request_of 1 (command_to 0 5 0xa5 5)) ∷ Send 1 4 (Reject 9 (command_to 0 5 0xa5 5)) ∷ [])
+    ∷ []
+unfolding Rules.bars_as
+refused_commands_log = refl

@@ -1,6 +1,6 @@
 -- The whole run: the log of a list of events.
 use Rattle.std.specs.Prelude.{ℕ, ◌+◌, ◌==◌, not, List, [], ◌∷◌, ◌++◌, length, map, Some, None, filter, count_by}
-use Rattle.std.specs.List.{flat_map}
+use Rattle.std.specs.List.{flat_map, range_with_len}
 use Rattle.iscsi_wire.specs.Serial.{wire}
 use Rattle.iscsi_session.specs.declared.effect.Effect.{Effect}
 use Rattle.iscsi_session.specs.declared.effect.Effect.TheVariants.{Deliver, Enter, Enable, Leave, Send, Ignore}
@@ -8,7 +8,7 @@ use Rattle.iscsi_session.specs.declared.effect.Numbers.{Numbers}
 use Rattle.iscsi_session.specs.declared.event.Event.{Event}
 use Rattle.iscsi_session.specs.declared.log.Entry.{Entry}
 use Rattle.iscsi_session.specs.Settings.{Setting}
-use Rattle.iscsi_session.specs.Trace.{Command, Mark, Admits, Delivers, Leaves, Enters, Sends, Ignores, Trace, after_items, shown, first_of, enabled, is_among, sent_on}
+use Rattle.iscsi_session.specs.Trace.{Command, Mark, Admits, Delivers, Leaves, Enters, Sends, Ignores, Trace, after_items, shown, first_of, was_free, enabled_in, sent_on}
 use Rattle.iscsi_session.specs.Execution.{exp_of, max_of}
 use Rattle.iscsi_session.specs.Agenda.{items_of}
 
@@ -42,12 +42,12 @@ effects_of_mark o t (Enters c) = Enter c.ticket c.unit c.attr ∷ []
 effects_of_mark o t (Sends conn reply) = Send conn (stat_sn_of o t conn) reply ∷ []
 effects_of_mark o t (Ignores why) = Ignore why ∷ []
 
--- the commands that are enabled after an item and weren't before
-abbrev pub newly_enabled : Trace → List Mark → List Command
-newly_enabled t item = filter (λ c. not (is_among c.ticket (enabled t))) (enabled (item ∷ t))
+-- the commands that are enabled after an item and weren't before: units ascending, oldest first
+abbrev pub newly_enabled : Setting → Trace → List Mark → List Command
+newly_enabled o t item = flat_map (λ unit. filter (λ c. not (was_free c t)) (enabled_in unit (item ∷ t))) (range_with_len 0 o.units)
 
 abbrev pub effects_of_item : Setting → Trace → List Mark → List Effect
-effects_of_item o t item = flat_map (effects_of_mark o t) item ++ map (λ (c : Command). Enable c.ticket c.unit) (newly_enabled t item)
+effects_of_item o t item = flat_map (effects_of_mark o t) item ++ map (λ (c : Command). Enable c.ticket c.unit) (newly_enabled o t item)
 
 -- the effects of items after t
 abbrev pub effects_of : Setting → Trace → List (List Mark) → List Effect

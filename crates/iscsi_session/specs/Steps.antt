@@ -1,11 +1,18 @@
--- What a session keeps after an event, and the event's effects, by what it keeps before.
-use Rattle.std.specs.Prelude.{ℕ, ◌+◌, ◌-◌, ◌<◌, ◌^◌, ⊤, ◌==◌, ◌&&◌, not, nat_lt, Bool, true, List, [], ◌∷◌, ◌++◌, length, filter, find, Option, Some, None, if◌then◌else◌}
+-- What a session keeps after a part of an event, and the effects, by what it keeps before. For private contracts alone.
+use Rattle.std.specs.Prelude.{All, ◌≡◌, false, ◌<◌, ℕ, pos, ◌+◌, ◌-◌, ◌≤◌, ◌==◌, ◌||◌, not, nat_lt, nat_le, nat_eq, Bool, true, List, [], ◌∷◌, ◌++◌, length, map, filter, find, slice_index_or, slice_set, Option, Some, None, option_map, if◌then◌else◌}
+use Rattle.std.specs.Option.{MatchOption}
+use Rattle.std.specs.HashMap.{HashMap, get, hash_map_len, spare}
+use Rattle.std.specs.List.{list_any}
 use Rattle.iscsi_wire.specs.declared.request.Request.{Request}
+use Rattle.iscsi_wire.specs.declared.reply.Reply.{Reply}
 use Rattle.iscsi_wire.specs.declared.reply.Reply.TheVariants.{Scsi}
 use Rattle.iscsi_wire.specs.Serial.{wire}
-use Rattle.iscsi_wire.specs.Fields.{request_of, connection_of, itt, cmd_sn}
-use Rattle.iscsi_session.specs.declared.effect.Attr.TheVariants.{Simple}
-use Rattle.iscsi_session.specs.declared.effect.Why.TheVariants.{Outside, Stale, Data}
+use Rattle.iscsi_wire.specs.Fields.{connection_of, is_immediate, attr_code, itt}
+use Rattle.iscsi_window.specs.Windows.{Received, number_expected, number_last, offered_to, advanced, with_unfinished}
+use Rattle.iscsi_tasks.specs.declared.task.Task.{Task}
+use Rattle.iscsi_tasks.specs.declared.member.Member.{Member}
+use Rattle.iscsi_tasks.specs.Sets.{Members, tasks_in, opened as opened_set, entered_to, left_by, with_ticket, is_enabled_in, is_new, next_in, given_by}
+use Rattle.iscsi_session.specs.declared.effect.Why.TheVariants.{Stale}
 use Rattle.iscsi_session.specs.declared.effect.Effect.{Effect}
 use Rattle.iscsi_session.specs.declared.effect.Effect.TheVariants.{Deliver, Enter, Enable, Leave, Send, Ignore}
 use Rattle.iscsi_session.specs.declared.effect.Numbers.{Numbers}
@@ -14,10 +21,11 @@ use Rattle.iscsi_session.specs.declared.event.Event.TheVariants.{Arrive, Done}
 use Rattle.iscsi_session.specs.declared.fault.SessionFault.{SessionFault}
 use Rattle.iscsi_session.specs.declared.fault.SessionFault.TheVariants.{UnknownConnection, Exhausted}
 use Rattle.iscsi_session.specs.declared.session.Live.{Live}
+use Rattle.iscsi_session.specs.declared.verdict.Verdict.{Verdict}
+use Rattle.iscsi_session.specs.declared.verdict.Verdict.TheVariants.{Answer, Enter as EnterUnit}
 use Rattle.iscsi_session.specs.Settings.{is_known}
-use Rattle.iscsi_session.specs.Execution.{sense_of_status}
-use Rattle.iscsi_session.specs.Agenda.{is_numbered_command}
-use Rattle.iscsi_session.specs.Standing.{Core, number_expected, stat_sn_on}
+use Rattle.iscsi_session.specs.Execution.{sense_of_status, unit_named, attr_of, scsi_verdict}
+use Rattle.iscsi_session.specs.Standing.{Core, stat_sn_on}
 
 -- ---- refusals
 
@@ -28,72 +36,172 @@ comes_on conns (Done ticket status) = true
 abbrev pub refusal_by : Core → Event → Option SessionFault
 refusal_by s e = if not (comes_on s.conns e) then Some UnknownConnection else (if nat_lt s.taken s.events then None else Some Exhausted)
 
--- ---- an arrival
+-- as many numbers have turned as commands began, at the least. MaxCmdSN doesn't go back then
+abbrev pub KeepsPace : Received → Received → Type 0
+KeepsPace w w' = w'.unfinished + w.turned ≤ w.unfinished + w'.turned
 
--- the number is the next one, and the window isn't shut
-abbrev pub is_next : Core → ℕ → Bool
-is_next s sn = sn == wire (number_expected s) && nat_lt (length s.live) s.window
+-- ---- an offer
 
--- what is kept of the command that enters next
-abbrev pub new_live : Core → Request → Live
-new_live s r = record { ticket = s.entered + 1; conn = connection_of r; itt = itt r }
+abbrev pub with_offered : Core → Request → Core
+with_offered s r = record s { window = offered_to s.window r }
 
-abbrev pub with_command : Core → Request → Core
-with_command s r = record s { turned = s.turned + 1; entered = s.entered + 1; live = s.live ++ new_live s r ∷ [] }
-
-abbrev pub entry_effects : Core → Request → List Effect
-entry_effects s r = Deliver r ∷ Enter (s.entered + 1) 0 Simple ∷ Enable (s.entered + 1) 0 ∷ []
-
-abbrev pub after_arrival : Core → Request → Core
-after_arrival s r = if is_numbered_command r then (if is_next s (cmd_sn r) then with_command s r else s) else s
-
-abbrev pub arrival_effects : Core → Request → List Effect
-arrival_effects s r =
-    if is_numbered_command r then (if is_next s (cmd_sn r) then entry_effects s r else Ignore Outside ∷ []) else Ignore Data ∷ []
-
--- ---- a completion
-
-abbrev pub find_ticket : ℕ → List Live → Option Live
-find_ticket ticket live = find (λ l. l.ticket == ticket) live
-
-abbrev pub without_ticket : ℕ → List Live → List Live
-without_ticket ticket live = filter (λ l. not (l.ticket == ticket)) live
+-- ---- replies
 
 -- the connections, after a reply went out on one
 abbrev pub count_reply : ℕ → List (ℕ × ℕ) → List (ℕ × ℕ)
 count_reply cid [] = []
 count_reply cid (conn ∷ conns) = if conn.0 == cid then (conn.0, wire (conn.1 + 1)) ∷ conns else conn ∷ count_reply cid conns
 
+-- ---- task sets
+
+abbrev pub set_at : Core → ℕ → Members
+set_at s unit = slice_index_or s.sets unit (opened_set 0)
+
+-- the set of the unit is this one now
+abbrev pub with_set : Core → ℕ → Members → Core
+with_set s unit set = record s { sets = slice_set s.sets unit set }
+
+-- every enabled command of the set was given
+abbrev pub as_given : Member → Member
+as_given m = record { task = m.task; enabled = m.enabled; given = m.given || m.enabled }
+
+abbrev pub all_given : Members → Members
+all_given set = record set { list = map as_given set.list }
+
+-- the commands of a unit that are enabled, of these members
+abbrev pub enable_effects : ℕ → List Member → List Effect
+enable_effects unit ms = map (λ (m : Member). Enable m.task.ticket unit) (filter is_new ms)
+
+abbrev pub enable_effect : ℕ → Option ℕ → List Effect
+enable_effect unit None = []
+enable_effect unit (Some ticket) = Enable ticket unit ∷ []
+
+-- ---- the table of the SCSI Command
+
+abbrev pub is_tag_kept : Core → ℕ → Bool
+is_tag_kept s tag = list_any (λ l. l.itt == tag) s.live
+
+abbrev pub is_set_full : Members → Bool
+is_set_full set = nat_le set.depth (length set.list)
+
+abbrev pub place_in : List Members → Request → Option (ℕ × Bool)
+place_in sets r = option_map (λ unit. (unit, is_set_full (slice_index_or sets unit (opened_set 0)))) (unit_named (length sets) r)
+
+abbrev pub verdict_by : Core → Request → Verdict
+verdict_by s r = scsi_verdict r (is_tag_kept s (itt r)) (place_in s.sets r)
+
+-- ---- a turn
+
+-- what is kept of the command that enters next
+abbrev pub new_live : Core → Request → ℕ → Live
+new_live s r unit = record { ticket = s.entered + 1; unit = unit; conn = connection_of r; itt = itt r }
+
+-- the same, as its set sees it. Its number has turned last
+abbrev pub new_task : Core → Request → Task
+new_task s r = record { ticket = s.entered + 1; conn = connection_of r; itt = itt r; attr = attr_of (attr_code r); immediate = is_immediate r; pos = pos (s.window.turned - 1); event = 0 }
+
+abbrev pub set_entered : Core → Request → ℕ → Members
+set_entered s r unit = entered_to (set_at s unit) (new_task s r)
+
+-- the request enters, in a window that has turned its number
+abbrev pub with_command : Core → Request → ℕ → Core
+with_command s r unit = record s {
+  window = with_unfinished s.window (s.window.unfinished + 1);
+  entered = s.entered + 1;
+  live = s.live ++ new_live s r unit ∷ [];
+  sets = slice_set s.sets unit (given_by (set_entered s r unit));
+}
+
+abbrev pub entry_effects : Core → Request → ℕ → List Effect
+entry_effects s r unit = Enter (s.entered + 1) unit (attr_of (attr_code r)) ∷ enable_effect unit (next_in (set_entered s r unit).list)
+
+-- a reply goes out
+abbrev pub with_reply : Core → ℕ → Core
+with_reply s conn = record s { conns = count_reply conn s.conns }
+
+abbrev pub reply_effects : Core → ℕ → Reply → List Effect
+reply_effects s conn reply = Send conn (stat_sn_on conn s.conns) reply ∷ []
+
+abbrev pub executed_as : Core → Request → Verdict → Core
+executed_as s r (Answer reply) = with_reply s (connection_of r)
+executed_as s r (EnterUnit unit) = with_command s r unit
+
+abbrev pub execution_effects : Core → Request → Verdict → List Effect
+execution_effects s r (Answer reply) = reply_effects s (connection_of r) reply
+execution_effects s r (EnterUnit unit) = entry_effects s r unit
+
+abbrev pub with_executed : Core → Request → Core
+with_executed s r = executed_as s r (verdict_by s r)
+
+abbrev pub with_advanced : Core → Core
+with_advanced s = record s { window = advanced s.window }
+
+-- the turn of the next number, if it is received
+abbrev pub turned_if : Core → Option (Option Request) → Core
+turned_if s None = s
+turned_if s (Some None) = with_advanced s
+turned_if s (Some (Some r)) = with_executed (with_advanced s) r
+
+abbrev pub turn_effects : Core → Option (Option Request) → List Effect
+turn_effects s (Some (Some r)) = Deliver r ∷ execution_effects (with_advanced s) r (verdict_by (with_advanced s) r)
+turn_effects s _ = []
+
+-- ---- a completion
+
+abbrev pub find_ticket : ℕ → List Live → Option Live
+find_ticket ticket live = find (λ l. l.ticket == ticket) live
+
+-- the place of the command with this ticket, or none has it
+abbrev pub IsTicketPlace : List Live → ℕ → Option ℕ → Type 0
+IsTicketPlace live ticket r = MatchOption r (All (λ l. (l.ticket == ticket) ≡ false) live) (λ k. (k < length live) × ((d : Live) → (slice_index_or live k d).ticket ≡ ticket))
+
+-- the index of tags has the ticket of each live command. It may have those of commands that left
+abbrev pub AreIndexed : {S : Type 0} → HashMap ℕ ℕ S → List Live → Type 0
+AreIndexed tags live = All (λ l. get nat_eq tags l.itt ≡ Some l.ticket) live
+
+-- how many tags the index can have
+abbrev pub tag_room : {S : Type 0} → HashMap ℕ ℕ S → ℕ
+tag_room tags = hash_map_len tags + spare tags
+
+-- the command with this ticket, if it is enabled
+abbrev pub enabled_of : Core → ℕ → Option Live → Option Live
+enabled_of s ticket x = elim x [ Some l ↦ if is_enabled_in ticket (set_at s l.unit).list then Some l else None | None ↦ None ]
+
+abbrev pub find_enabled : Core → ℕ → Option Live
+find_enabled s ticket = enabled_of s ticket (find_ticket ticket s.live)
+
+abbrev pub without_ticket : ℕ → List Live → List Live
+without_ticket ticket live = filter (λ l. not (l.ticket == ticket)) live
+
+-- the set of its unit without it
+abbrev pub set_without : Live → List Members → Members
+set_without l sets = let set = slice_index_or sets l.unit (opened_set 0) in left_by set (with_ticket l.ticket (tasks_in set))
+
+abbrev pub set_left : Core → Live → Members
+set_left s l = set_without l s.sets
+
 abbrev pub without_command : Core → Live → Core
-without_command s l = record s { conns = count_reply l.conn s.conns; live = without_ticket l.ticket s.live }
+without_command s l = record s {
+  window = with_unfinished s.window (s.window.unfinished - 1);
+  conns = count_reply l.conn s.conns;
+  live = without_ticket l.ticket s.live;
+  sets = slice_set s.sets l.unit (all_given (set_left s l));
+}
 
 abbrev pub leave_effects : Core → Live → ℕ → List Effect
-leave_effects s l status = Leave l.ticket 0 ∷ Send l.conn (stat_sn_on l.conn s.conns) (Scsi l.itt status (sense_of_status status)) ∷ []
+leave_effects s l status = Leave l.ticket l.unit ∷ Send l.conn (stat_sn_on l.conn s.conns) (Scsi l.itt status (sense_of_status status)) ∷ enable_effects l.unit (set_left s l).list
 
 abbrev pub after_completion : Core → ℕ → Core
-after_completion s ticket = elim (find_ticket ticket s.live) [ Some l ↦ without_command s l | None ↦ s ]
+after_completion s ticket = elim (find_enabled s ticket) [ Some l ↦ without_command s l | None ↦ s ]
 
 abbrev pub completion_effects : Core → ℕ → ℕ → List Effect
-completion_effects s ticket status = elim (find_ticket ticket s.live) [ Some l ↦ leave_effects s l status | None ↦ Ignore Stale ∷ [] ]
+completion_effects s ticket status = elim (find_enabled s ticket) [ Some l ↦ leave_effects s l status | None ↦ Ignore Stale ∷ [] ]
 
 -- ---- an event
-
-abbrev pub after_step : Core → Event → Core
-after_step s (Arrive conn header) = after_arrival s (request_of conn header)
-after_step s (Done ticket status) = after_completion s ticket
-
-abbrev pub step_effects : Core → Event → List Effect
-step_effects s (Arrive conn header) = arrival_effects s (request_of conn header)
-step_effects s (Done ticket status) = completion_effects s ticket status
-
--- the CmdSN of an arrival has 32 bits
-abbrev pub NumberFits : Event → Type 0
-NumberFits (Arrive conn header) = cmd_sn (request_of conn header) < 2 ^ 32
-NumberFits (Done ticket status) = ⊤
 
 -- the event is counted
 abbrev pub counted : Core → Core
 counted s = record s { taken = s.taken + 1 }
 
 abbrev pub numbers_by : Core → Numbers
-numbers_by s = record { exp = wire (number_expected s); max = wire (number_expected s + s.window - 1 - length s.live) }
+numbers_by s = record { exp = wire (number_expected s.window); max = wire (number_last s.window) }

@@ -1,11 +1,12 @@
 -- What has happened in a session, and what follows from it. A number of the session stands 2 ^ 32 above its
 -- first wire form, so that no number near one of the session is below 0.
-use Rattle.std.specs.Prelude.{ℕ, zero, suc, ◌+◌, ◌==◌, not, Bool, false, List, [], ◌∷◌, ◌++◌, length, Option, Some, None, if◌then◌else◌, filter, filter_map}
+use Rattle.std.specs.Prelude.{ℕ, zero, suc, ◌+◌, ◌==◌, ◌&&◌, ◌||◌, not, Bool, false, List, [], ◌∷◌, ◌++◌, length, map, Option, Some, None, if◌then◌else◌, filter, filter_map}
 use Rattle.std.specs.List.{list_any}
 use Rattle.iscsi_wire.specs.declared.request.Request.{Request}
 use Rattle.iscsi_wire.specs.declared.reply.Reply.{Reply}
 use Rattle.iscsi_wire.specs.Serial.{number_of_first}
-use Rattle.iscsi_session.specs.declared.effect.Attr.{Attr}
+use Rattle.iscsi_tasks.specs.declared.task.Attr.{Attr}
+use Rattle.iscsi_tasks.specs.Rules.{Queued, is_free}
 use Rattle.iscsi_session.specs.declared.effect.Why.{Why}
 
 -- a request with its number, and the place of its event in the history
@@ -119,9 +120,28 @@ live t = filter (λ c. not (has (leaves_ticket c.ticket) t)) (entered t)
 abbrev pub is_among : ℕ → List Command → Bool
 is_among ticket set = list_any (λ c. c.ticket == ticket) set
 
--- the commands that are enabled now: every one, from its entry on
-abbrev pub enabled : Trace → List Command
-enabled t = live t
+-- those of a unit
+abbrev pub live_in : ℕ → Trace → List Command
+live_in unit t = filter (λ c. c.unit == unit) (live t)
+
+-- ---- enabled commands (SAM-5 section 8)
+
+-- a command as the rules of a task set see it
+abbrev pub queued_of : Command → Queued
+queued_of c = record { ticket = c.ticket; attr = c.attr }
+
+-- it is in its set, and free
+abbrev pub is_free_at : Command → Trace → Bool
+is_free_at c t = is_among c.ticket (live_in c.unit t) && is_free (queued_of c) (map queued_of (live_in c.unit t))
+
+-- it was in its set and free at some moment so far
+abbrev pub was_free : Command → Trace → Bool
+was_free c [] = false
+was_free c (item ∷ t) = is_free_at c (item ∷ t) || was_free c t
+
+-- the commands of a unit that are enabled now, oldest first
+abbrev pub enabled_in : ℕ → Trace → List Command
+enabled_in unit t = filter (λ c. was_free c t) (live_in unit t)
 
 -- ---- replies
 

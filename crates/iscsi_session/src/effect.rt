@@ -1,15 +1,7 @@
 //! What an event does.
 
+use iscsi_tasks::Attr;
 use iscsi_wire::{Reply, Request};
-
-/// A task attribute (SAM-5 section 8.6). Untagged commands count as SIMPLE.
-#[derive(Clone, Copy, Debug, PartialEq, Eq)]
-pub enum Attr {
-    Simple,
-    Ordered,
-    /// HEAD OF QUEUE.
-    Head,
-}
 
 /// Why an event is passed over.
 #[derive(Clone, Copy, Debug, PartialEq, Eq)]

@@ -9,10 +9,12 @@ mod log;
 mod options;
 mod report;
 mod session;
+mod verdict;
 
-pub use effect::{Attr, Effect, Numbers, Why};
+pub use effect::{Effect, Numbers, Why};
 pub use event::Event;
 pub use fault::SessionFault;
+pub use iscsi_tasks::Attr;
 pub use log::{Effects, Entry, Log, run};
 pub use options::Options;
 pub use report::{LONGEST_LINE, put_effect, put_event};

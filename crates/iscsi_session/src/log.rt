@@ -4,6 +4,8 @@ ghost use Rattle.std.specs.Prelude.{◌≡◌, IfOk};
 ghost use Rattle.iscsi_session.specs.Settings.{setting_of};
 ghost use Rattle.iscsi_session.specs.Run.{run_of};
 ghost use Rattle.iscsi_session.specs.Executed.{executed, delivered};
+ghost use Rattle.iscsi_session.specs.Flow.{FlowsThrough};
+ghost use Rattle.iscsi_session.specs.Enabling.{EnablesByTheRule};
 ghost use Rattle.iscsi_session.specs.Refusals.{RunRefusesAs, refusal_of_options, first_refusal};
 
 use crate::effect::{Effect, Numbers};
@@ -76,6 +78,14 @@ pub fn run(alloc: Global, options: Options, events: &[Event]) -> Result<Log, Ses
     // The numbered requests executed are those received from the first CmdSN on without a gap, in CmdSN
     // order, each once.
     ensures delivery { IfOk result (λ log. delivered log.items ≡ executed (setting_of options) events.now) }
+
+    // At each moment, the commands with an `Enable` and no `Leave` so far are those that the rules of task sets
+    // enable.
+    ensures enabling { IfOk result (λ log. EnablesByTheRule (setting_of options) events.now log.items) }
+
+    // Each event receives one number at the most. ExpCmdSN and MaxCmdSN don't go back, and no more commands
+    // are unfinished than the window has places.
+    ensures flow { IfOk result (λ log. FlowsThrough (setting_of options) events.now) }
 
     ensures refused { RunRefusesAs (refusal_of_options (setting_of options)) (first_refusal (setting_of options) 0 events.now) result }
 {

@@ -127,7 +127,7 @@ impl Window {
     /// Holds the request at its CmdSN, if that is admitted and wasn't received before. Otherwise nothing
     /// changes.
     ///
-    /// The number counts for an immediate request too, which a caller doesn't offer: it takes no number.
+    /// The I bit isn't looked at: an immediate request takes no number, so it isn't offered.
     pub fn offer(&mut self, request: &Request) -> Offer
         ensures answer { result ≡ offer_to self.old request.now }
         ensures state { self.new ≡ offered_to self.old request.now }

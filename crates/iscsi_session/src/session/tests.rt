@@ -1,8 +1,10 @@
 use crate::{Attr, Effect, Event, Numbers, Options, Session, SessionFault, Why};
-use iscsi_wire::{Reply, Request};
+use iscsi_wire::{Reply, Request, Sense};
 use std::alloc::{AllocError, Global};
 use std::process::Abort;
 use std::test::Fail;
+
+mod commands;
 
 /// Options within their limits, over these connections.
 fn options(alloc: Global, conns: &[(u16, u32)]) -> Result<Options, AllocError> {
@@ -18,13 +20,35 @@ fn options(alloc: Global, conns: &[(u16, u32)]) -> Result<Options, AllocError> {
 }
 
 /// The header of a SCSI Command with this CmdSN and tag.
-fn command(cmd_sn: u8, itt: u8) -> [u8; 48] {
+fn command(cmd_sn: u32, itt: u32) -> [u8; 48] {
     let mut header = [0; 48];
     header[0] = 0x01;
     header[1] = 0x81;
-    header[19] = itt;
-    header[27] = cmd_sn;
+    header[16..20].copy_from_slice(&itt.to_be_bytes());
+    header[24..28].copy_from_slice(&cmd_sn.to_be_bytes());
     header
+}
+
+/// The arrival of a SCSI Command.
+fn arrival(conn: u16, cmd_sn: u32, itt: u32) -> Event {
+    Event::Arrive {
+        conn,
+        header: command(cmd_sn, itt),
+    }
+}
+
+/// What comes of the turn of a SCSI Command.
+fn turn(conn: u16, cmd_sn: u32, itt: u32, ticket: u64) -> [Effect; 3] {
+    let request = Request::read(conn, &command(cmd_sn, itt));
+    [
+        Effect::Deliver { request },
+        Effect::Enter {
+            ticket,
+            unit: 0,
+            attr: Attr::Simple,
+        },
+        Effect::Enable { ticket, unit: 0 },
+    ]
 }
 
 fn refuses(rt: &impl Abort, alloc: Global, options: Options) {
@@ -103,20 +127,9 @@ fn one_command_is_answered(rt: HostRuntime) -> Result<(), Fail> {
     let alloc = rt.alloc();
     let mut session = Session::open(alloc, options(alloc, &[(1, 1)])?)?;
     let mut out = Vec::new(alloc);
-    let header = command(1, 0xa1);
-    let numbers = session.step(&Event::Arrive { conn: 1, header }, &mut out)?;
+    let numbers = session.step(&arrival(1, 1, 0xa1), &mut out)?;
     assert_eq!(rt; numbers, Numbers { exp: 2, max: 0x20 });
-    let request = Request::read(1, &header);
-    let entered = [
-        Effect::Deliver { request },
-        Effect::Enter {
-            ticket: 1,
-            unit: 0,
-            attr: Attr::Simple,
-        },
-        Effect::Enable { ticket: 1, unit: 0 },
-    ];
-    assert_eq!(rt; out.as_slice(), entered.as_slice());
+    assert_eq!(rt; out.as_slice(), turn(1, 1, 0xa1, 1).as_slice());
     assert_eq!(rt; session.effect_bound(), 14);
 
     out.clear();
@@ -149,8 +162,7 @@ fn a_refused_event_changes_nothing(rt: HostRuntime) -> Result<(), Fail> {
     few.events = 1;
     let mut session = Session::open(alloc, few)?;
     let mut out = Vec::new(alloc);
-    let header = command(1, 0xa1);
-    let unknown = Event::Arrive { conn: 9, header };
+    let unknown = arrival(9, 1, 0xa1);
     assert_eq!(rt;
         session.step(&unknown, &mut out),
         Err(SessionFault::UnknownConnection)
@@ -172,5 +184,126 @@ fn a_refused_event_changes_nothing(rt: HostRuntime) -> Result<(), Fail> {
     );
     assert_eq!(rt; session.step(&done, &mut out), Err(SessionFault::Exhausted));
     assert_eq!(rt; out.len(), 1);
+    Ok(())
+}
+
+#[test]
+fn requests_wait_until_no_gap_is_left(rt: HostRuntime) -> Result<(), Fail> {
+    let alloc = rt.alloc();
+    let mut session = Session::open(alloc, options(alloc, &[(1, 1), (2, 1)])?)?;
+    let mut out = Vec::new(alloc);
+    for (conn, cmd_sn, bound) in [(2, 4, 24), (1, 3, 36), (2, 2, 48)] {
+        let numbers = session.step(&arrival(conn, cmd_sn, cmd_sn), &mut out)?;
+        assert_eq!(rt; numbers, Numbers { exp: 1, max: 0x20 });
+        assert_eq!(rt; out.len(), 0);
+        assert_eq!(rt; session.effect_bound(), bound);
+    }
+    let numbers = session.step(&arrival(1, 1, 1), &mut out)?;
+    assert_eq!(rt; numbers, Numbers { exp: 5, max: 0x20 });
+    assert_eq!(rt; session.effect_bound(), 20);
+    assert_eq!(rt; out.len(), 12);
+    let turns = [(1, 1), (2, 2), (1, 3), (2, 4)];
+    for (effects, (conn, cmd_sn)) in out.as_slice().chunks(3).zip(turns) {
+        let turn = turn(conn, cmd_sn, cmd_sn, u64::from(cmd_sn));
+        assert_eq!(rt; effects, turn.as_slice(), "at {cmd_sn}");
+    }
+    Ok(())
+}
+
+#[test]
+fn a_number_counts_once(rt: HostRuntime) -> Result<(), Fail> {
+    let alloc = rt.alloc();
+    let mut narrow = options(alloc, &[(1, 1)])?;
+    narrow.window = 4;
+    narrow.events = 1002;
+    let mut session = Session::open(alloc, narrow)?;
+    let mut out = Vec::new(alloc);
+    session.step(&arrival(1, 2, 0xa2), &mut out)?;
+    assert_eq!(rt; out.len(), 0);
+    assert_eq!(rt; session.effect_bound(), 24);
+    for _ in 0..1000 {
+        out.clear();
+        let numbers = session.step(&arrival(1, 2, 0xb2), &mut out)?;
+        assert_eq!(rt; numbers, Numbers { exp: 1, max: 4 });
+        let duplicate = Effect::Ignore {
+            why: Why::Duplicate,
+        };
+        assert_eq!(rt; out.as_slice(), [duplicate].as_slice());
+        assert_eq!(rt; session.effect_bound(), 24);
+    }
+    // the first of them is the one that is held
+    out.clear();
+    session.step(&arrival(1, 1, 0xa1), &mut out)?;
+    assert_eq!(rt; out.len(), 6);
+    assert_eq!(rt; &out[3..], turn(1, 2, 0xa2, 2).as_slice());
+    Ok(())
+}
+
+#[test]
+fn numbers_outside_are_passed_over(rt: HostRuntime) -> Result<(), Fail> {
+    let alloc = rt.alloc();
+    let mut narrow = options(alloc, &[(1, 1)])?;
+    narrow.first = 0x10;
+    narrow.window = 4;
+    let mut session = Session::open(alloc, narrow)?;
+    let mut out = Vec::new(alloc);
+    for cmd_sn in [
+        0xf,
+        0x14,
+        0x8000_000f,
+        0x8000_0010,
+        0x8000_0011,
+        0xffff_ffff,
+    ] {
+        out.clear();
+        let numbers = session.step(&arrival(1, cmd_sn, 0xa1), &mut out)?;
+        assert_eq!(rt;
+            numbers,
+            Numbers {
+                exp: 0x10,
+                max: 0x13
+            }
+        );
+        let outside = Effect::Ignore { why: Why::Outside };
+        assert_eq!(rt; out.as_slice(), [outside].as_slice(), "at {cmd_sn}");
+    }
+    out.clear();
+    session.step(&arrival(1, 0x13, 0xa1), &mut out)?;
+    assert_eq!(rt; out.len(), 0);
+    Ok(())
+}
+
+#[test]
+fn the_widest_window_turns_at_once(rt: HostRuntime) -> Result<(), Fail> {
+    let alloc = rt.alloc();
+    let mut widest = options(alloc, &[(1, 1)])?;
+    widest.window = 1024;
+    widest.depth = 1024;
+    widest.events = 1024;
+    let mut session = Session::open(alloc, widest)?;
+    let mut out = Vec::new(alloc);
+    for number in 2..=1024u32 {
+        session.step(&arrival(1, number, number), &mut out)?;
+    }
+    assert_eq!(rt; out.len(), 0);
+    assert_eq!(rt; session.effect_bound(), 12288);
+
+    out.reserve(12288)?;
+    let room = (out.capacity(), session.live.capacity());
+    let numbers = session.step(&arrival(1, 1, 1), &mut out);
+    assert_eq!(rt;
+        numbers,
+        Ok(Numbers {
+            exp: 1025,
+            max: 1024
+        })
+    );
+    // nothing that can grow has asked for more memory
+    assert_eq!(rt; (out.capacity(), session.live.capacity()), room);
+    assert_eq!(rt; out.len(), 3072);
+    for (effects, number) in out.as_slice().chunks(3).zip(1..=1024u32) {
+        let turn = turn(1, number, number, u64::from(number));
+        assert_eq!(rt; effects, turn.as_slice(), "at {number}");
+    }
     Ok(())
 }

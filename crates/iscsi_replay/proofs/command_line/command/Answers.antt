@@ -8,7 +8,7 @@ use Rattle.iscsi_replay.proofs.command_line.command.Goals as goal
 pub returns : goal.returns
 unfolding replay_app
 returns c =
-    let app_is : app_of c.about.result ≡ new_app (codes "iscsi-replay") = ap app_of_fields c.about.ensures ∙ c.new.ensures.app in
+    let app_is : app_of c.about.result ≡ new_app (codes "iscsi-replay") = ap app_of_fields c.about.ensures ∙ (ap app_of_fields c.in_ok-bin_name.ensures.0 ∙ c.new.ensures.app) in
     let one = c.in_ok-arg.ensures.shape c.first.ensures.local ∙ ap₂ with_rule app_is c.first.ensures.rule in
     let two = c.in_ok-arg-2.ensures.shape c.number.ensures.local ∙ ap₂ with_rule one c.number.ensures.rule in
     let three = c.in_ok-arg-3.ensures.shape c.number-2.ensures.local ∙ ap₂ with_rule two c.number-2.ensures.rule in

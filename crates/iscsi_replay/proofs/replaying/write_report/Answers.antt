@@ -1,4 +1,6 @@
-use Rattle.std.proofs.Common.{rules, ◌+◌, take, refl, sym, subst}
+use Rattle.std.proofs.Common.{rules, ◌+◌, ◌≡◌, ◌≢◌, take, refl, sym, subst, Result, Ok, Err, MatchResult, IfErr}
+use Rattle.iscsi_replay.specs.declared.fault.ReplayFault.{ReplayFault}
+use Rattle.iscsi_replay.specs.declared.fault.ReplayFault.TheVariants.{Write, NoMemory}
 use Rattle.std.proofs.lemmas.List.{take_more}
 use Rattle.std.proofs.lemmas.Result.{IfOk-weaker}
 use Rattle.iscsi_session.specs.Standing.{StandsFor}
@@ -72,3 +74,10 @@ pub returns-clause-front : goal.returns-clause-front
 returns-clause-front g c =
     front_of_all _ _ c.args.settings.now c.args.recording.conns.items _ _ c.loop-event.event-index c.deref-event-items.ensures.value
     (front_after _ _ _ _ _ _ c.deref-2.ensures.value c.loop-event.invariant.written c.put_all.ensures.front)
+
+only_write : {T : Type 0} (x : Result T ReplayFault) (fresh failed : Type 0) → MatchResult x (λ v. fresh) (λ e. (e ≡ Write) × failed) → IfErr x (λ e. e ≢ Write → e ≡ NoMemory)
+only_write (Ok v) fresh failed h = tt
+only_write (Err e) fresh failed h = λ other. absurd (other h.0)
+
+pub returns-clause-kinds : goal.returns-clause-kinds
+returns-clause-kinds g c = only_write c.put_all.result _ _ c.put_all.ensures.failed

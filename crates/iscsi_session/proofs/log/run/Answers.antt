@@ -9,12 +9,17 @@ use Rattle.iscsi_session.specs.declared.event.Event.{Event}
 use Rattle.iscsi_session.specs.declared.fault.SessionFault.TheVariants.{NoMemory}
 use Rattle.iscsi_session.specs.declared.log.Entry.{Entry}
 use Rattle.iscsi_session.specs.Settings.{Setting, setting_of}
-use Rattle.iscsi_session.specs.Run.{run_of, next_entry}
-use Rattle.iscsi_session.specs.Executed.{delivered}
+use Rattle.iscsi_session.specs.Run.{run_of, trace_of, next_entry}
+use Rattle.iscsi_session.specs.Executed.{delivered, executed, executed_below}
+use Rattle.iscsi_session.specs.Flow.{FlowsThrough}
+use Rattle.iscsi_session.specs.Enabling.{effects_in}
+use Rattle.iscsi_session.proofs.EnablingLemmas.{log_effects, rule_means}
+use Rattle.iscsi_session.proofs.FlowLemmas.{FlowsThrough-push}
 use Rattle.iscsi_session.specs.Refusals.{refusal_of, refusal_of_options, first_refusal}
 use Rattle.iscsi_session.specs.Standing.{Core, StandsFor}
 use Rattle.iscsi_session.proofs.RunLemmas.{run_of-push}
-use Rattle.iscsi_session.proofs.DeliveryLemmas.{delivery}
+use Rattle.iscsi_session.proofs.DeliveryLemmas.{log_delivers}
+use Rattle.iscsi_session.proofs.AgreeLemmas.{settled_expected}
 use Rattle.iscsi_session.proofs.RefusalLemmas.{taken_none, refused_cases, refusal_more, refusal_here, options_refused, event_refused, run_taken}
 use Rattle.iscsi_session.proofs.log.run.Goals as goal
 
@@ -66,14 +71,41 @@ loop-event-preserved c =
     let P : Core → List Event → Type 0 = λ s es. StandsFor o s es in
     record {
       stands = subst (P c.step.new.self) (sym (take_more c.args.events.now i _ in_range)) (c.in_ok-numbers.ensures.stands o h inv.stands);
+      flow = subst (FlowsThrough o) (sym (take_more c.args.events.now i _ in_range)) (FlowsThrough-push o h _ inv.flow (c.in_ok-numbers.ensures.flow o h inv.stands));
       log = log_more o c.args.events.now i _ c.loop-event.log.items c.reserve.new.self.items c.push_reserved.new.self.items c.in_ok-numbers.numbers c.from_vec.result c.step.new.out.items c.new-effects.result.items in_range inv.log c.reserve.ensures.items c.push_reserved.ensures.items c.from_vec.ensures (c.in_ok-numbers.ensures.effects o h inv.stands) c.new-effects.ensures.items (c.in_ok-numbers.ensures.numbers o h inv.stands);
       refusal = refusal_more o c.args.events.now i _ (first_refusal o 0 c.args.events.now) in_range inv.refusal (taken_none _ c.in_ok-numbers.numbers (c.in_ok-numbers.ensures.refused o h inv.stands));
     }
 
+-- what a session that stands for the events has delivered
+delivered_by_session : (o : Setting) (s : Core) (h : List Event) → StandsFor o s h → delivered (run_of o h) ≡ executed o h
+delivered_by_session o s h stands =
+    sym (log_delivers o 0 [] h)
+    ∙ stands.settled.agrees.window.delivered
+    ∙ ap (executed_below o (trace_of o h)) (sym (settled_expected o s (trace_of o h) stands.settled))
+
 pub returns-clause-delivery : goal.returns-clause-delivery
 returns-clause-delivery c =
     let o : Setting = setting_of c.args.options in
-    ap delivered (c.loop-event.invariant.log ∙ ap (run_of o) (take_all c.loop-event.event-index c.args.events.now c.loop-event-test.false)) ∙ delivery o c.args.events.now
+    let all : take c.loop-event.event-index c.args.events.now ≡ c.args.events.now = take_all c.loop-event.event-index c.args.events.now c.loop-event-test.false in
+    ap delivered (c.loop-event.invariant.log ∙ ap (run_of o) all) ∙ delivered_by_session o c.loop-event.session c.args.events.now (subst (StandsFor o c.loop-event.session) all c.loop-event.invariant.stands)
+
+pub returns-clause-enabling : goal.returns-clause-enabling
+returns-clause-enabling c =
+    let o : Setting = setting_of c.args.options in
+    let events : List Event = c.args.events.now in
+    let all : take c.loop-event.event-index events ≡ events = take_all c.loop-event.event-index events c.loop-event-test.false in
+    let stands : StandsFor o c.loop-event.session events = subst (StandsFor o c.loop-event.session) all c.loop-event.invariant.stands in
+    record {
+      whole = ap effects_in (c.loop-event.invariant.log ∙ ap (run_of o) all) ∙ sym (log_effects o 0 [] events);
+      exact = stands.settled.agrees.enabled;
+      means = rule_means;
+    }
+
+pub returns-clause-flow : goal.returns-clause-flow
+returns-clause-flow c =
+    let o : Setting = setting_of c.args.options in
+    let all : take c.loop-event.event-index c.args.events.now ≡ c.args.events.now = take_all c.loop-event.event-index c.args.events.now c.loop-event-test.false in
+    subst (FlowsThrough o) all c.loop-event.invariant.flow
 
 pub returns-clause-refused : goal.returns-clause-refused
 returns-clause-refused c =

@@ -1,6 +1,7 @@
 use Rattle.std.proofs.Common.{◌≡◌, take, drop}
 use Rattle.iscsi_session.specs.Settings.{Setting, setting_of}
 use Rattle.iscsi_session.specs.Run.{run_of}
+use Rattle.iscsi_session.specs.Flow.{FlowsThrough}
 use Rattle.iscsi_session.specs.Refusals.{first_refusal}
 use Rattle.iscsi_session.specs.Standing.{StandsFor}
 use Rattle.iscsi_session.proofs.log.run.Given as goal
@@ -11,6 +12,7 @@ invariant-loop-event l =
     let o : Setting = setting_of l.fn.options in
     record {
       stands : StandsFor o l.session (take l.event-index l.events);
+      flow : FlowsThrough o (take l.event-index l.events);
       log : l.log.items ≡ run_of o (take l.event-index l.events);
       refusal : first_refusal o l.event-index (drop l.event-index l.events) ≡ first_refusal o 0 l.events;
     }

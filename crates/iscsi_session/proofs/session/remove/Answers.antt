@@ -1,6 +1,16 @@
-use Rattle.std.proofs.Common.{rules}
-use Rattle.std.proofs.lemmas.Fn.{filter_same}
+use Rattle.std.proofs.Common.{◌≡◌, ◌∙◌, ◌<◌, Option, Some, OnSome, length, get_or, sym, subst, arith}
+use Rattle.std.specs.List.{remove}
+use Rattle.iscsi_session.specs.declared.session.Live.{Live}
+use Rattle.iscsi_session.proofs.SearchLemmas.{removed_at, kept_all}
 use Rattle.iscsi_session.proofs.session.remove.Goals as goal
 
-pub returns-clause-items : goal.returns-clause-items
-returns-clause-items c = filter_same _ _ _ (λ x b f' k. search rules) _ _ c.retain.ensures.filtered
+pub returns-in-Some-clause-items : goal.returns-in-Some-clause-items
+returns-in-Some-clause-items c =
+    let d : Live = record { ticket = 0; unit = 0; conn = 0; itt = 0 } in
+    let within : c.in-Some.at < length c.args.live.now.items = c.in-Some.ensures.0 in
+    let some : c.remove.result ≡ Some (get_or c.args.live.now.items c.in-Some.at d) = c.remove.ensures.succeeds d (omega (arith, within, c.args.live.now.ok.0)) in
+    let removed : c.remove.new.self.items ≡ remove c.args.live.now.items c.in-Some.at = subst (λ (r : Option Live). OnSome r (c.remove.new.self.items ≡ remove c.args.live.now.items c.in-Some.at)) some c.remove.ensures.items in
+    removed ∙ removed_at c.args.live.now.items c.args.ticket c.in-Some.at d c.requires within (c.in-Some.ensures.1 d)
+
+pub returns-in_default-clause-items : goal.returns-in_default-clause-items
+returns-in_default-clause-items c = sym (kept_all c.args.live.now.items c.args.ticket c.in_default.ensures)

@@ -1,11 +1,12 @@
 use Rattle.std.proofs.Common.{rules, ◌≡◌, ◌==◌, ◌∙◌, ◌+◌, ◌%◌, ◌<◌, ◌^◌, ap, sym, ℕ, List, Some, Bool, true, subst, arith, position, get_or, set}
 use Rattle.std.specs.Prelude.{IsSome}
+use Rattle.std.specs.List.{list_all}
 use Rattle.std.proofs.lemmas.List.Quantifiers.{position-Some}
 use Rattle.iscsi_wire.specs.Serial.{wire}
 use Rattle.iscsi_session.specs.Settings.{is_known}
-use Rattle.iscsi_session.specs.Standing.{Core, stat_sn_on, are_known}
+use Rattle.iscsi_session.specs.Standing.{Core, stat_sn_on, are_known, is_place_known}
 use Rattle.iscsi_session.specs.Steps.{count_reply}
-use Rattle.iscsi_session.proofs.ListLemmas.{IsSome-position, count_reply-at, stat_sn_on-at, are_known-replied}
+use Rattle.iscsi_session.proofs.ListLemmas.{IsSome-position, count_reply-at, stat_sn_on-at, are_known-replied, are_places_known-replied}
 use Rattle.iscsi_session.proofs.session.Session.next_stat_sn.Goals as goal
 
 abbrev has_cid : ℕ → ℕ × ℕ → Bool
@@ -39,7 +40,7 @@ pub returns-clause-session : goal.returns-clause-session
 returns-clause-session c =
     let found : position (has_cid c.args.cid) c.self.inside.conns.items ≡ Some c.unwrap-place.result = ap (position (has_cid c.args.cid)) (sym c.deref.ensures.value) ∙ sym c.place_of.ensures ∙ c.unwrap-place.ensures in
     let next = (read_at c.args.cid c.unwrap-place.result c.self.inside.conns.items c.index.result.now found c.index.ensures).next in
-    let old : Core = record { first = c.self.inside.first; window = c.self.inside.window; events = c.self.inside.events; conns = c.self.inside.conns.items; turned = c.self.inside.turned; entered = c.self.inside.entered; taken = c.self.inside.taken; live = c.self.inside.live.items } in
+    let old : Core = record { window = c.self.inside.window; events = c.self.inside.events; conns = c.self.inside.conns.items; entered = c.self.inside.entered; taken = c.self.inside.taken; live = c.self.inside.live.items; sets = c.self.inside.sets.items } in
     ap (λ (cs : List (ℕ × ℕ)). record old { conns = cs }) next ∙ ap (λ (s : Core). record s { conns = count_reply c.args.cid s.conns }) c.self.view_is
 
 pub invariant_of-self : goal.invariant_of-self
@@ -55,5 +56,12 @@ invariant_of-self c =
       inv.5,
       inv.6,
       inv.7,
-      ap (are_known c.self.inside.live.items) next ∙ are_known-replied c.args.cid c.self.inside.live.items c.self.inside.conns.items inv.8,
+      inv.8,
+      ap (are_known c.self.inside.live.items) next ∙ are_known-replied c.args.cid c.self.inside.live.items c.self.inside.conns.items inv.9,
+      ap (λ (cs : List (ℕ × ℕ)). list_all (is_place_known cs) c.self.inside.window.places) next ∙ are_places_known-replied c.args.cid c.self.inside.window.places c.self.inside.conns.items inv.10,
+      inv.11,
+      inv.12,
+      inv.13,
+      inv.14,
+      inv.15,
     )

@@ -1,13 +1,20 @@
-use Rattle.std.proofs.Common.{◌≡◌, ◌∙◌, ◌≤◌, ◌++◌, ap, sym, subst, refl, arith, List, [], ◌∷◌, length, Option, Some, None, Err, Ok}
+use Rattle.std.proofs.Common.{◌≡◌, ◌∙◌, ◌+◌, ◌++◌, ap, sym, subst, refl, arith, List, [], ◌∷◌, length, length-append, count_by, Option, Some, None, Err, Ok}
+use Rattle.std.proofs.lemmas.List.{length_push}
 use Rattle.iscsi_session.specs.declared.effect.Numbers.{Numbers}
 use Rattle.iscsi_session.specs.declared.effect.Effect.{Effect}
+use Rattle.iscsi_session.specs.declared.event.Event.{Event}
 use Rattle.iscsi_session.specs.declared.fault.SessionFault.{SessionFault}
 use Rattle.iscsi_session.specs.declared.fault.SessionFault.TheVariants.{NoMemory}
-use Rattle.iscsi_session.specs.Run.{next_entry}
+use Rattle.iscsi_session.specs.Run.{trace_of, next_entry, after_event}
 use Rattle.iscsi_session.specs.Refusals.{RefusesAs, refusal_of}
-use Rattle.iscsi_session.specs.Standing.{Core, StandsFor}
-use Rattle.iscsi_session.specs.Steps.{after_step, step_effects, counted, numbers_by}
-use Rattle.iscsi_session.proofs.StepLemmas.{stands_step, refusal_is, taken_by, few_effects}
+use Rattle.iscsi_session.specs.Standing.{Core, Settled, is_held}
+use Rattle.iscsi_session.specs.Steps.{KeepsPace, counted}
+use Rattle.iscsi_session.specs.Flow.{Flows}
+use Rattle.iscsi_session.proofs.FlowLemmas.{Flows-step}
+use Rattle.iscsi_session.proofs.RunLemmas.{trace_of-push}
+use Rattle.iscsi_session.proofs.AgreeLemmas.{settled_numbers}
+use Rattle.iscsi_session.proofs.StepLemmas.{Settled-counted, refusal_is}
+use Rattle.iscsi_session.proofs.OpenLemmas.{bound_is}
 use Rattle.iscsi_session.proofs.session.Session.step.Goals as goal
 
 pub returns-in-Some-clause-refused : goal.returns-in-Some-clause-refused
@@ -24,23 +31,37 @@ returns-then-is_err-clause-refused c = λ o h stands.
 
 pub returns-clause-stands : goal.returns-clause-stands
 returns-clause-stands c = λ o h stands.
-    let taken = taken_by c.args.self.now c.args.event.now (sym c.refusal.ensures ∙ c.in_default.is) in
-    let new : c.apply.new.self ≡ after_step (counted c.args.self.now) c.args.event.now = c.apply.ensures.session ∙ ap (λ (s : Core). after_step (counted s) c.args.event.now) c.self.view_is in
-    subst (λ (s : Core). StandsFor o s (h ++ c.args.event.now ∷ [])) (sym new) (stands_step o c.args.self.now h c.args.event.now stands taken.0 c.apply.ensures.fits).0
+    let start : Settled o (counted c.args.self.now) (trace_of o h) = Settled-counted o c.args.self.now (trace_of o h) stands.settled in
+    let from = subst (λ (s : Core). Settled o (counted s) (trace_of o h)) (sym c.self.view_is) start in
+    let e : Event = c.args.event.now in
+    let now : Settled o c.apply.new.self (after_event o (length h) (trace_of o h) e) = c.apply.ensures.settled o (length h) (trace_of o h) from in
+    let one : length (h ++ e ∷ []) ≡ length h + 1 = length_push h e in
+    record {
+      settled = subst (Settled o c.apply.new.self) (sym (trace_of-push o h e)) now;
+      taken = c.apply.ensures.taken ∙ ap (λ (s : Core). s.taken + 1) c.self.view_is ∙ ap (λ n. n + 1) stands.taken ∙ sym one;
+    }
 
 pub returns-clause-effects : goal.returns-clause-effects
 returns-clause-effects c = λ o h stands.
-    let taken = taken_by c.args.self.now c.args.event.now (sym c.refusal.ensures ∙ c.in_default.is) in
-    c.apply.ensures.effects
-    ∙ ap (λ (s : Core). c.reserve.new.self.items ++ step_effects (counted s) c.args.event.now) c.self.view_is
-    ∙ ap (λ (es : List Effect). es ++ step_effects (counted c.args.self.now) c.args.event.now) c.reserve.ensures.items
-    ∙ ap (λ (es : List Effect). c.args.out.now.items ++ es) (stands_step o c.args.self.now h c.args.event.now stands taken.0 c.apply.ensures.fits).1
+    let start : Settled o (counted c.args.self.now) (trace_of o h) = Settled-counted o c.args.self.now (trace_of o h) stands.settled in
+    let from = subst (λ (s : Core). Settled o (counted s) (trace_of o h)) (sym c.self.view_is) start in
+    c.apply.ensures.effects o (length h) (trace_of o h) from
+    ∙ ap (λ (es : List Effect). es ++ (next_entry o h c.args.event.now).effects) c.reserve.ensures.items
+
+pub returns-clause-flow : goal.returns-clause-flow
+returns-clause-flow c = λ o h stands.
+    let start : Settled o (counted c.args.self.now) (trace_of o h) = Settled-counted o c.args.self.now (trace_of o h) stands.settled in
+    let from = subst (λ (s : Core). Settled o (counted s) (trace_of o h)) (sym c.self.view_is) start in
+    let e : Event = c.args.event.now in
+    let now : Settled o c.apply.new.self (after_event o (length h) (trace_of o h) e) = c.apply.ensures.settled o (length h) (trace_of o h) from in
+    let pace : KeepsPace c.args.self.now.window c.apply.new.self.window = subst (λ (s : Core). KeepsPace s.window c.apply.new.self.window) c.self.view_is c.apply.ensures.pace in
+    subst (Flows o (trace_of o h)) (sym (trace_of-push o h e)) (Flows-step o c.args.self.now c.apply.new.self (length h) (trace_of o h) e stands.settled now pace)
 
 pub returns-clause-numbers : goal.returns-clause-numbers
 returns-clause-numbers c = λ o h stands.
-    let taken = taken_by c.args.self.now c.args.event.now (sym c.refusal.ensures ∙ c.in_default.is) in
-    let new : c.apply.new.self ≡ after_step (counted c.args.self.now) c.args.event.now = c.apply.ensures.session ∙ ap (λ (s : Core). after_step (counted s) c.args.event.now) c.self.view_is in
-    c.numbers-numbers.ensures ∙ ap numbers_by new ∙ (stands_step o c.args.self.now h c.args.event.now stands taken.0 c.apply.ensures.fits).2
+    let start : Settled o (counted c.args.self.now) (trace_of o h) = Settled-counted o c.args.self.now (trace_of o h) stands.settled in
+    let from = subst (λ (s : Core). Settled o (counted s) (trace_of o h)) (sym c.self.view_is) start in
+    c.numbers-numbers.ensures ∙ settled_numbers o c.apply.new.self (after_event o (length h) (trace_of o h) c.args.event.now) (c.apply.ensures.settled o (length h) (trace_of o h) from)
 
 pub returns-clause-refused : goal.returns-clause-refused
 returns-clause-refused c = λ o h stands.
@@ -50,7 +71,10 @@ returns-clause-refused c = λ o h stands.
 
 pub returns-clause-bound : goal.returns-clause-bound
 returns-clause-bound c = λ o h stands.
-    let taken = taken_by c.args.self.now c.args.event.now (sym c.refusal.ensures ∙ c.in_default.is) in
-    let are = (stands_step o c.args.self.now h c.args.event.now stands taken.0 c.apply.ensures.fits).1 in
-    let few : length (next_entry o h c.args.event.now).effects ≤ 3 = subst (λ (es : List Effect). length es ≤ 3) are (few_effects (counted c.args.self.now) c.args.event.now) in
-    omega (arith, few)
+    let start : Settled o (counted c.args.self.now) (trace_of o h) = Settled-counted o c.args.self.now (trace_of o h) stands.settled in
+    let from = subst (λ (s : Core). Settled o (counted s) (trace_of o h)) (sym c.self.view_is) start in
+    let es : List Effect = (next_entry o h c.args.event.now).effects in
+    let added : length c.apply.new.out.items ≡ length c.reserve.new.self.items + length es = ap length (c.apply.ensures.effects o (length h) (trace_of o h) from) ∙ length-append c.reserve.new.self.items es in
+    let held : count_by is_held c.self.inside.window.places ≡ count_by is_held c.args.self.now.window.places = ap (λ (s : Core). count_by is_held s.window.places) c.self.view_is in
+    let lives : length c.self.inside.live.items ≡ length c.args.self.now.live = ap (λ (s : Core). length s.live) c.self.view_is in
+    omega (arith, added, held, c.apply.new.out.ok.0, c.reserve.new.self.ok.0, c.apply.ensures.spent, bound_is o c.args.self.now h stands, lives)

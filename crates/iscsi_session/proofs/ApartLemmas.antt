@@ -1,0 +1,76 @@
+-- Commands with tickets of their own.
+use Rattle.std.proofs.Common.{◌≡◌, ℕ, suc, ◌+◌, ◌==◌, ◌&&◌, ◌||◌, not, ⊎_elim, cond, Bool, true, false, List, [], ◌∷◌, ◌++◌, length, filter, refl, ap, sym, ◌∙◌, arith, eq-eqb}
+use Rattle.std.proofs.lemmas.Bool.{cases_eq, false≢true, eqb-true}
+use Rattle.std.proofs.lemmas.Bool.Decides.{nat_tests}
+use Rattle.std.proofs.lemmas.List.Folds.{list_any-append}
+use Rattle.iscsi_session.specs.Trace.{Command, is_among}
+use Rattle.iscsi_session.specs.Standing.{are_apart}
+
+pub eq_sym : (a b : ℕ) → (a == b) ≡ (b == a)
+eq_sym a b = ⊎_elim (λ same. eq-eqb a b same ∙ sym (eq-eqb b a (sym same))) (λ apart. (let x : (a == b) ≡ false = grind (arith, nat_tests) in x) ∙ (let y : (b == a) ≡ false = grind (arith, nat_tests) in sym y)) (cases_eq a b)
+
+or_none : (a b : Bool) → (a || b) ≡ false → (a ≡ false) × (b ≡ false)
+or_none true b h = absurd (false≢true (sym h))
+or_none false b h = (refl, h)
+
+and_parts : (a b : Bool) → (a && b) ≡ true → (a ≡ true) × (b ≡ true)
+and_parts true b h = (refl, h)
+and_parts false b h = absurd (false≢true h)
+
+and_both : (a b : Bool) → a ≡ true → b ≡ true → (a && b) ≡ true
+and_both true b h k = k
+and_both false b h k = absurd (false≢true h)
+
+not_true : (b : Bool) → not b ≡ true → b ≡ false
+not_true true h = absurd (false≢true h)
+not_true false h = refl
+
+unamong-push : (k : ℕ) (cs : List Command) (c : Command) → is_among k cs ≡ false → (c.ticket == k) ≡ false → is_among k (cs ++ c ∷ []) ≡ false
+unamong-push k cs c h apart = list_any-append (λ (d : Command). d.ticket == k) cs (c ∷ []) ∙ ap (λ b. b || ((c.ticket == k) || false)) h ∙ ap (λ b. b || false) apart
+
+pub apart-push : (cs : List Command) (c : Command) → are_apart cs ≡ true → is_among c.ticket cs ≡ false → are_apart (cs ++ c ∷ []) ≡ true
+apart-push [] c apart new = refl
+apart-push (d ∷ cs) c apart new =
+    let parts = and_parts (not (is_among d.ticket cs)) (are_apart cs) apart in
+    let news = or_none (d.ticket == c.ticket) (is_among c.ticket cs) new in
+    and_both (not (is_among d.ticket (cs ++ c ∷ []))) (are_apart (cs ++ c ∷ []))
+    (ap not (unamong-push d.ticket cs c (not_true (is_among d.ticket cs) parts.0) (eq_sym c.ticket d.ticket ∙ news.0)))
+    (apart-push cs c parts.1 news.1)
+
+pub unamong-filter : (p : Command → Bool) (k : ℕ) (cs : List Command) → is_among k cs ≡ false → is_among k (filter p cs) ≡ false
+unamong-filter p k [] h = refl
+unamong-filter p k (c ∷ cs) h =
+    let parts = or_none (c.ticket == k) (is_among k cs) h in
+    elim (p c) as (λ v. is_among k (cond v (c ∷ filter p cs) (filter p cs)) ≡ false) [
+      | true ↦ ap (λ b. b || is_among k (filter p cs)) parts.0 ∙ unamong-filter p k cs parts.1
+      | false ↦ unamong-filter p k cs parts.1
+    ]
+
+pub apart-filter : (p : Command → Bool) (cs : List Command) → are_apart cs ≡ true → are_apart (filter p cs) ≡ true
+apart-filter p [] h = refl
+apart-filter p (c ∷ cs) h =
+    let parts = and_parts (not (is_among c.ticket cs)) (are_apart cs) h in
+    elim (p c) as (λ v. are_apart (cond v (c ∷ filter p cs) (filter p cs)) ≡ true) [
+      | true ↦ and_both (not (is_among c.ticket (filter p cs))) (are_apart (filter p cs)) (ap not (unamong-filter p c.ticket cs (not_true (is_among c.ticket cs) parts.0))) (apart-filter p cs parts.1)
+      | false ↦ apart-filter p cs parts.1
+    ]
+
+pub kept_all : (k : ℕ) (cs : List Command) → is_among k cs ≡ false → filter (λ d. not (k == d.ticket)) cs ≡ cs
+kept_all k [] h = refl
+kept_all k (c ∷ cs) h =
+    let parts = or_none (c.ticket == k) (is_among k cs) h in
+    ap (λ b. cond (not b) (c ∷ filter (λ d. not (k == d.ticket)) cs) (filter (λ d. not (k == d.ticket)) cs)) (eq_sym k c.ticket ∙ parts.0) ∙ ap (λ ds. c ∷ ds) (kept_all k cs parts.1)
+
+-- one command fewer
+pub length-without : (k : ℕ) (cs : List Command) → are_apart cs ≡ true → is_among k cs ≡ true → length (filter (λ d. not (k == d.ticket)) cs) + 1 ≡ length cs
+length-without k [] apart h = absurd (false≢true h)
+length-without k (c ∷ cs) apart h =
+    let parts = and_parts (not (is_among c.ticket cs)) (are_apart cs) apart in
+    elim (k == c.ticket) as (λ b. (k == c.ticket) ≡ b → length (cond (not b) (c ∷ filter (λ d. not (k == d.ticket)) cs) (filter (λ d. not (k == d.ticket)) cs)) + 1 ≡ suc (length cs)) [
+      | true ↦ λ is.
+          let gone : is_among k cs ≡ false = ap (λ n. is_among n cs) (eqb-true k c.ticket is) ∙ not_true (is_among c.ticket cs) parts.0 in
+          omega (arith, ap length (kept_all k cs gone))
+      | false ↦ λ is.
+          let rest : is_among k cs ≡ true = sym (ap (λ b. b || is_among k cs) (eq_sym c.ticket k ∙ is)) ∙ h in
+          omega (arith, length-without k cs parts.1 rest)
+    ] refl

@@ -1,0 +1,321 @@
+-- Which commands were free at some moment, after one item more.
+use Rattle.std.proofs.Common.{◌≡◌, ℕ, zero, suc, ◌+◌, ◌<◌, ◌≤◌, ◌==◌, ◌&&◌, ◌||◌, not, ⊎_elim, cond, Bool, true, false, List, [], ◌∷◌, ◌++◌, map, filter, find, Some, option_map, refl, ap, sym, ◌∙◌, arith}
+use Rattle.std.specs.List.{list_any, list_all, filter_map, flat_map, range_with_len}
+use Rattle.std.proofs.lemmas.Bool.{cases_eq, false≢true, eqb-true}
+use Rattle.std.proofs.lemmas.Bool.Decides.{nat_tests}
+use Rattle.std.proofs.lemmas.List.{append-nil, map-append}
+use Rattle.std.proofs.lemmas.List.Elements.{filter-append}
+use Rattle.std.proofs.lemmas.List.Folds.{list_any-append}
+use Rattle.iscsi_tasks.specs.declared.member.Member.{Member}
+use Rattle.iscsi_tasks.specs.Sets.{Queued, bars, is_free, queued, is_free_among, looked_at, after_moment, is_new, next_in, given_in}
+use Rattle.iscsi_session.specs.declared.effect.Effect.{Effect}
+use Rattle.iscsi_session.specs.declared.effect.Effect.TheVariants.{Enable}
+use Rattle.iscsi_session.specs.Settings.{Setting}
+use Rattle.iscsi_session.specs.Trace.{Command, Mark, Trace, has, enters, entered, leaves_ticket, live, live_in, is_among, queued_of, is_free_at, was_free, enabled_in}
+use Rattle.iscsi_session.specs.Run.{newly_enabled}
+use Rattle.iscsi_session.specs.Standing.{task_of, member_of, set_of}
+use Rattle.iscsi_session.specs.Steps.{as_given, enable_effects, enable_effect}
+use Rattle.iscsi_session.proofs.ApartLemmas.{unamong-filter}
+use Rattle.iscsi_session.proofs.TraceLemmas.{and_both, or_none, all_among}
+use Rattle.iscsi_session.proofs.ListLemmas.{list_all-filter}
+
+and_parts : (a b : Bool) → (a && b) ≡ true → (a ≡ true) × (b ≡ true)
+and_parts true b h = (refl, h)
+and_parts false b h = absurd (false≢true h)
+
+or_second : (a b : Bool) → b ≡ true → (a || b) ≡ true
+or_second true b h = refl
+or_second false b h = h
+
+or_first : (a b : Bool) → a ≡ true → (a || b) ≡ true
+or_first true b h = refl
+or_first false b h = absurd (false≢true h)
+
+or_comm : (a b : Bool) → (a || b) ≡ (b || a)
+or_comm true true = refl
+or_comm true false = refl
+or_comm false true = refl
+or_comm false false = refl
+
+-- ---- lists
+
+-- functions that agree where a test passes
+pub map_all : {A B : Type 0} (f g : A → B) (p : A → Bool) (xs : List A) → list_all p xs ≡ true → ((x : A) → p x ≡ true → f x ≡ g x) → map f xs ≡ map g xs
+map_all f g p [] all same = refl
+map_all f g p (x ∷ xs) all same =
+    let parts = and_parts (p x) (list_all p xs) all in
+    ap (λ y. y ∷ map f xs) (same x parts.0) ∙ ap (λ ys. g x ∷ ys) (map_all f g p xs parts.1 same)
+
+pub filter_all : {A : Type 0} (f g : A → Bool) (p : A → Bool) (xs : List A) → list_all p xs ≡ true → ((x : A) → p x ≡ true → f x ≡ g x) → filter f xs ≡ filter g xs
+filter_all f g p [] all same = refl
+filter_all f g p (x ∷ xs) all same =
+    let parts = and_parts (p x) (list_all p xs) all in
+    ap (λ b. cond b (x ∷ filter f xs) (filter f xs)) (same x parts.0) ∙ ap (λ ys. cond (g x) (x ∷ ys) ys) (filter_all f g p xs parts.1 same)
+
+pub filter-none : {A : Type 0} (f : A → Bool) (xs : List A) → ((x : A) → f x ≡ false) → filter f xs ≡ []
+filter-none f [] none = refl
+filter-none f (x ∷ xs) none = ap (λ b. cond b (x ∷ filter f xs) (filter f xs)) (none x) ∙ filter-none f xs none
+
+pub filter-twice : {A : Type 0} (f g : A → Bool) (xs : List A) → filter f (filter g xs) ≡ filter (λ x. g x && f x) xs
+filter-twice f g [] = refl
+filter-twice f g (x ∷ xs) =
+    elim (g x) as (λ b. filter f (cond b (x ∷ filter g xs) (filter g xs)) ≡ cond (b && f x) (x ∷ filter (λ y. g y && f y) xs) (filter (λ y. g y && f y) xs)) [
+      | true ↦ ap (λ ys. cond (f x) (x ∷ ys) ys) (filter-twice f g xs)
+      | false ↦ filter-twice f g xs
+    ]
+
+pub filter-map : {A B : Type 0} (p : B → Bool) (f : A → B) (xs : List A) → filter p (map f xs) ≡ map f (filter (λ x. p (f x)) xs)
+filter-map p f [] = refl
+filter-map p f (x ∷ xs) =
+    elim (p (f x)) as (λ b. cond b (f x ∷ filter p (map f xs)) (filter p (map f xs)) ≡ map f (cond b (x ∷ filter (λ y. p (f y)) xs) (filter (λ y. p (f y)) xs))) [
+      | true ↦ ap (λ ys. f x ∷ ys) (filter-map p f xs)
+      | false ↦ filter-map p f xs
+    ]
+
+pub map-map : {A B C : Type 0} (g : B → C) (f : A → B) (xs : List A) → map g (map f xs) ≡ map (λ x. g (f x)) xs
+map-map g f [] = refl
+map-map g f (x ∷ xs) = ap (λ ys. g (f x) ∷ ys) (map-map g f xs)
+
+all_of_filter : {A : Type 0} (p : A → Bool) (xs : List A) → list_all p (filter p xs) ≡ true
+all_of_filter p [] = refl
+all_of_filter p (x ∷ xs) =
+    elim (p x) as (λ b. p x ≡ b → list_all p (cond b (x ∷ filter p xs) (filter p xs)) ≡ true) [
+      | true ↦ λ is. and_both (p x) (list_all p (filter p xs)) is (all_of_filter p xs)
+      | false ↦ λ is. all_of_filter p xs
+    ] refl
+
+pub both_all : {A : Type 0} (p q : A → Bool) (xs : List A) → list_all p xs ≡ true → list_all q xs ≡ true → list_all (λ x. p x && q x) xs ≡ true
+both_all p q [] h k = refl
+both_all p q (x ∷ xs) h k =
+    let a = and_parts (p x) (list_all p xs) h in
+    let b = and_parts (q x) (list_all q xs) k in
+    and_both (p x && q x) (list_all (λ y. p y && q y) xs) (and_both (p x) (q x) a.0 b.0) (both_all p q xs a.1 b.1)
+
+-- ---- the live commands of a unit
+
+abbrev pub is_here : ℕ → List Command → Command → Bool
+is_here unit here c = (c.unit == unit) && is_among c.ticket here
+
+-- each of them is in the unit and among them
+pub all_here : (unit : ℕ) (t : Trace) → list_all (is_here unit (live_in unit t)) (live_in unit t) ≡ true
+all_here unit t = both_all (λ c. c.unit == unit) (λ c. is_among c.ticket (live_in unit t)) (live_in unit t) (all_of_filter (λ (c : Command). c.unit == unit) (live t)) (all_among (live_in unit t))
+
+-- a command that never entered was never free
+pub never_free : (c : Command) (t : Trace) → is_among c.ticket (entered t) ≡ false → was_free c t ≡ false
+never_free c [] gone = refl
+never_free c (item ∷ t) gone =
+    let parts = or_none (is_among c.ticket (entered t)) (is_among c.ticket (filter_map enters item)) (sym (list_any-append (λ (d : Command). d.ticket == c.ticket) (entered t) (filter_map enters item)) ∙ gone) in
+    let out : is_among c.ticket (live_in c.unit (item ∷ t)) ≡ false = unamong-filter (λ (d : Command). d.unit == c.unit) c.ticket (live (item ∷ t)) (unamong-filter (λ (d : Command). not (has (leaves_ticket d.ticket) (item ∷ t))) c.ticket (entered (item ∷ t)) gone) in
+    ap (λ b. (b && is_free (queued_of c) (map queued_of (live_in c.unit (item ∷ t)))) || was_free c t) out ∙ never_free c t parts.0
+
+-- one that is in its set and free now was free at some moment so far
+free_now : (c : Command) (t : Trace) → is_free_at c t ≡ true → was_free c t ≡ true
+free_now c [] h = absurd (false≢true h)
+free_now c (item ∷ t) h = or_first (is_free_at c (item ∷ t)) (was_free c t) h
+
+-- who is free among more is free among fewer
+free_among_fewer : (q : Queued) (xs ys : List Queued) → is_free q (xs ++ ys) ≡ true → is_free q xs ≡ true
+free_among_fewer q xs ys h = ap not (or_none (list_any (bars q) xs) (list_any (bars q) ys) (sym (list_any-append (bars q) xs ys) ∙ not_true (list_any (bars q) (xs ++ ys)) h)).0
+  where
+    not_true : (b : Bool) → not b ≡ true → b ≡ false
+    not_true true k = absurd (false≢true k)
+    not_true false k = refl
+
+-- nothing changes for a command of a unit that others enter, or that nothing enters or leaves
+pub was_free-stays : (item : List Mark) (t : Trace) (unit : ℕ) (more : List Command) (c : Command) → live_in unit (item ∷ t) ≡ live_in unit t ++ more → is_here unit (live_in unit t) c ≡ true → was_free c (item ∷ t) ≡ was_free c t
+was_free-stays item t unit more c now here =
+    let parts = and_parts (c.unit == unit) (is_among c.ticket (live_in unit t)) here in
+    let at : live_in c.unit (item ∷ t) ≡ live_in unit t ++ more = ap (λ u. live_in u (item ∷ t)) (eqb-true c.unit unit parts.0) ∙ now in
+    let before : live_in c.unit t ≡ live_in unit t = ap (λ u. live_in u t) (eqb-true c.unit unit parts.0) in
+    elim (is_free_at c (item ∷ t)) as (λ b. is_free_at c (item ∷ t) ≡ b → (b || was_free c t) ≡ was_free c t) [
+      | false ↦ λ is. refl
+      | true ↦ λ is.
+          let free : is_free (queued_of c) (map queued_of (live_in unit t ++ more)) ≡ true = ap (λ cs. is_free (queued_of c) (map queued_of cs)) (sym at) ∙ (and_parts (is_among c.ticket (live_in c.unit (item ∷ t))) (is_free (queued_of c) (map queued_of (live_in c.unit (item ∷ t)))) is).1 in
+          let fewer : is_free (queued_of c) (map queued_of (live_in unit t)) ≡ true = free_among_fewer (queued_of c) (map queued_of (live_in unit t)) (map queued_of more) (ap (is_free (queued_of c)) (sym (map-append queued_of (live_in unit t) more)) ∙ free) in
+          let then : is_free_at c t ≡ true = and_both (is_among c.ticket (live_in c.unit t)) (is_free (queued_of c) (map queued_of (live_in c.unit t))) (ap (is_among c.ticket) before ∙ parts.1) (ap (λ cs. is_free (queued_of c) (map queued_of cs)) before ∙ fewer) in
+          sym (free_now c t then)
+    ] refl
+
+-- ---- a set, after a moment
+
+-- a command's member, before the moment is noted, and after
+noted_one : (o : Setting) (t : Trace) (item : List Mark) (unit : ℕ) (c : Command) → is_here unit (live_in unit (item ∷ t)) c ≡ true
+    → (was_free c t || is_free_among (task_of o c) (map (member_of o t) (live_in unit (item ∷ t)))) ≡ was_free c (item ∷ t)
+noted_one o t item unit c here =
+    let parts = and_parts (c.unit == unit) (is_among c.ticket (live_in unit (item ∷ t))) here in
+    let cs : List Command = live_in unit (item ∷ t) in
+    let at : live_in c.unit (item ∷ t) ≡ cs = ap (λ u. live_in u (item ∷ t)) (eqb-true c.unit unit parts.0) in
+    ap (λ qs. was_free c t || is_free (queued_of c) qs) (map-map (λ (m : Member). queued m.task) (member_of o t) cs)
+    ∙ or_comm (was_free c t) (is_free (queued_of c) (map queued_of cs))
+    ∙ ap (λ b. (b && is_free (queued_of c) (map queued_of cs)) || was_free c t) (sym parts.1)
+    ∙ ap (λ ds. (is_among c.ticket ds && is_free (queued_of c) (map queued_of ds)) || was_free c t) (sym at)
+
+-- the set, as it is before the commands that became enabled are given
+pub noted : (o : Setting) (t : Trace) (item : List Mark) (unit : ℕ)
+    → after_moment (map (member_of o t) (live_in unit (item ∷ t))) ≡ map (λ c. record { task = task_of o c; enabled = was_free c (item ∷ t); given = was_free c t }) (live_in unit (item ∷ t))
+noted o t item unit =
+    let cs : List Command = live_in unit (item ∷ t) in
+    map-map (looked_at (map (member_of o t) cs)) (member_of o t) cs
+    ∙ map_all (λ c. looked_at (map (member_of o t) cs) (member_of o t c)) (λ c. record { task = task_of o c; enabled = was_free c (item ∷ t); given = was_free c t }) (is_here unit cs) cs (all_here unit (item ∷ t))
+    (λ c here. ap (λ b. let m : Member = record { task = task_of o c; enabled = b; given = was_free c t } in m) (noted_one o t item unit c here))
+
+was_before : (c : Command) (item : List Mark) (t : Trace) → (was_free c t || was_free c (item ∷ t)) ≡ was_free c (item ∷ t)
+was_before c item t = absorb (was_free c t) (is_free_at c (item ∷ t))
+  where
+    absorb : (a b : Bool) → (a || (b || a)) ≡ (b || a)
+    absorb true true = refl
+    absorb true false = refl
+    absorb false true = refl
+    absorb false false = refl
+
+-- once they are given, it is the set after the item
+pub noted_given : (o : Setting) (t : Trace) (item : List Mark) (unit : ℕ) → map as_given (after_moment (map (member_of o t) (live_in unit (item ∷ t)))) ≡ set_of o (item ∷ t) unit
+noted_given o t item unit =
+    let cs : List Command = live_in unit (item ∷ t) in
+    ap (map as_given) (noted o t item unit)
+    ∙ map-map as_given (λ c. record { task = task_of o c; enabled = was_free c (item ∷ t); given = was_free c t }) cs
+    ∙ map_all (λ c. as_given (record { task = task_of o c; enabled = was_free c (item ∷ t); given = was_free c t })) (member_of o (item ∷ t)) (λ c. true) cs (every cs) (λ c h. ap (λ b. let m : Member = record { task = task_of o c; enabled = was_free c (item ∷ t); given = b } in m) (was_before c item t))
+  where
+    every : (xs : List Command) → list_all (λ (c : Command). true) xs ≡ true
+    every [] = refl
+    every (x ∷ xs) = every xs
+
+-- the commands of a unit that an item enables
+abbrev pub new_in : Trace → List Mark → ℕ → List Command
+new_in t item unit = filter (λ c. not (was_free c t)) (enabled_in unit (item ∷ t))
+
+abbrev pub enables : List Command → List Effect
+enables cs = map (λ (c : Command). Enable c.ticket c.unit) cs
+
+-- the effects of the set are those of the definitions
+pub noted_effects : (o : Setting) (t : Trace) (item : List Mark) (unit : ℕ) → enable_effects unit (after_moment (map (member_of o t) (live_in unit (item ∷ t)))) ≡ enables (new_in t item unit)
+noted_effects o t item unit =
+    let cs : List Command = live_in unit (item ∷ t) in
+    let now : Command → Member = λ c. record { task = task_of o c; enabled = was_free c (item ∷ t); given = was_free c t } in
+    let new : Command → Bool = λ c. was_free c (item ∷ t) && not (was_free c t) in
+    ap (enable_effects unit) (noted o t item unit)
+    ∙ ap (map (λ (m : Member). Enable m.task.ticket unit)) (filter-map is_new now cs)
+    ∙ map-map (λ (m : Member). Enable m.task.ticket unit) now (filter new cs)
+    ∙ map_all (λ (c : Command). Enable c.ticket unit) (λ (c : Command). Enable c.ticket c.unit) (λ c. c.unit == unit) (filter new cs)
+    (list_all-filter new (λ c. c.unit == unit) cs (all_of_filter (λ (c : Command). c.unit == unit) (live (item ∷ t))))
+    (λ c here. ap (λ u. Enable c.ticket u) (sym (eqb-true c.unit unit here)))
+    ∙ ap enables (sym (filter-twice (λ c. not (was_free c t)) (λ c. was_free c (item ∷ t)) cs))
+
+-- ---- a unit that nothing leaves
+
+-- its commands of before are as they were
+pub set_of-stays : (o : Setting) (item : List Mark) (t : Trace) (unit : ℕ) (more : List Command) → live_in unit (item ∷ t) ≡ live_in unit t ++ more → map (member_of o (item ∷ t)) (live_in unit t) ≡ set_of o t unit
+set_of-stays o item t unit more now =
+    map_all (member_of o (item ∷ t)) (member_of o t) (is_here unit (live_in unit t)) (live_in unit t) (all_here unit t)
+    (λ c here. ap (λ b. let m : Member = record { task = task_of o c; enabled = b; given = b } in m) (was_free-stays item t unit more c now here))
+
+-- none of them is newly enabled
+none_of_before : (item : List Mark) (t : Trace) (unit : ℕ) (more : List Command) → live_in unit (item ∷ t) ≡ live_in unit t ++ more → filter (λ c. was_free c (item ∷ t) && not (was_free c t)) (live_in unit t) ≡ []
+none_of_before item t unit more now =
+    filter_all (λ c. was_free c (item ∷ t) && not (was_free c t)) (λ c. false) (is_here unit (live_in unit t)) (live_in unit t) (all_here unit t)
+    (λ c here. ap (λ b. b && not (was_free c t)) (was_free-stays item t unit more c now here) ∙ never (was_free c t))
+    ∙ filter-none (λ (c : Command). false) (live_in unit t) (λ c. refl)
+  where
+    never : (b : Bool) → (b && not b) ≡ false
+    never true = refl
+    never false = refl
+
+pub new_in-more : (item : List Mark) (t : Trace) (unit : ℕ) (more : List Command) → live_in unit (item ∷ t) ≡ live_in unit t ++ more → new_in t item unit ≡ filter (λ c. was_free c (item ∷ t) && not (was_free c t)) more
+new_in-more item t unit more now =
+    let new : Command → Bool = λ c. was_free c (item ∷ t) && not (was_free c t) in
+    filter-twice (λ c. not (was_free c t)) (λ c. was_free c (item ∷ t)) (live_in unit (item ∷ t))
+    ∙ ap (filter new) now
+    ∙ filter-append new (live_in unit t) more
+    ∙ ap (λ cs. cs ++ filter new more) (none_of_before item t unit more now)
+
+pub new_in-none : (item : List Mark) (t : Trace) (unit : ℕ) → live_in unit (item ∷ t) ≡ live_in unit t → new_in t item unit ≡ []
+new_in-none item t unit now = new_in-more item t unit [] (now ∙ sym (append-nil (live_in unit t)))
+
+pub set_of-same : (o : Setting) (item : List Mark) (t : Trace) (unit : ℕ) → live_in unit (item ∷ t) ≡ live_in unit t → set_of o (item ∷ t) unit ≡ set_of o t unit
+set_of-same o item t unit now = ap (map (member_of o (item ∷ t))) now ∙ set_of-stays o item t unit [] (now ∙ sym (append-nil (live_in unit t)))
+
+-- ---- all units
+
+flat_map-none : {A : Type 0} (f : ℕ → List A) (from n : ℕ) → ((j : ℕ) → from ≤ j → f j ≡ []) → flat_map f (range_with_len from n) ≡ []
+flat_map-none f from zero none = refl
+flat_map-none f from (suc n) none = ap (λ ys. ys ++ flat_map f (range_with_len (from + 1) n)) (none from (omega arith)) ∙ flat_map-none f (from + 1) n (λ j le. none j (omega arith))
+
+flat_map-one : {A : Type 0} (f : ℕ → List A) (from n k : ℕ) → from ≤ k → k < from + n → ((j : ℕ) → (j == k) ≡ false → f j ≡ []) → flat_map f (range_with_len from n) ≡ f k
+flat_map-one f from zero k low high none = absurd (omega arith)
+flat_map-one f from (suc n) k low high none =
+    ⊎_elim
+    (λ here.
+    ap (λ ys. f from ++ ys) (flat_map-none f (from + 1) n (λ j le. none j (let no : (j == k) ≡ false = grind (arith, nat_tests) in no)))
+    ∙ append-nil (f from) ∙ ap f here)
+    (λ apart. ap (λ ys. ys ++ flat_map f (range_with_len (from + 1) n)) (none from (let no : (from == k) ≡ false = grind (arith, nat_tests) in no)) ∙ flat_map-one f (from + 1) n k (omega arith) (omega arith) none)
+    (cases_eq from k)
+
+-- an item that touches no unit enables nothing
+pub newly-none : (o : Setting) (item : List Mark) (t : Trace) → ((unit : ℕ) → live_in unit (item ∷ t) ≡ live_in unit t) → newly_enabled o t item ≡ []
+newly-none o item t same = flat_map-none (new_in t item) 0 o.units (λ unit le. new_in-none item t unit (same unit))
+
+-- one that touches a single unit enables commands of that one
+pub newly-one : (o : Setting) (item : List Mark) (t : Trace) (unit : ℕ) → unit < o.units → ((other : ℕ) → (other == unit) ≡ false → live_in other (item ∷ t) ≡ live_in other t) → newly_enabled o t item ≡ new_in t item unit
+newly-one o item t unit inside same = flat_map-one (new_in t item) 0 o.units unit (omega arith) (omega arith) (λ other apart. new_in-none item t other (same other apart))
+
+-- ---- a set that a command enters: only that one can be new
+
+given-past : (o : Setting) (t : Trace) (cs : List Command) (ms : List Member) → given_in (map (member_of o t) cs ++ ms) ≡ map (member_of o t) cs ++ given_in ms
+given-past o t [] ms = refl
+given-past o t (c ∷ cs) ms =
+    let rest : List Member = map (member_of o t) cs ++ ms in
+    ap (λ b. cond b (record { task = task_of o c; enabled = was_free c t; given = true } ∷ rest) (member_of o t c ∷ given_in rest)) (never (was_free c t))
+    ∙ ap (λ xs. member_of o t c ∷ xs) (given-past o t cs ms)
+  where
+    never : (b : Bool) → (b && not b) ≡ false
+    never true = refl
+    never false = refl
+
+next-past : (o : Setting) (t : Trace) (cs : List Command) (ms : List Member) → next_in (map (member_of o t) cs ++ ms) ≡ next_in ms
+next-past o t [] ms = refl
+next-past o t (c ∷ cs) ms =
+    ap (λ b. option_map (λ (m : Member). m.task.ticket) (cond b (Some (member_of o t c)) (find is_new (map (member_of o t) cs ++ ms)))) (never (was_free c t))
+    ∙ next-past o t cs ms
+  where
+    never : (b : Bool) → (b && not b) ≡ false
+    never true = refl
+    never false = refl
+
+pub record EnteredSet (o : Setting) (t : Trace) (item : List Mark) (c : Command) (list : List Member) : Type 0 where
+  pub given : given_in (after_moment list) ≡ set_of o (item ∷ t) c.unit
+  pub effects : enable_effect c.unit (next_in (after_moment list)) ≡ enables (new_in t item c.unit)
+
+pub set-entered : (o : Setting) (t : Trace) (item : List Mark) (c : Command) → live_in c.unit (item ∷ t) ≡ live_in c.unit t ++ c ∷ [] → was_free c t ≡ false
+    → EnteredSet o t item c (set_of o t c.unit ++ record { task = task_of o c; enabled = false; given = false } ∷ [])
+set-entered o t item c now new =
+    let before : List Command = live_in c.unit t in
+    let free : Bool = was_free c (item ∷ t) in
+    let newcomer : Member = record { task = task_of o c; enabled = free; given = false } in
+    let list_is : set_of o t c.unit ++ record { task = task_of o c; enabled = false; given = false } ∷ [] ≡ map (member_of o t) (live_in c.unit (item ∷ t)) =
+    ap (λ b. let m : Member = record { task = task_of o c; enabled = b; given = b } in set_of o t c.unit ++ m ∷ []) (sym new)
+    ∙ sym (map-append (member_of o t) before (c ∷ [])) ∙ ap (map (member_of o t)) (sym now) in
+    let mid : Command → Member = λ d. record { task = task_of o d; enabled = was_free d (item ∷ t); given = was_free d t } in
+    let old : map mid before ≡ set_of o t c.unit =
+    map_all mid (member_of o t) (is_here c.unit before) before (all_here c.unit t)
+    (λ d here. ap (λ b. let m : Member = record { task = task_of o d; enabled = b; given = was_free d t } in m) (was_free-stays item t c.unit (c ∷ []) d now here)) in
+    let moment : after_moment (set_of o t c.unit ++ record { task = task_of o c; enabled = false; given = false } ∷ []) ≡ set_of o t c.unit ++ newcomer ∷ [] =
+    ap after_moment list_is ∙ noted o t item c.unit ∙ ap (map mid) now ∙ map-append mid before (c ∷ [])
+    ∙ ap (λ ms. ms ++ mid c ∷ []) old ∙ ap (λ b. let m : Member = record { task = task_of o c; enabled = free; given = b } in set_of o t c.unit ++ m ∷ []) new in
+    record {
+      given = ap given_in moment ∙ given-past o t before (newcomer ∷ [])
+          ∙ ap (λ ms. set_of o t c.unit ++ ms) (given_one free)
+          ∙ ap (λ ms. ms ++ member_of o (item ∷ t) c ∷ []) (sym (set_of-stays o item t c.unit (c ∷ []) now))
+          ∙ sym (map-append (member_of o (item ∷ t)) before (c ∷ [])) ∙ ap (map (member_of o (item ∷ t))) (sym now);
+      effects = ap (λ ms. enable_effect c.unit (next_in ms)) moment ∙ ap (enable_effect c.unit) (next-past o t before (newcomer ∷ []))
+          ∙ effect_one free
+          ∙ ap (λ b. enables (cond (free && not b) (c ∷ []) [])) (sym new)
+          ∙ ap enables (sym (new_in-more item t c.unit (c ∷ []) now));
+    }
+  where
+    given_one : (b : Bool) → given_in (record { task = task_of o c; enabled = b; given = false } ∷ []) ≡ record { task = task_of o c; enabled = b; given = b } ∷ []
+    given_one true = refl
+    given_one false = refl
+
+    effect_one : (b : Bool) → enable_effect c.unit (next_in (record { task = task_of o c; enabled = b; given = false } ∷ [])) ≡ enables (cond (b && not false) (c ∷ []) [])
+    effect_one true = refl
+    effect_one false = refl

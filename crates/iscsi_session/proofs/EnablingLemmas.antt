@@ -1,0 +1,397 @@
+-- The commands that the effects show as enabled are those that the rule enables, after one item more.
+use Rattle.std.proofs.Common.{◌≡◌, ◌↔◌, ℕ, ◌+◌, ◌<◌, ◌==◌, ◌&&◌, ◌||◌, not, cond, Bool, true, false, List, [], ◌∷◌, ◌++◌, filter, Some, refl, ap, sym, ◌∙◌, arith, eq-eqb, append_assoc}
+use Rattle.std.specs.List.{list_any, list_all, flat_map}
+use Rattle.std.proofs.lemmas.Bool.{false≢true, eqb-true}
+use Rattle.std.proofs.lemmas.List.{append-nil}
+use Rattle.std.proofs.lemmas.List.Folds.{list_any-append}
+use Rattle.iscsi_session.specs.declared.effect.Effect.TheVariants.{Enable}
+use Rattle.iscsi_session.specs.declared.event.Event.{Event}
+use Rattle.iscsi_session.specs.declared.session.Live.{Live}
+use Rattle.iscsi_session.specs.Settings.{Setting}
+use Rattle.iscsi_session.specs.Trace.{Command, Mark, Admits, Delivers, Leaves, Enters, Sends, Ignores, Trace, after_items, has, entered, leaves_ticket, live, live_in, is_among, first_of, is_free_at, was_free}
+use Rattle.iscsi_session.specs.Agenda.{items_of}
+use Rattle.iscsi_session.specs.Run.{after_event, after_events, effects_of_mark, newly_enabled, effects_of_item, effects_of, entries_from}
+use Rattle.iscsi_session.specs.Enabling.{effects_so_far, is_enable, is_leave, is_shown_enabled, is_enabled, FreeMoment, EnabledSoFar, effects_in}
+use Rattle.iscsi_session.specs.Standing.{CommandsAgree}
+use Rattle.iscsi_session.proofs.ApartLemmas.{eq_sym}
+use Rattle.iscsi_session.proofs.ListLemmas.{list_any-map}
+use Rattle.iscsi_session.proofs.TraceLemmas.{and_both, weaker}
+use Rattle.iscsi_session.proofs.EnabledLemmas.{enables, is_here, was_free-stays, new_in-more, newly-one, filter-twice}
+use Rattle.iscsi_session.proofs.CommandParts.{Untouched, live-untouched, live_in-untouched, EntersOne, live-entered, live_in-entered, live_in-elsewhere, LeavesOne, live-left, live_in-left_elsewhere, none_any}
+use Rattle.iscsi_session.proofs.SetParts.{newly-untouched}
+
+-- ---- what an item shows
+
+enabled_marks : (o : Setting) (t : Trace) (k : ℕ) (item : List Mark) → list_any (is_enable k) (flat_map (effects_of_mark o t) item) ≡ false
+enabled_marks o t k [] = refl
+enabled_marks o t k (Admits a ∷ ms) = enabled_marks o t k ms
+enabled_marks o t k (Delivers a ∷ ms) = enabled_marks o t k ms
+enabled_marks o t k (Leaves c ∷ ms) = enabled_marks o t k ms
+enabled_marks o t k (Enters c ∷ ms) = enabled_marks o t k ms
+enabled_marks o t k (Sends conn reply ∷ ms) = enabled_marks o t k ms
+enabled_marks o t k (Ignores why ∷ ms) = enabled_marks o t k ms
+
+left_marks : (o : Setting) (t : Trace) (k : ℕ) (item : List Mark) → list_any (is_leave k) (flat_map (effects_of_mark o t) item) ≡ list_any (leaves_ticket k) item
+left_marks o t k [] = refl
+left_marks o t k (Admits a ∷ ms) = left_marks o t k ms
+left_marks o t k (Delivers a ∷ ms) = left_marks o t k ms
+left_marks o t k (Leaves c ∷ ms) = ap (λ b. (c.ticket == k) || b) (left_marks o t k ms)
+left_marks o t k (Enters c ∷ ms) = left_marks o t k ms
+left_marks o t k (Sends conn reply ∷ ms) = left_marks o t k ms
+left_marks o t k (Ignores why ∷ ms) = left_marks o t k ms
+
+no_leave : (k : ℕ) (cs : List Command) → list_any (is_leave k) (enables cs) ≡ false
+no_leave k [] = refl
+no_leave k (c ∷ cs) = no_leave k cs
+
+or_false : (b : Bool) → (b || false) ≡ b
+or_false true = refl
+or_false false = refl
+
+or_comm : (a b : Bool) → (a || b) ≡ (b || a)
+or_comm true true = refl
+or_comm true false = refl
+or_comm false true = refl
+or_comm false false = refl
+
+item_enables : (o : Setting) (t : Trace) (item : List Mark) (k : ℕ) → list_any (is_enable k) (effects_of_item o t item) ≡ is_among k (newly_enabled o t item)
+item_enables o t item k =
+    list_any-append (is_enable k) (flat_map (effects_of_mark o t) item) (enables (newly_enabled o t item))
+    ∙ ap (λ b. b || list_any (is_enable k) (enables (newly_enabled o t item))) (enabled_marks o t k item)
+    ∙ list_any-map (is_enable k) (λ (c : Command). Enable c.ticket c.unit) (newly_enabled o t item)
+
+item_leaves : (o : Setting) (t : Trace) (item : List Mark) (k : ℕ) → list_any (is_leave k) (effects_of_item o t item) ≡ list_any (leaves_ticket k) item
+item_leaves o t item k =
+    list_any-append (is_leave k) (flat_map (effects_of_mark o t) item) (enables (newly_enabled o t item))
+    ∙ ap (λ b. list_any (is_leave k) (flat_map (effects_of_mark o t) item) || b) (no_leave k (newly_enabled o t item))
+    ∙ or_false (list_any (is_leave k) (flat_map (effects_of_mark o t) item)) ∙ left_marks o t k item
+
+-- the commands that left, by the effects, are those of the marks
+left_so_far : (o : Setting) (t : Trace) (k : ℕ) → list_any (is_leave k) (effects_so_far o t) ≡ has (leaves_ticket k) t
+left_so_far o [] k = refl
+left_so_far o (item ∷ t) k =
+    list_any-append (is_leave k) (effects_so_far o t) (effects_of_item o t item)
+    ∙ ap (λ b. b || list_any (is_leave k) (effects_of_item o t item)) (left_so_far o t k)
+    ∙ ap (λ b. has (leaves_ticket k) t || b) (item_leaves o t item k)
+    ∙ or_comm (has (leaves_ticket k) t) (list_any (leaves_ticket k) item)
+
+abbrev enabled_once : Setting → Trace → ℕ → Bool
+enabled_once o t k = list_any (is_enable k) (effects_so_far o t)
+
+-- what is shown after an item, by what was shown before
+shown-item : (o : Setting) (t : Trace) (item : List Mark) (k : ℕ) → is_shown_enabled k (effects_so_far o (item ∷ t)) ≡ ((enabled_once o t k || is_among k (newly_enabled o t item)) && not (list_any (leaves_ticket k) item || has (leaves_ticket k) t))
+shown-item o t item k =
+    ap (λ b. list_any (is_enable k) (effects_so_far o (item ∷ t)) && not b) (left_so_far o (item ∷ t) k)
+    ∙ ap (λ b. b && not (has (leaves_ticket k) (item ∷ t))) (list_any-append (is_enable k) (effects_so_far o t) (effects_of_item o t item) ∙ ap (λ b. enabled_once o t k || b) (item_enables o t item k))
+
+shown-before : (o : Setting) (t : Trace) (k : ℕ) → is_shown_enabled k (effects_so_far o t) ≡ (enabled_once o t k && not (has (leaves_ticket k) t))
+shown-before o t k = ap (λ b. enabled_once o t k && not b) (left_so_far o t k)
+
+-- ---- the live commands
+
+any_all : {A : Type 0} (f g p : A → Bool) (xs : List A) → list_all p xs ≡ true → ((x : A) → p x ≡ true → f x ≡ g x) → list_any f xs ≡ list_any g xs
+any_all f g p [] all same = refl
+any_all f g p (x ∷ xs) all same =
+    let parts = and_parts (p x) (list_all p xs) all in
+    ap (λ b. b || list_any f xs) (same x parts.0) ∙ ap (λ b. g x || b) (any_all f g p xs parts.1 same)
+  where
+    and_parts : (a b : Bool) → (a && b) ≡ true → (a ≡ true) × (b ≡ true)
+    and_parts true b h = (refl, h)
+    and_parts false b h = absurd (false≢true h)
+
+-- each is among those of its unit
+all_in_unit : (cs : List Command) → list_all (λ (c : Command). is_here c.unit (filter (λ (d : Command). d.unit == c.unit) cs) c) cs ≡ true
+all_in_unit [] = refl
+all_in_unit (x ∷ cs) =
+    and_both (is_here x.unit (filter (λ (d : Command). d.unit == x.unit) (x ∷ cs)) x) (list_all (λ (c : Command). is_here c.unit (filter (λ (d : Command). d.unit == c.unit) (x ∷ cs)) c) cs)
+    (ap (λ b. b && is_among x.ticket (cond b (x ∷ filter (λ (d : Command). d.unit == x.unit) cs) (filter (λ (d : Command). d.unit == x.unit) cs))) (eq-eqb x.unit x.unit refl) ∙ ap (λ b. b || is_among x.ticket (filter (λ (d : Command). d.unit == x.unit) cs)) (eq-eqb x.ticket x.ticket refl))
+    (weaker (λ (c : Command). is_here c.unit (filter (λ (d : Command). d.unit == c.unit) cs) c) (λ (c : Command). is_here c.unit (filter (λ (d : Command). d.unit == c.unit) (x ∷ cs)) c) cs grows (all_in_unit cs))
+  where
+    or_second : (a b : Bool) → b ≡ true → (a || b) ≡ true
+    or_second true b h = refl
+    or_second false b h = h
+
+    grows : (c : Command) → is_here c.unit (filter (λ (d : Command). d.unit == c.unit) cs) c ≡ true → is_here c.unit (filter (λ (d : Command). d.unit == c.unit) (x ∷ cs)) c ≡ true
+    grows c h =
+        elim (x.unit == c.unit) as (λ b. ((c.unit == c.unit) && is_among c.ticket (cond b (x ∷ filter (λ (d : Command). d.unit == c.unit) cs) (filter (λ (d : Command). d.unit == c.unit) cs))) ≡ true) [
+          | true ↦ more (c.unit == c.unit) (x.ticket == c.ticket) (is_among c.ticket (filter (λ (d : Command). d.unit == c.unit) cs)) h
+          | false ↦ h
+        ]
+      where
+        more : (a b e : Bool) → (a && e) ≡ true → (a && (b || e)) ≡ true
+        more true b e k = or_second b e k
+        more false b e k = absurd (false≢true k)
+
+-- nothing that left is live
+left_unlive : (t : Trace) (k : ℕ) → has (leaves_ticket k) t ≡ true → is_among k (live t) ≡ false
+left_unlive t k left = none (entered t)
+  where
+    none : (cs : List Command) → is_among k (filter (λ (c : Command). not (has (leaves_ticket c.ticket) t)) cs) ≡ false
+    none [] = refl
+    none (c ∷ cs) =
+        elim (c.ticket == k) as (λ b. (c.ticket == k) ≡ b → is_among k (filter (λ (d : Command). not (has (leaves_ticket d.ticket) t)) (c ∷ cs)) ≡ false) [
+          | true ↦ λ is. ap (λ b. is_among k (cond (not b) (c ∷ filter (λ (d : Command). not (has (leaves_ticket d.ticket) t)) cs) (filter (λ (d : Command). not (has (leaves_ticket d.ticket) t)) cs))) (ap (λ n. has (leaves_ticket n) t) (eqb-true c.ticket k is) ∙ left) ∙ none cs
+          | false ↦ λ is. elim (has (leaves_ticket c.ticket) t) as (λ b. is_among k (cond (not b) (c ∷ filter (λ (d : Command). not (has (leaves_ticket d.ticket) t)) cs) (filter (λ (d : Command). not (has (leaves_ticket d.ticket) t)) cs)) ≡ false) [
+            | true ↦ none cs
+            | false ↦ ap (λ b. b || is_among k (filter (λ (d : Command). not (has (leaves_ticket d.ticket) t)) cs)) is ∙ none cs
+          ]
+        ] refl
+
+-- ---- an item that nothing enters or leaves by
+
+abbrev Exact : Setting → Trace → Type 0
+Exact o t = (k : ℕ) → is_shown_enabled k (effects_so_far o t) ≡ is_enabled k t
+
+same_enabled : (item : List Mark) (t : Trace) (k : ℕ) (more : ℕ → List Command) → ((unit : ℕ) → live_in unit (item ∷ t) ≡ live_in unit t ++ more unit)
+    → list_any (λ c. c.ticket == k && was_free c (item ∷ t)) (live t) ≡ is_enabled k t
+same_enabled item t k more now =
+    any_all (λ c. c.ticket == k && was_free c (item ∷ t)) (λ c. c.ticket == k && was_free c t) (λ c. is_here c.unit (live_in c.unit t) c) (live t) (all_in_unit (live t))
+    (λ c here. ap (λ b. c.ticket == k && b) (was_free-stays item t c.unit (more c.unit) c (now c.unit) here))
+
+exact-untouched : (o : Setting) (item : List Mark) (t : Trace) → Untouched item → Exact o t → Exact o (item ∷ t)
+exact-untouched o item t u x k =
+    shown-item o t item k
+    ∙ ap (λ cs. (enabled_once o t k || is_among k cs) && not (list_any (leaves_ticket k) item || has (leaves_ticket k) t)) (newly-untouched o t item u)
+    ∙ ap (λ b. (enabled_once o t k || false) && not (b || has (leaves_ticket k) t)) (u.leaves_no k)
+    ∙ ap (λ b. b && not (has (leaves_ticket k) t)) (or_false (enabled_once o t k))
+    ∙ sym (shown-before o t k) ∙ x k
+    ∙ sym (same_enabled item t k (λ unit. []) (λ unit. live_in-untouched item t u unit ∙ sym (append-nil (live_in unit t))))
+    ∙ ap (list_any (λ c. c.ticket == k && was_free c (item ∷ t))) (sym (live-untouched item t u))
+
+-- ---- a command enters
+
+exact-entered : (o : Setting) (lives : List Live) (n : ℕ) (item : List Mark) (t : Trace) (c : Command) → CommandsAgree o lives n t → EntersOne item t c → c.unit < o.units → was_free c t ≡ false → Exact o t → Exact o (item ∷ t)
+exact-entered o lives n item t c a e inside new x k =
+    let free : Bool = was_free c (item ∷ t) in
+    let newly : newly_enabled o t item ≡ filter (λ d. was_free d (item ∷ t) && not (was_free d t)) (c ∷ []) =
+    newly-one o item t c.unit inside (live_in-elsewhere o lives n item t c a e) ∙ new_in-more item t c.unit (c ∷ []) (live_in-entered o lives n item t c a e) in
+    shown-item o t item k
+    ∙ ap (λ cs. (enabled_once o t k || is_among k cs) && not (list_any (leaves_ticket k) item || has (leaves_ticket k) t)) newly
+    ∙ ap (λ b. (enabled_once o t k || is_among k (cond (free && not b) (c ∷ []) [])) && not (list_any (leaves_ticket k) item || has (leaves_ticket k) t)) new
+    ∙ ap (λ b. (enabled_once o t k || is_among k (cond (free && true) (c ∷ []) [])) && not (b || has (leaves_ticket k) t)) (e.leaves_no k)
+    ∙ by_ticket (c.ticket == k) refl (enabled_once o t k) free
+    ∙ ap (λ b. b || ((c.ticket == k) && free)) (sym (shown-before o t k) ∙ x k ∙ sym (same_enabled item t k more now))
+    ∙ ap (λ b. list_any (λ d. d.ticket == k && was_free d (item ∷ t)) (live t) || b) (sym (or_false ((c.ticket == k) && free)))
+    ∙ sym (list_any-append (λ (d : Command). d.ticket == k && was_free d (item ∷ t)) (live t) (c ∷ []))
+    ∙ ap (list_any (λ d. d.ticket == k && was_free d (item ∷ t))) (sym (live-entered o lives n item t c a e))
+  where
+    more : ℕ → List Command
+    more unit = cond (unit == c.unit) (c ∷ []) []
+
+    now : (unit : ℕ) → live_in unit (item ∷ t) ≡ live_in unit t ++ more unit
+    now unit =
+        elim (unit == c.unit) as (λ b. (unit == c.unit) ≡ b → live_in unit (item ∷ t) ≡ live_in unit t ++ cond b (c ∷ []) []) [
+          | true ↦ λ is. let same : unit ≡ c.unit = eqb-true unit c.unit is in ap (λ u. live_in u (item ∷ t)) same ∙ live_in-entered o lives n item t c a e ∙ ap (λ u. live_in u t ++ c ∷ []) (sym same)
+          | false ↦ λ is. live_in-elsewhere o lives n item t c a e unit is ∙ sym (append-nil (live_in unit t))
+        ] refl
+
+    bools : (b was left free : Bool) → (b ≡ true → left ≡ false) → ((was || (free && b)) && not left) ≡ ((was && not left) || (b && free))
+    bools true was true free h = absurd (false≢true (sym (h refl)))
+    bools true true false free h = refl
+    bools true false false true h = refl
+    bools true false false false h = refl
+    bools false was left true h = ap (λ v. v && not left) (or_false was) ∙ sym (or_false (was && not left))
+    bools false was left false h = ap (λ v. v && not left) (or_false was) ∙ sym (or_false (was && not left))
+
+    among_one : (f : Bool) → is_among k (cond (f && true) (c ∷ []) []) ≡ (f && (c.ticket == k))
+    among_one true = or_false (c.ticket == k)
+    among_one false = refl
+
+    by_ticket : (b : Bool) → (c.ticket == k) ≡ b → (was free : Bool) → ((was || is_among k (cond (free && true) (c ∷ []) [])) && not (has (leaves_ticket k) t)) ≡ ((was && not (has (leaves_ticket k) t)) || ((c.ticket == k) && free))
+    by_ticket b is was free =
+        ap (λ v. (was || v) && not (has (leaves_ticket k) t)) (among_one free)
+        ∙ bools (c.ticket == k) was (has (leaves_ticket k) t) free (λ same. ap (λ m. has (leaves_ticket m) t) (sym (eqb-true c.ticket k same)) ∙ a.unleft c.ticket (omega (arith, e.ticket)))
+
+-- ---- a command leaves
+
+abbrev is_new : List Mark → Trace → Command → Bool
+is_new item t c = was_free c (item ∷ t) && not (was_free c t)
+
+any_or : {A : Type 0} (f g h : A → Bool) (xs : List A) → ((x : A) → f x ≡ (g x || h x)) → list_any f xs ≡ (list_any g xs || list_any h xs)
+any_or f g h [] same = refl
+any_or f g h (x ∷ xs) same = ap (λ b. b || list_any f xs) (same x) ∙ ap (λ b. (g x || h x) || b) (any_or f g h xs same) ∙ swap (g x) (h x) (list_any g xs) (list_any h xs)
+  where
+    swap : (a b c d : Bool) → ((a || b) || (c || d)) ≡ ((a || c) || (b || d))
+    swap true b c d = refl
+    swap false true true d = refl
+    swap false true false d = refl
+    swap false false true d = refl
+    swap false false false d = refl
+
+any_filter : {A : Type 0} (f p : A → Bool) (xs : List A) → list_any f (filter p xs) ≡ list_any (λ x. p x && f x) xs
+any_filter f p [] = refl
+any_filter f p (x ∷ xs) =
+    elim (p x) as (λ b. list_any f (cond b (x ∷ filter p xs) (filter p xs)) ≡ ((b && f x) || list_any (λ y. p y && f y) xs)) [
+      | true ↦ ap (λ b. f x || b) (any_filter f p xs)
+      | false ↦ any_filter f p xs
+    ]
+
+-- one with another ticket doesn't matter
+any_without : (w : Command → Bool) (k gone : ℕ) (cs : List Command) → (gone == k) ≡ false → list_any (λ d. d.ticket == k && w d) (filter (λ d. not (gone == d.ticket)) cs) ≡ list_any (λ d. d.ticket == k && w d) cs
+any_without w k gone [] apart = refl
+any_without w k gone (x ∷ cs) apart =
+    elim (gone == x.ticket) as (λ b. (gone == x.ticket) ≡ b → list_any (λ d. d.ticket == k && w d) (cond (not b) (x ∷ filter (λ d. not (gone == d.ticket)) cs) (filter (λ d. not (gone == d.ticket)) cs)) ≡ ((x.ticket == k && w x) || list_any (λ d. d.ticket == k && w d) cs)) [
+      | true ↦ λ is. any_without w k gone cs apart ∙ ap (λ b. (b && w x) || list_any (λ d. d.ticket == k && w d) cs) (sym (ap (λ n. n == k) (sym (eqb-true gone x.ticket is)) ∙ apart))
+      | false ↦ λ is. ap (λ b. (x.ticket == k && w x) || b) (any_without w k gone cs apart)
+    ] refl
+
+none_gone : (k : ℕ) (cs : List Command) → is_among k (filter (λ d. not (k == d.ticket)) cs) ≡ false
+none_gone k [] = refl
+none_gone k (x ∷ cs) =
+    elim (k == x.ticket) as (λ b. (k == x.ticket) ≡ b → is_among k (cond (not b) (x ∷ filter (λ d. not (k == d.ticket)) cs) (filter (λ d. not (k == d.ticket)) cs)) ≡ false) [
+      | true ↦ λ is. none_gone k cs
+      | false ↦ λ is. ap (λ b. b || is_among k (filter (λ d. not (k == d.ticket)) cs)) (eq_sym x.ticket k ∙ is) ∙ none_gone k cs
+    ] refl
+
+was_or_new : (item : List Mark) (t : Trace) (d : Command) → was_free d (item ∷ t) ≡ (was_free d t || is_new item t d)
+was_or_new item t d = bools (is_free_at d (item ∷ t)) (was_free d t)
+  where
+    bools : (f g : Bool) → (f || g) ≡ (g || ((f || g) && not g))
+    bools true true = refl
+    bools true false = refl
+    bools false true = refl
+    bools false false = refl
+
+exact-left : (o : Setting) (lives : List Live) (n : ℕ) (item : List Mark) (t : Trace) (p : Command → Bool) (c : Command) → CommandsAgree o lives n t → LeavesOne item c → c.unit < o.units → ((d : Command) → p d ≡ true → (d.ticket == c.ticket) ≡ true) → first_of (filter p (live t)) ≡ Some c → Exact o t → Exact o (item ∷ t)
+exact-left o lives n item t p c a l inside test found x k =
+    shown-item o t item k
+    ∙ ap (λ b. (enabled_once o t k || is_among k (newly_enabled o t item)) && not (b || has (leaves_ticket k) t)) (l.one k)
+    ∙ by_ticket (c.ticket == k) refl
+    ∙ ap (list_any (λ d. d.ticket == k && was_free d (item ∷ t))) (sym (live-left item t c l))
+  where
+    rest : List Command
+    rest = filter (λ d. not (c.ticket == d.ticket)) (live t)
+
+    elsewhere : (other : ℕ) → (other == c.unit) ≡ false → live_in other (item ∷ t) ≡ live_in other t
+    elsewhere = live_in-left_elsewhere o lives n item t p c a l test found
+
+    -- only in its unit can others become enabled
+    new_here : (d : Command) → is_here d.unit (live_in d.unit (item ∷ t)) d ≡ true → ((d.unit == c.unit) && (is_new item t d && (d.ticket == k))) ≡ ((d.ticket == k) && is_new item t d)
+    new_here d here =
+        elim (d.unit == c.unit) as (λ b. (d.unit == c.unit) ≡ b → (b && (is_new item t d && (d.ticket == k))) ≡ ((d.ticket == k) && is_new item t d)) [
+          | true ↦ λ is. and_comm (is_new item t d) (d.ticket == k)
+          | false ↦ λ is.
+              let before : is_here d.unit (live_in d.unit t) d ≡ true = ap (λ cs. is_here d.unit cs d) (sym (elsewhere d.unit is)) ∙ here in
+              let same : was_free d (item ∷ t) ≡ was_free d t = was_free-stays item t d.unit [] d (elsewhere d.unit is ∙ sym (append-nil (live_in d.unit t))) before in
+              sym (ap (λ b. (d.ticket == k) && (b && not (was_free d t))) same ∙ never (d.ticket == k) (was_free d t))
+        ] refl
+      where
+        and_comm : (u v : Bool) → (u && v) ≡ (v && u)
+        and_comm true true = refl
+        and_comm true false = refl
+        and_comm false true = refl
+        and_comm false false = refl
+
+        never : (u v : Bool) → (u && (v && not v)) ≡ false
+        never true true = refl
+        never true false = refl
+        never false v = refl
+
+    newly_is : is_among k (newly_enabled o t item) ≡ list_any (λ d. d.ticket == k && is_new item t d) (live (item ∷ t))
+    newly_is =
+        ap (is_among k) (newly-one o item t c.unit inside elsewhere ∙ filter-twice (λ d. not (was_free d t)) (λ d. was_free d (item ∷ t)) (live_in c.unit (item ∷ t)))
+        ∙ any_filter (λ (d : Command). d.ticket == k) (is_new item t) (live_in c.unit (item ∷ t))
+        ∙ any_filter (λ d. is_new item t d && (d.ticket == k)) (λ (d : Command). d.unit == c.unit) (live (item ∷ t))
+        ∙ any_all (λ d. (d.unit == c.unit) && (is_new item t d && (d.ticket == k))) (λ d. d.ticket == k && is_new item t d) (λ d. is_here d.unit (live_in d.unit (item ∷ t)) d) (live (item ∷ t)) (all_in_unit (live (item ∷ t))) new_here
+
+    bools : (was new left : Bool) → (left ≡ true → new ≡ false) → ((was || new) && not left) ≡ ((was && not left) || new)
+    bools true new true h = sym (h refl)
+    bools true new false h = refl
+    bools false true true h = absurd (false≢true (sym (h refl)))
+    bools false true false h = refl
+    bools false false left h = refl
+
+    -- nothing that left before is new now
+    unnew : has (leaves_ticket k) t ≡ true → is_among k (newly_enabled o t item) ≡ false
+    unnew left = newly_is ∙ none_any (is_new item t) k (live (item ∷ t)) (left_unlive (item ∷ t) k (or_second (list_any (leaves_ticket k) item) (has (leaves_ticket k) t) left))
+      where
+        or_second : (u v : Bool) → v ≡ true → (u || v) ≡ true
+        or_second true v h = refl
+        or_second false v h = h
+
+    by_ticket : (b : Bool) → (c.ticket == k) ≡ b → ((enabled_once o t k || is_among k (newly_enabled o t item)) && not (b || has (leaves_ticket k) t)) ≡ list_any (λ d. d.ticket == k && was_free d (item ∷ t)) rest
+    by_ticket true is =
+        and_none (enabled_once o t k || is_among k (newly_enabled o t item))
+        ∙ sym (none_any (λ d. was_free d (item ∷ t)) k rest (ap (λ m. is_among k (filter (λ d. not (m == d.ticket)) (live t))) (eqb-true c.ticket k is) ∙ none_gone k (live t)))
+      where
+        and_none : (u : Bool) → (u && false) ≡ false
+        and_none true = refl
+        and_none false = refl
+    by_ticket false is =
+        bools (enabled_once o t k) (is_among k (newly_enabled o t item)) (has (leaves_ticket k) t) unnew
+        ∙ ap (λ b. b || is_among k (newly_enabled o t item)) (sym (shown-before o t k) ∙ x k ∙ sym (any_without (λ d. was_free d t) k c.ticket (live t) is))
+        ∙ ap (λ b. list_any (λ d. d.ticket == k && was_free d t) rest || b) (newly_is ∙ ap (list_any (λ d. d.ticket == k && is_new item t d)) (live-left item t c l))
+        ∙ sym (any_or (λ d. d.ticket == k && was_free d (item ∷ t)) (λ d. d.ticket == k && was_free d t) (λ d. d.ticket == k && is_new item t d) rest (λ d. ap (λ b. d.ticket == k && b) (was_or_new item t d) ∙ spread (d.ticket == k) (was_free d t) (is_new item t d)))
+      where
+        spread : (u v w : Bool) → (u && (v || w)) ≡ ((u && v) || (u && w))
+        spread true v w = refl
+        spread false v w = refl
+
+-- ---- each moment
+
+EnabledSoFar-more : (o : Setting) (item : List Mark) (t : Trace) → EnabledSoFar o t → Exact o (item ∷ t) → EnabledSoFar o (item ∷ t)
+EnabledSoFar-more o item t before now [] moment split ticket = ap (λ u. is_shown_enabled ticket (effects_so_far o u)) split ∙ now ticket ∙ ap (is_enabled ticket) (sym split)
+EnabledSoFar-more o item t before now (i ∷ later) moment split ticket = before later moment (let rest : later ++ moment ≡ t = cc in rest) ticket
+
+exact_now : (o : Setting) (t : Trace) → EnabledSoFar o t → Exact o t
+exact_now o t x = x [] t refl
+
+pub EnabledSoFar-none : (o : Setting) → EnabledSoFar o []
+EnabledSoFar-none o [] moment split ticket = ap (λ u. is_shown_enabled ticket (effects_so_far o u)) split ∙ sym (ap (is_enabled ticket) split)
+EnabledSoFar-none o (i ∷ later) moment split ticket = absurd cc
+
+pub EnabledSoFar-untouched : (o : Setting) (item : List Mark) (t : Trace) → Untouched item → EnabledSoFar o t → EnabledSoFar o (item ∷ t)
+EnabledSoFar-untouched o item t u x = EnabledSoFar-more o item t x (exact-untouched o item t u (exact_now o t x))
+
+pub EnabledSoFar-entered : (o : Setting) (lives : List Live) (n : ℕ) (item : List Mark) (t : Trace) (c : Command) → CommandsAgree o lives n t → EntersOne item t c → c.unit < o.units → was_free c t ≡ false → EnabledSoFar o t → EnabledSoFar o (item ∷ t)
+EnabledSoFar-entered o lives n item t c a e inside new x = EnabledSoFar-more o item t x (exact-entered o lives n item t c a e inside new (exact_now o t x))
+
+pub EnabledSoFar-left : (o : Setting) (lives : List Live) (n : ℕ) (item : List Mark) (t : Trace) (p : Command → Bool) (c : Command) → CommandsAgree o lives n t → LeavesOne item c → c.unit < o.units → ((d : Command) → p d ≡ true → (d.ticket == c.ticket) ≡ true) → first_of (filter p (live t)) ≡ Some c
+    → EnabledSoFar o t → EnabledSoFar o (item ∷ t)
+EnabledSoFar-left o lives n item t p c a l inside test found x = EnabledSoFar-more o item t x (exact-left o lives n item t p c a l inside test found (exact_now o t x))
+
+-- ---- the log
+
+items_effects : (o : Setting) (t : Trace) (items : List (List Mark)) → effects_so_far o (after_items items t) ≡ effects_so_far o t ++ effects_of o t items
+items_effects o t [] = sym (append-nil (effects_so_far o t))
+items_effects o t (item ∷ items) = items_effects o (item ∷ t) items ∙ append_assoc (effects_so_far o t) (effects_of_item o t item) (effects_of o (item ∷ t) items)
+
+pub log_effects : (o : Setting) (event : ℕ) (t : Trace) (h : List Event) → effects_so_far o (after_events o event t h) ≡ effects_so_far o t ++ effects_in (entries_from o event t h)
+log_effects o event t [] = sym (append-nil (effects_so_far o t))
+log_effects o event t (e ∷ h) =
+    log_effects o (event + 1) (after_event o event t e) h
+    ∙ ap (λ es. es ++ effects_in (entries_from o (event + 1) (after_event o event t e) h)) (items_effects o t (items_of o event t e))
+    ∙ append_assoc (effects_so_far o t) (effects_of o t (items_of o event t e)) (effects_in (entries_from o (event + 1) (after_event o event t e) h))
+
+-- ---- the rule
+
+or_cases : (a b : Bool) (P : Type 0) → (a ≡ true → P) → (b ≡ true → P) → (a || b) ≡ true → P
+or_cases true b P f g h = f refl
+or_cases false b P f g h = g h
+
+or_first : (a b : Bool) → a ≡ true → (a || b) ≡ true
+or_first true b h = refl
+or_first false b h = absurd (false≢true h)
+
+or_later : (a b : Bool) → b ≡ true → (a || b) ≡ true
+or_later true b h = refl
+or_later false b h = h
+
+moment_of : (c : Command) (t : Trace) → was_free c t ≡ true → FreeMoment c t
+moment_of c [] h = absurd (false≢true h)
+moment_of c (item ∷ t) h =
+    or_cases (is_free_at c (item ∷ t)) (was_free c t) (FreeMoment c (item ∷ t))
+    (λ now. record { later = []; moment = item ∷ t; split = refl; free = now })
+    (λ before. let m : FreeMoment c t = moment_of c t before in record { later = item ∷ m.later; moment = m.moment; split = ap (λ s. item ∷ s) m.split; free = m.free })
+    h
+
+free_here : (c : Command) (t : Trace) → is_free_at c t ≡ true → was_free c t ≡ true
+free_here c [] h = absurd (false≢true h)
+free_here c (item ∷ t) h = or_first (is_free_at c (item ∷ t)) (was_free c t) h
+
+free_since : (c : Command) (later moment : Trace) → is_free_at c moment ≡ true → was_free c (later ++ moment) ≡ true
+free_since c [] moment h = free_here c moment h
+free_since c (item ∷ later) moment h = or_later (is_free_at c (item ∷ later ++ moment)) (was_free c (later ++ moment)) (free_since c later moment h)
+
+pub rule_means : (c : Command) (t : Trace) → (was_free c t ≡ true) ↔ FreeMoment c t
+rule_means c t = (moment_of c t, λ m. ap (was_free c) (sym m.split) ∙ free_since c m.later m.moment m.free)

@@ -1,0 +1,148 @@
+-- Which requests are held, and which are due.
+use Rattle.std.proofs.Common.{◌≡◌, ℕ, zero, suc, ◌+◌, ◌-◌, ◌<◌, ◌==◌, ◌||◌, ◌⊎◌, inl, inr, ⊎_elim, cond, Bool, true, false, List, [], ◌∷◌, ◌++◌, Option, Some, None, option_map, refl, ap, sym, ◌∙◌, arith, eq-eqb}
+use Rattle.std.specs.List.{list_any, filter_map, flat_map, range_with_len, cons_option}
+use Rattle.std.proofs.lemmas.Bool.{false≢true, eqb-true}
+use Rattle.std.proofs.lemmas.List.{append-nil}
+use Rattle.iscsi_session.specs.Trace.{Arrival, Mark, Admits, Delivers, Leaves, Enters, Sends, Ignores, Trace, shown, first_of, is_received, is_delivered, held, admitted, admits_at, contains, number_received, delivers_number}
+use Rattle.iscsi_session.specs.Agenda.{due}
+use Rattle.iscsi_session.specs.Executed.{request_at}
+use Rattle.iscsi_session.proofs.TraceLemmas.{unadmitted, received-item}
+use Rattle.iscsi_session.proofs.DeliveryLemmas.{IsQuiet}
+
+-- ---- who was admitted at a number
+
+first_of-append : {A : Type 0} (xs ys : List A) (x : A) → first_of (xs ++ ys) ≡ Some x → (first_of xs ≡ Some x) ⊎ (first_of ys ≡ Some x)
+first_of-append [] ys x h = inr h
+first_of-append (z ∷ xs) ys x h = inl h
+
+mark_number : (n : ℕ) (m : Mark) (a : Arrival) → admits_at n m ≡ Some a → a.number ≡ n
+mark_number n (Admits b) a h =
+    elim (b.number == n) as (λ v. (b.number == n) ≡ v → cond v (Some b) None ≡ Some a → a.number ≡ n) [
+      | true ↦ λ is found. let same : b ≡ a = cc in ap (λ (x : Arrival). x.number) (sym same) ∙ eqb-true b.number n is
+      | false ↦ λ is found. absurd cc
+    ] refl h
+mark_number n (Delivers b) a h = absurd cc
+mark_number n (Leaves c) a h = absurd cc
+mark_number n (Enters c) a h = absurd cc
+mark_number n (Sends conn reply) a h = absurd cc
+mark_number n (Ignores why) a h = absurd cc
+
+cons_first : {A : Type 0} (x : Option A) (xs : List A) (y : A) → first_of (cons_option x xs) ≡ Some y → (x ≡ Some y) ⊎ (first_of xs ≡ Some y)
+cons_first None xs y h = inr h
+cons_first (Some x) xs y h = inl h
+
+item_number : (n : ℕ) (item : List Mark) (a : Arrival) → first_of (filter_map (admits_at n) item) ≡ Some a → a.number ≡ n
+item_number n [] a h = absurd cc
+item_number n (m ∷ ms) a h = ⊎_elim (λ here. mark_number n m a here) (λ later. item_number n ms a later) (cons_first (admits_at n m) (filter_map (admits_at n) ms) a h)
+
+pub admitted-number : (t : Trace) (n : ℕ) (a : Arrival) → admitted t n ≡ Some a → a.number ≡ n
+admitted-number [] n a h = absurd cc
+admitted-number (item ∷ t) n a h = ⊎_elim (λ before. admitted-number t n a before) (λ now. item_number n item a now) (first_of-append (shown (admits_at n) t) (filter_map (admits_at n) item) a h)
+
+-- a request that is held was admitted at its number
+pub held-number : (t : Trace) (n : ℕ) (a : Arrival) → held t n ≡ Some a → a.number ≡ n
+held-number t n a h =
+    elim (is_delivered t n) as (λ b. cond b None (admitted t n) ≡ Some a → a.number ≡ n) [
+      | true ↦ λ found. absurd cc
+      | false ↦ λ found. admitted-number t n a found
+    ] h
+
+-- and was admitted
+pub admitted_of_held : (t : Trace) (n : ℕ) (a : Arrival) → held t n ≡ Some a → admitted t n ≡ Some a
+admitted_of_held t n a h =
+    elim (is_delivered t n) as (λ b. cond b None (admitted t n) ≡ Some a → admitted t n ≡ Some a) [
+      | true ↦ λ found. absurd cc
+      | false ↦ λ found. found
+    ] h
+
+-- ---- one item more
+
+pub admitted-admits : (t : Trace) (a : Arrival) (n : ℕ) → (a.number == n) ≡ false → admitted ((Admits a ∷ []) ∷ t) n ≡ admitted t n
+admitted-admits t a n apart = ap (λ b. first_of (shown (admits_at n) t ++ cons_option (cond b (Some a) None) [])) apart ∙ ap first_of (append-nil (shown (admits_at n) t))
+
+pub held-admits : (t : Trace) (a : Arrival) (n : ℕ) → (a.number == n) ≡ false → held ((Admits a ∷ []) ∷ t) n ≡ held t n
+held-admits t a n apart = ap (λ x. cond (is_delivered t n) None x) (admitted-admits t a n apart)
+
+pub held-here : (t : Trace) (a : Arrival) → is_received t a.number ≡ false → is_delivered t a.number ≡ false → held ((Admits a ∷ []) ∷ t) a.number ≡ Some a
+held-here t a new undelivered =
+    ap (λ b. cond b None (admitted ((Admits a ∷ []) ∷ t) a.number)) undelivered
+    ∙ ap (λ xs. first_of (xs ++ cons_option (cond (a.number == a.number) (Some a) None) [])) (unadmitted a.number t new)
+    ∙ ap (λ b. first_of (cons_option (cond b (Some a) None) [])) (eq-eqb a.number a.number refl)
+
+-- a request's turn: others are held as before
+pub held-turned : (t : Trace) (a : Arrival) (ms : List Mark) (n : ℕ) → IsQuiet ms → (a.number == n) ≡ false → held ((Delivers a ∷ ms) ∷ t) n ≡ held t n
+held-turned t a ms n q apart =
+    ap (λ b. cond ((b || list_any (delivers_number n) ms) || is_delivered t n) None (admitted ((Delivers a ∷ ms) ∷ t) n)) apart
+    ∙ ap (λ b. cond (b || is_delivered t n) None (admitted ((Delivers a ∷ ms) ∷ t) n)) (q.delivers_no n)
+    ∙ ap (λ xs. cond (is_delivered t n) None (first_of (shown (admits_at n) t ++ xs))) (q.admits n)
+    ∙ ap (λ xs. cond (is_delivered t n) None (first_of xs)) (append-nil (shown (admits_at n) t))
+
+pub request_at-turned : (t : Trace) (a : Arrival) (ms : List Mark) (n : ℕ) → IsQuiet ms → request_at ((Delivers a ∷ ms) ∷ t) n ≡ request_at t n
+request_at-turned t a ms n q = ap (λ xs. option_map (λ (b : Arrival). b.request) (first_of (shown (admits_at n) t ++ xs))) (q.admits n) ∙ ap (λ xs. option_map (λ (b : Arrival). b.request) (first_of xs)) (append-nil (shown (admits_at n) t))
+
+-- ---- what is due
+
+pub list_of : Option Arrival → List Arrival
+list_of x = elim x [ Some a ↦ a ∷ [] | None ↦ [] ]
+
+pub due-more : (t : Trace) (e e' : ℕ) → e < e' → due t e e' ≡ elim (held t e) [ Some a ↦ a ∷ [] | None ↦ [] ] ++ due t (e + 1) e'
+due-more t e e' lt =
+    ap (λ n. flat_map (λ k. elim (held t k) [ Some a ↦ a ∷ [] | None ↦ [] ]) (range_with_len e n)) (let c : e' - e ≡ suc (e' - (e + 1)) = omega arith in c)
+
+pub due-none : (t : Trace) (e : ℕ) → due t e e ≡ []
+due-none t e = ap (λ n. flat_map (λ k. elim (held t k) [ Some a ↦ a ∷ [] | None ↦ [] ]) (range_with_len e n)) (let c : e - e ≡ zero = omega arith in c)
+
+-- who is admitted after an admission
+pub admitted-cases : (t : Trace) (a : Arrival) (n : ℕ) (b : Arrival) → admitted ((Admits a ∷ []) ∷ t) n ≡ Some b → (admitted t n ≡ Some b) ⊎ (a ≡ b)
+admitted-cases t a n b h =
+    ⊎_elim (λ before. inl before) (λ now. inr (this (a.number == n) now)) (first_of-append (shown (admits_at n) t) (filter_map (admits_at n) (Admits a ∷ [])) b h)
+  where
+    this : (v : Bool) → first_of (cons_option (cond v (Some a) None) []) ≡ Some b → a ≡ b
+    this true h = cc
+    this false h = absurd cc
+
+-- ---- what is received was admitted
+
+none_first : {A : Type 0} (xs : List A) → first_of xs ≡ None → xs ≡ []
+none_first [] h = refl
+none_first (x ∷ xs) h = absurd cc
+
+append_none : {A : Type 0} (xs ys : List A) → xs ++ ys ≡ [] → (xs ≡ []) × (ys ≡ [])
+append_none [] ys h = (refl, h)
+append_none (x ∷ xs) ys h = absurd cc
+
+cons_none : {A : Type 0} (x : Option A) (xs : List A) → cons_option x xs ≡ [] → (x ≡ None) × (xs ≡ [])
+cons_none None xs h = (refl, h)
+cons_none (Some x) xs h = absurd cc
+
+unreceived_mark : (n : ℕ) (m : Mark) (ms : List Mark) → admits_at n m ≡ None → contains (filter_map number_received ms) n ≡ false → contains (filter_map number_received (m ∷ ms)) n ≡ false
+unreceived_mark n (Admits a) ms none rest =
+    elim (a.number == n) as (λ b. cond b (Some a) None ≡ None → (b || contains (filter_map number_received ms) n) ≡ false) [
+      | true ↦ λ h. absurd cc
+      | false ↦ λ h. rest
+    ] none
+unreceived_mark n (Delivers a) ms none rest = rest
+unreceived_mark n (Leaves c) ms none rest = rest
+unreceived_mark n (Enters c) ms none rest = rest
+unreceived_mark n (Sends conn reply) ms none rest = rest
+unreceived_mark n (Ignores why) ms none rest = rest
+
+unreceived_item : (n : ℕ) (item : List Mark) → filter_map (admits_at n) item ≡ [] → contains (filter_map number_received item) n ≡ false
+unreceived_item n [] h = refl
+unreceived_item n (m ∷ ms) h =
+    let parts = cons_none (admits_at n m) (filter_map (admits_at n) ms) h in
+    unreceived_mark n m ms parts.0 (unreceived_item n ms parts.1)
+
+unreceived : (n : ℕ) (t : Trace) → shown (admits_at n) t ≡ [] → is_received t n ≡ false
+unreceived n [] h = refl
+unreceived n (item ∷ t) h =
+    let parts = append_none (shown (admits_at n) t) (filter_map (admits_at n) item) h in
+    received-item item t n ∙ ap (λ b. b || contains (filter_map number_received item) n) (unreceived n t parts.0) ∙ unreceived_item n item parts.1
+
+some_or_none : (x : Option Arrival) → ((a : Arrival) × (x ≡ Some a)) ⊎ (x ≡ None)
+some_or_none None = inr refl
+some_or_none (Some a) = inl (a, refl)
+
+pub received_admitted : (t : Trace) (n : ℕ) → is_received t n ≡ true → (a : Arrival) × (admitted t n ≡ Some a)
+received_admitted t n there =
+    ⊎_elim (λ some. some) (λ none. absurd (false≢true (sym (unreceived n t (none_first (shown (admits_at n) t) none)) ∙ there))) (some_or_none (admitted t n))

@@ -1,0 +1,137 @@
+-- What an offer and a completion change of what a session keeps.
+use Rattle.std.proofs.Common.{◌≡◌, ℕ, zero, suc, ◌+◌, ◌-◌, ◌<◌, ◌≤◌, ◌&&◌, not, cond, Bool, true, false, List, [], ◌∷◌, ◌++◌, length, filter, drop, find, get_or, set, Option, Some, None, option_map, is_some, refl, ap, sym, ◌∙◌, arith, nat_lt, nat_le, count_by}
+use Rattle.std.specs.List.{list_all}
+use Rattle.std.proofs.lemmas.Bool.{false≢true}
+use Rattle.std.proofs.lemmas.Bool.Decides.{nat_tests}
+use Rattle.std.proofs.lemmas.List.Sums.{sum_by-cons, sum_by-append}
+use Rattle.iscsi_session.specs.Standing.{is_held}
+use Rattle.iscsi_window.specs.declared.answer.Turned.{Turned}
+use Rattle.iscsi_wire.specs.declared.request.Request.{Request}
+use Rattle.iscsi_wire.specs.Serial.{wire, lift}
+use Rattle.iscsi_wire.specs.Fields.{cmd_sn}
+use Rattle.iscsi_window.specs.declared.answer.Offer.TheVariants.{Held, Duplicate as Known}
+use Rattle.iscsi_window.specs.declared.answer.Place.TheVariants.{Inside, Outside as NoPlace}
+use Rattle.iscsi_window.specs.Windows.{Received, number_expected, room_of, at_place, advanced, advanced_if, turned_by, offer_at, offer_to, received_at, offered_to, with_place}
+
+-- ---- counts
+
+pub few_counted : {A : Type 0} (p : A → Bool) (xs : List A) → count_by p xs ≤ length xs
+few_counted p [] = omega arith
+few_counted p (x ∷ xs) =
+    let is : count_by p (x ∷ xs) ≡ cond (p x) 1 0 + count_by p xs = sum_by-cons (λ y. cond (p y) 1 0) x xs in
+    let rest : count_by p xs ≤ length xs = few_counted p xs in
+    let one : cond (p x) 1 0 ≤ 1 = elim (p x) as (λ b. cond b 1 0 ≤ 1) [ true ↦ omega arith | false ↦ omega arith ] in
+    omega (arith, is, rest, one)
+
+-- one element more that counts
+pub count_set : {A : Type 0} (p : A → Bool) (ps : List A) (k : ℕ) (x d : A) → k < length ps → p (get_or ps k d) ≡ false → p x ≡ true → count_by p (set ps k x) ≡ count_by p ps + 1
+count_set p [] k x d lt before now = absurd (omega arith)
+count_set p (y ∷ ps) zero x d lt before now =
+    let new : count_by p (x ∷ ps) ≡ 1 + count_by p ps = sum_by-cons (λ z. cond (p z) 1 0) x ps ∙ ap (λ b. cond b 1 0 + count_by p ps) now in
+    let old : count_by p (y ∷ ps) ≡ 0 + count_by p ps = sum_by-cons (λ z. cond (p z) 1 0) y ps ∙ ap (λ b. cond b 1 0 + count_by p ps) before in
+    omega (arith, new, old)
+count_set p (y ∷ ps) (suc k) x d lt before now =
+    let new : count_by p (y ∷ set ps k x) ≡ cond (p y) 1 0 + count_by p (set ps k x) = sum_by-cons (λ z. cond (p z) 1 0) y (set ps k x) in
+    let old : count_by p (y ∷ ps) ≡ cond (p y) 1 0 + count_by p ps = sum_by-cons (λ z. cond (p z) 1 0) y ps in
+    let rest : count_by p (set ps k x) ≡ count_by p ps + 1 = count_set p ps k x d (omega arith) before now in
+    omega (arith, new, old, rest)
+
+both : (a b : Bool) → a ≡ true → b ≡ true → (a && b) ≡ true
+both true b h k = k
+both false b h k = absurd (false≢true h)
+
+parts : (a b : Bool) → (a && b) ≡ true → (a ≡ true) × (b ≡ true)
+parts true b h = (refl, h)
+parts false b h = absurd (false≢true h)
+
+pub all_set : {A : Type 0} (p : A → Bool) (ps : List A) (k : ℕ) (x : A) → list_all p ps ≡ true → p x ≡ true → list_all p (set ps k x) ≡ true
+all_set p [] k x all now = refl
+all_set p (y ∷ ps) zero x all now = both (p x) (list_all p ps) now (parts (p y) (list_all p ps) all).1
+all_set p (y ∷ ps) (suc k) x all now = let h = parts (p y) (list_all p ps) all in both (p y) (list_all p (set ps k x)) h.0 (all_set p ps k x h.1 now)
+
+-- ---- a request that is held
+
+pub record Taken (s : Received) (r : Request) : Type 0 where
+  pub k : ℕ
+  pub inside : k < length s.places
+  pub empty : get_or s.places k None ≡ None
+  pub window : offered_to s r ≡ with_place s k (Some (Some r))
+
+-- the place of a request that is held
+by_empty : (s : Received) (r : Request) (k : ℕ) (x : Option (Option Request)) → at_place s k ≡ x → cond (is_some x) Known Held ≡ Held
+    → (get_or s.places k None ≡ None) × (cond (is_some x) s (with_place s k (Some (Some r))) ≡ with_place s k (Some (Some r)))
+by_empty s r k None is h = (is, refl)
+by_empty s r k (Some y) is h = absurd cc
+
+by_test : (s : Received) (r : Request) (m : ℕ) (b : Bool) → (nat_le (number_expected s) m && nat_lt m (number_expected s + room_of s)) ≡ b → offer_at s (cond b (Inside (m - number_expected s)) NoPlace) ≡ Held
+    → (k : ℕ) × ((k < length s.places) × ((get_or s.places k None ≡ None) × (received_at s (cond b (Inside (m - number_expected s)) NoPlace) (Some r) ≡ with_place s k (Some (Some r)))))
+by_test s r m false is h = absurd cc
+by_test s r m true is h =
+    let e : ℕ = number_expected s in
+    let low : e ≤ m = grind (arith, nat_tests) in
+    let high : m < e + room_of s = grind (arith, nat_tests) in
+    (m - e, (omega arith, by_empty s r (m - e) (at_place s (m - e)) refl h))
+
+pub taken : (s : Received) (r : Request) → offer_to s r ≡ Held → Taken s r
+taken s r said =
+    let n : ℕ = lift (number_expected s) (cmd_sn r) in
+    let h = by_test s r n (nat_le (number_expected s) n && nat_lt n (number_expected s + room_of s)) refl said in
+    record { k = h.0; inside = h.1.0; empty = h.1.1.0; window = h.1.1.1 }
+
+-- ---- a command that leaves
+
+pub at_most : {A : Type 0} (p : A → Bool) (ys : List A) → length (filter (λ z. not (p z)) ys) ≤ length ys
+at_most p [] = omega arith
+at_most p (z ∷ ys) =
+    let rest : length (filter (λ w. not (p w)) ys) ≤ length ys = at_most p ys in
+    elim (p z) as (λ b. length (cond (not b) (z ∷ filter (λ w. not (p w)) ys) (filter (λ w. not (p w)) ys)) ≤ suc (length ys)) [
+      | true ↦ omega (arith, rest)
+      | false ↦ omega (arith, rest)
+    ]
+
+-- at least one command fewer
+pub fewer : {A : Type 0} (p : A → Bool) (xs : List A) (x : A) → find p xs ≡ Some x → length (filter (λ y. not (p y)) xs) + 1 ≤ length xs
+fewer p [] x h = absurd cc
+fewer p (y ∷ xs) x h =
+    elim (p y) as (λ b. cond b (Some y) (find p xs) ≡ Some x → length (cond (not b) (y ∷ filter (λ z. not (p z)) xs) (filter (λ z. not (p z)) xs)) + 1 ≤ suc (length xs)) [
+      | true ↦ λ here. omega (arith, at_most p xs)
+      | false ↦ λ later. omega (arith, fewer p xs x later)
+    ] h
+
+pub find-found : {A : Type 0} (p : A → Bool) (xs : List A) (x : A) → find p xs ≡ Some x → p x ≡ true
+find-found p [] x h = absurd cc
+find-found p (y ∷ xs) x h =
+    elim (p y) as (λ b. p y ≡ b → cond b (Some y) (find p xs) ≡ Some x → p x ≡ true) [
+      | true ↦ λ is here. let same : y ≡ x = cc in ap p (sym same) ∙ is
+      | false ↦ λ is later. find-found p xs x later
+    ] refl h
+
+-- ---- a turn
+
+-- the first place counts no more
+pub record Counted (w : Received) : Type 0 where
+  pub held : count_by is_held (advanced w).places + 1 ≡ count_by is_held w.places
+  pub counted : count_by is_some (advanced w).places + 1 ≡ count_by is_some w.places
+
+count_shift : {A : Type 0} (p : Option A → Bool) (x : A) (ps : List (Option A)) → p (Some x) ≡ true → p None ≡ false → get_or ps 0 None ≡ Some x → count_by p (drop 1 ps ++ None ∷ []) + 1 ≡ count_by p ps
+count_shift p x [] here none found = absurd cc
+count_shift p x (y ∷ ps) here none found =
+    let same : p y ≡ true = ap p found ∙ here in
+    let first : count_by p (y ∷ ps) ≡ 1 + count_by p ps = sum_by-cons (λ z. cond (p z) 1 0) y ps ∙ ap (λ b. cond b 1 0 + count_by p ps) same in
+    let last : count_by p (ps ++ None ∷ []) ≡ count_by p ps + count_by p (None ∷ []) = sum_by-append (λ z. cond (p z) 1 0) ps (None ∷ []) in
+    let gone : count_by p (None ∷ []) ≡ 0 + 0 = sum_by-cons (λ z. cond (p z) 1 0) None [] ∙ ap (λ b. cond b 1 0 + 0) none in
+    omega (arith, first, last, gone)
+
+pub counted_turn : (w : Received) (t : Turned) (r : Request) → turned_by w ≡ Some t → t.request ≡ Some r → Counted w
+counted_turn w t r said request = by_place (at_place w 0) refl said
+  where
+    by_place : (p : Option (Option Request)) → at_place w 0 ≡ p → option_map (λ q. let u : Turned = record { sn = wire (number_expected w); request = q } in u) p ≡ Some t → Counted w
+    by_place None is h = absurd cc
+    by_place (Some q) is h =
+        let same : q ≡ Some r = ap (λ (x : Option Turned). elim x [ Some u ↦ u.request | None ↦ q ]) h ∙ request in
+        let here : at_place w 0 ≡ Some (Some r) = is ∙ ap (λ y. let z : Option (Option Request) = Some y in z) same in
+        let moved : (advanced w).places ≡ drop 1 w.places ++ None ∷ [] = ap (λ p. (advanced_if w p).places) here in
+        record {
+          held = ap (λ ps. count_by is_held ps + 1) moved ∙ count_shift is_held (Some r) w.places refl refl here;
+          counted = ap (λ ps. count_by is_some ps + 1) moved ∙ count_shift is_some (Some r) w.places refl refl here;
+        }

@@ -1,0 +1,16 @@
+use Rattle.std.proofs.Common.{◌≡◌, ◌∙◌, ap, arith, length, count_by}
+use Rattle.iscsi_session.specs.Standing.{Core, is_held}
+use Rattle.iscsi_session.proofs.OpenLemmas.{bound_is}
+use Rattle.iscsi_session.proofs.WindowLemmas.{few_counted}
+use Rattle.iscsi_session.proofs.session.Session.effect_bound.Goals as goal
+
+pub overflow_add-result-2 : goal.overflow_add-result-2
+overflow_add-result-2 c =
+    let inv = c.self.invariant in
+    omega (arith, c.len.ensures, inv.0, inv.1, inv.2, inv.4, few_counted is_held c.self.inside.window.places)
+
+pub returns-clause-bound : goal.returns-clause-bound
+returns-clause-bound c = λ o h stands.
+    let held : c.self.inside.held ≡ count_by is_held c.args.self.now.window.places = c.self.invariant.4 ∙ ap (λ (s : Core). count_by is_held s.window.places) c.self.view_is in
+    let lives : c.len.result ≡ length c.args.self.now.live = c.len.ensures ∙ c.self.inside.live.ok.0 ∙ ap (λ (s : Core). length s.live) c.self.view_is in
+    omega (arith, held, lives, bound_is o c.args.self.now h stands)

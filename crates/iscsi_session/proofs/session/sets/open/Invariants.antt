@@ -1,0 +1,10 @@
+use Rattle.std.proofs.Common.{◌≡◌, ◌≤◌, replicate, vec_capacity}
+use Rattle.iscsi_tasks.specs.Sets.{opened}
+use Rattle.iscsi_session.proofs.session.sets.open.Given as goal
+
+-- so many sets are open
+abbrev pub invariant-loop : goal.invariant-loop
+invariant-loop l = record {
+  sets : l.sets.items ≡ replicate l.counter (opened l.fn.depth);
+  room : l.fn.units ≤ vec_capacity l.sets;
+}

@@ -1,0 +1,121 @@
+//! The task sets of a session's units.
+
+ghost use Rattle.std.specs.Prelude.{false, ◌≡◌, ◌+◌, ◌<◌, ◌≤◌, ◌++◌, length, count_by, replicate, slice_index_or, slice_set, IfSome, vec_len, vec_capacity};
+ghost use Rattle.iscsi_tasks.specs.Sets.{Members, opened, tasks_in, IsNewest, entered_to, left_by, with_ticket, is_new, next_in, given_by};
+ghost use Rattle.iscsi_session.specs.Execution.{scsi_to, unit_named};
+ghost use Rattle.iscsi_session.specs.Steps.{is_set_full, place_in, all_given, enable_effect, enable_effects, set_without};
+
+use crate::effect::Effect;
+use crate::session::Live;
+use crate::verdict::Verdict;
+use iscsi_tasks::{Task, TaskSet};
+use iscsi_wire::{Reply, Request, Sense, unit_of};
+use std::alloc::Global;
+
+/// The status CHECK CONDITION.
+const CHECK_CONDITION: u8 = 0x02;
+
+/// The status TASK SET FULL.
+const TASK_SET_FULL: u8 = 0x28;
+
+/// ILLEGAL REQUEST, LOGICAL UNIT NOT SUPPORTED.
+const NO_UNIT: Sense = Sense {
+    key: 0x05,
+    asc: 0x25,
+    ascq: 0x00,
+};
+
+/// Opens an empty set for each of so many units. None where memory is refused.
+pub(crate) fn open(alloc: Global, units: u32, depth: u32) -> Option<Vec<TaskSet>>
+    requires depth { (1 ≤ depth) × (depth ≤ 1024) }
+    ensures { IfSome result (λ sets. sets.items ≡ replicate units (opened depth)) }
+{
+    let mut sets = Vec::with_capacity(alloc, units as usize).ok()?;
+    for _ in 0..units {
+        sets.push_reserved(TaskSet::open(alloc, depth).ok()?);
+    }
+    Some(sets)
+}
+
+/// What a SCSI Command comes to by the unit that it names and that unit's set.
+pub(crate) fn verdict_in(request: &Request, sets: &[TaskSet]) -> Verdict
+    ensures { result ≡ scsi_to request.now (place_in sets.now request.now) }
+{
+    let itt = request.itt();
+    let Some(unit) = unit_named(request, sets.len()) else {
+        return Verdict::Answer(Reply::Scsi {
+            itt,
+            status: CHECK_CONDITION,
+            sense: Some(NO_UNIT),
+        });
+    };
+    if is_full(&sets[usize::from(unit)]) {
+        return Verdict::Answer(Reply::Scsi {
+            itt,
+            status: TASK_SET_FULL,
+            sense: None,
+        });
+    }
+    Verdict::Enter(unit)
+}
+
+/// The unit that a request's LUN names, of so many.
+fn unit_named(request: &Request, units: usize) -> Option<u16>
+    ensures { result ≡ unit_named units request.now }
+{
+    let unit = unit_of(&request.lun())?;
+    if usize::from(unit) < units {
+        Some(unit)
+    } else {
+        None
+    }
+}
+
+fn is_full(set: &TaskSet) -> bool
+    ensures { result ≡ is_set_full set.now }
+{
+    set.depth() <= set.len()
+}
+
+/// A command enters the set of a unit. None but itself can become enabled by that.
+pub(crate) fn enter(sets: &mut [TaskSet], unit: u16, task: Task, out: &mut Vec<Effect>)
+    requires unit { unit < length sets.old }
+    requires not_full { is_set_full (slice_index_or sets.old unit (opened 0)) ≡ false }
+    requires newest { IsNewest task.ticket (slice_index_or sets.old unit (opened 0)) }
+    requires room { vec_len out.old + 1 ≤ vec_capacity out.old }
+    ensures sets { sets.new ≡ slice_set sets.old unit (given_by (entered_to (slice_index_or sets.old unit (opened 0)) task)) }
+    ensures effects { out.new.items ≡ out.old.items ++ enable_effect unit (next_in (entered_to (slice_index_or sets.old unit (opened 0)) task).list) }
+    ensures spent { vec_len out.new ≤ vec_len out.old + 1 }
+    ensures capacity { vec_capacity out.new ≡ vec_capacity out.old }
+{
+    let set = &mut sets[usize::from(unit)];
+    set.enter(task).unwrap();
+    if let Some(ticket) = set.next_new() {
+        out.push_reserved(Effect::Enable { ticket, unit });
+    }
+}
+
+/// A command leaves its set, and others may become enabled by that.
+pub(crate) fn leave(sets: &mut [TaskSet], command: &Live, out: &mut Vec<Effect>)
+    requires unit { command.now.unit < length sets.old }
+    requires room { vec_len out.old + length (set_without command.now sets.old).list ≤ vec_capacity out.old }
+    ensures sets { sets.new ≡ slice_set sets.old command.now.unit (all_given (set_without command.now sets.old)) }
+    ensures effects { out.new.items ≡ out.old.items ++ enable_effects command.now.unit (set_without command.now sets.old).list }
+    ensures spent { vec_len out.new ≤ vec_len out.old + length (set_without command.now sets.old).list }
+{
+    let set = &mut sets[usize::from(command.unit)];
+    set.leave(command.ticket);
+    enable_new(set, command.unit, out);
+}
+
+/// Tells a unit of the commands that became enabled, the oldest first.
+fn enable_new(set: &mut TaskSet, unit: u16, out: &mut Vec<Effect>)
+    requires room { vec_len out.old + count_by is_new set.old.list ≤ vec_capacity out.old }
+    ensures set { set.new ≡ all_given set.old }
+    ensures effects { out.new.items ≡ out.old.items ++ enable_effects unit set.old.list }
+    ensures spent { vec_len out.new ≡ vec_len out.old + count_by is_new set.old.list }
+{
+    while let Some(ticket) = set.next_new() {
+        out.push_reserved(Effect::Enable { ticket, unit });
+    }
+}

@@ -1,0 +1,286 @@
+-- The counts stay those of the set.
+use Rattle.std.proofs.Common.{◌≡◌, ℕ, zero, suc, ◌+◌, ◌-◌, ◌<◌, ◌≤◌, ◌==◌, ◌&&◌, ◌≢◌, ◌⊎◌, inl, inr, not, min, max, cond, Bool, true, false, List, [], ◌∷◌, ◌++◌, length, map, take, drop, set, get_or, All, count_by, refl, ap, sym, ◌∙◌, arith, subst, ⊎_elim, true≢false, ne_eqb, eqb-true, lt-ltb, le-ltb}
+use Rattle.std.specs.List.{position_or_len, remove}
+use Rattle.std.proofs.lemmas.Bool.{cases_lt, cases_eq, cases_Bool, and_parts, and_right, cond-true, cond-false}
+use Rattle.std.proofs.lemmas.List.{length_push, get_or_append_left, get_or_push, get_or-set_same, get_or-set_other, length-set}
+use Rattle.std.proofs.lemmas.List.Edits.{length-remove, get_or-remove_below, get_or-remove_above}
+use Rattle.std.proofs.lemmas.List.Elements.{All-push}
+use Rattle.std.proofs.lemmas.List.Folds.{position_or_len_push, position_or_len-set}
+use Rattle.std.proofs.lemmas.List.Quantifiers.{all_pairs_push, all_pairs_remove}
+use Rattle.std.proofs.lemmas.List.Sums.{fails_before_first, sum_by-remove, sum_by_push, sum_by-cons, sum_by-set, prefix_len-le-length}
+use Rattle.iscsi_tasks.specs.declared.task.Attr.{Attr}
+use Rattle.iscsi_tasks.specs.declared.task.Task.{Task}
+use Rattle.iscsi_tasks.specs.declared.member.Member.{Member}
+use Rattle.iscsi_tasks.specs.declared.counts.Counts.{Counts}
+use Rattle.iscsi_tasks.specs.Sets.{is_head_of, is_new}
+use Rattle.iscsi_tasks.specs.Counted.{IsCounted, is_head_in, is_ordered_in, plus_one_if, shifted_by, new_from_with, with_last, without_one, with_enabled, enabled_now, given_now}
+
+-- a first place is within the list or its end
+pub first-le : {X : Type 0} (p : X → Bool) (xs : List X) → position_or_len p xs ≤ length xs
+first-le p xs = prefix_len-le-length (λ x. not (p x)) xs
+
+plus_one : (b : Bool) (n : ℕ) → n + cond b 1 0 ≡ plus_one_if b n
+plus_one true n = refl
+plus_one false n = omega arith
+
+count_push : (p : Member → Bool) (xs : List Member) (y : Member) → count_by p (xs ++ y ∷ []) ≡ plus_one_if (p y) (count_by p xs)
+count_push p xs y = sum_by_push (λ m. cond (p m) 1 0) xs y ∙ plus_one (p y) (count_by p xs)
+
+-- a place that is the end moves on where it should
+moved_on : (at len : ℕ) (b : Bool) → at ≤ len → plus_one_if (at == len && b) at ≤ len + 1
+moved_on at len b within = ⊎_elim
+    (λ yes. subst (λ t. plus_one_if t at ≤ len + 1) (sym yes) (omega arith))
+    (λ no. subst (λ t. plus_one_if t at ≤ len + 1) (sym no) (omega arith))
+    (cases_Bool (at == len && b))
+
+last_one : (at : ℕ) (b : Bool) → plus_one_if (true && not b) at ≡ at + cond b 0 1
+last_one at true = omega arith
+last_one at false = refl
+
+-- the place of the first one, with one more at the end
+first_push : (p : Member → Bool) (xs : List Member) (y : Member) (at : ℕ) → at ≡ position_or_len p xs → plus_one_if (at == length xs && not (p y)) at ≡ position_or_len p (xs ++ y ∷ [])
+first_push p xs y at is = ⊎_elim
+    (λ end. let same : at ≡ length xs = eqb-true at (length xs) end in
+    ap (λ b. plus_one_if (b && not (p y)) at) end ∙ last_one at (p y) ∙ ap (λ n. n + cond (p y) 0 1) same
+    ∙ sym (position_or_len_push p xs y ∙ cond-true (position_or_len p xs == length xs) _ _ (ap (λ n. n == length xs) (sym is) ∙ end)))
+    (λ before. ap (λ b. plus_one_if (b && not (p y)) at) before ∙ is
+    ∙ sym (position_or_len_push p xs y ∙ cond-false (position_or_len p xs == length xs) _ _ (ap (λ n. n == length xs) (sym is) ∙ before)))
+    (cases_Bool (at == length xs))
+
+new_from-le : (c : Counts) (place : ℕ) → new_from_with c place ≤ place
+new_from-le c place = ⊎_elim
+    (λ yes. subst (λ n. n ≤ place) (sym (ap (λ b. cond b place (min c.new_from place)) yes)) (omega arith))
+    (λ no. subst (λ n. n ≤ place) (sym (ap (λ b. cond b place (min c.new_from place)) no)) (omega arith))
+    (cases_Bool (c.new_from == c.new_to))
+
+-- what was new before is still behind the first place
+new_from-before : (c : Counts) (place k : ℕ) → c.new_from ≤ k → k < c.new_to → new_from_with c place ≤ k
+new_from-before c place k from to = subst (λ n. n ≤ k) (sym (ap (λ b. cond b place (min c.new_from place)) (ne_eqb c.new_from c.new_to (λ e. omega arith)))) (omega arith)
+
+module _ (c : Counts) (list : List Member) (counted : IsCounted c list) (task : Task) (enabled : Bool) (newest : All (λ m. m.task.ticket < task.ticket) list) (head : is_head_of task.attr ≡ true → enabled ≡ true) where
+  at_push : (P : Member → Type 0) (k : ℕ) (d : Member) → k < length list + 1 → (k < length list → P (get_or list k d)) → (k ≡ length list → P (record { task = task; enabled = enabled; given = false })) → P (get_or (list ++ record { task = task; enabled = enabled; given = false } ∷ []) k d)
+  at_push P k d within before last =
+      let m : Member = record { task = task; enabled = enabled; given = false } in ⊎_elim
+      (λ below. subst P (sym (get_or_append_left list (m ∷ []) d k below)) (before below))
+      (λ above. subst P (sym (get_or_push list m d k (omega arith))) (last (omega arith)))
+      (cases_lt k (length list))
+
+  pub counted_push : IsCounted (with_last c (length list) task.attr enabled) (list ++ record { task = task; enabled = enabled; given = false } ∷ [])
+  counted_push =
+      let m : Member = record { task = task; enabled = enabled; given = false } in
+      let len : ℕ = length list in
+      let long : length (list ++ m ∷ []) ≡ len + 1 = length_push list m in
+      record {
+        order = all_pairs_push (λ a b. a.task.ticket < b.task.ticket) list m counted.order newest;
+        heads = ap (plus_one_if (is_head_of task.attr)) counted.heads ∙ sym (count_push is_head_in list m);
+        ordered_at = first_push is_ordered_in list m c.ordered_at counted.ordered_at;
+        enabled_to = subst (λ n. plus_one_if (c.enabled_to == len && enabled) c.enabled_to ≤ n) (sym long) (moved_on c.enabled_to len enabled counted.enabled_to);
+        enabled = λ k d l. ⊎_elim
+            (λ yes. let parts = and_parts (c.enabled_to == len) enabled yes in
+            let end : c.enabled_to ≡ len = eqb-true _ _ parts.0 in
+            let below : k < c.enabled_to + 1 = subst (λ b. k < plus_one_if b c.enabled_to) yes l in
+            at_push (λ x. x.enabled ≡ true) k d (omega arith) (λ b. counted.enabled k d (omega arith)) (λ e. parts.1))
+            (λ no. let below : k < c.enabled_to = subst (λ b. k < plus_one_if b c.enabled_to) no l in
+            at_push (λ x. x.enabled ≡ true) k d (omega (arith, counted.enabled_to)) (λ b. counted.enabled k d below) (λ e. absurd (omega (arith, counted.enabled_to))))
+            (cases_Bool (c.enabled_to == len && enabled));
+        heads_enabled = All-push (λ k. is_head_in k ≡ true → k.enabled ≡ true) list m counted.heads_enabled head;
+        new_to = ⊎_elim
+            (λ yes. subst (λ n. n ≤ length (list ++ m ∷ [])) (sym (ap (λ b. cond b (len + 1) c.new_to) yes)) (omega (arith, long)))
+            (λ no. subst (λ n. n ≤ length (list ++ m ∷ [])) (sym (ap (λ b. cond b (len + 1) c.new_to) no)) (omega (arith, long, counted.new_to)))
+            (cases_Bool enabled);
+        new = λ k d l. at_push (λ x. is_new x ≡ true → (cond enabled (new_from_with c len) c.new_from ≤ k) × (k < cond enabled (len + 1) c.new_to)) k d (omega (arith, long))
+            (λ b new. let was = counted.new k d b new in ⊎_elim
+            (λ yes. (subst (λ t. cond t (new_from_with c len) c.new_from ≤ k) (sym yes) (new_from-before c len k was.0 was.1), subst (λ t. k < cond t (len + 1) c.new_to) (sym yes) (omega arith)))
+            (λ no. (subst (λ t. cond t (new_from_with c len) c.new_from ≤ k) (sym no) was.0, subst (λ t. k < cond t (len + 1) c.new_to) (sym no) was.1))
+            (cases_Bool enabled))
+            (λ e new. let yes : enabled ≡ true = (and_parts enabled true new).0 in
+            (subst (λ t. cond t (new_from_with c len) c.new_from ≤ k) (sym yes) (let low : new_from_with c len ≤ len = new_from-le c len in omega arith), subst (λ t. k < cond t (len + 1) c.new_to) (sym yes) (omega arith)));
+      }
+
+-- ---- a command leaves
+
+pub shifted_cases : (at place : ℕ) → ((at < place) × (shifted_by at place ≡ place - 1)) ⊎ ((place ≤ at) × (shifted_by at place ≡ place))
+shifted_cases at place = ⊎_elim
+    (λ before. inl (before, ap (λ b. cond b (place - 1) place) (lt-ltb at place before)))
+    (λ after. inr (after, ap (λ b. cond b (place - 1) place) (le-ltb at place after)))
+    (cases_lt at place)
+
+module _ (list : List Member) (at : ℕ) (within : at < length list) where
+  at_remove : (P : Member → Type 0) (k : ℕ) (d : Member) → (k < at → P (get_or list k d)) → (at ≤ k → P (get_or list (k + 1) d)) → P (get_or (remove list at) k d)
+  at_remove P k d before after = ⊎_elim
+      (λ below. subst P (sym (get_or-remove_below list at d k below within)) (before below))
+      (λ above. subst P (sym (get_or-remove_above list at d k above within)) (after above))
+      (cases_lt k at)
+
+  shorter : length (remove list at) + 1 ≡ length list
+  shorter = length-remove list at within
+
+  shifted-le : (place : ℕ) → place ≤ length list → shifted_by at place ≤ length (remove list at)
+  shifted-le place inside = ⊎_elim (λ case. omega (arith, shorter, case.0, case.1)) (λ case. omega (arith, shorter, case.0, case.1)) (shifted_cases at place)
+
+  -- what is below a shifted place was below the place
+  below_shifted : (P : Member → Type 0) (place : ℕ) → ((k : ℕ) (d : Member) → k < place → P (get_or list k d)) → (k : ℕ) (d : Member) → k < shifted_by at place → P (get_or (remove list at) k d)
+  below_shifted P place before k d below = ⊎_elim
+      (λ case. at_remove P k d (λ b. before k d (omega (arith, case.0, case.1))) (λ a. before (k + 1) d (omega (arith, case.0, case.1))))
+      (λ case. at_remove P k d (λ b. before k d (omega (arith, case.0, case.1))) (λ a. absurd (omega (arith, case.0, case.1))))
+      (shifted_cases at place)
+
+  pub ordered_shifted : (place : ℕ) → place ≡ position_or_len is_ordered_in list → (shifted_by at place ≤ length (remove list at)) × ((k : ℕ) (d : Member) → k < shifted_by at place → is_ordered_in (get_or (remove list at) k d) ≡ false)
+  ordered_shifted place is = (
+    shifted-le place (let le = first-le is_ordered_in list in omega (arith, le, is)),
+    below_shifted (λ m. is_ordered_in m ≡ false) place (λ k d l. fails_before_first is_ordered_in list k d (omega (arith, is))),
+  )
+
+  heads_less : (d : Member) → count_by is_head_in (remove list at) + cond {A = ℕ} (is_head_in (get_or list at d)) 1 0 ≡ count_by is_head_in list
+  heads_less d = sum_by-remove (λ m. cond {A = ℕ} (is_head_in m) 1 0) list at d within
+
+  -- HEAD OF QUEUE is counted, so there is one less
+  pub one_less : (c : Counts) (d : Member) (attr : Attr) → c.heads ≡ count_by is_head_in list → attr ≡ (get_or list at d).task.attr → (is_head_of attr ≡ true → 0 < c.heads) × (cond {A = ℕ} (is_head_of attr) (c.heads - 1) c.heads ≡ count_by is_head_in (remove list at))
+  one_less c d attr counted is =
+      let sum = heads_less d in ⊎_elim
+      (λ head.
+      let one : cond {A = ℕ} (is_head_in (get_or list at d)) 1 0 ≡ 1 = ap (λ a. cond {A = ℕ} (is_head_of a) 1 0) (sym is) ∙ ap (λ b. cond {A = ℕ} b 1 0) head in
+      (λ h. omega (arith, sum, one, counted), ap (λ b. cond {A = ℕ} b (c.heads - 1) c.heads) head ∙ omega (arith, sum, one, counted)))
+      (λ other.
+      let none : cond {A = ℕ} (is_head_in (get_or list at d)) 1 0 ≡ 0 = ap (λ a. cond {A = ℕ} (is_head_of a) 1 0) (sym is) ∙ ap (λ b. cond {A = ℕ} b 1 0) other in
+      (λ h. absurd (true≢false (sym h ∙ other)), ap (λ b. cond {A = ℕ} b (c.heads - 1) c.heads) other ∙ omega (arith, sum, none, counted)))
+      (cases_Bool (is_head_of attr))
+
+  pub counted_remove : (c : Counts) (d : Member) (attr : Attr) (ordered_at : ℕ) → IsCounted c list → attr ≡ (get_or list at d).task.attr → ordered_at ≡ position_or_len is_ordered_in (remove list at) → IsCounted (without_one c at attr ordered_at) (remove list at)
+  counted_remove c d attr ordered_at counted is first = record {
+    order = all_pairs_remove (λ a b. a.task.ticket < b.task.ticket) list at within counted.order;
+    heads = (one_less c d attr counted.heads is).1;
+    ordered_at = first;
+    enabled_to = shifted-le c.enabled_to counted.enabled_to;
+    enabled = below_shifted (λ m. m.enabled ≡ true) c.enabled_to counted.enabled;
+    heads_enabled = λ k e l. at_remove (λ m. is_head_in m ≡ true → m.enabled ≡ true) k e (λ b. counted.heads_enabled k e (omega arith)) (λ a. counted.heads_enabled (k + 1) e (omega (arith, shorter)));
+    new_to = shifted-le c.new_to counted.new_to;
+    new = λ k e l. at_remove (λ m. is_new m ≡ true → (shifted_by at c.new_from ≤ k) × (k < shifted_by at c.new_to)) k e
+        (λ b new. let was = counted.new k e (omega arith) new in (
+          ⊎_elim (λ case. omega (arith, was.0, case.0, case.1)) (λ case. omega (arith, was.0, case.0, case.1)) (shifted_cases at c.new_from),
+          ⊎_elim (λ case. omega (arith, was.1, case.0, case.1)) (λ case. omega (arith, was.1, case.0, case.1)) (shifted_cases at c.new_to),
+        ))
+        (λ a new. let was = counted.new (k + 1) e (omega (arith, shorter)) new in (
+          ⊎_elim (λ case. omega (arith, was.0, case.0, case.1)) (λ case. omega (arith, was.0, case.0, case.1)) (shifted_cases at c.new_from),
+          ⊎_elim (λ case. omega (arith, was.1, case.0, case.1)) (λ case. omega (arith, was.1, case.0, case.1)) (shifted_cases at c.new_to),
+        ));
+  }
+
+-- ---- the first commands are enabled
+
+-- the first ones are enabled, the rest is as before
+abbrev pub enabled_up_to : ℕ → List Member → List Member
+enabled_up_to n xs = map enabled_now (take n xs) ++ drop n xs
+
+parts-task : (xs : List Member) (n k : ℕ) (d : Member) → (get_or (enabled_up_to n xs) k d).task ≡ (get_or xs k d).task
+parts-task [] zero k d = refl
+parts-task [] (suc n) k d = refl
+parts-task (x ∷ xs) zero k d = refl
+parts-task (x ∷ xs) (suc n) zero d = refl
+parts-task (x ∷ xs) (suc n) (suc k) d = parts-task xs n k d
+
+parts-below : (xs : List Member) (n k : ℕ) (d : Member) → k < length xs → k < n → get_or (enabled_up_to n xs) k d ≡ enabled_now (get_or xs k d)
+parts-below [] n k d l b = absurd (omega arith)
+parts-below (x ∷ xs) zero k d l b = absurd (omega arith)
+parts-below (x ∷ xs) (suc n) zero d l b = refl
+parts-below (x ∷ xs) (suc n) (suc k) d l b = parts-below xs n k d (omega arith) (omega arith)
+
+parts-above : (xs : List Member) (n k : ℕ) (d : Member) → n ≤ k → get_or (enabled_up_to n xs) k d ≡ get_or xs k d
+parts-above [] zero k d a = refl
+parts-above [] (suc n) k d a = refl
+parts-above (x ∷ xs) zero k d a = refl
+parts-above (x ∷ xs) (suc n) zero d a = absurd (omega arith)
+parts-above (x ∷ xs) (suc n) (suc k) d a = parts-above xs n k d (omega arith)
+
+pub parts-length : (xs : List Member) (n : ℕ) → length (enabled_up_to n xs) ≡ length xs
+parts-length [] zero = refl
+parts-length [] (suc n) = refl
+parts-length (x ∷ xs) zero = refl
+parts-length (x ∷ xs) (suc n) = ap suc (parts-length xs n)
+
+parts-heads : (xs : List Member) (n : ℕ) → count_by is_head_in (enabled_up_to n xs) ≡ count_by is_head_in xs
+parts-heads [] zero = refl
+parts-heads [] (suc n) = refl
+parts-heads (x ∷ xs) zero = refl
+parts-heads (x ∷ xs) (suc n) =
+    sum_by-cons (λ m. cond {A = ℕ} (is_head_in m) 1 0) (enabled_now x) (enabled_up_to n xs)
+    ∙ ap (λ s. cond {A = ℕ} (is_head_in x) 1 0 + s) (parts-heads xs n)
+    ∙ sym (sum_by-cons (λ m. cond {A = ℕ} (is_head_in m) 1 0) x xs)
+
+parts-first : (xs : List Member) (n : ℕ) → position_or_len is_ordered_in (enabled_up_to n xs) ≡ position_or_len is_ordered_in xs
+parts-first [] zero = refl
+parts-first [] (suc n) = refl
+parts-first (x ∷ xs) zero = refl
+parts-first (x ∷ xs) (suc n) = ap (λ s. cond {A = ℕ} (not (is_ordered_in x)) (1 + s) 0) (parts-first xs n)
+
+pub counted_enabled : (c : Counts) (list : List Member) (to : ℕ) → IsCounted c list → c.enabled_to < to → to ≤ length list → IsCounted (with_enabled c to) (enabled_up_to to list)
+counted_enabled c list to counted more inside =
+    let at : (P : Member → Type 0) (k : ℕ) (d : Member) → k < length list → (k < to → P (enabled_now (get_or list k d))) → (to ≤ k → P (get_or list k d)) → P (get_or (enabled_up_to to list) k d) =
+    λ P k d l below above. ⊎_elim
+    (λ b. subst P (sym (parts-below list to k d l b)) (below b))
+    (λ a. subst P (sym (parts-above list to k d a)) (above a))
+    (cases_lt k to) in
+    let long = parts-length list to in
+    record {
+      order = λ i j d b l. let up : (get_or list i d).task.ticket < (get_or list j d).task.ticket = counted.order i j d b (omega (arith, long)) in
+          subst (λ (t : Task). t.ticket < (get_or (enabled_up_to to list) j d).task.ticket) (sym (parts-task list to i d)) (subst (λ (t : Task). (get_or list i d).task.ticket < t.ticket) (sym (parts-task list to j d)) up);
+      heads = counted.heads ∙ sym (parts-heads list to);
+      ordered_at = counted.ordered_at ∙ sym (parts-first list to);
+      enabled_to = omega (arith, long);
+      enabled = λ k d l. at (λ m. m.enabled ≡ true) k d (omega arith) (λ b. refl) (λ a. absurd (omega arith));
+      heads_enabled = λ k d l. at (λ m. is_head_in m ≡ true → m.enabled ≡ true) k d (omega (arith, long)) (λ b head. refl) (λ a head. counted.heads_enabled k d (omega (arith, long)) head);
+      new_to = omega (arith, long, counted.new_to);
+      new = λ k d l. at (λ m. is_new m ≡ true → (new_from_with c c.enabled_to ≤ k) × (k < max c.new_to to)) k d (omega (arith, long))
+          (λ b new. ⊎_elim
+          (λ old.
+          let on : (get_or list k d).enabled ≡ true = counted.enabled k d old in
+          let was = counted.new k d (omega (arith, long)) (ap (λ t. t && not (get_or list k d).given) on ∙ new) in
+          (new_from-before c c.enabled_to k was.0 was.1, omega arith))
+          (λ fresh. (let low : new_from_with c c.enabled_to ≤ c.enabled_to = new_from-le c c.enabled_to in omega arith, omega arith))
+          (cases_lt k c.enabled_to))
+          (λ a new. let was = counted.new k d (omega (arith, long)) new in (new_from-before c c.enabled_to k was.0 was.1, omega (arith, was.1)));
+    }
+
+-- ---- a ticket is given
+
+pub counted_none : (c : Counts) (list : List Member) → IsCounted c list → All (λ m. is_new m ≡ false) list → IsCounted (record c { new_from = c.new_to }) list
+counted_none c list counted none = record {
+  order = counted.order;
+  heads = counted.heads;
+  ordered_at = counted.ordered_at;
+  enabled_to = counted.enabled_to;
+  enabled = counted.enabled;
+  heads_enabled = counted.heads_enabled;
+  new_to = counted.new_to;
+  new = λ k d l new. absurd (true≢false (sym new ∙ none k d l));
+}
+
+pub counted_given : (c : Counts) (list : List Member) (at : ℕ) (m : Member) → IsCounted c list → at < length list → ((d : Member) → get_or list at d ≡ m) → ((k : ℕ) (d : Member) → k < at → is_new (get_or list k d) ≡ false) → IsCounted (record c { new_from = at + 1 }) (set list at (given_now m))
+counted_given c list at m counted within here before =
+    let y : Member = given_now m in
+    let at_set : (P : Member → Type 0) (k : ℕ) (d : Member) → (k ≡ at → P y) → (k ≢ at → P (get_or list k d)) → P (get_or (set list at y) k d) =
+    λ P k d same other. ⊎_elim
+    (λ e. subst (λ n. P (get_or (set list at y) n d)) (sym e) (subst P (sym (get_or-set_same list at y d within)) (same e)))
+    (λ ne. subst P (sym (get_or-set_other list at k y d ne)) (other ne))
+    (cases_eq k at) in
+    let task_at : (k : ℕ) (d : Member) → (get_or (set list at y) k d).task ≡ (get_or list k d).task =
+    λ k d. at_set (λ x. x.task ≡ (get_or list k d).task) k d (λ e. sym (ap (λ n. (get_or list n d).task) e ∙ ap (λ (x : Member). x.task) (here d))) (λ ne. refl) in
+    let long : length (set list at y) ≡ length list = length-set list at y in
+    record {
+      order = λ i j d b l. let up : (get_or list i d).task.ticket < (get_or list j d).task.ticket = counted.order i j d b (omega (arith, long)) in
+          subst (λ (t : Task). t.ticket < (get_or (set list at y) j d).task.ticket) (sym (task_at i d)) (subst (λ (t : Task). (get_or list i d).task.ticket < t.ticket) (sym (task_at j d)) up);
+      heads = let sums = sum_by-set (λ x. cond {A = ℕ} (is_head_in x) 1 0) list at y m within in
+          let same : cond {A = ℕ} (is_head_in (get_or list at m)) 1 0 ≡ cond {A = ℕ} (is_head_in m) 1 0 = ap (λ (x : Member). cond {A = ℕ} (is_head_in x) 1 0) (here m) in
+          omega (arith, sums, same, counted.heads);
+      ordered_at = counted.ordered_at ∙ sym (position_or_len-set is_ordered_in list at y m (ap is_ordered_in (sym (here m))));
+      enabled_to = omega (arith, long, counted.enabled_to);
+      enabled = λ k d l. at_set (λ x. x.enabled ≡ true) k d (λ e. ap (λ (x : Member). x.enabled) (sym (here d) ∙ ap (λ n. get_or list n d) (sym e)) ∙ counted.enabled k d l) (λ ne. counted.enabled k d l);
+      heads_enabled = λ k d l. at_set (λ x. is_head_in x ≡ true → x.enabled ≡ true) k d
+          (λ e head. ap (λ (x : Member). x.enabled) (sym (here d)) ∙ counted.heads_enabled at d within (ap is_head_in (here d) ∙ head))
+          (λ ne. counted.heads_enabled k d (omega (arith, long)));
+      new_to = omega (arith, long, counted.new_to);
+      new = λ k d l. at_set (λ x. is_new x ≡ true → (at + 1 ≤ k) × (k < c.new_to)) k d
+          (λ e new. absurd (true≢false (sym new ∙ and_right m.enabled false refl)))
+          (λ ne new. let was = counted.new k d (omega (arith, long)) new in
+          (⊎_elim (λ b. absurd (true≢false (sym new ∙ before k d b))) (λ a. omega arith) (cases_lt k at), was.1));
+    }

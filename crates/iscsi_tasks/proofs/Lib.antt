@@ -1,0 +1,10 @@
+pub mod ListLemmas
+pub mod MomentLemmas
+pub mod HistoryLemmas
+pub mod GivingLemmas
+pub mod EnabledLemmas
+pub mod PlaceLemmas
+pub mod SearchLemmas
+pub mod CountLemmas
+pub mod RuleLemmas
+pub mod EnterLemmas

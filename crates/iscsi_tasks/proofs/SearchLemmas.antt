@@ -1,0 +1,91 @@
+-- A command is found by its ticket, since tickets go up along the set.
+use Rattle.std.proofs.Common.{◌≡◌, ℕ, zero, suc, ◌<◌, ◌≤◌, ◌==◌, ◌&&◌, ◌≢◌, not, cond, Bool, true, false, List, [], ◌∷◌, length, map, filter, find, get_or, All, Some, None, Result, Ok, Err, option_map, slice_get, refl, ap, sym, ◌∙◌, arith, subst, ⊎_elim, ne_eqb, eq-eqb}
+use Rattle.std.specs.List.{remove, position_or_len}
+use Rattle.std.specs.List.Sorted.{IsSearchInRange, IsBinarySearchResult, IsNonDecreasingBy}
+use Rattle.std.specs.Ordering.{nat_cmp, ordering_index}
+use Rattle.std.specs.Result.{result_ok}
+use Rattle.std.proofs.lemmas.Cmp.{ranked}
+use Rattle.std.proofs.lemmas.Bool.{cases_eq, cases_lt, cases_Bool, and_from, and_left, and_right}
+use Rattle.std.proofs.lemmas.Bool.Decides.{nat_tests}
+use Rattle.std.proofs.lemmas.List.{get_or_default}
+use Rattle.std.proofs.lemmas.List.Folds.{find_at, list_any_at, list_any_none}
+use Rattle.std.proofs.lemmas.List.Elements.{All-head, All-tail}
+use Rattle.iscsi_tasks.specs.declared.member.Member.{Member}
+use Rattle.iscsi_tasks.specs.Sets.{InOrder, without, is_enabled_in, with_ticket}
+use Rattle.iscsi_tasks.specs.Counted.{IsPlaceOf}
+use Rattle.iscsi_tasks.proofs.GivingLemmas.{InOrder-head, InOrder-tail}
+use Rattle.iscsi_tasks.proofs.ListLemmas.{find-map}
+use Rattle.iscsi_tasks.proofs.PlaceLemmas.{place_is}
+
+module _ (list : List Member) (order : InOrder list) (ticket : ℕ) where
+  -- the comparisons with the ticket rise along the set, as a binary search asks
+  comparisons_rise : IsNonDecreasingBy (λ m. ordering_index (nat_cmp m.task.ticket ticket)) list
+  comparisons_rise i j d le within =
+      let tickets_rise : (get_or list i d).task.ticket ≤ (get_or list j d).task.ticket =
+      ⊎_elim (λ same. subst (λ n. (get_or list i d).task.ticket ≤ (get_or list n d).task.ticket) same (omega arith)) (λ apart. let up : (get_or list i d).task.ticket < (get_or list j d).task.ticket = order i j d (omega arith) within in omega arith) (cases_eq i j) in
+      grind (arith, nat_tests)
+
+  pub searched : (r : Result ℕ ℕ) → IsSearchInRange r (length list) → IsBinarySearchResult (λ m. nat_cmp m.task.ticket ticket) list r → IsPlaceOf list ticket (result_ok r)
+  searched (Ok k) within equal = (within, λ d. ranked _ ticket _ (sym (equal d)))
+  searched (Err k) within parted = λ j d l. ⊎_elim
+      (λ below. let lower : (get_or list j d).task.ticket < ticket = ranked _ ticket _ (sym ((parted comparisons_rise).0 j d (omega arith) below)) in ne_eqb _ _ (λ e. omega arith))
+      (λ above. let higher : ticket < (get_or list j d).task.ticket = ranked _ ticket _ (sym ((parted comparisons_rise).1 j d above l)) in ne_eqb _ _ (λ e. omega arith))
+      (cases_lt j k)
+
+-- ---- the command at a place
+
+slice_get_at : {X : Type 0} (xs : List X) (k : ℕ) (d : X) → k < length xs → slice_get xs k ≡ Some (get_or xs k d)
+slice_get_at [] k d within = absurd (omega arith)
+slice_get_at (x ∷ xs) zero d within = refl
+slice_get_at (x ∷ xs) (suc k) d within = slice_get_at xs k d (omega arith)
+
+-- the first that passes is the one at the first place that does
+pub find_place : {X : Type 0} (p : X → Bool) (xs : List X) (k : ℕ) (d : X) → position_or_len p xs ≡ k → k < length xs → find p xs ≡ Some (get_or xs k d)
+find_place p xs k d is within = find_at p xs ∙ ap (slice_get xs) is ∙ slice_get_at xs k d within
+
+pub find_nowhere : {X : Type 0} (p : X → Bool) (xs : List X) → All (λ x. p x ≡ false) xs → find p xs ≡ None
+find_nowhere p [] none = refl
+find_nowhere p (x ∷ xs) none = ap (λ b. cond b (Some x) (find p xs)) (All-head (λ y. p y ≡ false) x xs none) ∙ find_nowhere p xs (All-tail (λ y. p y ≡ false) x xs none)
+
+filter_all : {X : Type 0} (p : X → Bool) (xs : List X) → All (λ x. p x ≡ true) xs → filter p xs ≡ xs
+filter_all p [] all = refl
+filter_all p (x ∷ xs) all = ap (λ b. cond b (x ∷ filter p xs) (filter p xs)) (All-head (λ y. p y ≡ true) x xs all) ∙ ap (λ r. x ∷ r) (filter_all p xs (All-tail (λ y. p y ≡ true) x xs all))
+
+-- the command at a place is the only one with its ticket
+pub remove_is : (list : List Member) (k : ℕ) (d : Member) → InOrder list → k < length list → remove list k ≡ without (get_or list k d).task.ticket list
+remove_is [] k d order within = absurd (omega arith)
+remove_is (m ∷ ms) zero d order within =
+    let stay : All (λ x. not (x.task.ticket == m.task.ticket) ≡ true) ms = λ j e l. ap not (ne_eqb _ _ (λ same. let up : m.task.ticket < (get_or ms j e).task.ticket = InOrder-head m ms order j e l in omega arith)) in
+    sym (ap (λ b. cond (not b) (m ∷ without m.task.ticket ms) (without m.task.ticket ms)) (eq-eqb m.task.ticket m.task.ticket refl) ∙ filter_all (λ x. not (x.task.ticket == m.task.ticket)) ms stay)
+remove_is (m ∷ ms) (suc k) d order within =
+    let t : ℕ = (get_or ms k d).task.ticket in
+    let up : m.task.ticket < t = InOrder-head m ms order k d (omega arith) in
+    ap (λ r. m ∷ r) (remove_is ms k d (InOrder-tail m ms order) (omega arith))
+    ∙ sym (ap (λ b. cond (not b) (m ∷ without t ms) (without t ms)) (ne_eqb m.task.ticket t (λ e. omega arith)))
+
+module _ (list : List Member) (order : InOrder list) (ticket k : ℕ) (within : k < length list) (here : (d : Member) → (get_or list k d).task.ticket ≡ ticket) where
+  apart : (j : ℕ) (d : Member) → j < length list → j ≢ k → ((get_or list j d).task.ticket == ticket) ≡ false
+  apart j d l ne = ne_eqb _ _ (λ e. ⊎_elim
+      (λ below. let up : (get_or list j d).task.ticket < (get_or list k d).task.ticket = order j k d below within in omega (arith, here d))
+      (λ above. let up : (get_or list k d).task.ticket < (get_or list j d).task.ticket = order k j d (omega arith) l in omega (arith, here d))
+      (cases_lt j k))
+
+  pub found : (d : Member) → with_ticket ticket (map (λ m. m.task) list) ≡ Some (get_or list k d).task
+  found d =
+      let place : position_or_len (λ m. m.task.ticket == ticket) list ≡ k = place_is (λ m. m.task.ticket == ticket) list k d within (λ j l. apart j d (omega arith) (λ e. omega arith)) (eq-eqb _ _ (here d)) in
+      find-map (λ t. t.ticket == ticket) (λ m. m.task) list ∙ ap (option_map (λ (m : Member). m.task)) (find_place (λ m. m.task.ticket == ticket) list k d place within)
+
+  pub enabled_at : (d : Member) → (get_or list k d).enabled ≡ is_enabled_in ticket list
+  enabled_at d = ⊎_elim
+      (λ on. on ∙ sym (list_any_at (λ m. m.task.ticket == ticket && m.enabled) list k d within (and_from _ _ (eq-eqb _ _ (here d)) on)))
+      (λ off. off ∙ sym (list_any_none (λ m. m.task.ticket == ticket && m.enabled) list (λ j e l. ⊎_elim
+      (λ same. and_right _ _ (subst (λ n. (get_or list n e).enabled ≡ false) (sym same) (ap (λ (x : Member). x.enabled) (get_or_default list k e d within) ∙ off)))
+      (λ other. and_left _ _ (apart j e l other))
+      (cases_eq j k))))
+      (cases_Bool (get_or list k d).enabled)
+
+pub not_found : (list : List Member) (ticket : ℕ) → All (λ m. (m.task.ticket == ticket) ≡ false) list → with_ticket ticket (map (λ m. m.task) list) ≡ None
+not_found list ticket none = find-map (λ t. t.ticket == ticket) (λ m. m.task) list ∙ ap (option_map (λ (m : Member). m.task)) (find_nowhere (λ m. m.task.ticket == ticket) list none)
+
+pub not_enabled : (list : List Member) (ticket : ℕ) → All (λ m. (m.task.ticket == ticket) ≡ false) list → is_enabled_in ticket list ≡ false
+not_enabled list ticket none = list_any_none (λ m. m.task.ticket == ticket && m.enabled) list (λ j e l. and_left _ _ (none j e l))

@@ -1,0 +1,41 @@
+use Rattle.std.proofs.Common.{◌≡◌, ◌<◌, ◌+◌, ◌∷◌, ◌++◌, [], ◌∙◌, false, length, ap, sym, subst, arith}
+use Rattle.std.proofs.lemmas.List.{length_push}
+use Rattle.iscsi_tasks.specs.Sets.{Members, IsNewest, entered_to, after_moment}
+use Rattle.iscsi_tasks.specs.Counted.{IsSettled, is_free_behind}
+use Rattle.iscsi_tasks.specs.Changes.{Entered, StandsFor}
+use Rattle.iscsi_tasks.proofs.MomentLemmas.{settled_after}
+use Rattle.iscsi_tasks.proofs.EnterLemmas.{moment_entered}
+use Rattle.iscsi_tasks.proofs.HistoryLemmas.{StandsFor-entered}
+use Rattle.iscsi_tasks.proofs.set.TaskSet.enter.Goals as goal
+
+-- the set after the moment is the set with the command
+after : (c : goal.After-push) → after_moment (c.self.inside.members.items ++ record { task = c.args.task; enabled = false; given = false } ∷ []) ≡ c.push.new.members.items
+after c =
+    let list = c.self.inside.members.items in
+    let newest = subst (λ (s : Members). IsNewest c.args.task.ticket s) (sym c.self.view_is) c.requires in
+    let enabled : c.test_free-enabled.result ≡ is_free_behind c.self.inside.counts (length list) c.args.task.attr = c.test_free-enabled.ensures.value ∙ ap (λ n. is_free_behind c.self.inside.counts n c.args.task.attr) (c.len-len.ensures ∙ c.self.inside.members.ok.0) in
+    moment_entered c.self.inside.counts c.args.task list c.self.invariant.counted c.self.invariant.settled newest
+    ∙ ap (λ b. list ++ record { task = c.args.task; enabled = b; given = false } ∷ []) (sym enabled)
+    ∙ sym c.push.ensures.items
+
+room : (c : goal.After-push) → (length c.self.inside.members.items < c.self.inside.depth) × (length c.push.new.members.items ≡ length c.self.inside.members.items + 1)
+room c = (omega (arith, c.self.invariant.within, c.self.inside.members.ok.0), ap length c.push.ensures.items ∙ length_push c.self.inside.members.items (record { task = c.args.task; enabled = c.test_free-enabled.result; given = false }))
+
+pub invariant_of-self-2 : goal.invariant_of-self-2
+invariant_of-self-2 c = record {
+  least = c.self.invariant.least;
+  within = omega (arith, (room c).0, (room c).1);
+  room_left = omega (arith, c.self.invariant.room_left, c.push.ensures.capacity);
+  most = c.self.invariant.most;
+  counted = c.push.ensures.counted;
+  settled = subst IsSettled (after c) (settled_after (c.self.inside.members.items ++ record { task = c.args.task; enabled = false; given = false } ∷ []));
+}
+
+pub returns-clause-ok : goal.returns-clause-ok
+returns-clause-ok c =
+    let i = c.self.inside in
+    subst (λ (s : Members). (length s.list < s.depth) × (record { depth = i.depth; looked = c.test_free-enabled.new.looked; list = c.push.new.members.items } ≡ entered_to s c.args.task)) c.self.view_is
+    ((room c).0, ap (λ n. record { depth = i.depth; looked = n; list = c.push.new.members.items }) c.test_free-enabled.ensures.looked ∙ ap (λ l. record { depth = i.depth; looked = 1; list = l }) (sym (after c)))
+
+pub returns-clause-stands : goal.returns-clause-stands
+returns-clause-stands c = λ h st new. subst (λ (s : Members). StandsFor s (Entered c.args.task ∷ h)) (sym (returns-clause-ok c).1) (StandsFor-entered c.args.self.now c.args.task h st new)

@@ -1,0 +1,101 @@
+-- What a set keeps beside its commands, so that none of them is tested again.
+use Rattle.std.specs.Prelude.{◌≡◌, ℕ, ◌+◌, ◌-◌, ◌<◌, ◌≤◌, ◌==◌, ◌&&◌, ◌||◌, not, max, min, nat_lt, Bool, true, false, List, length, All, slice_index_or, count_by, Option, MatchOption, if◌then◌else◌}
+use Rattle.std.specs.List.{position_or_len}
+use Rattle.iscsi_tasks.specs.declared.task.Attr.{Attr}
+use Rattle.iscsi_tasks.specs.declared.task.Attr.TheVariants.{Simple, Ordered, Head}
+use Rattle.iscsi_tasks.specs.declared.member.Member.{Member}
+use Rattle.iscsi_tasks.specs.declared.counts.Counts.{Counts}
+use Rattle.iscsi_tasks.specs.Sets.{is_head_of, is_ordered_of, is_new, InOrder, is_free_among}
+
+abbrev pub is_head_in : Member → Bool
+is_head_in m = is_head_of m.task.attr
+
+abbrev pub is_ordered_in : Member → Bool
+is_ordered_in m = is_ordered_of m.task.attr
+
+-- the place of the command with this ticket, or none
+abbrev pub IsPlaceOf : List Member → ℕ → Option ℕ → Type 0
+IsPlaceOf list ticket r = MatchOption r (All (λ m. (m.task.ticket == ticket) ≡ false) list) (λ k. (k < length list) × ((d : Member) → (slice_index_or list k d).task.ticket ≡ ticket))
+
+-- the counts are those of the set
+pub record IsCounted (c : Counts) (list : List Member) : Type 0 where
+  pub order : InOrder list
+  pub heads : c.heads ≡ count_by is_head_in list
+  pub ordered_at : c.ordered_at ≡ position_or_len is_ordered_in list
+  pub enabled_to : c.enabled_to ≤ length list
+  pub enabled : (k : ℕ) (d : Member) → k < c.enabled_to → (slice_index_or list k d).enabled ≡ true
+  pub heads_enabled : All (λ m. is_head_in m ≡ true → m.enabled ≡ true) list
+  pub new_to : c.new_to ≤ length list
+  pub new : (k : ℕ) (d : Member) → k < length list → is_new (slice_index_or list k d) ≡ true → (c.new_from ≤ k) × (k < c.new_to)
+
+-- every command that is free is enabled
+abbrev pub IsSettled : List Member → Type 0
+IsSettled list = All (λ m. (m.enabled || is_free_among m.task list) ≡ m.enabled) list
+
+-- what holds of every set: it holds no more than its depth, whose room it has, and no command waits to be enabled
+pub record IsKept (depth room : ℕ) (c : Counts) (list : List Member) : Type 0 where
+  pub least : 1 ≤ depth
+  pub within : length list ≤ depth
+  pub room_left : depth ≤ room
+  pub most : depth ≤ 1024
+  pub counted : IsCounted c list
+  pub settled : IsSettled list
+
+-- a command that enters behind so many others is free
+abbrev pub is_free_behind : Counts → ℕ → Attr → Bool
+is_free_behind c len Head = true
+is_free_behind c len Ordered = len == 0
+is_free_behind c len Simple = c.heads == 0 && c.ordered_at == len
+
+-- where no HEAD OF QUEUE is in the set: how many commands, from the oldest on, are free
+abbrev pub free_to : Counts → ℕ → ℕ
+free_to c len = min len (max 1 c.ordered_at)
+
+abbrev pub plus_one_if : Bool → ℕ → ℕ
+plus_one_if b n = if b then n + 1 else n
+
+-- a place, after the command at another one left
+abbrev pub shifted_by : ℕ → ℕ → ℕ
+shifted_by at place = if nat_lt at place then place - 1 else place
+
+-- the first place of what is new, where what is new begins at this place now
+abbrev pub new_from_with : Counts → ℕ → ℕ
+new_from_with c place = if c.new_from == c.new_to then place else min c.new_from place
+
+-- one command more, the last
+abbrev pub with_last : Counts → ℕ → Attr → Bool → Counts
+with_last c len attr enabled = record {
+  heads = plus_one_if (is_head_of attr) c.heads;
+  ordered_at = plus_one_if (c.ordered_at == len && not (is_ordered_of attr)) c.ordered_at;
+  enabled_to = plus_one_if (c.enabled_to == len && enabled) c.enabled_to;
+  new_from = if enabled then new_from_with c len else c.new_from;
+  new_to = if enabled then len + 1 else c.new_to;
+}
+
+-- the command at this place left, and the oldest ORDERED one is at that place now
+abbrev pub without_one : Counts → ℕ → Attr → ℕ → Counts
+without_one c at attr ordered_at = record {
+  heads = if is_head_of attr then c.heads - 1 else c.heads;
+  ordered_at = ordered_at;
+  enabled_to = shifted_by at c.enabled_to;
+  new_from = shifted_by at c.new_from;
+  new_to = shifted_by at c.new_to;
+}
+
+-- the commands from the last enabled one up to this place are enabled too
+abbrev pub with_enabled : Counts → ℕ → Counts
+with_enabled c to = record {
+  heads = c.heads;
+  ordered_at = c.ordered_at;
+  enabled_to = to;
+  new_from = new_from_with c c.enabled_to;
+  new_to = max c.new_to to;
+}
+
+-- a member that is enabled from now on
+abbrev pub enabled_now : Member → Member
+enabled_now m = record { task = m.task; enabled = true; given = m.given }
+
+-- a member whose ticket is given from now on
+abbrev pub given_now : Member → Member
+given_now m = record { task = m.task; enabled = m.enabled; given = true }

@@ -1,0 +1,4 @@
+pub mod Rules
+pub mod Sets
+pub mod Changes
+pub mod Counted

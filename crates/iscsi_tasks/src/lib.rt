@@ -1,0 +1,18 @@
+//! The task set of a logical unit (SAM-5): the commands that entered it and didn't leave, and which of them are
+//! enabled.
+//!
+//! A set takes memory when it is opened, and never again.
+#![tactic(auto)]
+
+mod counts;
+mod cover;
+mod fault;
+mod member;
+mod queue;
+mod set;
+mod task;
+
+pub use cover::Cover;
+pub use fault::TaskFault;
+pub use set::TaskSet;
+pub use task::{Attr, Task};

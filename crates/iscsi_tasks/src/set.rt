@@ -1,0 +1,202 @@
+//! The task set: its commands in the order in which they entered.
+
+ghost use Rattle.std.specs.Prelude.{Err, ◌≡◌, ◌+◌, ◌<◌, ◌≤◌, ◌⊎◌, ◌↔◌, List, [], ◌∷◌, length, slice_index_or, Option, Some, IsTrue, IfOk, IfErr, OnOk, OnErr};
+ghost use Rattle.iscsi_tasks.specs.Sets.{tasks_in, opened, InOrder, IsNewest, entered_to, refused_by, left_by, with_ticket, with_tag, first_covered, is_enabled_in, next_in, given_by, StaysFree};
+ghost use Rattle.iscsi_tasks.specs.Changes.{Change, Entered, AllBelow, StandsFor, live, IsEnabled, next_after, after_giving, after_leaving};
+ghost use Rattle.iscsi_tasks.specs.Counted.{is_free_behind};
+
+use crate::counts::Counts;
+use crate::cover::Cover;
+use crate::fault::TaskFault;
+use crate::member::Member;
+use crate::queue::{
+    Queue, enable_free, first_covered, give_next, place_of, push, remove, with_tag,
+};
+use crate::task::{Attr, Task};
+use std::alloc::Global;
+use std::marker::Model;
+
+#[cfg(test)]
+mod tests;
+
+/// The most commands that a task set may hold.
+const MOST_TASKS: u32 = 1024;
+
+/// The commands of one logical unit that entered its task set and didn't leave it, and which of them the unit may
+/// execute (SAM-5).
+///
+/// A HEAD OF QUEUE command is free always. An ORDERED one is free when no older command and no other HEAD OF QUEUE
+/// command is in the set, a SIMPLE one when no older ORDERED and no HEAD OF QUEUE command is. A command is enabled when
+/// it was free at some moment since it entered, a moment being after each entering and after each leaving. It stays
+/// enabled until it leaves.
+///
+/// The set tests no command twice. Counts and the order of entering tell what a leaving enables, and tickets, which go
+/// up along the set, are found by halving.
+#[derive(Drop)]
+pub struct TaskSet {
+    depth: u32,
+    looked: u32,
+    counts: Counts,
+    members: Queue,
+}
+
+impl Model for TaskSet {
+    ghost use Rattle.std.specs.Prelude.{◌≡◌};
+    ghost use Rattle.std.specs.VecDeque.{deque_capacity};
+    ghost use Rattle.iscsi_tasks.specs.Sets.{Members};
+    ghost use Rattle.iscsi_tasks.specs.Counted.{IsKept};
+
+    ghost Value = { Members };
+
+    ghost view = { λ s. record { depth = s.depth; looked = s.looked; list = s.members.items } };
+
+    ghost invariant = { λ s. IsKept s.depth (deque_capacity s.members) s.counts s.members.items };
+}
+
+impl TaskSet {
+    /// Opens an empty set for at most `depth` commands, from 1 to 1024. It takes all its memory here.
+    ///
+    /// Refusals, in order: `BadDepth`, `NoMemory`.
+    pub fn open(alloc: Global, depth: u32) -> Result<TaskSet, TaskFault>
+        ensures ok { IfOk result (λ s. s ≡ opened depth) }
+        ensures bad_depth { (result ≡ Err TaskFault.BadDepth) ↔ ((depth < 1) ⊎ (1024 < depth)) }
+        ensures stands { IfOk result (λ s. StandsFor s []) }
+    {
+        if depth < 1 || depth > MOST_TASKS {
+            return Err(TaskFault::BadDepth);
+        }
+        let members = Queue::with_capacity(alloc, depth as usize).map_err(|_| TaskFault::NoMemory)?;
+        Ok(TaskSet {
+            depth,
+            looked: 0,
+            counts: Counts::new(),
+            members,
+        })
+    }
+
+    /// How many commands the set holds.
+    pub fn len(&self) -> u32
+        ensures len { result ≡ length self.now.list }
+        ensures bound { length self.now.list ≤ self.now.depth }
+        ensures order { InOrder self.now.list }
+        ensures stands { (h : List Change) → StandsFor self.now h → result ≡ length (live h) }
+    {
+        self.members.len() as u32
+    }
+
+    /// The most commands that the set may hold.
+    pub fn depth(&self) -> u32
+        ensures depth { result ≡ self.now.depth }
+        ensures range { (1 ≤ self.now.depth) × (self.now.depth ≤ 1024) }
+    {
+        self.depth
+    }
+
+    /// How many commands the last call of `enter` tested for being free: 1 where the command entered, and 0 where the set
+    /// was full or `enter` wasn't called yet.
+    pub fn looked(&self) -> u32
+        ensures { result ≡ self.now.looked }
+    {
+        self.looked
+    }
+
+    /// The command enters the set, behind all others: its ticket is greater than all before. Where the set is full it
+    /// comes back, and nothing changes but `looked`. The cost doesn't grow with the set.
+    pub fn enter(&mut self, task: Task) -> Result<(), Task>
+        requires { IsNewest task.ticket self.old }
+        ensures ok { OnOk result ((length self.old.list < self.old.depth) × (self.new ≡ entered_to self.old task)) }
+        ensures full { OnErr result ((length self.old.list ≡ self.old.depth) × (self.new ≡ refused_by self.old)) }
+        ensures back { IfErr result (λ t. t ≡ task) }
+        ensures stands { (h : List Change) → StandsFor self.old h → AllBelow task.ticket h → OnOk result (StandsFor self.new (Entered task ∷ h)) }
+        ensures stands_full { (h : List Change) → StandsFor self.old h → OnErr result (StandsFor self.new h) }
+    {
+        let len = self.members.len();
+        self.looked = 0;
+        if len == self.depth as usize {
+            return Err(task);
+        }
+        let enabled = test_free(&mut self.looked, &self.counts, len, task.attr);
+        push(&mut self.members, &mut self.counts, task, enabled);
+        Ok(())
+    }
+
+    /// The command with this ticket leaves. Where there is none, nothing changes.
+    ///
+    /// What grows with the set is that the commands on one side of it close up, by moving memory: the side with fewer,
+    /// so none where the oldest leaves.
+    pub fn leave(&mut self, ticket: u64) -> Option<Task>
+        ensures answer { result ≡ with_ticket ticket (tasks_in self.old) }
+        ensures state { self.new ≡ left_by self.old (with_ticket ticket (tasks_in self.old)) }
+        ensures stands { (h : List Change) → StandsFor self.old h → (result ≡ with_ticket ticket (live h)) × StandsFor self.new (after_leaving result h) }
+        ensures stays_free { StaysFree }
+    {
+        let at = place_of(&self.members, ticket)?;
+        Some(self.take_out(at))
+    }
+
+    /// The oldest of the covered commands leaves. Where none is covered, nothing changes.
+    ///
+    /// It looks along the set: aborts are rare, and what they cover is no part of its order.
+    pub fn leave_first(&mut self, cover: &Cover) -> Option<Task>
+        ensures answer { result ≡ first_covered cover.now (tasks_in self.old) }
+        ensures state { self.new ≡ left_by self.old (first_covered cover.now (tasks_in self.old)) }
+        ensures stands { (h : List Change) → StandsFor self.old h → (result ≡ first_covered cover.now (live h)) × StandsFor self.new (after_leaving result h) }
+    {
+        let at = first_covered(&self.members, cover)?;
+        Some(self.take_out(at))
+    }
+
+    /// Whether a command with this ticket is in the set and enabled.
+    pub fn is_enabled(&self, ticket: u64) -> bool
+        ensures answer { result ≡ is_enabled_in ticket self.now.list }
+        ensures since { (h : List Change) → StandsFor self.now h → IsTrue result ↔ IsEnabled ticket h }
+    {
+        match place_of(&self.members, ticket) {
+            Some(at) => self.members[at].enabled,
+            None => false,
+        }
+    }
+
+    /// The oldest command with this Initiator Task Tag.
+    ///
+    /// It looks along the set, since tags come in no order. A session that asks often keeps an index of its own.
+    pub fn find(&self, itt: u32) -> Option<Task>
+        ensures answer { result ≡ with_tag itt (tasks_in self.now) }
+        ensures stands { (h : List Change) → StandsFor self.now h → result ≡ with_tag itt (live h) }
+    {
+        with_tag(&self.members, itt)
+    }
+
+    /// The oldest enabled ticket that no call gave before.
+    ///
+    /// It looks only at the commands from the first to the last that may be new, so its cost doesn't grow with the set
+    /// for a caller that asks after each change until there is none.
+    pub fn next_new(&mut self) -> Option<u64>
+        ensures answer { result ≡ next_in self.old.list }
+        ensures state { self.new ≡ given_by self.old }
+        ensures stands { (h : List Change) → StandsFor self.old h → (result ≡ next_after h) × StandsFor self.new (after_giving result h) }
+    {
+        give_next(&mut self.members, &mut self.counts)
+    }
+
+    /// The command at this place leaves.
+    fn take_out(&mut self, at: usize) -> Task
+        requires { at < length self.old.list }
+        ensures answer { (d : Member) → result ≡ (slice_index_or self.old.list at d).task }
+        ensures state { self.new ≡ left_by self.old (Some result) }
+    {
+        let task = remove(&mut self.members, &mut self.counts, at);
+        enable_free(&mut self.members, &mut self.counts);
+        task
+    }
+}
+
+/// Whether a command is free, when it enters behind `len` others. Each such test is made here, and counted.
+fn test_free(looked: &mut u32, counts: &Counts, len: usize, attr: Attr) -> bool
+    requires { looked.old < 1 }
+    ensures value { result ≡ is_free_behind counts.now len attr }
+    ensures looked { looked.new ≡ looked.old + 1 }
+{
+    *looked += 1;
+    counts.is_free_behind(len, attr)
+}

@@ -1,0 +1,276 @@
+ghost use Rattle.std.specs.Prelude.{IsTrue};
+ghost use Rattle.iscsi_tasks.specs.Sets.{IsNewest};
+
+use super::TaskSet;
+use crate::{Attr, Cover, Task, TaskFault};
+use std::process::Abort;
+use std::test::Fail;
+
+/// A numbered command of connection 1 whose tag is its ticket.
+fn task(ticket: u64, attr: Attr) -> Task {
+    let number = (ticket % (1 << 32)) as u32;
+    Task {
+        ticket,
+        conn: 1,
+        itt: number,
+        attr,
+        immediate: false,
+        pos: i64::from(number),
+        event: ticket,
+    }
+}
+
+/// Whether the ticket is above those of the set.
+fn is_newest(set: &TaskSet, ticket: u64) -> bool
+    ensures { IsTrue result → IsNewest ticket set.now }
+{
+    set.members.iter().all(|m| m.task.ticket < ticket)
+}
+
+fn enter(rt: &impl Abort, set: &mut TaskSet, task: Task) -> Result<(), Task> {
+    assert!(rt; is_newest(set, task.ticket));
+    set.enter(task)
+}
+
+/// What three calls give.
+fn new_ones(set: &mut TaskSet) -> [Option<u64>; 3] {
+    [set.next_new(), set.next_new(), set.next_new()]
+}
+
+#[test]
+fn depths(rt: HostRuntime) -> Result<(), Fail> {
+    let alloc = rt.alloc();
+    for depth in [0, 1025, u32::MAX] {
+        assert_eq!(rt;
+            TaskSet::open(alloc, depth).err(),
+            Some(TaskFault::BadDepth)
+        );
+    }
+    for depth in [1, 1024] {
+        let set = TaskSet::open(alloc, depth)?;
+        assert_eq!(rt; set.depth(), depth);
+        assert_eq!(rt; set.len(), 0);
+        assert_eq!(rt; set.looked(), 0);
+    }
+    Ok(())
+}
+
+#[test]
+fn heads_and_ordered(rt: HostRuntime) -> Result<(), Fail> {
+    let mut set = TaskSet::open(rt.alloc(), 8)?;
+    for (ticket, attr, new) in [
+        (1, Attr::Ordered, Some(1)),
+        (2, Attr::Simple, None),
+        (3, Attr::Head, Some(3)),
+        (4, Attr::Head, Some(4)),
+        (5, Attr::Ordered, None),
+        (6, Attr::Simple, None),
+    ] {
+        assert_eq!(rt; enter(&rt, &mut set, task(ticket, attr)), Ok(()));
+        assert_eq!(rt; set.looked(), 1);
+        assert_eq!(rt; new_ones(&mut set), [new, None, None], "of {ticket}");
+    }
+    for (ticket, attr, new) in [
+        (1, Attr::Ordered, None),
+        (3, Attr::Head, None),
+        (4, Attr::Head, Some(2)),
+        (2, Attr::Simple, Some(5)),
+        (5, Attr::Ordered, Some(6)),
+        (6, Attr::Simple, None),
+    ] {
+        assert_eq!(rt; set.leave(ticket), Some(task(ticket, attr)));
+        assert_eq!(rt; new_ones(&mut set), [new, None, None], "of {ticket}");
+        if ticket == 3 {
+            assert_eq!(rt; set.is_enabled(2), false);
+        }
+    }
+    assert_eq!(rt; set.len(), 0);
+    assert_eq!(rt; set.looked(), 1);
+    assert_eq!(rt; set.leave(6), None);
+    Ok(())
+}
+
+#[test]
+fn a_full_set_hands_the_task_back(rt: HostRuntime) -> Result<(), Fail> {
+    let mut set = TaskSet::open(rt.alloc(), 2)?;
+    let late = task(7, Attr::Head);
+    assert_eq!(rt; enter(&rt, &mut set, task(1, Attr::Ordered)), Ok(()));
+    assert_eq!(rt; enter(&rt, &mut set, task(2, Attr::Ordered)), Ok(()));
+    assert_eq!(rt; enter(&rt, &mut set, late), Err(late));
+    assert_eq!(rt; set.looked(), 0);
+    assert_eq!(rt; set.len(), 2);
+    assert_eq!(rt; new_ones(&mut set), [Some(1), None, None]);
+    assert_eq!(rt; set.leave(1), Some(task(1, Attr::Ordered)));
+    assert_eq!(rt; enter(&rt, &mut set, late), Ok(()));
+    assert_eq!(rt; new_ones(&mut set), [Some(2), Some(7), None]);
+    Ok(())
+}
+
+#[test]
+fn the_oldest_with_a_tag_is_found(rt: HostRuntime) -> Result<(), Fail> {
+    let mut set = TaskSet::open(rt.alloc(), 4)?;
+    for ticket in [3, 5, 9] {
+        let named = Task {
+            itt: if ticket == 3 { 0xa1 } else { 0xa2 },
+            ..task(ticket, Attr::Simple)
+        };
+        assert_eq!(rt; enter(&rt, &mut set, named), Ok(()));
+    }
+    assert_eq!(rt; set.find(0xa2).map(|t| t.ticket), Some(5));
+    assert_eq!(rt; set.find(0xa3), None);
+    for (ticket, enabled) in [(3, true), (4, false), (9, true), (10, false)] {
+        assert_eq!(rt; set.is_enabled(ticket), enabled, "of {ticket}");
+    }
+    Ok(())
+}
+
+#[test]
+fn covered_commands_leave_oldest_first(rt: HostRuntime) -> Result<(), Fail> {
+    let mut set = TaskSet::open(rt.alloc(), 8)?;
+    // The second and the third command are immediate, of the number and on both sides of the function's arrival.
+    for (ticket, conn, immediate, pos, event) in [
+        (1, 1, false, -1, 1),
+        (2, 2, true, 6, 4),
+        (3, 1, true, 6, 6),
+        (4, 2, false, 5, 7),
+        (5, 1, false, 6, 3),
+    ] {
+        let placed = Task {
+            conn,
+            immediate,
+            pos,
+            event,
+            ..task(ticket, Attr::Simple)
+        };
+        assert_eq!(rt; enter(&rt, &mut set, placed), Ok(()));
+    }
+    let below = Cover::Below { pos: 6, event: 5 };
+    for (cover, left) in [
+        (below, Some(1)),
+        (below, Some(2)),
+        (Cover::Conn(2), Some(4)),
+        (Cover::Conn(2), None),
+        (below, None),
+        (Cover::All, Some(3)),
+        (Cover::All, Some(5)),
+        (Cover::All, None),
+    ] {
+        let answer = set.leave_first(&cover).map(|t| t.ticket);
+        assert_eq!(rt; answer, left, "of {cover:?}");
+    }
+    Ok(())
+}
+
+/// A command as the plain scan keeps it.
+#[derive(Clone, Copy)]
+struct Plain {
+    task: Task,
+    is_inside: bool,
+    is_enabled: bool,
+    is_given: bool,
+}
+
+/// The rules of SAM-5, tested against every other command.
+fn is_barred(plain: &[Plain], task: &Task) -> bool {
+    plain.iter().any(|other| {
+        let is_older = other.task.ticket < task.ticket;
+        let is_other_head = other.task.attr == Attr::Head && other.task.ticket != task.ticket;
+        let bars = match task.attr {
+            Attr::Head => false,
+            Attr::Ordered => is_older || is_other_head,
+            Attr::Simple => is_older && other.task.attr == Attr::Ordered || is_other_head,
+        };
+        other.is_inside && bars
+    })
+}
+
+/// Notes a moment by a scan of the whole set.
+fn note_moment(plain: &mut [Plain]) {
+    for k in 0..plain.len() {
+        let task = plain[k].task;
+        let is_free = !is_barred(plain, &task);
+        plain[k].is_enabled |= plain[k].is_inside && is_free;
+    }
+}
+
+fn next_plain(plain: &mut [Plain]) -> Option<u64> {
+    for p in plain.iter_mut() {
+        if p.is_inside && p.is_enabled && !p.is_given {
+            p.is_given = true;
+            return Some(p.task.ticket);
+        }
+    }
+    None
+}
+
+/// Both enable the same commands, and give the same tickets.
+fn agree(rt: &impl Abort, set: &mut TaskSet, plain: &mut [Plain; 5]) {
+    note_moment(plain);
+    for p in plain.iter() {
+        assert_eq!(rt; set.is_enabled(p.task.ticket), p.is_inside && p.is_enabled);
+    }
+    for _ in 0..6 {
+        assert_eq!(rt; set.next_new(), next_plain(plain));
+    }
+}
+
+/// Five commands enter, whose attributes are the digits of `attrs` to the base 3.
+fn enter_all(rt: &impl Abort, set: &mut TaskSet, plain: &mut [Plain; 5], attrs: u32) {
+    let mut digits = attrs;
+    for k in 0..5 {
+        let attr = match digits % 3 {
+            0 => Attr::Simple,
+            1 => Attr::Ordered,
+            _ => Attr::Head,
+        };
+        digits /= 3;
+        let next = task(k as u64 + 1, attr);
+        assert_eq!(rt; enter(rt, set, next), Ok(()));
+        plain[k].task = next;
+        plain[k].is_inside = true;
+        agree(rt, set, plain);
+    }
+}
+
+/// They leave: `order` is from 0 to 119, and says at each leaving how many older commands stay.
+fn leave_all(rt: &impl Abort, set: &mut TaskSet, plain: &mut [Plain; 5], order: u32) {
+    let mut digits = order;
+    for left in 0..5 {
+        let skip = digits % (5 - left);
+        digits /= 5 - left;
+        let mut inside = plain.iter().filter(|p| p.is_inside);
+        let task = inside.nth(skip as usize).map(|p| p.task);
+        assert!(rt; task.is_some());
+        if let Some(task) = task {
+            assert_eq!(rt; set.leave(task.ticket), Some(task));
+            take_out(plain, task.ticket);
+        }
+        agree(rt, set, plain);
+    }
+}
+
+fn take_out(plain: &mut [Plain], ticket: u64) {
+    for p in plain.iter_mut() {
+        p.is_inside &= p.task.ticket != ticket;
+    }
+}
+
+#[test]
+fn counts_agree_with_the_plain_scan(rt: HostRuntime) -> Result<(), Fail> {
+    let outside = Plain {
+        task: task(0, Attr::Simple),
+        is_inside: false,
+        is_enabled: false,
+        is_given: false,
+    };
+    for attrs in 0..243 {
+        for order in 0..120 {
+            let mut set = TaskSet::open(rt.alloc(), 5)?;
+            let mut plain = [outside; 5];
+            enter_all(&rt, &mut set, &mut plain, attrs);
+            leave_all(&rt, &mut set, &mut plain, order);
+            assert_eq!(rt; set.len(), 0);
+        }
+    }
+    Ok(())
+}
