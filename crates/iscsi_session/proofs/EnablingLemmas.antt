@@ -6,7 +6,7 @@ use Rattle.std.proofs.lemmas.List.{append-nil}
 use Rattle.std.proofs.lemmas.List.Folds.{list_any-append}
 use Rattle.iscsi_session.specs.declared.effect.Effect.TheVariants.{Enable}
 use Rattle.iscsi_session.specs.declared.event.Event.{Event}
-use Rattle.iscsi_session.specs.declared.session.Live.{Live}
+use Rattle.iscsi_session.specs.declared.session.live.Live.{Live}
 use Rattle.iscsi_session.specs.Settings.{Setting}
 use Rattle.iscsi_session.specs.Trace.{Command, Mark, Admits, Delivers, Leaves, Enters, Sends, Ignores, Trace, after_items, has, entered, leaves_ticket, live, live_in, is_among, first_of, is_free_at, was_free}
 use Rattle.iscsi_session.specs.Agenda.{items_of}

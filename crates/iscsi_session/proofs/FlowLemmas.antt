@@ -12,7 +12,7 @@ use Rattle.iscsi_session.specs.declared.effect.Why.{Why}
 use Rattle.iscsi_session.specs.declared.effect.Why.TheVariants.{Outside, Duplicate, Data, Stale}
 use Rattle.iscsi_session.specs.declared.event.Event.{Event}
 use Rattle.iscsi_session.specs.declared.event.Event.TheVariants.{Arrive, Done}
-use Rattle.iscsi_session.specs.declared.session.Live.{Live}
+use Rattle.iscsi_session.specs.declared.session.live.Live.{Live}
 use Rattle.iscsi_session.specs.declared.verdict.Verdict.{Verdict}
 use Rattle.iscsi_session.specs.declared.verdict.Verdict.TheVariants.{Answer, Enter}
 use Rattle.iscsi_session.specs.Settings.{Setting}

@@ -8,7 +8,7 @@ use Rattle.std.proofs.lemmas.Cmp.{ranked}
 use Rattle.std.proofs.lemmas.Bool.{cases_eq, cases_lt}
 use Rattle.std.proofs.lemmas.Bool.Decides.{nat_tests}
 use Rattle.std.proofs.lemmas.List.Elements.{All-head, All-tail}
-use Rattle.iscsi_session.specs.declared.session.Live.{Live}
+use Rattle.iscsi_session.specs.declared.session.live.Live.{Live}
 use Rattle.iscsi_session.specs.Standing.{are_ascending}
 use Rattle.iscsi_session.specs.Steps.{IsTicketPlace, find_ticket, without_ticket}
 use Rattle.iscsi_session.proofs.ListLemmas.{and_first, and_second}

@@ -6,7 +6,7 @@ ghost use Rattle.std.specs.HashMap.{get, hash_map_len, spare, Updates};
 ghost use Rattle.iscsi_session.specs.Standing.{are_ascending};
 ghost use Rattle.iscsi_session.specs.Steps.{AreIndexed, tag_room};
 
-use crate::session::{Live, find};
+use crate::session::live::{Live, find};
 use std::alloc::Global;
 use std::collections::{HashMap, VecDeque};
 

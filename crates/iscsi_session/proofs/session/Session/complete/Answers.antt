@@ -6,7 +6,7 @@ use Rattle.std.proofs.lemmas.Bool.{eqb-true}
 use Rattle.std.proofs.lemmas.Bool.Decides.{nat_tests}
 use Rattle.iscsi_window.specs.Windows.{Received}
 use Rattle.iscsi_tasks.specs.Sets.{Members}
-use Rattle.iscsi_session.specs.declared.session.Live.{Live}
+use Rattle.iscsi_session.specs.declared.session.live.Live.{Live}
 use Rattle.iscsi_session.specs.Standing.{Core, are_known, is_held, is_place_known, Match, are_ascending, are_within}
 use Rattle.iscsi_session.specs.Steps.{AreIndexed, find_ticket, without_ticket, set_without, all_given}
 use Rattle.iscsi_session.proofs.ListLemmas.{find-passes, are_known-left}

@@ -1,6 +1,6 @@
 use Rattle.std.proofs.Common.{◌≡◌, ◌<◌, ◌≤◌, ℕ, Some, get_or, nat_eq}
 use Rattle.std.specs.HashMap.{get, hash_map_len}
-use Rattle.iscsi_session.specs.declared.session.Live.{Live}
+use Rattle.iscsi_session.specs.declared.session.live.Live.{Live}
 use Rattle.iscsi_session.specs.Steps.{tag_room}
 use Rattle.iscsi_session.proofs.session.tags.renew.Given as goal
 

@@ -1,7 +1,7 @@
 use Rattle.std.proofs.Common.{◌∙◌, ap, sym, Some}
-use Rattle.iscsi_session.specs.declared.session.Live.{Live}
+use Rattle.iscsi_session.specs.declared.session.live.Live.{Live}
 use Rattle.iscsi_session.proofs.SearchLemmas.{found_at, found_nowhere}
-use Rattle.iscsi_session.proofs.session.find.Goals as goal
+use Rattle.iscsi_session.proofs.session.live.find.Goals as goal
 
 pub returns-in_err-at : goal.returns-in_err-at
 returns-in_err-at c = c.from_residual.ensures ∙ sym (found_nowhere c.args.live.now.items c.args.ticket c.in_err-at.ensures)

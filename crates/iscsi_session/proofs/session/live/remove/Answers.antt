@@ -1,8 +1,8 @@
 use Rattle.std.proofs.Common.{◌≡◌, ◌∙◌, ◌<◌, Option, Some, OnSome, length, get_or, sym, subst, arith}
 use Rattle.std.specs.List.{remove}
-use Rattle.iscsi_session.specs.declared.session.Live.{Live}
+use Rattle.iscsi_session.specs.declared.session.live.Live.{Live}
 use Rattle.iscsi_session.proofs.SearchLemmas.{removed_at, kept_all}
-use Rattle.iscsi_session.proofs.session.remove.Goals as goal
+use Rattle.iscsi_session.proofs.session.live.remove.Goals as goal
 
 pub returns-in-Some-clause-items : goal.returns-in-Some-clause-items
 returns-in-Some-clause-items c =

@@ -3,7 +3,7 @@ use Rattle.std.specs.List.Sorted.{IsSearchInRange}
 use Rattle.std.proofs.lemmas.List.Sorted.{answers_always}
 use Rattle.iscsi_session.specs.Steps.{IsTicketPlace}
 use Rattle.iscsi_session.proofs.SearchLemmas.{searched}
-use Rattle.iscsi_session.proofs.session.ticket_place.Goals as goal
+use Rattle.iscsi_session.proofs.session.live.ticket_place.Goals as goal
 
 pub returns : goal.returns
 returns c =

@@ -1,0 +1,103 @@
+//! The arrival of a request, and the turns that become due by it.
+
+ghost use Rattle.std.specs.Prelude.{false, Err, ◌*◌, ◌≡◌, ◌==◌, position, ◌≢◌, ℕ, ◌+◌, ◌≤◌, ◌<◌, true, List, [], ◌∷◌, ◌++◌, OnOk, OnErr, IfOk, IfSome, length, count_by, is_some, vec_len, vec_capacity};
+ghost use Rattle.iscsi_wire.specs.Fields.{connection_of, itt as tag_of};
+ghost use Rattle.iscsi_window.specs.Windows.{HasRoom, at_place, offer_to, number_expected};
+ghost use Rattle.iscsi_session.specs.Settings.{Setting, setting_of, is_known as known_in};
+ghost use Rattle.iscsi_session.specs.Trace.{Trace, after_items};
+ghost use Rattle.iscsi_session.specs.Execution.{exp_of, sense_of_status, reject as reject_of, attr_of as attr_named};
+ghost use Rattle.std.specs.VecDeque.{deque_capacity};
+ghost use Rattle.iscsi_session.specs.Agenda.{due, turns, arrival, arrival_of, items_of};
+ghost use Rattle.iscsi_session.specs.Run.{trace_of, next_entry, effects_of, after_event};
+ghost use Rattle.iscsi_session.specs.Flow.{Flows};
+ghost use Rattle.iscsi_session.specs.Refusals.{RefusesAs, refusal_of, refusal_of_options};
+ghost use Rattle.iscsi_session.specs.Standing.{Agrees, Settled, StandsFor, effect_bound_of, stat_sn_on, is_held, are_ascending};
+ghost use Rattle.iscsi_session.specs.Steps.{refusal_by, comes_on, set_at, is_set_full, is_tag_kept, verdict_by, with_command, entry_effects, with_reply, reply_effects, with_executed, execution_effects, turned_if, turn_effects, KeepsPace, with_offered, find_ticket, IsTicketPlace, find_enabled, without_ticket, without_command, leave_effects, after_completion, completion_effects, counted, numbers_by, count_reply};
+
+use crate::effect::{Effect, Why};
+use crate::session::Session;
+use iscsi_window::{Offer, Turned};
+use iscsi_wire::Request;
+
+/// The opcode of a SCSI Command.
+const SCSI_COMMAND: u8 = 0x01;
+
+impl Session {
+    /// Takes a request that arrived.
+    pub(crate) fn arrive(&mut self, request: Request, out: &mut Vec<Effect>)
+        requires known { known_in (connection_of request) self.old.conns ≡ true }
+        requires counted { self.old.window.turned + count_by is_some self.old.window.places < self.old.taken }
+        requires room { vec_len out.old + 3 * (count_by is_held self.old.window.places + 1) ≤ vec_capacity out.old }
+        ensures settled { (o : Setting) (index : ℕ) (t : Trace) → Settled o self.old t → Settled o self.new (after_items (arrival o t (arrival_of o index t request)) t) }
+        ensures effects { (o : Setting) (index : ℕ) (t : Trace) → Settled o self.old t → out.new.items ≡ out.old.items ++ effects_of o t (arrival o t (arrival_of o index t request)) }
+        ensures taken { self.new.taken ≡ self.old.taken }
+        ensures pace { KeepsPace self.old.window self.new.window }
+        ensures spent { vec_len out.new ≤ vec_len out.old + 3 * (count_by is_held self.old.window.places + 1) }
+    {
+        if request.immediate() || request.opcode() != SCSI_COMMAND {
+            out.push_reserved(Effect::Ignore { why: Why::Data });
+            return;
+        }
+        match self.offer(&request) {
+            Offer::Held => self.take_turns(out),
+            Offer::Outside => out.push_reserved(Effect::Ignore { why: Why::Outside }),
+            Offer::Duplicate => out.push_reserved(Effect::Ignore {
+                why: Why::Duplicate,
+            }),
+        }
+    }
+
+    /// Offers a request to the window.
+    fn offer(&mut self, request: &Request) -> Offer
+        requires known { known_in (connection_of request.now) self.old.conns ≡ true }
+        requires counted { self.old.window.turned + count_by is_some self.old.window.places < self.old.taken }
+        ensures answer { result ≡ offer_to self.old.window request.now }
+        ensures session { self.new ≡ with_offered self.old request.now }
+        ensures held { count_by is_held self.new.window.places ≤ count_by is_held self.old.window.places + 1 }
+        ensures counted { self.new.window.turned + count_by is_some self.new.window.places ≤ self.old.window.turned + count_by is_some self.old.window.places + 1 }
+    {
+        let offer = self.window.offer(request);
+        if offer == Offer::Held {
+            self.held += 1;
+        }
+        offer
+    }
+
+    /// Takes the turns that are due.
+    fn take_turns(&mut self, out: &mut Vec<Effect>)
+        requires room { vec_len out.old + 3 * count_by is_held self.old.window.places ≤ vec_capacity out.old }
+        ensures settled { (o : Setting) (t : Trace) → Agrees o self.old t → Settled o self.new (after_items (turns o (due t (number_expected self.old.window) (exp_of o t)) t) t) }
+        ensures effects { (o : Setting) (t : Trace) → Agrees o self.old t → out.new.items ≡ out.old.items ++ effects_of o t (turns o (due t (number_expected self.old.window) (exp_of o t)) t) }
+        ensures taken { self.new.taken ≡ self.old.taken }
+        ensures pace { KeepsPace self.old.window self.new.window }
+        ensures spent { vec_len out.new ≤ vec_len out.old + 3 * count_by is_held self.old.window.places }
+    {
+        while self.turn_next(out) {}
+    }
+
+    /// Takes the turn of the next number, if it is received, and tells whether it was.
+    fn turn_next(&mut self, out: &mut Vec<Effect>) -> bool
+        requires room { vec_len out.old + 3 * count_by is_held self.old.window.places ≤ vec_capacity out.old }
+        ensures answer { result ≡ is_some (at_place self.old.window 0) }
+        ensures session { self.new ≡ turned_if self.old (at_place self.old.window 0) }
+        ensures effects { out.new.items ≡ out.old.items ++ turn_effects self.old (at_place self.old.window 0) }
+        ensures spent { vec_len out.new + 3 * count_by is_held self.new.window.places ≤ vec_len out.old + 3 * count_by is_held self.old.window.places }
+        ensures capacity { vec_capacity out.new ≡ vec_capacity out.old }
+        ensures fewer { result ≡ true → count_by is_some self.new.window.places + 1 ≡ count_by is_some self.old.window.places }
+    {
+        match self.window.advance() {
+            Some(
+                Turned {
+                    request: Some(request),
+                    ..
+                },
+            ) => {
+                self.held -= 1;
+                self.deliver(request, out);
+                true
+            }
+            Some(_) => true,
+            None => false,
+        }
+    }
+}
