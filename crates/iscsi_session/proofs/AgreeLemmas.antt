@@ -39,26 +39,15 @@ and_parts false b h = absurd (false≢true h)
 pub and_both : (a b : Bool) → (a && b) ≡ true → (a ≡ true) × (b ≡ true)
 and_both a b h = and_parts a b h
 
-count_all : {A : Type 0} (p : A → Bool) (xs : List A) → list_all p xs ≡ true → count_by p xs ≡ length xs
-count_all p [] h = refl
-count_all p (x ∷ xs) h =
-    sum_by-cons (λ y. cond (p y) 1 0) x xs
-    ∙ elim (p x) as (λ b. (b && list_all p xs) ≡ true → cond b 1 0 + count_by p xs ≡ suc (length xs)) [
-      | true ↦ λ rest. omega (arith, count_all p xs rest)
-      | false ↦ λ rest. absurd (false≢true rest)
-    ] h
-
 -- what is regular of a command
 pub record Regular (o : Setting) (c : Command) : Type 0 where
   pub unit : c.unit < o.units
-  pub numbered : not (is_immediate c.arrival.request) ≡ true
   pub known : is_known (connection_of c.arrival.request) o.conns ≡ true
 
 pub regular_parts : (o : Setting) (c : Command) → is_regular o c ≡ true → Regular o c
 regular_parts o c h =
-    let first = and_parts (nat_lt c.unit o.units) (is_regular_request o c.arrival.request) h in
-    let rest = and_parts (not (is_immediate c.arrival.request)) (is_known (connection_of c.arrival.request) o.conns) first.1 in
-    record { unit = below first.0; numbered = rest.0; known = rest.1 }
+    let parts = and_parts (nat_lt c.unit o.units) (is_known (connection_of c.arrival.request) o.conns) h in
+    record { unit = below parts.0; known = parts.1 }
   where
     below : nat_lt c.unit o.units ≡ true → c.unit < o.units
     below test = let lt : c.unit < o.units = grind (arith, nat_tests) in lt
@@ -68,9 +57,11 @@ pub regular_live : (o : Setting) (s : Core) (t : Trace) → Agrees o s t → lis
 regular_live o s t a = list_all-filter (λ (c : Command). not (has (leaves_ticket c.ticket) t)) (is_regular o) (entered t) a.commands.regular
 
 pub agrees_unfinished : (o : Setting) (s : Core) (t : Trace) → Agrees o s t → unfinished t ≡ s.window.unfinished
-agrees_unfinished o s t a =
-    count_all (λ (c : Command). not (is_immediate c.arrival.request)) (live t) (weaker (is_regular o) (λ c. not (is_immediate c.arrival.request)) (live t) (λ c h. (regular_parts o c h).numbered) (regular_live o s t a))
-    ∙ sym a.unfinished
+agrees_unfinished o s t a = sym a.unfinished
+
+-- nothing enters or leaves
+pub unfinished-untouched : (item : List Mark) (t : Trace) → Untouched item → unfinished (item ∷ t) ≡ unfinished t
+unfinished-untouched item t u = ap (λ (cs : List Command). count_by (λ (c : Command). not (is_immediate c.arrival.request)) cs) (live-untouched item t u)
 
 pub settled_max : (o : Setting) (s : Core) (t : Trace) → Settled o s t → max_of o t ≡ number_expected s.window + length s.window.places - 1 - s.window.unfinished
 settled_max o s t h =
@@ -108,7 +99,7 @@ Stepped-ignored o s t why h =
           replies = RepliesAgree-quiet o s.conns t item refl a.replies;
           commands = CommandsAgree-untouched o s.live s.entered t item u a.commands;
           sets = SetsAgree-untouched o s.sets t item u a.sets;
-          unfinished = a.unfinished ∙ ap length (sym (live-untouched item t u));
+          unfinished = a.unfinished ∙ sym (unfinished-untouched item t u);
           enabled = EnabledSoFar-untouched o item t u a.enabled;
         };
         none_due = h.none_due;
@@ -132,6 +123,6 @@ Agrees-admitted o s t a h low high new regular =
       replies = RepliesAgree-quiet o s.conns t item refl h.replies;
       commands = CommandsAgree-untouched o s.live s.entered t item u h.commands;
       sets = SetsAgree-untouched o s.sets t item u h.sets;
-      unfinished = h.unfinished ∙ ap length (sym (live-untouched item t u));
+      unfinished = h.unfinished ∙ sym (unfinished-untouched item t u);
       enabled = EnabledSoFar-untouched o item t u h.enabled;
     }

@@ -1,9 +1,10 @@
 -- Commands with tickets of their own.
-use Rattle.std.proofs.Common.{◌≡◌, ℕ, suc, ◌+◌, ◌==◌, ◌&&◌, ◌||◌, not, ⊎_elim, cond, Bool, true, false, List, [], ◌∷◌, ◌++◌, length, filter, refl, ap, sym, ◌∙◌, arith, eq-eqb}
+use Rattle.std.proofs.Common.{◌≡◌, ℕ, suc, ◌+◌, ◌==◌, ◌&&◌, ◌||◌, not, ⊎_elim, cond, Bool, true, false, List, [], ◌∷◌, ◌++◌, length, filter, count_by, Some, refl, ap, sym, ◌∙◌, arith, eq-eqb}
 use Rattle.std.proofs.lemmas.Bool.{cases_eq, false≢true, eqb-true}
 use Rattle.std.proofs.lemmas.Bool.Decides.{nat_tests}
 use Rattle.std.proofs.lemmas.List.Folds.{list_any-append}
-use Rattle.iscsi_session.specs.Trace.{Command, is_among}
+use Rattle.std.proofs.lemmas.List.Sums.{sum_by-cons}
+use Rattle.iscsi_session.specs.Trace.{Command, is_among, first_of}
 use Rattle.iscsi_session.specs.Standing.{are_apart}
 
 pub eq_sym : (a b : ℕ) → (a == b) ≡ (b == a)
@@ -74,3 +75,23 @@ length-without k (c ∷ cs) apart h =
           let rest : is_among k cs ≡ true = sym (ap (λ b. b || is_among k cs) (eq_sym c.ticket k ∙ is)) ∙ h in
           omega (arith, length-without k cs parts.1 rest)
     ] refl
+
+-- how many pass, without the command of a ticket
+pub count-without : (p : Command → Bool) (k : ℕ) (cs : List Command) (c : Command) → are_apart cs ≡ true → first_of (filter (λ d. d.ticket == k) cs) ≡ Some c
+    → count_by p (filter (λ d. not (k == d.ticket)) cs) + cond (p c) 1 0 ≡ count_by p cs
+count-without p k [] c apart found = absurd cc
+count-without p k (x ∷ cs) c apart found =
+    let parts = and_parts (not (is_among x.ticket cs)) (are_apart cs) apart in
+    let away : List Command = filter (λ d. not (k == d.ticket)) cs in
+    let all : count_by p (x ∷ cs) ≡ cond (p x) 1 0 + count_by p cs = sum_by-cons (λ d. cond (p d) 1 0) x cs in
+    elim (x.ticket == k) as (λ b. (x.ticket == k) ≡ b → first_of (cond b (x ∷ filter (λ d. d.ticket == k) cs) (filter (λ d. d.ticket == k) cs)) ≡ Some c
+    → count_by p (filter (λ d. not (k == d.ticket)) (x ∷ cs)) + cond (p c) 1 0 ≡ count_by p (x ∷ cs)) [
+      | true ↦ λ is here.
+          let same : x ≡ c = cc in
+          let gone : is_among k cs ≡ false = ap (λ n. is_among n cs) (sym (eqb-true x.ticket k is)) ∙ not_true (is_among x.ticket cs) parts.0 in
+          let left : count_by p (filter (λ d. not (k == d.ticket)) (x ∷ cs)) ≡ count_by p cs = ap (λ b. count_by p (cond (not b) (x ∷ away) away)) (eq_sym k x.ticket ∙ is) ∙ ap (count_by p) (kept_all k cs gone) in
+          omega (arith, all, left, ap {B = ℕ} (λ (d : Command). cond (p d) 1 0) same)
+      | false ↦ λ is later.
+          let left : count_by p (filter (λ d. not (k == d.ticket)) (x ∷ cs)) ≡ cond (p x) 1 0 + count_by p away = ap (λ b. count_by p (cond (not b) (x ∷ away) away)) (eq_sym k x.ticket ∙ is) ∙ sum_by-cons (λ d. cond (p d) 1 0) x away in
+          omega (arith, all, left, count-without p k cs c parts.1 later)
+    ] refl found

@@ -4,27 +4,29 @@ use Rattle.std.proofs.lemmas.Bool.{cases_lt, false≢true}
 use Rattle.std.proofs.lemmas.List.{append-nil}
 use Rattle.std.proofs.lemmas.List.Folds.{list_any-append}
 use Rattle.iscsi_wire.specs.declared.request.Request.{Request}
-use Rattle.iscsi_wire.specs.Fields.{cmd_sn, request_of}
+use Rattle.iscsi_wire.specs.Fields.{is_immediate, cmd_sn, request_of}
 use Rattle.iscsi_window.specs.declared.answer.Place.{Place}
 use Rattle.iscsi_window.specs.declared.answer.Place.TheVariants.{Inside, Outside as NoPlace}
-use Rattle.iscsi_window.specs.Windows.{Received, number_expected, at_place, place_in, received_at, offered_to, with_place, advanced_if}
+use Rattle.iscsi_window.specs.Windows.{Received, number_expected, at_place, place_in, received_at, offered_to, with_place, with_unfinished, advanced_if}
 use Rattle.iscsi_session.specs.declared.effect.Why.{Why}
 use Rattle.iscsi_session.specs.declared.effect.Why.TheVariants.{Outside, Duplicate, Data, Stale}
 use Rattle.iscsi_session.specs.declared.event.Event.{Event}
 use Rattle.iscsi_session.specs.declared.event.Event.TheVariants.{Arrive, Done}
+use Rattle.iscsi_session.specs.declared.kind.Kind.{Kind}
+use Rattle.iscsi_session.specs.declared.kind.Kind.TheVariants.{PassedOver, Unknown, Executes as ExecutesKind}
 use Rattle.iscsi_session.specs.declared.session.live.Live.{Live}
 use Rattle.iscsi_session.specs.declared.verdict.Verdict.{Verdict}
-use Rattle.iscsi_session.specs.declared.verdict.Verdict.TheVariants.{Answer, Enter}
+use Rattle.iscsi_session.specs.declared.verdict.Verdict.TheVariants.{Nothing, Answer, Enter}
 use Rattle.iscsi_session.specs.Settings.{Setting}
-use Rattle.iscsi_session.specs.Trace.{Arrival, Command, Mark, Admits, Delivers, Trace, after_items, received, contains, is_received, held}
-use Rattle.iscsi_session.specs.Execution.{exp_of, max_of, verdict_of, item_of, ignored, completion}
-use Rattle.iscsi_session.specs.Agenda.{due, turn, turns, with_turns, is_numbered_command, arrival, arrival_of, command_of}
+use Rattle.iscsi_session.specs.Trace.{Arrival, Command, Mark, Admits, Delivers, Executes, Trace, after_items, received, contains, is_received, held}
+use Rattle.iscsi_session.specs.Execution.{exp_of, max_of, verdict_of, item_of, immediate_item, ignored, completion}
+use Rattle.iscsi_session.specs.Agenda.{due, turn, turns, with_turns, numbered, kind_of, arrival_as, arrival, arrival_of, command_of}
 use Rattle.iscsi_session.specs.Run.{after_event, trace_of}
 use Rattle.iscsi_session.specs.Standing.{Core, place_of, Settled}
-use Rattle.iscsi_session.specs.Steps.{KeepsPace, find_enabled, verdict_by, executed_as, with_advanced, turned_if, after_completion, without_command}
+use Rattle.iscsi_session.specs.Steps.{KeepsPace, find_enabled, started, verdict_by, executed_as, with_executed, with_advanced, turned_if, after_completion, without_command}
 use Rattle.iscsi_session.specs.Flow.{HasOneMore, Flows, FlowsThrough}
 use Rattle.iscsi_session.proofs.Missing.{expected_below, expected_gone, expected_low}
-use Rattle.iscsi_session.proofs.TurnLemmas.{quiet-marks}
+use Rattle.iscsi_session.proofs.ExecutionLemmas.{quiet-marks}
 use Rattle.iscsi_session.proofs.AgreeLemmas.{agrees_unfinished, settled_expected, settled_max}
 
 -- ---- an event receives one number at the most
@@ -59,18 +61,32 @@ admitted_receives_one o t a =
     let t' : Trace = (Admits a ∷ []) ∷ t in
     inr (a.number, turns_receive_none o (due t' (exp_of o t) (exp_of o t')) t')
 
-arrival_receives : (o : Setting) (t : Trace) (a : Arrival) → one_more t (arrival o t a)
-arrival_receives o t a =
-    elim (not (is_numbered_command a.request)) as (λ b. one_more t (cond b (ignored Data) (cond (nat_lt a.number (exp_of o t) || nat_lt (max_of o t) a.number) (ignored Outside) (cond (is_received t a.number) (ignored Duplicate) (with_turns o t (Admits a ∷ [])))))) [
-      | true ↦ ignored_receives_none t Data
-      | false ↦ elim (nat_lt a.number (exp_of o t) || nat_lt (max_of o t) a.number) as (λ b. one_more t (cond b (ignored Outside) (cond (is_received t a.number) (ignored Duplicate) (with_turns o t (Admits a ∷ []))))) [
-        | true ↦ ignored_receives_none t Outside
-        | false ↦ elim (is_received t a.number) as (λ b. one_more t (cond b (ignored Duplicate) (with_turns o t (Admits a ∷ [])))) [
-          | true ↦ ignored_receives_none t Duplicate
-          | false ↦ admitted_receives_one o t a
-        ]
+numbered_receives : (o : Setting) (t : Trace) (a : Arrival) → one_more t (numbered o t a)
+numbered_receives o t a =
+    elim (nat_lt a.number (exp_of o t) || nat_lt (max_of o t) a.number) as (λ b. one_more t (cond b (ignored Outside) (cond (is_received t a.number) (ignored Duplicate) (with_turns o t (Admits a ∷ []))))) [
+      | true ↦ ignored_receives_none t Outside
+      | false ↦ elim (is_received t a.number) as (λ b. one_more t (cond b (ignored Duplicate) (with_turns o t (Admits a ∷ [])))) [
+        | true ↦ ignored_receives_none t Duplicate
+        | false ↦ admitted_receives_one o t a
       ]
     ]
+
+immediate_receives_none : (o : Setting) (t : Trace) (a : Arrival) → one_more t (immediate_item o t a ∷ [])
+immediate_receives_none o t a =
+    let t' : Trace = (Executes a ∷ []) ∷ t in
+    inl (ap (λ ns. received t ++ ns) (quiet-marks t' a (verdict_of o t' a.request)).receives ∙ append-nil (received t))
+
+arrival_receives : (o : Setting) (t : Trace) (a : Arrival) → one_more t (arrival o t a)
+arrival_receives o t a = by_kind (kind_of a.request)
+  where
+    by_kind : (k : Kind) → one_more t (arrival_as o t a k)
+    by_kind PassedOver = ignored_receives_none t Data
+    by_kind Unknown = inl (append-nil (received t))
+    by_kind ExecutesKind =
+        elim (is_immediate a.request) as (λ b. one_more t (cond b (immediate_item o t a ∷ []) (numbered o t a))) [
+          | true ↦ immediate_receives_none o t a
+          | false ↦ numbered_receives o t a
+        ]
 
 completion_receives_none : (t : Trace) (status : ℕ) (c : Option Command) → one_more t (completion status c)
 completion_receives_none t status None = ignored_receives_none t Stale
@@ -108,8 +124,20 @@ pace-turned s = by_place (at_place s.window 0) refl
     by_place (Some (Some r)) is = by_verdict (verdict_by (with_advanced s) r)
       where
         by_verdict : (v : Verdict) → KeepsPace s.window (executed_as (with_advanced s) r v).window
+        by_verdict Nothing = subst (λ q. KeepsPace s.window (advanced_if s.window q)) (sym is) (omega arith)
         by_verdict (Answer reply) = subst (λ q. KeepsPace s.window (advanced_if s.window q)) (sym is) (omega arith)
-        by_verdict (Enter unit) = subst (λ q. KeepsPace s.window (let w : Received = advanced_if s.window q in record w { unfinished = w.unfinished + 1 })) (sym is) (omega arith)
+        by_verdict (Enter unit) =
+            subst (λ q. KeepsPace s.window (started (advanced_if s.window q) r)) (sym is)
+            (elim (is_immediate r) as (λ b. KeepsPace s.window (let w : Received = advanced_if s.window (Some (Some r)) in cond b w (with_unfinished w (w.unfinished + 1)))) [ true ↦ omega arith | false ↦ omega arith ])
+
+-- an immediate request takes no number and no place
+pub pace-executed : (s : Core) (r : Request) → is_immediate r ≡ true → KeepsPace s.window (with_executed s r).window
+pace-executed s r immediate = by_verdict (verdict_by s r)
+  where
+    by_verdict : (v : Verdict) → KeepsPace s.window (executed_as s r v).window
+    by_verdict Nothing = omega arith
+    by_verdict (Answer reply) = omega arith
+    by_verdict (Enter unit) = subst (λ b. KeepsPace s.window (cond b s.window (with_unfinished s.window (s.window.unfinished + 1)))) (sym immediate) (omega arith)
 
 pub pace-offered : (w : Received) (r : Request) → KeepsPace w (offered_to w r)
 pace-offered w r = by_place (place_in w (cmd_sn r))
@@ -123,7 +151,7 @@ pace-completed s ticket = by_command (find_enabled s ticket)
   where
     by_command : (x : Option Live) → KeepsPace s.window (let now : Core = elim x [ Some l ↦ without_command s l | None ↦ s ] in now.window)
     by_command None = omega arith
-    by_command (Some l) = omega arith
+    by_command (Some l) = elim l.immediate as (λ b. KeepsPace s.window (cond b s.window (with_unfinished s.window (s.window.unfinished - 1)))) [ true ↦ omega arith | false ↦ omega arith ]
 
 -- nothing is received above MaxCmdSN
 none_above : (o : Setting) (s : Core) (t : Trace) → Settled o s t → (n : ℕ) → max_of o t < n → is_received t n ≡ false

@@ -3,7 +3,7 @@ use Rattle.std.proofs.Common.{◌≡◌, ℕ, zero, suc, ◌+◌, ◌-◌, ◌<�
 use Rattle.std.specs.List.{list_any, filter_map, flat_map, range_with_len, cons_option}
 use Rattle.std.proofs.lemmas.Bool.{false≢true, eqb-true}
 use Rattle.std.proofs.lemmas.List.{append-nil}
-use Rattle.iscsi_session.specs.Trace.{Arrival, Mark, Admits, Delivers, Leaves, Enters, Sends, Ignores, Trace, shown, first_of, is_received, is_delivered, held, admitted, admits_at, contains, number_received, delivers_number}
+use Rattle.iscsi_session.specs.Trace.{Arrival, Mark, Admits, Delivers, Executes, Leaves, Enters, Sends, Ignores, Trace, shown, first_of, is_received, is_delivered, held, admitted, admits_at, contains, number_received, delivers_number}
 use Rattle.iscsi_session.specs.Agenda.{due}
 use Rattle.iscsi_session.specs.Executed.{request_at}
 use Rattle.iscsi_session.proofs.TraceLemmas.{unadmitted, received-item}
@@ -22,6 +22,7 @@ mark_number n (Admits b) a h =
       | false ↦ λ is found. absurd cc
     ] refl h
 mark_number n (Delivers b) a h = absurd cc
+mark_number n (Executes b) a h = absurd cc
 mark_number n (Leaves c) a h = absurd cc
 mark_number n (Enters c) a h = absurd cc
 mark_number n (Sends conn reply) a h = absurd cc
@@ -122,6 +123,7 @@ unreceived_mark n (Admits a) ms none rest =
       | false ↦ λ h. rest
     ] none
 unreceived_mark n (Delivers a) ms none rest = rest
+unreceived_mark n (Executes a) ms none rest = rest
 unreceived_mark n (Leaves c) ms none rest = rest
 unreceived_mark n (Enters c) ms none rest = rest
 unreceived_mark n (Sends conn reply) ms none rest = rest

@@ -19,6 +19,8 @@ pub mod WindowParts
 pub mod ReplyParts
 pub mod EnabledLemmas
 pub mod CommandParts
+pub mod CountLemmas
+pub mod ExecutionLemmas
 pub mod SetParts
 pub mod KeptLemmas
 pub mod SearchLemmas

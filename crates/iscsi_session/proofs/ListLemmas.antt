@@ -1,9 +1,10 @@
 -- Lists of connections and commands.
-use Rattle.std.proofs.Common.{◌≡◌, ℕ, zero, suc, ◌+◌, ◌<◌, ◌==◌, ◌&&◌, ◌||◌, not, cond, Bool, true, false, List, [], ◌∷◌, length, map, filter, find, get_or, set, Option, Some, None, refl, ap, sym, ◌∙◌, arith, nat_lt}
+use Rattle.std.proofs.Common.{◌≡◌, ℕ, zero, suc, ◌+◌, ◌<◌, ◌==◌, ◌&&◌, ◌||◌, not, cond, Bool, true, false, List, [], ◌∷◌, ◌++◌, length, map, filter, find, get_or, set, count_by, Option, Some, None, refl, ap, sym, ◌∙◌, arith, nat_lt}
 use Rattle.std.specs.List.{list_any, list_all, position, position_or_len}
 use Rattle.std.proofs.lemmas.Bool.{false≢true}
 use Rattle.std.proofs.lemmas.Bool.Decides.{nat_tests}
 use Rattle.std.specs.Prelude.{IsSome}
+use Rattle.std.proofs.lemmas.List.Sums.{sum_by-cons, sum_by-append}
 use Rattle.iscsi_wire.specs.Serial.{wire}
 use Rattle.iscsi_session.specs.declared.session.live.Live.{Live}
 use Rattle.iscsi_session.specs.Settings.{is_known}
@@ -17,6 +18,16 @@ use Rattle.iscsi_session.specs.Steps.{count_reply, without_ticket}
 pub list_any-map : {A B : Type 0} (p : B → Bool) (f : A → B) (xs : List A) → list_any p (map f xs) ≡ list_any (λ x. p (f x)) xs
 list_any-map p f [] = refl
 list_any-map p f (x ∷ xs) = ap (λ b. p (f x) || b) (list_any-map p f xs)
+
+pub count_by-map : {A B : Type 0} (p : B → Bool) (f : A → B) (xs : List A) → count_by p (map f xs) ≡ count_by (λ x. p (f x)) xs
+count_by-map p f [] = refl
+count_by-map p f (x ∷ xs) =
+    sum_by-cons (λ y. cond (p y) 1 0) (f x) (map f xs) ∙ ap (λ n. cond (p (f x)) 1 0 + n) (count_by-map p f xs)
+    ∙ sym (sum_by-cons (λ y. cond (p (f y)) 1 0) x xs)
+
+pub count_by-push : {A : Type 0} (p : A → Bool) (xs : List A) (x : A) → count_by p (xs ++ x ∷ []) ≡ count_by p xs + cond (p x) 1 0
+count_by-push p xs x =
+    sum_by-append (λ y. cond (p y) 1 0) xs (x ∷ []) ∙ ap (λ n. count_by p xs + n) (sum_by-cons (λ y. cond (p y) 1 0) x [] ∙ (let z : cond (p x) 1 0 + 0 ≡ cond (p x) 1 0 = omega arith in z))
 
 -- where some element passes, there is a first that does
 first_place : {A : Type 0} (p : A → Bool) (xs : List A) → list_any p xs ≡ true → position_or_len p xs < length xs

@@ -1,5 +1,5 @@
 -- An arrival, a completion, and an event as a whole.
-use Rattle.std.proofs.Common.{◌≡◌, ℕ, ◌+◌, ◌-◌, ◌<◌, ◌≤◌, ◌==◌, ◌&&◌, ◌||◌, not, ⊎_elim, cond, Bool, true, false, List, [], ◌∷◌, ◌++◌, length, filter, Option, Some, None, option_map, is_some, refl, ap, sym, subst, ◌∙◌, arith, nat_lt, nat_le}
+use Rattle.std.proofs.Common.{◌≡◌, ℕ, ◌+◌, ◌-◌, ◌<◌, ◌≤◌, ◌==◌, ◌&&◌, ◌||◌, not, ⊎_elim, cond, Bool, true, false, List, [], ◌∷◌, ◌++◌, length, filter, Option, Some, None, option_map, is_some, count_by, refl, ap, sym, subst, ◌∙◌, arith, nat_lt, nat_le}
 use Rattle.std.specs.List.{list_any, list_all}
 use Rattle.std.proofs.lemmas.Bool.{cases_lt, false≢true, eqb-true}
 use Rattle.std.proofs.lemmas.Bool.Decides.{nat_tests}
@@ -8,7 +8,7 @@ use Rattle.iscsi_wire.specs.declared.request.Request.{Request}
 use Rattle.iscsi_wire.specs.declared.reply.Reply.{Reply}
 use Rattle.iscsi_wire.specs.declared.reply.Reply.TheVariants.{Scsi}
 use Rattle.iscsi_wire.specs.Serial.{lift}
-use Rattle.iscsi_wire.specs.Fields.{connection_of, is_immediate, opcode, itt, cmd_sn}
+use Rattle.iscsi_wire.specs.Fields.{connection_of, is_immediate, itt, cmd_sn}
 use Rattle.iscsi_window.specs.declared.answer.Offer.{Offer}
 use Rattle.iscsi_window.specs.declared.answer.Offer.TheVariants.{Held, Outside as OutsideWindow, Duplicate as Known}
 use Rattle.iscsi_window.specs.declared.answer.Place.TheVariants.{Inside, Outside as NoPlace}
@@ -17,26 +17,27 @@ use Rattle.iscsi_tasks.specs.Sets.{is_enabled_in}
 use Rattle.iscsi_window.specs.Windows.{Received, with_unfinished, number_expected, room_of, at_place, place_at, offer_at, offer_to, received_at, offered_to, with_place}
 use Rattle.iscsi_session.specs.declared.effect.Effect.{Effect}
 use Rattle.iscsi_session.specs.declared.effect.Effect.TheVariants.{Leave, Send, Ignore}
-use Rattle.iscsi_session.specs.declared.effect.Why.TheVariants.{Outside, Duplicate, Stale, Data}
+use Rattle.iscsi_session.specs.declared.effect.Why.TheVariants.{Outside, Duplicate, Stale}
 use Rattle.iscsi_session.specs.declared.event.Event.{Event}
 use Rattle.iscsi_session.specs.declared.event.Event.TheVariants.{Arrive, Done}
 use Rattle.iscsi_session.specs.declared.session.live.Live.{Live}
 use Rattle.iscsi_session.specs.declared.fault.SessionFault.TheVariants.{UnknownConnection, Exhausted}
 use Rattle.iscsi_session.specs.Settings.{Setting, is_known}
 use Rattle.iscsi_session.specs.Trace.{Arrival, Command, Mark, Admits, Leaves, Trace, first_of, is_received, held, live, live_in, was_free, is_among}
-use Rattle.iscsi_session.specs.Execution.{exp_of, max_of, ignored, completion, sense_of_status, reply_on}
-use Rattle.iscsi_session.specs.Agenda.{due, turns, with_turns, is_numbered_command, arrival, arrival_of, command_of, items_of}
+use Rattle.iscsi_session.specs.Execution.{exp_of, max_of, unfinished, ignored, completion, sense_of_status, reply_on}
+use Rattle.iscsi_session.specs.Agenda.{due, turns, with_turns, numbered, arrival_of, command_of, items_of}
 use Rattle.iscsi_session.specs.Run.{stat_sn_of, newly_enabled, effects_of, trace_of}
 use Rattle.iscsi_session.specs.Refusals.{belongs, refusal_of}
-use Rattle.iscsi_session.specs.Standing.{Core, place_of, kept, is_regular, is_regular_request, member_of, Agrees, Settled, StandsFor}
-use Rattle.iscsi_session.specs.Steps.{set_at, set_left, enable_effects, with_offered, comes_on, refusal_by, find_ticket, enabled_of, find_enabled, without_command, leave_effects, after_completion, completion_effects, counted}
+use Rattle.iscsi_session.specs.Standing.{Core, place_of, kept, is_regular, is_regular_request, member_of, WindowAgrees, Agrees, Settled, StandsFor}
+use Rattle.iscsi_session.specs.Steps.{set_at, set_left, enable_effects, finished, with_offered, comes_on, refusal_by, find_ticket, enabled_of, find_enabled, without_command, leave_effects, after_completion, completion_effects, counted}
 use Rattle.iscsi_session.proofs.ListLemmas.{list_any-map, is_known-cids}
+use Rattle.iscsi_session.proofs.ApartLemmas.{count-without}
 use Rattle.iscsi_session.proofs.TraceLemmas.{all_among}
 use Rattle.iscsi_session.proofs.DeliveryLemmas.{IsQuiet}
 use Rattle.iscsi_session.proofs.WindowParts.{WindowAgrees-quiet, WindowAgrees-finished}
 use Rattle.iscsi_session.proofs.ReplyParts.{RepliesAgree-sent}
 use Rattle.iscsi_session.proofs.EnabledLemmas.{enables}
-use Rattle.iscsi_session.proofs.CommandParts.{LeavesOne, CommandsAgree-left, one_fewer, find_kept, first_passing, none_passing}
+use Rattle.iscsi_session.proofs.CommandParts.{LeavesOne, live-left, CommandsAgree-left, find_kept, first_passing, none_passing}
 use Rattle.iscsi_session.proofs.EnablingLemmas.{EnabledSoFar-left}
 use Rattle.iscsi_session.proofs.SetParts.{SetLeaving, SetsAgree-left, newly-untouched}
 use Rattle.iscsi_session.proofs.AgreeLemmas.{Regular, regular_parts, regular_live, and_both, settled_expected, settled_max, Stepped, Stepped-ignored, untouched-admits, Agrees-admitted}
@@ -80,6 +81,25 @@ among_unit k (c ∷ cs) = ap (λ b. b || list_any (λ (d : Command). d.ticket ==
     and_true true = refl
     and_true false = refl
 
+-- a numbered command gives its place back
+window-finished : (o : Setting) (w : Received) (t : Trace) (c : Command) → WindowAgrees o w t → WindowAgrees o (finished w (kept c)) t
+window-finished o w t c a =
+    elim (is_immediate c.arrival.request) as (λ b. WindowAgrees o (cond b w (with_unfinished w (w.unfinished - 1))) t) [
+      | true ↦ a
+      | false ↦ WindowAgrees-finished o w t a
+    ]
+
+-- its places are as they were
+finished_place : (w : Received) (c : Command) → at_place (finished w (kept c)) 0 ≡ at_place w 0
+finished_place w c = elim (is_immediate c.arrival.request) as (λ b. at_place (cond b w (with_unfinished w (w.unfinished - 1))) 0 ≡ at_place w 0) [ true ↦ refl | false ↦ refl ]
+
+unfinished-left : (w : Received) (n : ℕ) (c : Command) → w.unfinished ≡ n + cond (not (is_immediate c.arrival.request)) 1 0 → (finished w (kept c)).unfinished ≡ n
+unfinished-left w n c h =
+    elim (is_immediate c.arrival.request) as (λ b. w.unfinished ≡ n + cond (not b) 1 0 → (let v : Received = cond b w (with_unfinished w (w.unfinished - 1)) in v.unfinished) ≡ n) [
+      | true ↦ λ is. omega (arith, is)
+      | false ↦ λ is. omega (arith, is)
+    ] h
+
 Stepped-completed : (o : Setting) (s : Core) (t : Trace) (c : Command) (ticket status : ℕ) → Settled o s t → first_of (filter (λ d. d.ticket == ticket) (live t)) ≡ Some c
     → Stepped o (without_command s (kept c)) t (completion_item c status ∷ []) (leave_effects s (kept c) status)
 Stepped-completed o s t c ticket status h found =
@@ -98,14 +118,14 @@ Stepped-completed o s t c ticket status h found =
       settled = record {
         agrees = record {
           events = a.events;
-          window = WindowAgrees-quiet o (with_unfinished s.window (s.window.unfinished - 1)) t item (quiet-completion c status) (WindowAgrees-finished o s.window t a.window);
+          window = WindowAgrees-quiet o (finished s.window (kept c)) t item (quiet-completion c status) (window-finished o s.window t c a.window);
           replies = RepliesAgree-sent o s.conns t item conn refl r.known a.replies;
           commands = CommandsAgree-left o s.live s.entered t item c a.commands l among;
           sets = set.agrees;
-          unfinished = omega (arith, a.unfinished, one_fewer o s.live s.entered t item c a.commands l among);
+          unfinished = unfinished-left s.window (unfinished (item ∷ t)) c (a.unfinished ∙ sym (count-without (λ (d : Command). not (is_immediate d.arrival.request)) c.ticket (live t) c a.commands.apart found_here) ∙ ap (λ (cs : List Command). count_by (λ (d : Command). not (is_immediate d.arrival.request)) cs + cond (not (is_immediate c.arrival.request)) 1 0) (sym (live-left item t c l)));
           enabled = EnabledSoFar-left o s.live s.entered item t (λ d. d.ticket == c.ticket) c a.commands l r.unit (λ d is. is) found_here a.enabled;
         };
-        none_due = h.none_due;
+        none_due = finished_place s.window c ∙ h.none_due;
       };
       effects_are = ap (λ n. Leave c.ticket c.unit ∷ Send conn n reply ∷ enable_effects c.unit (set_left s (kept c)).list) (a.replies.stat_sns conn r.known)
           ∙ ap (λ es. Leave c.ticket c.unit ∷ Send conn (stat_sn_of o t conn) reply ∷ es) set.effects
@@ -224,32 +244,31 @@ answered o s t a h number =
     ] refl)
 
 pub record Offered (o : Setting) (s : Core) (event : ℕ) (t : Trace) (r : Request) : Type 0 where
-  pub outside : offer_to s.window r ≡ OutsideWindow → Stepped o (with_offered s r) t (arrival o t (arrival_of o event t r)) (Ignore Outside ∷ [])
-  pub known : offer_to s.window r ≡ Known → Stepped o (with_offered s r) t (arrival o t (arrival_of o event t r)) (Ignore Duplicate ∷ [])
+  pub outside : offer_to s.window r ≡ OutsideWindow → Stepped o (with_offered s r) t (numbered o t (arrival_of o event t r)) (Ignore Outside ∷ [])
+  pub known : offer_to s.window r ≡ Known → Stepped o (with_offered s r) t (numbered o t (arrival_of o event t r)) (Ignore Duplicate ∷ [])
   pub taken : offer_to s.window r ≡ Held → Agrees o (with_offered s r) ((Admits (arrival_of o event t r) ∷ []) ∷ t)
-      × ((arrival o t (arrival_of o event t r) ≡ (Admits (arrival_of o event t r) ∷ []) ∷ turns o (due ((Admits (arrival_of o event t r) ∷ []) ∷ t) (number_expected (with_offered s r).window) (exp_of o ((Admits (arrival_of o event t r) ∷ []) ∷ t))) ((Admits (arrival_of o event t r) ∷ []) ∷ t))
+      × ((numbered o t (arrival_of o event t r) ≡ (Admits (arrival_of o event t r) ∷ []) ∷ turns o (due ((Admits (arrival_of o event t r) ∷ []) ∷ t) (number_expected (with_offered s r).window) (exp_of o ((Admits (arrival_of o event t r) ∷ []) ∷ t))) ((Admits (arrival_of o event t r) ∷ []) ∷ t))
       × ((rest : List (List Mark)) → effects_of o t ((Admits (arrival_of o event t r) ∷ []) ∷ rest) ≡ effects_of o ((Admits (arrival_of o event t r) ∷ []) ∷ t) rest))
 
--- a numbered command that comes on one of the connections
-pub offered : (o : Setting) (s : Core) (event : ℕ) (t : Trace) (r : Request) → Settled o s t → is_numbered_command r ≡ true → is_known (connection_of r) o.conns ≡ true → Offered o s event t r
-offered o s event t r h numbered known =
+-- a numbered request that comes on one of the connections
+pub offered : (o : Setting) (s : Core) (event : ℕ) (t : Trace) (r : Request) → Settled o s t → is_immediate r ≡ false → is_known (connection_of r) o.conns ≡ true → Offered o s event t r
+offered o s event t r h not_immediate known =
     let a : Arrival = arrival_of o event t r in
     let t₁ : Trace = (Admits a ∷ []) ∷ t in
     let same_exp : exp_of o t ≡ number_expected s.window = settled_expected o s t h in
     let x = answered o s t a h (ap (λ e. lift e (cmd_sn r)) same_exp) in
     let cases : Bool → Bool → List (List Mark) = λ b c. cond b (ignored Outside) (cond c (ignored Duplicate) (with_turns o t (Admits a ∷ []))) in
-    let items : arrival o t a ≡ cases (nat_lt a.number (exp_of o t) || nat_lt (max_of o t) a.number) (is_received t a.number) =
-    ap (λ b. cond (not b) (ignored Data) (cases (nat_lt a.number (exp_of o t) || nat_lt (max_of o t) a.number) (is_received t a.number))) numbered in
-    let regular : is_regular_request o r ≡ true = both_true (not (is_immediate r)) (is_known (connection_of r) o.conns) (and_both (not (is_immediate r)) (opcode r == 1) numbered).0 known in
+    let items : numbered o t a ≡ cases (nat_lt a.number (exp_of o t) || nat_lt (max_of o t) a.number) (is_received t a.number) = refl in
+    let regular : is_regular_request o r ≡ true = both_true (not (is_immediate r)) (is_known (connection_of r) o.conns) (ap not not_immediate) known in
     record {
       outside = λ said.
           let f = x.outside said in
-          let all : arrival o t a ≡ ignored Outside = items ∙ ap (λ b. cases b (is_received t a.number)) f.1 in
-          subst (λ (w : Received). Stepped o (record s { window = w }) t (arrival o t a) (Ignore Outside ∷ [])) (sym f.0) (subst (λ is. Stepped o s t is (Ignore Outside ∷ [])) (sym all) (Stepped-ignored o s t Outside h));
+          let all : numbered o t a ≡ ignored Outside = items ∙ ap (λ b. cases b (is_received t a.number)) f.1 in
+          subst (λ (w : Received). Stepped o (record s { window = w }) t (numbered o t a) (Ignore Outside ∷ [])) (sym f.0) (subst (λ is. Stepped o s t is (Ignore Outside ∷ [])) (sym all) (Stepped-ignored o s t Outside h));
       known = λ said.
           let f = x.known said in
-          let all : arrival o t a ≡ ignored Duplicate = items ∙ ap (λ b. cases b (is_received t a.number)) f.1.0 ∙ ap (cases false) f.1.1 in
-          subst (λ (w : Received). Stepped o (record s { window = w }) t (arrival o t a) (Ignore Duplicate ∷ [])) (sym f.0) (subst (λ is. Stepped o s t is (Ignore Duplicate ∷ [])) (sym all) (Stepped-ignored o s t Duplicate h));
+          let all : numbered o t a ≡ ignored Duplicate = items ∙ ap (λ b. cases b (is_received t a.number)) f.1.0 ∙ ap (cases false) f.1.1 in
+          subst (λ (w : Received). Stepped o (record s { window = w }) t (numbered o t a) (Ignore Duplicate ∷ [])) (sym f.0) (subst (λ is. Stepped o s t is (Ignore Duplicate ∷ [])) (sym all) (Stepped-ignored o s t Duplicate h));
       taken = λ said.
           let f = x.taken said in
           let start : exp_of o t ≡ number_expected (with_offered s r).window = same_exp ∙ ap number_expected (sym f.0) in (
@@ -265,12 +284,6 @@ offered o s event t r h numbered known =
     both_true : (a b : Bool) → a ≡ true → b ≡ true → (a && b) ≡ true
     both_true true b h k = k
     both_true false b h k = absurd (false≢true h)
-
--- a request that isn't a numbered command
-pub passed_over : (o : Setting) (s : Core) (event : ℕ) (t : Trace) (r : Request) → Settled o s t → is_numbered_command r ≡ false → Stepped o s t (arrival o t (arrival_of o event t r)) (Ignore Data ∷ [])
-passed_over o s event t r h other =
-    let a : Arrival = arrival_of o event t r in
-    subst (λ b. Stepped o s t (cond (not b) (ignored Data) (cond (nat_lt a.number (exp_of o t) || nat_lt (max_of o t) a.number) (ignored Outside) (cond (is_received t a.number) (ignored Duplicate) (with_turns o t (Admits a ∷ []))))) (Ignore Data ∷ [])) (sym other) (Stepped-ignored o s t Data h)
 
 -- ---- an event
 

@@ -5,7 +5,7 @@ use Rattle.std.proofs.lemmas.Bool.{false≢true}
 use Rattle.std.proofs.lemmas.List.{append-nil}
 use Rattle.std.proofs.lemmas.List.Elements.{filter-append}
 use Rattle.std.proofs.lemmas.List.Folds.{list_any-append}
-use Rattle.iscsi_session.specs.Trace.{Command, Mark, Trace, Admits, Delivers, Leaves, Enters, Sends, Ignores, has, shown, enters, entered, leaves_ticket, live, is_among, received, is_received, contains, number_received, admits_at}
+use Rattle.iscsi_session.specs.Trace.{Command, Mark, Trace, Admits, Delivers, Executes, Leaves, Enters, Sends, Ignores, has, shown, enters, entered, leaves_ticket, live, is_among, received, is_received, contains, number_received, admits_at}
 
 -- ---- filters
 
@@ -110,6 +110,7 @@ unadmitted_mark n (Admits a) marks h =
     let parts = or_none (a.number == n) (contains (filter_map number_received marks) n) h in
     (ap (λ b. cond b (Some a) None) parts.0, parts.1)
 unadmitted_mark n (Delivers a) marks h = (refl, h)
+unadmitted_mark n (Executes a) marks h = (refl, h)
 unadmitted_mark n (Leaves c) marks h = (refl, h)
 unadmitted_mark n (Enters c) marks h = (refl, h)
 unadmitted_mark n (Sends conn reply) marks h = (refl, h)

@@ -3,8 +3,10 @@ use Rattle.std.proofs.Common.{◌≡◌, ℕ, zero, suc, ◌+◌, ◌-◌, ◌<�
 use Rattle.std.specs.List.{list_all}
 use Rattle.std.proofs.lemmas.Bool.{false≢true}
 use Rattle.std.proofs.lemmas.Bool.Decides.{nat_tests}
+use Rattle.std.proofs.lemmas.List.{length_push}
+use Rattle.std.proofs.lemmas.List.Folds.{list_all-append}
 use Rattle.std.proofs.lemmas.List.Sums.{sum_by-cons, sum_by-append}
-use Rattle.iscsi_session.specs.Standing.{is_held}
+use Rattle.iscsi_session.specs.Standing.{is_held, is_place_known}
 use Rattle.iscsi_window.specs.declared.answer.Turned.{Turned}
 use Rattle.iscsi_wire.specs.declared.request.Request.{Request}
 use Rattle.iscsi_wire.specs.Serial.{wire, lift}
@@ -108,30 +110,51 @@ find-found p (y ∷ xs) x h =
 
 -- ---- a turn
 
--- the first place counts no more
-pub record Counted (w : Received) : Type 0 where
-  pub held : count_by is_held (advanced w).places + 1 ≡ count_by is_held w.places
-  pub counted : count_by is_some (advanced w).places + 1 ≡ count_by is_some w.places
-
-count_shift : {A : Type 0} (p : Option A → Bool) (x : A) (ps : List (Option A)) → p (Some x) ≡ true → p None ≡ false → get_or ps 0 None ≡ Some x → count_by p (drop 1 ps ++ None ∷ []) + 1 ≡ count_by p ps
-count_shift p x [] here none found = absurd cc
-count_shift p x (y ∷ ps) here none found =
-    let same : p y ≡ true = ap p found ∙ here in
-    let first : count_by p (y ∷ ps) ≡ 1 + count_by p ps = sum_by-cons (λ z. cond (p z) 1 0) y ps ∙ ap (λ b. cond b 1 0 + count_by p ps) same in
+count_shift : {A : Type 0} (p : Option A → Bool) (x : A) (ps : List (Option A)) → p None ≡ false → get_or ps 0 None ≡ Some x → count_by p (drop 1 ps ++ None ∷ []) + cond (p (Some x)) 1 0 ≡ count_by p ps
+count_shift p x [] none found = absurd cc
+count_shift p x (y ∷ ps) none found =
+    let first : count_by p (y ∷ ps) ≡ cond (p y) 1 0 + count_by p ps = sum_by-cons (λ z. cond (p z) 1 0) y ps in
     let last : count_by p (ps ++ None ∷ []) ≡ count_by p ps + count_by p (None ∷ []) = sum_by-append (λ z. cond (p z) 1 0) ps (None ∷ []) in
     let gone : count_by p (None ∷ []) ≡ 0 + 0 = sum_by-cons (λ z. cond (p z) 1 0) None [] ∙ ap (λ b. cond b 1 0 + 0) none in
-    omega (arith, first, last, gone)
+    omega (arith, first, last, gone, ap {B = ℕ} (λ z. cond (p z) 1 0) found)
 
-pub counted_turn : (w : Received) (t : Turned) (r : Request) → turned_by w ≡ Some t → t.request ≡ Some r → Counted w
-counted_turn w t r said request = by_place (at_place w 0) refl said
+all_shift : {A : Type 0} (p : Option A → Bool) (x : A) (ps : List (Option A)) → p None ≡ true → get_or ps 0 None ≡ Some x → list_all p ps ≡ true → (p (Some x) ≡ true) × (list_all p (drop 1 ps ++ None ∷ []) ≡ true)
+all_shift p x [] none found all = absurd cc
+all_shift p x (y ∷ ps) none found all =
+    let h = parts (p y) (list_all p ps) all in
+    (ap p (sym found) ∙ h.0, list_all-append p ps (None ∷ []) ∙ ap (λ b. b && list_all p (None ∷ [])) h.1 ∙ ap (λ b. b && true) none)
+
+-- the window has turned a number, at which this was kept
+pub record Advanced (w : Received) (q : Option Request) : Type 0 where
+  pub here : at_place w 0 ≡ Some q
+  pub turned : (advanced w).turned ≡ w.turned + 1
+  pub unfinished : (advanced w).unfinished ≡ w.unfinished
+  pub long : length (advanced w).places ≡ length w.places
+  pub held : count_by is_held (advanced w).places + cond (is_held (Some q)) 1 0 ≡ count_by is_held w.places
+  pub counted : count_by is_some (advanced w).places + 1 ≡ count_by is_some w.places
+  pub known : (conns : List (ℕ × ℕ)) → list_all (is_place_known conns) w.places ≡ true → (is_place_known conns (Some q) ≡ true) × (list_all (is_place_known conns) (advanced w).places ≡ true)
+
+pub advanced_at : (w : Received) (t : Turned) → turned_by w ≡ Some t → Advanced w t.request
+advanced_at w t said = by_place (at_place w 0) refl said
   where
-    by_place : (p : Option (Option Request)) → at_place w 0 ≡ p → option_map (λ q. let u : Turned = record { sn = wire (number_expected w); request = q } in u) p ≡ Some t → Counted w
+    some : {A : Type 0} (ps : List (Option A)) (x : A) → get_or ps 0 None ≡ Some x → length (drop 1 ps ++ None ∷ []) ≡ length ps
+    some [] x h = absurd cc
+    some (p ∷ ps) x h = length_push ps None ∙ (let z : length ps + 1 ≡ suc (length ps) = omega arith in z)
+
+    by_place : (p : Option (Option Request)) → at_place w 0 ≡ p → option_map (λ q. let u : Turned = record { sn = wire (number_expected w); request = q } in u) p ≡ Some t → Advanced w t.request
     by_place None is h = absurd cc
     by_place (Some q) is h =
-        let same : q ≡ Some r = ap (λ (x : Option Turned). elim x [ Some u ↦ u.request | None ↦ q ]) h ∙ request in
-        let here : at_place w 0 ≡ Some (Some r) = is ∙ ap (λ y. let z : Option (Option Request) = Some y in z) same in
-        let moved : (advanced w).places ≡ drop 1 w.places ++ None ∷ [] = ap (λ p. (advanced_if w p).places) here in
+        let same : q ≡ t.request = ap (λ (x : Option Turned). elim x [ Some u ↦ u.request | None ↦ q ]) h in
+        let here : at_place w 0 ≡ Some t.request = is ∙ ap (λ y. let z : Option (Option Request) = Some y in z) same in
+        let moved : advanced w ≡ advanced_if w (Some t.request) = ap (advanced_if w) here in
         record {
-          held = ap (λ ps. count_by is_held ps + 1) moved ∙ count_shift is_held (Some r) w.places refl refl here;
-          counted = ap (λ ps. count_by is_some ps + 1) moved ∙ count_shift is_some (Some r) w.places refl refl here;
+          here = here;
+          turned = ap (λ (v : Received). v.turned) moved;
+          unfinished = ap (λ (v : Received). v.unfinished) moved;
+          long = ap (λ (v : Received). length v.places) moved ∙ some w.places t.request here;
+          held = ap (λ (v : Received). count_by is_held v.places + cond (is_held (Some t.request)) 1 0) moved ∙ count_shift is_held t.request w.places refl here;
+          counted = ap (λ (v : Received). count_by is_some v.places + 1) moved ∙ count_shift is_some t.request w.places refl here;
+          known = λ conns all.
+              let h' = all_shift (is_place_known conns) t.request w.places refl here all in
+              (h'.0, ap (λ (v : Received). list_all (is_place_known conns) v.places) moved ∙ h'.1);
         }

@@ -1,15 +1,17 @@
 -- The items of an event: what arrives, and what becomes due by it.
-use Rattle.std.specs.Prelude.{ℕ, ◌-◌, ◌==◌, ◌&&◌, ◌||◌, not, nat_lt, Bool, List, [], ◌∷◌, ◌++◌, Option, Some, None, if◌then◌else◌, filter, is_some}
+use Rattle.std.specs.Prelude.{ℕ, ◌-◌, ◌==◌, ◌&&◌, ◌||◌, nat_lt, List, [], ◌∷◌, ◌++◌, Option, Some, None, if◌then◌else◌, filter, is_some}
 use Rattle.std.specs.List.{flat_map, range_with_len}
 use Rattle.iscsi_wire.specs.declared.request.Request.{Request}
 use Rattle.iscsi_wire.specs.Serial.{lift}
 use Rattle.iscsi_wire.specs.Fields.{request_of, is_immediate, opcode, cmd_sn}
 use Rattle.iscsi_session.specs.declared.effect.Why.TheVariants.{Outside, Duplicate, Data}
 use Rattle.iscsi_session.specs.declared.event.Event.{Event}
+use Rattle.iscsi_session.specs.declared.kind.Kind.{Kind}
+use Rattle.iscsi_session.specs.declared.kind.Kind.TheVariants.{PassedOver, Unknown, Executes as ExecutesKind}
 use Rattle.iscsi_session.specs.declared.event.Event.TheVariants.{Arrive, Done}
 use Rattle.iscsi_session.specs.Settings.{Setting}
 use Rattle.iscsi_session.specs.Trace.{Arrival, Command, Mark, Admits, Trace, after_items, first_of, is_received, held, live, was_free}
-use Rattle.iscsi_session.specs.Execution.{exp_of, max_of, item_of, ignored, completion}
+use Rattle.iscsi_session.specs.Execution.{exp_of, max_of, item_of, immediate_item, rejected, ignored, completion}
 
 -- the requests whose turn comes as ExpCmdSN goes from e to e'
 abbrev pub due : Trace → ℕ → ℕ → List Arrival
@@ -27,17 +29,29 @@ turns o (a ∷ as') t = let now = turn o t a in now ++ turns o as' (after_items 
 abbrev pub with_turns : Setting → Trace → List Mark → List (List Mark)
 with_turns o t item = let t' = item ∷ t in item ∷ turns o (due t' (exp_of o t) (exp_of o t')) t'
 
--- a SCSI Command that isn't immediate
-abbrev pub is_numbered_command : Request → Bool
-is_numbered_command r = not (is_immediate r) && opcode r == 1
-
--- the items of an arrival. So far only numbered SCSI Commands are taken
-abbrev pub arrival : Setting → Trace → Arrival → List (List Mark)
-arrival o t a =
-    if not (is_numbered_command a.request) then ignored Data
-    else (if nat_lt a.number (exp_of o t) || nat_lt (max_of o t) a.number then ignored Outside
+-- a numbered request
+abbrev pub numbered : Setting → Trace → Arrival → List (List Mark)
+numbered o t a =
+    if nat_lt a.number (exp_of o t) || nat_lt (max_of o t) a.number then ignored Outside
     else (if is_received t a.number then ignored Duplicate
-    else with_turns o t (Admits a ∷ [])))
+    else with_turns o t (Admits a ∷ []))
+
+-- what becomes of a request by its opcode. So far Task Management and Logout Requests are passed over, as Data-Out
+-- and SNACK are
+abbrev pub kind_of : Request → Kind
+kind_of r =
+    if opcode r == 0x05 || opcode r == 0x10 || opcode r == 0x02 || opcode r == 0x06 then PassedOver
+    else (if opcode r == 0x00 || opcode r == 0x01 || opcode r == 0x04 then ExecutesKind
+    else Unknown)
+
+abbrev pub arrival_as : Setting → Trace → Arrival → Kind → List (List Mark)
+arrival_as o t a PassedOver = ignored Data
+arrival_as o t a Unknown = rejected a ∷ []
+arrival_as o t a ExecutesKind = if is_immediate a.request then immediate_item o t a ∷ [] else numbered o t a
+
+-- the items of an arrival
+abbrev pub arrival : Setting → Trace → Arrival → List (List Mark)
+arrival o t a = arrival_as o t a (kind_of a.request)
 
 -- the arrival of a request in the event-th event
 abbrev pub arrival_of : Setting → ℕ → Trace → Request → Arrival

@@ -1,10 +1,10 @@
 -- Worked rows, computed: what the definitions give for short recordings, beside what must come.
-use Rattle.std.specs.Prelude.{◌≡◌, ℕ, ◌+◌, ◌/◌, ◌%◌, List, [], ◌∷◌, ◌++◌, replicate, refl, Some, None}
-use Rattle.iscsi_wire.specs.declared.reply.Reply.TheVariants.{Scsi, Reject}
+use Rattle.std.specs.Prelude.{◌≡◌, ℕ, ◌+◌, ◌/◌, ◌%◌, List, [], ◌∷◌, ◌++◌, map, replicate, refl, Some, None}
+use Rattle.iscsi_wire.specs.declared.reply.Reply.TheVariants.{Scsi, Nop, Reject}
 use Rattle.iscsi_wire.specs.Fields.{request_of}
 use Rattle.iscsi_tasks.specs.declared.task.Attr.TheVariants.{Simple, Ordered, Head}
 use Rattle.iscsi_session.specs.declared.effect.Effect.{Effect}
-use Rattle.iscsi_session.specs.declared.effect.Effect.TheVariants.{Deliver, Enter, Enable, Leave, Send, Ignore}
+use Rattle.iscsi_session.specs.declared.effect.Effect.TheVariants.{Deliver, Immediate, Enter, Enable, Leave, Send, Ignore}
 use Rattle.iscsi_session.specs.declared.effect.Why.TheVariants.{Outside, Stale, Data}
 use Rattle.iscsi_session.specs.declared.event.Event.{Event}
 use Rattle.iscsi_session.specs.declared.event.Event.TheVariants.{Arrive, Done}
@@ -114,11 +114,68 @@ pub greatest_ticket_log : run_of (setting 65535 32) (Done 18446744073709551615 0
 unfolding Rules.bars_as
 greatest_ticket_log = refl
 
--- requests that aren't numbered SCSI Commands: an immediate one, and a NOP-Out
-pub other_requests_log : run_of (setting 1 32) (Arrive 1 (head 0x41 0x81 0xa1 1) ∷ Arrive 1 (head 0x00 0x80 0xb1 1) ∷ []) ≡
-    entry 1 0x20 (Ignore Data ∷ []) ∷ entry 1 0x20 (Ignore Data ∷ []) ∷ []
+-- requests other than SCSI Commands: a NOP-Out without a tag, one with a tag, a Text Request, an unknown opcode, Data-Out
+abbrev pub other_requests : List Event
+other_requests =
+    Arrive 1 (head 0x40 0x80 0xffff_ffff 1)
+    ∷ Arrive 1 (head 0x00 0x80 0xb1 1)
+    ∷ Arrive 1 (head 0x04 0x80 0xb2 2)
+    ∷ Arrive 1 (head 0x43 0 0xb3 9)
+    ∷ Arrive 1 (head 0x05 0 0xb4 3)
+    ∷ Arrive 1 (head 0x10 0 0xb5 3)
+    ∷ []
+
+pub other_requests_log : run_of (setting 1 32) other_requests ≡
+    entry 1 0x20 (Immediate (request_of 1 (head 0x40 0x80 0xffff_ffff 1)) ∷ [])
+    ∷ entry 2 0x21 (Deliver (request_of 1 (head 0x00 0x80 0xb1 1)) ∷ Send 1 1 (Nop 0xb1) ∷ [])
+    ∷ entry 3 0x22 (Deliver (request_of 1 (head 0x04 0x80 0xb2 2)) ∷ Send 1 2 (Reject 5 (head 0x04 0x80 0xb2 2)) ∷ [])
+    ∷ entry 3 0x22 (Send 1 3 (Reject 5 (head 0x43 0 0xb3 9)) ∷ [])
+    ∷ entry 3 0x22 (Ignore Data ∷ [])
+    ∷ entry 3 0x22 (Ignore Data ∷ [])
+    ∷ []
 unfolding Rules.bars_as
 other_requests_log = refl
+
+-- an immediate SCSI Command
+abbrev pub immediate_command : ℕ → List ℕ
+immediate_command t = head 0x41 0x81 t 1
+
+-- an immediate command takes no number and no place of the window. It bars others as any command does
+abbrev pub immediate_commands : List Event
+immediate_commands =
+    Arrive 1 (head 0x41 0x82 0xb1 1)
+    ∷ Arrive 1 (command 0xa1 1)
+    ∷ Done 1 0
+    ∷ []
+
+pub immediate_commands_log : run_of (setting 1 1) immediate_commands ≡
+    entry 1 1 (Immediate (request_of 1 (head 0x41 0x82 0xb1 1)) ∷ Enter 1 0 Ordered ∷ Enable 1 0 ∷ [])
+    ∷ entry 2 1 (Deliver (request_of 1 (command 0xa1 1)) ∷ Enter 2 0 Simple ∷ [])
+    ∷ entry 2 1 (Leave 1 0 ∷ Send 1 1 (Scsi 0xb1 0 None) ∷ Enable 2 0 ∷ [])
+    ∷ []
+unfolding Rules.bars_as
+immediate_commands_log = refl
+
+-- a ninth immediate command of a connection is rejected
+abbrev pub nine_immediate : List Event
+nine_immediate = map (λ t. Arrive 1 (immediate_command t)) (0xa1 ∷ 0xa2 ∷ 0xa3 ∷ 0xa4 ∷ 0xa5 ∷ 0xa6 ∷ 0xa7 ∷ 0xa8 ∷ 0xa9 ∷ [])
+
+abbrev pub immediate_entry : ℕ → ℕ → Entry
+immediate_entry t ticket = entry 1 0x20 (Immediate (request_of 1 (immediate_command t)) ∷ Enter ticket 0 Simple ∷ Enable ticket 0 ∷ [])
+
+pub nine_immediate_log : run_of (setting 1 32) nine_immediate ≡
+    immediate_entry 0xa1 1
+    ∷ immediate_entry 0xa2 2
+    ∷ immediate_entry 0xa3 3
+    ∷ immediate_entry 0xa4 4
+    ∷ immediate_entry 0xa5 5
+    ∷ immediate_entry 0xa6 6
+    ∷ immediate_entry 0xa7 7
+    ∷ immediate_entry 0xa8 8
+    ∷ entry 1 0x20 (Immediate (request_of 1 (immediate_command 0xa9)) ∷ Send 1 1 (Reject 6 (immediate_command 0xa9)) ∷ [])
+    ∷ []
+unfolding Rules.bars_as
+nine_immediate_log = refl
 
 -- an ORDERED command waits for the older ones, and bars the younger ones
 abbrev pub ordered : List Event

@@ -1,5 +1,5 @@
 -- When a session stands for a list of events.
-use Rattle.std.specs.Prelude.{◌≡◌, ℕ, pos, ◌+◌, ◌-◌, ◌*◌, ◌<◌, ◌≤◌, ◌==◌, ◌&&◌, not, Bool, true, false, List, [], ◌∷◌, length, map, filter, nat_lt, nat_le, Option, Some, None, option_map, is_some, count_by, slice_index_or, if◌then◌else◌}
+use Rattle.std.specs.Prelude.{◌≡◌, ℕ, pos, ◌-ℤ◌, ◌+◌, ◌-◌, ◌*◌, ◌<◌, ◌≤◌, ◌==◌, ◌&&◌, not, Bool, true, false, List, [], ◌∷◌, length, map, filter, nat_lt, nat_le, Option, Some, None, option_map, is_some, count_by, slice_index_or, if◌then◌else◌}
 use Rattle.std.specs.List.{list_all, range_with_len}
 use Rattle.iscsi_wire.specs.declared.request.Request.{Request}
 use Rattle.iscsi_wire.specs.Serial.{wire, number_of_first}
@@ -12,7 +12,7 @@ use Rattle.iscsi_session.specs.declared.event.Event.{Event}
 use Rattle.iscsi_session.specs.declared.session.live.Live.{Live}
 use Rattle.iscsi_session.specs.Settings.{Setting, is_known}
 use Rattle.iscsi_session.specs.Trace.{Arrival, Command, Trace, has, shown, held, admitted, is_received, is_delivered, entered, live, live_in, was_free, is_among, leaves_ticket}
-use Rattle.iscsi_session.specs.Execution.{exp_of}
+use Rattle.iscsi_session.specs.Execution.{exp_of, unfinished}
 use Rattle.iscsi_session.specs.Run.{trace_of, stat_sn_of}
 use Rattle.iscsi_session.specs.Executed.{executed_below, delivers}
 use Rattle.iscsi_session.specs.Enabling.{EnabledSoFar}
@@ -49,7 +49,7 @@ stat_sn_on cid (conn ∷ conns) = if conn.0 == cid then wire conn.1 else stat_sn
 
 -- what is kept of a live command
 abbrev pub kept : Command → Live
-kept c = record { ticket = c.ticket; unit = c.unit; conn = connection_of c.arrival.request; itt = itt c.arrival.request }
+kept c = record { ticket = c.ticket; unit = c.unit; conn = connection_of c.arrival.request; itt = itt c.arrival.request; immediate = is_immediate c.arrival.request }
 
 -- each command came on one of the connections
 abbrev pub are_known : List Live → List (ℕ × ℕ) → Bool
@@ -59,9 +59,9 @@ are_known lives conns = list_all (λ l. is_known l.conn conns) lives
 abbrev pub is_regular_request : Setting → Request → Bool
 is_regular_request o r = not (is_immediate r) && is_known (connection_of r) o.conns
 
--- the command is in a unit of the session, and its request is regular
+-- the command is in a unit of the session, and came on one of its connections
 abbrev pub is_regular : Setting → Command → Bool
-is_regular o c = nat_lt c.unit o.units && is_regular_request o c.arrival.request
+is_regular o c = nat_lt c.unit o.units && is_known (connection_of c.arrival.request) o.conns
 
 -- a command as its set sees it. The order of arrival counts for immediate commands alone
 abbrev pub task_of : Setting → Command → Task
@@ -71,8 +71,8 @@ task_of o c = record {
   itt = itt c.arrival.request;
   attr = c.attr;
   immediate = is_immediate c.arrival.request;
-  pos = pos (c.arrival.number - number_of_first o.first);
-  event = 0;
+  pos = pos c.arrival.number -ℤ pos (number_of_first o.first);
+  event = if is_immediate c.arrival.request then c.arrival.event else 0;
 }
 
 -- a member of its set: once it was free it is enabled, and its unit was told
@@ -121,7 +121,7 @@ pub record WindowAgrees (o : Setting) (w : Received) (t : Trace) : Type 0 where
   pub undelivered : (n : ℕ) → number_expected w ≤ n → is_delivered t n ≡ false
   pub requests : (n : ℕ) (a : Arrival) → admitted t n ≡ Some a → is_regular_request o a.request ≡ true
   pub delivered : shown delivers t ≡ executed_below o t (number_expected w)
-  -- a live command takes a place at the window's end
+  -- a live numbered command takes a place at the window's end
   pub few : w.unfinished ≤ length w.places
   pub free : (k : ℕ) → length w.places ≤ k + w.unfinished → slice_index_or w.places k None ≡ None
 
@@ -152,7 +152,7 @@ pub record Agrees (o : Setting) (s : Core) (t : Trace) : Type 0 where
   pub replies : RepliesAgree o s.conns t
   pub commands : CommandsAgree o s.live s.entered t
   pub sets : SetsAgree o s.sets t
-  pub unfinished : s.window.unfinished ≡ length (live t)
+  pub unfinished : s.window.unfinished ≡ unfinished t
   pub enabled : EnabledSoFar o t  -- what was given is what the rule enables
 
 -- and nothing is due

@@ -1,13 +1,13 @@
 -- What a session keeps after a part of an event, and the effects, by what it keeps before. For private contracts alone.
-use Rattle.std.specs.Prelude.{All, ◌≡◌, false, ◌<◌, ℕ, pos, ◌+◌, ◌-◌, ◌≤◌, ◌==◌, ◌||◌, not, nat_lt, nat_le, nat_eq, Bool, true, List, [], ◌∷◌, ◌++◌, length, map, filter, find, slice_index_or, slice_set, Option, Some, None, option_map, if◌then◌else◌}
+use Rattle.std.specs.Prelude.{All, ◌≡◌, false, ◌<◌, ℕ, pos, ◌-ℤ◌, ◌+◌, ◌-◌, ◌≤◌, ◌==◌, ◌&&◌, ◌||◌, not, count_by, nat_lt, nat_le, nat_eq, Bool, true, List, [], ◌∷◌, ◌++◌, length, map, filter, find, slice_index_or, slice_set, Option, Some, None, option_map, if◌then◌else◌}
 use Rattle.std.specs.Option.{MatchOption}
 use Rattle.std.specs.HashMap.{HashMap, get, hash_map_len, spare}
 use Rattle.std.specs.List.{list_any}
 use Rattle.iscsi_wire.specs.declared.request.Request.{Request}
 use Rattle.iscsi_wire.specs.declared.reply.Reply.{Reply}
 use Rattle.iscsi_wire.specs.declared.reply.Reply.TheVariants.{Scsi}
-use Rattle.iscsi_wire.specs.Serial.{wire}
-use Rattle.iscsi_wire.specs.Fields.{connection_of, is_immediate, attr_code, itt}
+use Rattle.iscsi_wire.specs.Serial.{wire, lift, number_of_first}
+use Rattle.iscsi_wire.specs.Fields.{connection_of, is_immediate, cmd_sn, attr_code, itt}
 use Rattle.iscsi_window.specs.Windows.{Received, number_expected, number_last, offered_to, advanced, with_unfinished}
 use Rattle.iscsi_tasks.specs.declared.task.Task.{Task}
 use Rattle.iscsi_tasks.specs.declared.member.Member.{Member}
@@ -22,9 +22,9 @@ use Rattle.iscsi_session.specs.declared.fault.SessionFault.{SessionFault}
 use Rattle.iscsi_session.specs.declared.fault.SessionFault.TheVariants.{UnknownConnection, Exhausted}
 use Rattle.iscsi_session.specs.declared.session.live.Live.{Live}
 use Rattle.iscsi_session.specs.declared.verdict.Verdict.{Verdict}
-use Rattle.iscsi_session.specs.declared.verdict.Verdict.TheVariants.{Answer, Enter as EnterUnit}
+use Rattle.iscsi_session.specs.declared.verdict.Verdict.TheVariants.{Nothing, Answer, Enter as EnterUnit}
 use Rattle.iscsi_session.specs.Settings.{is_known}
-use Rattle.iscsi_session.specs.Execution.{sense_of_status, unit_named, attr_of, scsi_verdict}
+use Rattle.iscsi_session.specs.Execution.{sense_of_status, unit_named, attr_of, MOST_IMMEDIATE, request_verdict}
 use Rattle.iscsi_session.specs.Standing.{Core, stat_sn_on}
 
 -- ---- refusals
@@ -87,26 +87,67 @@ is_set_full set = nat_le set.depth (length set.list)
 abbrev pub place_in : List Members → Request → Option (ℕ × Bool)
 place_in sets r = option_map (λ unit. (unit, is_set_full (slice_index_or sets unit (opened_set 0)))) (unit_named (length sets) r)
 
+-- an immediate command of the connection
+abbrev pub is_immediate_on : ℕ → Live → Bool
+is_immediate_on cid l = l.immediate && l.conn == cid
+
+-- how many of them there are
+abbrev pub immediate_in : List Live → ℕ → ℕ
+immediate_in live cid = count_by (is_immediate_on cid) live
+
+abbrev pub is_crowded_by : Core → Request → Bool
+is_crowded_by s r = is_immediate r && nat_le MOST_IMMEDIATE (immediate_in s.live (connection_of r))
+
 abbrev pub verdict_by : Core → Request → Verdict
-verdict_by s r = scsi_verdict r (is_tag_kept s (itt r)) (place_in s.sets r)
+verdict_by s r = request_verdict r (is_tag_kept s (itt r)) (is_crowded_by s r) (place_in s.sets r)
+
+-- ---- counts of immediate commands
+
+-- what is counted for a connection, at the place of the first one with its CID
+abbrev pub counted_on : ℕ → List (ℕ × ℕ) → List ℕ → ℕ
+counted_on cid [] counts = 0
+counted_on cid (conn ∷ conns) [] = 0
+counted_on cid (conn ∷ conns) (n ∷ counts) = if conn.0 == cid then n else counted_on cid conns counts
+
+-- the counts are those of the live commands
+pub record AreCounted (counts : List ℕ) (conns : List (ℕ × ℕ)) (live : List Live) : Type 0 where
+  pub long : length counts ≡ length conns
+  pub exact : (cid : ℕ) → is_known cid conns ≡ true → counted_on cid conns counts ≡ immediate_in live cid
+  pub few : (cid : ℕ) → immediate_in live cid ≤ MOST_IMMEDIATE
+
+-- a numbered command
+abbrev pub is_numbered : Live → Bool
+is_numbered l = not l.immediate
 
 -- ---- a turn
 
 -- what is kept of the command that enters next
 abbrev pub new_live : Core → Request → ℕ → Live
-new_live s r unit = record { ticket = s.entered + 1; unit = unit; conn = connection_of r; itt = itt r }
+new_live s r unit = record { ticket = s.entered + 1; unit = unit; conn = connection_of r; itt = itt r; immediate = is_immediate r }
 
--- the same, as its set sees it. Its number has turned last
+-- the number of a request that executes: a numbered one has turned last
+abbrev pub number_by : Core → Request → ℕ
+number_by s r = if is_immediate r then lift (number_expected s.window) (cmd_sn r) else number_expected s.window - 1
+
+-- the event in which an immediate request arrived
+abbrev pub event_by : Core → Request → ℕ
+event_by s r = if is_immediate r then s.taken - 1 else 0
+
+-- the same, as its set sees it
 abbrev pub new_task : Core → Request → Task
-new_task s r = record { ticket = s.entered + 1; conn = connection_of r; itt = itt r; attr = attr_of (attr_code r); immediate = is_immediate r; pos = pos (s.window.turned - 1); event = 0 }
+new_task s r = record { ticket = s.entered + 1; conn = connection_of r; itt = itt r; attr = attr_of (attr_code r); immediate = is_immediate r; pos = pos (number_by s r) -ℤ pos (number_of_first s.window.first); event = event_by s r }
 
 abbrev pub set_entered : Core → Request → ℕ → Members
 set_entered s r unit = entered_to (set_at s unit) (new_task s r)
 
--- the request enters, in a window that has turned its number
+-- a numbered command takes a place of the window
+abbrev pub started : Received → Request → Received
+started w r = if is_immediate r then w else with_unfinished w (w.unfinished + 1)
+
+-- the request enters
 abbrev pub with_command : Core → Request → ℕ → Core
 with_command s r unit = record s {
-  window = with_unfinished s.window (s.window.unfinished + 1);
+  window = started s.window r;
   entered = s.entered + 1;
   live = s.live ++ new_live s r unit ∷ [];
   sets = slice_set s.sets unit (given_by (set_entered s r unit));
@@ -123,10 +164,12 @@ abbrev pub reply_effects : Core → ℕ → Reply → List Effect
 reply_effects s conn reply = Send conn (stat_sn_on conn s.conns) reply ∷ []
 
 abbrev pub executed_as : Core → Request → Verdict → Core
+executed_as s r Nothing = s
 executed_as s r (Answer reply) = with_reply s (connection_of r)
 executed_as s r (EnterUnit unit) = with_command s r unit
 
 abbrev pub execution_effects : Core → Request → Verdict → List Effect
+execution_effects s r Nothing = []
 execution_effects s r (Answer reply) = reply_effects s (connection_of r) reply
 execution_effects s r (EnterUnit unit) = entry_effects s r unit
 
@@ -180,9 +223,13 @@ set_without l sets = let set = slice_index_or sets l.unit (opened_set 0) in left
 abbrev pub set_left : Core → Live → Members
 set_left s l = set_without l s.sets
 
+-- a numbered command gives its place back
+abbrev pub finished : Received → Live → Received
+finished w l = if l.immediate then w else with_unfinished w (w.unfinished - 1)
+
 abbrev pub without_command : Core → Live → Core
 without_command s l = record s {
-  window = with_unfinished s.window (s.window.unfinished - 1);
+  window = finished s.window l;
   conns = count_reply l.conn s.conns;
   live = without_ticket l.ticket s.live;
   sets = slice_set s.sets l.unit (all_given (set_left s l));

@@ -26,6 +26,7 @@ pub record Command : Type 0 where
 pub data Mark : Type 0 where
   Admits : Arrival → Mark  -- a numbered request is received, and held from now on
   Delivers : Arrival → Mark  -- a numbered request executes
+  Executes : Arrival → Mark  -- an immediate request executes
   Leaves : Command → Mark
   Enters : Command → Mark
   Sends : ℕ → Reply → Mark  -- a reply goes out on a connection

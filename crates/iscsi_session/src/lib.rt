@@ -5,6 +5,7 @@
 mod effect;
 mod event;
 mod fault;
+mod kind;
 mod log;
 mod options;
 mod report;

@@ -1,18 +1,15 @@
 //! The session, and its step.
 
-ghost use Rattle.std.specs.Prelude.{false, Err, ◌*◌, ◌≡◌, ◌==◌, position, ◌≢◌, ℕ, ◌+◌, ◌≤◌, ◌<◌, true, List, [], ◌∷◌, ◌++◌, OnOk, OnErr, IfOk, IfSome, length, count_by, is_some, vec_len, vec_capacity};
-ghost use Rattle.iscsi_wire.specs.Fields.{connection_of, itt as tag_of};
-ghost use Rattle.iscsi_window.specs.Windows.{HasRoom, at_place, offer_to, number_expected};
-ghost use Rattle.iscsi_session.specs.Settings.{Setting, setting_of, is_known as known_in};
+ghost use Rattle.std.specs.Prelude.{Err, ◌*◌, ◌≡◌, ◌≢◌, ℕ, ◌+◌, ◌≤◌, ◌<◌, true, List, [], ◌∷◌, ◌++◌, OnOk, OnErr, IfOk, length, count_by, is_some, vec_len, vec_capacity};
+ghost use Rattle.iscsi_session.specs.Settings.{Setting, setting_of};
 ghost use Rattle.iscsi_session.specs.Trace.{Trace, after_items};
-ghost use Rattle.iscsi_session.specs.Execution.{exp_of, sense_of_status, reject as reject_of, attr_of as attr_named};
 ghost use Rattle.std.specs.VecDeque.{deque_capacity};
-ghost use Rattle.iscsi_session.specs.Agenda.{due, turns, arrival, arrival_of, items_of};
-ghost use Rattle.iscsi_session.specs.Run.{trace_of, next_entry, effects_of, after_event};
+ghost use Rattle.iscsi_session.specs.Agenda.{arrival, items_of};
+ghost use Rattle.iscsi_session.specs.Run.{trace_of, next_entry, effects_of};
 ghost use Rattle.iscsi_session.specs.Flow.{Flows};
 ghost use Rattle.iscsi_session.specs.Refusals.{RefusesAs, refusal_of, refusal_of_options};
-ghost use Rattle.iscsi_session.specs.Standing.{Agrees, Settled, StandsFor, effect_bound_of, stat_sn_on, is_held, are_ascending};
-ghost use Rattle.iscsi_session.specs.Steps.{refusal_by, comes_on, set_at, is_set_full, is_tag_kept, verdict_by, with_command, entry_effects, with_reply, reply_effects, with_executed, execution_effects, turned_if, turn_effects, KeepsPace, with_offered, find_ticket, IsTicketPlace, find_enabled, without_ticket, without_command, leave_effects, after_completion, completion_effects, counted, numbers_by, count_reply};
+ghost use Rattle.iscsi_session.specs.Standing.{Settled, StandsFor, effect_bound_of, is_held, are_ascending};
+ghost use Rattle.iscsi_session.specs.Steps.{refusal_by, comes_on, KeepsPace, counted, numbers_by};
 
 use crate::effect::{Effect, Numbers};
 use crate::event::Event;
@@ -30,6 +27,7 @@ use std::marker::Model;
 mod arrival;
 mod completion;
 mod execution;
+mod immediate;
 mod live;
 mod sets;
 mod tags;
@@ -50,24 +48,25 @@ pub struct Session {
     taken: u64,
     live: VecDeque<Live>,
     tags: Tags,
+    immediate: Vec<u8>,
     sets: Vec<TaskSet>,
 }
 
 impl Model for Session {
-    ghost use Rattle.std.specs.Prelude.{ℕ, ◌≡◌, ◌≤◌, ◌+◌, ◌^◌, true, length, is_some, count_by};
+    ghost use Rattle.std.specs.Prelude.{ℕ, ◌≡◌, ◌≤◌, ◌+◌, ◌*◌, ◌^◌, true, length, is_some, count_by};
     ghost use Rattle.std.specs.List.{list_all};
     ghost use Rattle.std.specs.VecDeque.{deque_capacity};
     ghost use Rattle.iscsi_session.specs.Standing.{Core, are_known, is_held, is_place_known, Match, are_ascending, are_within};
-    ghost use Rattle.iscsi_session.specs.Steps.{AreIndexed, tag_room};
+    ghost use Rattle.iscsi_session.specs.Steps.{is_numbered, AreIndexed, AreCounted, tag_room};
 
     ghost Value = { Core };
 
     ghost view = { λ s. record { window = s.window; events = s.events; conns = s.conns.items; entered = s.entered; taken = s.taken; live = s.live.items; sets = s.sets.items } };
 
-    // Room for as many commands as the window has places, the held requests counted, nothing counted more
-    // often than there were events, each request and command on a connection of the session, the live
-    // commands in the task sets, and their tags in the index.
-    ghost invariant = { λ s. (length s.live.items ≤ s.window.unfinished) × (s.window.unfinished ≤ length s.window.places) × (length s.window.places ≤ 1024) × (length s.window.places ≤ deque_capacity s.live) × (s.held ≡ count_by is_held s.window.places) × (s.window.turned + count_by is_some s.window.places ≤ s.taken) × (s.entered ≤ s.window.turned) × (s.taken ≤ s.events) × (s.events ≤ 2 ^ 48) × (are_known s.live.items s.conns.items ≡ true) × (list_all (is_place_known s.conns.items) s.window.places ≡ true) × (Match s.sets.items s.live.items) × (are_ascending s.live.items ≡ true) × (are_within s.entered (length s.sets.items) s.live.items ≡ true) × AreIndexed s.tags s.live.items × (length s.window.places ≤ tag_room s.tags) };
+    // Room for as many commands as the window has places and the connections immediate ones, the held requests
+    // counted, nothing counted more often than there were events, each request and command on a connection of the
+    // session, the live commands in the task sets, their tags in the index, and the immediate ones counted.
+    ghost invariant = { λ s. (count_by is_numbered s.live.items ≤ s.window.unfinished) × (s.window.unfinished ≤ length s.window.places) × (length s.window.places ≤ 1024) × (length s.window.places + 8 * length s.conns.items ≤ deque_capacity s.live) × (s.held ≡ count_by is_held s.window.places) × (s.window.turned + count_by is_some s.window.places ≤ s.taken) × (s.entered + count_by is_some s.window.places ≤ s.taken) × (s.taken ≤ s.events) × (s.events ≤ 2 ^ 48) × (are_known s.live.items s.conns.items ≡ true) × (list_all (is_place_known s.conns.items) s.window.places ≡ true) × (Match s.sets.items s.live.items) × (are_ascending s.live.items ≡ true) × (are_within s.entered (length s.sets.items) s.live.items ≡ true) × AreIndexed s.tags s.live.items × (length s.window.places + 8 * length s.conns.items ≤ tag_room s.tags) × AreCounted s.immediate.items s.conns.items s.live.items × (length s.conns.items ≤ 64) };
 }
 
 impl Session {
@@ -90,10 +89,12 @@ impl Session {
             events,
             conns,
         } = options;
-        let (Ok(window), Ok(live), Some(tags), Some(sets)) = (
+        let most_live = size as usize + 8 * conns.len();
+        let (Ok(window), Ok(live), Some(tags), Some(immediate), Some(sets)) = (
             Window::open(alloc, first, size),
-            VecDeque::with_capacity(alloc, size as usize),
-            tags::open(alloc, size),
+            VecDeque::with_capacity(alloc, most_live),
+            tags::open(alloc, most_live),
+            immediate::open(alloc, conns.len()),
             sets::open(alloc, units, depth),
         ) else {
             return Err(SessionFault::NoMemory);
@@ -107,6 +108,7 @@ impl Session {
             taken: 0,
             live,
             tags,
+            immediate,
             sets,
         })
     }
@@ -167,9 +169,10 @@ impl Session {
     fn apply(&mut self, event: &Event, out: &mut Vec<Effect>)
         requires known { comes_on self.old.conns event.now ≡ true }
         requires counted { self.old.window.turned + count_by is_some self.old.window.places < self.old.taken }
+        requires entered { self.old.entered + count_by is_some self.old.window.places < self.old.taken }
         requires room { vec_len out.old + 12 * (count_by is_held self.old.window.places + 1) + 2 * length self.old.live ≤ vec_capacity out.old }
-        ensures settled { (o : Setting) (index : ℕ) (t : Trace) → Settled o self.old t → Settled o self.new (after_items (items_of o index t event.now) t) }
-        ensures effects { (o : Setting) (index : ℕ) (t : Trace) → Settled o self.old t → out.new.items ≡ out.old.items ++ effects_of o t (items_of o index t event.now) }
+        ensures settled { (o : Setting) (index : ℕ) (t : Trace) → self.old.taken ≡ index + 1 → Settled o self.old t → Settled o self.new (after_items (items_of o index t event.now) t) }
+        ensures effects { (o : Setting) (index : ℕ) (t : Trace) → self.old.taken ≡ index + 1 → Settled o self.old t → out.new.items ≡ out.old.items ++ effects_of o t (items_of o index t event.now) }
         ensures taken { self.new.taken ≡ self.old.taken }
         ensures pace { KeepsPace self.old.window self.new.window }
         ensures spent { vec_len out.new ≤ vec_len out.old + 3 * (count_by is_held self.old.window.places + 1) + 2 * length self.old.live }

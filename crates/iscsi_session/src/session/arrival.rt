@@ -1,43 +1,61 @@
 //! The arrival of a request, and the turns that become due by it.
 
-ghost use Rattle.std.specs.Prelude.{false, Err, ◌*◌, ◌≡◌, ◌==◌, position, ◌≢◌, ℕ, ◌+◌, ◌≤◌, ◌<◌, true, List, [], ◌∷◌, ◌++◌, OnOk, OnErr, IfOk, IfSome, length, count_by, is_some, vec_len, vec_capacity};
-ghost use Rattle.iscsi_wire.specs.Fields.{connection_of, itt as tag_of};
-ghost use Rattle.iscsi_window.specs.Windows.{HasRoom, at_place, offer_to, number_expected};
-ghost use Rattle.iscsi_session.specs.Settings.{Setting, setting_of, is_known as known_in};
+ghost use Rattle.std.specs.Prelude.{false, ◌*◌, ◌≡◌, ◌==◌, ℕ, ◌+◌, ◌≤◌, ◌<◌, true, ◌++◌, count_by, is_some, vec_len, vec_capacity};
+ghost use Rattle.iscsi_wire.specs.Fields.{connection_of, is_immediate};
+ghost use Rattle.iscsi_window.specs.Windows.{at_place, offer_to, number_expected};
+ghost use Rattle.iscsi_session.specs.Settings.{Setting, is_known as known_in};
 ghost use Rattle.iscsi_session.specs.Trace.{Trace, after_items};
-ghost use Rattle.iscsi_session.specs.Execution.{exp_of, sense_of_status, reject as reject_of, attr_of as attr_named};
-ghost use Rattle.std.specs.VecDeque.{deque_capacity};
-ghost use Rattle.iscsi_session.specs.Agenda.{due, turns, arrival, arrival_of, items_of};
-ghost use Rattle.iscsi_session.specs.Run.{trace_of, next_entry, effects_of, after_event};
-ghost use Rattle.iscsi_session.specs.Flow.{Flows};
-ghost use Rattle.iscsi_session.specs.Refusals.{RefusesAs, refusal_of, refusal_of_options};
-ghost use Rattle.iscsi_session.specs.Standing.{Agrees, Settled, StandsFor, effect_bound_of, stat_sn_on, is_held, are_ascending};
-ghost use Rattle.iscsi_session.specs.Steps.{refusal_by, comes_on, set_at, is_set_full, is_tag_kept, verdict_by, with_command, entry_effects, with_reply, reply_effects, with_executed, execution_effects, turned_if, turn_effects, KeepsPace, with_offered, find_ticket, IsTicketPlace, find_enabled, without_ticket, without_command, leave_effects, after_completion, completion_effects, counted, numbers_by, count_reply};
+ghost use Rattle.iscsi_session.specs.Execution.{exp_of};
+ghost use Rattle.iscsi_session.specs.Agenda.{due, turns, arrival, arrival_of, numbered};
+ghost use Rattle.iscsi_session.specs.Run.{effects_of};
+ghost use Rattle.iscsi_session.specs.Standing.{Agrees, Settled, is_held};
+ghost use Rattle.iscsi_session.specs.Steps.{turned_if, turn_effects, KeepsPace, with_offered, counted};
 
 use crate::effect::{Effect, Why};
 use crate::session::Session;
+use crate::kind::{Kind, kind_of};
 use iscsi_window::{Offer, Turned};
 use iscsi_wire::Request;
-
-/// The opcode of a SCSI Command.
-const SCSI_COMMAND: u8 = 0x01;
 
 impl Session {
     /// Takes a request that arrived.
     pub(crate) fn arrive(&mut self, request: Request, out: &mut Vec<Effect>)
         requires known { known_in (connection_of request) self.old.conns ≡ true }
         requires counted { self.old.window.turned + count_by is_some self.old.window.places < self.old.taken }
+        requires entered { self.old.entered + count_by is_some self.old.window.places < self.old.taken }
         requires room { vec_len out.old + 3 * (count_by is_held self.old.window.places + 1) ≤ vec_capacity out.old }
-        ensures settled { (o : Setting) (index : ℕ) (t : Trace) → Settled o self.old t → Settled o self.new (after_items (arrival o t (arrival_of o index t request)) t) }
-        ensures effects { (o : Setting) (index : ℕ) (t : Trace) → Settled o self.old t → out.new.items ≡ out.old.items ++ effects_of o t (arrival o t (arrival_of o index t request)) }
+        ensures settled { (o : Setting) (index : ℕ) (t : Trace) → self.old.taken ≡ index + 1 → Settled o self.old t → Settled o self.new (after_items (arrival o t (arrival_of o index t request)) t) }
+        ensures effects { (o : Setting) (index : ℕ) (t : Trace) → self.old.taken ≡ index + 1 → Settled o self.old t → out.new.items ≡ out.old.items ++ effects_of o t (arrival o t (arrival_of o index t request)) }
         ensures taken { self.new.taken ≡ self.old.taken }
         ensures pace { KeepsPace self.old.window self.new.window }
         ensures spent { vec_len out.new ≤ vec_len out.old + 3 * (count_by is_held self.old.window.places + 1) }
     {
-        if request.immediate() || request.opcode() != SCSI_COMMAND {
-            out.push_reserved(Effect::Ignore { why: Why::Data });
-            return;
+        match kind_of(&request) {
+            Kind::PassedOver => out.push_reserved(Effect::Ignore { why: Why::Data }),
+            Kind::Unknown => self.reject_opcode(&request, out),
+            Kind::Executes => {
+                if request.immediate() {
+                    self.execute_at_once(request, out);
+                } else {
+                    self.receive(request, out);
+                }
+            }
         }
+    }
+
+    /// Takes a numbered request.
+    fn receive(&mut self, request: Request, out: &mut Vec<Effect>)
+        requires regular { is_immediate request ≡ false }
+        requires known { known_in (connection_of request) self.old.conns ≡ true }
+        requires counted { self.old.window.turned + count_by is_some self.old.window.places < self.old.taken }
+        requires entered { self.old.entered + count_by is_some self.old.window.places < self.old.taken }
+        requires room { vec_len out.old + 3 * (count_by is_held self.old.window.places + 1) ≤ vec_capacity out.old }
+        ensures settled { (o : Setting) (index : ℕ) (t : Trace) → Settled o self.old t → Settled o self.new (after_items (numbered o t (arrival_of o index t request)) t) }
+        ensures effects { (o : Setting) (index : ℕ) (t : Trace) → Settled o self.old t → out.new.items ≡ out.old.items ++ effects_of o t (numbered o t (arrival_of o index t request)) }
+        ensures taken { self.new.taken ≡ self.old.taken }
+        ensures pace { KeepsPace self.old.window self.new.window }
+        ensures spent { vec_len out.new ≤ vec_len out.old + 3 * (count_by is_held self.old.window.places + 1) }
+    {
         match self.offer(&request) {
             Offer::Held => self.take_turns(out),
             Offer::Outside => out.push_reserved(Effect::Ignore { why: Why::Outside }),
@@ -51,6 +69,7 @@ impl Session {
     fn offer(&mut self, request: &Request) -> Offer
         requires known { known_in (connection_of request.now) self.old.conns ≡ true }
         requires counted { self.old.window.turned + count_by is_some self.old.window.places < self.old.taken }
+        requires entered { self.old.entered + count_by is_some self.old.window.places < self.old.taken }
         ensures answer { result ≡ offer_to self.old.window request.now }
         ensures session { self.new ≡ with_offered self.old request.now }
         ensures held { count_by is_held self.new.window.places ≤ count_by is_held self.old.window.places + 1 }

@@ -1,23 +1,16 @@
 //! The completion of a command by its unit.
 
-ghost use Rattle.std.specs.Prelude.{false, Err, ◌*◌, ◌≡◌, ◌==◌, position, ◌≢◌, ℕ, ◌+◌, ◌≤◌, ◌<◌, true, List, [], ◌∷◌, ◌++◌, OnOk, OnErr, IfOk, IfSome, length, count_by, is_some, vec_len, vec_capacity};
-ghost use Rattle.iscsi_wire.specs.Fields.{connection_of, itt as tag_of};
-ghost use Rattle.iscsi_window.specs.Windows.{HasRoom, at_place, offer_to, number_expected};
-ghost use Rattle.iscsi_session.specs.Settings.{Setting, setting_of, is_known as known_in};
-ghost use Rattle.iscsi_session.specs.Trace.{Trace, after_items};
-ghost use Rattle.iscsi_session.specs.Execution.{exp_of, sense_of_status, reject as reject_of, attr_of as attr_named};
-ghost use Rattle.std.specs.VecDeque.{deque_capacity};
-ghost use Rattle.iscsi_session.specs.Agenda.{due, turns, arrival, arrival_of, items_of};
-ghost use Rattle.iscsi_session.specs.Run.{trace_of, next_entry, effects_of, after_event};
-ghost use Rattle.iscsi_session.specs.Flow.{Flows};
-ghost use Rattle.iscsi_session.specs.Refusals.{RefusesAs, refusal_of, refusal_of_options};
-ghost use Rattle.iscsi_session.specs.Standing.{Agrees, Settled, StandsFor, effect_bound_of, stat_sn_on, is_held, are_ascending};
-ghost use Rattle.iscsi_session.specs.Steps.{refusal_by, comes_on, set_at, is_set_full, is_tag_kept, verdict_by, with_command, entry_effects, with_reply, reply_effects, with_executed, execution_effects, turned_if, turn_effects, KeepsPace, with_offered, find_ticket, IsTicketPlace, find_enabled, without_ticket, without_command, leave_effects, after_completion, completion_effects, counted, numbers_by, count_reply};
+ghost use Rattle.std.specs.Prelude.{ℕ, ◌*◌, ◌≡◌, ◌==◌, ◌&&◌, ◌+◌, ◌<◌, ◌≤◌, true, false, if◌then◌else◌, ◌++◌, IfSome, length, vec_len, vec_capacity};
+ghost use Rattle.iscsi_session.specs.Settings.{is_known as known_in};
+ghost use Rattle.iscsi_session.specs.Execution.{sense_of_status};
+ghost use Rattle.iscsi_session.specs.Steps.{find_enabled, after_completion, completion_effects, counted_on, finished};
 
 use crate::effect::{Effect, Why};
 use crate::session::Session;
+use crate::session::immediate;
 use crate::session::live::{Live, find, remove};
 use crate::session::sets;
+use iscsi_window::Window;
 use iscsi_wire::{Reply, Sense};
 
 /// The status CHECK CONDITION.
@@ -43,7 +36,12 @@ impl Session {
             return;
         };
         let stat_sn = self.next_stat_sn(command.conn);
-        self.window.finish_one();
+        finish(
+            &mut self.window,
+            &mut self.immediate,
+            &self.conns,
+            &command,
+        );
         remove(&mut self.live, command.ticket);
         out.push_reserved(Effect::Leave {
             ticket: command.ticket,
@@ -72,6 +70,23 @@ impl Session {
         } else {
             None
         }
+    }
+}
+
+/// A command is over: it gives its place of the window back, or counts no more among the immediate ones.
+fn finish(window: &mut Window, immediate: &mut Vec<u8>, conns: &[(u16, u32)], command: &Live)
+    requires numbered { command.now.immediate ≡ false → 0 < window.old.unfinished }
+    requires long { length immediate.old.items ≡ length conns.now }
+    requires known { known_in command.now.conn conns.now ≡ true }
+    requires some { command.now.immediate ≡ true → 0 < counted_on command.now.conn conns.now immediate.old.items }
+    ensures window { window.new ≡ finished window.old command.now }
+    ensures long { length immediate.new.items ≡ length immediate.old.items }
+    ensures counted { (cid : ℕ) → counted_on cid conns.now immediate.new.items + (if command.now.immediate && command.now.conn == cid then 1 else 0) ≡ counted_on cid conns.now immediate.old.items }
+{
+    if command.immediate {
+        immediate::count_down(immediate, conns, command.conn);
+    } else {
+        window.finish_one();
     }
 }
 

@@ -1,33 +1,34 @@
 //! The execution of a request, by the first case of its table that fits.
 
-ghost use Rattle.std.specs.Prelude.{false, Err, ◌*◌, ◌≡◌, ◌==◌, position, ◌≢◌, ℕ, ◌+◌, ◌≤◌, ◌<◌, true, List, [], ◌∷◌, ◌++◌, OnOk, OnErr, IfOk, IfSome, length, count_by, is_some, vec_len, vec_capacity};
-ghost use Rattle.iscsi_wire.specs.Fields.{connection_of, itt as tag_of};
-ghost use Rattle.iscsi_window.specs.Windows.{HasRoom, at_place, offer_to, number_expected};
-ghost use Rattle.iscsi_session.specs.Settings.{Setting, setting_of, is_known as known_in};
-ghost use Rattle.iscsi_session.specs.Trace.{Trace, after_items};
-ghost use Rattle.iscsi_session.specs.Execution.{exp_of, sense_of_status, reject as reject_of, attr_of as attr_named};
-ghost use Rattle.std.specs.VecDeque.{deque_capacity};
-ghost use Rattle.iscsi_session.specs.Agenda.{due, turns, arrival, arrival_of, items_of};
-ghost use Rattle.iscsi_session.specs.Run.{trace_of, next_entry, effects_of, after_event};
-ghost use Rattle.iscsi_session.specs.Flow.{Flows};
-ghost use Rattle.iscsi_session.specs.Refusals.{RefusesAs, refusal_of, refusal_of_options};
-ghost use Rattle.iscsi_session.specs.Standing.{Agrees, Settled, StandsFor, effect_bound_of, stat_sn_on, is_held, are_ascending};
-ghost use Rattle.iscsi_session.specs.Steps.{refusal_by, comes_on, set_at, is_set_full, is_tag_kept, verdict_by, with_command, entry_effects, with_reply, reply_effects, with_executed, execution_effects, turned_if, turn_effects, KeepsPace, with_offered, find_ticket, IsTicketPlace, find_enabled, without_ticket, without_command, leave_effects, after_completion, completion_effects, counted, numbers_by, count_reply};
+ghost use Rattle.std.specs.Prelude.{ℕ, pos, ◌-ℤ◌, false, ◌≡◌, ◌==◌, ◌&&◌, position, ◌+◌, ◌≤◌, ◌<◌, true, ◌∷◌, ◌++◌, length, count_by, is_some, if◌then◌else◌, vec_len, vec_capacity};
+ghost use Rattle.iscsi_wire.specs.Serial.{number_of_first};
+ghost use Rattle.iscsi_wire.specs.Fields.{connection_of, header_of, is_immediate, itt as tag_of};
+ghost use Rattle.iscsi_window.specs.Windows.{HasRoom};
+ghost use Rattle.iscsi_session.specs.Settings.{is_known as known_in};
+ghost use Rattle.iscsi_session.specs.Execution.{MOST_IMMEDIATE, reject as reject_of, attr_of as attr_named, scsi_verdict, nop_verdict};
+ghost use Rattle.iscsi_session.specs.Standing.{stat_sn_on};
+ghost use Rattle.iscsi_session.specs.Steps.{set_at, is_set_full, is_tag_kept, is_crowded_by, immediate_in, counted_on, place_in, verdict_by, number_by, event_by, started, with_command, entry_effects, with_reply, reply_effects, with_executed, execution_effects, count_reply};
 
 use crate::effect::Effect;
+use crate::kind::{NOP_OUT, TEXT};
 use crate::session::Session;
+use crate::session::immediate;
 use crate::session::live::Live;
 use crate::session::sets;
 use crate::session::tags::{is_tag_live, take_up};
 use crate::verdict::Verdict;
 use iscsi_tasks::{Attr, Task};
-use iscsi_wire::{Reply, Request};
+use iscsi_window::Window;
+use iscsi_wire::{Reply, Request, distance};
 
 /// The tag that names no task (RFC 7143 section 11.2.1.8).
 const NO_TAG: u32 = 0xffff_ffff;
 
 /// The greatest ATTR that names a task attribute (RFC 7143 section 11.3.1).
 const GREATEST_ATTR: u8 = 3;
+
+/// Reject: command not supported (RFC 7143 section 11.17.1).
+const NOT_SUPPORTED: u8 = 0x05;
 
 /// Reject: task in progress (RFC 7143 section 11.17.1).
 const TASK_IN_PROGRESS: u8 = 0x07;
@@ -39,7 +40,7 @@ impl Session {
     /// Executes the request of the number that has turned last.
     pub(crate) fn deliver(&mut self, request: Request, out: &mut Vec<Effect>)
         requires space { HasRoom self.old.window }
-        requires counted { self.old.entered < self.old.window.turned }
+        requires counted { self.old.entered + count_by is_some self.old.window.places < self.old.taken }
         requires known { known_in (connection_of request) self.old.conns ≡ true }
         requires room { vec_len out.old + 3 ≤ vec_capacity out.old }
         ensures session { self.new ≡ with_executed self.old request }
@@ -48,15 +49,69 @@ impl Session {
         ensures capacity { vec_capacity out.new ≡ vec_capacity out.old }
     {
         out.push_reserved(Effect::Deliver { request });
-        match self.verdict(&request) {
+        self.execute(&request, out);
+    }
+
+    /// Executes an immediate request.
+    pub(crate) fn execute_at_once(&mut self, request: Request, out: &mut Vec<Effect>)
+        requires immediate { is_immediate request ≡ true }
+        requires counted { self.old.entered + count_by is_some self.old.window.places < self.old.taken }
+        requires known { known_in (connection_of request) self.old.conns ≡ true }
+        requires room { vec_len out.old + 3 ≤ vec_capacity out.old }
+        ensures session { self.new ≡ with_executed self.old request }
+        ensures effects { out.new.items ≡ out.old.items ++ Effect.Immediate request ∷ execution_effects self.old request (verdict_by self.old request) }
+        ensures spent { vec_len out.new ≤ vec_len out.old + 3 }
+    {
+        out.push_reserved(Effect::Immediate { request });
+        self.execute(&request, out);
+    }
+
+    /// Rejects a request for its opcode.
+    pub(crate) fn reject_opcode(&mut self, request: &Request, out: &mut Vec<Effect>)
+        requires known { known_in (connection_of request.now) self.old.conns ≡ true }
+        requires room { vec_len out.old + 1 ≤ vec_capacity out.old }
+        ensures session { self.new ≡ with_reply self.old (connection_of request.now) }
+        ensures effects { out.new.items ≡ out.old.items ++ reply_effects self.old (connection_of request.now) (Reply.Reject 5 (header_of request.now)) }
+        ensures len { vec_len out.new ≡ vec_len out.old + 1 }
+    {
+        let reply = rejection(request, NOT_SUPPORTED);
+        self.reply(request.conn(), reply, out);
+    }
+
+    /// Executes a request: the first case of its table that fits.
+    fn execute(&mut self, request: &Request, out: &mut Vec<Effect>)
+        requires space { is_immediate request.now ≡ false → HasRoom self.old.window }
+        requires counted { self.old.entered + count_by is_some self.old.window.places < self.old.taken }
+        requires known { known_in (connection_of request.now) self.old.conns ≡ true }
+        requires room { vec_len out.old + 2 ≤ vec_capacity out.old }
+        ensures session { self.new ≡ with_executed self.old request.now }
+        ensures effects { out.new.items ≡ out.old.items ++ execution_effects self.old request.now (verdict_by self.old request.now) }
+        ensures spent { vec_len out.new ≤ vec_len out.old + 2 }
+        ensures capacity { vec_capacity out.new ≡ vec_capacity out.old }
+    {
+        match self.verdict(request) {
+            Verdict::Nothing => {}
             Verdict::Answer(reply) => self.reply(request.conn(), reply, out),
-            Verdict::Enter(unit) => self.enter(&request, unit, out),
+            Verdict::Enter(unit) => self.enter(request, unit, out),
         }
     }
 
-    /// What the execution of a SCSI Command comes to: the first case of its table that fits (SAM-5 section 8).
+    /// What the execution of a request comes to.
     fn verdict(&self, request: &Request) -> Verdict
+        requires { known_in (connection_of request.now) self.now.conns ≡ true }
         ensures { result ≡ verdict_by self.now request.now }
+    {
+        match request.opcode() {
+            NOP_OUT => nop_verdict(request),
+            TEXT => reject(request, NOT_SUPPORTED),
+            _ => self.scsi_verdict(request),
+        }
+    }
+
+    /// What a SCSI Command comes to: the first case of its table that fits (SAM-5 section 8).
+    fn scsi_verdict(&self, request: &Request) -> Verdict
+        requires { known_in (connection_of request.now) self.now.conns ≡ true }
+        ensures { result ≡ scsi_verdict request.now (is_tag_kept self.now (tag_of request.now)) (is_crowded_by self.now request.now) (place_in self.now.sets request.now) }
     {
         let itt = request.itt();
         if itt == NO_TAG || request.attr() > GREATEST_ATTR {
@@ -64,8 +119,16 @@ impl Session {
         } else if is_tag_live(itt, &self.tags, &self.live) {
             reject(request, TASK_IN_PROGRESS)
         } else {
-            sets::verdict_in(request, &self.sets)
+            sets::verdict_in(request, self.is_crowded(request), &self.sets)
         }
+    }
+
+    /// Whether a request is immediate, and its connection has as many live immediate commands as it may.
+    fn is_crowded(&self, request: &Request) -> bool
+        requires { known_in (connection_of request.now) self.now.conns ≡ true }
+        ensures { result ≡ is_crowded_by self.now request.now }
+    {
+        request.immediate() && immediate::is_full(&self.immediate, &self.conns, request.conn())
     }
 
     /// A reply goes out on a connection.
@@ -99,8 +162,9 @@ impl Session {
 
     /// A command enters the set of a unit, which has room for it. No live command has its tag.
     fn enter(&mut self, request: &Request, unit: u16, out: &mut Vec<Effect>)
-        requires space { HasRoom self.old.window }
-        requires counted { self.old.entered < self.old.window.turned }
+        requires space { is_immediate request.now ≡ false → HasRoom self.old.window }
+        requires few { is_immediate request.now ≡ true → immediate_in self.old.live (connection_of request.now) < MOST_IMMEDIATE }
+        requires counted { self.old.entered + count_by is_some self.old.window.places < self.old.taken }
         requires known { known_in (connection_of request.now) self.old.conns ≡ true }
         requires unit { unit < length self.old.sets }
         requires not_full { is_set_full (set_at self.old unit) ≡ false }
@@ -111,7 +175,9 @@ impl Session {
         ensures spent { vec_len out.new ≤ vec_len out.old + 2 }
         ensures capacity { vec_capacity out.new ≡ vec_capacity out.old }
     {
-        self.window.start_one();
+        let pos = self.position(request);
+        let event = self.event(request);
+        begin(&mut self.window, &mut self.immediate, &self.conns, request);
         self.entered += 1;
         let ticket = self.entered;
         let attr = attr_of(request.attr());
@@ -121,6 +187,7 @@ impl Session {
             unit,
             conn: request.conn(),
             itt: request.itt(),
+            immediate: request.immediate(),
         });
         out.push_reserved(Effect::Enter { ticket, unit, attr });
         let task = Task {
@@ -129,21 +196,81 @@ impl Session {
             itt: request.itt(),
             attr,
             immediate: request.immediate(),
-            pos: (self.window.turned() - 1) as i64,
-            event: 0,
+            pos,
+            event,
         };
         sets::enter(&mut self.sets, unit, task, out);
     }
+
+    /// The number of a request that executes, less the first CmdSN. A numbered one has turned last.
+    fn position(&self, request: &Request) -> i64
+        ensures { result ≡ pos (number_by self.now request.now) -ℤ pos (number_of_first self.now.window.first) }
+    {
+        let turned = self.window.turned() as i64;
+        if request.immediate() {
+            turned + distance(self.window.exp(), request.cmd_sn())
+        } else {
+            turned - 1
+        }
+    }
+
+    /// The event in which an immediate request arrived, from 0. It doesn't count for a numbered one.
+    fn event(&self, request: &Request) -> u64
+        requires { 0 < self.now.taken }
+        ensures { result ≡ event_by self.now request.now }
+    {
+        if request.immediate() {
+            self.taken - 1
+        } else {
+            0
+        }
+    }
 }
 
-/// A Reject of the request.
-fn reject(request: &Request, reason: u8) -> Verdict
+/// A command begins: it takes a place of the window, or counts among the immediate ones of its connection.
+fn begin(window: &mut Window, immediate: &mut Vec<u8>, conns: &[(u16, u32)], request: &Request)
+    requires space { is_immediate request.now ≡ false → HasRoom window.old }
+    requires long { length immediate.old.items ≡ length conns.now }
+    requires known { known_in (connection_of request.now) conns.now ≡ true }
+    requires few { is_immediate request.now ≡ true → counted_on (connection_of request.now) conns.now immediate.old.items < 255 }
+    ensures window { window.new ≡ started window.old request.now }
+    ensures long { length immediate.new.items ≡ length immediate.old.items }
+    ensures counted { (cid : ℕ) → counted_on cid conns.now immediate.new.items ≡ counted_on cid conns.now immediate.old.items + (if is_immediate request.now && connection_of request.now == cid then 1 else 0) }
+{
+    if request.immediate() {
+        immediate::count_up(immediate, conns, request.conn());
+    } else {
+        window.start_one();
+    }
+}
+
+/// What a NOP-Out comes to: a NOP-In, where it has a tag (RFC 7143 section 11.18).
+fn nop_verdict(request: &Request) -> Verdict
+    ensures { result ≡ nop_verdict request.now }
+{
+    let itt = request.itt();
+    if itt == NO_TAG {
+        Verdict::Nothing
+    } else {
+        Verdict::Answer(Reply::Nop { itt })
+    }
+}
+
+/// What comes of a request that is rejected.
+pub(crate) fn reject(request: &Request, reason: u8) -> Verdict
     ensures { result ≡ reject_of request.now reason }
 {
-    Verdict::Answer(Reply::Reject {
+    Verdict::Answer(rejection(request, reason))
+}
+
+/// A Reject of the request, which shows its whole header.
+fn rejection(request: &Request, reason: u8) -> Reply
+    ensures { result ≡ Reply.Reject reason (header_of request.now) }
+{
+    Reply::Reject {
         reason,
         header: request.bytes(),
-    })
+    }
 }
 
 /// The task attribute that ATTR names. Untagged commands count as SIMPLE (RFC 7143 section 11.3.1).
@@ -158,7 +285,7 @@ fn attr_of(code: u8) -> Attr
 }
 
 /// The place of the first connection with this CID.
-fn place_of(conns: &[(u16, u32)], cid: u16) -> Option<usize>
+pub(crate) fn place_of(conns: &[(u16, u32)], cid: u16) -> Option<usize>
     ensures { result ≡ position (λ conn. conn.0 == cid) conns.now }
 {
     conns.iter().position(|conn| conn.0 == cid)

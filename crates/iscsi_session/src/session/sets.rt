@@ -1,11 +1,12 @@
 //! The task sets of a session's units.
 
 ghost use Rattle.std.specs.Prelude.{false, ◌≡◌, ◌+◌, ◌<◌, ◌≤◌, ◌++◌, length, count_by, replicate, slice_index_or, slice_set, IfSome, vec_len, vec_capacity};
-ghost use Rattle.iscsi_tasks.specs.Sets.{Members, opened, tasks_in, IsNewest, entered_to, left_by, with_ticket, is_new, next_in, given_by};
+ghost use Rattle.iscsi_tasks.specs.Sets.{opened, IsNewest, entered_to, is_new, next_in, given_by};
 ghost use Rattle.iscsi_session.specs.Execution.{scsi_to, unit_named};
 ghost use Rattle.iscsi_session.specs.Steps.{is_set_full, place_in, all_given, enable_effect, enable_effects, set_without};
 
 use crate::effect::Effect;
+use crate::session::execution::reject;
 use crate::session::live::Live;
 use crate::verdict::Verdict;
 use iscsi_tasks::{Task, TaskSet};
@@ -17,6 +18,9 @@ const CHECK_CONDITION: u8 = 0x02;
 
 /// The status TASK SET FULL.
 const TASK_SET_FULL: u8 = 0x28;
+
+/// Reject: too many immediate commands (RFC 7143 section 11.17.1).
+const TOO_MANY_IMMEDIATE: u8 = 0x06;
 
 /// ILLEGAL REQUEST, LOGICAL UNIT NOT SUPPORTED.
 const NO_UNIT: Sense = Sense {
@@ -37,9 +41,10 @@ pub(crate) fn open(alloc: Global, units: u32, depth: u32) -> Option<Vec<TaskSet>
     Some(sets)
 }
 
-/// What a SCSI Command comes to by the unit that it names and that unit's set.
-pub(crate) fn verdict_in(request: &Request, sets: &[TaskSet]) -> Verdict
-    ensures { result ≡ scsi_to request.now (place_in sets.now request.now) }
+/// What a SCSI Command comes to by the unit that it names, the immediate commands of its connection, and that
+/// unit's set.
+pub(crate) fn verdict_in(request: &Request, is_crowded: bool, sets: &[TaskSet]) -> Verdict
+    ensures { result ≡ scsi_to request.now is_crowded (place_in sets.now request.now) }
 {
     let itt = request.itt();
     let Some(unit) = unit_named(request, sets.len()) else {
@@ -49,6 +54,9 @@ pub(crate) fn verdict_in(request: &Request, sets: &[TaskSet]) -> Verdict
             sense: Some(NO_UNIT),
         });
     };
+    if is_crowded {
+        return reject(request, TOO_MANY_IMMEDIATE);
+    }
     if is_full(&sets[usize::from(unit)]) {
         return Verdict::Answer(Reply::Scsi {
             itt,

@@ -13,16 +13,15 @@ use std::collections::{HashMap, VecDeque};
 /// For each tag that was taken up, the ticket of the last command that had it. That command may have left since.
 ///
 /// A tag stays in the index after its command has left, as taking it out isn't sure to give its room back. When the
-/// room is used up, the index is made anew of the live commands, at most once in as many commands as the window has
-/// places.
+/// room is used up, the index is made anew of the live commands.
 pub(crate) type Tags = HashMap<u32, u64>;
 
 /// Opens an empty index with room for twice as many tags as commands may live. None where memory is refused.
-pub(crate) fn open(alloc: Global, window: u32) -> Option<Tags>
-    requires { window ≤ 1024 }
-    ensures { IfSome result (λ tags. 2 * window ≤ tag_room tags) }
+pub(crate) fn open(alloc: Global, most: usize) -> Option<Tags>
+    requires { most ≤ 1536 }
+    ensures { IfSome result (λ tags. 2 * most ≤ tag_room tags) }
 {
-    HashMap::with_capacity(alloc, 2 * window as usize).ok()
+    HashMap::with_capacity(alloc, 2 * most).ok()
 }
 
 /// Whether a live command has this tag.

@@ -5,6 +5,7 @@ use std::process::Abort;
 use std::test::Fail;
 
 mod commands;
+mod requests;
 
 /// Options within their limits, over these connections.
 fn options(alloc: Global, conns: &[(u16, u32)]) -> Result<Options, AllocError> {

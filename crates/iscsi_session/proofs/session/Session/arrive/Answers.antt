@@ -1,69 +1,54 @@
-use Rattle.std.proofs.Common.{rules, ◌≡◌, ◌∙◌, ◌++◌, ap, sym, subst, List, false}
+use Rattle.std.proofs.Common.{◌≡◌, ◌∙◌, ◌++◌, ap, sym, subst, List, true}
 use Rattle.iscsi_wire.specs.Fields.{connection_of}
 use Rattle.iscsi_session.specs.declared.effect.Effect.{Effect}
-use Rattle.iscsi_session.specs.Trace.{after_items}
-use Rattle.iscsi_session.specs.Agenda.{is_numbered_command, arrival, arrival_of}
+use Rattle.iscsi_session.specs.declared.kind.Kind.TheVariants.{PassedOver, Unknown, Executes}
+use Rattle.iscsi_session.specs.Settings.{Setting, is_known}
+use Rattle.iscsi_session.specs.Trace.{Mark, Trace, after_items}
+use Rattle.iscsi_session.specs.Agenda.{kind_of, arrival, arrival_of}
+use Rattle.iscsi_session.specs.Run.{effects_of}
 use Rattle.iscsi_session.specs.Standing.{Core, Settled}
+use Rattle.iscsi_session.specs.Steps.{KeepsPace}
 use Rattle.iscsi_session.proofs.ListLemmas.{is_known-cids}
-use Rattle.iscsi_session.proofs.StepLemmas.{Offered, offered, passed_over}
-use Rattle.iscsi_session.proofs.ArriveLemmas.{held_settled, held_effects, not_numbered, other_opcode, numbered}
+use Rattle.iscsi_session.proofs.FlowLemmas.{pace-executed}
+use Rattle.iscsi_session.proofs.ArriveLemmas.{executed_taken, passed_over, rejected_opcode, executed_at_once, is_numbered_arrival}
 use Rattle.iscsi_session.proofs.session.Session.arrive.Goals as goal
-use Rattle.iscsi_session.proofs.session.Session.arrive.Goals.{then-immediate-via-then-immediate, then-immediate-via-else-immediate+then-opcode-ne-SCSI_COMMAND}
+
+pub returns-in-PassedOver-clause-settled : goal.returns-in-PassedOver-clause-settled
+returns-in-PassedOver-clause-settled c = λ o index t taken h. (passed_over o c.args.self.now index t c.args.request h (sym c.kind_of.ensures ∙ c.in-PassedOver.is)).settled
+
+pub returns-in-PassedOver-clause-effects : goal.returns-in-PassedOver-clause-effects
+returns-in-PassedOver-clause-effects c = λ o index t taken h. c.push_reserved.ensures.items ∙ ap (λ (es : List Effect). c.args.out.now.items ++ es) (passed_over o c.args.self.now index t c.args.request h (sym c.kind_of.ensures ∙ c.in-PassedOver.is)).effects_are
+
+pub returns-in-Unknown-clause-settled : goal.returns-in-Unknown-clause-settled
+returns-in-Unknown-clause-settled c = λ o index t taken h.
+    let known : is_known (connection_of c.args.request) o.conns ≡ true = sym (is_known-cids (connection_of c.args.request) c.args.self.now.conns o.conns h.agrees.replies.cids) ∙ c.requires.known in
+    subst (λ (s : Core). Settled o s (after_items (arrival o t (arrival_of o index t c.args.request)) t)) (sym c.reject_opcode.ensures.session) (rejected_opcode o c.args.self.now index t c.args.request h (sym c.kind_of.ensures ∙ c.in-Unknown.is) known).settled
+
+pub returns-in-Unknown-clause-effects : goal.returns-in-Unknown-clause-effects
+returns-in-Unknown-clause-effects c = λ o index t taken h.
+    let known : is_known (connection_of c.args.request) o.conns ≡ true = sym (is_known-cids (connection_of c.args.request) c.args.self.now.conns o.conns h.agrees.replies.cids) ∙ c.requires.known in
+    c.reject_opcode.ensures.effects ∙ ap (λ (es : List Effect). c.args.out.now.items ++ es) (rejected_opcode o c.args.self.now index t c.args.request h (sym c.kind_of.ensures ∙ c.in-Unknown.is) known).effects_are
 
 pub returns-then-immediate-clause-settled : goal.returns-then-immediate-clause-settled
-returns-then-immediate-clause-settled c = λ o index t h.
-    let other : is_numbered_command c.args.request ≡ false = elim c.then-immediate.branch [
-      | then-immediate-via-then-immediate w ↦ not_numbered c.args.request (search rules)
-      | then-immediate-via-else-immediate+then-opcode-ne-SCSI_COMMAND w ↦ other_opcode c.args.request (search rules) (search rules)
-    ] in
-    (passed_over o c.args.self.now index t c.args.request h other).settled
+returns-then-immediate-clause-settled c = λ o index t taken h.
+    let known : is_known (connection_of c.args.request) o.conns ≡ true = sym (is_known-cids (connection_of c.args.request) c.args.self.now.conns o.conns h.agrees.replies.cids) ∙ c.requires.known in
+    subst (λ (s : Core). Settled o s (after_items (arrival o t (arrival_of o index t c.args.request)) t)) (sym c.execute_at_once.ensures.session) (executed_at_once o c.args.self.now index t c.args.request h (sym c.kind_of.ensures ∙ c.in-Executes.is) (sym c.immediate.ensures ∙ c.if-immediate.true) known taken).settled
 
 pub returns-then-immediate-clause-effects : goal.returns-then-immediate-clause-effects
-returns-then-immediate-clause-effects c = λ o index t h.
-    let other : is_numbered_command c.args.request ≡ false = elim c.then-immediate.branch [
-      | then-immediate-via-then-immediate w ↦ not_numbered c.args.request (search rules)
-      | then-immediate-via-else-immediate+then-opcode-ne-SCSI_COMMAND w ↦ other_opcode c.args.request (search rules) (search rules)
-    ] in
-    c.push_reserved.ensures.items ∙ ap (λ (es : List Effect). c.args.out.now.items ++ es) (passed_over o c.args.self.now index t c.args.request h other).effects_are
+returns-then-immediate-clause-effects c = λ o index t taken h.
+    let known : is_known (connection_of c.args.request) o.conns ≡ true = sym (is_known-cids (connection_of c.args.request) c.args.self.now.conns o.conns h.agrees.replies.cids) ∙ c.requires.known in
+    c.execute_at_once.ensures.effects ∙ ap (λ (es : List Effect). c.args.out.now.items ++ es) (executed_at_once o c.args.self.now index t c.args.request h (sym c.kind_of.ensures ∙ c.in-Executes.is) (sym c.immediate.ensures ∙ c.if-immediate.true) known taken).effects_are
 
-pub returns-in-Held-clause-settled : goal.returns-in-Held-clause-settled
-returns-in-Held-clause-settled c = λ o index t h.
-    let x : Offered o c.args.self.now index t c.args.request =
-    offered o c.args.self.now index t c.args.request h (numbered c.args.request (search rules) (search rules))
-    (sym (is_known-cids (connection_of c.args.request) c.args.self.now.conns o.conns h.agrees.replies.cids) ∙ c.requires.known) in
-    held_settled o c.args.self.now c.offer.new.self c.take_turns.new.self index t c.args.request x (sym c.offer.ensures.answer ∙ c.in-Held.is) c.offer.ensures.session c.take_turns.ensures.settled
+pub returns-then-immediate-clause-taken : goal.returns-then-immediate-clause-taken
+returns-then-immediate-clause-taken c = ap (λ (s : Core). s.taken) c.execute_at_once.ensures.session ∙ executed_taken c.args.self.now c.args.request
 
-pub returns-in-Held-clause-effects : goal.returns-in-Held-clause-effects
-returns-in-Held-clause-effects c = λ o index t h.
-    let x : Offered o c.args.self.now index t c.args.request =
-    offered o c.args.self.now index t c.args.request h (numbered c.args.request (search rules) (search rules))
-    (sym (is_known-cids (connection_of c.args.request) c.args.self.now.conns o.conns h.agrees.replies.cids) ∙ c.requires.known) in
-    held_effects o c.args.self.now c.offer.new.self index t c.args.request c.args.out.now.items c.take_turns.new.out.items x (sym c.offer.ensures.answer ∙ c.in-Held.is) c.offer.ensures.session c.take_turns.ensures.effects
+pub returns-then-immediate-clause-pace : goal.returns-then-immediate-clause-pace
+returns-then-immediate-clause-pace c = subst (λ (s : Core). KeepsPace c.args.self.now.window s.window) (sym c.execute_at_once.ensures.session) (pace-executed c.args.self.now c.args.request (sym c.immediate.ensures ∙ c.if-immediate.true))
 
-pub returns-in-Outside-clause-settled : goal.returns-in-Outside-clause-settled
-returns-in-Outside-clause-settled c = λ o index t h.
-    let x : Offered o c.args.self.now index t c.args.request =
-    offered o c.args.self.now index t c.args.request h (numbered c.args.request (search rules) (search rules))
-    (sym (is_known-cids (connection_of c.args.request) c.args.self.now.conns o.conns h.agrees.replies.cids) ∙ c.requires.known) in
-    subst (λ (s : Core). Settled o s (after_items (arrival o t (arrival_of o index t c.args.request)) t)) (sym c.offer.ensures.session) (x.outside (sym c.offer.ensures.answer ∙ c.in-Outside.is)).settled
+pub returns-else-immediate-clause-settled : goal.returns-else-immediate-clause-settled
+returns-else-immediate-clause-settled c = λ o index t taken h.
+    subst (λ (items : List (List Mark)). Settled o c.receive.new.self (after_items items t)) (sym (is_numbered_arrival o index t c.args.request (sym c.kind_of.ensures ∙ c.in-Executes.is) (sym c.immediate.ensures ∙ c.if-immediate.false))) (c.receive.ensures.settled o index t h)
 
-pub returns-in-Outside-clause-effects : goal.returns-in-Outside-clause-effects
-returns-in-Outside-clause-effects c = λ o index t h.
-    let x : Offered o c.args.self.now index t c.args.request =
-    offered o c.args.self.now index t c.args.request h (numbered c.args.request (search rules) (search rules))
-    (sym (is_known-cids (connection_of c.args.request) c.args.self.now.conns o.conns h.agrees.replies.cids) ∙ c.requires.known) in
-    c.push_reserved-in-Outside.ensures.items ∙ ap (λ (es : List Effect). c.args.out.now.items ++ es) (x.outside (sym c.offer.ensures.answer ∙ c.in-Outside.is)).effects_are
-
-pub returns-in-Duplicate-clause-settled : goal.returns-in-Duplicate-clause-settled
-returns-in-Duplicate-clause-settled c = λ o index t h.
-    let x : Offered o c.args.self.now index t c.args.request =
-    offered o c.args.self.now index t c.args.request h (numbered c.args.request (search rules) (search rules))
-    (sym (is_known-cids (connection_of c.args.request) c.args.self.now.conns o.conns h.agrees.replies.cids) ∙ c.requires.known) in
-    subst (λ (s : Core). Settled o s (after_items (arrival o t (arrival_of o index t c.args.request)) t)) (sym c.offer.ensures.session) (x.known (sym c.offer.ensures.answer ∙ c.in-Duplicate.is)).settled
-
-pub returns-in-Duplicate-clause-effects : goal.returns-in-Duplicate-clause-effects
-returns-in-Duplicate-clause-effects c = λ o index t h.
-    let x : Offered o c.args.self.now index t c.args.request =
-    offered o c.args.self.now index t c.args.request h (numbered c.args.request (search rules) (search rules))
-    (sym (is_known-cids (connection_of c.args.request) c.args.self.now.conns o.conns h.agrees.replies.cids) ∙ c.requires.known) in
-    c.push_reserved-in-Duplicate.ensures.items ∙ ap (λ (es : List Effect). c.args.out.now.items ++ es) (x.known (sym c.offer.ensures.answer ∙ c.in-Duplicate.is)).effects_are
+pub returns-else-immediate-clause-effects : goal.returns-else-immediate-clause-effects
+returns-else-immediate-clause-effects c = λ o index t taken h.
+    c.receive.ensures.effects o index t h ∙ ap (λ (items : List (List Mark)). c.args.out.now.items ++ effects_of o t items) (sym (is_numbered_arrival o index t c.args.request (sym c.kind_of.ensures ∙ c.in-Executes.is) (sym c.immediate.ensures ∙ c.if-immediate.false)))

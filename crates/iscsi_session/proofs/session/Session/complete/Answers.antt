@@ -1,17 +1,19 @@
-use Rattle.std.proofs.Common.{not, nat_eq, ◌≡◌, ◌==◌, ◌&&◌, ◌∙◌, ◌≤◌, ◌<◌, ap, sym, subst, Some, true, arith, length, count_by, is_some, ◌+◌, ◌-◌, ℕ, List, nat_le, nat_lt, set, take, drop, ◌++◌, length-set}
+use Rattle.std.proofs.Common.{not, cond, refl, false, nat_eq, ◌≡◌, ◌==◌, ◌&&◌, ◌∙◌, ◌≤◌, ◌<◌, ap, sym, subst, Some, true, arith, length, count_by, is_some, ◌+◌, ◌-◌, ℕ, List, nat_le, nat_lt, set, take, drop, ◌++◌, length-set}
 use Rattle.std.specs.List.{list_all}
 use Rattle.std.specs.HashMap.{get}
 use Rattle.std.proofs.lemmas.List.Elements.{All-filter}
 use Rattle.std.proofs.lemmas.Bool.{eqb-true}
 use Rattle.std.proofs.lemmas.Bool.Decides.{nat_tests}
-use Rattle.iscsi_window.specs.Windows.{Received}
+use Rattle.iscsi_window.specs.Windows.{Received, with_unfinished}
 use Rattle.iscsi_tasks.specs.Sets.{Members}
 use Rattle.iscsi_session.specs.declared.session.live.Live.{Live}
 use Rattle.iscsi_session.specs.Standing.{Core, are_known, is_held, is_place_known, Match, are_ascending, are_within}
-use Rattle.iscsi_session.specs.Steps.{AreIndexed, find_ticket, without_ticket, set_without, all_given}
+use Rattle.iscsi_session.specs.Steps.{AreIndexed, AreCounted, is_numbered, counted_on, finished, find_ticket, without_ticket, set_without, all_given}
 use Rattle.iscsi_session.proofs.ListLemmas.{find-passes, are_known-left}
 use Rattle.iscsi_session.proofs.TraceLemmas.{and_second}
 use Rattle.iscsi_session.proofs.WindowLemmas.{fewer, find-found}
+use Rattle.iscsi_session.specs.Settings.{is_known}
+use Rattle.iscsi_session.proofs.CountLemmas.{count-left, some_counted, AreCounted-left}
 use Rattle.iscsi_session.proofs.KeptLemmas.{enabled_found, Match-left, ascending-left, within-left, few_left, written}
 use Rattle.iscsi_session.proofs.session.Session.complete.Goals as goal
 
@@ -28,6 +30,46 @@ found_command entered s sets lives ticket l said same within =
     let here : find_ticket l.ticket lives ≡ Some l = ap (λ k. find_ticket k lives) is ∙ there in
     let test : nat_lt l.unit (length sets) ≡ true = and_second (nat_le l.ticket entered) (nat_lt l.unit (length sets)) (find-passes (λ (x : Live). x.ticket == ticket) (λ (x : Live). nat_le x.ticket entered && nat_lt x.unit (length sets)) lives l within there) in
     record { found = here; inside = (let lt : l.unit < length sets = grind (arith, nat_tests) in lt); left = fewer (λ (x : Live). x.ticket == l.ticket) lives l here }
+
+finished_turned : (w : Received) (l : Live) → (finished w l).turned ≡ w.turned
+finished_turned w l = elim l.immediate as (λ b. (let v : Received = cond b w (with_unfinished w (w.unfinished - 1)) in v.turned) ≡ w.turned) [ true ↦ refl | false ↦ refl ]
+
+finished_places : (w : Received) (l : Live) → (finished w l).places ≡ w.places
+finished_places w l = elim l.immediate as (λ b. (let v : Received = cond b w (with_unfinished w (w.unfinished - 1)) in v.places) ≡ w.places) [ true ↦ refl | false ↦ refl ]
+
+finished_fewer : (w : Received) (l : Live) → (finished w l).unfinished ≤ w.unfinished
+finished_fewer w l = elim l.immediate as (λ b. (let v : Received = cond b w (with_unfinished w (w.unfinished - 1)) in v.unfinished) ≤ w.unfinished) [ true ↦ omega arith | false ↦ omega arith ]
+
+-- as many numbered commands are counted as are live
+finished_numbered : (w : Received) (l : Live) (left all : ℕ) → left + cond (not l.immediate) 1 0 ≡ all → all ≤ w.unfinished → left ≤ (finished w l).unfinished
+finished_numbered w l left all counted few =
+    elim l.immediate as (λ b. left + cond (not b) 1 0 ≡ all → left ≤ (let v : Received = cond b w (with_unfinished w (w.unfinished - 1)) in v.unfinished)) [
+      | true ↦ λ is. omega (arith, is, few)
+      | false ↦ λ is. omega (arith, is, few)
+    ] counted
+
+pub finish-requires-clause-numbered : goal.finish-requires-clause-numbered
+finish-requires-clause-numbered c = λ no.
+    let lives : c.self.inside.live.items ≡ c.args.self.now.live = ap (λ (s : Core). s.live) c.self.view_is ∙ ap (λ (s : Core). s.live) c.next_stat_sn-stat_sn.ensures.session in
+    let f = found_command c.self.inside.entered c.args.self.now c.self.inside.sets.items c.self.inside.live.items c.args.ticket c.in-Some.command (sym c.find_enabled.ensures.command ∙ c.in-Some.is) lives c.self.invariant.13 in
+    let l : Live = c.in-Some.command in
+    omega (arith, c.self.invariant.0, count-left is_numbered l.ticket c.self.inside.live.items l c.self.invariant.12 f.found, ap {B = ℕ} (λ b. cond (not b) 1 0) no)
+
+pub finish-requires-clause-some : goal.finish-requires-clause-some
+finish-requires-clause-some c = λ yes.
+    let lives : c.self.inside.live.items ≡ c.args.self.now.live = ap (λ (s : Core). s.live) c.self.view_is ∙ ap (λ (s : Core). s.live) c.next_stat_sn-stat_sn.ensures.session in
+    let f = found_command c.self.inside.entered c.args.self.now c.self.inside.sets.items c.self.inside.live.items c.args.ticket c.in-Some.command (sym c.find_enabled.ensures.command ∙ c.in-Some.is) lives c.self.invariant.13 in
+    let l : Live = c.in-Some.command in
+    let known : is_known l.conn c.self.inside.conns.items ≡ true = find-passes (λ (x : Live). x.ticket == l.ticket) (λ (x : Live). is_known x.conn c.self.inside.conns.items) c.self.inside.live.items l c.self.invariant.9 f.found in
+    subst (λ (cs : List (ℕ × ℕ)). 0 < counted_on l.conn cs c.self.inside.immediate.items) (sym c.deref.ensures.value) (some_counted c.self.inside.immediate.items c.self.inside.conns.items c.self.inside.live.items l c.self.invariant.16 c.self.invariant.12 f.found known yes)
+
+pub finish-requires-clause-known : goal.finish-requires-clause-known
+finish-requires-clause-known c =
+    let lives : c.self.inside.live.items ≡ c.args.self.now.live = ap (λ (s : Core). s.live) c.self.view_is ∙ ap (λ (s : Core). s.live) c.next_stat_sn-stat_sn.ensures.session in
+    let f = found_command c.self.inside.entered c.args.self.now c.self.inside.sets.items c.self.inside.live.items c.args.ticket c.in-Some.command (sym c.find_enabled.ensures.command ∙ c.in-Some.is) lives c.self.invariant.13 in
+    let l : Live = c.in-Some.command in
+    let known : is_known l.conn c.self.inside.conns.items ≡ true = find-passes (λ (x : Live). x.ticket == l.ticket) (λ (x : Live). is_known x.conn c.self.inside.conns.items) c.self.inside.live.items l c.self.invariant.9 f.found in
+    ap (is_known l.conn) c.deref.ensures.value ∙ known
 
 pub leave-requires-clause-unit : goal.leave-requires-clause-unit
 leave-requires-clause-unit c =
@@ -56,9 +98,17 @@ invariant_of-self c =
     let inv = c.self.invariant in
     let lives₀ : c.self.inside.live.items ≡ c.args.self.now.live = ap (λ (s : Core). s.live) c.self.view_is ∙ ap (λ (s : Core). s.live) c.next_stat_sn-stat_sn.ensures.session in
     let f = found_command c.self.inside.entered c.args.self.now c.self.inside.sets.items c.self.inside.live.items c.args.ticket c.in-Some.command (sym c.find_enabled.ensures.command ∙ c.in-Some.is) lives₀ inv.13 in
-    let unfinished : c.finish_one.new.self.unfinished ≡ c.self.inside.window.unfinished - 1 = ap (λ (w : Received). w.unfinished) c.finish_one.ensures in
-    let turned : c.finish_one.new.self.turned ≡ c.self.inside.window.turned = ap (λ (w : Received). w.turned) c.finish_one.ensures in
-    let places : c.finish_one.new.self.places ≡ c.self.inside.window.places = ap (λ (w : Received). w.places) c.finish_one.ensures in
+    let l : Live = c.in-Some.command in
+    let w : Received = c.self.inside.window in
+    let is : c.finish.new.window ≡ finished w l = c.finish.ensures.window in
+    let unfinished : c.finish.new.window.unfinished ≡ (finished w l).unfinished = ap (λ (x : Received). x.unfinished) is in
+    let turned : c.finish.new.window.turned ≡ w.turned = ap (λ (x : Received). x.turned) is ∙ finished_turned w l in
+    let places : c.finish.new.window.places ≡ w.places = ap (λ (x : Received). x.places) is ∙ finished_places w l in
+    let counted : count_by is_numbered (without_ticket l.ticket c.self.inside.live.items) + cond (not l.immediate) 1 0 ≡ count_by is_numbered c.self.inside.live.items = count-left is_numbered l.ticket c.self.inside.live.items l inv.12 f.found in
+    let numbered : count_by is_numbered c.remove.new.live.items ≡ count_by is_numbered (without_ticket l.ticket c.self.inside.live.items) = ap (count_by is_numbered) c.remove.ensures.items in
+    let value : c.deref.result.now ≡ c.self.inside.conns.items = c.deref.ensures.value in
+    let counts : (cid : ℕ) → counted_on cid c.self.inside.conns.items c.finish.new.immediate.items + cond (l.immediate && l.conn == cid) 1 0 ≡ counted_on cid c.self.inside.conns.items c.self.inside.immediate.items = λ cid.
+    subst (λ (cs : List (ℕ × ℕ)). counted_on cid cs c.finish.new.immediate.items + cond (l.immediate && l.conn == cid) 1 0 ≡ counted_on cid cs c.self.inside.immediate.items) value (c.finish.ensures.counted cid) in
     let lives : length c.remove.new.live.items ≡ length (without_ticket c.in-Some.command.ticket c.self.inside.live.items) = ap length c.remove.ensures.items in
     let lent : List Members = c.deref_mut.result.now in
     let new : List Members = set c.self.inside.sets.items c.in-Some.command.unit (all_given (set_without c.in-Some.command c.self.inside.sets.items)) in
@@ -66,13 +116,13 @@ invariant_of-self c =
     let returned : c.leave.new.sets ≡ new = c.leave.ensures.sets ∙ ap (λ (ms : List Members). set ms c.in-Some.command.unit (all_given (set_without c.in-Some.command ms))) value in
     let long : length new ≡ length c.self.inside.sets.items = length-set c.self.inside.sets.items c.in-Some.command.unit _ in
     let now : take c.self.inside.sets.len (c.leave.new.sets ++ drop (length c.leave.new.sets) c.self.inside.sets.items) ≡ new = written c.self.inside.sets.len c.leave.new.sets c.self.inside.sets.items (ap length returned ∙ long) c.self.inside.sets.ok.0 ∙ returned in (
-      omega (arith, inv.0, f.left, unfinished, lives),
-      omega (arith, inv.1, unfinished, ap length places),
+      omega (arith, numbered, unfinished, finished_numbered w l (count_by is_numbered (without_ticket l.ticket c.self.inside.live.items)) (count_by is_numbered c.self.inside.live.items) counted inv.0),
+      omega (arith, inv.1, unfinished, finished_fewer w l, ap length places),
       omega (arith, inv.2, ap length places),
       omega (arith, inv.3, ap length places, c.remove.ensures.capacity),
       inv.4 ∙ ap (count_by is_held) (sym places),
       omega (arith, inv.5, turned, ap (count_by is_some) places),
-      omega (arith, inv.6, turned),
+      omega (arith, inv.6, ap (count_by is_some) places),
       inv.7,
       inv.8,
       ap (λ ls. are_known ls c.self.inside.conns.items) c.remove.ensures.items ∙ are_known-left c.in-Some.command.ticket c.self.inside.live.items c.self.inside.conns.items inv.9,
@@ -86,4 +136,6 @@ invariant_of-self c =
           ∙ within-left c.in-Some.command.ticket c.self.inside.entered (length c.self.inside.sets.items) c.self.inside.live.items inv.13,
       subst (AreIndexed c.self.inside.tags) (sym c.remove.ensures.items) (All-filter (λ (l : Live). not (l.ticket == c.in-Some.command.ticket)) (λ (l : Live). get nat_eq c.self.inside.tags l.itt ≡ Some l.ticket) c.self.inside.live.items inv.14),
       omega (arith, inv.15, ap length places),
+      subst (λ (ls : List Live). AreCounted c.finish.new.immediate.items c.self.inside.conns.items ls) (sym c.remove.ensures.items) (AreCounted-left c.self.inside.immediate.items c.finish.new.immediate.items c.self.inside.conns.items c.self.inside.live.items l inv.16 c.finish.ensures.long counts inv.12 f.found),
+      inv.17,
     )

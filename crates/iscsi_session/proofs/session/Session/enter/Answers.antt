@@ -1,20 +1,71 @@
-use Rattle.std.proofs.Common.{Some, nat_eq, refl, ◌≡◌, ◌∙◌, ◌<◌, ◌&&◌, ap, sym, subst, true, arith, length, count_by, is_some, ◌+◌, ℕ, List, [], ◌∷◌, get_or, set, take, drop, ◌++◌, length-set}
+use Rattle.std.proofs.Common.{rules, w64, of_z, to_z, Some, nat_eq, refl, pos, ◌-ℤ◌, ◌≡◌, ◌==◌, ◌∙◌, ◌<◌, ◌≤◌, ◌&&◌, not, cond, ap, sym, subst, Bool, true, false, arith, length, count_by, is_some, ◌+◌, ◌-◌, ◌*◌, ℕ, ℤ, List, [], ◌∷◌, get_or, set, take, drop, ◌++◌, length-set, append_assoc}
 use Rattle.std.specs.List.{list_all}
 use Rattle.std.specs.HashMap.{get}
+use Rattle.std.proofs.lemmas.Int.{to_z-of_z}
 use Rattle.std.proofs.lemmas.List.Elements.{All-append, All-cons}
-use Rattle.iscsi_session.specs.Steps.{AreIndexed}
-use Rattle.std.proofs.lemmas.List.{length_push}
-use Rattle.iscsi_wire.specs.Fields.{connection_of}
-use Rattle.iscsi_window.specs.Windows.{Received}
+use Rattle.std.proofs.lemmas.List.Folds.{list_all-append}
+use Rattle.iscsi_wire.specs.declared.request.Request.{Request}
+use Rattle.iscsi_wire.specs.Serial.{number_of_first}
+use Rattle.iscsi_wire.specs.Fields.{connection_of, is_immediate, attr_code, itt}
+use Rattle.iscsi_window.specs.Windows.{Received, with_unfinished}
+use Rattle.iscsi_tasks.specs.declared.task.Attr.{Attr}
 use Rattle.iscsi_tasks.specs.declared.task.Task.{Task}
 use Rattle.iscsi_tasks.specs.declared.member.Member.{Member}
-use Rattle.iscsi_tasks.specs.Sets.{Members, opened, entered_to, given_by}
-use Rattle.std.proofs.lemmas.List.Folds.{list_all-append}
+use Rattle.iscsi_tasks.specs.Sets.{Members, opened, entered_to, next_in, given_by}
+use Rattle.iscsi_session.specs.declared.effect.Effect.{Effect}
+use Rattle.iscsi_session.specs.declared.effect.Effect.TheVariants.{Enter}
 use Rattle.iscsi_session.specs.declared.session.live.Live.{Live}
 use Rattle.iscsi_session.specs.Settings.{is_known}
+use Rattle.iscsi_session.specs.Execution.{attr_of}
 use Rattle.iscsi_session.specs.Standing.{Core, are_known, is_held, is_place_known, Match, are_ascending, are_within}
+use Rattle.iscsi_session.specs.Steps.{AreIndexed, AreCounted, is_numbered, immediate_in, counted_on, started, number_by, event_by, new_live, new_task, with_command, enable_effect, entry_effects}
+use Rattle.iscsi_session.proofs.ListLemmas.{count_by-push}
+use Rattle.iscsi_session.proofs.CountLemmas.{AreCounted-entered, room_for_one}
 use Rattle.iscsi_session.proofs.KeptLemmas.{newest_in, Match-entered, ascending-push, within-push, written}
 use Rattle.iscsi_session.proofs.session.Session.enter.Goals as goal
+
+started_unfinished : (w : Received) (r : Request) → (started w r).unfinished ≡ w.unfinished + cond (not (is_immediate r)) 1 0
+started_unfinished w r =
+    elim (is_immediate r) as (λ b. (let v : Received = cond b w (with_unfinished w (w.unfinished + 1)) in v.unfinished) ≡ w.unfinished + cond (not b) 1 0) [
+      | true ↦ omega arith
+      | false ↦ refl
+    ]
+
+started_turned : (w : Received) (r : Request) → (started w r).turned ≡ w.turned
+started_turned w r = elim (is_immediate r) as (λ b. (let v : Received = cond b w (with_unfinished w (w.unfinished + 1)) in v.turned) ≡ w.turned) [ true ↦ refl | false ↦ refl ]
+
+started_places : (w : Received) (r : Request) → (started w r).places ≡ w.places
+started_places w r = elim (is_immediate r) as (λ b. (let v : Received = cond b w (with_unfinished w (w.unfinished + 1)) in v.places) ≡ w.places) [ true ↦ refl | false ↦ refl ]
+
+-- a place of the window is left
+started_fits : (w : Received) (r : Request) → w.unfinished ≤ length w.places → (is_immediate r ≡ false → w.unfinished < length w.places) → (started w r).unfinished ≤ length w.places
+started_fits w r few space =
+    elim (is_immediate r) as (λ b. is_immediate r ≡ b → (started w r).unfinished ≤ length w.places) [
+      | true ↦ λ is. omega (arith, few, started_unfinished w r, ap {B = ℕ} (λ b. cond (not b) 1 0) is)
+      | false ↦ λ is. omega (arith, space is, started_unfinished w r, ap {B = ℕ} (λ b. cond (not b) 1 0) is)
+    ] refl
+
+abbrev live_of : ℕ → ℕ → ℕ → ℕ → Bool → Live
+live_of ticket unit conn tag immediate = record { ticket = ticket; unit = unit; conn = conn; itt = tag; immediate = immediate }
+
+live_is : (s : Core) (r : Request) (unit conn tag : ℕ) (immediate : Bool) → conn ≡ connection_of r → tag ≡ itt r → immediate ≡ is_immediate r → live_of (s.entered + 1) unit conn tag immediate ≡ new_live s r unit
+live_is s r unit conn tag immediate conn_is tag_is immediate_is =
+    ap (λ c. live_of (s.entered + 1) unit c tag immediate) conn_is ∙ ap (λ k. live_of (s.entered + 1) unit (connection_of r) k immediate) tag_is ∙ ap (live_of (s.entered + 1) unit (connection_of r) (itt r)) immediate_is
+
+abbrev task_of : ℕ → ℕ → ℕ → Attr → Bool → ℤ → ℕ → Task
+task_of ticket conn tag attr immediate position event = record { ticket = ticket; conn = conn; itt = tag; attr = attr; immediate = immediate; pos = position; event = event }
+
+task_is : (s : Core) (r : Request) (conn tag : ℕ) (attr : Attr) (immediate : Bool) (position : ℤ) (event : ℕ) → conn ≡ connection_of r → tag ≡ itt r → attr ≡ attr_of (attr_code r) → immediate ≡ is_immediate r
+    → position ≡ pos (number_by s r) -ℤ pos (number_of_first s.window.first) → event ≡ event_by s r → task_of (s.entered + 1) conn tag attr immediate position event ≡ new_task s r
+task_is s r conn tag attr immediate position event conn_is tag_is attr_is immediate_is position_is event_is =
+    let n : ℕ = s.entered + 1 in
+    let at : ℤ = pos (number_by s r) -ℤ pos (number_of_first s.window.first) in
+    ap (λ c. task_of n c tag attr immediate position event) conn_is
+    ∙ ap (λ k. task_of n (connection_of r) k attr immediate position event) tag_is
+    ∙ ap (λ a. task_of n (connection_of r) (itt r) a immediate position event) attr_is
+    ∙ ap (λ i. task_of n (connection_of r) (itt r) (attr_of (attr_code r)) i position event) immediate_is
+    ∙ ap (λ p. task_of n (connection_of r) (itt r) (attr_of (attr_code r)) (is_immediate r) p event) position_is
+    ∙ ap (task_of n (connection_of r) (itt r) (attr_of (attr_code r)) (is_immediate r) at) event_is
 
 pub enter-requires-clause-newest : goal.enter-requires-clause-newest
 enter-requires-clause-newest c =
@@ -22,33 +73,64 @@ enter-requires-clause-newest c =
     subst (λ (ms : List Members). (k : ℕ) (d : Member) → k < length (get_or ms c.args.unit (opened 0)).list → (get_or (get_or ms c.args.unit (opened 0)).list k d).task.ticket < c.self.inside.entered + 1) (sym c.deref_mut.ensures.value)
     (newest_in c.self.inside.sets.items c.self.inside.live.items c.self.inside.entered (length c.self.inside.sets.items) c.args.unit c.self.invariant.11 c.self.invariant.13 inside)
 
+room_in : (s : Core) (r : Request) (unit : ℕ) → count_by is_numbered s.live ≤ s.window.unfinished → s.window.unfinished ≤ length s.window.places → ((cid : ℕ) → immediate_in s.live cid ≤ 8) → are_known s.live s.conns ≡ true → is_known (connection_of r) s.conns ≡ true
+    → (is_immediate r ≡ false → s.window.unfinished < length s.window.places) → (is_immediate r ≡ true → immediate_in s.live (connection_of r) < 8) → length s.live < length s.window.places + 8 * length s.conns
+room_in s r unit numbered fit few known this begins room = room_for_one s.window.unfinished (length s.window.places) s.conns s.live (new_live s r unit) numbered fit few known this begins room
+
+pub take_up-requires-clause-room : goal.take_up-requires-clause-room
+take_up-requires-clause-room c =
+    let inv = c.self.invariant in
+    let s : Core = record { window = c.self.inside.window; events = c.self.inside.events; conns = c.self.inside.conns.items; entered = c.self.inside.entered; taken = c.self.inside.taken; live = c.self.inside.live.items; sets = c.self.inside.sets.items } in
+    let room = room_in s c.args.request.now c.args.unit inv.0 inv.1 inv.16.few inv.9 (ap (λ (t : Core). is_known (connection_of c.args.request.now) t.conns) c.self.view_is ∙ c.requires.known)
+    (λ is. subst (λ (t : Core). t.window.unfinished < length t.window.places) (sym c.self.view_is) (c.requires.space is).not_full) (λ is. subst (λ (t : Core). immediate_in t.live (connection_of c.args.request.now) < 8) (sym c.self.view_is) (c.requires.few is)) in
+    omega (arith, room, inv.15)
+
+pub push_back_reserved-requires : goal.push_back_reserved-requires
+push_back_reserved-requires c =
+    let inv = c.self.invariant in
+    let s : Core = record { window = c.self.inside.window; events = c.self.inside.events; conns = c.self.inside.conns.items; entered = c.self.inside.entered; taken = c.self.inside.taken; live = c.self.inside.live.items; sets = c.self.inside.sets.items } in
+    let room = room_in s c.args.request.now c.args.unit inv.0 inv.1 inv.16.few inv.9 (ap (λ (t : Core). is_known (connection_of c.args.request.now) t.conns) c.self.view_is ∙ c.requires.known)
+    (λ is. subst (λ (t : Core). t.window.unfinished < length t.window.places) (sym c.self.view_is) (c.requires.space is).not_full) (λ is. subst (λ (t : Core). immediate_in t.live (connection_of c.args.request.now) < 8) (sym c.self.view_is) (c.requires.few is)) in
+    omega (arith, room, inv.3, c.self.inside.live.ok.0)
+
 pub invariant_of-self : goal.invariant_of-self
 invariant_of-self c =
     let inv = c.self.invariant in
+    let r : Request = c.args.request.now in
     let w : Received = c.self.inside.window in
-    let unfinished : c.start_one.new.self.unfinished ≡ w.unfinished + 1 = ap (λ (x : Received). x.unfinished) c.start_one.ensures in
-    let turned : c.start_one.new.self.turned ≡ w.turned = ap (λ (x : Received). x.turned) c.start_one.ensures in
-    let places : c.start_one.new.self.places ≡ w.places = ap (λ (x : Received). x.places) c.start_one.ensures in
-    let not_full : w.unfinished < length w.places = subst (λ (s : Core). s.window.unfinished < length s.window.places) (sym c.self.view_is) c.requires.space.not_full in
-    let counted : c.self.inside.entered < w.turned = subst (λ (s : Core). s.entered < s.window.turned) (sym c.self.view_is) c.requires.counted in
+    let is : c.begin.new.window ≡ started w r = c.begin.ensures.window in
+    let unfinished : c.begin.new.window.unfinished ≡ w.unfinished + cond (not (is_immediate r)) 1 0 = ap (λ (x : Received). x.unfinished) is ∙ started_unfinished w r in
+    let turned : c.begin.new.window.turned ≡ w.turned = ap (λ (x : Received). x.turned) is ∙ started_turned w r in
+    let places : c.begin.new.window.places ≡ w.places = ap (λ (x : Received). x.places) is ∙ started_places w r in
+    let fits : c.begin.new.window.unfinished ≤ length w.places = subst (λ (x : Received). x.unfinished ≤ length w.places) (sym is) (started_fits w r inv.1 (λ no. subst (λ (s : Core). s.window.unfinished < length s.window.places) (sym c.self.view_is) (c.requires.space no).not_full)) in
+    let counted : c.self.inside.entered + count_by is_some w.places < c.self.inside.taken = subst (λ (s : Core). s.entered + count_by is_some s.window.places < s.taken) (sym c.self.view_is) c.requires.counted in
     let old : List Members = c.self.inside.sets.items in
     let inside : c.args.unit < length old = omega (arith, c.requires.unit, ap (λ (s : Core). length s.sets) c.self.view_is) in
-    let l : Live = record { ticket = c.self.inside.entered + 1; unit = c.args.unit; conn = c.conn.result; itt = c.itt-2.result } in
-    let task : Task = record { ticket = c.self.inside.entered + 1; conn = c.conn-2.result; itt = c.itt-3.result; attr = c.attr_of-attr.result; immediate = c.immediate.result; pos = _; event = 0 } in
+    let l : Live = live_of (c.self.inside.entered + 1) c.args.unit c.conn.result c.itt-2.result c.immediate.result in
+    let task : Task = task_of (c.self.inside.entered + 1) c.conn-2.result c.itt-3.result c.attr_of-attr.result c.immediate-2.result (to_z w64 (of_z w64 c.position-pos.result)) c.event-event.result in
     let new : List Members = set old c.args.unit (given_by (entered_to (get_or old c.args.unit (opened 0)) task)) in
     let returned : c.enter.new.sets ≡ new = c.enter.ensures.sets ∙ ap (λ (ms : List Members). set ms c.args.unit (given_by (entered_to (get_or ms c.args.unit (opened 0)) task))) c.deref_mut.ensures.value in
     let long : length new ≡ length old = length-set old c.args.unit (given_by (entered_to (get_or old c.args.unit (opened 0)) task)) in
     let now : take c.self.inside.sets.len (c.enter.new.sets ++ drop (length c.enter.new.sets) old) ≡ new = written c.self.inside.sets.len c.enter.new.sets old (ap length returned ∙ long) c.self.inside.sets.ok.0 ∙ returned in
     let lives : c.push_back_reserved.new.self.items ≡ c.self.inside.live.items ++ l ∷ [] = c.push_back_reserved.ensures.items in
-    let one : length c.push_back_reserved.new.self.items ≡ length c.self.inside.live.items + 1 = ap length lives ∙ length_push c.self.inside.live.items l in
-    let known : is_known c.conn.result c.self.inside.conns.items ≡ true = ap (λ n. is_known n c.self.inside.conns.items) c.conn.ensures ∙ ap (λ (s : Core). is_known (connection_of c.args.request.now) s.conns) c.self.view_is ∙ c.requires.known in (
-      omega (arith, inv.0, unfinished, one),
-      omega (arith, unfinished, ap length places, not_full),
+    let immediate_is : c.immediate.result ≡ is_immediate r = c.immediate.ensures in
+    let numbered : count_by is_numbered c.push_back_reserved.new.self.items ≡ count_by is_numbered c.self.inside.live.items + cond (not (is_immediate r)) 1 0 =
+    ap (λ ls. count_by is_numbered ls) lives ∙ count_by-push is_numbered c.self.inside.live.items l ∙ ap (λ b. count_by is_numbered c.self.inside.live.items + cond (not b) 1 0) immediate_is in
+    let value : c.deref.result.now ≡ c.self.inside.conns.items = c.deref.ensures.value in
+    let counts : (cid : ℕ) → counted_on cid c.self.inside.conns.items c.begin.new.immediate.items ≡ counted_on cid c.self.inside.conns.items c.self.inside.immediate.items + cond (l.immediate && l.conn == cid) 1 0 = λ cid.
+    subst (λ (cs : List (ℕ × ℕ)). counted_on cid cs c.begin.new.immediate.items ≡ counted_on cid cs c.self.inside.immediate.items + cond (is_immediate r && connection_of r == cid) 1 0) value (c.begin.ensures.counted cid)
+    ∙ ap (λ b. counted_on cid c.self.inside.conns.items c.self.inside.immediate.items + cond (b && connection_of r == cid) 1 0) (sym immediate_is)
+    ∙ ap (λ k. counted_on cid c.self.inside.conns.items c.self.inside.immediate.items + cond (c.immediate.result && k == cid) 1 0) (sym c.conn.ensures) in
+    let room : c.immediate.result ≡ true → immediate_in c.self.inside.live.items c.conn.result < 8 = λ yes.
+    subst (λ k. immediate_in c.self.inside.live.items k < 8) (sym c.conn.ensures) (subst (λ (s : Core). immediate_in s.live (connection_of r) < 8) (sym c.self.view_is) (c.requires.few (sym immediate_is ∙ yes))) in
+    let known : is_known c.conn.result c.self.inside.conns.items ≡ true = ap (λ n. is_known n c.self.inside.conns.items) c.conn.ensures ∙ ap (λ (s : Core). is_known (connection_of r) s.conns) c.self.view_is ∙ c.requires.known in (
+      omega (arith, inv.0, unfinished, numbered),
+      omega (arith, fits, ap length places),
       omega (arith, inv.2, ap length places),
       omega (arith, inv.3, ap length places, c.push_back_reserved.ensures.capacity),
       inv.4 ∙ ap (count_by is_held) (sym places),
       omega (arith, inv.5, turned, ap (count_by is_some) places),
-      omega (arith, counted, turned),
+      omega (arith, counted, ap (count_by is_some) places),
       inv.7,
       inv.8,
       ap (λ ls. are_known ls c.self.inside.conns.items) lives ∙ list_all-append (λ (x : Live). is_known x.conn c.self.inside.conns.items) c.self.inside.live.items (l ∷ []) ∙ ap (λ b. b && (is_known c.conn.result c.self.inside.conns.items && true)) inv.9 ∙ ap (λ b. b && true) known,
@@ -63,4 +145,42 @@ invariant_of-self c =
       subst (AreIndexed c.take_up.new.tags) (sym lives) (All-append (λ (x : Live). get nat_eq c.take_up.new.tags x.itt ≡ Some x.ticket) c.self.inside.live.items (l ∷ []) c.take_up.ensures.indexed
           (All-cons (λ (x : Live). get nat_eq c.take_up.new.tags x.itt ≡ Some x.ticket) l [] (ap (get nat_eq c.take_up.new.tags) (c.itt-2.ensures ∙ sym c.itt.ensures) ∙ c.take_up.ensures.taken) (λ k d within. absurd (omega arith)))),
       omega (arith, inv.15, c.take_up.ensures.room, ap length places),
+      subst (λ (ls : List Live). AreCounted c.begin.new.immediate.items c.self.inside.conns.items ls) (sym lives) (AreCounted-entered c.self.inside.immediate.items c.begin.new.immediate.items c.self.inside.conns.items c.self.inside.live.items l inv.16 c.begin.ensures.long counts room),
+      inv.17,
     )
+
+pub returns-clause-session : goal.returns-clause-session
+returns-clause-session c =
+    let r : Request = c.args.request.now in
+    let s : Core = record { window = c.self.inside.window; events = c.self.inside.events; conns = c.self.inside.conns.items; entered = c.self.inside.entered; taken = c.self.inside.taken; live = c.self.inside.live.items; sets = c.self.inside.sets.items } in
+    let old : List Members = c.self.inside.sets.items in
+    let task : Task = task_of (c.self.inside.entered + 1) c.conn-2.result c.itt-3.result c.attr_of-attr.result c.immediate-2.result (to_z w64 (of_z w64 c.position-pos.result)) c.event-event.result in
+    let new : List Members = set old c.args.unit (given_by (entered_to (get_or old c.args.unit (opened 0)) task)) in
+    let returned : c.enter.new.sets ≡ new = c.enter.ensures.sets ∙ ap (λ (ms : List Members). set ms c.args.unit (given_by (entered_to (get_or ms c.args.unit (opened 0)) task))) c.deref_mut.ensures.value in
+    let long : length new ≡ length old = length-set old c.args.unit (given_by (entered_to (get_or old c.args.unit (opened 0)) task)) in
+    let now : take c.self.inside.sets.len (c.enter.new.sets ++ drop (length c.enter.new.sets) old) ≡ new = written c.self.inside.sets.len c.enter.new.sets old (ap length returned ∙ long) c.self.inside.sets.ok.0 ∙ returned in
+    let same : task ≡ new_task s r = task_is s r c.conn-2.result c.itt-3.result c.attr_of-attr.result c.immediate-2.result (to_z w64 (of_z w64 c.position-pos.result)) c.event-event.result c.conn-2.ensures c.itt-3.ensures (c.attr_of-attr.ensures ∙ ap attr_of c.attr.ensures) c.immediate-2.ensures
+    (to_z-of_z w64 c.position-pos.result (search rules) ∙ c.position-pos.ensures ∙ ap (λ (t : Core). pos (number_by t r) -ℤ pos (number_of_first t.window.first)) (sym c.self.view_is)) (c.event-event.ensures ∙ ap (λ (t : Core). event_by t r) (sym c.self.view_is)) in
+    let lives : c.push_back_reserved.new.self.items ≡ s.live ++ new_live s r c.args.unit ∷ [] = c.push_back_reserved.ensures.items ∙ ap (λ (l : Live). s.live ++ l ∷ []) (live_is s r c.args.unit c.conn.result c.itt-2.result c.immediate.result c.conn.ensures c.itt-2.ensures c.immediate.ensures) in
+    let made : Received → List Live → List Members → Core = λ w ls ms. record { window = w; events = s.events; conns = s.conns; entered = s.entered + 1; taken = s.taken; live = ls; sets = ms } in
+    ap (λ (w : Received). made w c.push_back_reserved.new.self.items (take c.self.inside.sets.len (c.enter.new.sets ++ drop (length c.enter.new.sets) old))) c.begin.ensures.window
+    ∙ ap (λ (ls : List Live). made (started s.window r) ls (take c.self.inside.sets.len (c.enter.new.sets ++ drop (length c.enter.new.sets) old))) lives
+    ∙ ap (made (started s.window r) (s.live ++ new_live s r c.args.unit ∷ [])) (now ∙ ap (λ (t : Task). set old c.args.unit (given_by (entered_to (get_or old c.args.unit (opened 0)) t))) same)
+    ∙ ap (λ (t : Core). with_command t r c.args.unit) c.self.view_is
+
+pub returns-clause-effects : goal.returns-clause-effects
+returns-clause-effects c =
+    let r : Request = c.args.request.now in
+    let s : Core = record { window = c.self.inside.window; events = c.self.inside.events; conns = c.self.inside.conns.items; entered = c.self.inside.entered; taken = c.self.inside.taken; live = c.self.inside.live.items; sets = c.self.inside.sets.items } in
+    let old : List Members = c.self.inside.sets.items in
+    let task : Task = task_of (c.self.inside.entered + 1) c.conn-2.result c.itt-3.result c.attr_of-attr.result c.immediate-2.result (to_z w64 (of_z w64 c.position-pos.result)) c.event-event.result in
+    let same : task ≡ new_task s r = task_is s r c.conn-2.result c.itt-3.result c.attr_of-attr.result c.immediate-2.result (to_z w64 (of_z w64 c.position-pos.result)) c.event-event.result c.conn-2.ensures c.itt-3.ensures (c.attr_of-attr.ensures ∙ ap attr_of c.attr.ensures) c.immediate-2.ensures
+    (to_z-of_z w64 c.position-pos.result (search rules) ∙ c.position-pos.ensures ∙ ap (λ (t : Core). pos (number_by t r) -ℤ pos (number_of_first t.window.first)) (sym c.self.view_is)) (c.event-event.ensures ∙ ap (λ (t : Core). event_by t r) (sym c.self.view_is)) in
+    let enabled : Task → List Effect = λ t. enable_effect c.args.unit (next_in (entered_to (get_or old c.args.unit (opened 0)) t).list) in
+    c.enter.ensures.effects
+    ∙ ap (λ (ms : List Members). c.push_reserved.new.self.items ++ enable_effect c.args.unit (next_in (entered_to (get_or ms c.args.unit (opened 0)) task).list)) c.deref_mut.ensures.value
+    ∙ ap (λ (t : Task). c.push_reserved.new.self.items ++ enabled t) same
+    ∙ ap (λ (es : List Effect). es ++ enabled (new_task s r)) c.push_reserved.ensures.items
+    ∙ append_assoc c.args.out.now.items (Enter (c.self.inside.entered + 1) c.args.unit c.attr_of-attr.result ∷ []) (enabled (new_task s r))
+    ∙ ap (λ (a : Attr). c.args.out.now.items ++ Enter (s.entered + 1) c.args.unit a ∷ enabled (new_task s r)) (c.attr_of-attr.ensures ∙ ap attr_of c.attr.ensures)
+    ∙ ap (λ (t : Core). c.args.out.now.items ++ entry_effects t r c.args.unit) c.self.view_is

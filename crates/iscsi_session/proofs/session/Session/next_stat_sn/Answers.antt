@@ -1,12 +1,13 @@
-use Rattle.std.proofs.Common.{rules, ◌≡◌, ◌==◌, ◌∙◌, ◌+◌, ◌%◌, ◌<◌, ◌^◌, ap, sym, ℕ, List, Some, Bool, true, subst, arith, position, get_or, set}
+use Rattle.std.proofs.Common.{rules, ◌≡◌, ◌==◌, ◌∙◌, ◌+◌, ◌%◌, ◌<◌, ◌^◌, ap, sym, ℕ, List, Some, Bool, true, subst, arith, length, position, get_or, set}
 use Rattle.std.specs.Prelude.{IsSome}
 use Rattle.std.specs.List.{list_all}
 use Rattle.std.proofs.lemmas.List.Quantifiers.{position-Some}
 use Rattle.iscsi_wire.specs.Serial.{wire}
 use Rattle.iscsi_session.specs.Settings.{is_known}
 use Rattle.iscsi_session.specs.Standing.{Core, stat_sn_on, are_known, is_place_known}
-use Rattle.iscsi_session.specs.Steps.{count_reply}
+use Rattle.iscsi_session.specs.Steps.{count_reply, AreCounted}
 use Rattle.iscsi_session.proofs.ListLemmas.{IsSome-position, count_reply-at, stat_sn_on-at, are_known-replied, are_places_known-replied}
+use Rattle.iscsi_session.proofs.CountLemmas.{length-replied, AreCounted-replied}
 use Rattle.iscsi_session.proofs.session.Session.next_stat_sn.Goals as goal
 
 abbrev has_cid : ℕ → ℕ × ℕ → Bool
@@ -47,11 +48,12 @@ pub invariant_of-self : goal.invariant_of-self
 invariant_of-self c =
     let found : position (has_cid c.args.cid) c.self.inside.conns.items ≡ Some c.unwrap-place.result = ap (position (has_cid c.args.cid)) (sym c.deref.ensures.value) ∙ sym c.place_of.ensures ∙ c.unwrap-place.ensures in
     let next = (read_at c.args.cid c.unwrap-place.result c.self.inside.conns.items c.index.result.now found c.index.ensures).next in
-    let inv = c.self.invariant in (
+    let inv = c.self.invariant in
+    let long : length (count_reply c.args.cid c.self.inside.conns.items) ≡ length c.self.inside.conns.items = length-replied c.args.cid c.self.inside.conns.items in (
       inv.0,
       inv.1,
       inv.2,
-      inv.3,
+      omega (arith, inv.3, ap length next, long),
       inv.4,
       inv.5,
       inv.6,
@@ -63,5 +65,7 @@ invariant_of-self c =
       inv.12,
       inv.13,
       inv.14,
-      inv.15,
+      omega (arith, inv.15, ap length next, long),
+      subst (λ (cs : List (ℕ × ℕ)). AreCounted c.self.inside.immediate.items cs c.self.inside.live.items) (sym next) (AreCounted-replied c.args.cid c.self.inside.immediate.items c.self.inside.conns.items c.self.inside.live.items inv.16),
+      omega (arith, inv.17, ap length next, long),
     )

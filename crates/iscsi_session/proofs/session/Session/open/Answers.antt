@@ -1,43 +1,49 @@
-use Rattle.std.proofs.Common.{rules, ◌≡◌, ◌≤◌, ◌∙◌, ap, sym, arith, length, count_by, is_some, replicate, None, refl, get_or, List}
+use Rattle.std.proofs.Common.{rules, ℕ, ◌≡◌, ◌≤◌, ◌∙◌, ap, sym, subst, arith, length, count_by, is_some, replicate, None, refl, get_or, List}
 use Rattle.std.specs.List.{list_all}
 use Rattle.iscsi_window.specs.Windows.{Received}
 use Rattle.iscsi_tasks.specs.Sets.{Members, opened as opened_set}
 use Rattle.iscsi_session.specs.Settings.{setting_of}
 use Rattle.iscsi_session.specs.Standing.{are_known, is_held, is_place_known, tickets_of, tickets_in, are_ascending, are_within}
+use Rattle.iscsi_session.specs.declared.session.live.Live.{Live}
+use Rattle.iscsi_session.specs.Steps.{is_numbered, AreCounted}
+use Rattle.iscsi_session.proofs.CountLemmas.{AreCounted-opened}
 use Rattle.iscsi_session.proofs.OpenLemmas.{set_opened, Settled-opened, none_counted, all_none, so_many}
 use Rattle.iscsi_session.proofs.session.Session.open.Goals as goal
 
 pub invariant_of-result : goal.invariant_of-result
 invariant_of-result c =
-    let is = c.in-Ok-Ok-Some-Some.ensures.ok in
-    let none = c.in-Ok-Ok-Some-Some.ensures'.items in
-    let sets : c.in-Ok-Ok-Some-Some.sets.items ≡ replicate c.args.options.units (opened_set c.args.options.depth) = c.in-Ok-Ok-Some-Some.ensures''' in
-    let unfinished : c.in-Ok-Ok-Some-Some.window.unfinished ≡ 0 = ap (λ (w : Received). w.unfinished) is in
-    let turned : c.in-Ok-Ok-Some-Some.window.turned ≡ 0 = ap (λ (w : Received). w.turned) is in
-    let places : c.in-Ok-Ok-Some-Some.window.places ≡ replicate c.args.options.window None = ap (λ (w : Received). w.places) is in
-    let size : length c.in-Ok-Ok-Some-Some.window.places ≡ c.args.options.window = ap length places ∙ so_many c.args.options.window None in
+    let is = c.in-Ok-Ok-Some-Some-Some.ensures.ok in
+    let none = c.in-Ok-Ok-Some-Some-Some.ensures'.items in
+    let sets : c.in-Ok-Ok-Some-Some-Some.sets.items ≡ replicate c.args.options.units (opened_set c.args.options.depth) = c.in-Ok-Ok-Some-Some-Some.ensures'''' in
+    let unfinished : c.in-Ok-Ok-Some-Some-Some.window.unfinished ≡ 0 = ap (λ (w : Received). w.unfinished) is in
+    let turned : c.in-Ok-Ok-Some-Some-Some.window.turned ≡ 0 = ap (λ (w : Received). w.turned) is in
+    let places : c.in-Ok-Ok-Some-Some-Some.window.places ≡ replicate c.args.options.window None = ap (λ (w : Received). w.places) is in
+    let size : length c.in-Ok-Ok-Some-Some-Some.window.places ≡ c.args.options.window = ap length places ∙ so_many c.args.options.window None in
     let top : c.args.options.window ≤ 1024 = search rules in
-    let counted : count_by is_some c.in-Ok-Ok-Some-Some.window.places ≡ 0 = ap (count_by is_some) places ∙ none_counted is_some c.args.options.window refl in (
-      omega (arith, ap length none, unfinished),
+    let counted : count_by is_some c.in-Ok-Ok-Some-Some-Some.window.places ≡ 0 = ap (count_by is_some) places ∙ none_counted is_some c.args.options.window refl in (
+      omega (arith, ap (count_by is_numbered) none, unfinished),
       omega (arith, unfinished),
       omega (arith, size, top),
-      omega (arith, size, c.in-Ok-Ok-Some-Some.ensures'.capacity),
+      omega (arith, size, c.in-Ok-Ok-Some-Some-Some.ensures'.capacity, c.len.ensures, c.args.options.conns.ok.0),
       sym (ap (count_by is_held) places ∙ none_counted is_held c.args.options.window refl),
       omega (arith, turned, counted),
-      omega arith,
+      omega (arith, counted),
       omega arith,
       search rules,
       ap (λ ls. are_known ls c.args.options.conns.items) none,
       ap (list_all (is_place_known c.args.options.conns.items)) places ∙ all_none (is_place_known c.args.options.conns.items) c.args.options.window refl,
       λ u lt. ap (λ (ms : List Members). tickets_of (get_or ms u (opened_set 0))) sets ∙ ap tickets_of (set_opened c.args.options.units u c.args.options.depth (omega (arith, ap length sets, so_many c.args.options.units (opened_set c.args.options.depth), lt))) ∙ sym (ap (tickets_in u) none),
       ap are_ascending none,
-      ap (are_within 0 (length c.in-Ok-Ok-Some-Some.sets.items)) none,
+      ap (are_within 0 (length c.in-Ok-Ok-Some-Some-Some.sets.items)) none,
       λ k d within. absurd (omega (arith, ap length none, within)),
-      omega (arith, size, c.in-Ok-Ok-Some-Some.ensures''),
+      omega (arith, size, c.in-Ok-Ok-Some-Some-Some.ensures'', c.len.ensures, c.args.options.conns.ok.0),
+      subst (λ (counts : List ℕ). AreCounted counts c.args.options.conns.items c.in-Ok-Ok-Some-Some-Some.live.items) (sym c.in-Ok-Ok-Some-Some-Some.ensures''')
+          (subst (λ (ls : List Live). AreCounted (replicate c.len-2.result 0) c.args.options.conns.items ls) (sym none) (AreCounted-opened c.len-2.result c.args.options.conns.items (c.len-2.ensures ∙ c.args.options.conns.ok.0))),
+      search rules,
     )
 
 pub returns-clause-stands : goal.returns-clause-stands
 returns-clause-stands c = record {
-  settled = Settled-opened (setting_of c.args.options) _ c.in-Ok-Ok-Some-Some.ensures.ok refl refl refl c.in-Ok-Ok-Some-Some.ensures'.items c.in-Ok-Ok-Some-Some.ensures''';
+  settled = Settled-opened (setting_of c.args.options) _ c.in-Ok-Ok-Some-Some-Some.ensures.ok refl refl refl c.in-Ok-Ok-Some-Some-Some.ensures'.items c.in-Ok-Ok-Some-Some-Some.ensures'''';
   taken = refl;
 }

@@ -1,4 +1,4 @@
-use Rattle.std.proofs.Common.{◌≡◌, ◌∙◌, ◌+◌, ◌++◌, ap, sym, subst, refl, arith, List, [], ◌∷◌, length, length-append, count_by, Option, Some, None, Err, Ok}
+use Rattle.std.proofs.Common.{◌≡◌, ℕ, ◌∙◌, ◌+◌, ◌++◌, ap, sym, subst, refl, arith, List, [], ◌∷◌, length, length-append, count_by, Option, Some, None, Err, Ok}
 use Rattle.std.proofs.lemmas.List.{length_push}
 use Rattle.iscsi_session.specs.declared.effect.Numbers.{Numbers}
 use Rattle.iscsi_session.specs.declared.effect.Effect.{Effect}
@@ -29,12 +29,16 @@ returns-then-is_err-clause-refused c = λ o h stands.
     let P : Option SessionFault → Type 0 = λ x. RefusesAs {A = Numbers} x (Err NoMemory) in
     subst P (sym refused) refl
 
+-- the event that is taken is the next one of the history
+index_is : (s : Core) (taken : ℕ) (h : List Event) → taken ≡ s.taken → s.taken ≡ length h → taken + 1 ≡ length h + 1
+index_is s taken h same is = omega (arith, same, is)
+
 pub returns-clause-stands : goal.returns-clause-stands
 returns-clause-stands c = λ o h stands.
     let start : Settled o (counted c.args.self.now) (trace_of o h) = Settled-counted o c.args.self.now (trace_of o h) stands.settled in
     let from = subst (λ (s : Core). Settled o (counted s) (trace_of o h)) (sym c.self.view_is) start in
     let e : Event = c.args.event.now in
-    let now : Settled o c.apply.new.self (after_event o (length h) (trace_of o h) e) = c.apply.ensures.settled o (length h) (trace_of o h) from in
+    let now : Settled o c.apply.new.self (after_event o (length h) (trace_of o h) e) = c.apply.ensures.settled o (length h) (trace_of o h) (index_is c.args.self.now c.self.inside.taken h (ap (λ (s : Core). s.taken) c.self.view_is) stands.taken) from in
     let one : length (h ++ e ∷ []) ≡ length h + 1 = length_push h e in
     record {
       settled = subst (Settled o c.apply.new.self) (sym (trace_of-push o h e)) now;
@@ -45,7 +49,7 @@ pub returns-clause-effects : goal.returns-clause-effects
 returns-clause-effects c = λ o h stands.
     let start : Settled o (counted c.args.self.now) (trace_of o h) = Settled-counted o c.args.self.now (trace_of o h) stands.settled in
     let from = subst (λ (s : Core). Settled o (counted s) (trace_of o h)) (sym c.self.view_is) start in
-    c.apply.ensures.effects o (length h) (trace_of o h) from
+    c.apply.ensures.effects o (length h) (trace_of o h) (index_is c.args.self.now c.self.inside.taken h (ap (λ (s : Core). s.taken) c.self.view_is) stands.taken) from
     ∙ ap (λ (es : List Effect). es ++ (next_entry o h c.args.event.now).effects) c.reserve.ensures.items
 
 pub returns-clause-flow : goal.returns-clause-flow
@@ -53,7 +57,7 @@ returns-clause-flow c = λ o h stands.
     let start : Settled o (counted c.args.self.now) (trace_of o h) = Settled-counted o c.args.self.now (trace_of o h) stands.settled in
     let from = subst (λ (s : Core). Settled o (counted s) (trace_of o h)) (sym c.self.view_is) start in
     let e : Event = c.args.event.now in
-    let now : Settled o c.apply.new.self (after_event o (length h) (trace_of o h) e) = c.apply.ensures.settled o (length h) (trace_of o h) from in
+    let now : Settled o c.apply.new.self (after_event o (length h) (trace_of o h) e) = c.apply.ensures.settled o (length h) (trace_of o h) (index_is c.args.self.now c.self.inside.taken h (ap (λ (s : Core). s.taken) c.self.view_is) stands.taken) from in
     let pace : KeepsPace c.args.self.now.window c.apply.new.self.window = subst (λ (s : Core). KeepsPace s.window c.apply.new.self.window) c.self.view_is c.apply.ensures.pace in
     subst (Flows o (trace_of o h)) (sym (trace_of-push o h e)) (Flows-step o c.args.self.now c.apply.new.self (length h) (trace_of o h) e stands.settled now pace)
 
@@ -61,7 +65,7 @@ pub returns-clause-numbers : goal.returns-clause-numbers
 returns-clause-numbers c = λ o h stands.
     let start : Settled o (counted c.args.self.now) (trace_of o h) = Settled-counted o c.args.self.now (trace_of o h) stands.settled in
     let from = subst (λ (s : Core). Settled o (counted s) (trace_of o h)) (sym c.self.view_is) start in
-    c.numbers-numbers.ensures ∙ settled_numbers o c.apply.new.self (after_event o (length h) (trace_of o h) c.args.event.now) (c.apply.ensures.settled o (length h) (trace_of o h) from)
+    c.numbers-numbers.ensures ∙ settled_numbers o c.apply.new.self (after_event o (length h) (trace_of o h) c.args.event.now) (c.apply.ensures.settled o (length h) (trace_of o h) (index_is c.args.self.now c.self.inside.taken h (ap (λ (s : Core). s.taken) c.self.view_is) stands.taken) from)
 
 pub returns-clause-refused : goal.returns-clause-refused
 returns-clause-refused c = λ o h stands.
@@ -74,7 +78,7 @@ returns-clause-bound c = λ o h stands.
     let start : Settled o (counted c.args.self.now) (trace_of o h) = Settled-counted o c.args.self.now (trace_of o h) stands.settled in
     let from = subst (λ (s : Core). Settled o (counted s) (trace_of o h)) (sym c.self.view_is) start in
     let es : List Effect = (next_entry o h c.args.event.now).effects in
-    let added : length c.apply.new.out.items ≡ length c.reserve.new.self.items + length es = ap length (c.apply.ensures.effects o (length h) (trace_of o h) from) ∙ length-append c.reserve.new.self.items es in
+    let added : length c.apply.new.out.items ≡ length c.reserve.new.self.items + length es = ap length (c.apply.ensures.effects o (length h) (trace_of o h) (index_is c.args.self.now c.self.inside.taken h (ap (λ (s : Core). s.taken) c.self.view_is) stands.taken) from) ∙ length-append c.reserve.new.self.items es in
     let held : count_by is_held c.self.inside.window.places ≡ count_by is_held c.args.self.now.window.places = ap (λ (s : Core). count_by is_held s.window.places) c.self.view_is in
     let lives : length c.self.inside.live.items ≡ length c.args.self.now.live = ap (λ (s : Core). length s.live) c.self.view_is in
     omega (arith, added, held, c.apply.new.out.ok.0, c.reserve.new.self.ok.0, c.apply.ensures.spent, bound_is o c.args.self.now h stands, lives)
