@@ -17,6 +17,7 @@ use Rattle.iscsi_session.specs.Execution.{exp_of, max_of, unfinished, ignored}
 use Rattle.iscsi_session.specs.Run.{effects_of, numbers_of}
 use Rattle.iscsi_session.specs.Standing.{Core, is_regular, is_regular_request, Agrees, Settled}
 use Rattle.iscsi_session.specs.Steps.{numbers_by}
+use Rattle.iscsi_session.proofs.BoolLemmas.{and_parts}
 use Rattle.iscsi_session.proofs.ListLemmas.{list_all-filter}
 use Rattle.iscsi_session.proofs.TraceLemmas.{weaker}
 use Rattle.iscsi_session.proofs.DeliveryLemmas.{quiet-ignored}
@@ -31,13 +32,6 @@ use Rattle.iscsi_session.proofs.SetParts.{SetsAgree-untouched, newly-untouched}
 
 pub settled_expected : (o : Setting) (s : Core) (t : Trace) → Settled o s t → exp_of o t ≡ number_expected s.window
 settled_expected o s t h = next_expected o s.window t h.agrees.window h.none_due
-
-and_parts : (a b : Bool) → (a && b) ≡ true → (a ≡ true) × (b ≡ true)
-and_parts true b h = (refl, h)
-and_parts false b h = absurd (false≢true h)
-
-pub and_both : (a b : Bool) → (a && b) ≡ true → (a ≡ true) × (b ≡ true)
-and_both a b h = and_parts a b h
 
 -- what is regular of a command
 pub record Regular (o : Setting) (c : Command) : Type 0 where

@@ -6,25 +6,10 @@ use Rattle.std.proofs.lemmas.List.Folds.{list_any-append}
 use Rattle.std.proofs.lemmas.List.Sums.{sum_by-cons}
 use Rattle.iscsi_session.specs.Trace.{Command, is_among, first_of}
 use Rattle.iscsi_session.specs.Standing.{are_apart}
+use Rattle.iscsi_session.proofs.BoolLemmas.{and_parts, and_both, or_none, not_true}
 
 pub eq_sym : (a b : ℕ) → (a == b) ≡ (b == a)
 eq_sym a b = ⊎_elim (λ same. eq-eqb a b same ∙ sym (eq-eqb b a (sym same))) (λ apart. (let x : (a == b) ≡ false = grind (arith, nat_tests) in x) ∙ (let y : (b == a) ≡ false = grind (arith, nat_tests) in sym y)) (cases_eq a b)
-
-or_none : (a b : Bool) → (a || b) ≡ false → (a ≡ false) × (b ≡ false)
-or_none true b h = absurd (false≢true (sym h))
-or_none false b h = (refl, h)
-
-and_parts : (a b : Bool) → (a && b) ≡ true → (a ≡ true) × (b ≡ true)
-and_parts true b h = (refl, h)
-and_parts false b h = absurd (false≢true h)
-
-and_both : (a b : Bool) → a ≡ true → b ≡ true → (a && b) ≡ true
-and_both true b h k = k
-and_both false b h k = absurd (false≢true h)
-
-not_true : (b : Bool) → not b ≡ true → b ≡ false
-not_true true h = absurd (false≢true h)
-not_true false h = refl
 
 unamong-push : (k : ℕ) (cs : List Command) (c : Command) → is_among k cs ≡ false → (c.ticket == k) ≡ false → is_among k (cs ++ c ∷ []) ≡ false
 unamong-push k cs c h apart = list_any-append (λ (d : Command). d.ticket == k) cs (c ∷ []) ∙ ap (λ b. b || ((c.ticket == k) || false)) h ∙ ap (λ b. b || false) apart

@@ -11,8 +11,9 @@ use Rattle.iscsi_session.specs.Settings.{Setting}
 use Rattle.iscsi_session.specs.Trace.{Command, Mark, Trace, has, enters, entered, leaves_ticket, live, live_in, is_among, first_of}
 use Rattle.iscsi_session.specs.Standing.{kept, is_regular, are_apart, CommandsAgree}
 use Rattle.iscsi_session.specs.Steps.{find_ticket, without_ticket}
+use Rattle.iscsi_session.proofs.BoolLemmas.{and_parts, or_none, not_true}
 use Rattle.iscsi_session.proofs.ApartLemmas.{eq_sym, unamong-filter, apart-push, apart-filter, length-without, kept_all}
-use Rattle.iscsi_session.proofs.TraceLemmas.{live-quiet, live-enters, live-leaves, or_none}
+use Rattle.iscsi_session.proofs.TraceLemmas.{live-quiet, live-enters, live-leaves}
 
 -- ---- an item that nothing enters or leaves by
 
@@ -155,14 +156,6 @@ passes_among p k (x ∷ cs) c test found =
     or_second : (a b : Bool) → b ≡ true → (a || b) ≡ true
     or_second true b h = refl
     or_second false b h = h
-
-and_parts : (a b : Bool) → (a && b) ≡ true → (a ≡ true) × (b ≡ true)
-and_parts true b h = (refl, h)
-and_parts false b h = absurd (false≢true h)
-
-not_true : (b : Bool) → not b ≡ true → b ≡ false
-not_true true h = absurd (false≢true h)
-not_true false h = refl
 
 -- a command with this ticket is in no other unit
 elsewhere_kept : (p : Command → Bool) (k other : ℕ) (cs : List Command) (c : Command) → ((d : Command) → p d ≡ true → (d.ticket == k) ≡ true) → are_apart cs ≡ true → first_of (filter p cs) ≡ Some c → (other == c.unit) ≡ false

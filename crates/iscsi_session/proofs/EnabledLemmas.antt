@@ -15,27 +15,10 @@ use Rattle.iscsi_session.specs.Trace.{Command, Mark, Trace, has, enters, entered
 use Rattle.iscsi_session.specs.Run.{newly_enabled}
 use Rattle.iscsi_session.specs.Standing.{task_of, member_of, set_of}
 use Rattle.iscsi_session.specs.Steps.{as_given, enable_effects, enable_effect}
+use Rattle.iscsi_session.proofs.BoolLemmas.{and_parts, and_both, or_none, or_first, or_comm, not_true}
 use Rattle.iscsi_session.proofs.ApartLemmas.{unamong-filter}
-use Rattle.iscsi_session.proofs.TraceLemmas.{and_both, or_none, all_among}
+use Rattle.iscsi_session.proofs.TraceLemmas.{all_among}
 use Rattle.iscsi_session.proofs.ListLemmas.{list_all-filter}
-
-and_parts : (a b : Bool) → (a && b) ≡ true → (a ≡ true) × (b ≡ true)
-and_parts true b h = (refl, h)
-and_parts false b h = absurd (false≢true h)
-
-or_second : (a b : Bool) → b ≡ true → (a || b) ≡ true
-or_second true b h = refl
-or_second false b h = h
-
-or_first : (a b : Bool) → a ≡ true → (a || b) ≡ true
-or_first true b h = refl
-or_first false b h = absurd (false≢true h)
-
-or_comm : (a b : Bool) → (a || b) ≡ (b || a)
-or_comm true true = refl
-or_comm true false = refl
-or_comm false true = refl
-or_comm false false = refl
 
 -- ---- lists
 
@@ -116,10 +99,6 @@ free_now c (item ∷ t) h = or_first (is_free_at c (item ∷ t)) (was_free c t) 
 -- who is free among more is free among fewer
 free_among_fewer : (q : Queued) (xs ys : List Queued) → is_free q (xs ++ ys) ≡ true → is_free q xs ≡ true
 free_among_fewer q xs ys h = ap not (or_none (list_any (bars q) xs) (list_any (bars q) ys) (sym (list_any-append (bars q) xs ys) ∙ not_true (list_any (bars q) (xs ++ ys)) h)).0
-  where
-    not_true : (b : Bool) → not b ≡ true → b ≡ false
-    not_true true k = absurd (false≢true k)
-    not_true false k = refl
 
 -- nothing changes for a command of a unit that others enter, or that nothing enters or leaves
 pub was_free-stays : (item : List Mark) (t : Trace) (unit : ℕ) (more : List Command) (c : Command) → live_in unit (item ∷ t) ≡ live_in unit t ++ more → is_here unit (live_in unit t) c ≡ true → was_free c (item ∷ t) ≡ was_free c t

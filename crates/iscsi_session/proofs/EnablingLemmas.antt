@@ -13,9 +13,10 @@ use Rattle.iscsi_session.specs.Agenda.{items_of}
 use Rattle.iscsi_session.specs.Run.{after_event, after_events, effects_of_mark, newly_enabled, effects_of_item, effects_of, entries_from}
 use Rattle.iscsi_session.specs.Enabling.{effects_so_far, is_enable, is_leave, is_shown_enabled, is_enabled, FreeMoment, EnabledSoFar, effects_in}
 use Rattle.iscsi_session.specs.Standing.{CommandsAgree}
+use Rattle.iscsi_session.proofs.BoolLemmas.{and_both, or_first, or_comm, or_false}
 use Rattle.iscsi_session.proofs.ApartLemmas.{eq_sym}
 use Rattle.iscsi_session.proofs.ListLemmas.{list_any-map}
-use Rattle.iscsi_session.proofs.TraceLemmas.{and_both, weaker}
+use Rattle.iscsi_session.proofs.TraceLemmas.{weaker}
 use Rattle.iscsi_session.proofs.EnabledLemmas.{enables, is_here, was_free-stays, new_in-more, newly-one, filter-twice}
 use Rattle.iscsi_session.proofs.CommandParts.{Untouched, live-untouched, live_in-untouched, EntersOne, live-entered, live_in-entered, live_in-elsewhere, LeavesOne, live-left, live_in-left_elsewhere, none_any}
 use Rattle.iscsi_session.proofs.SetParts.{newly-untouched}
@@ -45,16 +46,6 @@ left_marks o t k (Ignores why ∷ ms) = left_marks o t k ms
 no_leave : (k : ℕ) (cs : List Command) → list_any (is_leave k) (enables cs) ≡ false
 no_leave k [] = refl
 no_leave k (c ∷ cs) = no_leave k cs
-
-or_false : (b : Bool) → (b || false) ≡ b
-or_false true = refl
-or_false false = refl
-
-or_comm : (a b : Bool) → (a || b) ≡ (b || a)
-or_comm true true = refl
-or_comm true false = refl
-or_comm false true = refl
-or_comm false false = refl
 
 item_enables : (o : Setting) (t : Trace) (item : List Mark) (k : ℕ) → list_any (is_enable k) (effects_of_item o t item) ≡ is_among k (newly_enabled o t item)
 item_enables o t item k =
@@ -370,10 +361,6 @@ log_effects o event t (e ∷ h) =
 or_cases : (a b : Bool) (P : Type 0) → (a ≡ true → P) → (b ≡ true → P) → (a || b) ≡ true → P
 or_cases true b P f g h = f refl
 or_cases false b P f g h = g h
-
-or_first : (a b : Bool) → a ≡ true → (a || b) ≡ true
-or_first true b h = refl
-or_first false b h = absurd (false≢true h)
 
 or_later : (a b : Bool) → b ≡ true → (a || b) ≡ true
 or_later true b h = refl

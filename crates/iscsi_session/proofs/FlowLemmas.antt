@@ -25,6 +25,7 @@ use Rattle.iscsi_session.specs.Run.{after_event, trace_of}
 use Rattle.iscsi_session.specs.Standing.{Core, place_of, Settled}
 use Rattle.iscsi_session.specs.Steps.{KeepsPace, find_enabled, started, verdict_by, executed_as, with_executed, with_advanced, turned_if, after_completion, without_command}
 use Rattle.iscsi_session.specs.Flow.{HasOneMore, Flows, FlowsThrough}
+use Rattle.iscsi_session.proofs.BoolLemmas.{or_first}
 use Rattle.iscsi_session.proofs.Missing.{expected_below, expected_gone, expected_low}
 use Rattle.iscsi_session.proofs.ExecutionLemmas.{quiet-marks}
 use Rattle.iscsi_session.proofs.AgreeLemmas.{agrees_unfinished, settled_expected, settled_max}
@@ -97,10 +98,6 @@ event_receives o index t (Arrive conn header) = arrival_receives o t (arrival_of
 event_receives o index t (Done ticket status) = completion_receives_none t status (command_of t ticket)
 
 -- ---- ExpCmdSN doesn't go back
-
-or_first : (a b : Bool) → a ≡ true → (a || b) ≡ true
-or_first true b h = refl
-or_first false b h = absurd (false≢true h)
 
 still_received : (ns ns' : List ℕ) (n : ℕ) → HasOneMore ns ns' → contains ns n ≡ true → contains ns' n ≡ true
 still_received ns ns' n (inl same) there = ap (λ ms. contains ms n) same ∙ there

@@ -6,6 +6,7 @@ use Rattle.iscsi_tasks.specs.Sets.{is_new, next_in, given_in}
 use Rattle.iscsi_session.specs.declared.effect.Effect.{Effect}
 use Rattle.iscsi_session.specs.declared.effect.Effect.TheVariants.{Enable}
 use Rattle.iscsi_session.specs.Steps.{as_given, enable_effects}
+use Rattle.iscsi_session.proofs.BoolLemmas.{and_parts}
 
 -- a command is given
 pub record Given (unit ticket : ℕ) (ms : List Member) : Type 0 where
@@ -15,10 +16,6 @@ pub record Given (unit ticket : ℕ) (ms : List Member) : Type 0 where
 
 abbrev shown_by : ℕ → Bool → Member → List Member → List Effect
 shown_by unit b x xs = map (λ (y : Member). Enable y.task.ticket unit) (cond b (x ∷ filter is_new xs) (filter is_new xs))
-
-and_parts : (a b : Bool) → (a && b) ≡ true → (a ≡ true) × (b ≡ true)
-and_parts true b h = (refl, h)
-and_parts false b h = absurd cc
 
 pub given_one : (unit ticket : ℕ) (ms : List Member) → next_in ms ≡ Some ticket → Given unit ticket ms
 given_one unit ticket [] h = absurd cc

@@ -1,4 +1,5 @@
 pub mod RunLemmas
+pub mod BoolLemmas
 pub mod ListLemmas
 pub mod Missing
 pub mod TraceLemmas

@@ -12,6 +12,7 @@ use Rattle.iscsi_wire.specs.declared.request.Request.{Request}
 use Rattle.iscsi_wire.specs.Fields.{connection_of}
 use Rattle.iscsi_session.specs.Standing.{stat_sn_on, are_known, is_place_known}
 use Rattle.iscsi_session.specs.Steps.{count_reply, without_ticket}
+use Rattle.iscsi_session.proofs.BoolLemmas.{and_first, and_second}
 
 -- ---- tests of lists
 
@@ -84,14 +85,6 @@ is_known-cids cid xs ys h =
     sym (list_any-map (λ k. k == cid) (λ (c : ℕ × ℕ). c.0) xs) ∙ ap (list_any (λ k. k == cid)) h ∙ list_any-map (λ k. k == cid) (λ (c : ℕ × ℕ). c.0) ys
 
 -- ---- live commands
-
-pub and_first : (a b : Bool) → (a && b) ≡ true → a ≡ true
-and_first true b h = refl
-and_first false b h = absurd (false≢true h)
-
-pub and_second : (a b : Bool) → (a && b) ≡ true → b ≡ true
-and_second true b h = h
-and_second false b h = absurd (false≢true h)
 
 -- one of some commands that all pass
 pub find-passes : (p q : Live → Bool) (lives : List Live) (l : Live) → list_all q lives ≡ true → find p lives ≡ Some l → q l ≡ true

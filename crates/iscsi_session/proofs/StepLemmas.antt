@@ -30,6 +30,7 @@ use Rattle.iscsi_session.specs.Run.{stat_sn_of, newly_enabled, effects_of, trace
 use Rattle.iscsi_session.specs.Refusals.{belongs, refusal_of}
 use Rattle.iscsi_session.specs.Standing.{Core, place_of, kept, is_regular, is_regular_request, member_of, WindowAgrees, Agrees, Settled, StandsFor}
 use Rattle.iscsi_session.specs.Steps.{set_at, set_left, enable_effects, finished, with_offered, comes_on, refusal_by, find_ticket, enabled_of, find_enabled, without_command, leave_effects, after_completion, completion_effects, counted}
+use Rattle.iscsi_session.proofs.BoolLemmas.{and_parts, and_both, or_false}
 use Rattle.iscsi_session.proofs.ListLemmas.{list_any-map, is_known-cids}
 use Rattle.iscsi_session.proofs.ApartLemmas.{count-without}
 use Rattle.iscsi_session.proofs.TraceLemmas.{all_among}
@@ -40,18 +41,14 @@ use Rattle.iscsi_session.proofs.EnabledLemmas.{enables}
 use Rattle.iscsi_session.proofs.CommandParts.{LeavesOne, live-left, CommandsAgree-left, find_kept, first_passing, none_passing}
 use Rattle.iscsi_session.proofs.EnablingLemmas.{EnabledSoFar-left}
 use Rattle.iscsi_session.proofs.SetParts.{SetLeaving, SetsAgree-left, newly-untouched}
-use Rattle.iscsi_session.proofs.AgreeLemmas.{Regular, regular_parts, regular_live, and_both, settled_expected, settled_max, Stepped, Stepped-ignored, untouched-admits, Agrees-admitted}
-
-or_false : (b : Bool) → (b || false) ≡ b
-or_false true = refl
-or_false false = refl
+use Rattle.iscsi_session.proofs.AgreeLemmas.{Regular, regular_parts, regular_live, settled_expected, settled_max, Stepped, Stepped-ignored, untouched-admits, Agrees-admitted}
 
 -- ---- a completion
 
 first_passes : (p q : Command → Bool) (cs : List Command) (c : Command) → list_all q cs ≡ true → first_of (filter p cs) ≡ Some c → q c ≡ true
 first_passes p q [] c all found = absurd cc
 first_passes p q (x ∷ cs) c all found =
-    let parts = and_both (q x) (list_all q cs) all in
+    let parts = and_parts (q x) (list_all q cs) all in
     elim (p x) as (λ b. first_of (cond b (x ∷ filter p cs) (filter p cs)) ≡ Some c → q c ≡ true) [
       | true ↦ λ here. let same : x ≡ c = cc in ap q (sym same) ∙ parts.0
       | false ↦ λ later. first_passes p q cs c parts.1 later
@@ -259,7 +256,7 @@ offered o s event t r h not_immediate known =
     let x = answered o s t a h (ap (λ e. lift e (cmd_sn r)) same_exp) in
     let cases : Bool → Bool → List (List Mark) = λ b c. cond b (ignored Outside) (cond c (ignored Duplicate) (with_turns o t (Admits a ∷ []))) in
     let items : numbered o t a ≡ cases (nat_lt a.number (exp_of o t) || nat_lt (max_of o t) a.number) (is_received t a.number) = refl in
-    let regular : is_regular_request o r ≡ true = both_true (not (is_immediate r)) (is_known (connection_of r) o.conns) (ap not not_immediate) known in
+    let regular : is_regular_request o r ≡ true = and_both (not (is_immediate r)) (is_known (connection_of r) o.conns) (ap not not_immediate) known in
     record {
       outside = λ said.
           let f = x.outside said in
@@ -280,10 +277,6 @@ offered o s event t r h not_immediate known =
             ),
           );
     }
-  where
-    both_true : (a b : Bool) → a ≡ true → b ≡ true → (a && b) ≡ true
-    both_true true b h k = k
-    both_true false b h k = absurd (false≢true h)
 
 -- ---- an event
 

@@ -6,6 +6,7 @@ use Rattle.std.proofs.lemmas.List.{append-nil}
 use Rattle.std.proofs.lemmas.List.Elements.{filter-append}
 use Rattle.std.proofs.lemmas.List.Folds.{list_any-append}
 use Rattle.iscsi_session.specs.Trace.{Command, Mark, Trace, Admits, Delivers, Executes, Leaves, Enters, Sends, Ignores, has, shown, enters, entered, leaves_ticket, live, is_among, received, is_received, contains, number_received, admits_at}
+use Rattle.iscsi_session.proofs.BoolLemmas.{and_both, or_none, or_second}
 
 -- ---- filters
 
@@ -62,14 +63,6 @@ live-leaves item t c none one =
 
 -- ---- enabled commands
 
-pub and_both : (a b : Bool) → a ≡ true → b ≡ true → (a && b) ≡ true
-and_both true b h k = k
-and_both false b h k = absurd (false≢true h)
-
-or_true : (a b : Bool) → b ≡ true → (a || b) ≡ true
-or_true true b h = refl
-or_true false b h = h
-
 pub weaker : {A : Type 0} (p q : A → Bool) (xs : List A) → ((x : A) → p x ≡ true → q x ≡ true) → list_all p xs ≡ true → list_all q xs ≡ true
 weaker p q [] h all = refl
 weaker p q (x ∷ xs) h all =
@@ -83,7 +76,7 @@ all_among [] = refl
 all_among (x ∷ xs) =
     and_both ((x.ticket == x.ticket) || is_among x.ticket xs) (list_all (λ c. is_among c.ticket (x ∷ xs)) xs)
     (ap (λ b. b || is_among x.ticket xs) (eq-eqb x.ticket x.ticket refl))
-    (weaker (λ c. is_among c.ticket xs) (λ c. is_among c.ticket (x ∷ xs)) xs (λ c h. or_true (x.ticket == c.ticket) (is_among c.ticket xs) h) (all_among xs))
+    (weaker (λ c. is_among c.ticket xs) (λ c. is_among c.ticket (x ∷ xs)) xs (λ c h. or_second (x.ticket == c.ticket) (is_among c.ticket xs) h) (all_among xs))
 
 -- none of these is new
 pub none_new : (set cs : List Command) → list_all (λ c. is_among c.ticket set) cs ≡ true → filter (λ c. not (is_among c.ticket set)) cs ≡ []
@@ -98,10 +91,6 @@ none_new set (c ∷ cs) h =
 
 pub received-item : (item : List Mark) (t : Trace) (n : ℕ) → is_received (item ∷ t) n ≡ (is_received t n || contains (filter_map number_received item) n)
 received-item item t n = list_any-append (λ k. k == n) (received t) (filter_map number_received item)
-
-pub or_none : (a b : Bool) → (a || b) ≡ false → (a ≡ false) × (b ≡ false)
-or_none true b h = absurd (false≢true (sym h))
-or_none false b h = (refl, h)
 
 -- a mark that receives another number, or none, admits nothing at this one
 unadmitted_mark : (n : ℕ) (mark : Mark) (marks : List Mark) → contains (filter_map number_received (mark ∷ marks)) n ≡ false
@@ -128,7 +117,3 @@ unadmitted n [] h = refl
 unadmitted n (item ∷ t) h =
     let parts = or_none (is_received t n) (contains (filter_map number_received item) n) (sym (received-item item t n) ∙ h) in
     ap (λ xs. shown (admits_at n) t ++ xs) (unadmitted_item n item parts.1) ∙ append-nil (shown (admits_at n) t) ∙ unadmitted n t parts.0
-
-pub and_second : (a b : Bool) → (a && b) ≡ true → b ≡ true
-and_second true b h = h
-and_second false b h = absurd (false≢true h)

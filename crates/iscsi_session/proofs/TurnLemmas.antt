@@ -23,6 +23,7 @@ use Rattle.iscsi_session.specs.Agenda.{due, turn, turns}
 use Rattle.iscsi_session.specs.Run.{effects_of_item, effects_of, stat_sn_of}
 use Rattle.iscsi_session.specs.Standing.{Core, kept, is_regular, is_regular_request, task_of, member_of, set_of, stat_sn_on, Agrees, Settled}
 use Rattle.iscsi_session.specs.Steps.{new_live, new_task, is_tag_kept, is_set_full, place_in, verdict_by, executed_as, execution_effects, with_executed, turned_if, turn_effects}
+use Rattle.iscsi_session.proofs.BoolLemmas.{and_parts, not_true}
 use Rattle.iscsi_session.proofs.Missing.{expected_past}
 use Rattle.iscsi_session.proofs.ListLemmas.{list_any-map}
 use Rattle.iscsi_session.proofs.HeldLemmas.{held-number, held-turned, due-more, due-none, admitted_of_held}
@@ -34,7 +35,7 @@ use Rattle.iscsi_session.proofs.EnablingLemmas.{EnabledSoFar-untouched, EnabledS
 use Rattle.iscsi_session.proofs.CommandParts.{Untouched, live-untouched, CommandsAgree-untouched, EntersOne, live-entered, CommandsAgree-entered}
 use Rattle.iscsi_session.proofs.SetParts.{SetsAgree-untouched, newly-untouched, SetEntry, SetsAgree-entered}
 use Rattle.iscsi_session.proofs.ExecutionLemmas.{quiet-marks, Begun, executed-item}
-use Rattle.iscsi_session.proofs.AgreeLemmas.{and_both, settled_expected}
+use Rattle.iscsi_session.proofs.AgreeLemmas.{settled_expected}
 
 -- ---- the state after a turn
 
@@ -52,7 +53,7 @@ turn-begun : (o : Setting) (s : Core) (t : Trace) (r : Request) (h : Agrees o s 
 turn-begun o s t r h place x =
     let a : Arrival = x.arrival in
     let e : ℕ = number_expected s.window in
-    let regular = and_both (not (is_immediate a.request)) (is_known (connection_of a.request) o.conns) (h.window.requests e a (admitted_of_held t e a x.held_is)) in
+    let regular = and_parts (not (is_immediate a.request)) (is_known (connection_of a.request) o.conns) (h.window.requests e a (admitted_of_held t e a x.held_is)) in
     let numbered : is_immediate a.request ≡ false = not_true (is_immediate a.request) regular.0 in
     let number : a.number ≡ e = held-number t e a x.held_is in
     record {
@@ -73,10 +74,6 @@ turn-begun o s t r h place x =
       sends_no = refl;
       shows = refl;
     }
-  where
-    not_true : (b : Bool) → not b ≡ true → b ≡ false
-    not_true true h = absurd (false≢true h)
-    not_true false h = refl
 
 -- the item of the turn
 pub turned-item : (o : Setting) (s : Core) (t : Trace) (r : Request) (h : Agrees o s t) → at_place s.window 0 ≡ Some (Some r) → (x : Next s.window t r)

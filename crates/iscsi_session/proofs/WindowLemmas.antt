@@ -14,6 +14,7 @@ use Rattle.iscsi_wire.specs.Fields.{cmd_sn}
 use Rattle.iscsi_window.specs.declared.answer.Offer.TheVariants.{Held, Duplicate as Known}
 use Rattle.iscsi_window.specs.declared.answer.Place.TheVariants.{Inside, Outside as NoPlace}
 use Rattle.iscsi_window.specs.Windows.{Received, number_expected, room_of, at_place, advanced, advanced_if, turned_by, offer_at, offer_to, received_at, offered_to, with_place}
+use Rattle.iscsi_session.proofs.BoolLemmas.{and_parts, and_both}
 
 -- ---- counts
 
@@ -38,18 +39,10 @@ count_set p (y ∷ ps) (suc k) x d lt before now =
     let rest : count_by p (set ps k x) ≡ count_by p ps + 1 = count_set p ps k x d (omega arith) before now in
     omega (arith, new, old, rest)
 
-both : (a b : Bool) → a ≡ true → b ≡ true → (a && b) ≡ true
-both true b h k = k
-both false b h k = absurd (false≢true h)
-
-parts : (a b : Bool) → (a && b) ≡ true → (a ≡ true) × (b ≡ true)
-parts true b h = (refl, h)
-parts false b h = absurd (false≢true h)
-
 pub all_set : {A : Type 0} (p : A → Bool) (ps : List A) (k : ℕ) (x : A) → list_all p ps ≡ true → p x ≡ true → list_all p (set ps k x) ≡ true
 all_set p [] k x all now = refl
-all_set p (y ∷ ps) zero x all now = both (p x) (list_all p ps) now (parts (p y) (list_all p ps) all).1
-all_set p (y ∷ ps) (suc k) x all now = let h = parts (p y) (list_all p ps) all in both (p y) (list_all p (set ps k x)) h.0 (all_set p ps k x h.1 now)
+all_set p (y ∷ ps) zero x all now = and_both (p x) (list_all p ps) now (and_parts (p y) (list_all p ps) all).1
+all_set p (y ∷ ps) (suc k) x all now = let h = and_parts (p y) (list_all p ps) all in and_both (p y) (list_all p (set ps k x)) h.0 (all_set p ps k x h.1 now)
 
 -- ---- a request that is held
 
@@ -121,7 +114,7 @@ count_shift p x (y ∷ ps) none found =
 all_shift : {A : Type 0} (p : Option A → Bool) (x : A) (ps : List (Option A)) → p None ≡ true → get_or ps 0 None ≡ Some x → list_all p ps ≡ true → (p (Some x) ≡ true) × (list_all p (drop 1 ps ++ None ∷ []) ≡ true)
 all_shift p x [] none found all = absurd cc
 all_shift p x (y ∷ ps) none found all =
-    let h = parts (p y) (list_all p ps) all in
+    let h = and_parts (p y) (list_all p ps) all in
     (ap p (sym found) ∙ h.0, list_all-append p ps (None ∷ []) ∙ ap (λ b. b && list_all p (None ∷ [])) h.1 ∙ ap (λ b. b && true) none)
 
 -- the window has turned a number, at which this was kept

@@ -13,6 +13,7 @@ use Rattle.iscsi_session.specs.Trace.{Arrival, Mark, Admits, Delivers, Trace, sh
 use Rattle.iscsi_session.specs.Execution.{exp_of}
 use Rattle.iscsi_session.specs.Executed.{delivers, request_at, executed_below}
 use Rattle.iscsi_session.specs.Standing.{place_of, is_regular_request, WindowAgrees}
+use Rattle.iscsi_session.proofs.BoolLemmas.{or_second, or_false}
 use Rattle.iscsi_session.proofs.Missing.{expected_is}
 use Rattle.iscsi_session.proofs.HeldLemmas.{admitted-cases, admitted-admits, held-admits, held-here, held-number, held-turned, request_at-turned, received_admitted}
 use Rattle.iscsi_session.proofs.DeliveryLemmas.{IsQuiet, same_range, received-quiet, place_of-quiet, executed_below-quiet, delivered-quiet, admitted-quiet, executed_below-more}
@@ -54,14 +55,6 @@ WindowAgrees-quiet o w t item q a = record {
 }
 
 -- ---- an admission
-
-or_false : (b : Bool) → (b || false) ≡ b
-or_false true = refl
-or_false false = refl
-
-or_second : (a b : Bool) → b ≡ true → (a || b) ≡ true
-or_second true b h = refl
-or_second false b h = h
 
 -- the numbers received after an admission
 received-admits : (t : Trace) (a : Arrival) (k : ℕ) → is_received ((Admits a ∷ []) ∷ t) k ≡ (is_received t k || (a.number == k))

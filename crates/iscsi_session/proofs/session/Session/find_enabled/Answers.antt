@@ -6,8 +6,8 @@ use Rattle.iscsi_session.specs.Standing.{Core}
 use Rattle.iscsi_session.specs.Settings.{is_known}
 use Rattle.std.proofs.lemmas.List.{get_or_default}
 use Rattle.iscsi_session.specs.Steps.{find_ticket, find_enabled, enabled_of}
+use Rattle.iscsi_session.proofs.BoolLemmas.{and_second}
 use Rattle.iscsi_session.proofs.ListLemmas.{find-passes}
-use Rattle.iscsi_session.proofs.TraceLemmas.{and_second}
 use Rattle.iscsi_session.proofs.session.Session.find_enabled.Goals as goal
 
 pub index-requires : goal.index-requires
