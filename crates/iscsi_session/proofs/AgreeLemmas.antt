@@ -1,9 +1,7 @@
 -- A session that agrees with what has happened agrees after one item more.
-use Rattle.std.proofs.Common.{◌≡◌, ℕ, suc, ◌+◌, ◌-◌, ◌<◌, ◌≤◌, ◌&&◌, not, cond, Bool, true, false, List, [], ◌∷◌, ◌++◌, length, nat_lt, refl, ap, sym, ◌∙◌, arith, count_by}
+use Rattle.std.proofs.Common.{◌≡◌, ℕ, ◌+◌, ◌-◌, ◌<◌, ◌≤◌, not, true, false, List, [], ◌∷◌, ◌++◌, length, nat_lt, refl, ap, sym, ◌∙◌, arith, count_by}
 use Rattle.std.specs.List.{list_all}
-use Rattle.std.proofs.lemmas.Bool.{false≢true}
 use Rattle.std.proofs.lemmas.Bool.Decides.{nat_tests}
-use Rattle.std.proofs.lemmas.List.Sums.{sum_by-cons}
 use Rattle.iscsi_wire.specs.Serial.{wire}
 use Rattle.iscsi_wire.specs.Fields.{connection_of, is_immediate}
 use Rattle.iscsi_window.specs.Windows.{number_expected, room_of}
@@ -19,7 +17,6 @@ use Rattle.iscsi_session.specs.Standing.{Core, is_regular, is_regular_request, A
 use Rattle.iscsi_session.specs.Steps.{numbers_by}
 use Rattle.iscsi_session.proofs.BoolLemmas.{and_parts}
 use Rattle.iscsi_session.proofs.ListLemmas.{list_all-filter}
-use Rattle.iscsi_session.proofs.TraceLemmas.{weaker}
 use Rattle.iscsi_session.proofs.DeliveryLemmas.{quiet-ignored}
 use Rattle.iscsi_session.proofs.WindowParts.{next_expected, WindowAgrees-quiet, with_held, WindowAgrees-admitted}
 use Rattle.iscsi_session.proofs.ReplyParts.{RepliesAgree-quiet}

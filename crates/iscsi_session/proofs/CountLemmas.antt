@@ -14,7 +14,7 @@ use Rattle.iscsi_session.specs.Settings.{is_known}
 use Rattle.iscsi_session.specs.Standing.{are_known, are_ascending}
 use Rattle.iscsi_session.specs.Steps.{count_reply, find_ticket, without_ticket, is_immediate_on, immediate_in, counted_on, AreCounted, is_numbered}
 use Rattle.iscsi_session.proofs.BoolLemmas.{and_first, and_second}
-use Rattle.iscsi_session.proofs.ListLemmas.{IsSome-position, list_all-filter, list_all-same, count_by-push, cids-count_reply, is_known-cids}
+use Rattle.iscsi_session.proofs.ListLemmas.{IsSome-position, count_by-push, cids-count_reply, is_known-cids}
 
 -- ---- a count at its place
 

@@ -1,9 +1,9 @@
 -- A request executes.
-use Rattle.std.proofs.Common.{◌≡◌, ℕ, pos, ◌-ℤ◌, ◌+◌, ◌-◌, ◌<◌, ◌≤◌, ◌==◌, ◌&&◌, ◌||◌, not, cond, Bool, true, false, nat_lt, nat_le, List, [], ◌∷◌, ◌++◌, length, map, filter, count_by, get_or, Option, Some, None, option_map, is_some, refl, ap, sym, subst, ◌∙◌, arith, append_assoc}
+use Rattle.std.proofs.Common.{◌≡◌, ℕ, pos, ◌-ℤ◌, ◌+◌, ◌<◌, ◌==◌, ◌&&◌, ◌||◌, not, cond, Bool, true, false, nat_lt, nat_le, List, [], ◌∷◌, ◌++◌, length, map, filter, count_by, get_or, Option, Some, None, option_map, refl, ap, sym, subst, ◌∙◌, arith}
 use Rattle.std.specs.List.{list_any, filter_map, cons_option}
 use Rattle.std.proofs.lemmas.Bool.{false≢true}
 use Rattle.std.proofs.lemmas.Bool.Decides.{nat_tests}
-use Rattle.std.proofs.lemmas.List.{append-nil, length-map, length_push}
+use Rattle.std.proofs.lemmas.List.{append-nil, length-map}
 use Rattle.iscsi_wire.specs.declared.request.Request.{Request}
 use Rattle.iscsi_wire.specs.declared.reply.Reply.{Reply}
 use Rattle.iscsi_wire.specs.declared.reply.Reply.TheVariants.{Scsi, Nop, Reject}
@@ -21,7 +21,7 @@ use Rattle.iscsi_session.specs.Settings.{Setting, is_known}
 use Rattle.iscsi_session.specs.Trace.{Arrival, Command, Mark, Enters, Sends, Trace, enters, leaves_ticket, sent_on, entered, live, live_in}
 use Rattle.iscsi_session.specs.Execution.{unfinished, unit_named, attr_of, scsi_to, scsi_verdict, nop_verdict, request_verdict, is_tag_live, is_crowded, is_full, place_named, verdict_of, next_command, marks_of, execution}
 use Rattle.iscsi_session.specs.Run.{effects_of_mark, effects_of_item, newly_enabled, stat_sn_of}
-use Rattle.iscsi_session.specs.Standing.{Core, kept, is_regular, task_of, member_of, stat_sn_on, WindowAgrees, RepliesAgree, CommandsAgree, SetsAgree, Agrees}
+use Rattle.iscsi_session.specs.Standing.{Core, kept, is_regular, task_of, member_of, WindowAgrees, RepliesAgree, CommandsAgree, SetsAgree, Agrees}
 use Rattle.iscsi_session.specs.Enabling.{EnabledSoFar}
 use Rattle.iscsi_session.specs.Steps.{new_live, new_task, number_by, event_by, started, is_tag_kept, is_immediate_on, is_crowded_by, is_set_full, place_in, verdict_by, executed_as, execution_effects, with_executed}
 use Rattle.iscsi_session.proofs.ListLemmas.{list_any-map, count_by-map, count_by-push}

@@ -1,39 +1,27 @@
 -- A turn: the request of the next number executes.
-use Rattle.std.proofs.Common.{◌≡◌, ℕ, pos, ◌+◌, ◌-◌, ◌<◌, ◌≤◌, ◌==◌, ◌&&◌, ◌||◌, not, cond, Bool, true, false, nat_lt, nat_le, List, [], ◌∷◌, ◌++◌, length, map, get_or, Option, Some, None, option_map, is_some, refl, ap, sym, subst, ◌∙◌, arith, append_assoc}
-use Rattle.std.specs.List.{list_any}
-use Rattle.std.proofs.lemmas.Bool.{false≢true}
+use Rattle.std.proofs.Common.{◌≡◌, ℕ, ◌+◌, ◌-◌, ◌<◌, ◌≤◌, ◌==◌, not, cond, Bool, true, false, List, [], ◌∷◌, ◌++◌, length, Option, Some, None, is_some, refl, ap, sym, subst, ◌∙◌, arith, append_assoc}
 use Rattle.std.proofs.lemmas.Bool.Decides.{nat_tests}
-use Rattle.std.proofs.lemmas.List.{append-nil, length-map, length_push}
+use Rattle.std.proofs.lemmas.List.{append-nil}
 use Rattle.iscsi_wire.specs.declared.request.Request.{Request}
-use Rattle.iscsi_wire.specs.declared.reply.Reply.{Reply}
 use Rattle.iscsi_wire.specs.Serial.{lift, number_of_first}
 use Rattle.iscsi_wire.specs.Fields.{connection_of, is_immediate, cmd_sn}
 use Rattle.iscsi_window.specs.Windows.{number_expected, at_place, advanced_if, with_unfinished}
-use Rattle.iscsi_tasks.specs.declared.task.Task.{Task}
-use Rattle.iscsi_tasks.specs.Sets.{Members, opened}
 use Rattle.iscsi_session.specs.declared.effect.Effect.{Effect}
-use Rattle.iscsi_session.specs.declared.effect.Effect.TheVariants.{Deliver, Enter, Send}
-use Rattle.iscsi_session.specs.declared.session.live.Live.{Live}
+use Rattle.iscsi_session.specs.declared.effect.Effect.TheVariants.{Deliver}
 use Rattle.iscsi_session.specs.declared.verdict.Verdict.{Verdict}
 use Rattle.iscsi_session.specs.declared.verdict.Verdict.TheVariants.{Nothing, Answer, Enter as EnterUnit}
 use Rattle.iscsi_session.specs.Settings.{Setting, is_known}
-use Rattle.iscsi_session.specs.Trace.{Arrival, Command, Mark, Delivers, Enters, Sends, Trace, after_items, received, held, entered, live, live_in, least_missing}
-use Rattle.iscsi_session.specs.Execution.{exp_of, unit_named, attr_of, scsi_to, scsi_verdict, is_tag_live, is_full, place_named, verdict_of, next_command, marks_of, item_of}
+use Rattle.iscsi_session.specs.Trace.{Arrival, Mark, Delivers, Trace, after_items, received, held, least_missing}
+use Rattle.iscsi_session.specs.Execution.{exp_of, verdict_of, marks_of, item_of}
 use Rattle.iscsi_session.specs.Agenda.{due, turn, turns}
-use Rattle.iscsi_session.specs.Run.{effects_of_item, effects_of, stat_sn_of}
-use Rattle.iscsi_session.specs.Standing.{Core, kept, is_regular, is_regular_request, task_of, member_of, set_of, stat_sn_on, Agrees, Settled}
-use Rattle.iscsi_session.specs.Steps.{new_live, new_task, is_tag_kept, is_set_full, place_in, verdict_by, executed_as, execution_effects, with_executed, turned_if, turn_effects}
+use Rattle.iscsi_session.specs.Run.{effects_of_item, effects_of}
+use Rattle.iscsi_session.specs.Standing.{Core, Agrees, Settled}
+use Rattle.iscsi_session.specs.Steps.{verdict_by, executed_as, execution_effects, with_executed, turned_if, turn_effects}
 use Rattle.iscsi_session.proofs.BoolLemmas.{and_parts, not_true}
 use Rattle.iscsi_session.proofs.Missing.{expected_past}
-use Rattle.iscsi_session.proofs.ListLemmas.{list_any-map}
 use Rattle.iscsi_session.proofs.HeldLemmas.{held-number, held-turned, due-more, due-none, admitted_of_held}
 use Rattle.iscsi_session.proofs.DeliveryLemmas.{IsQuiet}
-use Rattle.iscsi_session.proofs.WindowParts.{Next, next_request, no_empty_place, turned_window, Turned, WindowAgrees-turned, WindowAgrees-started}
-use Rattle.iscsi_session.proofs.ReplyParts.{RepliesAgree-quiet, RepliesAgree-sent}
-use Rattle.iscsi_session.proofs.EnabledLemmas.{enables, never_free}
-use Rattle.iscsi_session.proofs.EnablingLemmas.{EnabledSoFar-untouched, EnabledSoFar-entered}
-use Rattle.iscsi_session.proofs.CommandParts.{Untouched, live-untouched, CommandsAgree-untouched, EntersOne, live-entered, CommandsAgree-entered}
-use Rattle.iscsi_session.proofs.SetParts.{SetsAgree-untouched, newly-untouched, SetEntry, SetsAgree-entered}
+use Rattle.iscsi_session.proofs.WindowParts.{Next, next_request, no_empty_place, turned_window, WindowAgrees-turned}
 use Rattle.iscsi_session.proofs.ExecutionLemmas.{quiet-marks, Begun, executed-item}
 use Rattle.iscsi_session.proofs.AgreeLemmas.{settled_expected}
 

@@ -12,8 +12,8 @@ ghost use Rattle.iscsi_session.specs.Standing.{Agrees, Settled, is_held};
 ghost use Rattle.iscsi_session.specs.Steps.{turned_if, turn_effects, KeepsPace, with_offered, counted};
 
 use crate::effect::{Effect, Why};
-use crate::session::Session;
 use crate::kind::{Kind, kind_of};
+use crate::session::Session;
 use iscsi_window::{Offer, Turned};
 use iscsi_wire::Request;
 

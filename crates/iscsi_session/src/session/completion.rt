@@ -6,10 +6,8 @@ ghost use Rattle.iscsi_session.specs.Execution.{sense_of_status};
 ghost use Rattle.iscsi_session.specs.Steps.{find_enabled, after_completion, completion_effects, counted_on, finished};
 
 use crate::effect::{Effect, Why};
-use crate::session::Session;
-use crate::session::immediate;
 use crate::session::live::{Live, find, remove};
-use crate::session::sets;
+use crate::session::{Session, immediate, sets};
 use iscsi_window::Window;
 use iscsi_wire::{Reply, Sense};
 
@@ -36,12 +34,7 @@ impl Session {
             return;
         };
         let stat_sn = self.next_stat_sn(command.conn);
-        finish(
-            &mut self.window,
-            &mut self.immediate,
-            &self.conns,
-            &command,
-        );
+        finish(&mut self.window, &mut self.immediate, &self.conns, &command);
         remove(&mut self.live, command.ticket);
         out.push_reserved(Effect::Leave {
             ticket: command.ticket,

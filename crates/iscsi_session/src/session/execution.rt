@@ -11,11 +11,9 @@ ghost use Rattle.iscsi_session.specs.Steps.{set_at, is_set_full, is_tag_kept, is
 
 use crate::effect::Effect;
 use crate::kind::{NOP_OUT, TEXT};
-use crate::session::Session;
-use crate::session::immediate;
 use crate::session::live::Live;
-use crate::session::sets;
 use crate::session::tags::{is_tag_live, take_up};
+use crate::session::{Session, immediate, sets};
 use crate::verdict::Verdict;
 use iscsi_tasks::{Attr, Task};
 use iscsi_window::Window;

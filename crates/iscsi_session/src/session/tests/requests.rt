@@ -92,7 +92,10 @@ fn other_opcodes_are_rejected_or_passed_over(rt: HostRuntime) -> Result<(), Fail
     for (first, stat_sn) in [(0x03, 2), (0x43, 3)] {
         let unknown = header_of(first, 2, 0xb3);
         let effects = arrive(alloc, &mut session, 1, unknown)?;
-        assert_eq!(rt; effects.as_slice(), [reject(1, stat_sn, 0x05, unknown)].as_slice());
+        assert_eq!(rt;
+            effects.as_slice(),
+            [reject(1, stat_sn, 0x05, unknown)].as_slice()
+        );
     }
     let data = [Effect::Ignore { why: Why::Data }];
     for first in [0x05, 0x10, 0x45, 0x50] {
@@ -114,7 +117,10 @@ fn eight_immediate_commands_of_a_connection_may_live(rt: HostRuntime) -> Result<
     for tag in 1..=8 {
         let header = header_of(IMMEDIATE | 1, 1, tag);
         let effects = arrive(alloc, &mut session, 1, header)?;
-        assert_eq!(rt; effects.as_slice(), entered(1, header, u64::from(tag)).as_slice());
+        assert_eq!(rt;
+            effects.as_slice(),
+            entered(1, header, u64::from(tag)).as_slice()
+        );
     }
     // the other connection has eight of its own, and fills the set with one
     let other = header_of(IMMEDIATE | 1, 1, 0xb1);
@@ -133,11 +139,20 @@ fn eight_immediate_commands_of_a_connection_may_live(rt: HostRuntime) -> Result<
         status: 0x28,
         sense: None,
     };
-    assert_eq!(rt; effects.as_slice(), [immediate(2, full), send(2, 1, reply)].as_slice());
+    assert_eq!(rt;
+        effects.as_slice(),
+        [immediate(2, full), send(2, 1, reply)].as_slice()
+    );
 
     // a completion gives the place back
     let mut out = Vec::new(alloc);
-    session.step(&Event::Done { ticket: 3, status: 0 }, &mut out)?;
+    session.step(
+        &Event::Done {
+            ticket: 3,
+            status: 0,
+        },
+        &mut out,
+    )?;
     let effects = arrive(alloc, &mut session, 1, ninth)?;
     assert_eq!(rt; effects.as_slice(), entered(1, ninth, 10).as_slice());
     Ok(())
@@ -159,7 +174,13 @@ fn an_immediate_command_takes_no_number_and_no_place(rt: HostRuntime) -> Result<
     assert_eq!(rt; numbers, Numbers { exp: 2, max: 1 });
     assert_eq!(rt; out.as_slice(), turn(1, 1, 0xa1, 2).as_slice());
     // its completion opens nothing
-    let numbers = session.step(&Event::Done { ticket: 1, status: 0 }, &mut out)?;
+    let numbers = session.step(
+        &Event::Done {
+            ticket: 1,
+            status: 0,
+        },
+        &mut out,
+    )?;
     assert_eq!(rt; numbers, Numbers { exp: 2, max: 1 });
     Ok(())
 }

@@ -1,10 +1,9 @@
 use Rattle.std.proofs.Common.{◌≡◌, ◌∙◌, ◌++◌, ap, sym, subst, List, true}
 use Rattle.iscsi_wire.specs.Fields.{connection_of}
 use Rattle.iscsi_session.specs.declared.effect.Effect.{Effect}
-use Rattle.iscsi_session.specs.declared.kind.Kind.TheVariants.{PassedOver, Unknown, Executes}
-use Rattle.iscsi_session.specs.Settings.{Setting, is_known}
-use Rattle.iscsi_session.specs.Trace.{Mark, Trace, after_items}
-use Rattle.iscsi_session.specs.Agenda.{kind_of, arrival, arrival_of}
+use Rattle.iscsi_session.specs.Settings.{is_known}
+use Rattle.iscsi_session.specs.Trace.{Mark, after_items}
+use Rattle.iscsi_session.specs.Agenda.{arrival, arrival_of}
 use Rattle.iscsi_session.specs.Run.{effects_of}
 use Rattle.iscsi_session.specs.Standing.{Core, Settled}
 use Rattle.iscsi_session.specs.Steps.{KeepsPace}

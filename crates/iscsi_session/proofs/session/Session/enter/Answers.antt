@@ -1,4 +1,4 @@
-use Rattle.std.proofs.Common.{rules, w64, of_z, to_z, Some, nat_eq, refl, pos, ◌-ℤ◌, ◌≡◌, ◌==◌, ◌∙◌, ◌<◌, ◌≤◌, ◌&&◌, not, cond, ap, sym, subst, Bool, true, false, arith, length, count_by, is_some, ◌+◌, ◌-◌, ◌*◌, ℕ, ℤ, List, [], ◌∷◌, get_or, set, take, drop, ◌++◌, length-set, append_assoc}
+use Rattle.std.proofs.Common.{rules, w64, of_z, to_z, Some, nat_eq, refl, pos, ◌-ℤ◌, ◌≡◌, ◌==◌, ◌∙◌, ◌<◌, ◌≤◌, ◌&&◌, not, cond, ap, sym, subst, Bool, true, false, arith, length, count_by, is_some, ◌+◌, ◌*◌, ℕ, ℤ, List, [], ◌∷◌, get_or, set, take, drop, ◌++◌, length-set, append_assoc}
 use Rattle.std.specs.List.{list_all}
 use Rattle.std.specs.HashMap.{get}
 use Rattle.std.proofs.lemmas.Int.{to_z-of_z}

@@ -2,7 +2,7 @@ use Rattle.std.proofs.Common.{◌≡◌, ◌<◌, ◌&&◌, ◌∙◌, false, ap
 use Rattle.std.proofs.lemmas.Bool.Decides.{nat_tests}
 use Rattle.iscsi_wire.specs.Fields.{connection_of, itt}
 use Rattle.iscsi_session.specs.Steps.{is_tag_kept, is_crowded_by, immediate_in, place_in}
-use Rattle.iscsi_session.proofs.ExecutionLemmas.{Entering, entering_by, placed}
+use Rattle.iscsi_session.proofs.ExecutionLemmas.{entering_by, placed}
 use Rattle.iscsi_session.proofs.session.Session.execute.Goals as goal
 
 pub enter-requires-clause-few : goal.enter-requires-clause-few
