@@ -13,7 +13,7 @@ use Rattle.iscsi_window.specs.declared.answer.Offer.{Offer}
 use Rattle.iscsi_window.specs.declared.answer.Offer.TheVariants.{Held, Outside as OutsideWindow, Duplicate as Known}
 use Rattle.iscsi_window.specs.declared.answer.Place.TheVariants.{Inside, Outside as NoPlace}
 use Rattle.iscsi_tasks.specs.declared.member.Member.{Member}
-use Rattle.iscsi_tasks.specs.Sets.{is_enabled_in}
+use Rattle.iscsi_tasks.specs.Sets.{Members, is_enabled_in}
 use Rattle.iscsi_window.specs.Windows.{Received, with_unfinished, number_expected, room_of, at_place, place_at, offer_at, offer_to, received_at, offered_to, with_place}
 use Rattle.iscsi_session.specs.declared.effect.Effect.{Effect}
 use Rattle.iscsi_session.specs.declared.effect.Effect.TheVariants.{Leave, Send, Ignore}
@@ -28,20 +28,20 @@ use Rattle.iscsi_session.specs.Execution.{exp_of, max_of, unfinished, ignored, c
 use Rattle.iscsi_session.specs.Agenda.{due, turns, with_turns, numbered, arrival_of, command_of, items_of}
 use Rattle.iscsi_session.specs.Run.{stat_sn_of, newly_enabled, effects_of, trace_of}
 use Rattle.iscsi_session.specs.Refusals.{belongs, refusal_of}
-use Rattle.iscsi_session.specs.Standing.{Core, place_of, kept, is_regular, is_regular_request, member_of, WindowAgrees, Agrees, Settled, StandsFor}
-use Rattle.iscsi_session.specs.Steps.{set_at, set_left, enable_effects, finished, with_offered, comes_on, refusal_by, find_ticket, enabled_of, find_enabled, without_command, leave_effects, after_completion, completion_effects, counted}
+use Rattle.iscsi_session.specs.Standing.{Core, CommandsAgree, place_of, kept, is_regular, is_regular_request, member_of, WindowAgrees, Agrees, Settled, StandsFor}
+use Rattle.iscsi_session.specs.Steps.{set_at, set_left, enable_effects, finished, with_offered, comes_on, refusal_by, find_ticket, without_ticket, enabled_of, find_enabled, without_command, leave_effects, after_completion, completion_effects, counted}
 use Rattle.iscsi_session.proofs.BoolLemmas.{and_parts, and_both, or_false}
 use Rattle.iscsi_session.proofs.ListLemmas.{list_any-map, is_known-cids}
-use Rattle.iscsi_session.proofs.ApartLemmas.{count-without}
+use Rattle.iscsi_session.proofs.ApartLemmas.{eq_sym, count-without, one_unit}
 use Rattle.iscsi_session.proofs.TraceLemmas.{all_among}
 use Rattle.iscsi_session.proofs.DeliveryLemmas.{IsQuiet}
 use Rattle.iscsi_session.proofs.WindowParts.{WindowAgrees-quiet, WindowAgrees-finished}
 use Rattle.iscsi_session.proofs.ReplyParts.{RepliesAgree-sent}
 use Rattle.iscsi_session.proofs.EnabledLemmas.{enables}
-use Rattle.iscsi_session.proofs.CommandParts.{LeavesOne, live-left, CommandsAgree-left, find_kept, first_passing, none_passing}
+use Rattle.iscsi_session.proofs.CommandParts.{LeavesSome, live-left, CommandsAgree-left, live_early, find_kept, first_passing, none_passing}
 use Rattle.iscsi_session.proofs.EnablingLemmas.{EnabledSoFar-left}
-use Rattle.iscsi_session.proofs.SetParts.{SetLeaving, SetsAgree-left, newly-untouched}
-use Rattle.iscsi_session.proofs.AgreeLemmas.{Regular, regular_parts, regular_live, settled_expected, settled_max, Stepped, Stepped-ignored, untouched-admits, Agrees-admitted}
+use Rattle.iscsi_session.proofs.SetParts.{SetLeaving, SetsAgree-left, left_by-one, newly-untouched}
+use Rattle.iscsi_session.proofs.AgreeLemmas.{Regular, regular_parts, regular_live, units_live, settled_expected, settled_max, Stepped, Stepped-ignored, untouched-admits, Agrees-admitted}
 
 -- ---- a completion
 
@@ -106,21 +106,24 @@ Stepped-completed o s t c ticket status h found =
     let reply : Reply = Scsi (itt c.arrival.request) status (sense_of_status status) in
     let item : List Mark = completion_item c status in
     let is_ticket : c.ticket ≡ ticket = eqb-true c.ticket ticket (first_itself (λ d. d.ticket == ticket) (live t) c found) in
-    let l : LeavesOne item c = record { enters_none = refl; one = λ k. or_false (c.ticket == k) } in
+    let out : ℕ → Bool = λ k. k == c.ticket in
+    let l : LeavesSome item out = record { enters_none = refl; some = λ k. or_false (c.ticket == k) ∙ eq_sym c.ticket k } in
     let among : is_among c.ticket (live t) ≡ true = first_passes (λ d. d.ticket == ticket) (λ d. is_among d.ticket (live t)) (live t) c (all_among (live t)) found in
     let found_here : first_of (filter (λ d. d.ticket == c.ticket) (live t)) ≡ Some c = ap (λ k. first_of (filter (λ (d : Command). d.ticket == k) (live t))) is_ticket ∙ found in
     let among_in : is_among c.ticket (live_in c.unit t) ≡ true = sym (among_unit c.ticket (live_in c.unit t)) ∙ (first_passing (λ d. true) c.ticket (live t) c a.commands.apart found_here).1 in
-    let set : SetLeaving o s.sets t item c = SetsAgree-left o s.live s.entered s.sets t item (λ d. d.ticket == c.ticket) c a.commands a.sets l r.unit among_in (λ d is. is) found_here in
+    let left_is = left_by-one o s.sets t c.unit c.ticket a.sets r.unit among_in in
+    let set : SetLeaving o s.sets t item c.unit (set_left s (kept c)) = SetsAgree-left o s.sets t item out c.unit (set_left s (kept c)) a.sets l (one_unit c.ticket (live t) c a.commands.apart found_here) r.unit (ap (λ (m : Members). m.depth) left_is) (ap (λ (m : Members). m.list) left_is) in
+    let commands : CommandsAgree o (without_ticket c.ticket s.live) s.entered (item ∷ t) = CommandsAgree-left o s.live s.entered t item out a.commands l (live_early o s.live s.entered t c.ticket a.commands among) in
     record {
       settled = record {
         agrees = record {
           events = a.events;
           window = WindowAgrees-quiet o (finished s.window (kept c)) t item (quiet-completion c status) (window-finished o s.window t c a.window);
           replies = RepliesAgree-sent o s.conns t item conn refl r.known a.replies;
-          commands = CommandsAgree-left o s.live s.entered t item c a.commands l among;
+          commands = commands;
           sets = set.agrees;
-          unfinished = unfinished-left s.window (unfinished (item ∷ t)) c (a.unfinished ∙ sym (count-without (λ (d : Command). not (is_immediate d.arrival.request)) c.ticket (live t) c a.commands.apart found_here) ∙ ap (λ (cs : List Command). count_by (λ (d : Command). not (is_immediate d.arrival.request)) cs + cond (not (is_immediate c.arrival.request)) 1 0) (sym (live-left item t c l)));
-          enabled = EnabledSoFar-left o s.live s.entered item t (λ d. d.ticket == c.ticket) c a.commands l r.unit (λ d is. is) found_here a.enabled;
+          unfinished = unfinished-left s.window (unfinished (item ∷ t)) c (a.unfinished ∙ sym (count-without (λ (d : Command). not (is_immediate d.arrival.request)) c.ticket (live t) c a.commands.apart found_here) ∙ ap (λ (cs : List Command). count_by (λ (d : Command). not (is_immediate d.arrival.request)) cs + cond (not (is_immediate c.arrival.request)) 1 0) (sym (live-left item t out l)));
+          enabled = EnabledSoFar-left o item t out l (units_live o (without_ticket c.ticket s.live) s.entered (item ∷ t) commands) a.enabled;
         };
         none_due = finished_place s.window c ∙ h.none_due;
       };

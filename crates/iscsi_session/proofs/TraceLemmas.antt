@@ -53,13 +53,13 @@ live-enters item t c one quiet unleft =
     ∙ ap (λ b. live t ++ cond (not (b || has (leaves_ticket c.ticket) t)) (c ∷ []) []) (quiet c.ticket)
     ∙ ap (λ b. live t ++ cond (not b) (c ∷ []) []) unleft
 
--- one command leaves
-pub live-leaves : (item : List Mark) (t : Trace) (c : Command) → filter_map enters item ≡ [] → ((k : ℕ) → list_any (leaves_ticket k) item ≡ (c.ticket == k)) → live (item ∷ t) ≡ filter (λ d. not (c.ticket == d.ticket)) (live t)
-live-leaves item t c none one =
+-- the commands with these tickets leave
+pub live-leaves : (item : List Mark) (t : Trace) (out : ℕ → Bool) → filter_map enters item ≡ [] → ((k : ℕ) → list_any (leaves_ticket k) item ≡ out k) → live (item ∷ t) ≡ filter (λ c. not (out c.ticket)) (live t)
+live-leaves item t out none some =
     live-item item t
-    ∙ ap (λ cs. filter (λ (d : Command). not (list_any (leaves_ticket d.ticket) item)) (live t) ++ filter (λ (d : Command). not (has (leaves_ticket d.ticket) (item ∷ t))) cs) none
-    ∙ append-nil (filter (λ (d : Command). not (list_any (leaves_ticket d.ticket) item)) (live t))
-    ∙ filter-same (λ (d : Command). not (list_any (leaves_ticket d.ticket) item)) (λ d. not (c.ticket == d.ticket)) (live t) (λ d. ap not (one d.ticket))
+    ∙ ap (λ cs. filter (λ (c : Command). not (list_any (leaves_ticket c.ticket) item)) (live t) ++ filter (λ (c : Command). not (has (leaves_ticket c.ticket) (item ∷ t))) cs) none
+    ∙ append-nil (filter (λ (c : Command). not (list_any (leaves_ticket c.ticket) item)) (live t))
+    ∙ filter-same (λ (c : Command). not (list_any (leaves_ticket c.ticket) item)) (λ c. not (out c.ticket)) (live t) (λ c. ap not (some c.ticket))
 
 -- ---- enabled commands
 
