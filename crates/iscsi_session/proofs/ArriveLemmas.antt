@@ -32,14 +32,14 @@ use Rattle.iscsi_session.proofs.EnablingLemmas.{EnabledSoFar-untouched}
 use Rattle.iscsi_session.proofs.AgreeLemmas.{settled_expected, unfinished-untouched, Stepped, Stepped-ignored}
 use Rattle.iscsi_session.proofs.ExecutionLemmas.{Begun, executed-item}
 use Rattle.iscsi_session.proofs.StepLemmas.{Offered}
-use Rattle.iscsi_session.proofs.TurnLemmas.{Due, Due-more, no_empty_due}
+use Rattle.iscsi_session.proofs.TurnLemmas.{Due, Due-more, Due-passed}
 
 -- ---- turns
 
 pub more_turns : (o : Setting) (s₀ : Core) (t₀ : Trace) (out₀ : List Effect) (s : Core) (out : List Effect) (p : Option (Option Request)) → at_place s.window 0 ≡ p → is_some p ≡ true → Due o s₀ t₀ out₀ s out
     → Due o s₀ t₀ out₀ (turned_if s (at_place s.window 0)) (out ++ turn_effects s (at_place s.window 0))
 more_turns o s₀ t₀ out₀ s out None here some d = absurd cc
-more_turns o s₀ t₀ out₀ s out (Some None) here some d = absurd (no_empty_due o s₀ t₀ out₀ s out d here)
+more_turns o s₀ t₀ out₀ s out (Some None) here some d = Due-passed o s₀ t₀ out₀ s out d here
 more_turns o s₀ t₀ out₀ s out (Some (Some r)) here some d = Due-more o s₀ t₀ out₀ s out r d here
 
 pub executed_places : (s : Core) (r : Request) → (with_executed s r).window.places ≡ s.window.places
@@ -122,7 +122,7 @@ rejected_opcode o s index t r h kind known =
     let reply : Reply = Reject 5 (header_of r) in
     let item : List Mark = rejected (arrival_of o index t r) in
     let u : Untouched item = record { enters_none = refl; leaves_no = λ k. refl } in
-    let q : IsQuiet item = record { receives = refl; admits = λ n. refl; delivers_none = refl; delivers_no = λ n. refl } in
+    let q : IsQuiet item = record { receives = refl; admits = λ n. refl; delivers_none = refl; delivers_no = λ n. refl; empties_no = λ n. refl } in
     subst (λ k. Stepped o (with_reply s conn) t (arrival_as o t (arrival_of o index t r) k) (reply_effects s conn reply)) (sym kind) (record {
       settled = record {
         agrees = record {
@@ -147,7 +147,7 @@ executed_at_once o s index t r h kind immediate known taken =
     let now = h.agrees in
     let begun : Begun o s t (Executes a) (Immediate r) a = record {
       events = now.events;
-      window = λ ms q. WindowAgrees-quiet o s.window t (Executes a ∷ ms) (record { receives = q.receives; admits = q.admits; delivers_none = q.delivers_none; delivers_no = q.delivers_no }) now.window;
+      window = λ ms q. WindowAgrees-quiet o s.window t (Executes a ∷ ms) (record { receives = q.receives; admits = q.admits; delivers_none = q.delivers_none; delivers_no = q.delivers_no; empties_no = q.empties_no }) now.window;
       room = λ is ms q. absurd (false≢true (sym is ∙ immediate));
       replies = now.replies;
       commands = now.commands;

@@ -139,9 +139,9 @@ verdict-untouched o t item r u =
 -- ---- an execution
 
 pub quiet-marks : (t : Trace) (a : Arrival) (v : Verdict) → IsQuiet (marks_of t a v)
-quiet-marks t a Nothing = record { receives = refl; admits = λ n. refl; delivers_none = refl; delivers_no = λ n. refl }
-quiet-marks t a (Answer reply) = record { receives = refl; admits = λ n. refl; delivers_none = refl; delivers_no = λ n. refl }
-quiet-marks t a (EnterUnit unit) = record { receives = refl; admits = λ n. refl; delivers_none = refl; delivers_no = λ n. refl }
+quiet-marks t a Nothing = record { receives = refl; admits = λ n. refl; delivers_none = refl; delivers_no = λ n. refl; empties_no = λ n. refl }
+quiet-marks t a (Answer reply) = record { receives = refl; admits = λ n. refl; delivers_none = refl; delivers_no = λ n. refl; empties_no = λ n. refl }
+quiet-marks t a (EnterUnit unit) = record { receives = refl; admits = λ n. refl; delivers_none = refl; delivers_no = λ n. refl; empties_no = λ n. refl }
 
 -- a request begins to execute. This is kept by then, and its item begins with this mark and this effect
 pub record Begun (o : Setting) (s : Core) (t : Trace) (m : Mark) (e : Effect) (a : Arrival) : Type 0 where

@@ -67,7 +67,7 @@ abbrev completion_item : Command → ℕ → List Mark
 completion_item c status = Leaves c ∷ reply_on c.arrival (Scsi (itt c.arrival.request) status (sense_of_status status))
 
 quiet-completion : (c : Command) (status : ℕ) → IsQuiet (completion_item c status)
-quiet-completion c status = record { receives = refl; admits = λ n. refl; delivers_none = refl; delivers_no = λ n. refl }
+quiet-completion c status = record { receives = refl; admits = λ n. refl; delivers_none = refl; delivers_no = λ n. refl; empties_no = λ n. refl }
 
 -- the command is among those of its unit
 among_unit : (k : ℕ) (cs : List Command) → list_any (λ (d : Command). d.ticket == k && true) cs ≡ is_among k cs

@@ -21,7 +21,7 @@ use Rattle.iscsi_session.proofs.BoolLemmas.{and_parts, not_true}
 use Rattle.iscsi_session.proofs.Missing.{expected_past}
 use Rattle.iscsi_session.proofs.HeldLemmas.{held-number, held-turned, due-more, due-none, admitted_of_held}
 use Rattle.iscsi_session.proofs.DeliveryLemmas.{IsQuiet}
-use Rattle.iscsi_session.proofs.WindowParts.{Next, next_request, no_empty_place, turned_window, WindowAgrees-turned}
+use Rattle.iscsi_session.proofs.WindowParts.{Next, next_request, Passed, passed_at, WindowAgrees-passed, turned_window, WindowAgrees-turned}
 use Rattle.iscsi_session.proofs.ExecutionLemmas.{quiet-marks, Begun, executed-item}
 use Rattle.iscsi_session.proofs.AgreeLemmas.{settled_expected}
 
@@ -147,5 +147,37 @@ Due-all o s₀ t₀ out₀ s out d none =
       sym (append-nil out) ∙ ap (λ items. out ++ effects_of o t items) (sym nothing) ∙ d.effects,
     )
 
-pub no_empty_due : (o : Setting) (s₀ : Core) (t₀ : Trace) (out₀ : List Effect) (s : Core) (out : List Effect) → Due o s₀ t₀ out₀ s out → at_place s.window 0 ≡ Some None → ⊥
-no_empty_due o s₀ t₀ out₀ s out d h = no_empty_place o s.window d.trace d.agrees.window h
+-- a number that nothing is held at is passed
+pub Due-passed : (o : Setting) (s₀ : Core) (t₀ : Trace) (out₀ : List Effect) (s : Core) (out : List Effect) → Due o s₀ t₀ out₀ s out → at_place s.window 0 ≡ Some None
+    → Due o s₀ t₀ out₀ (turned_if s (at_place s.window 0)) (out ++ turn_effects s (at_place s.window 0))
+Due-passed o s₀ t₀ out₀ s out d place =
+    let t : Trace = d.trace in
+    let e : ℕ = number_expected s.window in
+    let f : ℕ = exp_of o t₀ in
+    let a = d.agrees in
+    let p : Passed s.window t = passed_at o s.window t a.window place in
+    let past : e < f = subst (λ m. e < m) (same_exp o t t₀ d.same) (expected_past o.first e t (λ k l u. a.window.below k l u) p.received_is) in
+    let due_is : due t₀ e f ≡ due t₀ (e + 1) f = due-more t₀ e f past ∙ ap (λ y. list_at y ++ due t₀ (e + 1) f) (sym (d.later e (omega arith)) ∙ p.held_is) in
+    let next : number_expected (turned_core s).window ≡ e + 1 = omega arith in
+    let new : turned_if s (at_place s.window 0) ≡ turned_core s = ap (turned_if s) place ∙ ap (λ q. let c : Core = record s { window = advanced_if s.window q } in c) place in
+    let none : out ++ turn_effects s (at_place s.window 0) ≡ out = ap (λ q. out ++ turn_effects s q) place ∙ append-nil out in
+    subst (λ (v : Core). Due o s₀ t₀ out₀ v (out ++ turn_effects s (at_place s.window 0))) (sym new)
+    (subst (λ es. Due o s₀ t₀ out₀ (turned_core s) es) (sym none) (record {
+      trace = t;
+      agrees = record {
+        events = a.events;
+        window = WindowAgrees-passed o s.window t a.window place;
+        replies = a.replies;
+        commands = a.commands;
+        sets = a.sets;
+        unfinished = a.unfinished;
+        enabled = a.enabled;
+      };
+      same = d.same;
+      later = λ n high. d.later n (let far : e + 1 ≤ n = subst (λ m. m ≤ n) next high in let le : e ≤ n = omega arith in le);
+      effects = ap (λ m. out ++ effects_of o t (turns o (due t₀ m f) t)) next ∙ ap (λ as'. out ++ effects_of o t (turns o as' t)) (sym due_is) ∙ d.effects;
+      after = ap (λ m. after_items (turns o (due t₀ m f) t) t) next ∙ ap (λ as'. after_items (turns o as' t) t) (sym due_is) ∙ d.after;
+    }))
+  where
+    list_at : Option Arrival → List Arrival
+    list_at y = elim y [ Some b ↦ b ∷ [] | None ↦ [] ]

@@ -11,7 +11,7 @@ use Rattle.iscsi_tasks.specs.Sets.{Members, opened}
 use Rattle.iscsi_session.specs.declared.event.Event.{Event}
 use Rattle.iscsi_session.specs.declared.session.live.Live.{Live}
 use Rattle.iscsi_session.specs.Settings.{Setting, is_known}
-use Rattle.iscsi_session.specs.Trace.{Arrival, Command, Trace, has, shown, held, admitted, is_received, is_delivered, entered, live, live_in, was_free, is_among, leaves_ticket}
+use Rattle.iscsi_session.specs.Trace.{Arrival, Command, Trace, has, shown, held, admitted, is_received, is_delivered, is_emptied, entered, live, live_in, was_free, is_among, leaves_ticket}
 use Rattle.iscsi_session.specs.Execution.{exp_of, unfinished}
 use Rattle.iscsi_session.specs.Run.{trace_of, stat_sn_of}
 use Rattle.iscsi_session.specs.Executed.{executed_below, delivers}
@@ -119,6 +119,8 @@ pub record WindowAgrees (o : Setting) (w : Received) (t : Trace) : Type 0 where
   pub above : (n : ℕ) → number_expected w + length w.places ≤ n → is_received t n ≡ false
   -- those before the next had their turn
   pub undelivered : (n : ℕ) → number_expected w ≤ n → is_delivered t n ≡ false
+  -- what was taken out was received
+  pub unemptied : (n : ℕ) → is_received t n ≡ false → is_emptied t n ≡ false
   pub requests : (n : ℕ) (a : Arrival) → admitted t n ≡ Some a → is_regular_request o a.request ≡ true
   pub delivered : shown delivers t ≡ executed_below o t (number_expected w)
   -- a live numbered command takes a place at the window's end
