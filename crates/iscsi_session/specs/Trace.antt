@@ -29,6 +29,7 @@ pub data Mark : Type 0 where
   Executes : Arrival → Mark  -- an immediate request executes
   Voids : ℕ → Mark  -- a number is received without a request
   Empties : Arrival → Mark  -- a request that is held is taken out
+  Waits : Arrival → Mark  -- an immediate function waits for lower numbers
   Leaves : Command → Mark
   Enters : Command → Mark
   Sends : ℕ → Reply → Mark  -- a reply goes out on a connection
@@ -109,6 +110,20 @@ is_emptied t n = has (empties_number n) t
 -- the request that is held at n: admitted, and neither executed nor taken out since
 abbrev pub held : Trace → ℕ → Option Arrival
 held t n = if is_delivered t n || is_emptied t n then None else admitted t n
+
+-- ---- functions that wait
+
+abbrev pub waits : Mark → Option Arrival
+waits (Waits a) = Some a
+waits _ = None
+
+abbrev pub executes_event : ℕ → Mark → Bool
+executes_event event (Executes a) = a.event == event
+executes_event event _ = false
+
+-- the functions that wait still, in order of arrival. An event has one arrival
+abbrev pub waiting : Trace → List Arrival
+waiting t = filter (λ a. not (has (executes_event a.event) t)) (shown waits t)
 
 -- ---- commands (SAM-5 section 8)
 
