@@ -100,6 +100,7 @@ Stepped-ignored o s t why h =
           sets = SetsAgree-untouched o s.sets t item u a.sets;
           unfinished = a.unfinished ∙ sym (unfinished-untouched item t u);
           enabled = EnabledSoFar-untouched o item t u a.enabled;
+          none_waits = ap (λ as'. as' ++ []) a.none_waits;
         };
         none_due = h.none_due;
       };
@@ -124,4 +125,5 @@ Agrees-admitted o s t a h low high new regular =
       sets = SetsAgree-untouched o s.sets t item u h.sets;
       unfinished = h.unfinished ∙ sym (unfinished-untouched item t u);
       enabled = EnabledSoFar-untouched o item t u h.enabled;
+      none_waits = ap (λ as'. as' ++ []) h.none_waits;
     }

@@ -3,8 +3,7 @@ use Rattle.std.proofs.Common.{◌≡◌, ℕ, zero, suc, ◌+◌, ◌-◌, ◌<�
 use Rattle.std.specs.List.{list_any, filter_map, flat_map, range_with_len, cons_option}
 use Rattle.std.proofs.lemmas.Bool.{false≢true, eqb-true}
 use Rattle.std.proofs.lemmas.List.{append-nil}
-use Rattle.iscsi_session.specs.Trace.{Arrival, Mark, Admits, Delivers, Executes, Voids, Empties, Leaves, Enters, Sends, Ignores, Trace, shown, first_of, is_received, is_delivered, is_emptied, held, admitted, admits_at, contains, number_received, delivers_number}
-use Rattle.iscsi_session.specs.Agenda.{due}
+use Rattle.iscsi_session.specs.Trace.{Arrival, Mark, Admits, Delivers, Executes, Voids, Empties, Waits, Leaves, Enters, Sends, Ignores, Trace, shown, first_of, is_received, is_delivered, is_emptied, held, admitted, admits_at, contains, number_received, delivers_number}
 use Rattle.iscsi_session.specs.Executed.{request_at}
 use Rattle.iscsi_session.proofs.TraceLemmas.{unadmitted, received-item}
 use Rattle.iscsi_session.proofs.DeliveryLemmas.{IsQuiet}
@@ -25,6 +24,7 @@ mark_number n (Delivers b) a h = absurd cc
 mark_number n (Executes b) a h = absurd cc
 mark_number n (Voids k) a h = absurd cc
 mark_number n (Empties b) a h = absurd cc
+mark_number n (Waits b) a h = absurd cc
 mark_number n (Leaves c) a h = absurd cc
 mark_number n (Enters c) a h = absurd cc
 mark_number n (Sends conn reply) a h = absurd cc
@@ -96,18 +96,6 @@ request_at-turned t a ms n q =
     ap (λ b. cond (b || is_emptied t n) None (option_map (λ (b : Arrival). b.request) (admitted ((Delivers a ∷ ms) ∷ t) n))) (q.empties_no n)
     ∙ ap (λ xs. cond (is_emptied t n) None (option_map (λ (b : Arrival). b.request) (first_of (shown (admits_at n) t ++ xs)))) (q.admits n)
     ∙ ap (λ xs. cond (is_emptied t n) None (option_map (λ (b : Arrival). b.request) (first_of xs))) (append-nil (shown (admits_at n) t))
-
--- ---- what is due
-
-pub list_of : Option Arrival → List Arrival
-list_of x = elim x [ Some a ↦ a ∷ [] | None ↦ [] ]
-
-pub due-more : (t : Trace) (e e' : ℕ) → e < e' → due t e e' ≡ elim (held t e) [ Some a ↦ a ∷ [] | None ↦ [] ] ++ due t (e + 1) e'
-due-more t e e' lt =
-    ap (λ n. flat_map (λ k. elim (held t k) [ Some a ↦ a ∷ [] | None ↦ [] ]) (range_with_len e n)) (let c : e' - e ≡ suc (e' - (e + 1)) = omega arith in c)
-
-pub due-none : (t : Trace) (e : ℕ) → due t e e ≡ []
-due-none t e = ap (λ n. flat_map (λ k. elim (held t k) [ Some a ↦ a ∷ [] | None ↦ [] ]) (range_with_len e n)) (let c : e - e ≡ zero = omega arith in c)
 
 -- who is admitted after an admission
 pub admitted-cases : (t : Trace) (a : Arrival) (n : ℕ) (b : Arrival) → admitted ((Admits a ∷ []) ∷ t) n ≡ Some b → (admitted t n ≡ Some b) ⊎ (a ≡ b)

@@ -80,6 +80,7 @@ Settled-opened o s window events conns entered none sets =
         };
         unfinished = free;
         enabled = EnabledSoFar-none o;
+        none_waits = refl;
       };
       none_due = nothing 0;
     }

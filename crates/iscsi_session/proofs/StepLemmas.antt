@@ -8,7 +8,7 @@ use Rattle.iscsi_wire.specs.declared.request.Request.{Request}
 use Rattle.iscsi_wire.specs.declared.reply.Reply.{Reply}
 use Rattle.iscsi_wire.specs.declared.reply.Reply.TheVariants.{Scsi}
 use Rattle.iscsi_wire.specs.Serial.{lift}
-use Rattle.iscsi_wire.specs.Fields.{connection_of, is_immediate, itt, cmd_sn}
+use Rattle.iscsi_wire.specs.Fields.{connection_of, is_immediate, opcode, itt, cmd_sn}
 use Rattle.iscsi_window.specs.declared.answer.Offer.{Offer}
 use Rattle.iscsi_window.specs.declared.answer.Offer.TheVariants.{Held, Outside as OutsideWindow, Duplicate as Known}
 use Rattle.iscsi_window.specs.declared.answer.Place.TheVariants.{Inside, Outside as NoPlace}
@@ -25,7 +25,8 @@ use Rattle.iscsi_session.specs.declared.fault.SessionFault.TheVariants.{UnknownC
 use Rattle.iscsi_session.specs.Settings.{Setting, is_known}
 use Rattle.iscsi_session.specs.Trace.{Arrival, Command, Mark, Admits, Leaves, Trace, first_of, is_received, held, live, live_in, was_free, is_among}
 use Rattle.iscsi_session.specs.Execution.{exp_of, max_of, unfinished, ignored, completion, sense_of_status, reply_on}
-use Rattle.iscsi_session.specs.Agenda.{due, turns, with_turns, numbered, arrival_of, command_of, items_of}
+use Rattle.iscsi_session.specs.Agenda.{with_turns, numbered, arrival_of, command_of, items_of}
+use Rattle.iscsi_session.specs.Items.{agenda}
 use Rattle.iscsi_session.specs.Run.{stat_sn_of, newly_enabled, effects_of, trace_of}
 use Rattle.iscsi_session.specs.Refusals.{belongs, refusal_of}
 use Rattle.iscsi_session.specs.Standing.{Core, CommandsAgree, place_of, kept, is_regular, is_regular_request, member_of, WindowAgrees, Agrees, Settled, StandsFor}
@@ -124,6 +125,7 @@ Stepped-completed o s t c ticket status h found =
           sets = set.agrees;
           unfinished = unfinished-left s.window (unfinished (item ∷ t)) c (a.unfinished ∙ sym (count-without (λ (d : Command). not (is_immediate d.arrival.request)) c.ticket (live t) c a.commands.apart found_here) ∙ ap (λ (cs : List Command). count_by (λ (d : Command). not (is_immediate d.arrival.request)) cs + cond (not (is_immediate c.arrival.request)) 1 0) (sym (live-left item t out l)));
           enabled = EnabledSoFar-left o item t out l (units_live o (without_ticket c.ticket s.live) s.entered (item ∷ t) commands) a.enabled;
+          none_waits = ap (λ as'. as' ++ []) a.none_waits;
         };
         none_due = finished_place s.window c ∙ h.none_due;
       };
@@ -247,19 +249,19 @@ pub record Offered (o : Setting) (s : Core) (event : ℕ) (t : Trace) (r : Reque
   pub outside : offer_to s.window r ≡ OutsideWindow → Stepped o (with_offered s r) t (numbered o t (arrival_of o event t r)) (Ignore Outside ∷ [])
   pub known : offer_to s.window r ≡ Known → Stepped o (with_offered s r) t (numbered o t (arrival_of o event t r)) (Ignore Duplicate ∷ [])
   pub taken : offer_to s.window r ≡ Held → Agrees o (with_offered s r) ((Admits (arrival_of o event t r) ∷ []) ∷ t)
-      × ((numbered o t (arrival_of o event t r) ≡ (Admits (arrival_of o event t r) ∷ []) ∷ turns o (due ((Admits (arrival_of o event t r) ∷ []) ∷ t) (number_expected (with_offered s r).window) (exp_of o ((Admits (arrival_of o event t r) ∷ []) ∷ t))) ((Admits (arrival_of o event t r) ∷ []) ∷ t))
+      × ((numbered o t (arrival_of o event t r) ≡ (Admits (arrival_of o event t r) ∷ []) ∷ agenda o (number_expected (with_offered s r).window) (exp_of o ((Admits (arrival_of o event t r) ∷ []) ∷ t) - number_expected (with_offered s r).window) ((Admits (arrival_of o event t r) ∷ []) ∷ t))
       × ((rest : List (List Mark)) → effects_of o t ((Admits (arrival_of o event t r) ∷ []) ∷ rest) ≡ effects_of o ((Admits (arrival_of o event t r) ∷ []) ∷ t) rest))
 
 -- a numbered request that comes on one of the connections
-pub offered : (o : Setting) (s : Core) (event : ℕ) (t : Trace) (r : Request) → Settled o s t → is_immediate r ≡ false → is_known (connection_of r) o.conns ≡ true → Offered o s event t r
-offered o s event t r h not_immediate known =
+pub offered : (o : Setting) (s : Core) (event : ℕ) (t : Trace) (r : Request) → Settled o s t → is_immediate r ≡ false → (opcode r == 0x02) ≡ false → is_known (connection_of r) o.conns ≡ true → Offered o s event t r
+offered o s event t r h not_immediate no_function known =
     let a : Arrival = arrival_of o event t r in
     let t₁ : Trace = (Admits a ∷ []) ∷ t in
     let same_exp : exp_of o t ≡ number_expected s.window = settled_expected o s t h in
     let x = answered o s t a h (ap (λ e. lift e (cmd_sn r)) same_exp) in
     let cases : Bool → Bool → List (List Mark) = λ b c. cond b (ignored Outside) (cond c (ignored Duplicate) (with_turns o t (Admits a ∷ []))) in
     let items : numbered o t a ≡ cases (nat_lt a.number (exp_of o t) || nat_lt (max_of o t) a.number) (is_received t a.number) = refl in
-    let regular : is_regular_request o r ≡ true = and_both (not (is_immediate r)) (is_known (connection_of r) o.conns) (ap not not_immediate) known in
+    let regular : is_regular_request o r ≡ true = and_both (not (is_immediate r) && not (opcode r == 0x02)) (is_known (connection_of r) o.conns) (and_both (not (is_immediate r)) (not (opcode r == 0x02)) (ap not not_immediate) (ap not no_function)) known in
     record {
       outside = λ said.
           let f = x.outside said in
@@ -275,7 +277,7 @@ offered o s event t r h not_immediate known =
             subst (λ (w : Received). Agrees o (record s { window = w }) t₁) (sym f.0) (Agrees-admitted o s t a h.agrees f.1.1.1.0 f.1.1.1.1 f.1.1.0 regular),
             (
               items ∙ ap (λ b. cases b (is_received t a.number)) f.1.0 ∙ ap (cases false) f.1.1.0
-                  ∙ ap (λ e. (Admits a ∷ []) ∷ turns o (due t₁ e (exp_of o t₁)) t₁) start,
+                  ∙ ap (λ e. (Admits a ∷ []) ∷ agenda o e (exp_of o t₁ - e) t₁) start,
               λ rest. ap (λ cs. enables cs ++ effects_of o t₁ rest) (newly-untouched o t (Admits a ∷ []) (untouched-admits a)),
             ),
           );
@@ -285,7 +287,7 @@ offered o s event t r h not_immediate known =
 
 pub Settled-counted : (o : Setting) (s : Core) (t : Trace) → Settled o s t → Settled o (counted s) t
 Settled-counted o s t h = let a = h.agrees in record {
-  agrees = record { events = a.events; window = a.window; replies = a.replies; commands = a.commands; sets = a.sets; unfinished = a.unfinished; enabled = a.enabled };
+  agrees = record { events = a.events; window = a.window; replies = a.replies; commands = a.commands; sets = a.sets; unfinished = a.unfinished; enabled = a.enabled; none_waits = a.none_waits };
   none_due = h.none_due;
 }
 
