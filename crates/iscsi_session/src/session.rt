@@ -89,7 +89,7 @@ impl Session {
             events,
             conns,
         } = options;
-        let most_live = size as usize + 8 * conns.len();
+        let most_live = size as usize + usize::from(immediate::MOST) * conns.len();
         let (Ok(window), Ok(live), Some(tags), Some(immediate), Some(sets)) = (
             Window::open(alloc, first, size),
             VecDeque::with_capacity(alloc, most_live),

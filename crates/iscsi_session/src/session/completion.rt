@@ -7,12 +7,10 @@ ghost use Rattle.iscsi_session.specs.Steps.{find_enabled, after_completion, comp
 
 use crate::effect::{Effect, Why};
 use crate::session::live::{Live, find, remove};
+use crate::session::sets::CHECK_CONDITION;
 use crate::session::{Session, immediate, sets};
 use iscsi_window::Window;
 use iscsi_wire::{Reply, Sense};
-
-/// The status CHECK CONDITION.
-const CHECK_CONDITION: u8 = 0x02;
 
 /// HARDWARE ERROR, INTERNAL TARGET FAILURE.
 const INTERNAL_FAILURE: Sense = Sense {

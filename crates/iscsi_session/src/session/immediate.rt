@@ -9,7 +9,7 @@ use crate::session::execution::place_of;
 use std::alloc::Global;
 
 /// The most live immediate commands of a connection.
-const MOST: u8 = 8;
+pub(crate) const MOST: u8 = 8;
 
 /// Counts none for each of so many connections. None where memory is refused.
 pub(crate) fn open(alloc: Global, conns: usize) -> Option<Vec<u8>>

@@ -14,7 +14,7 @@ use iscsi_wire::{Reply, Request, Sense, unit_of};
 use std::alloc::Global;
 
 /// The status CHECK CONDITION.
-const CHECK_CONDITION: u8 = 0x02;
+pub(crate) const CHECK_CONDITION: u8 = 0x02;
 
 /// The status TASK SET FULL.
 const TASK_SET_FULL: u8 = 0x28;

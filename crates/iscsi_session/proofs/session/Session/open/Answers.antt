@@ -1,4 +1,4 @@
-use Rattle.std.proofs.Common.{rules, ℕ, ◌≡◌, ◌≤◌, ◌∙◌, ap, sym, subst, arith, length, count_by, is_some, replicate, None, refl, get_or, List}
+use Rattle.std.proofs.Common.{rules, ℕ, ◌*◌, ◌≡◌, ◌≤◌, ◌∙◌, ap, sym, subst, arith, length, count_by, is_some, replicate, None, refl, get_or, List}
 use Rattle.std.specs.List.{list_all}
 use Rattle.iscsi_window.specs.Windows.{Received}
 use Rattle.iscsi_tasks.specs.Sets.{Members, opened as opened_set}
@@ -24,7 +24,7 @@ invariant_of-result c =
       omega (arith, ap (count_by is_numbered) none, unfinished),
       omega (arith, unfinished),
       omega (arith, size, top),
-      omega (arith, size, c.in-Ok-Ok-Some-Some-Some.ensures'.capacity, c.len.ensures, c.args.options.conns.ok.0),
+      omega (arith, size, c.in-Ok-Ok-Some-Some-Some.ensures'.capacity, c.len.ensures, c.args.options.conns.ok.0, ap (λ n. n * c.len.result) c.from.ensures),
       sym (ap (count_by is_held) places ∙ none_counted is_held c.args.options.window refl),
       omega (arith, turned, counted),
       omega (arith, counted),
@@ -36,7 +36,7 @@ invariant_of-result c =
       ap are_ascending none,
       ap (are_within 0 (length c.in-Ok-Ok-Some-Some-Some.sets.items)) none,
       λ k d within. absurd (omega (arith, ap length none, within)),
-      omega (arith, size, c.in-Ok-Ok-Some-Some-Some.ensures'', c.len.ensures, c.args.options.conns.ok.0),
+      omega (arith, size, c.in-Ok-Ok-Some-Some-Some.ensures'', c.len.ensures, c.args.options.conns.ok.0, ap (λ n. n * c.len.result) c.from.ensures),
       subst (λ (counts : List ℕ). AreCounted counts c.args.options.conns.items c.in-Ok-Ok-Some-Some-Some.live.items) (sym c.in-Ok-Ok-Some-Some-Some.ensures''')
           (subst (λ (ls : List Live). AreCounted (replicate c.len-2.result 0) c.args.options.conns.items ls) (sym none) (AreCounted-opened c.len-2.result c.args.options.conns.items (c.len-2.ensures ∙ c.args.options.conns.ok.0))),
       search rules,
