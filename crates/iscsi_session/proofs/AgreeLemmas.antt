@@ -9,14 +9,16 @@ use Rattle.iscsi_session.specs.declared.effect.Effect.{Effect}
 use Rattle.iscsi_session.specs.declared.effect.Effect.TheVariants.{Ignore}
 use Rattle.iscsi_session.specs.declared.effect.Numbers.{Numbers}
 use Rattle.iscsi_session.specs.declared.effect.Why.{Why}
+use Rattle.iscsi_session.specs.declared.session.live.Live.{Live}
 use Rattle.iscsi_session.specs.Settings.{Setting, is_known}
 use Rattle.iscsi_session.specs.Trace.{Arrival, Command, Mark, Admits, Ignores, Trace, after_items, has, entered, leaves_ticket, live, is_received}
 use Rattle.iscsi_session.specs.Execution.{exp_of, max_of, unfinished, ignored}
 use Rattle.iscsi_session.specs.Run.{effects_of, numbers_of}
-use Rattle.iscsi_session.specs.Standing.{Core, is_regular, is_regular_request, Agrees, Settled}
+use Rattle.iscsi_session.specs.Standing.{Core, CommandsAgree, is_regular, is_regular_request, Agrees, Settled}
 use Rattle.iscsi_session.specs.Steps.{numbers_by}
 use Rattle.iscsi_session.proofs.BoolLemmas.{and_parts}
 use Rattle.iscsi_session.proofs.ListLemmas.{list_all-filter}
+use Rattle.iscsi_session.proofs.TraceLemmas.{weaker}
 use Rattle.iscsi_session.proofs.DeliveryLemmas.{quiet-ignored}
 use Rattle.iscsi_session.proofs.WindowParts.{next_expected, WindowAgrees-quiet, with_held, WindowAgrees-admitted}
 use Rattle.iscsi_session.proofs.ReplyParts.{RepliesAgree-quiet}
@@ -42,6 +44,12 @@ regular_parts o c h =
   where
     below : nat_lt c.unit o.units ≡ true → c.unit < o.units
     below test = let lt : c.unit < o.units = grind (arith, nat_tests) in lt
+
+-- each live command is in a unit of the session
+pub units_live : (o : Setting) (lives : List Live) (n : ℕ) (t : Trace) → CommandsAgree o lives n t → list_all (λ c. nat_lt c.unit o.units) (live t) ≡ true
+units_live o lives n t a =
+    weaker (is_regular o) (λ c. nat_lt c.unit o.units) (live t) (λ c h. (and_parts (nat_lt c.unit o.units) (is_known (connection_of c.arrival.request) o.conns) h).0)
+    (list_all-filter (λ (c : Command). not (has (leaves_ticket c.ticket) t)) (is_regular o) (entered t) a.regular)
 
 -- the live commands are regular
 pub regular_live : (o : Setting) (s : Core) (t : Trace) → Agrees o s t → list_all (is_regular o) (live t) ≡ true
@@ -92,6 +100,7 @@ Stepped-ignored o s t why h =
           sets = SetsAgree-untouched o s.sets t item u a.sets;
           unfinished = a.unfinished ∙ sym (unfinished-untouched item t u);
           enabled = EnabledSoFar-untouched o item t u a.enabled;
+          none_waits = ap (λ as'. as' ++ []) a.none_waits;
         };
         none_due = h.none_due;
       };
@@ -116,4 +125,5 @@ Agrees-admitted o s t a h low high new regular =
       sets = SetsAgree-untouched o s.sets t item u h.sets;
       unfinished = h.unfinished ∙ sym (unfinished-untouched item t u);
       enabled = EnabledSoFar-untouched o item t u h.enabled;
+      none_waits = ap (λ as'. as' ++ []) h.none_waits;
     }

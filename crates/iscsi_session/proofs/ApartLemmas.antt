@@ -1,7 +1,8 @@
 -- Commands with tickets of their own.
-use Rattle.std.proofs.Common.{◌≡◌, ℕ, suc, ◌+◌, ◌==◌, ◌||◌, not, ⊎_elim, cond, Bool, true, false, List, [], ◌∷◌, ◌++◌, length, filter, count_by, Some, refl, ap, sym, ◌∙◌, arith, eq-eqb}
+use Rattle.std.proofs.Common.{◌≡◌, ℕ, suc, ◌+◌, ◌==◌, ◌&&◌, ◌||◌, not, ⊎_elim, cond, Bool, true, false, List, [], ◌∷◌, ◌++◌, length, filter, count_by, Some, refl, ap, sym, ◌∙◌, arith, eq-eqb}
 use Rattle.std.proofs.lemmas.Bool.{cases_eq, false≢true, eqb-true}
 use Rattle.std.proofs.lemmas.Bool.Decides.{nat_tests}
+use Rattle.std.specs.List.{list_all}
 use Rattle.std.proofs.lemmas.List.Folds.{list_any-append}
 use Rattle.std.proofs.lemmas.List.Sums.{sum_by-cons}
 use Rattle.iscsi_session.specs.Trace.{Command, is_among, first_of}
@@ -41,42 +42,46 @@ apart-filter p (c ∷ cs) h =
       | false ↦ apart-filter p cs parts.1
     ]
 
-pub kept_all : (k : ℕ) (cs : List Command) → is_among k cs ≡ false → filter (λ d. not (k == d.ticket)) cs ≡ cs
+-- where no command has the ticket, nothing is taken out by it
+pub kept_all : (k : ℕ) (cs : List Command) → is_among k cs ≡ false → filter (λ d. not (d.ticket == k)) cs ≡ cs
 kept_all k [] h = refl
 kept_all k (c ∷ cs) h =
     let parts = or_none (c.ticket == k) (is_among k cs) h in
-    ap (λ b. cond (not b) (c ∷ filter (λ d. not (k == d.ticket)) cs) (filter (λ d. not (k == d.ticket)) cs)) (eq_sym k c.ticket ∙ parts.0) ∙ ap (λ ds. c ∷ ds) (kept_all k cs parts.1)
-
--- one command fewer
-pub length-without : (k : ℕ) (cs : List Command) → are_apart cs ≡ true → is_among k cs ≡ true → length (filter (λ d. not (k == d.ticket)) cs) + 1 ≡ length cs
-length-without k [] apart h = absurd (false≢true h)
-length-without k (c ∷ cs) apart h =
-    let parts = and_parts (not (is_among c.ticket cs)) (are_apart cs) apart in
-    elim (k == c.ticket) as (λ b. (k == c.ticket) ≡ b → length (cond (not b) (c ∷ filter (λ d. not (k == d.ticket)) cs) (filter (λ d. not (k == d.ticket)) cs)) + 1 ≡ suc (length cs)) [
-      | true ↦ λ is.
-          let gone : is_among k cs ≡ false = ap (λ n. is_among n cs) (eqb-true k c.ticket is) ∙ not_true (is_among c.ticket cs) parts.0 in
-          omega (arith, ap length (kept_all k cs gone))
-      | false ↦ λ is.
-          let rest : is_among k cs ≡ true = sym (ap (λ b. b || is_among k cs) (eq_sym c.ticket k ∙ is)) ∙ h in
-          omega (arith, length-without k cs parts.1 rest)
-    ] refl
+    ap (λ b. cond (not b) (c ∷ filter (λ d. not (d.ticket == k)) cs) (filter (λ d. not (d.ticket == k)) cs)) parts.0 ∙ ap (λ ds. c ∷ ds) (kept_all k cs parts.1)
 
 -- how many pass, without the command of a ticket
 pub count-without : (p : Command → Bool) (k : ℕ) (cs : List Command) (c : Command) → are_apart cs ≡ true → first_of (filter (λ d. d.ticket == k) cs) ≡ Some c
-    → count_by p (filter (λ d. not (k == d.ticket)) cs) + cond (p c) 1 0 ≡ count_by p cs
+    → count_by p (filter (λ d. not (d.ticket == k)) cs) + cond (p c) 1 0 ≡ count_by p cs
 count-without p k [] c apart found = absurd cc
 count-without p k (x ∷ cs) c apart found =
     let parts = and_parts (not (is_among x.ticket cs)) (are_apart cs) apart in
-    let away : List Command = filter (λ d. not (k == d.ticket)) cs in
+    let away : List Command = filter (λ d. not (d.ticket == k)) cs in
     let all : count_by p (x ∷ cs) ≡ cond (p x) 1 0 + count_by p cs = sum_by-cons (λ d. cond (p d) 1 0) x cs in
     elim (x.ticket == k) as (λ b. (x.ticket == k) ≡ b → first_of (cond b (x ∷ filter (λ d. d.ticket == k) cs) (filter (λ d. d.ticket == k) cs)) ≡ Some c
-    → count_by p (filter (λ d. not (k == d.ticket)) (x ∷ cs)) + cond (p c) 1 0 ≡ count_by p (x ∷ cs)) [
+    → count_by p (cond (not b) (x ∷ away) away) + cond (p c) 1 0 ≡ count_by p (x ∷ cs)) [
       | true ↦ λ is here.
           let same : x ≡ c = cc in
           let gone : is_among k cs ≡ false = ap (λ n. is_among n cs) (sym (eqb-true x.ticket k is)) ∙ not_true (is_among x.ticket cs) parts.0 in
-          let left : count_by p (filter (λ d. not (k == d.ticket)) (x ∷ cs)) ≡ count_by p cs = ap (λ b. count_by p (cond (not b) (x ∷ away) away)) (eq_sym k x.ticket ∙ is) ∙ ap (count_by p) (kept_all k cs gone) in
-          omega (arith, all, left, ap {B = ℕ} (λ (d : Command). cond (p d) 1 0) same)
-      | false ↦ λ is later.
-          let left : count_by p (filter (λ d. not (k == d.ticket)) (x ∷ cs)) ≡ cond (p x) 1 0 + count_by p away = ap (λ b. count_by p (cond (not b) (x ∷ away) away)) (eq_sym k x.ticket ∙ is) ∙ sum_by-cons (λ d. cond (p d) 1 0) x away in
-          omega (arith, all, left, count-without p k cs c parts.1 later)
+          omega (arith, all, ap (count_by p) (kept_all k cs gone), ap {B = ℕ} (λ (d : Command). cond (p d) 1 0) same)
+      | false ↦ λ is later. omega (arith, all, sum_by-cons (λ d. cond (p d) 1 0) x away, count-without p k cs c parts.1 later)
     ] refl found
+
+-- the command of a ticket is in one unit alone
+pub one_unit : (k : ℕ) (cs : List Command) (c : Command) → are_apart cs ≡ true → first_of (filter (λ d. d.ticket == k) cs) ≡ Some c → list_all (λ d. not (d.ticket == k) || (d.unit == c.unit)) cs ≡ true
+one_unit k [] c apart found = refl
+one_unit k (x ∷ cs) c apart found =
+    let parts = and_parts (not (is_among x.ticket cs)) (are_apart cs) apart in
+    let rest : Bool = list_all (λ (d : Command). not (d.ticket == k) || (d.unit == c.unit)) cs in
+    elim (x.ticket == k) as (λ b. (x.ticket == k) ≡ b → first_of (cond b (x ∷ filter (λ d. d.ticket == k) cs) (filter (λ d. d.ticket == k) cs)) ≡ Some c → ((not b || (x.unit == c.unit)) && rest) ≡ true) [
+      | true ↦ λ is here.
+          let same : x ≡ c = cc in
+          let gone : is_among k cs ≡ false = ap (λ n. is_among n cs) (sym (eqb-true x.ticket k is)) ∙ not_true (is_among x.ticket cs) parts.0 in
+          ap (λ b. b && rest) (eq-eqb x.unit c.unit (ap (λ (d : Command). d.unit) same)) ∙ none k cs gone
+      | false ↦ λ is later. one_unit k cs c parts.1 later
+    ] refl found
+  where
+    none : (k : ℕ) (cs : List Command) → is_among k cs ≡ false → list_all (λ (d : Command). not (d.ticket == k) || (d.unit == c.unit)) cs ≡ true
+    none k [] h = refl
+    none k (x ∷ cs) h =
+        let parts = or_none (x.ticket == k) (is_among k cs) h in
+        ap (λ b. (not b || (x.unit == c.unit)) && list_all (λ (d : Command). not (d.ticket == k) || (d.unit == c.unit)) cs) parts.0 ∙ none k cs parts.1

@@ -11,8 +11,9 @@ use Rattle.iscsi_session.specs.Settings.{Setting}
 use Rattle.iscsi_session.specs.Trace.{Command, Mark, Trace, has, enters, entered, leaves_ticket, live, live_in, is_among, first_of}
 use Rattle.iscsi_session.specs.Standing.{kept, is_regular, are_apart, CommandsAgree}
 use Rattle.iscsi_session.specs.Steps.{find_ticket, without_ticket}
-use Rattle.iscsi_session.proofs.BoolLemmas.{and_parts, or_none, not_true}
-use Rattle.iscsi_session.proofs.ApartLemmas.{eq_sym, unamong-filter, apart-push, apart-filter, length-without, kept_all}
+use Rattle.iscsi_session.proofs.BoolLemmas.{and_parts, or_none, or_false, not_true}
+use Rattle.iscsi_session.proofs.ApartLemmas.{eq_sym, unamong-filter, apart-push, apart-filter}
+use Rattle.iscsi_session.proofs.EnabledLemmas.{filter-map}
 use Rattle.iscsi_session.proofs.TraceLemmas.{live-quiet, live-enters, live-leaves}
 
 -- ---- an item that nothing enters or leaves by
@@ -83,50 +84,41 @@ CommandsAgree-entered o lives n t item c a e regular =
       unleft = λ k u. ap (λ b. b || has (leaves_ticket k) t) (e.leaves_no k) ∙ a.unleft k (omega (arith, one));
     }
 
--- ---- a command leaves
+-- ---- commands leave
 
-pub record LeavesOne (item : List Mark) (c : Command) : Type 0 where
+-- the item is the leaving of the commands with these tickets
+pub record LeavesSome (item : List Mark) (out : ℕ → Bool) : Type 0 where
   pub enters_none : filter_map enters item ≡ []
-  pub one : (k : ℕ) → list_any (leaves_ticket k) item ≡ (c.ticket == k)
+  pub some : (k : ℕ) → list_any (leaves_ticket k) item ≡ out k
 
-pub live-left : (item : List Mark) (t : Trace) (c : Command) → LeavesOne item c → live (item ∷ t) ≡ filter (λ d. not (c.ticket == d.ticket)) (live t)
-live-left item t c l = live-leaves item t c l.enters_none l.one
+pub live-left : (item : List Mark) (t : Trace) (out : ℕ → Bool) → LeavesSome item out → live (item ∷ t) ≡ filter (λ c. not (out c.ticket)) (live t)
+live-left item t out l = live-leaves item t out l.enters_none l.some
 
-pub without_kept : (ticket : ℕ) (cs : List Command) → without_ticket ticket (map kept cs) ≡ map kept (filter (λ d. not (ticket == d.ticket)) cs)
-without_kept ticket [] = refl
-without_kept ticket (c ∷ cs) =
-    ap (λ b. cond (not b) (kept c ∷ without_ticket ticket (map kept cs)) (without_ticket ticket (map kept cs))) (eq_sym c.ticket ticket)
-    ∙ elim (ticket == c.ticket) as (λ b. cond (not b) (kept c ∷ without_ticket ticket (map kept cs)) (without_ticket ticket (map kept cs)) ≡ map kept (cond (not b) (c ∷ filter (λ d. not (ticket == d.ticket)) cs) (filter (λ d. not (ticket == d.ticket)) cs))) [
-      | true ↦ without_kept ticket cs
-      | false ↦ ap (λ ls. kept c ∷ ls) (without_kept ticket cs)
-    ]
-
--- a live command has no ticket that is yet to come
-live_ticket : (o : Setting) (lives : List Live) (n : ℕ) (t : Trace) (c : Command) → CommandsAgree o lives n t → is_among c.ticket (live t) ≡ true → c.ticket ≤ length (entered t)
-live_ticket o lives n t c a among =
-    ⊎_elim (λ later. absurd (false≢true (sym (unamong-filter (λ (d : Command). not (has (leaves_ticket d.ticket) t)) c.ticket (entered t) (a.fresh c.ticket later)) ∙ among))) (λ low. low) (cases_lt (length (entered t)) c.ticket)
-
-pub CommandsAgree-left : (o : Setting) (lives : List Live) (n : ℕ) (t : Trace) (item : List Mark) (c : Command) → CommandsAgree o lives n t → LeavesOne item c → is_among c.ticket (live t) ≡ true
-    → CommandsAgree o (without_ticket c.ticket lives) n (item ∷ t)
-CommandsAgree-left o lives n t item c a l among =
-    let fewer : live (item ∷ t) ≡ filter (λ d. not (c.ticket == d.ticket)) (live t) = live-left item t c l in
+-- no ticket that is yet to come leaves
+pub CommandsAgree-left : (o : Setting) (lives : List Live) (n : ℕ) (t : Trace) (item : List Mark) (out : ℕ → Bool) → CommandsAgree o lives n t → LeavesSome item out → ((k : ℕ) → length (entered t) < k → out k ≡ false)
+    → CommandsAgree o (filter (λ l. not (out l.ticket)) lives) n (item ∷ t)
+CommandsAgree-left o lives n t item out a l early =
+    let fewer : live (item ∷ t) ≡ filter (λ c. not (out c.ticket)) (live t) = live-left item t out l in
     let entries : entered (item ∷ t) ≡ entered t = ap (λ cs. entered t ++ cs) l.enters_none ∙ append-nil (entered t) in
     record {
-      commands = ap (without_ticket c.ticket) a.commands ∙ without_kept c.ticket (live t) ∙ ap (map kept) (sym fewer);
+      commands = ap (filter (λ (x : Live). not (out x.ticket))) a.commands ∙ filter-map (λ (x : Live). not (out x.ticket)) kept (live t) ∙ ap (map kept) (sym fewer);
       regular = ap (list_all (is_regular o)) entries ∙ a.regular;
-      apart = ap are_apart fewer ∙ apart-filter (λ d. not (c.ticket == d.ticket)) (live t) a.apart;
+      apart = ap are_apart fewer ∙ apart-filter (λ c. not (out c.ticket)) (live t) a.apart;
       count_is = a.count_is ∙ ap length (sym entries);
       fresh = λ k lt. ap (is_among k) entries ∙ a.fresh k (subst (λ (cs : List Command). length cs < k) entries lt);
       unleft = λ k lt.
           let late : length (entered t) < k = subst (λ (cs : List Command). length cs < k) entries lt in
-          let no : (c.ticket == k) ≡ false = let low : c.ticket ≤ length (entered t) = live_ticket o lives n t c a among in grind (arith, nat_tests) in
-          ap (λ b. b || has (leaves_ticket k) t) (l.one k ∙ no) ∙ a.unleft k late;
+          ap (λ b. b || has (leaves_ticket k) t) (l.some k ∙ early k late) ∙ a.unleft k late;
     }
 
-pub one_fewer : (o : Setting) (lives : List Live) (n : ℕ) (t : Trace) (item : List Mark) (c : Command) → CommandsAgree o lives n t → LeavesOne item c → is_among c.ticket (live t) ≡ true → length (live (item ∷ t)) + 1 ≡ length (live t)
-one_fewer o lives n t item c a l among = ap (λ (cs : List Command). length cs + 1) (live-left item t c l) ∙ length-without c.ticket (live t) a.apart among
+-- a live command has no ticket that is yet to come
+pub live_early : (o : Setting) (lives : List Live) (n : ℕ) (t : Trace) (ticket : ℕ) → CommandsAgree o lives n t → is_among ticket (live t) ≡ true → (k : ℕ) → length (entered t) < k → (k == ticket) ≡ false
+live_early o lives n t ticket a among k late =
+    let low : ticket ≤ length (entered t) = ⊎_elim (λ later. absurd (false≢true (sym (unamong-filter (λ (d : Command). not (has (leaves_ticket d.ticket) t)) ticket (entered t) (a.fresh ticket later)) ∙ among))) (λ low. low) (cases_lt (length (entered t)) ticket) in
+    let differ : (k == ticket) ≡ false = grind (arith, nat_tests) in
+    differ
 
--- ---- the commands of a unit, when one leaves
+-- ---- the commands of a unit, when some leave
 
 pub filter-swap : {A : Type 0} (p q : A → Bool) (xs : List A) → filter p (filter q xs) ≡ filter q (filter p xs)
 filter-swap p q [] = refl
@@ -142,53 +134,29 @@ filter-swap p q (x ∷ xs) =
       ]
     ] refl
 
-pub live_in-left : (item : List Mark) (t : Trace) (c : Command) → LeavesOne item c → live_in c.unit (item ∷ t) ≡ filter (λ d. not (c.ticket == d.ticket)) (live_in c.unit t)
-live_in-left item t c l = ap (filter (λ (d : Command). d.unit == c.unit)) (live-left item t c l) ∙ filter-swap (λ (d : Command). d.unit == c.unit) (λ (d : Command). not (c.ticket == d.ticket)) (live t)
+pub live_in-left : (item : List Mark) (t : Trace) (out : ℕ → Bool) (unit : ℕ) → LeavesSome item out → live_in unit (item ∷ t) ≡ filter (λ c. not (out c.ticket)) (live_in unit t)
+live_in-left item t out unit l = ap (filter (λ (c : Command). c.unit == unit)) (live-left item t out l) ∙ filter-swap (λ (c : Command). c.unit == unit) (λ (c : Command). not (out c.ticket)) (live t)
 
-passes_among : (p : Command → Bool) (k : ℕ) (cs : List Command) (c : Command) → ((d : Command) → p d ≡ true → (d.ticket == k) ≡ true) → first_of (filter p cs) ≡ Some c → is_among k cs ≡ true
-passes_among p k [] c test found = absurd cc
-passes_among p k (x ∷ cs) c test found =
-    elim (p x) as (λ b. p x ≡ b → first_of (cond b (x ∷ filter p cs) (filter p cs)) ≡ Some c → ((x.ticket == k) || is_among k cs) ≡ true) [
-      | true ↦ λ is here. ap (λ b. b || is_among k cs) (test x is)
-      | false ↦ λ is later. or_second (x.ticket == k) (is_among k cs) (passes_among p k cs c test later)
-    ] refl found
-  where
-    or_second : (a b : Bool) → b ≡ true → (a || b) ≡ true
-    or_second true b h = refl
-    or_second false b h = h
+-- those that leave are all in this unit
+abbrev pub are_all_in : ℕ → (ℕ → Bool) → List Command → Bool
+are_all_in unit out cs = list_all (λ c. not (out c.ticket) || (c.unit == unit)) cs
 
--- a command with this ticket is in no other unit
-elsewhere_kept : (p : Command → Bool) (k other : ℕ) (cs : List Command) (c : Command) → ((d : Command) → p d ≡ true → (d.ticket == k) ≡ true) → are_apart cs ≡ true → first_of (filter p cs) ≡ Some c → (other == c.unit) ≡ false
-    → filter (λ d. not (k == d.ticket)) (filter (λ d. d.unit == other) cs) ≡ filter (λ d. d.unit == other) cs
-elsewhere_kept p k other [] c test apart found elsewhere = refl
-elsewhere_kept p k other (x ∷ cs) c test apart found elsewhere =
-    let parts = and_parts (not (is_among x.ticket cs)) (are_apart cs) apart in
-    let in_unit : Command → Bool = λ d. d.unit == other in
-    let away : Command → Bool = λ d. not (k == d.ticket) in
-    elim (p x) as (λ b. p x ≡ b → first_of (cond b (x ∷ filter p cs) (filter p cs)) ≡ Some c → filter away (cond (x.unit == other) (x ∷ filter in_unit cs) (filter in_unit cs)) ≡ cond (x.unit == other) (x ∷ filter in_unit cs) (filter in_unit cs)) [
-      | true ↦ λ is here.
-          let same : x ≡ c = cc in
-          let no : (x.unit == other) ≡ false = ap (λ (d : Command). d.unit == other) same ∙ eq_sym c.unit other ∙ elsewhere in
-          let gone : is_among k cs ≡ false = ap (λ n. is_among n cs) (sym (eqb-true x.ticket k (test x is))) ∙ not_true (is_among x.ticket cs) parts.0 in
-          ap (λ b. filter away (cond b (x ∷ filter in_unit cs) (filter in_unit cs))) no
-          ∙ kept_all k (filter in_unit cs) (unamong-filter in_unit k cs gone)
-          ∙ sym (ap (λ b. cond b (x ∷ filter in_unit cs) (filter in_unit cs)) no)
-      | false ↦ λ is later.
-          let among : is_among k cs ≡ true = passes_among p k cs c test later in
-          let apart_here : (k == x.ticket) ≡ false = ⊎_elim (λ same. absurd (false≢true (sym (not_true (is_among x.ticket cs) parts.0) ∙ ap (λ n. is_among n cs) (sym same) ∙ among))) (λ no. (let z : (k == x.ticket) ≡ false = grind (arith, nat_tests) in z)) (cases_eq k x.ticket) in
-          let rest : filter away (filter in_unit cs) ≡ filter in_unit cs = elsewhere_kept p k other cs c test parts.1 later elsewhere in
-          elim (x.unit == other) as (λ b. filter away (cond b (x ∷ filter in_unit cs) (filter in_unit cs)) ≡ cond b (x ∷ filter in_unit cs) (filter in_unit cs)) [
-            | true ↦ ap (λ b. cond (not b) (x ∷ filter away (filter in_unit cs)) (filter away (filter in_unit cs))) apart_here ∙ ap (λ ds. x ∷ ds) rest
-            | false ↦ rest
-          ]
-    ] refl found
+elsewhere_kept : (out : ℕ → Bool) (unit other : ℕ) (cs : List Command) → are_all_in unit out cs ≡ true → (other == unit) ≡ false → filter (λ c. not (out c.ticket)) (filter (λ c. c.unit == other) cs) ≡ filter (λ c. c.unit == other) cs
+elsewhere_kept out unit other [] all elsewhere = refl
+elsewhere_kept out unit other (x ∷ cs) all elsewhere =
+    let parts = and_parts (not (out x.ticket) || (x.unit == unit)) (are_all_in unit out cs) all in
+    let away : Command → Bool = λ c. not (out c.ticket) in
+    let rest : filter away (filter (λ c. c.unit == other) cs) ≡ filter (λ c. c.unit == other) cs = elsewhere_kept out unit other cs parts.1 elsewhere in
+    elim (x.unit == other) as (λ b. (x.unit == other) ≡ b → filter away (cond b (x ∷ filter (λ c. c.unit == other) cs) (filter (λ c. c.unit == other) cs)) ≡ cond b (x ∷ filter (λ c. c.unit == other) cs) (filter (λ c. c.unit == other) cs)) [
+      | true ↦ λ is.
+          let outside : (x.unit == unit) ≡ false = ap (λ n. n == unit) (eqb-true x.unit other is) ∙ elsewhere in
+          let stays : not (out x.ticket) ≡ true = sym (or_false (not (out x.ticket))) ∙ ap (λ b. not (out x.ticket) || b) (sym outside) ∙ parts.0 in
+          ap (λ b. cond b (x ∷ filter away (filter (λ c. c.unit == other) cs)) (filter away (filter (λ c. c.unit == other) cs))) stays ∙ ap (λ ds. x ∷ ds) rest
+      | false ↦ λ is. rest
+    ] refl
 
-pub live_in-left_elsewhere : (o : Setting) (lives : List Live) (n : ℕ) (item : List Mark) (t : Trace) (p : Command → Bool) (c : Command) → CommandsAgree o lives n t → LeavesOne item c → ((d : Command) → p d ≡ true → (d.ticket == c.ticket) ≡ true) → first_of (filter p (live t)) ≡ Some c
-    → (other : ℕ) → (other == c.unit) ≡ false → live_in other (item ∷ t) ≡ live_in other t
-live_in-left_elsewhere o lives n item t p c a l test found other elsewhere =
-    ap (filter (λ (d : Command). d.unit == other)) (live-left item t c l)
-    ∙ filter-swap (λ (d : Command). d.unit == other) (λ (d : Command). not (c.ticket == d.ticket)) (live t)
-    ∙ elsewhere_kept p c.ticket other (live t) c test a.apart found elsewhere
+pub live_in-left_elsewhere : (item : List Mark) (t : Trace) (out : ℕ → Bool) (unit : ℕ) → LeavesSome item out → are_all_in unit out (live t) ≡ true → (other : ℕ) → (other == unit) ≡ false → live_in other (item ∷ t) ≡ live_in other t
+live_in-left_elsewhere item t out unit l all other elsewhere = live_in-left item t out other l ∙ elsewhere_kept out unit other (live t) all elsewhere
 
 -- ---- the command with a ticket
 
@@ -243,10 +211,6 @@ first_passing w k (x ∷ cs) c apart found =
           )
     ] refl found
   where
-    or_false : (b : Bool) → (b || false) ≡ b
-    or_false true = refl
-    or_false false = refl
-
     one : (b : Bool) → first_of (cond b (c ∷ []) []) ≡ cond b (Some c) None
     one true = refl
     one false = refl

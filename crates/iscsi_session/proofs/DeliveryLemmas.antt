@@ -10,7 +10,7 @@ use Rattle.iscsi_session.specs.declared.effect.Effect.TheVariants.{Enable}
 use Rattle.iscsi_session.specs.declared.effect.Why.{Why}
 use Rattle.iscsi_session.specs.declared.event.Event.{Event}
 use Rattle.iscsi_session.specs.Settings.{Setting}
-use Rattle.iscsi_session.specs.Trace.{Arrival, Command, Mark, Admits, Delivers, Executes, Leaves, Enters, Sends, Ignores, Trace, after_items, shown, first_of, number_received, received, contains, is_received, delivers_number, is_delivered, held, admits_at, admitted}
+use Rattle.iscsi_session.specs.Trace.{Arrival, Command, Mark, Admits, Delivers, Executes, Voids, Empties, Waits, Leaves, Enters, Sends, Ignores, Trace, after_items, shown, first_of, number_received, received, contains, is_received, delivers_number, is_delivered, empties_number, is_emptied, held, admits_at, admitted}
 use Rattle.iscsi_session.specs.Agenda.{items_of}
 use Rattle.iscsi_session.specs.Run.{after_event, after_events, effects_of_mark, newly_enabled, effects_of_item, effects_of, entries_from}
 use Rattle.iscsi_session.specs.Executed.{request_at, executed_below, delivers, delivered_by, delivered}
@@ -23,6 +23,9 @@ marks_deliver o t [] = refl
 marks_deliver o t (Admits a ∷ ms) = marks_deliver o t ms
 marks_deliver o t (Delivers a ∷ ms) = ap (λ rs. a.request ∷ rs) (marks_deliver o t ms)
 marks_deliver o t (Executes a ∷ ms) = marks_deliver o t ms
+marks_deliver o t (Voids n ∷ ms) = marks_deliver o t ms
+marks_deliver o t (Empties a ∷ ms) = marks_deliver o t ms
+marks_deliver o t (Waits a ∷ ms) = marks_deliver o t ms
 marks_deliver o t (Leaves c ∷ ms) = marks_deliver o t ms
 marks_deliver o t (Enters c ∷ ms) = marks_deliver o t ms
 marks_deliver o t (Sends conn reply ∷ ms) = marks_deliver o t ms
@@ -80,9 +83,10 @@ pub record IsQuiet (item : List Mark) : Type 0 where
   pub admits : (n : ℕ) → filter_map (admits_at n) item ≡ []
   pub delivers_none : filter_map delivers item ≡ []
   pub delivers_no : (n : ℕ) → list_any (delivers_number n) item ≡ false
+  pub empties_no : (n : ℕ) → list_any (empties_number n) item ≡ false
 
 pub quiet-ignored : (why : Why) → IsQuiet (Ignores why ∷ [])
-quiet-ignored why = record { receives = refl; admits = λ n. refl; delivers_none = refl; delivers_no = λ n. refl }
+quiet-ignored why = record { receives = refl; admits = λ n. refl; delivers_none = refl; delivers_no = λ n. refl; empties_no = λ n. refl }
 
 pub received-quiet : (item : List Mark) (t : Trace) → IsQuiet item → received (item ∷ t) ≡ received t
 received-quiet item t q = ap (λ ns. received t ++ ns) q.receives ∙ append-nil (received t)
@@ -90,16 +94,27 @@ received-quiet item t q = ap (λ ns. received t ++ ns) q.receives ∙ append-nil
 pub admitted-quiet : (item : List Mark) (t : Trace) (n : ℕ) → IsQuiet item → shown (admits_at n) (item ∷ t) ≡ shown (admits_at n) t
 admitted-quiet item t n q = ap (λ xs. shown (admits_at n) t ++ xs) (q.admits n) ∙ append-nil (shown (admits_at n) t)
 
+pub held-quiet : (item : List Mark) (t : Trace) (n : ℕ) → IsQuiet item → held (item ∷ t) n ≡ held t n
+held-quiet item t n q =
+    ap (λ b. cond ((b || is_delivered t n) || is_emptied (item ∷ t) n) None (admitted (item ∷ t) n)) (q.delivers_no n)
+    ∙ ap (λ b. cond (is_delivered t n || (b || is_emptied t n)) None (admitted (item ∷ t) n)) (q.empties_no n)
+    ∙ ap (λ xs. cond (is_delivered t n || is_emptied t n) None (first_of xs)) (admitted-quiet item t n q)
+
+pub request_at-quiet : (item : List Mark) (t : Trace) (n : ℕ) → IsQuiet item → request_at (item ∷ t) n ≡ request_at t n
+request_at-quiet item t n q =
+    ap (λ b. cond (b || is_emptied t n) None (option_map (λ (a : Arrival). a.request) (admitted (item ∷ t) n))) (q.empties_no n)
+    ∙ ap (λ xs. cond (is_emptied t n) None (option_map (λ (a : Arrival). a.request) (first_of xs))) (admitted-quiet item t n q)
+
 -- the window keeps the same of each number
 pub place_of-quiet : (item : List Mark) (t : Trace) (n : ℕ) → IsQuiet item → place_of (item ∷ t) n ≡ place_of t n
 place_of-quiet item t n q =
     ap (λ ns. cond (contains ns n) (Some (option_map (λ (a : Arrival). a.request) (held (item ∷ t) n))) None) (received-quiet item t q)
     ∙ ap (λ x. cond (is_received t n) (Some (option_map (λ (a : Arrival). a.request) x)) None)
-    (ap (λ b. cond (b || is_delivered t n) None (admitted (item ∷ t) n)) (q.delivers_no n) ∙ ap (λ xs. cond (is_delivered t n) None (first_of xs)) (admitted-quiet item t n q))
+    (held-quiet item t n q)
 
 pub executed_below-quiet : (o : Setting) (item : List Mark) (t : Trace) (n : ℕ) → IsQuiet item → executed_below o (item ∷ t) n ≡ executed_below o t n
 executed_below-quiet o item t n q =
-    same_range (item ∷ t) t (number_of_first o.first) (n - number_of_first o.first) (λ k l h. ap (λ xs. option_map (λ (a : Arrival). a.request) (first_of xs)) (admitted-quiet item t k q))
+    same_range (item ∷ t) t (number_of_first o.first) (n - number_of_first o.first) (λ k l h. request_at-quiet item t k q)
 
 pub delivered-quiet : (item : List Mark) (t : Trace) → IsQuiet item → shown delivers (item ∷ t) ≡ shown delivers t
 delivered-quiet item t q = ap (λ rs. shown delivers t ++ rs) q.delivers_none ∙ append-nil (shown delivers t)

@@ -1,24 +1,25 @@
 -- The commands that the effects show as enabled are those that the rule enables, after one item more.
-use Rattle.std.proofs.Common.{◌≡◌, ◌↔◌, ℕ, ◌+◌, ◌<◌, ◌==◌, ◌&&◌, ◌||◌, not, cond, Bool, true, false, List, [], ◌∷◌, ◌++◌, filter, Some, refl, ap, sym, ◌∙◌, arith, eq-eqb, append_assoc}
-use Rattle.std.specs.List.{list_any, list_all, flat_map}
-use Rattle.std.proofs.lemmas.Bool.{false≢true, eqb-true}
+use Rattle.std.proofs.Common.{◌≡◌, ◌↔◌, ℕ, zero, suc, ◌+◌, ◌<◌, ◌≤◌, nat_lt, ⊎_elim, ◌==◌, ◌&&◌, ◌||◌, not, cond, Bool, true, false, List, [], ◌∷◌, ◌++◌, filter, Some, refl, ap, sym, ◌∙◌, arith, eq-eqb, append_assoc}
+use Rattle.std.specs.List.{list_any, list_all, flat_map, range_with_len}
+use Rattle.std.proofs.lemmas.Bool.{cases_eq, false≢true, eqb-true}
+use Rattle.std.proofs.lemmas.Bool.Decides.{nat_tests}
 use Rattle.std.proofs.lemmas.List.{append-nil}
 use Rattle.std.proofs.lemmas.List.Folds.{list_any-append}
 use Rattle.iscsi_session.specs.declared.effect.Effect.TheVariants.{Enable}
 use Rattle.iscsi_session.specs.declared.event.Event.{Event}
 use Rattle.iscsi_session.specs.declared.session.live.Live.{Live}
 use Rattle.iscsi_session.specs.Settings.{Setting}
-use Rattle.iscsi_session.specs.Trace.{Command, Mark, Admits, Delivers, Executes, Leaves, Enters, Sends, Ignores, Trace, after_items, has, entered, leaves_ticket, live, live_in, is_among, first_of, is_free_at, was_free}
+use Rattle.iscsi_session.specs.Trace.{Command, Mark, Admits, Delivers, Executes, Voids, Empties, Waits, Leaves, Enters, Sends, Ignores, Trace, after_items, has, entered, leaves_ticket, live, live_in, is_among, first_of, is_free_at, was_free}
 use Rattle.iscsi_session.specs.Agenda.{items_of}
 use Rattle.iscsi_session.specs.Run.{after_event, after_events, effects_of_mark, newly_enabled, effects_of_item, effects_of, entries_from}
 use Rattle.iscsi_session.specs.Enabling.{effects_so_far, is_enable, is_leave, is_shown_enabled, is_enabled, FreeMoment, EnabledSoFar, effects_in}
 use Rattle.iscsi_session.specs.Standing.{CommandsAgree}
-use Rattle.iscsi_session.proofs.BoolLemmas.{and_both, or_first, or_comm, or_false}
+use Rattle.iscsi_session.proofs.BoolLemmas.{and_parts, and_both, or_first, or_second, or_comm, or_false}
 use Rattle.iscsi_session.proofs.ApartLemmas.{eq_sym}
 use Rattle.iscsi_session.proofs.ListLemmas.{list_any-map}
 use Rattle.iscsi_session.proofs.TraceLemmas.{weaker}
-use Rattle.iscsi_session.proofs.EnabledLemmas.{enables, is_here, was_free-stays, new_in-more, newly-one, filter-twice}
-use Rattle.iscsi_session.proofs.CommandParts.{Untouched, live-untouched, live_in-untouched, EntersOne, live-entered, live_in-entered, live_in-elsewhere, LeavesOne, live-left, live_in-left_elsewhere, none_any}
+use Rattle.iscsi_session.proofs.EnabledLemmas.{enables, is_here, was_free-stays, new_in, new_in-more, newly-one, filter-twice}
+use Rattle.iscsi_session.proofs.CommandParts.{Untouched, live-untouched, live_in-untouched, EntersOne, live-entered, live_in-entered, live_in-elsewhere, LeavesSome, live-left, none_any}
 use Rattle.iscsi_session.proofs.SetParts.{newly-untouched}
 
 -- ---- what an item shows
@@ -28,6 +29,9 @@ enabled_marks o t k [] = refl
 enabled_marks o t k (Admits a ∷ ms) = enabled_marks o t k ms
 enabled_marks o t k (Delivers a ∷ ms) = enabled_marks o t k ms
 enabled_marks o t k (Executes a ∷ ms) = enabled_marks o t k ms
+enabled_marks o t k (Voids n ∷ ms) = enabled_marks o t k ms
+enabled_marks o t k (Empties a ∷ ms) = enabled_marks o t k ms
+enabled_marks o t k (Waits a ∷ ms) = enabled_marks o t k ms
 enabled_marks o t k (Leaves c ∷ ms) = enabled_marks o t k ms
 enabled_marks o t k (Enters c ∷ ms) = enabled_marks o t k ms
 enabled_marks o t k (Sends conn reply ∷ ms) = enabled_marks o t k ms
@@ -38,6 +42,9 @@ left_marks o t k [] = refl
 left_marks o t k (Admits a ∷ ms) = left_marks o t k ms
 left_marks o t k (Delivers a ∷ ms) = left_marks o t k ms
 left_marks o t k (Executes a ∷ ms) = left_marks o t k ms
+left_marks o t k (Voids n ∷ ms) = left_marks o t k ms
+left_marks o t k (Empties a ∷ ms) = left_marks o t k ms
+left_marks o t k (Waits a ∷ ms) = left_marks o t k ms
 left_marks o t k (Leaves c ∷ ms) = ap (λ b. (c.ticket == k) || b) (left_marks o t k ms)
 left_marks o t k (Enters c ∷ ms) = left_marks o t k ms
 left_marks o t k (Sends conn reply ∷ ms) = left_marks o t k ms
@@ -87,10 +94,6 @@ any_all f g p [] all same = refl
 any_all f g p (x ∷ xs) all same =
     let parts = and_parts (p x) (list_all p xs) all in
     ap (λ b. b || list_any f xs) (same x parts.0) ∙ ap (λ b. g x || b) (any_all f g p xs parts.1 same)
-  where
-    and_parts : (a b : Bool) → (a && b) ≡ true → (a ≡ true) × (b ≡ true)
-    and_parts true b h = (refl, h)
-    and_parts false b h = absurd (false≢true h)
 
 -- each is among those of its unit
 all_in_unit : (cs : List Command) → list_all (λ (c : Command). is_here c.unit (filter (λ (d : Command). d.unit == c.unit) cs) c) cs ≡ true
@@ -100,10 +103,6 @@ all_in_unit (x ∷ cs) =
     (ap (λ b. b && is_among x.ticket (cond b (x ∷ filter (λ (d : Command). d.unit == x.unit) cs) (filter (λ (d : Command). d.unit == x.unit) cs))) (eq-eqb x.unit x.unit refl) ∙ ap (λ b. b || is_among x.ticket (filter (λ (d : Command). d.unit == x.unit) cs)) (eq-eqb x.ticket x.ticket refl))
     (weaker (λ (c : Command). is_here c.unit (filter (λ (d : Command). d.unit == c.unit) cs) c) (λ (c : Command). is_here c.unit (filter (λ (d : Command). d.unit == c.unit) (x ∷ cs)) c) cs grows (all_in_unit cs))
   where
-    or_second : (a b : Bool) → b ≡ true → (a || b) ≡ true
-    or_second true b h = refl
-    or_second false b h = h
-
     grows : (c : Command) → is_here c.unit (filter (λ (d : Command). d.unit == c.unit) cs) c ≡ true → is_here c.unit (filter (λ (d : Command). d.unit == c.unit) (x ∷ cs)) c ≡ true
     grows c h =
         elim (x.unit == c.unit) as (λ b. ((c.unit == c.unit) && is_among c.ticket (cond b (x ∷ filter (λ (d : Command). d.unit == c.unit) cs) (filter (λ (d : Command). d.unit == c.unit) cs))) ≡ true) [
@@ -219,22 +218,79 @@ any_filter f p (x ∷ xs) =
       | false ↦ any_filter f p xs
     ]
 
--- one with another ticket doesn't matter
-any_without : (w : Command → Bool) (k gone : ℕ) (cs : List Command) → (gone == k) ≡ false → list_any (λ d. d.ticket == k && w d) (filter (λ d. not (gone == d.ticket)) cs) ≡ list_any (λ d. d.ticket == k && w d) cs
-any_without w k gone [] apart = refl
-any_without w k gone (x ∷ cs) apart =
-    elim (gone == x.ticket) as (λ b. (gone == x.ticket) ≡ b → list_any (λ d. d.ticket == k && w d) (cond (not b) (x ∷ filter (λ d. not (gone == d.ticket)) cs) (filter (λ d. not (gone == d.ticket)) cs)) ≡ ((x.ticket == k && w x) || list_any (λ d. d.ticket == k && w d) cs)) [
-      | true ↦ λ is. any_without w k gone cs apart ∙ ap (λ b. (b && w x) || list_any (λ d. d.ticket == k && w d) cs) (sym (ap (λ n. n == k) (sym (eqb-true gone x.ticket is)) ∙ apart))
-      | false ↦ λ is. ap (λ b. (x.ticket == k && w x) || b) (any_without w k gone cs apart)
+-- those with other tickets don't matter
+any_without : (w : Command → Bool) (out : ℕ → Bool) (k : ℕ) (cs : List Command) → out k ≡ false → list_any (λ d. d.ticket == k && w d) (filter (λ d. not (out d.ticket)) cs) ≡ list_any (λ d. d.ticket == k && w d) cs
+any_without w out k [] stays = refl
+any_without w out k (x ∷ cs) stays =
+    let away : List Command = filter (λ d. not (out d.ticket)) cs in
+    elim (x.ticket == k) as (λ b. (x.ticket == k) ≡ b → list_any (λ d. d.ticket == k && w d) (filter (λ d. not (out d.ticket)) (x ∷ cs)) ≡ ((b && w x) || list_any (λ d. d.ticket == k && w d) cs)) [
+      | true ↦ λ is.
+          ap (λ b. list_any (λ d. d.ticket == k && w d) (cond (not b) (x ∷ away) away)) (ap out (eqb-true x.ticket k is) ∙ stays)
+          ∙ ap (λ b. (b && w x) || list_any (λ d. d.ticket == k && w d) away) is ∙ ap (λ b. w x || b) (any_without w out k cs stays)
+      | false ↦ λ is. elim (out x.ticket) as (λ b. list_any (λ d. d.ticket == k && w d) (cond (not b) (x ∷ away) away) ≡ list_any (λ d. d.ticket == k && w d) cs) [
+        | true ↦ any_without w out k cs stays
+        | false ↦ ap (λ b. (b && w x) || list_any (λ d. d.ticket == k && w d) away) is ∙ any_without w out k cs stays
+      ]
     ] refl
 
-none_gone : (k : ℕ) (cs : List Command) → is_among k (filter (λ d. not (k == d.ticket)) cs) ≡ false
-none_gone k [] = refl
-none_gone k (x ∷ cs) =
-    elim (k == x.ticket) as (λ b. (k == x.ticket) ≡ b → is_among k (cond (not b) (x ∷ filter (λ d. not (k == d.ticket)) cs) (filter (λ d. not (k == d.ticket)) cs)) ≡ false) [
-      | true ↦ λ is. none_gone k cs
-      | false ↦ λ is. ap (λ b. b || is_among k (filter (λ d. not (k == d.ticket)) cs)) (eq_sym x.ticket k ∙ is) ∙ none_gone k cs
+-- those with the ticket are gone
+none_gone : (out : ℕ → Bool) (k : ℕ) (cs : List Command) → out k ≡ true → is_among k (filter (λ d. not (out d.ticket)) cs) ≡ false
+none_gone out k [] goes = refl
+none_gone out k (x ∷ cs) goes =
+    let away : List Command = filter (λ d. not (out d.ticket)) cs in
+    elim (x.ticket == k) as (λ b. (x.ticket == k) ≡ b → is_among k (filter (λ d. not (out d.ticket)) (x ∷ cs)) ≡ false) [
+      | true ↦ λ is. ap (λ b. is_among k (cond (not b) (x ∷ away) away)) (ap out (eqb-true x.ticket k is) ∙ goes) ∙ none_gone out k cs goes
+      | false ↦ λ is. elim (out x.ticket) as (λ b. is_among k (cond (not b) (x ∷ away) away) ≡ false) [
+        | true ↦ none_gone out k cs goes
+        | false ↦ ap (λ b. b || is_among k away) is ∙ none_gone out k cs goes
+      ]
     ] refl
+
+-- ---- what an item enables, of all units
+
+any_flat_map : {A B : Type 0} (p : B → Bool) (f : A → List B) (xs : List A) → list_any p (flat_map f xs) ≡ list_any (λ x. list_any p (f x)) xs
+any_flat_map p f [] = refl
+any_flat_map p f (x ∷ xs) = list_any-append p (f x) (flat_map f xs) ∙ ap (λ b. list_any p (f x) || b) (any_flat_map p f xs)
+
+any_same : {A : Type 0} (f g : A → Bool) (xs : List A) → ((x : A) → f x ≡ g x) → list_any f xs ≡ list_any g xs
+any_same f g [] same = refl
+any_same f g (x ∷ xs) same = ap (λ b. b || list_any f xs) (same x) ∙ ap (λ b. g x || b) (any_same f g xs same)
+
+any_never : {A : Type 0} (xs : List A) → list_any (λ x. false) xs ≡ false
+any_never [] = refl
+any_never (x ∷ xs) = any_never xs
+
+-- some unit is that of the command, where it is one of the session's
+unit_among : (n from unit : ℕ) → from ≤ unit → unit < from + n → list_any (λ u. unit == u) (range_with_len from n) ≡ true
+unit_among zero from unit low high = absurd (omega arith)
+unit_among (suc n) from unit low high =
+    ⊎_elim (λ here. or_first (unit == from) (list_any (λ u. unit == u) (range_with_len (from + 1) n)) (eq-eqb unit from here))
+    (λ apart. or_second (unit == from) (list_any (λ u. unit == u) (range_with_len (from + 1) n)) (unit_among n (from + 1) unit (omega arith) (omega arith)))
+    (cases_eq unit from)
+
+any_in_units : (n : ℕ) (g : Command → Bool) (cs : List Command) → list_all (λ d. nat_lt d.unit n) cs ≡ true → list_any (λ u. list_any (λ d. (d.unit == u) && g d) cs) (range_with_len 0 n) ≡ list_any g cs
+any_in_units n g [] all = any_never (range_with_len 0 n)
+any_in_units n g (x ∷ cs) all =
+    let parts = and_parts (nat_lt x.unit n) (list_all (λ d. nat_lt d.unit n) cs) all in
+    let inside : x.unit < 0 + n = below x.unit parts.0 in
+    any_or (λ u. ((x.unit == u) && g x) || list_any (λ d. (d.unit == u) && g d) cs) (λ u. (x.unit == u) && g x) (λ u. list_any (λ d. (d.unit == u) && g d) cs) (range_with_len 0 n) (λ u. refl)
+    ∙ ap (λ b. b || list_any (λ u. list_any (λ d. (d.unit == u) && g d) cs) (range_with_len 0 n)) (either (g x) (range_with_len 0 n) (unit_among n 0 x.unit (omega arith) inside))
+    ∙ ap (λ b. g x || b) (any_in_units n g cs parts.1)
+  where
+    below : (u : ℕ) → nat_lt u n ≡ true → u < 0 + n
+    below u test = let lt : u < n = grind (arith, nat_tests) in omega (arith, lt)
+
+    and_true : (b : Bool) → (b && true) ≡ b
+    and_true true = refl
+    and_true false = refl
+
+    and_false : (b : Bool) → (b && false) ≡ false
+    and_false true = refl
+    and_false false = refl
+
+    either : (b : Bool) (us : List ℕ) → list_any (λ u. x.unit == u) us ≡ true → list_any (λ u. (x.unit == u) && b) us ≡ b
+    either true us h = any_same (λ u. (x.unit == u) && true) (λ u. x.unit == u) us (λ u. and_true (x.unit == u)) ∙ h
+    either false us h = any_same (λ u. (x.unit == u) && false) (λ u. false) us (λ u. and_false (x.unit == u)) ∙ any_never us
 
 was_or_new : (item : List Mark) (t : Trace) (d : Command) → was_free d (item ∷ t) ≡ (was_free d t || is_new item t d)
 was_or_new item t d = bools (is_free_at d (item ∷ t)) (was_free d t)
@@ -245,47 +301,38 @@ was_or_new item t d = bools (is_free_at d (item ∷ t)) (was_free d t)
     bools false true = refl
     bools false false = refl
 
-exact-left : (o : Setting) (lives : List Live) (n : ℕ) (item : List Mark) (t : Trace) (p : Command → Bool) (c : Command) → CommandsAgree o lives n t → LeavesOne item c → c.unit < o.units → ((d : Command) → p d ≡ true → (d.ticket == c.ticket) ≡ true) → first_of (filter p (live t)) ≡ Some c → Exact o t → Exact o (item ∷ t)
-exact-left o lives n item t p c a l inside test found x k =
+-- the live commands that an item enables
+newly_among : (o : Setting) (item : List Mark) (t : Trace) (k : ℕ) → list_all (λ d. nat_lt d.unit o.units) (live (item ∷ t)) ≡ true → is_among k (newly_enabled o t item) ≡ list_any (λ d. d.ticket == k && is_new item t d) (live (item ∷ t))
+newly_among o item t k regular =
+    any_flat_map (λ (d : Command). d.ticket == k) (new_in t item) (range_with_len 0 o.units)
+    ∙ any_same (λ u. is_among k (new_in t item u)) (λ u. list_any (λ d. (d.unit == u) && (d.ticket == k && is_new item t d)) (live (item ∷ t))) (range_with_len 0 o.units) in_unit
+    ∙ any_in_units o.units (λ d. d.ticket == k && is_new item t d) (live (item ∷ t)) regular
+  where
+    and_comm : (a u v : Bool) → (a && (u && v)) ≡ (a && (v && u))
+    and_comm a true true = refl
+    and_comm a true false = refl
+    and_comm a false true = refl
+    and_comm a false false = refl
+
+    in_unit : (u : ℕ) → is_among k (new_in t item u) ≡ list_any (λ d. (d.unit == u) && (d.ticket == k && is_new item t d)) (live (item ∷ t))
+    in_unit u =
+        ap (is_among k) (filter-twice (λ d. not (was_free d t)) (λ d. was_free d (item ∷ t)) (live_in u (item ∷ t)))
+        ∙ any_filter (λ (d : Command). d.ticket == k) (is_new item t) (live_in u (item ∷ t))
+        ∙ any_filter (λ d. is_new item t d && (d.ticket == k)) (λ (d : Command). d.unit == u) (live (item ∷ t))
+        ∙ any_same (λ d. (d.unit == u) && (is_new item t d && (d.ticket == k))) (λ d. (d.unit == u) && (d.ticket == k && is_new item t d)) (live (item ∷ t)) (λ d. and_comm (d.unit == u) (is_new item t d) (d.ticket == k))
+
+exact-left : (o : Setting) (item : List Mark) (t : Trace) (out : ℕ → Bool) → LeavesSome item out → list_all (λ d. nat_lt d.unit o.units) (live (item ∷ t)) ≡ true → Exact o t → Exact o (item ∷ t)
+exact-left o item t out l regular x k =
     shown-item o t item k
-    ∙ ap (λ b. (enabled_once o t k || is_among k (newly_enabled o t item)) && not (b || has (leaves_ticket k) t)) (l.one k)
-    ∙ by_ticket (c.ticket == k) refl
-    ∙ ap (list_any (λ d. d.ticket == k && was_free d (item ∷ t))) (sym (live-left item t c l))
+    ∙ ap (λ b. (enabled_once o t k || is_among k (newly_enabled o t item)) && not (b || has (leaves_ticket k) t)) (l.some k)
+    ∙ by_ticket (out k) refl
+    ∙ ap (list_any (λ d. d.ticket == k && was_free d (item ∷ t))) (sym (live-left item t out l))
   where
     rest : List Command
-    rest = filter (λ d. not (c.ticket == d.ticket)) (live t)
-
-    elsewhere : (other : ℕ) → (other == c.unit) ≡ false → live_in other (item ∷ t) ≡ live_in other t
-    elsewhere = live_in-left_elsewhere o lives n item t p c a l test found
-
-    -- only in its unit can others become enabled
-    new_here : (d : Command) → is_here d.unit (live_in d.unit (item ∷ t)) d ≡ true → ((d.unit == c.unit) && (is_new item t d && (d.ticket == k))) ≡ ((d.ticket == k) && is_new item t d)
-    new_here d here =
-        elim (d.unit == c.unit) as (λ b. (d.unit == c.unit) ≡ b → (b && (is_new item t d && (d.ticket == k))) ≡ ((d.ticket == k) && is_new item t d)) [
-          | true ↦ λ is. and_comm (is_new item t d) (d.ticket == k)
-          | false ↦ λ is.
-              let before : is_here d.unit (live_in d.unit t) d ≡ true = ap (λ cs. is_here d.unit cs d) (sym (elsewhere d.unit is)) ∙ here in
-              let same : was_free d (item ∷ t) ≡ was_free d t = was_free-stays item t d.unit [] d (elsewhere d.unit is ∙ sym (append-nil (live_in d.unit t))) before in
-              sym (ap (λ b. (d.ticket == k) && (b && not (was_free d t))) same ∙ never (d.ticket == k) (was_free d t))
-        ] refl
-      where
-        and_comm : (u v : Bool) → (u && v) ≡ (v && u)
-        and_comm true true = refl
-        and_comm true false = refl
-        and_comm false true = refl
-        and_comm false false = refl
-
-        never : (u v : Bool) → (u && (v && not v)) ≡ false
-        never true true = refl
-        never true false = refl
-        never false v = refl
+    rest = filter (λ d. not (out d.ticket)) (live t)
 
     newly_is : is_among k (newly_enabled o t item) ≡ list_any (λ d. d.ticket == k && is_new item t d) (live (item ∷ t))
-    newly_is =
-        ap (is_among k) (newly-one o item t c.unit inside elsewhere ∙ filter-twice (λ d. not (was_free d t)) (λ d. was_free d (item ∷ t)) (live_in c.unit (item ∷ t)))
-        ∙ any_filter (λ (d : Command). d.ticket == k) (is_new item t) (live_in c.unit (item ∷ t))
-        ∙ any_filter (λ d. is_new item t d && (d.ticket == k)) (λ (d : Command). d.unit == c.unit) (live (item ∷ t))
-        ∙ any_all (λ d. (d.unit == c.unit) && (is_new item t d && (d.ticket == k))) (λ d. d.ticket == k && is_new item t d) (λ d. is_here d.unit (live_in d.unit (item ∷ t)) d) (live (item ∷ t)) (all_in_unit (live (item ∷ t))) new_here
+    newly_is = newly_among o item t k regular
 
     bools : (was new left : Bool) → (left ≡ true → new ≡ false) → ((was || new) && not left) ≡ ((was && not left) || new)
     bools true new true h = sym (h refl)
@@ -297,23 +344,19 @@ exact-left o lives n item t p c a l inside test found x k =
     -- nothing that left before is new now
     unnew : has (leaves_ticket k) t ≡ true → is_among k (newly_enabled o t item) ≡ false
     unnew left = newly_is ∙ none_any (is_new item t) k (live (item ∷ t)) (left_unlive (item ∷ t) k (or_second (list_any (leaves_ticket k) item) (has (leaves_ticket k) t) left))
-      where
-        or_second : (u v : Bool) → v ≡ true → (u || v) ≡ true
-        or_second true v h = refl
-        or_second false v h = h
 
-    by_ticket : (b : Bool) → (c.ticket == k) ≡ b → ((enabled_once o t k || is_among k (newly_enabled o t item)) && not (b || has (leaves_ticket k) t)) ≡ list_any (λ d. d.ticket == k && was_free d (item ∷ t)) rest
+    by_ticket : (b : Bool) → out k ≡ b → ((enabled_once o t k || is_among k (newly_enabled o t item)) && not (b || has (leaves_ticket k) t)) ≡ list_any (λ d. d.ticket == k && was_free d (item ∷ t)) rest
     by_ticket true is =
         and_none (enabled_once o t k || is_among k (newly_enabled o t item))
-        ∙ sym (none_any (λ d. was_free d (item ∷ t)) k rest (ap (λ m. is_among k (filter (λ d. not (m == d.ticket)) (live t))) (eqb-true c.ticket k is) ∙ none_gone k (live t)))
+        ∙ sym (none_any (λ d. was_free d (item ∷ t)) k rest (none_gone out k (live t) is))
       where
         and_none : (u : Bool) → (u && false) ≡ false
         and_none true = refl
         and_none false = refl
     by_ticket false is =
         bools (enabled_once o t k) (is_among k (newly_enabled o t item)) (has (leaves_ticket k) t) unnew
-        ∙ ap (λ b. b || is_among k (newly_enabled o t item)) (sym (shown-before o t k) ∙ x k ∙ sym (any_without (λ d. was_free d t) k c.ticket (live t) is))
-        ∙ ap (λ b. list_any (λ d. d.ticket == k && was_free d t) rest || b) (newly_is ∙ ap (list_any (λ d. d.ticket == k && is_new item t d)) (live-left item t c l))
+        ∙ ap (λ b. b || is_among k (newly_enabled o t item)) (sym (shown-before o t k) ∙ x k ∙ sym (any_without (λ d. was_free d t) out k (live t) is))
+        ∙ ap (λ b. list_any (λ d. d.ticket == k && was_free d t) rest || b) (newly_is ∙ ap (list_any (λ d. d.ticket == k && is_new item t d)) (live-left item t out l))
         ∙ sym (any_or (λ d. d.ticket == k && was_free d (item ∷ t)) (λ d. d.ticket == k && was_free d t) (λ d. d.ticket == k && is_new item t d) rest (λ d. ap (λ b. d.ticket == k && b) (was_or_new item t d) ∙ spread (d.ticket == k) (was_free d t) (is_new item t d)))
       where
         spread : (u v w : Bool) → (u && (v || w)) ≡ ((u && v) || (u && w))
@@ -339,9 +382,8 @@ EnabledSoFar-untouched o item t u x = EnabledSoFar-more o item t x (exact-untouc
 pub EnabledSoFar-entered : (o : Setting) (lives : List Live) (n : ℕ) (item : List Mark) (t : Trace) (c : Command) → CommandsAgree o lives n t → EntersOne item t c → c.unit < o.units → was_free c t ≡ false → EnabledSoFar o t → EnabledSoFar o (item ∷ t)
 EnabledSoFar-entered o lives n item t c a e inside new x = EnabledSoFar-more o item t x (exact-entered o lives n item t c a e inside new (exact_now o t x))
 
-pub EnabledSoFar-left : (o : Setting) (lives : List Live) (n : ℕ) (item : List Mark) (t : Trace) (p : Command → Bool) (c : Command) → CommandsAgree o lives n t → LeavesOne item c → c.unit < o.units → ((d : Command) → p d ≡ true → (d.ticket == c.ticket) ≡ true) → first_of (filter p (live t)) ≡ Some c
-    → EnabledSoFar o t → EnabledSoFar o (item ∷ t)
-EnabledSoFar-left o lives n item t p c a l inside test found x = EnabledSoFar-more o item t x (exact-left o lives n item t p c a l inside test found (exact_now o t x))
+pub EnabledSoFar-left : (o : Setting) (item : List Mark) (t : Trace) (out : ℕ → Bool) → LeavesSome item out → list_all (λ d. nat_lt d.unit o.units) (live (item ∷ t)) ≡ true → EnabledSoFar o t → EnabledSoFar o (item ∷ t)
+EnabledSoFar-left o item t out l regular x = EnabledSoFar-more o item t x (exact-left o item t out l regular (exact_now o t x))
 
 -- ---- the log
 

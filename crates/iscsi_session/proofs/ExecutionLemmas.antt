@@ -18,8 +18,10 @@ use Rattle.iscsi_session.specs.declared.session.live.Live.{Live}
 use Rattle.iscsi_session.specs.declared.verdict.Verdict.{Verdict}
 use Rattle.iscsi_session.specs.declared.verdict.Verdict.TheVariants.{Nothing, Answer, Enter as EnterUnit}
 use Rattle.iscsi_session.specs.Settings.{Setting, is_known}
-use Rattle.iscsi_session.specs.Trace.{Arrival, Command, Mark, Enters, Sends, Trace, enters, leaves_ticket, sent_on, entered, live, live_in}
-use Rattle.iscsi_session.specs.Execution.{unfinished, unit_named, attr_of, scsi_to, scsi_verdict, nop_verdict, request_verdict, is_tag_live, is_crowded, is_full, place_named, verdict_of, next_command, marks_of, execution}
+use Rattle.iscsi_session.specs.Trace.{Arrival, Command, Mark, Enters, Sends, Trace, shown, waits, enters, leaves_ticket, sent_on, entered, live, live_in}
+use Rattle.iscsi_session.specs.Execution.{unfinished, unit_named, attr_of, scsi_to, scsi_verdict, nop_verdict, request_verdict, is_tag_live, is_crowded, is_full, place_named, verdict_of, next_command, marks_of}
+use Rattle.iscsi_session.specs.Management.{management_marks}
+use Rattle.iscsi_session.specs.Items.{execution}
 use Rattle.iscsi_session.specs.Run.{effects_of_mark, effects_of_item, newly_enabled, stat_sn_of}
 use Rattle.iscsi_session.specs.Standing.{Core, kept, is_regular, task_of, member_of, WindowAgrees, RepliesAgree, CommandsAgree, SetsAgree, Agrees}
 use Rattle.iscsi_session.specs.Enabling.{EnabledSoFar}
@@ -139,9 +141,14 @@ verdict-untouched o t item r u =
 -- ---- an execution
 
 pub quiet-marks : (t : Trace) (a : Arrival) (v : Verdict) → IsQuiet (marks_of t a v)
-quiet-marks t a Nothing = record { receives = refl; admits = λ n. refl; delivers_none = refl; delivers_no = λ n. refl }
-quiet-marks t a (Answer reply) = record { receives = refl; admits = λ n. refl; delivers_none = refl; delivers_no = λ n. refl }
-quiet-marks t a (EnterUnit unit) = record { receives = refl; admits = λ n. refl; delivers_none = refl; delivers_no = λ n. refl }
+quiet-marks t a Nothing = record { receives = refl; admits = λ n. refl; delivers_none = refl; delivers_no = λ n. refl; empties_no = λ n. refl }
+quiet-marks t a (Answer reply) = record { receives = refl; admits = λ n. refl; delivers_none = refl; delivers_no = λ n. refl; empties_no = λ n. refl }
+quiet-marks t a (EnterUnit unit) = record { receives = refl; admits = λ n. refl; delivers_none = refl; delivers_no = λ n. refl; empties_no = λ n. refl }
+
+pub waits-marks : (t : Trace) (a : Arrival) (v : Verdict) → filter_map waits (marks_of t a v) ≡ []
+waits-marks t a Nothing = refl
+waits-marks t a (Answer reply) = refl
+waits-marks t a (EnterUnit unit) = refl
 
 -- a request begins to execute. This is kept by then, and its item begins with this mark and this effect
 pub record Begun (o : Setting) (s : Core) (t : Trace) (m : Mark) (e : Effect) (a : Arrival) : Type 0 where
@@ -157,6 +164,9 @@ pub record Begun (o : Setting) (s : Core) (t : Trace) (m : Mark) (e : Effect) (a
   pub first : s.window.first ≡ o.first
   pub number : number_by s a.request ≡ a.number
   pub event : event_by s a.request ≡ cond (is_immediate a.request) a.event 0
+  pub no_function : (opcode a.request == 0x02) ≡ false
+  pub none_waits : shown waits t ≡ []
+  pub waits_no : waits m ≡ None
   pub enters_no : enters m ≡ None
   pub leaves_no : (k : ℕ) → leaves_ticket k m ≡ false
   pub sends_no : sent_on m ≡ None
@@ -173,6 +183,9 @@ module _ (o : Setting) (s : Core) (t : Trace) (m : Mark) (e : Effect) (a : Arriv
     leaves_no = λ k. ap (λ c. c || list_any (leaves_ticket k) ms) (b.leaves_no k) ∙ u.leaves_no k;
   }
 
+  still_none : (ms : List Mark) → filter_map waits ms ≡ [] → shown waits ((m ∷ ms) ∷ t) ≡ []
+  still_none ms none = ap (λ as'. as' ++ filter_map waits (m ∷ ms)) b.none_waits ∙ ap (λ x. cons_option x (filter_map waits ms)) b.waits_no ∙ none
+
   -- nothing more happens
   nothing_more : Executed o s t m e a Nothing
   nothing_more =
@@ -186,6 +199,7 @@ module _ (o : Setting) (s : Core) (t : Trace) (m : Mark) (e : Effect) (a : Arriv
           sets = SetsAgree-untouched o s.sets t (m ∷ []) u b.sets;
           unfinished = b.unfinished_is ∙ sym (unfinished-untouched (m ∷ []) t u);
           enabled = EnabledSoFar-untouched o (m ∷ []) t u b.enabled;
+          none_waits = still_none [] refl;
         };
         effects = ap (λ es. (es ++ []) ++ []) (sym b.shows) ∙ ap (λ cs. (effects_of_mark o t m ++ []) ++ enables cs) (sym (newly-untouched o t (m ∷ []) u));
       }
@@ -205,6 +219,7 @@ module _ (o : Setting) (s : Core) (t : Trace) (m : Mark) (e : Effect) (a : Arriv
           sets = SetsAgree-untouched o s.sets t item u b.sets;
           unfinished = b.unfinished_is ∙ sym (unfinished-untouched item t u);
           enabled = EnabledSoFar-untouched o item t u b.enabled;
+          none_waits = still_none (Sends conn reply ∷ []) refl;
         };
         effects = ap (λ n. e ∷ Send conn n reply ∷ []) (b.replies.stat_sns conn b.known)
             ∙ ap (λ es. (es ++ Send conn (stat_sn_of o t conn) reply ∷ []) ++ []) (sym b.shows)
@@ -256,6 +271,7 @@ module _ (o : Setting) (s : Core) (t : Trace) (m : Mark) (e : Effect) (a : Arriv
           sets = entry.agrees;
           unfinished = unfinished-started ∙ ap (λ n. n + cond (not (is_immediate a.request)) 1 0) b.unfinished_is ∙ sym lives;
           enabled = EnabledSoFar-entered o s.live s.entered item t c b.commands en inside (never_free c t (b.commands.fresh c.ticket (omega (arith, en.ticket)))) b.enabled;
+          none_waits = still_none (Enters c ∷ []) refl;
         };
         effects = ap (λ es. e ∷ Enter (s.entered + 1) unit (attr_of (attr_code a.request)) ∷ es) entry.effects
             ∙ ap (λ n. e ∷ Enter (n + 1) unit (attr_of (attr_code a.request)) ∷ enables (newly_enabled o t item)) count
@@ -286,7 +302,10 @@ module _ (o : Setting) (s : Core) (t : Trace) (m : Mark) (e : Effect) (a : Arriv
       let v : Verdict = verdict_by s a.request in
       let u : Untouched (m ∷ []) = untouched-begun [] (record { enters_none = refl; leaves_no = λ k. refl }) in
       let same : verdict_of o ((m ∷ []) ∷ t) a.request ≡ v = verdict-untouched o t (m ∷ []) a.request u ∙ sym (verdict_is o s t a.request b.commands b.sets) in
-      let done : Executed o s t m e a v = executed-by v refl in (
-        subst (λ w. Agrees o (with_executed s a.request) ((m ∷ marks_of ((m ∷ []) ∷ t) a w) ∷ t)) (sym same) done.agrees,
-        done.effects ∙ ap (λ w. effects_of_item o t (m ∷ marks_of ((m ∷ []) ∷ t) a w)) (sym same),
+      let done : Executed o s t m e a v = executed-by v refl in
+      let is : execution o t m a ≡ m ∷ marks_of ((m ∷ []) ∷ t) a v =
+      ap (λ c. m ∷ cond c (management_marks o ((m ∷ []) ∷ t) a) (marks_of ((m ∷ []) ∷ t) a (verdict_of o ((m ∷ []) ∷ t) a.request))) b.no_function
+      ∙ ap (λ w. m ∷ marks_of ((m ∷ []) ∷ t) a w) same in (
+        subst (λ item. Agrees o (with_executed s a.request) (item ∷ t)) (sym is) done.agrees,
+        done.effects ∙ ap (effects_of_item o t) (sym is),
       )

@@ -3,8 +3,7 @@ use Rattle.std.proofs.Common.{◌≡◌, ℕ, zero, suc, ◌+◌, ◌-◌, ◌<�
 use Rattle.std.specs.List.{list_any, filter_map, flat_map, range_with_len, cons_option}
 use Rattle.std.proofs.lemmas.Bool.{false≢true, eqb-true}
 use Rattle.std.proofs.lemmas.List.{append-nil}
-use Rattle.iscsi_session.specs.Trace.{Arrival, Mark, Admits, Delivers, Executes, Leaves, Enters, Sends, Ignores, Trace, shown, first_of, is_received, is_delivered, held, admitted, admits_at, contains, number_received, delivers_number}
-use Rattle.iscsi_session.specs.Agenda.{due}
+use Rattle.iscsi_session.specs.Trace.{Arrival, Mark, Admits, Delivers, Executes, Voids, Empties, Waits, Leaves, Enters, Sends, Ignores, Trace, shown, first_of, is_received, is_delivered, is_emptied, held, admitted, admits_at, contains, number_received, delivers_number}
 use Rattle.iscsi_session.specs.Executed.{request_at}
 use Rattle.iscsi_session.proofs.TraceLemmas.{unadmitted, received-item}
 use Rattle.iscsi_session.proofs.DeliveryLemmas.{IsQuiet}
@@ -23,6 +22,9 @@ mark_number n (Admits b) a h =
     ] refl h
 mark_number n (Delivers b) a h = absurd cc
 mark_number n (Executes b) a h = absurd cc
+mark_number n (Voids k) a h = absurd cc
+mark_number n (Empties b) a h = absurd cc
+mark_number n (Waits b) a h = absurd cc
 mark_number n (Leaves c) a h = absurd cc
 mark_number n (Enters c) a h = absurd cc
 mark_number n (Sends conn reply) a h = absurd cc
@@ -43,7 +45,7 @@ admitted-number (item ∷ t) n a h = ⊎_elim (λ before. admitted-number t n a 
 -- a request that is held was admitted at its number
 pub held-number : (t : Trace) (n : ℕ) (a : Arrival) → held t n ≡ Some a → a.number ≡ n
 held-number t n a h =
-    elim (is_delivered t n) as (λ b. cond b None (admitted t n) ≡ Some a → a.number ≡ n) [
+    elim (is_delivered t n || is_emptied t n) as (λ b. cond b None (admitted t n) ≡ Some a → a.number ≡ n) [
       | true ↦ λ found. absurd cc
       | false ↦ λ found. admitted-number t n a found
     ] h
@@ -51,10 +53,19 @@ held-number t n a h =
 -- and was admitted
 pub admitted_of_held : (t : Trace) (n : ℕ) (a : Arrival) → held t n ≡ Some a → admitted t n ≡ Some a
 admitted_of_held t n a h =
-    elim (is_delivered t n) as (λ b. cond b None (admitted t n) ≡ Some a → admitted t n ≡ Some a) [
+    elim (is_delivered t n || is_emptied t n) as (λ b. cond b None (admitted t n) ≡ Some a → admitted t n ≡ Some a) [
       | true ↦ λ found. absurd cc
       | false ↦ λ found. found
     ] h
+
+-- and isn't taken out
+pub held_unemptied : (t : Trace) (n : ℕ) (a : Arrival) → held t n ≡ Some a → is_emptied t n ≡ false
+held_unemptied t n a h = by_tests (is_delivered t n) (is_emptied t n) h
+  where
+    by_tests : (d e : Bool) → cond (d || e) None (admitted t n) ≡ Some a → e ≡ false
+    by_tests true e found = absurd cc
+    by_tests false true found = absurd cc
+    by_tests false false found = refl
 
 -- ---- one item more
 
@@ -62,36 +73,29 @@ pub admitted-admits : (t : Trace) (a : Arrival) (n : ℕ) → (a.number == n) �
 admitted-admits t a n apart = ap (λ b. first_of (shown (admits_at n) t ++ cons_option (cond b (Some a) None) [])) apart ∙ ap first_of (append-nil (shown (admits_at n) t))
 
 pub held-admits : (t : Trace) (a : Arrival) (n : ℕ) → (a.number == n) ≡ false → held ((Admits a ∷ []) ∷ t) n ≡ held t n
-held-admits t a n apart = ap (λ x. cond (is_delivered t n) None x) (admitted-admits t a n apart)
+held-admits t a n apart = ap (λ x. cond (is_delivered t n || is_emptied t n) None x) (admitted-admits t a n apart)
 
-pub held-here : (t : Trace) (a : Arrival) → is_received t a.number ≡ false → is_delivered t a.number ≡ false → held ((Admits a ∷ []) ∷ t) a.number ≡ Some a
-held-here t a new undelivered =
-    ap (λ b. cond b None (admitted ((Admits a ∷ []) ∷ t) a.number)) undelivered
+pub held-here : (t : Trace) (a : Arrival) → is_received t a.number ≡ false → is_delivered t a.number ≡ false → is_emptied t a.number ≡ false → held ((Admits a ∷ []) ∷ t) a.number ≡ Some a
+held-here t a new undelivered unemptied =
+    ap (λ b. cond (b || is_emptied t a.number) None (admitted ((Admits a ∷ []) ∷ t) a.number)) undelivered
+    ∙ ap (λ b. cond b None (admitted ((Admits a ∷ []) ∷ t) a.number)) unemptied
     ∙ ap (λ xs. first_of (xs ++ cons_option (cond (a.number == a.number) (Some a) None) [])) (unadmitted a.number t new)
     ∙ ap (λ b. first_of (cons_option (cond b (Some a) None) [])) (eq-eqb a.number a.number refl)
 
 -- a request's turn: others are held as before
 pub held-turned : (t : Trace) (a : Arrival) (ms : List Mark) (n : ℕ) → IsQuiet ms → (a.number == n) ≡ false → held ((Delivers a ∷ ms) ∷ t) n ≡ held t n
 held-turned t a ms n q apart =
-    ap (λ b. cond ((b || list_any (delivers_number n) ms) || is_delivered t n) None (admitted ((Delivers a ∷ ms) ∷ t) n)) apart
-    ∙ ap (λ b. cond (b || is_delivered t n) None (admitted ((Delivers a ∷ ms) ∷ t) n)) (q.delivers_no n)
-    ∙ ap (λ xs. cond (is_delivered t n) None (first_of (shown (admits_at n) t ++ xs))) (q.admits n)
-    ∙ ap (λ xs. cond (is_delivered t n) None (first_of xs)) (append-nil (shown (admits_at n) t))
+    ap (λ b. cond (((b || list_any (delivers_number n) ms) || is_delivered t n) || is_emptied ((Delivers a ∷ ms) ∷ t) n) None (admitted ((Delivers a ∷ ms) ∷ t) n)) apart
+    ∙ ap (λ b. cond ((b || is_delivered t n) || is_emptied ((Delivers a ∷ ms) ∷ t) n) None (admitted ((Delivers a ∷ ms) ∷ t) n)) (q.delivers_no n)
+    ∙ ap (λ b. cond (is_delivered t n || (b || is_emptied t n)) None (admitted ((Delivers a ∷ ms) ∷ t) n)) (q.empties_no n)
+    ∙ ap (λ xs. cond (is_delivered t n || is_emptied t n) None (first_of (shown (admits_at n) t ++ xs))) (q.admits n)
+    ∙ ap (λ xs. cond (is_delivered t n || is_emptied t n) None (first_of xs)) (append-nil (shown (admits_at n) t))
 
 pub request_at-turned : (t : Trace) (a : Arrival) (ms : List Mark) (n : ℕ) → IsQuiet ms → request_at ((Delivers a ∷ ms) ∷ t) n ≡ request_at t n
-request_at-turned t a ms n q = ap (λ xs. option_map (λ (b : Arrival). b.request) (first_of (shown (admits_at n) t ++ xs))) (q.admits n) ∙ ap (λ xs. option_map (λ (b : Arrival). b.request) (first_of xs)) (append-nil (shown (admits_at n) t))
-
--- ---- what is due
-
-pub list_of : Option Arrival → List Arrival
-list_of x = elim x [ Some a ↦ a ∷ [] | None ↦ [] ]
-
-pub due-more : (t : Trace) (e e' : ℕ) → e < e' → due t e e' ≡ elim (held t e) [ Some a ↦ a ∷ [] | None ↦ [] ] ++ due t (e + 1) e'
-due-more t e e' lt =
-    ap (λ n. flat_map (λ k. elim (held t k) [ Some a ↦ a ∷ [] | None ↦ [] ]) (range_with_len e n)) (let c : e' - e ≡ suc (e' - (e + 1)) = omega arith in c)
-
-pub due-none : (t : Trace) (e : ℕ) → due t e e ≡ []
-due-none t e = ap (λ n. flat_map (λ k. elim (held t k) [ Some a ↦ a ∷ [] | None ↦ [] ]) (range_with_len e n)) (let c : e - e ≡ zero = omega arith in c)
+request_at-turned t a ms n q =
+    ap (λ b. cond (b || is_emptied t n) None (option_map (λ (b : Arrival). b.request) (admitted ((Delivers a ∷ ms) ∷ t) n))) (q.empties_no n)
+    ∙ ap (λ xs. cond (is_emptied t n) None (option_map (λ (b : Arrival). b.request) (first_of (shown (admits_at n) t ++ xs)))) (q.admits n)
+    ∙ ap (λ xs. cond (is_emptied t n) None (option_map (λ (b : Arrival). b.request) (first_of xs))) (append-nil (shown (admits_at n) t))
 
 -- who is admitted after an admission
 pub admitted-cases : (t : Trace) (a : Arrival) (n : ℕ) (b : Arrival) → admitted ((Admits a ∷ []) ∷ t) n ≡ Some b → (admitted t n ≡ Some b) ⊎ (a ≡ b)
@@ -101,50 +105,3 @@ admitted-cases t a n b h =
     this : (v : Bool) → first_of (cons_option (cond v (Some a) None) []) ≡ Some b → a ≡ b
     this true h = cc
     this false h = absurd cc
-
--- ---- what is received was admitted
-
-none_first : {A : Type 0} (xs : List A) → first_of xs ≡ None → xs ≡ []
-none_first [] h = refl
-none_first (x ∷ xs) h = absurd cc
-
-append_none : {A : Type 0} (xs ys : List A) → xs ++ ys ≡ [] → (xs ≡ []) × (ys ≡ [])
-append_none [] ys h = (refl, h)
-append_none (x ∷ xs) ys h = absurd cc
-
-cons_none : {A : Type 0} (x : Option A) (xs : List A) → cons_option x xs ≡ [] → (x ≡ None) × (xs ≡ [])
-cons_none None xs h = (refl, h)
-cons_none (Some x) xs h = absurd cc
-
-unreceived_mark : (n : ℕ) (m : Mark) (ms : List Mark) → admits_at n m ≡ None → contains (filter_map number_received ms) n ≡ false → contains (filter_map number_received (m ∷ ms)) n ≡ false
-unreceived_mark n (Admits a) ms none rest =
-    elim (a.number == n) as (λ b. cond b (Some a) None ≡ None → (b || contains (filter_map number_received ms) n) ≡ false) [
-      | true ↦ λ h. absurd cc
-      | false ↦ λ h. rest
-    ] none
-unreceived_mark n (Delivers a) ms none rest = rest
-unreceived_mark n (Executes a) ms none rest = rest
-unreceived_mark n (Leaves c) ms none rest = rest
-unreceived_mark n (Enters c) ms none rest = rest
-unreceived_mark n (Sends conn reply) ms none rest = rest
-unreceived_mark n (Ignores why) ms none rest = rest
-
-unreceived_item : (n : ℕ) (item : List Mark) → filter_map (admits_at n) item ≡ [] → contains (filter_map number_received item) n ≡ false
-unreceived_item n [] h = refl
-unreceived_item n (m ∷ ms) h =
-    let parts = cons_none (admits_at n m) (filter_map (admits_at n) ms) h in
-    unreceived_mark n m ms parts.0 (unreceived_item n ms parts.1)
-
-unreceived : (n : ℕ) (t : Trace) → shown (admits_at n) t ≡ [] → is_received t n ≡ false
-unreceived n [] h = refl
-unreceived n (item ∷ t) h =
-    let parts = append_none (shown (admits_at n) t) (filter_map (admits_at n) item) h in
-    received-item item t n ∙ ap (λ b. b || contains (filter_map number_received item) n) (unreceived n t parts.0) ∙ unreceived_item n item parts.1
-
-some_or_none : (x : Option Arrival) → ((a : Arrival) × (x ≡ Some a)) ⊎ (x ≡ None)
-some_or_none None = inr refl
-some_or_none (Some a) = inl (a, refl)
-
-pub received_admitted : (t : Trace) (n : ℕ) → is_received t n ≡ true → (a : Arrival) × (admitted t n ≡ Some a)
-received_admitted t n there =
-    ⊎_elim (λ some. some) (λ none. absurd (false≢true (sym (unreceived n t (none_first (shown (admits_at n) t) none)) ∙ there))) (some_or_none (admitted t n))

@@ -24,6 +24,7 @@ pub mod CountLemmas
 pub mod ExecutionLemmas
 pub mod SetParts
 pub mod KeptLemmas
+pub mod GroupLemmas
 pub mod SearchLemmas
 pub mod TagLemmas
 pub mod GivingLemmas

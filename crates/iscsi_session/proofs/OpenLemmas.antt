@@ -1,5 +1,5 @@
 -- A session that was opened, and how many requests one holds.
-use Rattle.std.proofs.Common.{◌≡◌, ℕ, zero, suc, ◌+◌, ◌-◌, ◌*◌, ◌<◌, ◌==◌, ◌&&◌, cond, Bool, true, false, List, [], ◌∷◌, length, map, filter, get_or, replicate, Option, Some, None, option_map, is_some, refl, ap, sym, ◌∙◌, arith, count_by}
+use Rattle.std.proofs.Common.{◌≡◌, ℕ, zero, suc, ◌+◌, ◌-◌, ◌*◌, ◌<◌, ◌==◌, ◌&&◌, ◌||◌, cond, Bool, true, false, List, [], ◌∷◌, length, map, filter, get_or, replicate, Option, Some, None, option_map, is_some, refl, ap, sym, ◌∙◌, arith, count_by}
 use Rattle.std.specs.List.{filter_map, range_with_len, list_all}
 use Rattle.std.proofs.lemmas.List.Sums.{sum_by-cons}
 use Rattle.std.proofs.lemmas.List.{length-map}
@@ -8,7 +8,7 @@ use Rattle.iscsi_window.specs.Windows.{Received, number_expected, opened}
 use Rattle.iscsi_tasks.specs.Sets.{Members, opened as opened_set}
 use Rattle.iscsi_session.specs.declared.event.Event.{Event}
 use Rattle.iscsi_session.specs.Settings.{Setting}
-use Rattle.iscsi_session.specs.Trace.{Arrival, Trace, first_of, is_received, is_delivered, held, admitted, live}
+use Rattle.iscsi_session.specs.Trace.{Arrival, Trace, first_of, is_received, is_delivered, is_emptied, held, admitted, live}
 use Rattle.iscsi_session.specs.Run.{trace_of}
 use Rattle.iscsi_session.specs.Executed.{request_at}
 use Rattle.iscsi_session.specs.Standing.{Core, Settled, StandsFor, place_of, is_held, stat_sn_on, held_count, effect_bound_of, kept}
@@ -55,6 +55,7 @@ Settled-opened o s window events conns entered none sets =
           inside = λ k lt. nothing k;
           above = λ n high. refl;
           undelivered = λ n high. refl;
+          unemptied = λ n gone. refl;
           requests = λ n a found. absurd cc;
           delivered = sym (ap (λ m. filter_map (request_at []) (range_with_len (number_of_first o.first) m)) (let z : number_expected s.window - number_of_first o.first ≡ 0 = omega (arith, first, turned) in z));
           few = omega (arith, free);
@@ -79,6 +80,7 @@ Settled-opened o s window events conns entered none sets =
         };
         unfinished = free;
         enabled = EnabledSoFar-none o;
+        none_waits = refl;
       };
       none_due = nothing 0;
     }
@@ -104,7 +106,7 @@ count_places p q (x ∷ ps) e h =
 unheld : (t : Trace) (n : ℕ) → is_received t n ≡ false → held t n ≡ None
 unheld t n gone =
     let none : admitted t n ≡ None = ap first_of (unadmitted n t gone) in
-    elim (is_delivered t n) as (λ b. cond b None (admitted t n) ≡ None) [
+    elim (is_delivered t n || is_emptied t n) as (λ b. cond b None (admitted t n) ≡ None) [
       | true ↦ refl
       | false ↦ none
     ]

@@ -14,7 +14,7 @@ use Rattle.iscsi_session.specs.Run.{newly_enabled}
 use Rattle.iscsi_session.specs.Standing.{task_of, member_of, set_of, SetsAgree, CommandsAgree}
 use Rattle.iscsi_session.specs.Steps.{all_given, as_given, enable_effects, enable_effect}
 use Rattle.iscsi_session.proofs.EnabledLemmas.{filter-map, noted_given, noted_effects, enables, newly-none, newly-one, set_of-same, never_free, EnteredSet, set-entered}
-use Rattle.iscsi_session.proofs.CommandParts.{Untouched, live_in-untouched, EntersOne, live_in-entered, live_in-elsewhere, LeavesOne, live_in-left, live_in-left_elsewhere}
+use Rattle.iscsi_session.proofs.CommandParts.{Untouched, live_in-untouched, EntersOne, live_in-entered, live_in-elsewhere, LeavesSome, live_in-left, live_in-left_elsewhere, are_all_in}
 use Rattle.iscsi_session.proofs.ApartLemmas.{eq_sym}
 
 pub SetsAgree-untouched : (o : Setting) (sets : List Members) (t : Trace) (item : List Mark) → Untouched item → SetsAgree o sets t → SetsAgree o sets (item ∷ t)
@@ -66,38 +66,41 @@ SetsAgree-entered o lives n sets t item c task commands a e inside is =
       effects = ap (λ ms. enable_effect c.unit (next_in (after_moment ms))) list_is ∙ entry.effects ∙ ap enables (sym (newly-one o item t c.unit inside elsewhere));
     }
 
--- ---- a command leaves
+-- ---- commands leave
 
-pub record SetLeaving (o : Setting) (sets : List Members) (t : Trace) (item : List Mark) (c : Command) : Type 0 where
-  pub agrees : SetsAgree o (set sets c.unit (all_given (left_by (get_or sets c.unit (opened 0)) (with_ticket c.ticket (tasks_in (get_or sets c.unit (opened 0))))))) (item ∷ t)
-  pub effects : enable_effects c.unit (left_by (get_or sets c.unit (opened 0)) (with_ticket c.ticket (tasks_in (get_or sets c.unit (opened 0))))).list ≡ enables (newly_enabled o t item)
+pub record SetLeaving (o : Setting) (sets : List Members) (t : Trace) (item : List Mark) (unit : ℕ) (left : Members) : Type 0 where
+  pub agrees : SetsAgree o (set sets unit (all_given left)) (item ∷ t)
+  pub effects : enable_effects unit left.list ≡ enables (newly_enabled o t item)
 
--- the command is in its set
-found_task : (o : Setting) (t : Trace) (k : ℕ) (cs : List Command) → is_among k cs ≡ true → (task : Task) × ((with_ticket k (map (λ (m : Member). m.task) (map (member_of o t) cs)) ≡ Some task) × (task.ticket ≡ k))
-found_task o t k [] h = absurd cc
-found_task o t k (x ∷ cs) h =
-    elim (x.ticket == k) as (λ b. (x.ticket == k) ≡ b → (b || is_among k cs) ≡ true → (task : Task) × ((cond b (Some (task_of o x)) (find (λ (u : Task). u.ticket == k) (map (λ (m : Member). m.task) (map (member_of o t) cs))) ≡ Some task) × (task.ticket ≡ k))) [
-      | true ↦ λ is here. (task_of o x, (refl, eqb-true x.ticket k is))
-      | false ↦ λ is later. found_task o t k cs later
-    ] refl h
-
-pub SetsAgree-left : (o : Setting) (lives : List Live) (n : ℕ) (sets : List Members) (t : Trace) (item : List Mark) (p : Command → Bool) (c : Command) → CommandsAgree o lives n t → SetsAgree o sets t → LeavesOne item c → c.unit < o.units
-    → is_among c.ticket (live_in c.unit t) ≡ true → ((d : Command) → p d ≡ true → (d.ticket == c.ticket) ≡ true) → first_of (filter p (live t)) ≡ Some c
-    → SetLeaving o sets t item c
-SetsAgree-left o lives n sets t item p c commands a l inside among test found =
-    let old : Members = get_or sets c.unit (opened 0) in
-    let f = found_task o t c.ticket (live_in c.unit t) among in
-    let tasks : with_ticket c.ticket (tasks_in old) ≡ Some f.0 = ap (λ ms. with_ticket c.ticket (map (λ (m : Member). m.task) ms)) (a.lists c.unit inside) ∙ f.1.0 in
-    let left : Members = record old { list = after_moment (without f.0.ticket old.list) } in
-    let left_is : left_by old (with_ticket c.ticket (tasks_in old)) ≡ left = ap (left_by old) tasks in
-    let rest : without f.0.ticket old.list ≡ map (member_of o t) (live_in c.unit (item ∷ t)) =
-    ap (λ k. without k old.list) f.1.1 ∙ ap (without c.ticket) (a.lists c.unit inside)
-    ∙ filter-map (λ (m : Member). not (m.task.ticket == c.ticket)) (member_of o t) (live_in c.unit t)
-    ∙ ap (map (member_of o t)) (filter-same (λ (d : Command). not (d.ticket == c.ticket)) (λ d. not (c.ticket == d.ticket)) (live_in c.unit t) (λ d. ap not (eq_sym d.ticket c.ticket)))
-    ∙ ap (map (member_of o t)) (sym (live_in-left item t c l)) in
-    let elsewhere : (other : ℕ) → (other == c.unit) ≡ false → live_in other (item ∷ t) ≡ live_in other t = live_in-left_elsewhere o lives n item t p c commands l test found in
+-- the set of a unit without some of its commands, after a moment
+pub SetsAgree-left : (o : Setting) (sets : List Members) (t : Trace) (item : List Mark) (out : ℕ → Bool) (unit : ℕ) (left : Members) → SetsAgree o sets t → LeavesSome item out → are_all_in unit out (live t) ≡ true → unit < o.units
+    → left.depth ≡ (get_or sets unit (opened 0)).depth → left.list ≡ after_moment (filter (λ m. not (out m.task.ticket)) (get_or sets unit (opened 0)).list)
+    → SetLeaving o sets t item unit left
+SetsAgree-left o sets t item out unit left a l all inside depth list =
+    let old : Members = get_or sets unit (opened 0) in
+    let rest : filter (λ (m : Member). not (out m.task.ticket)) old.list ≡ map (member_of o t) (live_in unit (item ∷ t)) =
+    ap (filter (λ (m : Member). not (out m.task.ticket))) (a.lists unit inside)
+    ∙ filter-map (λ (m : Member). not (out m.task.ticket)) (member_of o t) (live_in unit t)
+    ∙ ap (map (member_of o t)) (sym (live_in-left item t out unit l)) in
+    let elsewhere : (other : ℕ) → (other == unit) ≡ false → live_in other (item ∷ t) ≡ live_in other t = live_in-left_elsewhere item t out unit l all in
     record {
-      agrees = subst (λ (s : Members). SetsAgree o (set sets c.unit (all_given s)) (item ∷ t)) (sym left_is)
-          (set-changed o sets t item c.unit (all_given left) a inside (a.depths c.unit inside) (ap (λ ms. map as_given (after_moment ms)) rest ∙ noted_given o t item c.unit) elsewhere);
-      effects = ap (λ (s : Members). enable_effects c.unit s.list) left_is ∙ ap (λ ms. enable_effects c.unit (after_moment ms)) rest ∙ noted_effects o t item c.unit ∙ ap enables (sym (newly-one o item t c.unit inside elsewhere));
+      agrees = set-changed o sets t item unit (all_given left) a inside (depth ∙ a.depths unit inside) (ap (map as_given) list ∙ ap (λ ms. map as_given (after_moment ms)) rest ∙ noted_given o t item unit) elsewhere;
+      effects = ap (enable_effects unit) list ∙ ap (λ ms. enable_effects unit (after_moment ms)) rest ∙ noted_effects o t item unit ∙ ap enables (sym (newly-one o item t unit inside elsewhere));
     }
+
+-- a command that is in its set leaves it
+pub left_by-one : (o : Setting) (sets : List Members) (t : Trace) (unit ticket : ℕ) → SetsAgree o sets t → unit < o.units → is_among ticket (live_in unit t) ≡ true
+    → left_by (get_or sets unit (opened 0)) (with_ticket ticket (tasks_in (get_or sets unit (opened 0)))) ≡ record (get_or sets unit (opened 0)) { list = after_moment (without ticket (get_or sets unit (opened 0)).list) }
+left_by-one o sets t unit ticket a inside among =
+    let old : Members = get_or sets unit (opened 0) in
+    let f = found_task o t ticket (live_in unit t) among in
+    let tasks : with_ticket ticket (tasks_in old) ≡ Some f.0 = ap (λ ms. with_ticket ticket (map (λ (m : Member). m.task) ms)) (a.lists unit inside) ∙ f.1.0 in
+    ap (left_by old) tasks ∙ ap (λ k. let s : Members = record old { list = after_moment (without k old.list) } in s) f.1.1
+  where
+    found_task : (o : Setting) (t : Trace) (k : ℕ) (cs : List Command) → is_among k cs ≡ true → (task : Task) × ((with_ticket k (map (λ (m : Member). m.task) (map (member_of o t) cs)) ≡ Some task) × (task.ticket ≡ k))
+    found_task o t k [] h = absurd cc
+    found_task o t k (x ∷ cs) h =
+        elim (x.ticket == k) as (λ b. (x.ticket == k) ≡ b → (b || is_among k cs) ≡ true → (task : Task) × ((cond b (Some (task_of o x)) (find (λ (u : Task). u.ticket == k) (map (λ (m : Member). m.task) (map (member_of o t) cs))) ≡ Some task) × (task.ticket ≡ k))) [
+          | true ↦ λ is here. (task_of o x, (refl, eqb-true x.ticket k is))
+          | false ↦ λ is later. found_task o t k cs later
+        ] refl h

@@ -8,12 +8,12 @@ use Rattle.iscsi_wire.specs.declared.request.Request.{Request}
 use Rattle.iscsi_wire.specs.declared.reply.Reply.{Reply}
 use Rattle.iscsi_wire.specs.declared.reply.Reply.TheVariants.{Scsi}
 use Rattle.iscsi_wire.specs.Serial.{lift}
-use Rattle.iscsi_wire.specs.Fields.{connection_of, is_immediate, itt, cmd_sn}
+use Rattle.iscsi_wire.specs.Fields.{connection_of, is_immediate, opcode, itt, cmd_sn}
 use Rattle.iscsi_window.specs.declared.answer.Offer.{Offer}
 use Rattle.iscsi_window.specs.declared.answer.Offer.TheVariants.{Held, Outside as OutsideWindow, Duplicate as Known}
 use Rattle.iscsi_window.specs.declared.answer.Place.TheVariants.{Inside, Outside as NoPlace}
 use Rattle.iscsi_tasks.specs.declared.member.Member.{Member}
-use Rattle.iscsi_tasks.specs.Sets.{is_enabled_in}
+use Rattle.iscsi_tasks.specs.Sets.{Members, is_enabled_in}
 use Rattle.iscsi_window.specs.Windows.{Received, with_unfinished, number_expected, room_of, at_place, place_at, offer_at, offer_to, received_at, offered_to, with_place}
 use Rattle.iscsi_session.specs.declared.effect.Effect.{Effect}
 use Rattle.iscsi_session.specs.declared.effect.Effect.TheVariants.{Leave, Send, Ignore}
@@ -25,23 +25,24 @@ use Rattle.iscsi_session.specs.declared.fault.SessionFault.TheVariants.{UnknownC
 use Rattle.iscsi_session.specs.Settings.{Setting, is_known}
 use Rattle.iscsi_session.specs.Trace.{Arrival, Command, Mark, Admits, Leaves, Trace, first_of, is_received, held, live, live_in, was_free, is_among}
 use Rattle.iscsi_session.specs.Execution.{exp_of, max_of, unfinished, ignored, completion, sense_of_status, reply_on}
-use Rattle.iscsi_session.specs.Agenda.{due, turns, with_turns, numbered, arrival_of, command_of, items_of}
+use Rattle.iscsi_session.specs.Agenda.{with_turns, numbered, arrival_of, command_of, items_of}
+use Rattle.iscsi_session.specs.Items.{agenda}
 use Rattle.iscsi_session.specs.Run.{stat_sn_of, newly_enabled, effects_of, trace_of}
 use Rattle.iscsi_session.specs.Refusals.{belongs, refusal_of}
-use Rattle.iscsi_session.specs.Standing.{Core, place_of, kept, is_regular, is_regular_request, member_of, WindowAgrees, Agrees, Settled, StandsFor}
-use Rattle.iscsi_session.specs.Steps.{set_at, set_left, enable_effects, finished, with_offered, comes_on, refusal_by, find_ticket, enabled_of, find_enabled, without_command, leave_effects, after_completion, completion_effects, counted}
+use Rattle.iscsi_session.specs.Standing.{Core, CommandsAgree, place_of, kept, is_regular, is_regular_request, member_of, WindowAgrees, Agrees, Settled, StandsFor}
+use Rattle.iscsi_session.specs.Steps.{set_at, set_left, enable_effects, finished, with_offered, comes_on, refusal_by, find_ticket, without_ticket, enabled_of, find_enabled, without_command, leave_effects, after_completion, completion_effects, counted}
 use Rattle.iscsi_session.proofs.BoolLemmas.{and_parts, and_both, or_false}
 use Rattle.iscsi_session.proofs.ListLemmas.{list_any-map, is_known-cids}
-use Rattle.iscsi_session.proofs.ApartLemmas.{count-without}
+use Rattle.iscsi_session.proofs.ApartLemmas.{eq_sym, count-without, one_unit}
 use Rattle.iscsi_session.proofs.TraceLemmas.{all_among}
 use Rattle.iscsi_session.proofs.DeliveryLemmas.{IsQuiet}
 use Rattle.iscsi_session.proofs.WindowParts.{WindowAgrees-quiet, WindowAgrees-finished}
 use Rattle.iscsi_session.proofs.ReplyParts.{RepliesAgree-sent}
 use Rattle.iscsi_session.proofs.EnabledLemmas.{enables}
-use Rattle.iscsi_session.proofs.CommandParts.{LeavesOne, live-left, CommandsAgree-left, find_kept, first_passing, none_passing}
+use Rattle.iscsi_session.proofs.CommandParts.{LeavesSome, live-left, CommandsAgree-left, live_early, find_kept, first_passing, none_passing}
 use Rattle.iscsi_session.proofs.EnablingLemmas.{EnabledSoFar-left}
-use Rattle.iscsi_session.proofs.SetParts.{SetLeaving, SetsAgree-left, newly-untouched}
-use Rattle.iscsi_session.proofs.AgreeLemmas.{Regular, regular_parts, regular_live, settled_expected, settled_max, Stepped, Stepped-ignored, untouched-admits, Agrees-admitted}
+use Rattle.iscsi_session.proofs.SetParts.{SetLeaving, SetsAgree-left, left_by-one, newly-untouched}
+use Rattle.iscsi_session.proofs.AgreeLemmas.{Regular, regular_parts, regular_live, units_live, settled_expected, settled_max, Stepped, Stepped-ignored, untouched-admits, Agrees-admitted}
 
 -- ---- a completion
 
@@ -67,7 +68,7 @@ abbrev completion_item : Command → ℕ → List Mark
 completion_item c status = Leaves c ∷ reply_on c.arrival (Scsi (itt c.arrival.request) status (sense_of_status status))
 
 quiet-completion : (c : Command) (status : ℕ) → IsQuiet (completion_item c status)
-quiet-completion c status = record { receives = refl; admits = λ n. refl; delivers_none = refl; delivers_no = λ n. refl }
+quiet-completion c status = record { receives = refl; admits = λ n. refl; delivers_none = refl; delivers_no = λ n. refl; empties_no = λ n. refl }
 
 -- the command is among those of its unit
 among_unit : (k : ℕ) (cs : List Command) → list_any (λ (d : Command). d.ticket == k && true) cs ≡ is_among k cs
@@ -106,21 +107,25 @@ Stepped-completed o s t c ticket status h found =
     let reply : Reply = Scsi (itt c.arrival.request) status (sense_of_status status) in
     let item : List Mark = completion_item c status in
     let is_ticket : c.ticket ≡ ticket = eqb-true c.ticket ticket (first_itself (λ d. d.ticket == ticket) (live t) c found) in
-    let l : LeavesOne item c = record { enters_none = refl; one = λ k. or_false (c.ticket == k) } in
+    let out : ℕ → Bool = λ k. k == c.ticket in
+    let l : LeavesSome item out = record { enters_none = refl; some = λ k. or_false (c.ticket == k) ∙ eq_sym c.ticket k } in
     let among : is_among c.ticket (live t) ≡ true = first_passes (λ d. d.ticket == ticket) (λ d. is_among d.ticket (live t)) (live t) c (all_among (live t)) found in
     let found_here : first_of (filter (λ d. d.ticket == c.ticket) (live t)) ≡ Some c = ap (λ k. first_of (filter (λ (d : Command). d.ticket == k) (live t))) is_ticket ∙ found in
     let among_in : is_among c.ticket (live_in c.unit t) ≡ true = sym (among_unit c.ticket (live_in c.unit t)) ∙ (first_passing (λ d. true) c.ticket (live t) c a.commands.apart found_here).1 in
-    let set : SetLeaving o s.sets t item c = SetsAgree-left o s.live s.entered s.sets t item (λ d. d.ticket == c.ticket) c a.commands a.sets l r.unit among_in (λ d is. is) found_here in
+    let left_is = left_by-one o s.sets t c.unit c.ticket a.sets r.unit among_in in
+    let set : SetLeaving o s.sets t item c.unit (set_left s (kept c)) = SetsAgree-left o s.sets t item out c.unit (set_left s (kept c)) a.sets l (one_unit c.ticket (live t) c a.commands.apart found_here) r.unit (ap (λ (m : Members). m.depth) left_is) (ap (λ (m : Members). m.list) left_is) in
+    let commands : CommandsAgree o (without_ticket c.ticket s.live) s.entered (item ∷ t) = CommandsAgree-left o s.live s.entered t item out a.commands l (live_early o s.live s.entered t c.ticket a.commands among) in
     record {
       settled = record {
         agrees = record {
           events = a.events;
           window = WindowAgrees-quiet o (finished s.window (kept c)) t item (quiet-completion c status) (window-finished o s.window t c a.window);
           replies = RepliesAgree-sent o s.conns t item conn refl r.known a.replies;
-          commands = CommandsAgree-left o s.live s.entered t item c a.commands l among;
+          commands = commands;
           sets = set.agrees;
-          unfinished = unfinished-left s.window (unfinished (item ∷ t)) c (a.unfinished ∙ sym (count-without (λ (d : Command). not (is_immediate d.arrival.request)) c.ticket (live t) c a.commands.apart found_here) ∙ ap (λ (cs : List Command). count_by (λ (d : Command). not (is_immediate d.arrival.request)) cs + cond (not (is_immediate c.arrival.request)) 1 0) (sym (live-left item t c l)));
-          enabled = EnabledSoFar-left o s.live s.entered item t (λ d. d.ticket == c.ticket) c a.commands l r.unit (λ d is. is) found_here a.enabled;
+          unfinished = unfinished-left s.window (unfinished (item ∷ t)) c (a.unfinished ∙ sym (count-without (λ (d : Command). not (is_immediate d.arrival.request)) c.ticket (live t) c a.commands.apart found_here) ∙ ap (λ (cs : List Command). count_by (λ (d : Command). not (is_immediate d.arrival.request)) cs + cond (not (is_immediate c.arrival.request)) 1 0) (sym (live-left item t out l)));
+          enabled = EnabledSoFar-left o item t out l (units_live o (without_ticket c.ticket s.live) s.entered (item ∷ t) commands) a.enabled;
+          none_waits = ap (λ as'. as' ++ []) a.none_waits;
         };
         none_due = finished_place s.window c ∙ h.none_due;
       };
@@ -244,19 +249,19 @@ pub record Offered (o : Setting) (s : Core) (event : ℕ) (t : Trace) (r : Reque
   pub outside : offer_to s.window r ≡ OutsideWindow → Stepped o (with_offered s r) t (numbered o t (arrival_of o event t r)) (Ignore Outside ∷ [])
   pub known : offer_to s.window r ≡ Known → Stepped o (with_offered s r) t (numbered o t (arrival_of o event t r)) (Ignore Duplicate ∷ [])
   pub taken : offer_to s.window r ≡ Held → Agrees o (with_offered s r) ((Admits (arrival_of o event t r) ∷ []) ∷ t)
-      × ((numbered o t (arrival_of o event t r) ≡ (Admits (arrival_of o event t r) ∷ []) ∷ turns o (due ((Admits (arrival_of o event t r) ∷ []) ∷ t) (number_expected (with_offered s r).window) (exp_of o ((Admits (arrival_of o event t r) ∷ []) ∷ t))) ((Admits (arrival_of o event t r) ∷ []) ∷ t))
+      × ((numbered o t (arrival_of o event t r) ≡ (Admits (arrival_of o event t r) ∷ []) ∷ agenda o (number_expected (with_offered s r).window) (exp_of o ((Admits (arrival_of o event t r) ∷ []) ∷ t) - number_expected (with_offered s r).window) ((Admits (arrival_of o event t r) ∷ []) ∷ t))
       × ((rest : List (List Mark)) → effects_of o t ((Admits (arrival_of o event t r) ∷ []) ∷ rest) ≡ effects_of o ((Admits (arrival_of o event t r) ∷ []) ∷ t) rest))
 
 -- a numbered request that comes on one of the connections
-pub offered : (o : Setting) (s : Core) (event : ℕ) (t : Trace) (r : Request) → Settled o s t → is_immediate r ≡ false → is_known (connection_of r) o.conns ≡ true → Offered o s event t r
-offered o s event t r h not_immediate known =
+pub offered : (o : Setting) (s : Core) (event : ℕ) (t : Trace) (r : Request) → Settled o s t → is_immediate r ≡ false → (opcode r == 0x02) ≡ false → is_known (connection_of r) o.conns ≡ true → Offered o s event t r
+offered o s event t r h not_immediate no_function known =
     let a : Arrival = arrival_of o event t r in
     let t₁ : Trace = (Admits a ∷ []) ∷ t in
     let same_exp : exp_of o t ≡ number_expected s.window = settled_expected o s t h in
     let x = answered o s t a h (ap (λ e. lift e (cmd_sn r)) same_exp) in
     let cases : Bool → Bool → List (List Mark) = λ b c. cond b (ignored Outside) (cond c (ignored Duplicate) (with_turns o t (Admits a ∷ []))) in
     let items : numbered o t a ≡ cases (nat_lt a.number (exp_of o t) || nat_lt (max_of o t) a.number) (is_received t a.number) = refl in
-    let regular : is_regular_request o r ≡ true = and_both (not (is_immediate r)) (is_known (connection_of r) o.conns) (ap not not_immediate) known in
+    let regular : is_regular_request o r ≡ true = and_both (not (is_immediate r) && not (opcode r == 0x02)) (is_known (connection_of r) o.conns) (and_both (not (is_immediate r)) (not (opcode r == 0x02)) (ap not not_immediate) (ap not no_function)) known in
     record {
       outside = λ said.
           let f = x.outside said in
@@ -272,7 +277,7 @@ offered o s event t r h not_immediate known =
             subst (λ (w : Received). Agrees o (record s { window = w }) t₁) (sym f.0) (Agrees-admitted o s t a h.agrees f.1.1.1.0 f.1.1.1.1 f.1.1.0 regular),
             (
               items ∙ ap (λ b. cases b (is_received t a.number)) f.1.0 ∙ ap (cases false) f.1.1.0
-                  ∙ ap (λ e. (Admits a ∷ []) ∷ turns o (due t₁ e (exp_of o t₁)) t₁) start,
+                  ∙ ap (λ e. (Admits a ∷ []) ∷ agenda o e (exp_of o t₁ - e) t₁) start,
               λ rest. ap (λ cs. enables cs ++ effects_of o t₁ rest) (newly-untouched o t (Admits a ∷ []) (untouched-admits a)),
             ),
           );
@@ -282,7 +287,7 @@ offered o s event t r h not_immediate known =
 
 pub Settled-counted : (o : Setting) (s : Core) (t : Trace) → Settled o s t → Settled o (counted s) t
 Settled-counted o s t h = let a = h.agrees in record {
-  agrees = record { events = a.events; window = a.window; replies = a.replies; commands = a.commands; sets = a.sets; unfinished = a.unfinished; enabled = a.enabled };
+  agrees = record { events = a.events; window = a.window; replies = a.replies; commands = a.commands; sets = a.sets; unfinished = a.unfinished; enabled = a.enabled; none_waits = a.none_waits };
   none_due = h.none_due;
 }
 

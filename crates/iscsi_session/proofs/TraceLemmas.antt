@@ -5,7 +5,7 @@ use Rattle.std.proofs.lemmas.Bool.{false≢true}
 use Rattle.std.proofs.lemmas.List.{append-nil}
 use Rattle.std.proofs.lemmas.List.Elements.{filter-append}
 use Rattle.std.proofs.lemmas.List.Folds.{list_any-append}
-use Rattle.iscsi_session.specs.Trace.{Command, Mark, Trace, Admits, Delivers, Executes, Leaves, Enters, Sends, Ignores, has, shown, enters, entered, leaves_ticket, live, is_among, received, is_received, contains, number_received, admits_at}
+use Rattle.iscsi_session.specs.Trace.{Command, Mark, Trace, Admits, Delivers, Executes, Voids, Empties, Waits, Leaves, Enters, Sends, Ignores, has, shown, enters, entered, leaves_ticket, live, is_among, received, is_received, contains, number_received, admits_at}
 use Rattle.iscsi_session.proofs.BoolLemmas.{and_both, or_none, or_second}
 
 -- ---- filters
@@ -53,13 +53,13 @@ live-enters item t c one quiet unleft =
     ∙ ap (λ b. live t ++ cond (not (b || has (leaves_ticket c.ticket) t)) (c ∷ []) []) (quiet c.ticket)
     ∙ ap (λ b. live t ++ cond (not b) (c ∷ []) []) unleft
 
--- one command leaves
-pub live-leaves : (item : List Mark) (t : Trace) (c : Command) → filter_map enters item ≡ [] → ((k : ℕ) → list_any (leaves_ticket k) item ≡ (c.ticket == k)) → live (item ∷ t) ≡ filter (λ d. not (c.ticket == d.ticket)) (live t)
-live-leaves item t c none one =
+-- the commands with these tickets leave
+pub live-leaves : (item : List Mark) (t : Trace) (out : ℕ → Bool) → filter_map enters item ≡ [] → ((k : ℕ) → list_any (leaves_ticket k) item ≡ out k) → live (item ∷ t) ≡ filter (λ c. not (out c.ticket)) (live t)
+live-leaves item t out none some =
     live-item item t
-    ∙ ap (λ cs. filter (λ (d : Command). not (list_any (leaves_ticket d.ticket) item)) (live t) ++ filter (λ (d : Command). not (has (leaves_ticket d.ticket) (item ∷ t))) cs) none
-    ∙ append-nil (filter (λ (d : Command). not (list_any (leaves_ticket d.ticket) item)) (live t))
-    ∙ filter-same (λ (d : Command). not (list_any (leaves_ticket d.ticket) item)) (λ d. not (c.ticket == d.ticket)) (live t) (λ d. ap not (one d.ticket))
+    ∙ ap (λ cs. filter (λ (c : Command). not (list_any (leaves_ticket c.ticket) item)) (live t) ++ filter (λ (c : Command). not (has (leaves_ticket c.ticket) (item ∷ t))) cs) none
+    ∙ append-nil (filter (λ (c : Command). not (list_any (leaves_ticket c.ticket) item)) (live t))
+    ∙ filter-same (λ (c : Command). not (list_any (leaves_ticket c.ticket) item)) (λ c. not (out c.ticket)) (live t) (λ c. ap not (some c.ticket))
 
 -- ---- enabled commands
 
@@ -100,6 +100,9 @@ unadmitted_mark n (Admits a) marks h =
     (ap (λ b. cond b (Some a) None) parts.0, parts.1)
 unadmitted_mark n (Delivers a) marks h = (refl, h)
 unadmitted_mark n (Executes a) marks h = (refl, h)
+unadmitted_mark n (Voids k) marks h = (refl, (or_none (k == n) (contains (filter_map number_received marks) n) h).1)
+unadmitted_mark n (Empties a) marks h = (refl, h)
+unadmitted_mark n (Waits a) marks h = (refl, h)
 unadmitted_mark n (Leaves c) marks h = (refl, h)
 unadmitted_mark n (Enters c) marks h = (refl, h)
 unadmitted_mark n (Sends conn reply) marks h = (refl, h)

@@ -9,13 +9,13 @@ use Rattle.iscsi_wire.specs.declared.request.Request.{Request}
 use Rattle.iscsi_wire.specs.Serial.{number_of_first}
 use Rattle.iscsi_window.specs.Windows.{Received, number_expected, room_of, at_place, with_place, with_unfinished}
 use Rattle.iscsi_session.specs.Settings.{Setting}
-use Rattle.iscsi_session.specs.Trace.{Arrival, Mark, Admits, Delivers, Trace, shown, first_of, received, contains, is_received, delivers_number, is_delivered, held, admitted, admits_at}
+use Rattle.iscsi_session.specs.Trace.{Arrival, Mark, Admits, Delivers, Trace, shown, first_of, received, contains, is_received, delivers_number, is_delivered, is_emptied, held, admitted, admits_at}
 use Rattle.iscsi_session.specs.Execution.{exp_of}
 use Rattle.iscsi_session.specs.Executed.{delivers, request_at, executed_below}
 use Rattle.iscsi_session.specs.Standing.{place_of, is_regular_request, WindowAgrees}
-use Rattle.iscsi_session.proofs.BoolLemmas.{or_second, or_false}
+use Rattle.iscsi_session.proofs.BoolLemmas.{or_none, or_second, or_false}
 use Rattle.iscsi_session.proofs.Missing.{expected_is}
-use Rattle.iscsi_session.proofs.HeldLemmas.{admitted-cases, admitted-admits, held-admits, held-here, held-number, held-turned, request_at-turned, received_admitted}
+use Rattle.iscsi_session.proofs.HeldLemmas.{admitted-cases, admitted-admits, held-admits, held-here, held-number, held-turned, request_at-turned, admitted_of_held, held_unemptied}
 use Rattle.iscsi_session.proofs.DeliveryLemmas.{IsQuiet, same_range, received-quiet, place_of-quiet, executed_below-quiet, delivered-quiet, admitted-quiet, executed_below-more}
 
 -- ---- the next number
@@ -48,6 +48,7 @@ WindowAgrees-quiet o w t item q a = record {
   inside = λ k lt. a.inside k lt ∙ sym (place_of-quiet item t (number_expected w + k) q);
   above = λ n high. ap (λ ns. contains ns n) (received-quiet item t q) ∙ a.above n high;
   undelivered = λ n high. ap (λ b. b || is_delivered t n) (q.delivers_no n) ∙ a.undelivered n high;
+  unemptied = λ n gone. ap (λ b. b || is_emptied t n) (q.empties_no n) ∙ a.unemptied n (sym (ap (λ ns. contains ns n) (received-quiet item t q)) ∙ gone);
   requests = λ n b found. a.requests n b (sym (ap first_of (admitted-quiet item t n q)) ∙ found);
   delivered = delivered-quiet item t q ∙ a.delivered ∙ sym (executed_below-quiet o item t (number_expected w) q);
   few = a.few;
@@ -69,13 +70,13 @@ place_of-other t a n apart =
     ap (λ b. cond b (Some (option_map (λ (x : Arrival). x.request) (held ((Admits a ∷ []) ∷ t) n))) None) (received-admits t a n ∙ ap (λ b. is_received t n || b) apart ∙ or_false (is_received t n))
     ∙ ap (λ x. cond (is_received t n) (Some (option_map (λ (y : Arrival). y.request) x)) None) (held-admits t a n apart)
 
-place_of-here : (t : Trace) (a : Arrival) → is_received t a.number ≡ false → is_delivered t a.number ≡ false → place_of ((Admits a ∷ []) ∷ t) a.number ≡ Some (Some a.request)
-place_of-here t a new undelivered =
+place_of-here : (t : Trace) (a : Arrival) → is_received t a.number ≡ false → is_delivered t a.number ≡ false → is_emptied t a.number ≡ false → place_of ((Admits a ∷ []) ∷ t) a.number ≡ Some (Some a.request)
+place_of-here t a new undelivered unemptied =
     ap (λ b. cond b (Some (option_map (λ (x : Arrival). x.request) (held ((Admits a ∷ []) ∷ t) a.number))) None) (received-admits t a a.number ∙ or_second (is_received t a.number) (a.number == a.number) (eq-eqb a.number a.number refl))
-    ∙ ap (λ x. let y : Option (Option Request) = Some (option_map (λ (z : Arrival). z.request) x) in y) (held-here t a new undelivered)
+    ∙ ap (λ x. let y : Option (Option Request) = Some (option_map (λ (z : Arrival). z.request) x) in y) (held-here t a new undelivered unemptied)
 
 request_at-admits : (t : Trace) (a : Arrival) (k : ℕ) → (a.number == k) ≡ false → request_at ((Admits a ∷ []) ∷ t) k ≡ request_at t k
-request_at-admits t a k apart = ap (option_map (λ (b : Arrival). b.request)) (admitted-admits t a k apart)
+request_at-admits t a k apart = ap (λ x. cond (is_emptied t k) None (option_map (λ (b : Arrival). b.request) x)) (admitted-admits t a k apart)
 
 pub WindowAgrees-admitted : (o : Setting) (w : Received) (t : Trace) (a : Arrival) → WindowAgrees o w t → number_expected w ≤ a.number → a.number < number_expected w + room_of w → is_received t a.number ≡ false → is_regular_request o a.request ≡ true
     → WindowAgrees o (with_held w a) ((Admits a ∷ []) ∷ t)
@@ -93,12 +94,13 @@ WindowAgrees-admitted o w t a h low high new regular =
       below = λ n l u. received-admits t a n ∙ ap (λ b. b || (a.number == n)) (h.below n l u);
       inside = λ k lt. ⊎_elim
           (λ here. ap (λ i. get_or (set w.places k₀ (Some (Some a.request))) i None) here ∙ get_or-set_same w.places k₀ (Some (Some a.request)) None in_range
-          ∙ sym (ap (place_of t') (let z : e + k ≡ a.number = omega (arith, here, at) in z) ∙ place_of-here t a new undelivered))
+          ∙ sym (ap (place_of t') (let z : e + k ≡ a.number = omega (arith, here, at) in z) ∙ place_of-here t a new undelivered (h.unemptied a.number new)))
           (λ apart. get_or-set_other w.places k₀ k (Some (Some a.request)) None apart ∙ h.inside k (omega (arith, long))
           ∙ sym (place_of-other t a (e + k) (let no : (a.number == e + k) ≡ false = grind (arith, nat_tests) in no)))
           (cases_eq k k₀);
       above = λ n u. received-admits t a n ∙ ap (λ b. b || (a.number == n)) (h.above n (omega (arith, long))) ∙ (let far : a.number < n = omega (arith, long, in_range) in let no : (a.number == n) ≡ false = grind (arith, nat_tests) in no);
       undelivered = h.undelivered;
+      unemptied = λ n gone. h.unemptied n (or_none (is_received t n) (a.number == n) (sym (received-admits t a n) ∙ gone)).0;
       requests = λ n b found. ⊎_elim (λ before. h.requests n b before) (λ this. ap (λ (x : Arrival). is_regular_request o x.request) (sym this) ∙ regular) (admitted-cases t a n b found);
       delivered = append-nil (shown delivers t) ∙ h.delivered ∙ same_range t t' (number_of_first o.first) (e - number_of_first o.first) (λ k l u. sym (request_at-admits t a k (let no : (a.number == k) ≡ false = let lt : k < a.number = omega (arith, h.first) in grind (arith, nat_tests) in no)));
       few = omega (arith, h.few, long);
@@ -129,22 +131,6 @@ next_request o w t r a h =
     let at : e + 0 ≡ e = omega arith in
     let facts = some_held (is_received t e) (held t e) r (sym (ap (place_of t) at) ∙ sym (a.inside 0 (has_first w.places (Some r) h)) ∙ h) in
     record { arrival = facts.1.0; held_is = facts.1.1.0; request_is = facts.1.1.1; received_is = facts.0 }
-
--- a received number has a request, as long as its turn hasn't come
-pub no_empty_place : (o : Setting) (w : Received) (t : Trace) → WindowAgrees o w t → at_place w 0 ≡ Some None → ⊥
-no_empty_place o w t a h =
-    let e : ℕ = number_expected w in
-    let at : e + 0 ≡ e = omega arith in
-    let is : place_of t e ≡ Some None = sym (ap (place_of t) at) ∙ sym (a.inside 0 (has_first w.places None h)) ∙ h in
-    by_cases (is_received t e) refl is
-  where
-    by_cases : (b : Bool) → is_received t (number_expected w) ≡ b → cond b (Some (option_map (λ (x : Arrival). x.request) (held t (number_expected w)))) None ≡ Some None → ⊥
-    by_cases false is h = cc
-    by_cases true is h =
-        let found = received_admitted t (number_expected w) is in
-        let held_is : held t (number_expected w) ≡ Some found.0 = ap (λ b. cond b None (admitted t (number_expected w))) (a.undelivered (number_expected w) (omega arith)) ∙ found.1 in
-        let z : Some (Some found.0.request) ≡ Some None = sym (ap (λ x. let y : Option (Option Request) = Some (option_map (λ (b : Arrival). b.request) x) in y) held_is) ∙ h in
-        cc
 
 last_none : {A : Type 0} (xs : List (Option A)) (k : ℕ) → length xs ≤ k → get_or (xs ++ None ∷ []) k None ≡ None
 last_none [] zero h = refl
@@ -179,7 +165,8 @@ WindowAgrees-turned o w t r ms h place x q =
     let rest : length (drop 1 old) + 1 ≡ length old = omega (arith, length-drop 1 old) in
     let long : length (drop 1 old ++ None ∷ []) ≡ length old = length_push (drop 1 old) None ∙ rest in
     let same_received : received t' ≡ received t = ap (λ ns. received t ++ ns) q.receives ∙ append-nil (received t) in
-    let admitted_is : admitted t e ≡ Some a = sym (ap (λ b. cond b None (admitted t e)) (h.undelivered e (omega arith))) ∙ x.held_is in
+    let admitted_is = admitted_of_held t e a x.held_is in
+    let stays : is_emptied t e ≡ false = held_unemptied t e a x.held_is in
     let low : number_of_first o.first ≤ e = omega (arith, h.first) in
     let not_full : w.unfinished < length old = ⊎_elim (λ lt. lt) (λ full. absurd (let z : at_place w 0 ≡ None = h.free 0 (omega arith) in let y : Some (Some r) ≡ None = sym place ∙ z in cc)) (cases_lt w.unfinished (length old)) in
     let shifted : (k : ℕ) → k + 1 < length old → get_or (drop 1 old ++ None ∷ []) k None ≡ get_or old (k + 1) None = λ k inner. get_or_append_left (drop 1 old) (None ∷ []) None k (omega (arith, rest)) ∙ get_or-drop 1 old k None ∙ ap (λ i. get_or old i None) (let z : 1 + k ≡ k + 1 = omega arith in z) in
@@ -199,10 +186,11 @@ WindowAgrees-turned o w t r ms h place x q =
             (cases_lt (k + 1) (length old));
         above = λ n u. ap (λ ns. contains ns n) same_received ∙ h.above n (omega (arith, long));
         undelivered = λ n u. ap (λ b. (b || list_any (delivers_number n) ms) || is_delivered t n) (let no : (a.number == n) ≡ false = grind (arith, nat_tests) in no) ∙ ap (λ b. b || is_delivered t n) (q.delivers_no n) ∙ h.undelivered n (omega arith);
+        unemptied = λ n gone. ap (λ b. b || is_emptied t n) (q.empties_no n) ∙ h.unemptied n (sym (ap (λ ns. contains ns n) same_received) ∙ gone);
         requests = λ n b found. h.requests n b (sym (ap (λ xs. first_of (shown (admits_at n) t ++ xs)) (q.admits n) ∙ ap first_of (append-nil (shown (admits_at n) t))) ∙ found);
         delivered = ap (λ rs. shown delivers t ++ (a.request ∷ rs)) q.delivers_none
             ∙ ap (λ rs. rs ++ a.request ∷ []) (h.delivered ∙ same_range t t' (number_of_first o.first) (e - number_of_first o.first) (λ k l u. sym (request_at-turned t a ms k q)))
-            ∙ ap (λ y. executed_below o t' e ++ cons_option y []) (sym (request_at-turned t a ms e q ∙ ap (option_map (λ (b : Arrival). b.request)) admitted_is))
+            ∙ ap (λ y. executed_below o t' e ++ cons_option y []) (sym (request_at-turned t a ms e q ∙ ap (λ b. cond b None (option_map (λ (b : Arrival). b.request) (admitted t e))) stays ∙ ap (option_map (λ (b : Arrival). b.request)) admitted_is))
             ∙ sym (executed_below-more o t' e low) ∙ ap (executed_below o t') (let z : e + 1 ≡ number_of_first w.first + (w.turned + 1) = omega arith in z);
         few = omega (arith, long, h.few);
         free = λ k big. free k (omega (arith, long, big));
@@ -211,13 +199,71 @@ WindowAgrees-turned o w t r ms h place x q =
       last_free = λ k big. free k (omega (arith, long, big));
     }
 
+-- nothing is held at the next number, which is received
+pub record Passed (w : Received) (t : Trace) : Type 0 where
+  pub received_is : is_received t (number_expected w) ≡ true
+  pub held_is : held t (number_expected w) ≡ None
+
+pub passed_at : (o : Setting) (w : Received) (t : Trace) → WindowAgrees o w t → at_place w 0 ≡ Some None → Passed w t
+passed_at o w t h place =
+    let e : ℕ = number_expected w in
+    let at : e + 0 ≡ e = omega arith in
+    by_received (is_received t e) refl (sym (ap (place_of t) at) ∙ sym (h.inside 0 (has_first w.places None place)) ∙ place)
+  where
+    map_none : (x : Option Arrival) → Some (option_map (λ (a : Arrival). a.request) x) ≡ Some None → x ≡ None
+    map_none None said = refl
+    map_none (Some a) said = absurd (let z : Some (Some a.request) ≡ Some None = said in cc)
+
+    by_received : (b : Bool) → is_received t (number_expected w) ≡ b → cond b (Some (option_map (λ (x : Arrival). x.request) (held t (number_expected w)))) None ≡ Some None → Passed w t
+    by_received true is said = record { received_is = is; held_is = map_none (held t (number_expected w)) said }
+    by_received false is said = absurd cc
+
+-- a number that nothing is held at is passed
+pub WindowAgrees-passed : (o : Setting) (w : Received) (t : Trace) → WindowAgrees o w t → at_place w 0 ≡ Some None → WindowAgrees o (turned_window w) t
+WindowAgrees-passed o w t h place =
+    let e : ℕ = number_expected w in
+    let old : List (Option (Option Request)) = w.places in
+    let some : 0 < length old = has_first old None place in
+    let rest : length (drop 1 old) + 1 ≡ length old = omega (arith, length-drop 1 old) in
+    let long : length (drop 1 old ++ None ∷ []) ≡ length old = length_push (drop 1 old) None ∙ rest in
+    let p : Passed w t = passed_at o w t h place in
+    let low : number_of_first o.first ≤ e = omega (arith, h.first) in
+    let shifted : (k : ℕ) → k + 1 < length old → get_or (drop 1 old ++ None ∷ []) k None ≡ get_or old (k + 1) None = λ k inner. get_or_append_left (drop 1 old) (None ∷ []) None k (omega (arith, rest)) ∙ get_or-drop 1 old k None ∙ ap (λ i. get_or old i None) (let z : 1 + k ≡ k + 1 = omega arith in z) in
+    record {
+      first = h.first;
+      size = long ∙ h.size;
+      below = λ n l u. ⊎_elim (λ same. ap (is_received t) same ∙ p.received_is) (λ apart. h.below n l (omega arith)) (cases_eq n e);
+      inside = λ k lt. ⊎_elim
+          (λ inner. shifted k inner ∙ h.inside (k + 1) inner ∙ ap (place_of t) (let z : e + (k + 1) ≡ number_of_first w.first + (w.turned + 1) + k = omega arith in z))
+          (λ last. last_none (drop 1 old) k (omega (arith, rest))
+          ∙ sym (ap (λ b. cond b (Some (option_map (λ (y : Arrival). y.request) (held t (number_of_first w.first + (w.turned + 1) + k)))) None) (h.above (number_of_first w.first + (w.turned + 1) + k) (omega (arith, last)))))
+          (cases_lt (k + 1) (length old));
+      above = λ n u. h.above n (omega (arith, long));
+      undelivered = λ n u. h.undelivered n (omega arith);
+      unemptied = h.unemptied;
+      requests = h.requests;
+      delivered = h.delivered ∙ sym (append-nil (executed_below o t e)) ∙ ap (λ y. executed_below o t e ++ cons_option y []) (sym (nothing_here (is_emptied t e) refl (held_none p.held_is)))
+          ∙ sym (executed_below-more o t e low) ∙ ap (executed_below o t) (let z : e + 1 ≡ number_of_first w.first + (w.turned + 1) = omega arith in z);
+      few = omega (arith, long, h.few);
+      free = λ k big. ⊎_elim (λ inner. shifted k inner ∙ h.free (k + 1) (omega (arith, big, long))) (λ last. last_none (drop 1 old) k (omega (arith, rest))) (cases_lt (k + 1) (length old));
+    }
+  where
+    held_none : held t (number_expected w) ≡ None → cond (is_emptied t (number_expected w)) None (admitted t (number_expected w)) ≡ None
+    held_none said = sym (ap (λ b. cond (b || is_emptied t (number_expected w)) None (admitted t (number_expected w))) (h.undelivered (number_expected w) (omega arith))) ∙ said
+
+    nothing_here : (b : Bool) → is_emptied t (number_expected w) ≡ b → cond (is_emptied t (number_expected w)) None (admitted t (number_expected w)) ≡ None → request_at t (number_expected w) ≡ None
+    nothing_here true is said = ap (λ c. cond c None (option_map (λ (a : Arrival). a.request) (admitted t (number_expected w)))) is
+    nothing_here false is said =
+        ap (λ c. cond c None (option_map (λ (a : Arrival). a.request) (admitted t (number_expected w)))) is
+        ∙ ap (option_map (λ (a : Arrival). a.request)) (sym (ap (λ c. cond c None (admitted t (number_expected w))) is) ∙ said)
+
 -- a command begins in a window that has turned
 pub WindowAgrees-started : (o : Setting) (w : Received) (t : Trace) → Turned o w t → WindowAgrees o (with_unfinished w (w.unfinished + 1)) t
 WindowAgrees-started o w t h =
     let a = h.agrees in
-    record { first = a.first; size = a.size; below = a.below; inside = a.inside; above = a.above; undelivered = a.undelivered; requests = a.requests; delivered = a.delivered; few = omega (arith, h.not_full); free = λ k big. h.last_free k (omega (arith, big)) }
+    record { first = a.first; size = a.size; below = a.below; inside = a.inside; above = a.above; undelivered = a.undelivered; unemptied = a.unemptied; requests = a.requests; delivered = a.delivered; few = omega (arith, h.not_full); free = λ k big. h.last_free k (omega (arith, big)) }
 
 -- a command is over
 pub WindowAgrees-finished : (o : Setting) (w : Received) (t : Trace) → WindowAgrees o w t → WindowAgrees o (with_unfinished w (w.unfinished - 1)) t
 WindowAgrees-finished o w t a =
-    record { first = a.first; size = a.size; below = a.below; inside = a.inside; above = a.above; undelivered = a.undelivered; requests = a.requests; delivered = a.delivered; few = omega (arith, a.few); free = λ k big. a.free k (omega (arith, big)) }
+    record { first = a.first; size = a.size; below = a.below; inside = a.inside; above = a.above; undelivered = a.undelivered; unemptied = a.unemptied; requests = a.requests; delivered = a.delivered; few = omega (arith, a.few); free = λ k big. a.free k (omega (arith, big)) }

@@ -11,23 +11,12 @@ use Rattle.iscsi_session.specs.declared.kind.Kind.TheVariants.{PassedOver, Unkno
 use Rattle.iscsi_session.specs.declared.event.Event.TheVariants.{Arrive, Done}
 use Rattle.iscsi_session.specs.Settings.{Setting}
 use Rattle.iscsi_session.specs.Trace.{Arrival, Command, Mark, Admits, Trace, after_items, first_of, is_received, held, live, was_free}
-use Rattle.iscsi_session.specs.Execution.{exp_of, max_of, item_of, immediate_item, rejected, ignored, completion}
+use Rattle.iscsi_session.specs.Execution.{exp_of, max_of, rejected, ignored, completion}
+use Rattle.iscsi_session.specs.Items.{immediate_item, agenda}
 
--- the requests whose turn comes as ExpCmdSN goes from e to e'
-abbrev pub due : Trace → ℕ → ℕ → List Arrival
-due t e e' = flat_map (λ k. elim (held t k) [ Some a ↦ a ∷ [] | None ↦ [] ]) (range_with_len e (e' - e))
-
--- the item of a turn, if the request is held still
-abbrev pub turn : Setting → Trace → Arrival → List (List Mark)
-turn o t a = if is_some (held t a.number) then item_of o t a ∷ [] else []
-
-abbrev pub turns : Setting → List Arrival → Trace → List (List Mark)
-turns o [] t = []
-turns o (a ∷ as') t = let now = turn o t a in now ++ turns o as' (after_items now t)
-
--- an item, and the turns that it makes due
+-- an item, and the agenda that it makes due
 abbrev pub with_turns : Setting → Trace → List Mark → List (List Mark)
-with_turns o t item = let t' = item ∷ t in item ∷ turns o (due t' (exp_of o t) (exp_of o t')) t'
+with_turns o t item = let t' = item ∷ t in item ∷ agenda o (exp_of o t) (exp_of o t' - exp_of o t) t'
 
 -- a numbered request
 abbrev pub numbered : Setting → Trace → Arrival → List (List Mark)
@@ -47,7 +36,7 @@ kind_of r =
 abbrev pub arrival_as : Setting → Trace → Arrival → Kind → List (List Mark)
 arrival_as o t a PassedOver = ignored Data
 arrival_as o t a Unknown = rejected a ∷ []
-arrival_as o t a ExecutesKind = if is_immediate a.request then immediate_item o t a ∷ [] else numbered o t a
+arrival_as o t a ExecutesKind = if is_immediate a.request then with_turns o t (immediate_item o t a) else numbered o t a
 
 -- the items of an arrival
 abbrev pub arrival : Setting → Trace → Arrival → List (List Mark)

@@ -1,5 +1,5 @@
 -- Delivery: the requests that a log delivers, against those received without a gap.
-use Rattle.std.specs.Prelude.{ℕ, ◌-◌, List, [], ◌∷◌, Option, Some, None, option_map}
+use Rattle.std.specs.Prelude.{ℕ, ◌-◌, List, [], ◌∷◌, Option, Some, None, option_map, if◌then◌else◌}
 use Rattle.std.specs.List.{flat_map, filter_map, range_with_len}
 use Rattle.iscsi_wire.specs.declared.request.Request.{Request}
 use Rattle.iscsi_wire.specs.Serial.{number_of_first}
@@ -8,13 +8,13 @@ use Rattle.iscsi_session.specs.declared.effect.Effect.TheVariants.{Deliver}
 use Rattle.iscsi_session.specs.declared.event.Event.{Event}
 use Rattle.iscsi_session.specs.declared.log.Entry.{Entry}
 use Rattle.iscsi_session.specs.Settings.{Setting}
-use Rattle.iscsi_session.specs.Trace.{Arrival, Mark, Delivers, Trace, admitted}
+use Rattle.iscsi_session.specs.Trace.{Arrival, Mark, Delivers, Trace, admitted, is_emptied}
 use Rattle.iscsi_session.specs.Execution.{exp_of}
 use Rattle.iscsi_session.specs.Run.{trace_of}
 
--- the request that was admitted at a number
+-- the request that was admitted at a number, and not taken out
 abbrev pub request_at : Trace → ℕ → Option Request
-request_at t n = option_map (λ (a : Arrival). a.request) (admitted t n)
+request_at t n = if is_emptied t n then None else option_map (λ (a : Arrival). a.request) (admitted t n)
 
 -- those from the first CmdSN on, before n, in the order of their numbers
 abbrev pub executed_below : Setting → Trace → ℕ → List Request

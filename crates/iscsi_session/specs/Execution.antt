@@ -13,7 +13,7 @@ use Rattle.iscsi_session.specs.declared.effect.Why.TheVariants.{Stale}
 use Rattle.iscsi_session.specs.declared.verdict.Verdict.{Verdict}
 use Rattle.iscsi_session.specs.declared.verdict.Verdict.TheVariants.{Nothing, Answer, Enter}
 use Rattle.iscsi_session.specs.Settings.{Setting}
-use Rattle.iscsi_session.specs.Trace.{Arrival, Command, Mark, Delivers, Executes, Leaves, Enters, Sends, Ignores, Trace, expected, live, live_in, entered}
+use Rattle.iscsi_session.specs.Trace.{Arrival, Command, Mark, Leaves, Enters, Sends, Ignores, Trace, expected, live, live_in, entered}
 
 -- ExpCmdSN
 abbrev pub exp_of : Setting → Trace → ℕ
@@ -114,18 +114,6 @@ abbrev pub marks_of : Trace → Arrival → Verdict → List Mark
 marks_of t a Nothing = []
 marks_of t a (Answer reply) = reply_on a reply
 marks_of t a (Enter unit) = Enters (next_command t a unit) ∷ []
-
--- the item of a request that executes, which begins with this mark
-abbrev pub execution : Setting → Trace → Mark → Arrival → List Mark
-execution o t mark a = let t' = (mark ∷ []) ∷ t in mark ∷ marks_of t' a (verdict_of o t' a.request)
-
--- the item of a request whose turn it is. It isn't held any more
-abbrev pub item_of : Setting → Trace → Arrival → List Mark
-item_of o t a = execution o t (Delivers a) a
-
--- the item of an immediate request
-abbrev pub immediate_item : Setting → Trace → Arrival → List Mark
-immediate_item o t a = execution o t (Executes a) a
 
 -- the item of a request that is rejected for its opcode
 abbrev pub rejected : Arrival → List Mark

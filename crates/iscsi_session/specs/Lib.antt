@@ -1,6 +1,8 @@
 pub mod Settings
 pub mod Trace
 pub mod Execution
+pub mod Management
+pub mod Items
 pub mod Agenda
 pub mod Run
 pub mod Executed

@@ -3,12 +3,12 @@ use Rattle.std.specs.Prelude.{ℕ, ◌+◌, ◌==◌, not, List, [], ◌∷◌, 
 use Rattle.std.specs.List.{flat_map, range_with_len}
 use Rattle.iscsi_wire.specs.Serial.{wire}
 use Rattle.iscsi_session.specs.declared.effect.Effect.{Effect}
-use Rattle.iscsi_session.specs.declared.effect.Effect.TheVariants.{Deliver, Immediate, Enter, Enable, Leave, Send, Ignore}
+use Rattle.iscsi_session.specs.declared.effect.Effect.TheVariants.{Deliver, Immediate, Wait, Void, Empty, Enter, Enable, Leave, Send, Ignore}
 use Rattle.iscsi_session.specs.declared.effect.Numbers.{Numbers}
 use Rattle.iscsi_session.specs.declared.event.Event.{Event}
 use Rattle.iscsi_session.specs.declared.log.Entry.{Entry}
 use Rattle.iscsi_session.specs.Settings.{Setting}
-use Rattle.iscsi_session.specs.Trace.{Command, Mark, Admits, Delivers, Executes, Leaves, Enters, Sends, Ignores, Trace, after_items, shown, first_of, was_free, enabled_in, sent_on}
+use Rattle.iscsi_session.specs.Trace.{Command, Mark, Admits, Delivers, Executes, Voids, Empties, Waits, Leaves, Enters, Sends, Ignores, Trace, after_items, shown, first_of, was_free, enabled_in, sent_on}
 use Rattle.iscsi_session.specs.Execution.{exp_of, max_of}
 use Rattle.iscsi_session.specs.Agenda.{items_of}
 
@@ -38,6 +38,9 @@ abbrev pub effects_of_mark : Setting → Trace → Mark → List Effect
 effects_of_mark o t (Admits a) = []
 effects_of_mark o t (Delivers a) = Deliver a.request ∷ []
 effects_of_mark o t (Executes a) = Immediate a.request ∷ []
+effects_of_mark o t (Waits a) = Wait a.request ∷ []
+effects_of_mark o t (Voids n) = Void (wire n) ∷ []
+effects_of_mark o t (Empties a) = Empty (wire a.number) ∷ []
 effects_of_mark o t (Leaves c) = Leave c.ticket c.unit ∷ []
 effects_of_mark o t (Enters c) = Enter c.ticket c.unit c.attr ∷ []
 effects_of_mark o t (Sends conn reply) = Send conn (stat_sn_of o t conn) reply ∷ []

@@ -3,7 +3,7 @@ use Rattle.std.specs.Prelude.{◌≡◌, ℕ, pos, ◌-ℤ◌, ◌+◌, ◌*◌,
 use Rattle.std.specs.List.{list_all, range_with_len}
 use Rattle.iscsi_wire.specs.declared.request.Request.{Request}
 use Rattle.iscsi_wire.specs.Serial.{wire, number_of_first}
-use Rattle.iscsi_wire.specs.Fields.{connection_of, is_immediate, itt}
+use Rattle.iscsi_wire.specs.Fields.{connection_of, is_immediate, opcode, itt}
 use Rattle.iscsi_window.specs.Received.{Received, number_expected}
 use Rattle.iscsi_tasks.specs.declared.task.Task.{Task}
 use Rattle.iscsi_tasks.specs.declared.member.Member.{Member}
@@ -11,7 +11,7 @@ use Rattle.iscsi_tasks.specs.Sets.{Members, opened}
 use Rattle.iscsi_session.specs.declared.event.Event.{Event}
 use Rattle.iscsi_session.specs.declared.session.live.Live.{Live}
 use Rattle.iscsi_session.specs.Settings.{Setting, is_known}
-use Rattle.iscsi_session.specs.Trace.{Arrival, Command, Trace, has, shown, held, admitted, is_received, is_delivered, entered, live, live_in, was_free, is_among, leaves_ticket}
+use Rattle.iscsi_session.specs.Trace.{Arrival, Command, Trace, has, shown, waits, held, admitted, is_received, is_delivered, is_emptied, entered, live, live_in, was_free, is_among, leaves_ticket}
 use Rattle.iscsi_session.specs.Execution.{exp_of, unfinished}
 use Rattle.iscsi_session.specs.Run.{trace_of, stat_sn_of}
 use Rattle.iscsi_session.specs.Executed.{executed_below, delivers}
@@ -55,9 +55,9 @@ kept c = record { ticket = c.ticket; unit = c.unit; conn = connection_of c.arriv
 abbrev pub are_known : List Live → List (ℕ × ℕ) → Bool
 are_known lives conns = list_all (λ l. is_known l.conn conns) lives
 
--- the request is numbered, and came on a connection of the session
+-- the request is numbered and no Task Management Request, and came on a connection of the session
 abbrev pub is_regular_request : Setting → Request → Bool
-is_regular_request o r = not (is_immediate r) && is_known (connection_of r) o.conns
+is_regular_request o r = (not (is_immediate r) && not (opcode r == 0x02)) && is_known (connection_of r) o.conns
 
 -- the command is in a unit of the session, and came on one of its connections
 abbrev pub is_regular : Setting → Command → Bool
@@ -119,6 +119,8 @@ pub record WindowAgrees (o : Setting) (w : Received) (t : Trace) : Type 0 where
   pub above : (n : ℕ) → number_expected w + length w.places ≤ n → is_received t n ≡ false
   -- those before the next had their turn
   pub undelivered : (n : ℕ) → number_expected w ≤ n → is_delivered t n ≡ false
+  -- what was taken out was received
+  pub unemptied : (n : ℕ) → is_received t n ≡ false → is_emptied t n ≡ false
   pub requests : (n : ℕ) (a : Arrival) → admitted t n ≡ Some a → is_regular_request o a.request ≡ true
   pub delivered : shown delivers t ≡ executed_below o t (number_expected w)
   -- a live numbered command takes a place at the window's end
@@ -154,6 +156,7 @@ pub record Agrees (o : Setting) (s : Core) (t : Trace) : Type 0 where
   pub sets : SetsAgree o s.sets t
   pub unfinished : s.window.unfinished ≡ unfinished t
   pub enabled : EnabledSoFar o t  -- what was given is what the rule enables
+  pub none_waits : shown waits t ≡ []  -- so far no function waits
 
 -- and nothing is due
 pub record Settled (o : Setting) (s : Core) (t : Trace) : Type 0 where

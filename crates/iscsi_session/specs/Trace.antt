@@ -27,6 +27,9 @@ pub data Mark : Type 0 where
   Admits : Arrival → Mark  -- a numbered request is received, and held from now on
   Delivers : Arrival → Mark  -- a numbered request executes
   Executes : Arrival → Mark  -- an immediate request executes
+  Voids : ℕ → Mark  -- a number is received without a request
+  Empties : Arrival → Mark  -- a request that is held is taken out
+  Waits : Arrival → Mark  -- an immediate function waits for lower numbers
   Leaves : Command → Mark
   Enters : Command → Mark
   Sends : ℕ → Reply → Mark  -- a reply goes out on a connection
@@ -58,9 +61,10 @@ first_of (x ∷ xs) = Some x
 
 abbrev pub number_received : Mark → Option ℕ
 number_received (Admits a) = Some a.number
+number_received (Voids n) = Some n
 number_received _ = None
 
--- all numbers that were ever admitted
+-- all numbers that were ever admitted or voided
 abbrev pub received : Trace → List ℕ
 received t = shown number_received t
 
@@ -96,9 +100,30 @@ delivers_number n _ = false
 abbrev pub is_delivered : Trace → ℕ → Bool
 is_delivered t n = has (delivers_number n) t
 
--- the request that is held at n: admitted, and not executed since
+abbrev pub empties_number : ℕ → Mark → Bool
+empties_number n (Empties a) = a.number == n
+empties_number n _ = false
+
+abbrev pub is_emptied : Trace → ℕ → Bool
+is_emptied t n = has (empties_number n) t
+
+-- the request that is held at n: admitted, and neither executed nor taken out since
 abbrev pub held : Trace → ℕ → Option Arrival
-held t n = if is_delivered t n then None else admitted t n
+held t n = if is_delivered t n || is_emptied t n then None else admitted t n
+
+-- ---- functions that wait
+
+abbrev pub waits : Mark → Option Arrival
+waits (Waits a) = Some a
+waits _ = None
+
+abbrev pub executes_event : ℕ → Mark → Bool
+executes_event event (Executes a) = a.event == event
+executes_event event _ = false
+
+-- the functions that wait still, in order of arrival. An event has one arrival
+abbrev pub waiting : Trace → List Arrival
+waiting t = filter (λ a. not (has (executes_event a.event) t)) (shown waits t)
 
 -- ---- commands (SAM-5 section 8)
 

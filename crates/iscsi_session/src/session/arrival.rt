@@ -1,12 +1,13 @@
 //! The arrival of a request, and the turns that become due by it.
 
-ghost use Rattle.std.specs.Prelude.{false, ◌*◌, ◌≡◌, ◌==◌, ℕ, ◌+◌, ◌≤◌, ◌<◌, true, ◌++◌, count_by, is_some, vec_len, vec_capacity};
-ghost use Rattle.iscsi_wire.specs.Fields.{connection_of, is_immediate};
+ghost use Rattle.std.specs.Prelude.{false, ◌-◌, ◌*◌, ◌≡◌, ◌==◌, ℕ, ◌+◌, ◌≤◌, ◌<◌, true, ◌++◌, count_by, is_some, vec_len, vec_capacity};
+ghost use Rattle.iscsi_wire.specs.Fields.{connection_of, is_immediate, opcode};
 ghost use Rattle.iscsi_window.specs.Windows.{at_place, offer_to, number_expected};
 ghost use Rattle.iscsi_session.specs.Settings.{Setting, is_known as known_in};
 ghost use Rattle.iscsi_session.specs.Trace.{Trace, after_items};
 ghost use Rattle.iscsi_session.specs.Execution.{exp_of};
-ghost use Rattle.iscsi_session.specs.Agenda.{due, turns, arrival, arrival_of, numbered};
+ghost use Rattle.iscsi_session.specs.Agenda.{arrival, arrival_of, numbered};
+ghost use Rattle.iscsi_session.specs.Items.{agenda};
 ghost use Rattle.iscsi_session.specs.Run.{effects_of};
 ghost use Rattle.iscsi_session.specs.Standing.{Agrees, Settled, is_held};
 ghost use Rattle.iscsi_session.specs.Steps.{turned_if, turn_effects, KeepsPace, with_offered, counted};
@@ -46,6 +47,7 @@ impl Session {
     /// Takes a numbered request.
     fn receive(&mut self, request: Request, out: &mut Vec<Effect>)
         requires regular { is_immediate request ≡ false }
+        requires no_function { (opcode request == 0x02) ≡ false }
         requires known { known_in (connection_of request) self.old.conns ≡ true }
         requires counted { self.old.window.turned + count_by is_some self.old.window.places < self.old.taken }
         requires entered { self.old.entered + count_by is_some self.old.window.places < self.old.taken }
@@ -85,8 +87,8 @@ impl Session {
     /// Takes the turns that are due.
     fn take_turns(&mut self, out: &mut Vec<Effect>)
         requires room { vec_len out.old + 3 * count_by is_held self.old.window.places ≤ vec_capacity out.old }
-        ensures settled { (o : Setting) (t : Trace) → Agrees o self.old t → Settled o self.new (after_items (turns o (due t (number_expected self.old.window) (exp_of o t)) t) t) }
-        ensures effects { (o : Setting) (t : Trace) → Agrees o self.old t → out.new.items ≡ out.old.items ++ effects_of o t (turns o (due t (number_expected self.old.window) (exp_of o t)) t) }
+        ensures settled { (o : Setting) (t : Trace) → Agrees o self.old t → Settled o self.new (after_items (agenda o (number_expected self.old.window) (exp_of o t - number_expected self.old.window) t) t) }
+        ensures effects { (o : Setting) (t : Trace) → Agrees o self.old t → out.new.items ≡ out.old.items ++ effects_of o t (agenda o (number_expected self.old.window) (exp_of o t - number_expected self.old.window) t) }
         ensures taken { self.new.taken ≡ self.old.taken }
         ensures pace { KeepsPace self.old.window self.new.window }
         ensures spent { vec_len out.new ≤ vec_len out.old + 3 * count_by is_held self.old.window.places }

@@ -9,6 +9,7 @@ use Rattle.iscsi_session.specs.Standing.{Core, Settled}
 use Rattle.iscsi_session.specs.Steps.{KeepsPace}
 use Rattle.iscsi_session.proofs.ListLemmas.{is_known-cids}
 use Rattle.iscsi_session.proofs.FlowLemmas.{pace-executed}
+use Rattle.iscsi_session.proofs.TurnLemmas.{executes_no_function}
 use Rattle.iscsi_session.proofs.ArriveLemmas.{executed_taken, passed_over, rejected_opcode, executed_at_once, is_numbered_arrival}
 use Rattle.iscsi_session.proofs.session.Session.arrive.Goals as goal
 
@@ -51,3 +52,6 @@ returns-else-immediate-clause-settled c = λ o index t taken h.
 pub returns-else-immediate-clause-effects : goal.returns-else-immediate-clause-effects
 returns-else-immediate-clause-effects c = λ o index t taken h.
     c.receive.ensures.effects o index t h ∙ ap (λ (items : List (List Mark)). c.args.out.now.items ++ effects_of o t items) (sym (is_numbered_arrival o index t c.args.request (sym c.kind_of.ensures ∙ c.in-Executes.is) (sym c.immediate.ensures ∙ c.if-immediate.false)))
+
+pub receive-requires-clause-no_function : goal.receive-requires-clause-no_function
+receive-requires-clause-no_function c = executes_no_function c.args.request (sym c.kind_of.ensures ∙ c.in-Executes.is)

@@ -12,41 +12,41 @@ use Rattle.iscsi_session.proofs.session.Session.receive.Goals as goal
 pub returns-in-Held-clause-settled : goal.returns-in-Held-clause-settled
 returns-in-Held-clause-settled c = λ o index t h.
     let x : Offered o c.args.self.now index t c.args.request =
-    offered o c.args.self.now index t c.args.request h c.requires.regular
+    offered o c.args.self.now index t c.args.request h c.requires.regular c.requires.no_function
     (sym (is_known-cids (connection_of c.args.request) c.args.self.now.conns o.conns h.agrees.replies.cids) ∙ c.requires.known) in
     held_settled o c.args.self.now c.offer.new.self c.take_turns.new.self index t c.args.request x (sym c.offer.ensures.answer ∙ c.in-Held.is) c.offer.ensures.session c.take_turns.ensures.settled
 
 pub returns-in-Held-clause-effects : goal.returns-in-Held-clause-effects
 returns-in-Held-clause-effects c = λ o index t h.
     let x : Offered o c.args.self.now index t c.args.request =
-    offered o c.args.self.now index t c.args.request h c.requires.regular
+    offered o c.args.self.now index t c.args.request h c.requires.regular c.requires.no_function
     (sym (is_known-cids (connection_of c.args.request) c.args.self.now.conns o.conns h.agrees.replies.cids) ∙ c.requires.known) in
     held_effects o c.args.self.now c.offer.new.self index t c.args.request c.args.out.now.items c.take_turns.new.out.items x (sym c.offer.ensures.answer ∙ c.in-Held.is) c.offer.ensures.session c.take_turns.ensures.effects
 
 pub returns-in-Outside-clause-settled : goal.returns-in-Outside-clause-settled
 returns-in-Outside-clause-settled c = λ o index t h.
     let x : Offered o c.args.self.now index t c.args.request =
-    offered o c.args.self.now index t c.args.request h c.requires.regular
+    offered o c.args.self.now index t c.args.request h c.requires.regular c.requires.no_function
     (sym (is_known-cids (connection_of c.args.request) c.args.self.now.conns o.conns h.agrees.replies.cids) ∙ c.requires.known) in
     subst (λ (s : Core). Settled o s (after_items (numbered o t (arrival_of o index t c.args.request)) t)) (sym c.offer.ensures.session) (x.outside (sym c.offer.ensures.answer ∙ c.in-Outside.is)).settled
 
 pub returns-in-Outside-clause-effects : goal.returns-in-Outside-clause-effects
 returns-in-Outside-clause-effects c = λ o index t h.
     let x : Offered o c.args.self.now index t c.args.request =
-    offered o c.args.self.now index t c.args.request h c.requires.regular
+    offered o c.args.self.now index t c.args.request h c.requires.regular c.requires.no_function
     (sym (is_known-cids (connection_of c.args.request) c.args.self.now.conns o.conns h.agrees.replies.cids) ∙ c.requires.known) in
     c.push_reserved.ensures.items ∙ ap (λ (es : List Effect). c.args.out.now.items ++ es) (x.outside (sym c.offer.ensures.answer ∙ c.in-Outside.is)).effects_are
 
 pub returns-in-Duplicate-clause-settled : goal.returns-in-Duplicate-clause-settled
 returns-in-Duplicate-clause-settled c = λ o index t h.
     let x : Offered o c.args.self.now index t c.args.request =
-    offered o c.args.self.now index t c.args.request h c.requires.regular
+    offered o c.args.self.now index t c.args.request h c.requires.regular c.requires.no_function
     (sym (is_known-cids (connection_of c.args.request) c.args.self.now.conns o.conns h.agrees.replies.cids) ∙ c.requires.known) in
     subst (λ (s : Core). Settled o s (after_items (numbered o t (arrival_of o index t c.args.request)) t)) (sym c.offer.ensures.session) (x.known (sym c.offer.ensures.answer ∙ c.in-Duplicate.is)).settled
 
 pub returns-in-Duplicate-clause-effects : goal.returns-in-Duplicate-clause-effects
 returns-in-Duplicate-clause-effects c = λ o index t h.
     let x : Offered o c.args.self.now index t c.args.request =
-    offered o c.args.self.now index t c.args.request h c.requires.regular
+    offered o c.args.self.now index t c.args.request h c.requires.regular c.requires.no_function
     (sym (is_known-cids (connection_of c.args.request) c.args.self.now.conns o.conns h.agrees.replies.cids) ∙ c.requires.known) in
     c.push_reserved-in-Duplicate.ensures.items ∙ ap (λ (es : List Effect). c.args.out.now.items ++ es) (x.known (sym c.offer.ensures.answer ∙ c.in-Duplicate.is)).effects_are

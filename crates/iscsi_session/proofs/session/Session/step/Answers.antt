@@ -1,4 +1,4 @@
-use Rattle.std.proofs.Common.{◌≡◌, ℕ, ◌∙◌, ◌+◌, ◌++◌, ap, sym, subst, refl, arith, List, [], ◌∷◌, length, length-append, count_by, Option, Some, None, Err, Ok}
+use Rattle.std.proofs.Common.{◌≡◌, ℕ, true, ◌∙◌, ◌+◌, ◌++◌, ap, sym, subst, refl, arith, List, [], ◌∷◌, length, length-append, count_by, Option, Some, None, Err, Ok}
 use Rattle.std.proofs.lemmas.List.{length_push}
 use Rattle.iscsi_session.specs.declared.effect.Numbers.{Numbers}
 use Rattle.iscsi_session.specs.declared.effect.Effect.{Effect}
@@ -8,12 +8,12 @@ use Rattle.iscsi_session.specs.declared.fault.SessionFault.TheVariants.{NoMemory
 use Rattle.iscsi_session.specs.Run.{trace_of, next_entry, after_event}
 use Rattle.iscsi_session.specs.Refusals.{RefusesAs, refusal_of}
 use Rattle.iscsi_session.specs.Standing.{Core, Settled, is_held}
-use Rattle.iscsi_session.specs.Steps.{KeepsPace, counted}
+use Rattle.iscsi_session.specs.Steps.{KeepsPace, comes_on, counted}
 use Rattle.iscsi_session.specs.Flow.{Flows}
 use Rattle.iscsi_session.proofs.FlowLemmas.{Flows-step}
 use Rattle.iscsi_session.proofs.RunLemmas.{trace_of-push}
 use Rattle.iscsi_session.proofs.AgreeLemmas.{settled_numbers}
-use Rattle.iscsi_session.proofs.StepLemmas.{Settled-counted, refusal_is}
+use Rattle.iscsi_session.proofs.StepLemmas.{Settled-counted, comes_on-same, taken_by, refusal_is}
 use Rattle.iscsi_session.proofs.OpenLemmas.{bound_is}
 use Rattle.iscsi_session.proofs.session.Session.step.Goals as goal
 
@@ -58,8 +58,9 @@ returns-clause-flow c = λ o h stands.
     let from = subst (λ (s : Core). Settled o (counted s) (trace_of o h)) (sym c.self.view_is) start in
     let e : Event = c.args.event.now in
     let now : Settled o c.apply.new.self (after_event o (length h) (trace_of o h) e) = c.apply.ensures.settled o (length h) (trace_of o h) (index_is c.args.self.now c.self.inside.taken h (ap (λ (s : Core). s.taken) c.self.view_is) stands.taken) from in
+    let known : comes_on o.conns e ≡ true = sym (comes_on-same o c.args.self.now (trace_of o h) e stands.settled.agrees) ∙ (taken_by c.args.self.now e (sym c.refusal.ensures ∙ c.in_default.is)).0 in
     let pace : KeepsPace c.args.self.now.window c.apply.new.self.window = subst (λ (s : Core). KeepsPace s.window c.apply.new.self.window) c.self.view_is c.apply.ensures.pace in
-    subst (Flows o (trace_of o h)) (sym (trace_of-push o h e)) (Flows-step o c.args.self.now c.apply.new.self (length h) (trace_of o h) e stands.settled now pace)
+    subst (Flows o (trace_of o h)) (sym (trace_of-push o h e)) (Flows-step o c.args.self.now c.apply.new.self (length h) (trace_of o h) e known stands.settled now pace)
 
 pub returns-clause-numbers : goal.returns-clause-numbers
 returns-clause-numbers c = λ o h stands.
