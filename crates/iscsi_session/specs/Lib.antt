@@ -12,4 +12,5 @@ pub mod Refusals
 pub mod Lines
 pub mod Standing
 pub mod Steps
+pub mod Functions
 pub mod Rows

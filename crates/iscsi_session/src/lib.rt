@@ -8,6 +8,7 @@ mod fault;
 mod kind;
 mod log;
 mod options;
+mod outcome;
 mod report;
 mod session;
 mod verdict;
