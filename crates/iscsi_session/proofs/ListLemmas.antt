@@ -7,9 +7,10 @@ use Rattle.std.specs.Prelude.{IsSome}
 use Rattle.std.proofs.lemmas.List.Sums.{sum_by-cons, sum_by-append}
 use Rattle.iscsi_wire.specs.Serial.{wire}
 use Rattle.iscsi_session.specs.declared.session.live.Live.{Live}
+use Rattle.iscsi_session.specs.declared.session.waiting.Waiting.{Waiting}
 use Rattle.iscsi_session.specs.Settings.{is_known}
 use Rattle.iscsi_wire.specs.declared.request.Request.{Request}
-use Rattle.iscsi_wire.specs.Fields.{connection_of}
+use Rattle.iscsi_wire.specs.Fields.{connection_of, is_immediate}
 use Rattle.iscsi_session.specs.Standing.{stat_sn_on, are_known, is_place_known}
 use Rattle.iscsi_session.specs.Steps.{count_reply, without_ticket}
 use Rattle.iscsi_session.proofs.BoolLemmas.{and_first, and_second}
@@ -87,7 +88,7 @@ is_known-cids cid xs ys h =
 -- ---- live commands
 
 -- one of some commands that all pass
-pub find-passes : (p q : Live → Bool) (lives : List Live) (l : Live) → list_all q lives ≡ true → find p lives ≡ Some l → q l ≡ true
+pub find-passes : {A : Type 0} (p q : A → Bool) (lives : List A) (l : A) → list_all q lives ≡ true → find p lives ≡ Some l → q l ≡ true
 find-passes p q [] l all found = absurd cc
 find-passes p q (x ∷ lives) l all found =
     elim (p x) as (λ b. cond b (Some x) (find p lives) ≡ Some l → q l ≡ true) [
@@ -116,6 +117,11 @@ are_known-replied cid lives conns h =
 pub are_known-left : (ticket : ℕ) (lives : List Live) (conns : List (ℕ × ℕ)) → are_known lives conns ≡ true → are_known (without_ticket ticket lives) conns ≡ true
 are_known-left ticket lives conns h = list_all-filter (λ l. not (l.ticket == ticket)) (λ l. is_known l.conn conns) lives h
 
+-- and the functions that wait
+pub are_waiting_known-replied : (cid : ℕ) (waits : List Waiting) (conns : List (ℕ × ℕ)) → list_all (λ w. is_known (connection_of w.request) conns) waits ≡ true → list_all (λ w. is_known (connection_of w.request) (count_reply cid conns)) waits ≡ true
+are_waiting_known-replied cid waits conns h =
+    list_all-same (λ (w : Waiting). is_known (connection_of w.request) (count_reply cid conns)) (λ w. is_known (connection_of w.request) conns) waits (λ w. is_known-cids (connection_of w.request) (count_reply cid conns) conns (cids-count_reply cid conns)) ∙ h
+
 -- and the requests that are held
 pub are_places_known-replied : (cid : ℕ) (places : List (Option (Option Request))) (conns : List (ℕ × ℕ)) → list_all (is_place_known conns) places ≡ true → list_all (is_place_known (count_reply cid conns)) places ≡ true
 are_places_known-replied cid places conns h = list_all-same (is_place_known (count_reply cid conns)) (is_place_known conns) places same ∙ h
@@ -123,4 +129,4 @@ are_places_known-replied cid places conns h = list_all-same (is_place_known (cou
     same : (p : Option (Option Request)) → is_place_known (count_reply cid conns) p ≡ is_place_known conns p
     same None = refl
     same (Some None) = refl
-    same (Some (Some r)) = is_known-cids (connection_of r) (count_reply cid conns) conns (cids-count_reply cid conns)
+    same (Some (Some r)) = ap (λ b. not (is_immediate r) && b) (is_known-cids (connection_of r) (count_reply cid conns) conns (cids-count_reply cid conns))

@@ -4,7 +4,7 @@ use Rattle.std.specs.Prelude.{ℕ, ℤ, pos, ◌-ℤ◌, ◌+◌, ◌-◌, ◌==
 use Rattle.std.specs.List.{list_any}
 use Rattle.iscsi_wire.specs.declared.reply.Reply.TheVariants.{Task as TaskReply}
 use Rattle.iscsi_wire.specs.declared.request.Request.{Request}
-use Rattle.iscsi_wire.specs.Serial.{lift, number_of_first}
+use Rattle.iscsi_wire.specs.Serial.{wire, lift}
 use Rattle.iscsi_wire.specs.Fields.{connection_of, is_immediate, function, itt, rtt, cmd_sn, ref_cmd_sn}
 use Rattle.iscsi_window.specs.declared.answer.Place.{Place}
 use Rattle.iscsi_window.specs.declared.answer.Place.TheVariants.{Inside, Outside}
@@ -17,6 +17,8 @@ use Rattle.iscsi_session.specs.declared.effect.Effect.{Effect}
 use Rattle.iscsi_session.specs.declared.effect.Effect.TheVariants.{Void, Empty, Leave}
 use Rattle.iscsi_session.specs.declared.outcome.Outcome.{Outcome}
 use Rattle.iscsi_session.specs.declared.outcome.Outcome.TheVariants.{Respond, Abort, AbortAll, Empty as EmptyNumber, Void as VoidNumber}
+use Rattle.iscsi_session.specs.declared.session.leaving.Choice.{Choice}
+use Rattle.iscsi_session.specs.declared.session.leaving.Choice.TheVariants.{Covered, Ticket}
 use Rattle.iscsi_session.specs.declared.session.live.Live.{Live}
 use Rattle.iscsi_session.specs.Standing.{Core}
 use Rattle.iscsi_session.specs.Steps.{set_at, with_set, all_given, enable_effects, is_numbered, with_reply, reply_effects}
@@ -97,6 +99,15 @@ outcome_by s r number event unit =
 abbrev pub covers_ticket : ℕ → Task → Bool
 covers_ticket ticket t = t.ticket == ticket
 
+-- what a choice covers
+abbrev pub chosen : Choice → Task → Bool
+chosen (Covered cover) = is_covered cover
+chosen (Ticket ticket) = covers_ticket ticket
+
+-- some command of the set is covered
+abbrev pub has_covered : (Task → Bool) → Members → Bool
+has_covered covers set = list_any (λ m. covers m.task) set.list
+
 -- commands left, and it is answered
 abbrev pub aborted : Core → Request → ℕ → (Task → Bool) → Core
 aborted s r unit covers = with_given (with_reply (with_left s unit covers) (connection_of r)) unit
@@ -115,7 +126,7 @@ abbrev pub abort_effects : Core → Request → ℕ → (Task → Bool) → List
 abort_effects s r unit covers = leaving_effects s unit covers ++ response_effects s r TASK_COMPLETE ++ enable_effects unit (set_at (with_left s unit covers) unit).list
 
 abbrev pub void_effects : Core → ℕ → List Effect
-void_effects s w = if is_received_at s.window (place_in s.window w) then [] else Void w ∷ []
+void_effects s w = if is_received_at s.window (place_in s.window w) then [] else Void (wire w) ∷ []
 
 abbrev pub performance_effects : Core → Request → ℕ → Outcome → List Effect
 performance_effects s r unit (Respond response) = response_effects s r response

@@ -8,9 +8,11 @@ pub mod Run
 pub mod Executed
 pub mod Flow
 pub mod Enabling
+pub mod Aborts
 pub mod Refusals
 pub mod Lines
 pub mod Standing
 pub mod Steps
 pub mod Functions
+pub mod Turning
 pub mod Rows

@@ -20,7 +20,7 @@ pub(crate) const CHECK_CONDITION: u8 = 0x02;
 const TASK_SET_FULL: u8 = 0x28;
 
 /// Reject: too many immediate commands (RFC 7143 section 11.17.1).
-const TOO_MANY_IMMEDIATE: u8 = 0x06;
+pub(crate) const TOO_MANY_IMMEDIATE: u8 = 0x06;
 
 /// ILLEGAL REQUEST, LOGICAL UNIT NOT SUPPORTED.
 const NO_UNIT: Sense = Sense {
@@ -68,7 +68,7 @@ pub(crate) fn verdict_in(request: &Request, is_crowded: bool, sets: &[TaskSet]) 
 }
 
 /// The unit that a request's LUN names, of so many.
-fn unit_named(request: &Request, units: usize) -> Option<u16>
+pub(crate) fn unit_named(request: &Request, units: usize) -> Option<u16>
     ensures { result ≡ unit_named units request.now }
 {
     let unit = unit_of(&request.lun())?;
@@ -116,12 +116,26 @@ pub(crate) fn leave(sets: &mut [TaskSet], command: &Live, out: &mut Vec<Effect>)
     enable_new(set, command.unit, out);
 }
 
+/// Tells a unit of the commands of its set that became enabled.
+pub(crate) fn tell(sets: &mut [TaskSet], unit: u16, out: &mut Vec<Effect>)
+    requires unit { unit < length sets.old }
+    requires room { vec_len out.old + count_by is_new (slice_index_or sets.old unit (opened 0)).list ≤ vec_capacity out.old }
+    ensures sets { sets.new ≡ slice_set sets.old unit (all_given (slice_index_or sets.old unit (opened 0))) }
+    ensures effects { out.new.items ≡ out.old.items ++ enable_effects unit (slice_index_or sets.old unit (opened 0)).list }
+    ensures spent { vec_len out.new ≡ vec_len out.old + count_by is_new (slice_index_or sets.old unit (opened 0)).list }
+    ensures capacity { vec_capacity out.new ≡ vec_capacity out.old }
+{
+    let set = &mut sets[usize::from(unit)];
+    enable_new(set, unit, out);
+}
+
 /// Tells a unit of the commands that became enabled, the oldest first.
-fn enable_new(set: &mut TaskSet, unit: u16, out: &mut Vec<Effect>)
+pub(crate) fn enable_new(set: &mut TaskSet, unit: u16, out: &mut Vec<Effect>)
     requires room { vec_len out.old + count_by is_new set.old.list ≤ vec_capacity out.old }
     ensures set { set.new ≡ all_given set.old }
     ensures effects { out.new.items ≡ out.old.items ++ enable_effects unit set.old.list }
     ensures spent { vec_len out.new ≡ vec_len out.old + count_by is_new set.old.list }
+    ensures capacity { vec_capacity out.new ≡ vec_capacity out.old }
 {
     while let Some(ticket) = set.next_new() {
         out.push_reserved(Effect::Enable { ticket, unit });
