@@ -1,5 +1,5 @@
 -- A session that agrees with what has happened agrees after one item more.
-use Rattle.std.proofs.Common.{◌≡◌, ℕ, ◌+◌, ◌-◌, ◌<◌, ◌≤◌, not, true, false, List, [], ◌∷◌, ◌++◌, length, nat_lt, refl, ap, sym, ◌∙◌, arith, count_by}
+use Rattle.std.proofs.Common.{◌≡◌, ℕ, ◌+◌, ◌-◌, ◌<◌, ◌≤◌, not, true, false, List, [], ◌∷◌, ◌++◌, length, nat_lt, refl, ap, sym, ◌∙◌, arith, count_by, set}
 use Rattle.std.specs.List.{list_all}
 use Rattle.std.proofs.lemmas.Bool.Decides.{nat_tests}
 use Rattle.iscsi_wire.specs.Serial.{wire}
@@ -21,6 +21,8 @@ use Rattle.iscsi_session.proofs.ListLemmas.{list_all-filter}
 use Rattle.iscsi_session.proofs.TraceLemmas.{weaker}
 use Rattle.iscsi_session.proofs.DeliveryLemmas.{quiet-ignored}
 use Rattle.iscsi_session.proofs.WindowParts.{next_expected, WindowAgrees-quiet, with_held, WindowAgrees-admitted}
+use Rattle.iscsi_session.proofs.ArrivedLemmas.{ArrivalsAgree-quiet, ArrivalsAgree-admitted}
+use Rattle.iscsi_session.proofs.HeldLemmas.{held-here}
 use Rattle.iscsi_session.proofs.ReplyParts.{RepliesAgree-quiet}
 use Rattle.iscsi_session.proofs.EnabledLemmas.{enables}
 use Rattle.iscsi_session.proofs.CommandParts.{Untouched, live-untouched, CommandsAgree-untouched}
@@ -100,7 +102,9 @@ Stepped-ignored o s t why h =
           sets = SetsAgree-untouched o s.sets t item u a.sets;
           unfinished = a.unfinished ∙ sym (unfinished-untouched item t u);
           enabled = EnabledSoFar-untouched o item t u a.enabled;
-          none_waits = ap (λ as'. as' ++ []) a.none_waits;
+          level = a.level;
+          arrived = ArrivalsAgree-quiet s.window s.arrived t item (quiet-ignored why) a.arrived;
+          waiting = record { list = a.waiting.list; may = a.waiting.may };
         };
         none_due = h.none_due;
       };
@@ -113,7 +117,7 @@ pub untouched-admits : (a : Arrival) → Untouched (Admits a ∷ [])
 untouched-admits a = record { enters_none = refl; leaves_no = λ k. refl }
 
 pub Agrees-admitted : (o : Setting) (s : Core) (t : Trace) (a : Arrival) → Agrees o s t → number_expected s.window ≤ a.number → a.number < number_expected s.window + room_of s.window → is_received t a.number ≡ false → is_regular_request o a.request ≡ true
-    → Agrees o (record s { window = with_held s.window a }) ((Admits a ∷ []) ∷ t)
+    → Agrees o (record s { window = with_held s.window a; arrived = set s.arrived (a.number - number_expected s.window) a.event }) ((Admits a ∷ []) ∷ t)
 Agrees-admitted o s t a h low high new regular =
     let item : List Mark = Admits a ∷ [] in
     let u : Untouched item = untouched-admits a in
@@ -125,5 +129,7 @@ Agrees-admitted o s t a h low high new regular =
       sets = SetsAgree-untouched o s.sets t item u h.sets;
       unfinished = h.unfinished ∙ sym (unfinished-untouched item t u);
       enabled = EnabledSoFar-untouched o item t u h.enabled;
-      none_waits = ap (λ as'. as' ++ []) h.none_waits;
+      level = h.level;
+      arrived = ArrivalsAgree-admitted s.window s.arrived t a h.arrived low high (held-here t a new (h.window.undelivered a.number low) (h.window.unemptied a.number new));
+      waiting = record { list = h.waiting.list; may = h.waiting.may };
     }

@@ -1,6 +1,6 @@
 -- A request executes.
 use Rattle.std.proofs.Common.{◌≡◌, ℕ, pos, ◌-ℤ◌, ◌+◌, ◌<◌, ◌==◌, ◌&&◌, ◌||◌, not, cond, Bool, true, false, nat_lt, nat_le, List, [], ◌∷◌, ◌++◌, length, map, filter, count_by, get_or, Option, Some, None, option_map, refl, ap, sym, subst, ◌∙◌, arith}
-use Rattle.std.specs.List.{list_any, filter_map, cons_option}
+use Rattle.std.specs.List.{list_any, list_all, filter_map, cons_option}
 use Rattle.std.proofs.lemmas.Bool.{false≢true}
 use Rattle.std.proofs.lemmas.Bool.Decides.{nat_tests}
 use Rattle.std.proofs.lemmas.List.{append-nil, length-map}
@@ -18,14 +18,14 @@ use Rattle.iscsi_session.specs.declared.session.live.Live.{Live}
 use Rattle.iscsi_session.specs.declared.verdict.Verdict.{Verdict}
 use Rattle.iscsi_session.specs.declared.verdict.Verdict.TheVariants.{Nothing, Answer, Enter as EnterUnit}
 use Rattle.iscsi_session.specs.Settings.{Setting, is_known}
-use Rattle.iscsi_session.specs.Trace.{Arrival, Command, Mark, Enters, Sends, Trace, shown, waits, enters, leaves_ticket, sent_on, entered, live, live_in}
+use Rattle.iscsi_session.specs.Trace.{Arrival, Command, Mark, Enters, Sends, Trace, waiting, waiting_by, waiting_through, enters, leaves_ticket, sent_on, entered, live, live_in}
 use Rattle.iscsi_session.specs.Execution.{unfinished, unit_named, attr_of, scsi_to, scsi_verdict, nop_verdict, request_verdict, is_tag_live, is_crowded, is_full, place_named, verdict_of, next_command, marks_of}
-use Rattle.iscsi_session.specs.Management.{management_marks}
+use Rattle.iscsi_session.specs.Management.{may_wait, management_marks}
 use Rattle.iscsi_session.specs.Items.{execution}
 use Rattle.iscsi_session.specs.Run.{effects_of_mark, effects_of_item, newly_enabled, stat_sn_of}
-use Rattle.iscsi_session.specs.Standing.{Core, kept, is_regular, task_of, member_of, WindowAgrees, RepliesAgree, CommandsAgree, SetsAgree, Agrees}
+use Rattle.iscsi_session.specs.Standing.{Core, kept, is_regular, task_of, member_of, WindowAgrees, RepliesAgree, CommandsAgree, SetsAgree, ArrivalsAgree, arrival_waiting, Agrees}
 use Rattle.iscsi_session.specs.Enabling.{EnabledSoFar}
-use Rattle.iscsi_session.specs.Steps.{new_live, new_task, number_by, event_by, started, is_tag_kept, is_immediate_on, is_crowded_by, is_set_full, place_in, verdict_by, executed_as, execution_effects, with_executed}
+use Rattle.iscsi_session.specs.Steps.{new_live, new_task, number_by, event_by, started, is_tag_kept, is_immediate_on, is_crowded_by, is_set_full, place_in, verdict_by, executed_as, execution_effects}
 use Rattle.iscsi_session.proofs.ListLemmas.{list_any-map, count_by-map, count_by-push}
 use Rattle.iscsi_session.proofs.DeliveryLemmas.{IsQuiet}
 use Rattle.iscsi_session.proofs.WindowParts.{Turned, WindowAgrees-started}
@@ -145,10 +145,11 @@ quiet-marks t a Nothing = record { receives = refl; admits = λ n. refl; deliver
 quiet-marks t a (Answer reply) = record { receives = refl; admits = λ n. refl; delivers_none = refl; delivers_no = λ n. refl; empties_no = λ n. refl }
 quiet-marks t a (EnterUnit unit) = record { receives = refl; admits = λ n. refl; delivers_none = refl; delivers_no = λ n. refl; empties_no = λ n. refl }
 
-pub waits-marks : (t : Trace) (a : Arrival) (v : Verdict) → filter_map waits (marks_of t a v) ≡ []
-waits-marks t a Nothing = refl
-waits-marks t a (Answer reply) = refl
-waits-marks t a (EnterUnit unit) = refl
+-- no function begins or ceases to wait by them
+pub calm-marks : (t : Trace) (a : Arrival) (v : Verdict) (ws : List Arrival) → waiting_through (marks_of t a v) ws ≡ ws
+calm-marks t a Nothing ws = refl
+calm-marks t a (Answer reply) ws = refl
+calm-marks t a (EnterUnit unit) ws = refl
 
 -- a request begins to execute. This is kept by then, and its item begins with this mark and this effect
 pub record Begun (o : Setting) (s : Core) (t : Trace) (m : Mark) (e : Effect) (a : Arrival) : Type 0 where
@@ -164,9 +165,10 @@ pub record Begun (o : Setting) (s : Core) (t : Trace) (m : Mark) (e : Effect) (a
   pub first : s.window.first ≡ o.first
   pub number : number_by s a.request ≡ a.number
   pub event : event_by s a.request ≡ cond (is_immediate a.request) a.event 0
-  pub no_function : (opcode a.request == 0x02) ≡ false
-  pub none_waits : shown waits t ≡ []
-  pub waits_no : waits m ≡ None
+  pub level : s.level ≡ o.level
+  pub arrived : (ms : List Mark) → IsQuiet ms → ArrivalsAgree s.window s.arrived ((m ∷ ms) ∷ t)
+  pub waiting : waiting_by m (waiting t) ≡ map (arrival_waiting o.first) s.waiting
+  pub may : list_all (λ w. may_wait w.request) s.waiting ≡ true
   pub enters_no : enters m ≡ None
   pub leaves_no : (k : ℕ) → leaves_ticket k m ≡ false
   pub sends_no : sent_on m ≡ None
@@ -177,17 +179,14 @@ pub record Executed (o : Setting) (s : Core) (t : Trace) (m : Mark) (e : Effect)
   pub effects : e ∷ execution_effects s a.request v ≡ effects_of_item o t (m ∷ marks_of ((m ∷ []) ∷ t) a v)
 
 module _ (o : Setting) (s : Core) (t : Trace) (m : Mark) (e : Effect) (a : Arrival) (b : Begun o s t m e a) where
-  untouched-begun : (ms : List Mark) → Untouched ms → Untouched (m ∷ ms)
+  pub untouched-begun : (ms : List Mark) → Untouched ms → Untouched (m ∷ ms)
   untouched-begun ms u = record {
     enters_none = ap (λ x. cons_option x (filter_map enters ms)) b.enters_no ∙ u.enters_none;
     leaves_no = λ k. ap (λ c. c || list_any (leaves_ticket k) ms) (b.leaves_no k) ∙ u.leaves_no k;
   }
 
-  still_none : (ms : List Mark) → filter_map waits ms ≡ [] → shown waits ((m ∷ ms) ∷ t) ≡ []
-  still_none ms none = ap (λ as'. as' ++ filter_map waits (m ∷ ms)) b.none_waits ∙ ap (λ x. cons_option x (filter_map waits ms)) b.waits_no ∙ none
-
   -- nothing more happens
-  nothing_more : Executed o s t m e a Nothing
+  pub nothing_more : Executed o s t m e a Nothing
   nothing_more =
       let u : Untouched (m ∷ []) = untouched-begun [] (record { enters_none = refl; leaves_no = λ k. refl }) in
       record {
@@ -199,13 +198,15 @@ module _ (o : Setting) (s : Core) (t : Trace) (m : Mark) (e : Effect) (a : Arriv
           sets = SetsAgree-untouched o s.sets t (m ∷ []) u b.sets;
           unfinished = b.unfinished_is ∙ sym (unfinished-untouched (m ∷ []) t u);
           enabled = EnabledSoFar-untouched o (m ∷ []) t u b.enabled;
-          none_waits = still_none [] refl;
+          level = b.level;
+          arrived = b.arrived [] (quiet-marks t a Nothing);
+          waiting = record { list = b.waiting; may = b.may };
         };
         effects = ap (λ es. (es ++ []) ++ []) (sym b.shows) ∙ ap (λ cs. (effects_of_mark o t m ++ []) ++ enables cs) (sym (newly-untouched o t (m ∷ []) u));
       }
 
   -- a reply goes out
-  answered : (reply : Reply) → Executed o s t m e a (Answer reply)
+  pub answered : (reply : Reply) → Executed o s t m e a (Answer reply)
   answered reply =
       let conn : ℕ = connection_of a.request in
       let item : List Mark = m ∷ Sends conn reply ∷ [] in
@@ -219,7 +220,9 @@ module _ (o : Setting) (s : Core) (t : Trace) (m : Mark) (e : Effect) (a : Arriv
           sets = SetsAgree-untouched o s.sets t item u b.sets;
           unfinished = b.unfinished_is ∙ sym (unfinished-untouched item t u);
           enabled = EnabledSoFar-untouched o item t u b.enabled;
-          none_waits = still_none (Sends conn reply ∷ []) refl;
+          level = b.level;
+          arrived = b.arrived (Sends conn reply ∷ []) (quiet-marks t a (Answer reply));
+          waiting = record { list = b.waiting; may = b.may };
         };
         effects = ap (λ n. e ∷ Send conn n reply ∷ []) (b.replies.stat_sns conn b.known)
             ∙ ap (λ es. (es ++ Send conn (stat_sn_of o t conn) reply ∷ []) ++ []) (sym b.shows)
@@ -232,6 +235,14 @@ module _ (o : Setting) (s : Core) (t : Trace) (m : Mark) (e : Effect) (a : Arriv
         | true ↦ λ is. b.window ms q
         | false ↦ λ is. WindowAgrees-started o s.window ((m ∷ ms) ∷ t) (b.room is ms q)
       ] refl
+
+  arrived-started : (ms : List Mark) → IsQuiet ms → ArrivalsAgree (started s.window a.request) s.arrived ((m ∷ ms) ∷ t)
+  arrived-started ms q =
+      let now = b.arrived ms q in
+      elim (is_immediate a.request) as (λ i. ArrivalsAgree (cond i s.window (with_unfinished s.window (s.window.unfinished + 1))) s.arrived ((m ∷ ms) ∷ t)) [
+        | true ↦ now
+        | false ↦ record { long = now.long; at_place = now.at_place }
+      ]
 
   unfinished-started : (started s.window a.request).unfinished ≡ s.window.unfinished + cond (not (is_immediate a.request)) 1 0
   unfinished-started =
@@ -271,7 +282,9 @@ module _ (o : Setting) (s : Core) (t : Trace) (m : Mark) (e : Effect) (a : Arriv
           sets = entry.agrees;
           unfinished = unfinished-started ∙ ap (λ n. n + cond (not (is_immediate a.request)) 1 0) b.unfinished_is ∙ sym lives;
           enabled = EnabledSoFar-entered o s.live s.entered item t c b.commands en inside (never_free c t (b.commands.fresh c.ticket (omega (arith, en.ticket)))) b.enabled;
-          none_waits = still_none (Enters c ∷ []) refl;
+          level = b.level;
+          arrived = arrived-started (Enters c ∷ []) (quiet-marks ((m ∷ []) ∷ t) a (EnterUnit unit));
+          waiting = record { list = b.waiting; may = b.may };
         };
         effects = ap (λ es. e ∷ Enter (s.entered + 1) unit (attr_of (attr_code a.request)) ∷ es) entry.effects
             ∙ ap (λ n. e ∷ Enter (n + 1) unit (attr_of (attr_code a.request)) ∷ enables (newly_enabled o t item)) count
@@ -297,15 +310,15 @@ module _ (o : Setting) (s : Core) (t : Trace) (m : Mark) (e : Effect) (a : Arriv
       enters_unit unit (omega (arith, p.0, b.sets.units))
 
   -- the item of the execution
-  pub executed-item : Agrees o (with_executed s a.request) (execution o t m a ∷ t) × (e ∷ execution_effects s a.request (verdict_by s a.request) ≡ effects_of_item o t (execution o t m a))
-  executed-item =
+  pub executed-item : (opcode a.request == 0x02) ≡ false → Agrees o (executed_as s a.request (verdict_by s a.request)) (execution o t m a ∷ t) × (e ∷ execution_effects s a.request (verdict_by s a.request) ≡ effects_of_item o t (execution o t m a))
+  executed-item no_function =
       let v : Verdict = verdict_by s a.request in
       let u : Untouched (m ∷ []) = untouched-begun [] (record { enters_none = refl; leaves_no = λ k. refl }) in
       let same : verdict_of o ((m ∷ []) ∷ t) a.request ≡ v = verdict-untouched o t (m ∷ []) a.request u ∙ sym (verdict_is o s t a.request b.commands b.sets) in
       let done : Executed o s t m e a v = executed-by v refl in
       let is : execution o t m a ≡ m ∷ marks_of ((m ∷ []) ∷ t) a v =
-      ap (λ c. m ∷ cond c (management_marks o ((m ∷ []) ∷ t) a) (marks_of ((m ∷ []) ∷ t) a (verdict_of o ((m ∷ []) ∷ t) a.request))) b.no_function
+      ap (λ c. m ∷ cond c (management_marks o ((m ∷ []) ∷ t) a) (marks_of ((m ∷ []) ∷ t) a (verdict_of o ((m ∷ []) ∷ t) a.request))) no_function
       ∙ ap (λ w. m ∷ marks_of ((m ∷ []) ∷ t) a w) same in (
-        subst (λ item. Agrees o (with_executed s a.request) (item ∷ t)) (sym is) done.agrees,
+        subst (λ item. Agrees o (executed_as s a.request v) (item ∷ t)) (sym is) done.agrees,
         done.effects ∙ ap (effects_of_item o t) (sym is),
       )

@@ -61,7 +61,7 @@ turn_of o t a none regular this =
     let v : Verdict = verdict_of o t' a.request in
     let ms : List Mark = marks_of t' a v in
     let q : IsQuiet ms = quiet-marks t' a v in
-    let parts = and_parts (not (is_immediate a.request) && not (opcode a.request == 0x02)) (is_known (connection_of a.request) o.conns) this in
+    let parts = and_parts (not (is_immediate a.request)) (is_known (connection_of a.request) o.conns) this in
     let no_function : (opcode a.request == 0x02) ≡ false = not_true (opcode a.request == 0x02) (and_parts (not (is_immediate a.request)) (not (opcode a.request == 0x02)) parts.0).1 in
     let is : item_of o t a ≡ Delivers a ∷ ms = ap (λ c. Delivers a ∷ cond c (management_marks o t' a) ms) no_function in
     subst (TurnsAs o t) (sym is) (record {
@@ -128,7 +128,7 @@ arrival_receives o t a known none regular = by_kind (kind_of a.request) refl
         let no_function : (opcode a.request == 0x02) ≡ false = executes_no_function a.request is in
         elim (is_immediate a.request) as (λ b. is_immediate a.request ≡ b → one_more t (cond b (with_turns o t (immediate_item o t a)) (numbered o t a))) [
           | true ↦ λ now. immediate_receives_none o t a no_function none regular
-          | false ↦ λ now. numbered_receives o t a none regular (both (not (is_immediate a.request) && not (opcode a.request == 0x02)) (is_known (connection_of a.request) o.conns) (both (not (is_immediate a.request)) (not (opcode a.request == 0x02)) (ap not now) (ap not no_function)) known)
+          | false ↦ λ now. numbered_receives o t a none regular (both (not (is_immediate a.request)) (is_known (connection_of a.request) o.conns) (both (not (is_immediate a.request)) (not (opcode a.request == 0x02)) (ap not now) (ap not no_function)) known)
         ] refl
 
 completion_receives_none : (t : Trace) (status : ℕ) (c : Option Command) → one_more t (completion status c)

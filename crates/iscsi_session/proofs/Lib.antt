@@ -8,6 +8,8 @@ pub mod LineLemmas
 pub mod HeldLemmas
 pub mod DeliveryLemmas
 pub mod RefusalLemmas
+pub mod ArrivedLemmas
+pub mod ReceiveLemmas
 pub mod AgreeLemmas
 pub mod TurnLemmas
 pub mod ApartLemmas

@@ -7,6 +7,7 @@ use Rattle.std.specs.Prelude.{IsSome}
 use Rattle.std.proofs.lemmas.List.Sums.{sum_by-cons, sum_by-append}
 use Rattle.iscsi_wire.specs.Serial.{wire}
 use Rattle.iscsi_session.specs.declared.session.live.Live.{Live}
+use Rattle.iscsi_session.specs.declared.session.waiting.Waiting.{Waiting}
 use Rattle.iscsi_session.specs.Settings.{is_known}
 use Rattle.iscsi_wire.specs.declared.request.Request.{Request}
 use Rattle.iscsi_wire.specs.Fields.{connection_of}
@@ -115,6 +116,11 @@ are_known-replied cid lives conns h =
 -- and so does a command that leaves
 pub are_known-left : (ticket : ℕ) (lives : List Live) (conns : List (ℕ × ℕ)) → are_known lives conns ≡ true → are_known (without_ticket ticket lives) conns ≡ true
 are_known-left ticket lives conns h = list_all-filter (λ l. not (l.ticket == ticket)) (λ l. is_known l.conn conns) lives h
+
+-- and the functions that wait
+pub are_waiting_known-replied : (cid : ℕ) (waits : List Waiting) (conns : List (ℕ × ℕ)) → list_all (λ w. is_known (connection_of w.request) conns) waits ≡ true → list_all (λ w. is_known (connection_of w.request) (count_reply cid conns)) waits ≡ true
+are_waiting_known-replied cid waits conns h =
+    list_all-same (λ (w : Waiting). is_known (connection_of w.request) (count_reply cid conns)) (λ w. is_known (connection_of w.request) conns) waits (λ w. is_known-cids (connection_of w.request) (count_reply cid conns) conns (cids-count_reply cid conns)) ∙ h
 
 -- and the requests that are held
 pub are_places_known-replied : (cid : ℕ) (places : List (Option (Option Request))) (conns : List (ℕ × ℕ)) → list_all (is_place_known conns) places ≡ true → list_all (is_place_known (count_reply cid conns)) places ≡ true

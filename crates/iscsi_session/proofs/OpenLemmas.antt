@@ -8,13 +8,15 @@ use Rattle.iscsi_window.specs.Windows.{Received, number_expected, opened}
 use Rattle.iscsi_tasks.specs.Sets.{Members, opened as opened_set}
 use Rattle.iscsi_session.specs.declared.event.Event.{Event}
 use Rattle.iscsi_session.specs.Settings.{Setting}
-use Rattle.iscsi_session.specs.Trace.{Arrival, Trace, first_of, is_received, is_delivered, is_emptied, held, admitted, live}
+use Rattle.iscsi_session.specs.Trace.{Arrival, Trace, first_of, is_received, is_delivered, is_emptied, held, admitted, live, waiting}
 use Rattle.iscsi_session.specs.Run.{trace_of}
 use Rattle.iscsi_session.specs.Executed.{request_at}
-use Rattle.iscsi_session.specs.Standing.{Core, Settled, StandsFor, place_of, is_held, stat_sn_on, held_count, effect_bound_of, kept}
+use Rattle.iscsi_session.specs.Standing.{Core, Settled, StandsFor, place_of, is_held, stat_sn_on, held_count, effect_bound_of, kept, arrival_waiting}
 use Rattle.iscsi_session.proofs.EnablingLemmas.{EnabledSoFar-none}
 use Rattle.iscsi_session.proofs.TraceLemmas.{unadmitted}
 use Rattle.iscsi_session.proofs.AgreeLemmas.{settled_expected}
+use Rattle.iscsi_session.specs.Management.{may_wait}
+use Rattle.iscsi_session.specs.declared.session.waiting.Waiting.{Waiting}
 
 nothing_at : {A : Type 0} (n k : ℕ) → get_or (replicate {A = Option A} n None) k None ≡ None
 nothing_at zero k = refl
@@ -38,8 +40,8 @@ set_opened zero u depth lt = absurd (omega arith)
 set_opened (suc n) zero depth lt = refl
 set_opened (suc n) (suc u) depth lt = set_opened n u depth (omega arith)
 
-pub Settled-opened : (o : Setting) (s : Core) → s.window ≡ opened o.first o.window → s.events ≡ o.events → s.conns ≡ o.conns → s.entered ≡ 0 → s.live ≡ [] → s.sets ≡ replicate o.units (opened_set o.depth) → Settled o s []
-Settled-opened o s window events conns entered none sets =
+pub Settled-opened : (o : Setting) (s : Core) → s.window ≡ opened o.first o.window → s.events ≡ o.events → s.conns ≡ o.conns → s.entered ≡ 0 → s.live ≡ [] → s.sets ≡ replicate o.units (opened_set o.depth) → s.level ≡ o.level → s.arrived ≡ replicate o.window 0 → s.waiting ≡ [] → Settled o s []
+Settled-opened o s window events conns entered none sets level arrived waits =
     let first : s.window.first ≡ o.first = ap (λ (w : Received). w.first) window in
     let turned : s.window.turned ≡ 0 = ap (λ (w : Received). w.turned) window in
     let free : s.window.unfinished ≡ 0 = ap (λ (w : Received). w.unfinished) window in
@@ -80,7 +82,12 @@ Settled-opened o s window events conns entered none sets =
         };
         unfinished = free;
         enabled = EnabledSoFar-none o;
-        none_waits = refl;
+        level = level;
+        arrived = record {
+          long = ap length arrived ∙ so_many o.window 0 ∙ sym (ap (λ (w : Received). length w.places) window ∙ so_many o.window None);
+          at_place = λ k a lt found. absurd cc;
+        };
+        waiting = record { list = sym (ap (map (arrival_waiting o.first)) waits); may = ap (list_all (λ (w : Waiting). may_wait w.request)) waits };
       };
       none_due = nothing 0;
     }
@@ -122,7 +129,7 @@ held_place t n =
       | false ↦ λ is. sym (ap is_some (unheld t n is))
     ] refl
 
-pub bound_is : (o : Setting) (s : Core) (h : List Event) → StandsFor o s h → 12 * (count_by is_held s.window.places + 1) + 2 * length s.live ≡ effect_bound_of o (trace_of o h)
+pub bound_is : (o : Setting) (s : Core) (h : List Event) → StandsFor o s h → 12 * (count_by is_held s.window.places + length s.waiting + 1) + 2 * length s.live ≡ effect_bound_of o (trace_of o h)
 bound_is o s h stands =
     let t : Trace = trace_of o h in
     let a = stands.settled.agrees in
@@ -132,4 +139,5 @@ bound_is o s h stands =
     ∙ ap (λ n. count_by (λ m. is_some (held t m)) (range_with_len e n)) a.window.size
     ∙ ap (λ x. count_by (λ m. is_some (held t m)) (range_with_len x o.window)) (sym (settled_expected o s t stands.settled)) in
     let lives : length s.live ≡ length (live t) = ap length a.commands.commands ∙ length-map (live t) kept in
-    omega (arith, counted, lives)
+    let waits : length (waiting t) ≡ length s.waiting = ap length a.waiting.list ∙ length-map s.waiting (arrival_waiting o.first) in
+    omega (arith, counted, lives, waits)

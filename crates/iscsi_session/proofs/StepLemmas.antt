@@ -1,5 +1,5 @@
 -- An arrival, a completion, and an event as a whole.
-use Rattle.std.proofs.Common.{◌≡◌, ℕ, ◌+◌, ◌-◌, ◌<◌, ◌≤◌, ◌==◌, ◌&&◌, ◌||◌, not, ⊎_elim, cond, Bool, true, false, List, [], ◌∷◌, ◌++◌, length, filter, Option, Some, None, option_map, is_some, count_by, refl, ap, sym, subst, ◌∙◌, arith, nat_lt, nat_le}
+use Rattle.std.proofs.Common.{◌≡◌, ℕ, ◌+◌, ◌-◌, ◌<◌, ◌≤◌, ◌==◌, ◌&&◌, ◌||◌, not, ⊎_elim, cond, Bool, true, false, List, [], ◌∷◌, ◌++◌, length, filter, Option, Some, None, option_map, is_some, count_by, refl, ap, sym, subst, ◌∙◌, arith, nat_lt, nat_le, set}
 use Rattle.std.specs.List.{list_any, list_all}
 use Rattle.std.proofs.lemmas.Bool.{cases_lt, eqb-true}
 use Rattle.std.proofs.lemmas.Bool.Decides.{nat_tests}
@@ -14,7 +14,7 @@ use Rattle.iscsi_window.specs.declared.answer.Offer.TheVariants.{Held, Outside a
 use Rattle.iscsi_window.specs.declared.answer.Place.TheVariants.{Inside, Outside as NoPlace}
 use Rattle.iscsi_tasks.specs.declared.member.Member.{Member}
 use Rattle.iscsi_tasks.specs.Sets.{Members, is_enabled_in}
-use Rattle.iscsi_window.specs.Windows.{Received, with_unfinished, number_expected, room_of, at_place, place_at, offer_at, offer_to, received_at, offered_to, with_place}
+use Rattle.iscsi_window.specs.Windows.{Received, with_unfinished, number_expected, room_of, at_place, place_at, offer_at, offer_to, received_at, offered_to, with_place, place_in}
 use Rattle.iscsi_session.specs.declared.effect.Effect.{Effect}
 use Rattle.iscsi_session.specs.declared.effect.Effect.TheVariants.{Leave, Send, Ignore}
 use Rattle.iscsi_session.specs.declared.effect.Why.TheVariants.{Outside, Duplicate, Stale}
@@ -29,20 +29,21 @@ use Rattle.iscsi_session.specs.Agenda.{with_turns, numbered, arrival_of, command
 use Rattle.iscsi_session.specs.Items.{agenda}
 use Rattle.iscsi_session.specs.Run.{stat_sn_of, newly_enabled, effects_of, trace_of}
 use Rattle.iscsi_session.specs.Refusals.{belongs, refusal_of}
-use Rattle.iscsi_session.specs.Standing.{Core, CommandsAgree, place_of, kept, is_regular, is_regular_request, member_of, WindowAgrees, Agrees, Settled, StandsFor}
-use Rattle.iscsi_session.specs.Steps.{set_at, set_left, enable_effects, finished, with_offered, comes_on, refusal_by, find_ticket, without_ticket, enabled_of, find_enabled, without_command, leave_effects, after_completion, completion_effects, counted}
+use Rattle.iscsi_session.specs.Standing.{Core, CommandsAgree, place_of, kept, is_regular, is_regular_request, member_of, WindowAgrees, Agrees, Settled, StandsFor, ArrivalsAgree}
+use Rattle.iscsi_session.specs.Steps.{set_at, set_left, enable_effects, finished, with_offered, comes_on, refusal_by, find_ticket, without_ticket, enabled_of, find_enabled, without_command, leave_effects, after_completion, completion_effects, counted, noted_at}
 use Rattle.iscsi_session.proofs.BoolLemmas.{and_parts, and_both, or_false}
 use Rattle.iscsi_session.proofs.ListLemmas.{list_any-map, is_known-cids}
 use Rattle.iscsi_session.proofs.ApartLemmas.{eq_sym, count-without, one_unit}
 use Rattle.iscsi_session.proofs.TraceLemmas.{all_among}
 use Rattle.iscsi_session.proofs.DeliveryLemmas.{IsQuiet}
-use Rattle.iscsi_session.proofs.WindowParts.{WindowAgrees-quiet, WindowAgrees-finished}
+use Rattle.iscsi_session.proofs.WindowParts.{WindowAgrees-quiet, WindowAgrees-finished, with_held}
 use Rattle.iscsi_session.proofs.ReplyParts.{RepliesAgree-sent}
 use Rattle.iscsi_session.proofs.EnabledLemmas.{enables}
 use Rattle.iscsi_session.proofs.CommandParts.{LeavesSome, live-left, CommandsAgree-left, live_early, find_kept, first_passing, none_passing}
 use Rattle.iscsi_session.proofs.EnablingLemmas.{EnabledSoFar-left}
 use Rattle.iscsi_session.proofs.SetParts.{SetLeaving, SetsAgree-left, left_by-one, newly-untouched}
 use Rattle.iscsi_session.proofs.AgreeLemmas.{Regular, regular_parts, regular_live, units_live, settled_expected, settled_max, Stepped, Stepped-ignored, untouched-admits, Agrees-admitted}
+use Rattle.iscsi_session.proofs.ArrivedLemmas.{ArrivalsAgree-quiet}
 
 -- ---- a completion
 
@@ -87,6 +88,13 @@ window-finished o w t c a =
       | false ↦ WindowAgrees-finished o w t a
     ]
 
+arrived-finished : (w : Received) (arrived : List ℕ) (t : Trace) (c : Command) → ArrivalsAgree w arrived t → ArrivalsAgree (finished w (kept c)) arrived t
+arrived-finished w arrived t c a =
+    elim (is_immediate c.arrival.request) as (λ b. ArrivalsAgree (cond b w (with_unfinished w (w.unfinished - 1))) arrived t) [
+      | true ↦ a
+      | false ↦ record { long = a.long; at_place = a.at_place }
+    ]
+
 -- its places are as they were
 finished_place : (w : Received) (c : Command) → at_place (finished w (kept c)) 0 ≡ at_place w 0
 finished_place w c = elim (is_immediate c.arrival.request) as (λ b. at_place (cond b w (with_unfinished w (w.unfinished - 1))) 0 ≡ at_place w 0) [ true ↦ refl | false ↦ refl ]
@@ -125,7 +133,9 @@ Stepped-completed o s t c ticket status h found =
           sets = set.agrees;
           unfinished = unfinished-left s.window (unfinished (item ∷ t)) c (a.unfinished ∙ sym (count-without (λ (d : Command). not (is_immediate d.arrival.request)) c.ticket (live t) c a.commands.apart found_here) ∙ ap (λ (cs : List Command). count_by (λ (d : Command). not (is_immediate d.arrival.request)) cs + cond (not (is_immediate c.arrival.request)) 1 0) (sym (live-left item t out l)));
           enabled = EnabledSoFar-left o item t out l (units_live o (without_ticket c.ticket s.live) s.entered (item ∷ t) commands) a.enabled;
-          none_waits = ap (λ as'. as' ++ []) a.none_waits;
+          level = a.level;
+          arrived = arrived-finished s.window s.arrived (item ∷ t) c (ArrivalsAgree-quiet s.window s.arrived t item (quiet-completion c status) a.arrived);
+          waiting = record { list = a.waiting.list; may = a.waiting.may };
         };
         none_due = finished_place s.window c ∙ h.none_due;
       };
@@ -204,24 +214,24 @@ outside_test o s t n h =
     (cases_lt n e)
 
 -- what the window says of a number, by the trace
-record Answered (o : Setting) (s : Core) (t : Trace) (a : Arrival) (answer : Offer) (window : Received) : Type 0 where
-  outside : answer ≡ OutsideWindow → (window ≡ s.window) × ((nat_lt a.number (exp_of o t) || nat_lt (max_of o t) a.number) ≡ true)
-  known : answer ≡ Known → (window ≡ s.window) × (((nat_lt a.number (exp_of o t) || nat_lt (max_of o t) a.number) ≡ false) × (is_received t a.number ≡ true))
-  taken : answer ≡ Held → (window ≡ with_place s.window (a.number - number_expected s.window) (Some (Some a.request))) × (((nat_lt a.number (exp_of o t) || nat_lt (max_of o t) a.number) ≡ false) × ((is_received t a.number ≡ false)
-      × ((number_expected s.window ≤ a.number) × (a.number < number_expected s.window + room_of s.window))))
+record Answered (o : Setting) (s : Core) (t : Trace) (a : Arrival) (answer : Offer) (window : Received) (arrived : List ℕ) : Type 0 where
+  outside : answer ≡ OutsideWindow → (window ≡ s.window) × ((arrived ≡ s.arrived) × ((nat_lt a.number (exp_of o t) || nat_lt (max_of o t) a.number) ≡ true))
+  known : answer ≡ Known → (window ≡ s.window) × ((arrived ≡ s.arrived) × (((nat_lt a.number (exp_of o t) || nat_lt (max_of o t) a.number) ≡ false) × (is_received t a.number ≡ true)))
+  taken : answer ≡ Held → (window ≡ with_place s.window (a.number - number_expected s.window) (Some (Some a.request))) × ((arrived ≡ set s.arrived (a.number - number_expected s.window) a.event) × (((nat_lt a.number (exp_of o t) || nat_lt (max_of o t) a.number) ≡ false) × ((is_received t a.number ≡ false)
+      × ((number_expected s.window ≤ a.number) × (a.number < number_expected s.window + room_of s.window)))))
 
 answered : (o : Setting) (s : Core) (t : Trace) (a : Arrival) → Settled o s t → a.number ≡ lift (number_expected s.window) (cmd_sn a.request)
-    → Answered o s t a (offer_to s.window a.request) (offered_to s.window a.request)
+    → Answered o s t a (offer_to s.window a.request) (offered_to s.window a.request) (noted_at s.window (place_in s.window (cmd_sn a.request)) s.arrived a.event)
 answered o s t a h number =
     let e : ℕ = number_expected s.window in
     let room : ℕ = room_of s.window in
     let n : ℕ = a.number in
     let r : Request = a.request in
     let test = outside_test o s t n h in
-    subst (λ m. Answered o s t a (offer_at s.window (place_at e room m)) (received_at s.window (place_at e room m) (Some r))) number
-    (elim (nat_le e n && nat_lt n (e + room)) as (λ b. (nat_le e n && nat_lt n (e + room)) ≡ b → Answered o s t a (offer_at s.window (cond b (Inside (n - e)) NoPlace)) (received_at s.window (cond b (Inside (n - e)) NoPlace) (Some r))) [
+    subst (λ m. Answered o s t a (offer_at s.window (place_at e room m)) (received_at s.window (place_at e room m) (Some r)) (noted_at s.window (place_at e room m) s.arrived a.event)) number
+    (elim (nat_le e n && nat_lt n (e + room)) as (λ b. (nat_le e n && nat_lt n (e + room)) ≡ b → Answered o s t a (offer_at s.window (cond b (Inside (n - e)) NoPlace)) (received_at s.window (cond b (Inside (n - e)) NoPlace) (Some r)) (noted_at s.window (cond b (Inside (n - e)) NoPlace) s.arrived a.event)) [
       | false ↦ λ is. record {
-        outside = λ said. (refl, test ∙ ap not is);
+        outside = λ said. (refl, (refl, test ∙ ap not is));
         known = λ said. absurd cc;
         taken = λ said. absurd cc;
       }
@@ -230,17 +240,17 @@ answered o s t a h number =
           let high : n < e + room = grind (arith, nat_tests) in
           let at : e + (n - e) ≡ n = omega arith in
           let read : at_place s.window (n - e) ≡ place_of t n = h.agrees.window.inside (n - e) (omega (arith, h.agrees.window.few)) ∙ ap (place_of t) at in
-          subst (λ p. Answered o s t a (cond (is_some p) Known Held) (cond (is_some p) s.window (with_place s.window (n - e) (Some (Some r))))) (sym read)
-          (elim (is_received t n) as (λ v. is_received t n ≡ v → Answered o s t a (cond (is_some (cond v (Some (option_map (λ (x : Arrival). x.request) (held t n))) None)) Known Held) (cond (is_some (cond v (Some (option_map (λ (x : Arrival). x.request) (held t n))) None)) s.window (with_place s.window (n - e) (Some (Some r))))) [
+          subst (λ p. Answered o s t a (cond (is_some p) Known Held) (cond (is_some p) s.window (with_place s.window (n - e) (Some (Some r)))) (cond (is_some p) s.arrived (set s.arrived (n - e) a.event))) (sym read)
+          (elim (is_received t n) as (λ v. is_received t n ≡ v → Answered o s t a (cond (is_some (cond v (Some (option_map (λ (x : Arrival). x.request) (held t n))) None)) Known Held) (cond (is_some (cond v (Some (option_map (λ (x : Arrival). x.request) (held t n))) None)) s.window (with_place s.window (n - e) (Some (Some r)))) (cond (is_some (cond v (Some (option_map (λ (x : Arrival). x.request) (held t n))) None)) s.arrived (set s.arrived (n - e) a.event))) [
             | true ↦ λ there. record {
               outside = λ said. absurd cc;
-              known = λ said. (refl, (test ∙ ap not is, there));
+              known = λ said. (refl, (refl, (test ∙ ap not is, there)));
               taken = λ said. absurd cc;
             }
             | false ↦ λ gone. record {
               outside = λ said. absurd cc;
               known = λ said. absurd cc;
-              taken = λ said. (refl, (test ∙ ap not is, (gone, (low, high))));
+              taken = λ said. (refl, (refl, (test ∙ ap not is, (gone, (low, high)))));
             }
           ] refl)
     ] refl)
@@ -253,30 +263,36 @@ pub record Offered (o : Setting) (s : Core) (event : ℕ) (t : Trace) (r : Reque
       × ((rest : List (List Mark)) → effects_of o t ((Admits (arrival_of o event t r) ∷ []) ∷ rest) ≡ effects_of o ((Admits (arrival_of o event t r) ∷ []) ∷ t) rest))
 
 -- a numbered request that comes on one of the connections
-pub offered : (o : Setting) (s : Core) (event : ℕ) (t : Trace) (r : Request) → Settled o s t → is_immediate r ≡ false → (opcode r == 0x02) ≡ false → is_known (connection_of r) o.conns ≡ true → Offered o s event t r
-offered o s event t r h not_immediate no_function known =
+pub offered : (o : Setting) (s : Core) (event : ℕ) (t : Trace) (r : Request) → Settled o s t → is_immediate r ≡ false → is_known (connection_of r) o.conns ≡ true → s.taken ≡ event + 1 → Offered o s event t r
+offered o s event t r h not_immediate known taken =
     let a : Arrival = arrival_of o event t r in
     let t₁ : Trace = (Admits a ∷ []) ∷ t in
     let same_exp : exp_of o t ≡ number_expected s.window = settled_expected o s t h in
-    let x = answered o s t a h (ap (λ e. lift e (cmd_sn r)) same_exp) in
+    let noted : List ℕ = noted_at s.window (place_in s.window (cmd_sn r)) s.arrived (s.taken - 1) in
+    let x : Answered o s t a (offer_to s.window r) (offered_to s.window r) noted = subst (λ n. Answered o s t a (offer_to s.window r) (offered_to s.window r) (noted_at s.window (place_in s.window (cmd_sn r)) s.arrived n)) (let z : event ≡ s.taken - 1 = omega (arith, taken) in z) (answered o s t a h (ap (λ e. lift e (cmd_sn r)) same_exp)) in
     let cases : Bool → Bool → List (List Mark) = λ b c. cond b (ignored Outside) (cond c (ignored Duplicate) (with_turns o t (Admits a ∷ []))) in
     let items : numbered o t a ≡ cases (nat_lt a.number (exp_of o t) || nat_lt (max_of o t) a.number) (is_received t a.number) = refl in
-    let regular : is_regular_request o r ≡ true = and_both (not (is_immediate r) && not (opcode r == 0x02)) (is_known (connection_of r) o.conns) (and_both (not (is_immediate r)) (not (opcode r == 0x02)) (ap not not_immediate) (ap not no_function)) known in
+    let regular : is_regular_request o r ≡ true = and_both (not (is_immediate r)) (is_known (connection_of r) o.conns) (ap not not_immediate) known in
     record {
       outside = λ said.
           let f = x.outside said in
-          let all : numbered o t a ≡ ignored Outside = items ∙ ap (λ b. cases b (is_received t a.number)) f.1 in
-          subst (λ (w : Received). Stepped o (record s { window = w }) t (numbered o t a) (Ignore Outside ∷ [])) (sym f.0) (subst (λ is. Stepped o s t is (Ignore Outside ∷ [])) (sym all) (Stepped-ignored o s t Outside h));
+          let all : numbered o t a ≡ ignored Outside = items ∙ ap (λ b. cases b (is_received t a.number)) f.1.1 in
+          subst (λ (w : Received). Stepped o (record s { window = w; arrived = noted }) t (numbered o t a) (Ignore Outside ∷ [])) (sym f.0)
+          (subst (λ (ns : List ℕ). Stepped o (record s { arrived = ns }) t (numbered o t a) (Ignore Outside ∷ [])) (sym f.1.0)
+          (subst (λ is. Stepped o s t is (Ignore Outside ∷ [])) (sym all) (Stepped-ignored o s t Outside h)));
       known = λ said.
           let f = x.known said in
-          let all : numbered o t a ≡ ignored Duplicate = items ∙ ap (λ b. cases b (is_received t a.number)) f.1.0 ∙ ap (cases false) f.1.1 in
-          subst (λ (w : Received). Stepped o (record s { window = w }) t (numbered o t a) (Ignore Duplicate ∷ [])) (sym f.0) (subst (λ is. Stepped o s t is (Ignore Duplicate ∷ [])) (sym all) (Stepped-ignored o s t Duplicate h));
+          let all : numbered o t a ≡ ignored Duplicate = items ∙ ap (λ b. cases b (is_received t a.number)) f.1.1.0 ∙ ap (cases false) f.1.1.1 in
+          subst (λ (w : Received). Stepped o (record s { window = w; arrived = noted }) t (numbered o t a) (Ignore Duplicate ∷ [])) (sym f.0)
+          (subst (λ (ns : List ℕ). Stepped o (record s { arrived = ns }) t (numbered o t a) (Ignore Duplicate ∷ [])) (sym f.1.0)
+          (subst (λ is. Stepped o s t is (Ignore Duplicate ∷ [])) (sym all) (Stepped-ignored o s t Duplicate h)));
       taken = λ said.
           let f = x.taken said in
           let start : exp_of o t ≡ number_expected (with_offered s r).window = same_exp ∙ ap number_expected (sym f.0) in (
-            subst (λ (w : Received). Agrees o (record s { window = w }) t₁) (sym f.0) (Agrees-admitted o s t a h.agrees f.1.1.1.0 f.1.1.1.1 f.1.1.0 regular),
+            subst (λ (w : Received). Agrees o (record s { window = w; arrived = noted }) t₁) (sym f.0)
+                (subst (λ (ns : List ℕ). Agrees o (record s { window = with_held s.window a; arrived = ns }) t₁) (sym f.1.0) (Agrees-admitted o s t a h.agrees f.1.1.1.1.0 f.1.1.1.1.1 f.1.1.1.0 regular)),
             (
-              items ∙ ap (λ b. cases b (is_received t a.number)) f.1.0 ∙ ap (cases false) f.1.1.0
+              items ∙ ap (λ b. cases b (is_received t a.number)) f.1.1.0 ∙ ap (cases false) f.1.1.1.0
                   ∙ ap (λ e. (Admits a ∷ []) ∷ agenda o e (exp_of o t₁ - e) t₁) start,
               λ rest. ap (λ cs. enables cs ++ effects_of o t₁ rest) (newly-untouched o t (Admits a ∷ []) (untouched-admits a)),
             ),
@@ -287,7 +303,7 @@ offered o s event t r h not_immediate no_function known =
 
 pub Settled-counted : (o : Setting) (s : Core) (t : Trace) → Settled o s t → Settled o (counted s) t
 Settled-counted o s t h = let a = h.agrees in record {
-  agrees = record { events = a.events; window = a.window; replies = a.replies; commands = a.commands; sets = a.sets; unfinished = a.unfinished; enabled = a.enabled; none_waits = a.none_waits };
+  agrees = record { events = a.events; window = a.window; replies = a.replies; commands = a.commands; sets = a.sets; unfinished = a.unfinished; enabled = a.enabled; level = a.level; arrived = a.arrived; waiting = a.waiting };
   none_due = h.none_due;
 }
 

@@ -45,7 +45,7 @@ turn-begun : (o : Setting) (s : Core) (t : Trace) (r : Request) (h : Agrees o s 
 turn-begun o s t r h place x =
     let a : Arrival = x.arrival in
     let e : ℕ = number_expected s.window in
-    let regular = and_parts (not (is_immediate a.request) && not (opcode a.request == 0x02)) (is_known (connection_of a.request) o.conns) (h.window.requests e a (admitted_of_held t e a x.held_is)) in
+    let regular = and_parts (not (is_immediate a.request)) (is_known (connection_of a.request) o.conns) (h.window.requests e a (admitted_of_held t e a x.held_is)) in
     let kinds = and_parts (not (is_immediate a.request)) (not (opcode a.request == 0x02)) regular.0 in
     let numbered : is_immediate a.request ≡ false = not_true (is_immediate a.request) kinds.0 in
     let number : a.number ≡ e = held-number t e a x.held_is in

@@ -116,7 +116,7 @@ pub record Next (w : Received) (t : Trace) (r : Request) : Type 0 where
   pub request_is : arrival.request ≡ r
   pub received_is : is_received t (number_expected w) ≡ true
 
-has_first : {A : Type 0} (ps : List (Option A)) (x : A) → get_or ps 0 None ≡ Some x → 0 < length ps
+pub has_first : {A : Type 0} (ps : List (Option A)) (x : A) → get_or ps 0 None ≡ Some x → 0 < length ps
 has_first [] x h = absurd cc
 has_first (p ∷ ps) x h = omega arith
 

@@ -25,12 +25,11 @@ numbered o t a =
     else (if is_received t a.number then ignored Duplicate
     else with_turns o t (Admits a ∷ []))
 
--- what becomes of a request by its opcode. So far Task Management and Logout Requests are passed over, as Data-Out
--- and SNACK are
+-- what becomes of a request by its opcode. So far Logout Requests are passed over, as Data-Out and SNACK are
 abbrev pub kind_of : Request → Kind
 kind_of r =
-    if opcode r == 0x05 || opcode r == 0x10 || opcode r == 0x02 || opcode r == 0x06 then PassedOver
-    else (if opcode r == 0x00 || opcode r == 0x01 || opcode r == 0x04 then ExecutesKind
+    if opcode r == 0x05 || opcode r == 0x10 || opcode r == 0x06 then PassedOver
+    else (if opcode r == 0x00 || opcode r == 0x01 || opcode r == 0x02 || opcode r == 0x04 then ExecutesKind
     else Unknown)
 
 abbrev pub arrival_as : Setting → Trace → Arrival → Kind → List (List Mark)

@@ -13,4 +13,5 @@ pub mod Lines
 pub mod Standing
 pub mod Steps
 pub mod Functions
+pub mod Turning
 pub mod Rows

@@ -22,12 +22,15 @@ may_wait r = is_immediate r && (function r == 2 || function r == 4 || function r
 
 -- ---- what a function meets before it executes itself: a reply that refuses it, or none
 
-abbrev pub refusal_of_function : Setting → Request → Option Reply
-refusal_of_function o r =
+abbrev pub refusal_to : (level units : ℕ) → Request → Option Reply
+refusal_to level units r =
     if itt r == NO_TAG then Some (Reject 9 (header_of r))
     else (if function r == 8 then Some (Task (itt r) 4)
-    else (if not (is_supported o.level (function r)) then Some (Task (itt r) 5)
-    else elim (unit_named o.units r) [ Some u ↦ None | None ↦ Some (Task (itt r) 2) ]))
+    else (if not (is_supported level (function r)) then Some (Task (itt r) 5)
+    else elim (unit_named units r) [ Some u ↦ None | None ↦ Some (Task (itt r) 2) ]))
+
+abbrev pub refusal_of_function : Setting → Request → Option Reply
+refusal_of_function o r = refusal_to o.level o.units r
 
 -- the most functions of a connection that wait
 abbrev pub MOST_WAITING : ℕ

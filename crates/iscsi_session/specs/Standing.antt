@@ -10,9 +10,11 @@ use Rattle.iscsi_tasks.specs.declared.member.Member.{Member}
 use Rattle.iscsi_tasks.specs.Sets.{Members, opened}
 use Rattle.iscsi_session.specs.declared.event.Event.{Event}
 use Rattle.iscsi_session.specs.declared.session.live.Live.{Live}
+use Rattle.iscsi_session.specs.declared.session.waiting.Waiting.{Waiting}
 use Rattle.iscsi_session.specs.Settings.{Setting, is_known}
-use Rattle.iscsi_session.specs.Trace.{Arrival, Command, Trace, has, shown, waits, held, admitted, is_received, is_delivered, is_emptied, entered, live, live_in, was_free, is_among, leaves_ticket}
+use Rattle.iscsi_session.specs.Trace.{Arrival, Command, Trace, has, shown, waiting, held, admitted, is_received, is_delivered, is_emptied, entered, live, live_in, was_free, is_among, leaves_ticket}
 use Rattle.iscsi_session.specs.Execution.{exp_of, unfinished}
+use Rattle.iscsi_session.specs.Management.{may_wait}
 use Rattle.iscsi_session.specs.Run.{trace_of, stat_sn_of}
 use Rattle.iscsi_session.specs.Executed.{executed_below, delivers}
 use Rattle.iscsi_session.specs.Enabling.{EnabledSoFar}
@@ -26,6 +28,9 @@ pub record Core : Type 0 where
   pub taken : ℕ  -- the events
   pub live : List Live
   pub sets : List Members  -- the task set of each unit
+  pub level : ℕ
+  pub arrived : List ℕ  -- the events in which the requests arrived that are held, for each place of the window
+  pub waiting : List Waiting  -- the functions that wait, in order of arrival
 
 -- what a window keeps of a number
 abbrev pub place_of : Trace → ℕ → Option (Option Request)
@@ -55,9 +60,9 @@ kept c = record { ticket = c.ticket; unit = c.unit; conn = connection_of c.arriv
 abbrev pub are_known : List Live → List (ℕ × ℕ) → Bool
 are_known lives conns = list_all (λ l. is_known l.conn conns) lives
 
--- the request is numbered and no Task Management Request, and came on a connection of the session
+-- the request is numbered, and came on a connection of the session
 abbrev pub is_regular_request : Setting → Request → Bool
-is_regular_request o r = (not (is_immediate r) && not (opcode r == 0x02)) && is_known (connection_of r) o.conns
+is_regular_request o r = not (is_immediate r) && is_known (connection_of r) o.conns
 
 -- the command is in a unit of the session, and came on one of its connections
 abbrev pub is_regular : Setting → Command → Bool
@@ -127,6 +132,20 @@ pub record WindowAgrees (o : Setting) (w : Received) (t : Trace) : Type 0 where
   pub few : w.unfinished ≤ length w.places
   pub free : (k : ℕ) → length w.places ≤ k + w.unfinished → slice_index_or w.places k None ≡ None
 
+-- the events in which the requests arrived that it holds
+pub record ArrivalsAgree (w : Received) (arrived : List ℕ) (t : Trace) : Type 0 where
+  pub long : length arrived ≡ length w.places
+  pub at_place : (k : ℕ) (a : Arrival) → k < length w.places → held t (number_expected w + k) ≡ Some a → slice_index_or arrived k 0 ≡ a.event
+
+-- a function that waits: its number is so much above the first one
+abbrev pub arrival_waiting : ℕ → Waiting → Arrival
+arrival_waiting first w = record { event = w.event; number = number_of_first first + w.turn; request = w.request }
+
+-- its functions that wait: functions over a whole set
+pub record WaitingAgrees (o : Setting) (waits : List Waiting) (t : Trace) : Type 0 where
+  pub list : waiting t ≡ map (arrival_waiting o.first) waits
+  pub may : list_all (λ w. may_wait w.request) waits ≡ true
+
 -- its connections
 pub record RepliesAgree (o : Setting) (conns : List (ℕ × ℕ)) (t : Trace) : Type 0 where
   pub cids : map (λ (c : ℕ × ℕ). c.0) conns ≡ map (λ (c : ℕ × ℕ). c.0) o.conns
@@ -156,7 +175,9 @@ pub record Agrees (o : Setting) (s : Core) (t : Trace) : Type 0 where
   pub sets : SetsAgree o s.sets t
   pub unfinished : s.window.unfinished ≡ unfinished t
   pub enabled : EnabledSoFar o t  -- what was given is what the rule enables
-  pub none_waits : shown waits t ≡ []  -- so far no function waits
+  pub level : s.level ≡ o.level
+  pub arrived : ArrivalsAgree s.window s.arrived t
+  pub waiting : WaitingAgrees o s.waiting t
 
 -- and nothing is due
 pub record Settled (o : Setting) (s : Core) (t : Trace) : Type 0 where
@@ -174,4 +195,4 @@ held_count o t = count_by (λ n. is_some (held t n)) (range_with_len (exp_of o t
 
 -- the most effects of the next event
 abbrev pub effect_bound_of : Setting → Trace → ℕ
-effect_bound_of o t = 12 * (held_count o t + 0 + 1) + 2 * length (live t)
+effect_bound_of o t = 12 * (held_count o t + length (waiting t) + 1) + 2 * length (live t)

@@ -1,5 +1,5 @@
 -- What a session keeps after a part of an event, and the effects, by what it keeps before. For private contracts alone.
-use Rattle.std.specs.Prelude.{All, ◌≡◌, false, ◌<◌, ℕ, pos, ◌-ℤ◌, ◌+◌, ◌-◌, ◌≤◌, ◌==◌, ◌&&◌, ◌||◌, not, count_by, nat_lt, nat_le, nat_eq, Bool, true, List, [], ◌∷◌, ◌++◌, length, map, filter, find, slice_index_or, slice_set, Option, Some, None, option_map, if◌then◌else◌}
+use Rattle.std.specs.Prelude.{All, ◌≡◌, false, ◌<◌, ℕ, pos, ◌-ℤ◌, ◌+◌, ◌-◌, ◌≤◌, ◌==◌, ◌&&◌, ◌||◌, not, count_by, nat_lt, nat_le, nat_eq, Bool, true, List, [], ◌∷◌, ◌++◌, length, map, filter, find, is_some, slice_index_or, slice_set, Option, Some, None, option_map, if◌then◌else◌}
 use Rattle.std.specs.Option.{MatchOption}
 use Rattle.std.specs.HashMap.{HashMap, get, hash_map_len, spare}
 use Rattle.std.specs.List.{list_any}
@@ -8,7 +8,9 @@ use Rattle.iscsi_wire.specs.declared.reply.Reply.{Reply}
 use Rattle.iscsi_wire.specs.declared.reply.Reply.TheVariants.{Scsi}
 use Rattle.iscsi_wire.specs.Serial.{wire, lift, number_of_first}
 use Rattle.iscsi_wire.specs.Fields.{connection_of, is_immediate, cmd_sn, attr_code, itt}
-use Rattle.iscsi_window.specs.Windows.{Received, number_expected, number_last, offered_to, advanced, with_unfinished}
+use Rattle.iscsi_window.specs.declared.answer.Place.{Place}
+use Rattle.iscsi_window.specs.declared.answer.Place.TheVariants.{Inside, Outside}
+use Rattle.iscsi_window.specs.Windows.{Received, number_expected, number_last, place_in as window_place, is_received_at, offered_to, with_unfinished}
 use Rattle.iscsi_tasks.specs.declared.task.Task.{Task}
 use Rattle.iscsi_tasks.specs.declared.member.Member.{Member}
 use Rattle.iscsi_tasks.specs.Sets.{Members, tasks_in, opened as opened_set, entered_to, left_by, with_ticket, is_enabled_in, is_new, next_in, given_by}
@@ -42,8 +44,16 @@ KeepsPace w w' = w'.unfinished + w.turned ≤ w.unfinished + w'.turned
 
 -- ---- an offer
 
+-- the event in which a request arrived is noted where it is held
+abbrev pub noted_in : Place → List ℕ → ℕ → List ℕ
+noted_in Outside arrived event = arrived
+noted_in (Inside k) arrived event = slice_set arrived k event
+
+abbrev pub noted_at : Received → Place → List ℕ → ℕ → List ℕ
+noted_at w place arrived event = if is_received_at w place then arrived else noted_in place arrived event
+
 abbrev pub with_offered : Core → Request → Core
-with_offered s r = record s { window = offered_to s.window r }
+with_offered s r = record s { window = offered_to s.window r; arrived = noted_at s.window (window_place s.window (cmd_sn r)) s.arrived (s.taken - 1) }
 
 -- ---- replies
 
@@ -172,22 +182,6 @@ abbrev pub execution_effects : Core → Request → Verdict → List Effect
 execution_effects s r Nothing = []
 execution_effects s r (Answer reply) = reply_effects s (connection_of r) reply
 execution_effects s r (EnterUnit unit) = entry_effects s r unit
-
-abbrev pub with_executed : Core → Request → Core
-with_executed s r = executed_as s r (verdict_by s r)
-
-abbrev pub with_advanced : Core → Core
-with_advanced s = record s { window = advanced s.window }
-
--- the turn of the next number, if it is received
-abbrev pub turned_if : Core → Option (Option Request) → Core
-turned_if s None = s
-turned_if s (Some None) = with_advanced s
-turned_if s (Some (Some r)) = with_executed (with_advanced s) r
-
-abbrev pub turn_effects : Core → Option (Option Request) → List Effect
-turn_effects s (Some (Some r)) = Deliver r ∷ execution_effects (with_advanced s) r (verdict_by (with_advanced s) r)
-turn_effects s _ = []
 
 -- ---- a completion
 

@@ -21,7 +21,8 @@ pub(crate) const NOP_OUT: u8 = 0x00;
 
 const SCSI_COMMAND: u8 = 0x01;
 
-const TASK_MANAGEMENT: u8 = 0x02;
+/// Task Management Request.
+pub(crate) const TASK_MANAGEMENT: u8 = 0x02;
 
 /// Text Request.
 pub(crate) const TEXT: u8 = 0x04;
@@ -32,13 +33,13 @@ const LOGOUT: u8 = 0x06;
 
 const SNACK: u8 = 0x10;
 
-/// What becomes of a request. So far Task Management and Logout Requests are passed over.
+/// What becomes of a request. So far Logout Requests are passed over.
 pub(crate) fn kind_of(request: &Request) -> Kind
     ensures { result ≡ kind_named request.now }
 {
     match request.opcode() {
-        DATA_OUT | SNACK | TASK_MANAGEMENT | LOGOUT => Kind::PassedOver,
-        NOP_OUT | SCSI_COMMAND | TEXT => Kind::Executes,
+        DATA_OUT | SNACK | LOGOUT => Kind::PassedOver,
+        NOP_OUT | SCSI_COMMAND | TASK_MANAGEMENT | TEXT => Kind::Executes,
         _ => Kind::Unknown,
     }
 }

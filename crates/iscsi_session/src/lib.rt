@@ -9,6 +9,7 @@ mod kind;
 mod log;
 mod options;
 mod outcome;
+mod patience;
 mod report;
 mod session;
 mod verdict;

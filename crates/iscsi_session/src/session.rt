@@ -1,6 +1,7 @@
 //! The session, and its step.
 
-ghost use Rattle.std.specs.Prelude.{Err, ◌*◌, ◌≡◌, ◌≢◌, ℕ, ◌+◌, ◌≤◌, ◌<◌, true, List, [], ◌∷◌, ◌++◌, OnOk, OnErr, IfOk, length, count_by, is_some, vec_len, vec_capacity};
+ghost use Rattle.std.specs.Prelude.{Err, ◌*◌, ◌≡◌, ◌≢◌, ℕ, ◌+◌, ◌≤◌, ◌<◌, true, List, [], ◌∷◌, ◌++◌, OnOk, OnErr, IfOk, length, nat_lt, count_by, is_some, vec_len, vec_capacity};
+ghost use Rattle.std.specs.List.{list_all};
 ghost use Rattle.iscsi_session.specs.Settings.{Setting, setting_of};
 ghost use Rattle.iscsi_session.specs.Trace.{Trace, after_items};
 ghost use Rattle.std.specs.VecDeque.{deque_capacity};
@@ -17,6 +18,7 @@ use crate::fault::SessionFault;
 use crate::options::{Options, is_known};
 use crate::session::live::Live;
 use crate::session::tags::Tags;
+use crate::session::waiting::Waiting;
 use iscsi_tasks::TaskSet;
 use iscsi_window::Window;
 use iscsi_wire::Request;
@@ -27,12 +29,16 @@ use std::marker::Model;
 mod arrival;
 mod completion;
 mod execution;
+mod function;
 mod immediate;
+mod leaving;
 mod live;
+mod management;
 mod sets;
 mod tags;
 #[cfg(test)]
 mod tests;
+mod waiting;
 
 /// The most effects of one item.
 const ITEM_EFFECTS: usize = 12;
@@ -50,23 +56,31 @@ pub struct Session {
     tags: Tags,
     immediate: Vec<u8>,
     sets: Vec<TaskSet>,
+    level: u32,
+    arrived: VecDeque<u64>,
+    waiting: Vec<Waiting>,
 }
 
 impl Model for Session {
-    ghost use Rattle.std.specs.Prelude.{ℕ, ◌≡◌, ◌≤◌, ◌+◌, ◌*◌, ◌^◌, true, length, is_some, count_by};
+    ghost use Rattle.std.specs.Prelude.{ℕ, ◌≡◌, ◌≤◌, ◌+◌, ◌*◌, ◌^◌, true, length, nat_lt, is_some, count_by, vec_capacity};
     ghost use Rattle.std.specs.List.{list_all};
     ghost use Rattle.std.specs.VecDeque.{deque_capacity};
     ghost use Rattle.iscsi_session.specs.Standing.{Core, are_known, is_held, is_place_known, Match, are_ascending, are_within};
     ghost use Rattle.iscsi_session.specs.Steps.{is_numbered, AreIndexed, AreCounted, tag_room};
+    ghost use Rattle.iscsi_session.specs.Settings.{is_known};
+    ghost use Rattle.iscsi_session.specs.Management.{may_wait};
+    ghost use Rattle.iscsi_session.specs.Turning.{waiting_in};
+    ghost use Rattle.iscsi_wire.specs.Fields.{connection_of};
 
     ghost Value = { Core };
 
-    ghost view = { λ s. record { window = s.window; events = s.events; conns = s.conns.items; entered = s.entered; taken = s.taken; live = s.live.items; sets = s.sets.items } };
+    ghost view = { λ s. record { window = s.window; events = s.events; conns = s.conns.items; entered = s.entered; taken = s.taken; live = s.live.items; sets = s.sets.items; level = s.level; arrived = s.arrived.items; waiting = s.waiting.items } };
 
     // Room for as many commands as the window has places and the connections immediate ones, the held requests
     // counted, nothing counted more often than there were events, each request and command on a connection of the
-    // session, the live commands in the task sets, their tags in the index, and the immediate ones counted.
-    ghost invariant = { λ s. (count_by is_numbered s.live.items ≤ s.window.unfinished) × (s.window.unfinished ≤ length s.window.places) × (length s.window.places ≤ 1024) × (length s.window.places + 8 * length s.conns.items ≤ deque_capacity s.live) × (s.held ≡ count_by is_held s.window.places) × (s.window.turned + count_by is_some s.window.places ≤ s.taken) × (s.entered + count_by is_some s.window.places ≤ s.taken) × (s.taken ≤ s.events) × (s.events ≤ 2 ^ 48) × (are_known s.live.items s.conns.items ≡ true) × (list_all (is_place_known s.conns.items) s.window.places ≡ true) × (Match s.sets.items s.live.items) × (are_ascending s.live.items ≡ true) × (are_within s.entered (length s.sets.items) s.live.items ≡ true) × AreIndexed s.tags s.live.items × (length s.window.places + 8 * length s.conns.items ≤ tag_room s.tags) × AreCounted s.immediate.items s.conns.items s.live.items × (length s.conns.items ≤ 64) };
+    // session, the live commands in the task sets, their tags in the index, and the immediate ones counted. The events of
+    // arrival stand beside the places; the functions that wait arrived before, may wait, and are few, with room for them.
+    ghost invariant = { λ s. (count_by is_numbered s.live.items ≤ s.window.unfinished) × (s.window.unfinished ≤ length s.window.places) × (length s.window.places ≤ 1024) × (length s.window.places + 8 * length s.conns.items ≤ deque_capacity s.live) × (s.held ≡ count_by is_held s.window.places) × (s.window.turned + count_by is_some s.window.places ≤ s.taken) × (s.entered + count_by is_some s.window.places ≤ s.taken) × (s.taken ≤ s.events) × (s.events ≤ 2 ^ 48) × (are_known s.live.items s.conns.items ≡ true) × (list_all (is_place_known s.conns.items) s.window.places ≡ true) × (Match s.sets.items s.live.items) × (are_ascending s.live.items ≡ true) × (are_within s.entered (length s.sets.items) s.live.items ≡ true) × AreIndexed s.tags s.live.items × (length s.window.places + 8 * length s.conns.items ≤ tag_room s.tags) × AreCounted s.immediate.items s.conns.items s.live.items × (length s.conns.items ≤ 64) × (length s.arrived.items ≡ length s.window.places) × (length s.window.places ≤ deque_capacity s.arrived) × (list_all (λ w. nat_lt w.event s.taken) s.waiting.items ≡ true) × (list_all (λ w. is_known (connection_of w.request) s.conns.items) s.waiting.items ≡ true) × (list_all (λ w. may_wait w.request) s.waiting.items ≡ true) × ((cid : ℕ) → waiting_in s.waiting.items cid ≤ 4) × (4 * length s.conns.items ≤ vec_capacity s.waiting) };
 }
 
 impl Session {
@@ -85,7 +99,7 @@ impl Session {
             window: size,
             units,
             depth,
-            level: _,
+            level,
             events,
             conns,
         } = options;
@@ -96,6 +110,12 @@ impl Session {
             tags::open(alloc, most_live),
             immediate::open(alloc, conns.len()),
             sets::open(alloc, units, depth),
+        ) else {
+            return Err(SessionFault::NoMemory);
+        };
+        let (Some(arrived), Ok(waiting)) = (
+            arrival::open(alloc, size),
+            Vec::with_capacity(alloc, waiting::MOST * conns.len()),
         ) else {
             return Err(SessionFault::NoMemory);
         };
@@ -110,6 +130,9 @@ impl Session {
             tags,
             immediate,
             sets,
+            level,
+            arrived,
+            waiting,
         })
     }
 
@@ -126,9 +149,9 @@ impl Session {
     /// The most effects that the next event gives.
     pub fn effect_bound(&self) -> usize
         ensures bound { (o : Setting) (h : List Event) → StandsFor o self.now h → result ≡ effect_bound_of o (trace_of o h) }
-        ensures value { result ≡ 12 * (count_by is_held self.now.window.places + 1) + 2 * length self.now.live }
+        ensures value { result ≡ 12 * (count_by is_held self.now.window.places + length self.now.waiting + 1) + 2 * length self.now.live }
     {
-        ITEM_EFFECTS * (self.held as usize + 1) + 2 * self.live.len()
+        ITEM_EFFECTS * (self.held as usize + self.waiting.len() + 1) + 2 * self.live.len()
     }
 
     /// Takes an event, appends its effects to `out`, and answers ExpCmdSN and MaxCmdSN at its end.
@@ -170,12 +193,13 @@ impl Session {
         requires known { comes_on self.old.conns event.now ≡ true }
         requires counted { self.old.window.turned + count_by is_some self.old.window.places < self.old.taken }
         requires entered { self.old.entered + count_by is_some self.old.window.places < self.old.taken }
-        requires room { vec_len out.old + 12 * (count_by is_held self.old.window.places + 1) + 2 * length self.old.live ≤ vec_capacity out.old }
+        requires waited { list_all (λ w. nat_lt (w.event + 1) self.old.taken) self.old.waiting ≡ true }
+        requires room { vec_len out.old + 12 * (count_by is_held self.old.window.places + length self.old.waiting + 1) + 2 * length self.old.live ≤ vec_capacity out.old }
         ensures settled { (o : Setting) (index : ℕ) (t : Trace) → self.old.taken ≡ index + 1 → Settled o self.old t → Settled o self.new (after_items (items_of o index t event.now) t) }
         ensures effects { (o : Setting) (index : ℕ) (t : Trace) → self.old.taken ≡ index + 1 → Settled o self.old t → out.new.items ≡ out.old.items ++ effects_of o t (items_of o index t event.now) }
         ensures taken { self.new.taken ≡ self.old.taken }
         ensures pace { KeepsPace self.old.window self.new.window }
-        ensures spent { vec_len out.new ≤ vec_len out.old + 3 * (count_by is_held self.old.window.places + 1) + 2 * length self.old.live }
+        ensures spent { vec_len out.new ≤ vec_len out.old + 12 * (count_by is_held self.old.window.places + length self.old.waiting + 1) + 2 * length self.old.live }
     {
         match *event {
             Event::Arrive { conn, header } => self.arrive(Request::read(conn, &header), out),

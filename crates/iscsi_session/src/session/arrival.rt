@@ -1,22 +1,28 @@
 //! The arrival of a request, and the turns that become due by it.
 
-ghost use Rattle.std.specs.Prelude.{false, ◌-◌, ◌*◌, ◌≡◌, ◌==◌, ℕ, ◌+◌, ◌≤◌, ◌<◌, true, ◌++◌, count_by, is_some, vec_len, vec_capacity};
+ghost use Rattle.std.specs.Prelude.{false, ◌-◌, ◌*◌, ◌≡◌, ◌==◌, ℕ, ◌+◌, ◌≤◌, ◌<◌, true, [], ◌∷◌, ◌++◌, length, drop, replicate, slice_index_or, IfSome, nat_lt, count_by, is_some, vec_len, vec_capacity};
+ghost use Rattle.std.specs.List.{list_all};
+ghost use Rattle.std.specs.VecDeque.{deque_capacity};
 ghost use Rattle.iscsi_wire.specs.Fields.{connection_of, is_immediate, opcode};
 ghost use Rattle.iscsi_window.specs.Windows.{at_place, offer_to, number_expected};
 ghost use Rattle.iscsi_session.specs.Settings.{Setting, is_known as known_in};
 ghost use Rattle.iscsi_session.specs.Trace.{Trace, after_items};
 ghost use Rattle.iscsi_session.specs.Execution.{exp_of};
 ghost use Rattle.iscsi_session.specs.Agenda.{arrival, arrival_of, numbered};
-ghost use Rattle.iscsi_session.specs.Items.{agenda};
+ghost use Rattle.iscsi_session.specs.Items.{agenda, functions_at};
 ghost use Rattle.iscsi_session.specs.Run.{effects_of};
 ghost use Rattle.iscsi_session.specs.Standing.{Agrees, Settled, is_held};
-ghost use Rattle.iscsi_session.specs.Steps.{turned_if, turn_effects, KeepsPace, with_offered, counted};
+ghost use Rattle.iscsi_session.specs.Steps.{KeepsPace, noted_in, with_offered};
+ghost use Rattle.iscsi_session.specs.Functions.{owed};
+ghost use Rattle.iscsi_session.specs.Turning.{turned_if, turn_effects};
 
 use crate::effect::{Effect, Why};
 use crate::kind::{Kind, kind_of};
 use crate::session::Session;
-use iscsi_window::{Offer, Turned};
+use iscsi_window::{Offer, Place};
 use iscsi_wire::Request;
+use std::alloc::Global;
+use std::collections::VecDeque;
 
 impl Session {
     /// Takes a request that arrived.
@@ -24,19 +30,21 @@ impl Session {
         requires known { known_in (connection_of request) self.old.conns ≡ true }
         requires counted { self.old.window.turned + count_by is_some self.old.window.places < self.old.taken }
         requires entered { self.old.entered + count_by is_some self.old.window.places < self.old.taken }
-        requires room { vec_len out.old + 3 * (count_by is_held self.old.window.places + 1) ≤ vec_capacity out.old }
+        requires waited { list_all (λ w. nat_lt (w.event + 1) self.old.taken) self.old.waiting ≡ true }
+        requires room { vec_len out.old + owed self.old.live self.old.sets + 6 * (count_by is_held self.old.window.places + length self.old.waiting + 1) ≤ vec_capacity out.old }
         ensures settled { (o : Setting) (index : ℕ) (t : Trace) → self.old.taken ≡ index + 1 → Settled o self.old t → Settled o self.new (after_items (arrival o t (arrival_of o index t request)) t) }
         ensures effects { (o : Setting) (index : ℕ) (t : Trace) → self.old.taken ≡ index + 1 → Settled o self.old t → out.new.items ≡ out.old.items ++ effects_of o t (arrival o t (arrival_of o index t request)) }
         ensures taken { self.new.taken ≡ self.old.taken }
         ensures pace { KeepsPace self.old.window self.new.window }
-        ensures spent { vec_len out.new ≤ vec_len out.old + 3 * (count_by is_held self.old.window.places + 1) }
+        ensures spent { vec_len out.new ≤ vec_len out.old + owed self.old.live self.old.sets + 6 * (count_by is_held self.old.window.places + length self.old.waiting + 1) }
     {
         match kind_of(&request) {
             Kind::PassedOver => out.push_reserved(Effect::Ignore { why: Why::Data }),
             Kind::Unknown => self.reject_opcode(&request, out),
             Kind::Executes => {
                 if request.immediate() {
-                    self.execute_at_once(request, out);
+                    self.take_immediate(request, out);
+                    self.take_turns(out);
                 } else {
                     self.receive(request, out);
                 }
@@ -47,16 +55,15 @@ impl Session {
     /// Takes a numbered request.
     fn receive(&mut self, request: Request, out: &mut Vec<Effect>)
         requires regular { is_immediate request ≡ false }
-        requires no_function { (opcode request == 0x02) ≡ false }
         requires known { known_in (connection_of request) self.old.conns ≡ true }
         requires counted { self.old.window.turned + count_by is_some self.old.window.places < self.old.taken }
         requires entered { self.old.entered + count_by is_some self.old.window.places < self.old.taken }
-        requires room { vec_len out.old + 3 * (count_by is_held self.old.window.places + 1) ≤ vec_capacity out.old }
+        requires room { vec_len out.old + owed self.old.live self.old.sets + 6 * (count_by is_held self.old.window.places + length self.old.waiting + 1) ≤ vec_capacity out.old }
         ensures settled { (o : Setting) (index : ℕ) (t : Trace) → Settled o self.old t → Settled o self.new (after_items (numbered o t (arrival_of o index t request)) t) }
         ensures effects { (o : Setting) (index : ℕ) (t : Trace) → Settled o self.old t → out.new.items ≡ out.old.items ++ effects_of o t (numbered o t (arrival_of o index t request)) }
         ensures taken { self.new.taken ≡ self.old.taken }
         ensures pace { KeepsPace self.old.window self.new.window }
-        ensures spent { vec_len out.new ≤ vec_len out.old + 3 * (count_by is_held self.old.window.places + 1) }
+        ensures spent { vec_len out.new ≤ vec_len out.old + owed self.old.live self.old.sets + 6 * (count_by is_held self.old.window.places + length self.old.waiting + 1) }
     {
         match self.offer(&request) {
             Offer::Held => self.take_turns(out),
@@ -77,48 +84,100 @@ impl Session {
         ensures held { count_by is_held self.new.window.places ≤ count_by is_held self.old.window.places + 1 }
         ensures counted { self.new.window.turned + count_by is_some self.new.window.places ≤ self.old.window.turned + count_by is_some self.old.window.places + 1 }
     {
+        let place = self.window.place(request.cmd_sn());
         let offer = self.window.offer(request);
         if offer == Offer::Held {
             self.held += 1;
+            note(&mut self.arrived, place, self.taken - 1);
         }
         offer
     }
 
     /// Takes the turns that are due.
     fn take_turns(&mut self, out: &mut Vec<Effect>)
-        requires room { vec_len out.old + 3 * count_by is_held self.old.window.places ≤ vec_capacity out.old }
+        requires room { vec_len out.old + owed self.old.live self.old.sets + 6 * (count_by is_held self.old.window.places + length self.old.waiting) ≤ vec_capacity out.old }
         ensures settled { (o : Setting) (t : Trace) → Agrees o self.old t → Settled o self.new (after_items (agenda o (number_expected self.old.window) (exp_of o t - number_expected self.old.window) t) t) }
         ensures effects { (o : Setting) (t : Trace) → Agrees o self.old t → out.new.items ≡ out.old.items ++ effects_of o t (agenda o (number_expected self.old.window) (exp_of o t - number_expected self.old.window) t) }
         ensures taken { self.new.taken ≡ self.old.taken }
         ensures pace { KeepsPace self.old.window self.new.window }
-        ensures spent { vec_len out.new ≤ vec_len out.old + 3 * count_by is_held self.old.window.places }
+        ensures spent { vec_len out.new ≤ vec_len out.old + owed self.old.live self.old.sets + 6 * (count_by is_held self.old.window.places + length self.old.waiting) }
     {
-        while self.turn_next(out) {}
+        self.take_functions(out);
+        while self.turn_next(out) {
+            self.take_functions(out);
+        }
+    }
+
+    /// Executes the functions that have waited for the next number.
+    fn take_functions(&mut self, out: &mut Vec<Effect>)
+        requires room { vec_len out.old + owed self.old.live self.old.sets + 6 * length self.old.waiting ≤ vec_capacity out.old }
+        ensures agrees { (o : Setting) (t : Trace) → Agrees o self.old t → Agrees o self.new (after_items (functions_at o (number_expected self.old.window) t) t) }
+        ensures effects { (o : Setting) (t : Trace) → Agrees o self.old t → out.new.items ≡ out.old.items ++ effects_of o t (functions_at o (number_expected self.old.window) t) }
+        ensures places { self.new.window.places ≡ self.old.window.places }
+        ensures turned { self.new.window.turned ≡ self.old.window.turned }
+        ensures first { self.new.window.first ≡ self.old.window.first }
+        ensures taken { self.new.taken ≡ self.old.taken }
+        ensures pace { KeepsPace self.old.window self.new.window }
+        ensures spent { vec_len out.new + owed self.new.live self.new.sets + 6 * length self.new.waiting ≤ vec_len out.old + owed self.old.live self.old.sets + 6 * length self.old.waiting }
+        ensures capacity { vec_capacity out.new ≡ vec_capacity out.old }
+    {
+        while self.take_function(out) {}
     }
 
     /// Takes the turn of the next number, if it is received, and tells whether it was.
     fn turn_next(&mut self, out: &mut Vec<Effect>) -> bool
-        requires room { vec_len out.old + 3 * count_by is_held self.old.window.places ≤ vec_capacity out.old }
+        requires room { vec_len out.old + owed self.old.live self.old.sets + 6 * count_by is_held self.old.window.places ≤ vec_capacity out.old }
         ensures answer { result ≡ is_some (at_place self.old.window 0) }
         ensures session { self.new ≡ turned_if self.old (at_place self.old.window 0) }
         ensures effects { out.new.items ≡ out.old.items ++ turn_effects self.old (at_place self.old.window 0) }
-        ensures spent { vec_len out.new + 3 * count_by is_held self.new.window.places ≤ vec_len out.old + 3 * count_by is_held self.old.window.places }
+        ensures spent { vec_len out.new + owed self.new.live self.new.sets + 6 * count_by is_held self.new.window.places ≤ vec_len out.old + owed self.old.live self.old.sets + 6 * count_by is_held self.old.window.places }
         ensures capacity { vec_capacity out.new ≡ vec_capacity out.old }
         ensures fewer { result ≡ true → count_by is_some self.new.window.places + 1 ≡ count_by is_some self.old.window.places }
+        ensures waiting { self.new.waiting ≡ self.old.waiting }
     {
-        match self.window.advance() {
-            Some(
-                Turned {
-                    request: Some(request),
-                    ..
-                },
-            ) => {
-                self.held -= 1;
-                self.deliver(request, out);
-                true
-            }
-            Some(_) => true,
-            None => false,
+        let Some(turned) = self.window.advance() else {
+            return false;
+        };
+        let event = pass(&mut self.arrived);
+        if let Some(request) = turned.request {
+            self.held -= 1;
+            self.deliver(request, event, out);
         }
+        true
     }
+}
+
+/// Opens the events of arrival for so many places, none of which holds a request. None where memory is refused.
+pub(crate) fn open(alloc: Global, places: u32) -> Option<VecDeque<u64>>
+    ensures events { IfSome result (λ arrived. arrived.items ≡ replicate places 0) }
+    ensures capacity { IfSome result (λ arrived. places ≤ deque_capacity arrived) }
+{
+    let mut arrived = VecDeque::with_capacity(alloc, places as usize).ok()?;
+    for _ in 0..places {
+        arrived.push_back_reserved(0);
+    }
+    Some(arrived)
+}
+
+/// Notes the event in which the request of a place arrived.
+fn note(arrived: &mut VecDeque<u64>, place: Place, event: u64)
+    requires { (k : ℕ) → place ≡ Place.Inside k → k < length arrived.old.items }
+    ensures events { arrived.new.items ≡ noted_in place arrived.old.items event }
+    ensures capacity { deque_capacity arrived.new ≡ deque_capacity arrived.old }
+{
+    if let Place::Inside(k) = place {
+        arrived[k as usize] = event;
+    }
+}
+
+/// The first place is passed: its event comes back, and a place is new at the end.
+fn pass(arrived: &mut VecDeque<u64>) -> u64
+    requires { 0 < length arrived.old.items }
+    ensures event { result ≡ slice_index_or arrived.old.items 0 0 }
+    ensures events { arrived.new.items ≡ drop 1 arrived.old.items ++ 0 ∷ [] }
+    ensures capacity { deque_capacity arrived.new ≡ deque_capacity arrived.old }
+{
+    let event = arrived.pop_front().unwrap();
+    arrived.push_back_reserved(0);
+    event
 }

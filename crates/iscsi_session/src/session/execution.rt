@@ -1,16 +1,18 @@
 //! The execution of a request, by the first case of its table that fits.
 
-ghost use Rattle.std.specs.Prelude.{ℕ, pos, ◌-ℤ◌, false, ◌≡◌, ◌==◌, ◌&&◌, position, ◌+◌, ◌≤◌, ◌<◌, true, ◌∷◌, ◌++◌, length, count_by, is_some, if◌then◌else◌, vec_len, vec_capacity};
+ghost use Rattle.std.specs.Prelude.{◌-◌, ℕ, pos, ◌-ℤ◌, false, ◌≡◌, ◌==◌, ◌&&◌, position, ◌+◌, ◌≤◌, ◌<◌, true, ◌∷◌, ◌++◌, length, count_by, is_some, if◌then◌else◌, vec_len, vec_capacity};
 ghost use Rattle.iscsi_wire.specs.Serial.{number_of_first};
 ghost use Rattle.iscsi_wire.specs.Fields.{connection_of, header_of, is_immediate, itt as tag_of};
 ghost use Rattle.iscsi_window.specs.Windows.{HasRoom};
 ghost use Rattle.iscsi_session.specs.Settings.{is_known as known_in};
 ghost use Rattle.iscsi_session.specs.Execution.{MOST_IMMEDIATE, reject as reject_of, attr_of as attr_named, scsi_verdict, nop_verdict};
 ghost use Rattle.iscsi_session.specs.Standing.{stat_sn_on};
-ghost use Rattle.iscsi_session.specs.Steps.{set_at, is_set_full, is_tag_kept, is_crowded_by, immediate_in, counted_on, place_in, verdict_by, number_by, event_by, started, with_command, entry_effects, with_reply, reply_effects, with_executed, execution_effects, count_reply};
+ghost use Rattle.iscsi_session.specs.Steps.{set_at, is_set_full, is_tag_kept, is_crowded_by, immediate_in, counted_on, place_in, verdict_by, number_by, event_by, started, with_command, entry_effects, with_reply, reply_effects, executed_as, execution_effects, count_reply};
+ghost use Rattle.iscsi_session.specs.Functions.{owed};
+ghost use Rattle.iscsi_session.specs.Turning.{with_executed, executed_effects};
 
 use crate::effect::Effect;
-use crate::kind::{NOP_OUT, TEXT};
+use crate::kind::{NOP_OUT, TASK_MANAGEMENT, TEXT};
 use crate::session::live::Live;
 use crate::session::tags::{is_tag_live, take_up};
 use crate::session::{Session, immediate, sets};
@@ -20,7 +22,7 @@ use iscsi_window::Window;
 use iscsi_wire::{Reply, Request, distance};
 
 /// The tag that names no task (RFC 7143 section 11.2.1.8).
-const NO_TAG: u32 = 0xffff_ffff;
+pub(crate) const NO_TAG: u32 = 0xffff_ffff;
 
 /// The greatest ATTR that names a task attribute (RFC 7143 section 11.3.1).
 const GREATEST_ATTR: u8 = 3;
@@ -32,36 +34,40 @@ const NOT_SUPPORTED: u8 = 0x05;
 const TASK_IN_PROGRESS: u8 = 0x07;
 
 /// Reject: invalid PDU field (RFC 7143 section 11.17.1).
-const INVALID_FIELD: u8 = 0x09;
+pub(crate) const INVALID_FIELD: u8 = 0x09;
 
 impl Session {
-    /// Executes the request of the number that has turned last.
-    pub(crate) fn deliver(&mut self, request: Request, out: &mut Vec<Effect>)
+    /// Executes the request of the number that has turned last, which arrived in this event.
+    pub(crate) fn deliver(&mut self, request: Request, event: u64, out: &mut Vec<Effect>)
         requires space { HasRoom self.old.window }
+        requires numbered { is_immediate request ≡ false }
         requires counted { self.old.entered + count_by is_some self.old.window.places < self.old.taken }
         requires known { known_in (connection_of request) self.old.conns ≡ true }
-        requires room { vec_len out.old + 3 ≤ vec_capacity out.old }
-        ensures session { self.new ≡ with_executed self.old request }
-        ensures effects { out.new.items ≡ out.old.items ++ Effect.Deliver request ∷ execution_effects self.old request (verdict_by self.old request) }
-        ensures spent { vec_len out.new ≤ vec_len out.old + 3 }
+        requires room { vec_len out.old + owed self.old.live self.old.sets + 6 ≤ vec_capacity out.old }
+        ensures session { self.new ≡ with_executed self.old request event }
+        ensures effects { out.new.items ≡ out.old.items ++ Effect.Deliver request ∷ executed_effects self.old request event }
+        ensures spent { vec_len out.new + owed self.new.live self.new.sets ≤ vec_len out.old + owed self.old.live self.old.sets + 6 }
         ensures capacity { vec_capacity out.new ≡ vec_capacity out.old }
     {
         out.push_reserved(Effect::Deliver { request });
-        self.execute(&request, out);
+        self.execute(&request, event, out);
     }
 
-    /// Executes an immediate request.
+    /// Executes an immediate request at its arrival.
     pub(crate) fn execute_at_once(&mut self, request: Request, out: &mut Vec<Effect>)
         requires immediate { is_immediate request ≡ true }
+        requires turned { self.old.window.turned + count_by is_some self.old.window.places < self.old.taken }
         requires counted { self.old.entered + count_by is_some self.old.window.places < self.old.taken }
         requires known { known_in (connection_of request) self.old.conns ≡ true }
-        requires room { vec_len out.old + 3 ≤ vec_capacity out.old }
-        ensures session { self.new ≡ with_executed self.old request }
-        ensures effects { out.new.items ≡ out.old.items ++ Effect.Immediate request ∷ execution_effects self.old request (verdict_by self.old request) }
-        ensures spent { vec_len out.new ≤ vec_len out.old + 3 }
+        requires room { vec_len out.old + owed self.old.live self.old.sets + 6 ≤ vec_capacity out.old }
+        ensures session { self.new ≡ with_executed self.old request (self.old.taken - 1) }
+        ensures effects { out.new.items ≡ out.old.items ++ Effect.Immediate request ∷ executed_effects self.old request (self.old.taken - 1) }
+        ensures spent { vec_len out.new + owed self.new.live self.new.sets ≤ vec_len out.old + owed self.old.live self.old.sets + 6 }
+        ensures capacity { vec_capacity out.new ≡ vec_capacity out.old }
     {
         out.push_reserved(Effect::Immediate { request });
-        self.execute(&request, out);
+        let event = self.taken - 1;
+        self.execute(&request, event, out);
     }
 
     /// Rejects a request for its opcode.
@@ -76,15 +82,35 @@ impl Session {
         self.reply(request.conn(), reply, out);
     }
 
-    /// Executes a request: the first case of its table that fits.
-    fn execute(&mut self, request: &Request, out: &mut Vec<Effect>)
+    /// Executes a request that arrived in this event.
+    fn execute(&mut self, request: &Request, event: u64, out: &mut Vec<Effect>)
+        requires space { is_immediate request.now ≡ false → HasRoom self.old.window }
+        requires turned { is_immediate request.now ≡ true → self.old.window.turned + count_by is_some self.old.window.places < self.old.taken }
+        requires counted { self.old.entered + count_by is_some self.old.window.places < self.old.taken }
+        requires known { known_in (connection_of request.now) self.old.conns ≡ true }
+        requires room { vec_len out.old + owed self.old.live self.old.sets + 5 ≤ vec_capacity out.old }
+        ensures session { self.new ≡ with_executed self.old request.now event }
+        ensures effects { out.new.items ≡ out.old.items ++ executed_effects self.old request.now event }
+        ensures spent { vec_len out.new + owed self.new.live self.new.sets ≤ vec_len out.old + owed self.old.live self.old.sets + 5 }
+        ensures capacity { vec_capacity out.new ≡ vec_capacity out.old }
+    {
+        if request.opcode() == TASK_MANAGEMENT {
+            let number = self.position(request);
+            self.manage(request, number, event, out);
+        } else {
+            self.obey(request, out);
+        }
+    }
+
+    /// Executes a request by the first case of its table that fits.
+    fn obey(&mut self, request: &Request, out: &mut Vec<Effect>)
         requires space { is_immediate request.now ≡ false → HasRoom self.old.window }
         requires counted { self.old.entered + count_by is_some self.old.window.places < self.old.taken }
         requires known { known_in (connection_of request.now) self.old.conns ≡ true }
         requires room { vec_len out.old + 2 ≤ vec_capacity out.old }
-        ensures session { self.new ≡ with_executed self.old request.now }
+        ensures session { self.new ≡ executed_as self.old request.now (verdict_by self.old request.now) }
         ensures effects { out.new.items ≡ out.old.items ++ execution_effects self.old request.now (verdict_by self.old request.now) }
-        ensures spent { vec_len out.new ≤ vec_len out.old + 2 }
+        ensures spent { vec_len out.new + owed self.new.live self.new.sets ≤ vec_len out.old + owed self.old.live self.old.sets + 4 }
         ensures capacity { vec_capacity out.new ≡ vec_capacity out.old }
     {
         match self.verdict(request) {
@@ -130,7 +156,7 @@ impl Session {
     }
 
     /// A reply goes out on a connection.
-    fn reply(&mut self, conn: u16, reply: Reply, out: &mut Vec<Effect>)
+    pub(crate) fn reply(&mut self, conn: u16, reply: Reply, out: &mut Vec<Effect>)
         requires known { known_in conn self.old.conns ≡ true }
         requires room { vec_len out.old + 1 ≤ vec_capacity out.old }
         ensures session { self.new ≡ with_reply self.old conn }
@@ -262,7 +288,7 @@ pub(crate) fn reject(request: &Request, reason: u8) -> Verdict
 }
 
 /// A Reject of the request, which shows its whole header.
-fn rejection(request: &Request, reason: u8) -> Reply
+pub(crate) fn rejection(request: &Request, reason: u8) -> Reply
     ensures { result ≡ Reply.Reject reason (header_of request.now) }
 {
     Reply::Reject {

@@ -20,7 +20,7 @@ pub(crate) const CHECK_CONDITION: u8 = 0x02;
 const TASK_SET_FULL: u8 = 0x28;
 
 /// Reject: too many immediate commands (RFC 7143 section 11.17.1).
-const TOO_MANY_IMMEDIATE: u8 = 0x06;
+pub(crate) const TOO_MANY_IMMEDIATE: u8 = 0x06;
 
 /// ILLEGAL REQUEST, LOGICAL UNIT NOT SUPPORTED.
 const NO_UNIT: Sense = Sense {
@@ -68,7 +68,7 @@ pub(crate) fn verdict_in(request: &Request, is_crowded: bool, sets: &[TaskSet]) 
 }
 
 /// The unit that a request's LUN names, of so many.
-fn unit_named(request: &Request, units: usize) -> Option<u16>
+pub(crate) fn unit_named(request: &Request, units: usize) -> Option<u16>
     ensures { result ≡ unit_named units request.now }
 {
     let unit = unit_of(&request.lun())?;
@@ -117,7 +117,7 @@ pub(crate) fn leave(sets: &mut [TaskSet], command: &Live, out: &mut Vec<Effect>)
 }
 
 /// Tells a unit of the commands that became enabled, the oldest first.
-fn enable_new(set: &mut TaskSet, unit: u16, out: &mut Vec<Effect>)
+pub(crate) fn enable_new(set: &mut TaskSet, unit: u16, out: &mut Vec<Effect>)
     requires room { vec_len out.old + count_by is_new set.old.list ≤ vec_capacity out.old }
     ensures set { set.new ≡ all_given set.old }
     ensures effects { out.new.items ≡ out.old.items ++ enable_effects unit set.old.list }

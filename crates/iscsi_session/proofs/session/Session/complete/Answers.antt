@@ -138,4 +138,11 @@ invariant_of-self c =
       omega (arith, inv.15, ap length places),
       subst (λ (ls : List Live). AreCounted c.finish.new.immediate.items c.self.inside.conns.items ls) (sym c.remove.ensures.items) (AreCounted-left c.self.inside.immediate.items c.finish.new.immediate.items c.self.inside.conns.items c.self.inside.live.items l inv.16 c.finish.ensures.long counts inv.12 f.found),
       inv.17,
+      omega (arith, inv.18, ap length places),
+      omega (arith, inv.19, ap length places),
+      inv.20,
+      inv.21,
+      inv.22,
+      inv.23,
+      inv.24,
     )

@@ -80,7 +80,7 @@ room_in s r unit numbered fit few known this begins room = room_for_one s.window
 pub take_up-requires-clause-room : goal.take_up-requires-clause-room
 take_up-requires-clause-room c =
     let inv = c.self.invariant in
-    let s : Core = record { window = c.self.inside.window; events = c.self.inside.events; conns = c.self.inside.conns.items; entered = c.self.inside.entered; taken = c.self.inside.taken; live = c.self.inside.live.items; sets = c.self.inside.sets.items } in
+    let s : Core = record { window = c.self.inside.window; events = c.self.inside.events; conns = c.self.inside.conns.items; entered = c.self.inside.entered; taken = c.self.inside.taken; live = c.self.inside.live.items; sets = c.self.inside.sets.items; level = c.self.inside.level; arrived = c.self.inside.arrived.items; waiting = c.self.inside.waiting.items } in
     let room = room_in s c.args.request.now c.args.unit inv.0 inv.1 inv.16.few inv.9 (ap (λ (t : Core). is_known (connection_of c.args.request.now) t.conns) c.self.view_is ∙ c.requires.known)
     (λ is. subst (λ (t : Core). t.window.unfinished < length t.window.places) (sym c.self.view_is) (c.requires.space is).not_full) (λ is. subst (λ (t : Core). immediate_in t.live (connection_of c.args.request.now) < 8) (sym c.self.view_is) (c.requires.few is)) in
     omega (arith, room, inv.15)
@@ -88,7 +88,7 @@ take_up-requires-clause-room c =
 pub push_back_reserved-requires : goal.push_back_reserved-requires
 push_back_reserved-requires c =
     let inv = c.self.invariant in
-    let s : Core = record { window = c.self.inside.window; events = c.self.inside.events; conns = c.self.inside.conns.items; entered = c.self.inside.entered; taken = c.self.inside.taken; live = c.self.inside.live.items; sets = c.self.inside.sets.items } in
+    let s : Core = record { window = c.self.inside.window; events = c.self.inside.events; conns = c.self.inside.conns.items; entered = c.self.inside.entered; taken = c.self.inside.taken; live = c.self.inside.live.items; sets = c.self.inside.sets.items; level = c.self.inside.level; arrived = c.self.inside.arrived.items; waiting = c.self.inside.waiting.items } in
     let room = room_in s c.args.request.now c.args.unit inv.0 inv.1 inv.16.few inv.9 (ap (λ (t : Core). is_known (connection_of c.args.request.now) t.conns) c.self.view_is ∙ c.requires.known)
     (λ is. subst (λ (t : Core). t.window.unfinished < length t.window.places) (sym c.self.view_is) (c.requires.space is).not_full) (λ is. subst (λ (t : Core). immediate_in t.live (connection_of c.args.request.now) < 8) (sym c.self.view_is) (c.requires.few is)) in
     omega (arith, room, inv.3, c.self.inside.live.ok.0)
@@ -147,12 +147,19 @@ invariant_of-self c =
       omega (arith, inv.15, c.take_up.ensures.room, ap length places),
       subst (λ (ls : List Live). AreCounted c.begin.new.immediate.items c.self.inside.conns.items ls) (sym lives) (AreCounted-entered c.self.inside.immediate.items c.begin.new.immediate.items c.self.inside.conns.items c.self.inside.live.items l inv.16 c.begin.ensures.long counts room),
       inv.17,
+      omega (arith, inv.18, ap length places),
+      omega (arith, inv.19, ap length places),
+      inv.20,
+      inv.21,
+      inv.22,
+      inv.23,
+      inv.24,
     )
 
 pub returns-clause-session : goal.returns-clause-session
 returns-clause-session c =
     let r : Request = c.args.request.now in
-    let s : Core = record { window = c.self.inside.window; events = c.self.inside.events; conns = c.self.inside.conns.items; entered = c.self.inside.entered; taken = c.self.inside.taken; live = c.self.inside.live.items; sets = c.self.inside.sets.items } in
+    let s : Core = record { window = c.self.inside.window; events = c.self.inside.events; conns = c.self.inside.conns.items; entered = c.self.inside.entered; taken = c.self.inside.taken; live = c.self.inside.live.items; sets = c.self.inside.sets.items; level = c.self.inside.level; arrived = c.self.inside.arrived.items; waiting = c.self.inside.waiting.items } in
     let old : List Members = c.self.inside.sets.items in
     let task : Task = task_of (c.self.inside.entered + 1) c.conn-2.result c.itt-3.result c.attr_of-attr.result c.immediate-2.result (to_z w64 (of_z w64 c.position-pos.result)) c.event-event.result in
     let new : List Members = set old c.args.unit (given_by (entered_to (get_or old c.args.unit (opened 0)) task)) in
@@ -162,7 +169,7 @@ returns-clause-session c =
     let same : task ≡ new_task s r = task_is s r c.conn-2.result c.itt-3.result c.attr_of-attr.result c.immediate-2.result (to_z w64 (of_z w64 c.position-pos.result)) c.event-event.result c.conn-2.ensures c.itt-3.ensures (c.attr_of-attr.ensures ∙ ap attr_of c.attr.ensures) c.immediate-2.ensures
     (to_z-of_z w64 c.position-pos.result (search rules) ∙ c.position-pos.ensures ∙ ap (λ (t : Core). pos (number_by t r) -ℤ pos (number_of_first t.window.first)) (sym c.self.view_is)) (c.event-event.ensures ∙ ap (λ (t : Core). event_by t r) (sym c.self.view_is)) in
     let lives : c.push_back_reserved.new.self.items ≡ s.live ++ new_live s r c.args.unit ∷ [] = c.push_back_reserved.ensures.items ∙ ap (λ (l : Live). s.live ++ l ∷ []) (live_is s r c.args.unit c.conn.result c.itt-2.result c.immediate.result c.conn.ensures c.itt-2.ensures c.immediate.ensures) in
-    let made : Received → List Live → List Members → Core = λ w ls ms. record { window = w; events = s.events; conns = s.conns; entered = s.entered + 1; taken = s.taken; live = ls; sets = ms } in
+    let made : Received → List Live → List Members → Core = λ w ls ms. record { window = w; events = s.events; conns = s.conns; entered = s.entered + 1; taken = s.taken; live = ls; sets = ms; level = s.level; arrived = s.arrived; waiting = s.waiting } in
     ap (λ (w : Received). made w c.push_back_reserved.new.self.items (take c.self.inside.sets.len (c.enter.new.sets ++ drop (length c.enter.new.sets) old))) c.begin.ensures.window
     ∙ ap (λ (ls : List Live). made (started s.window r) ls (take c.self.inside.sets.len (c.enter.new.sets ++ drop (length c.enter.new.sets) old))) lives
     ∙ ap (made (started s.window r) (s.live ++ new_live s r c.args.unit ∷ [])) (now ∙ ap (λ (t : Task). set old c.args.unit (given_by (entered_to (get_or old c.args.unit (opened 0)) t))) same)
@@ -171,7 +178,7 @@ returns-clause-session c =
 pub returns-clause-effects : goal.returns-clause-effects
 returns-clause-effects c =
     let r : Request = c.args.request.now in
-    let s : Core = record { window = c.self.inside.window; events = c.self.inside.events; conns = c.self.inside.conns.items; entered = c.self.inside.entered; taken = c.self.inside.taken; live = c.self.inside.live.items; sets = c.self.inside.sets.items } in
+    let s : Core = record { window = c.self.inside.window; events = c.self.inside.events; conns = c.self.inside.conns.items; entered = c.self.inside.entered; taken = c.self.inside.taken; live = c.self.inside.live.items; sets = c.self.inside.sets.items; level = c.self.inside.level; arrived = c.self.inside.arrived.items; waiting = c.self.inside.waiting.items } in
     let old : List Members = c.self.inside.sets.items in
     let task : Task = task_of (c.self.inside.entered + 1) c.conn-2.result c.itt-3.result c.attr_of-attr.result c.immediate-2.result (to_z w64 (of_z w64 c.position-pos.result)) c.event-event.result in
     let same : task ≡ new_task s r = task_is s r c.conn-2.result c.itt-3.result c.attr_of-attr.result c.immediate-2.result (to_z w64 (of_z w64 c.position-pos.result)) c.event-event.result c.conn-2.ensures c.itt-3.ensures (c.attr_of-attr.ensures ∙ ap attr_of c.attr.ensures) c.immediate-2.ensures

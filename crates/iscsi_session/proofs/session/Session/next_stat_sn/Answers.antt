@@ -3,10 +3,12 @@ use Rattle.std.specs.Prelude.{IsSome}
 use Rattle.std.specs.List.{list_all}
 use Rattle.std.proofs.lemmas.List.Quantifiers.{position-Some}
 use Rattle.iscsi_wire.specs.Serial.{wire}
+use Rattle.iscsi_wire.specs.Fields.{connection_of}
+use Rattle.iscsi_session.specs.declared.session.waiting.Waiting.{Waiting}
 use Rattle.iscsi_session.specs.Settings.{is_known}
 use Rattle.iscsi_session.specs.Standing.{Core, stat_sn_on, are_known, is_place_known}
 use Rattle.iscsi_session.specs.Steps.{count_reply, AreCounted}
-use Rattle.iscsi_session.proofs.ListLemmas.{IsSome-position, count_reply-at, stat_sn_on-at, are_known-replied, are_places_known-replied}
+use Rattle.iscsi_session.proofs.ListLemmas.{IsSome-position, count_reply-at, stat_sn_on-at, are_known-replied, are_places_known-replied, are_waiting_known-replied}
 use Rattle.iscsi_session.proofs.CountLemmas.{length-replied, AreCounted-replied}
 use Rattle.iscsi_session.proofs.session.Session.next_stat_sn.Goals as goal
 
@@ -41,7 +43,7 @@ pub returns-clause-session : goal.returns-clause-session
 returns-clause-session c =
     let found : position (has_cid c.args.cid) c.self.inside.conns.items ≡ Some c.unwrap-place.result = ap (position (has_cid c.args.cid)) (sym c.deref.ensures.value) ∙ sym c.place_of.ensures ∙ c.unwrap-place.ensures in
     let next = (read_at c.args.cid c.unwrap-place.result c.self.inside.conns.items c.index.result.now found c.index.ensures).next in
-    let old : Core = record { window = c.self.inside.window; events = c.self.inside.events; conns = c.self.inside.conns.items; entered = c.self.inside.entered; taken = c.self.inside.taken; live = c.self.inside.live.items; sets = c.self.inside.sets.items } in
+    let old : Core = record { window = c.self.inside.window; events = c.self.inside.events; conns = c.self.inside.conns.items; entered = c.self.inside.entered; taken = c.self.inside.taken; live = c.self.inside.live.items; sets = c.self.inside.sets.items; level = c.self.inside.level; arrived = c.self.inside.arrived.items; waiting = c.self.inside.waiting.items } in
     ap (λ (cs : List (ℕ × ℕ)). record old { conns = cs }) next ∙ ap (λ (s : Core). record s { conns = count_reply c.args.cid s.conns }) c.self.view_is
 
 pub invariant_of-self : goal.invariant_of-self
@@ -68,4 +70,11 @@ invariant_of-self c =
       omega (arith, inv.15, ap length next, long),
       subst (λ (cs : List (ℕ × ℕ)). AreCounted c.self.inside.immediate.items cs c.self.inside.live.items) (sym next) (AreCounted-replied c.args.cid c.self.inside.immediate.items c.self.inside.conns.items c.self.inside.live.items inv.16),
       omega (arith, inv.17, ap length next, long),
+      inv.18,
+      inv.19,
+      inv.20,
+      ap (λ (cs : List (ℕ × ℕ)). list_all (λ (w : Waiting). is_known (connection_of w.request) cs) c.self.inside.waiting.items) next ∙ are_waiting_known-replied c.args.cid c.self.inside.waiting.items c.self.inside.conns.items inv.21,
+      inv.22,
+      inv.23,
+      omega (arith, inv.24, ap length next, long),
     )

@@ -82,7 +82,7 @@ pub returns-in-Some-Some-clause-session : goal.returns-in-Some-Some-clause-sessi
 returns-in-Some-Some-clause-session c =
     let request : c.in-Some-Some.field-0.request ≡ Some c.in-Some-Some.request = search rules in
     let n : Advanced c.self.inside.window (Some c.in-Some-Some.request) = subst (Advanced c.self.inside.window) request (advanced_at c.self.inside.window c.in-Some-Some.field-0 (sym c.advance.ensures.answer ∙ c.in-Some-Some.is)) in
-    let s : Core = record { window = c.self.inside.window; events = c.self.inside.events; conns = c.self.inside.conns.items; entered = c.self.inside.entered; taken = c.self.inside.taken; live = c.self.inside.live.items; sets = c.self.inside.sets.items } in
+    let s : Core = record { window = c.self.inside.window; events = c.self.inside.events; conns = c.self.inside.conns.items; entered = c.self.inside.entered; taken = c.self.inside.taken; live = c.self.inside.live.items; sets = c.self.inside.sets.items; level = c.self.inside.level; arrived = c.self.inside.arrived.items; waiting = c.self.inside.waiting.items } in
     c.deliver.ensures.session ∙ ap (λ (t : Core). with_executed t c.in-Some-Some.request) (advanced_core s c.advance.new.self c.advance.ensures.state) ∙ sym (ap (turned_if s) n.here)
     ∙ ap (λ (t : Core). turned_if t (at_place t.window 0)) c.self.view_is
 
@@ -90,7 +90,7 @@ pub returns-in-Some-Some-clause-effects : goal.returns-in-Some-Some-clause-effec
 returns-in-Some-Some-clause-effects c =
     let request : c.in-Some-Some.field-0.request ≡ Some c.in-Some-Some.request = search rules in
     let n : Advanced c.self.inside.window (Some c.in-Some-Some.request) = subst (Advanced c.self.inside.window) request (advanced_at c.self.inside.window c.in-Some-Some.field-0 (sym c.advance.ensures.answer ∙ c.in-Some-Some.is)) in
-    let s : Core = record { window = c.self.inside.window; events = c.self.inside.events; conns = c.self.inside.conns.items; entered = c.self.inside.entered; taken = c.self.inside.taken; live = c.self.inside.live.items; sets = c.self.inside.sets.items } in
+    let s : Core = record { window = c.self.inside.window; events = c.self.inside.events; conns = c.self.inside.conns.items; entered = c.self.inside.entered; taken = c.self.inside.taken; live = c.self.inside.live.items; sets = c.self.inside.sets.items; level = c.self.inside.level; arrived = c.self.inside.arrived.items; waiting = c.self.inside.waiting.items } in
     c.deliver.ensures.effects
     ∙ ap (λ (t : Core). c.args.out.now.items ++ Deliver c.in-Some-Some.request ∷ execution_effects t c.in-Some-Some.request (verdict_by t c.in-Some-Some.request)) (advanced_core s c.advance.new.self c.advance.ensures.state)
     ∙ ap (λ (es : List Effect). c.args.out.now.items ++ es) (sym (ap (turn_effects s) n.here))

@@ -1,0 +1,193 @@
+-- Which numbers an item receives: ABORT TASK alone may receive one, where it is immediate.
+use Rattle.std.proofs.Common.{◌≡◌, ℕ, ◌==◌, ◌&&◌, ◌||◌, not, ◌⊎◌, inl, inr, cond, Bool, true, false, List, [], ◌∷◌, ◌++◌, map, filter, Option, Some, None, refl, ap, sym, ◌∙◌, nat_lt, nat_le, ◌+◌}
+use Rattle.std.specs.List.{list_any, filter_map}
+use Rattle.std.proofs.lemmas.Bool.{false≢true, eqb-true}
+use Rattle.iscsi_wire.specs.declared.reply.Reply.TheVariants.{Reject}
+use Rattle.iscsi_wire.specs.declared.request.Request.{Request}
+use Rattle.iscsi_wire.specs.Serial.{lift}
+use Rattle.iscsi_wire.specs.Fields.{connection_of, is_immediate, opcode, function, itt, rtt, ref_cmd_sn}
+use Rattle.iscsi_session.specs.declared.verdict.Verdict.{Verdict}
+use Rattle.iscsi_session.specs.declared.verdict.Verdict.TheVariants.{Nothing, Answer, Enter as EnterUnit}
+use Rattle.iscsi_session.specs.Settings.{Setting}
+use Rattle.iscsi_session.specs.Trace.{Arrival, Command, Mark, Delivers, Executes, Voids, Empties, Waits, Leaves, Trace, number_received, is_received, live_in}
+use Rattle.iscsi_session.specs.Execution.{exp_of, max_of, unit_named, marks_of, verdict_of, reply_on}
+use Rattle.iscsi_session.specs.Management.{may_wait, refusal_of_function, waiting_on, answer, held_command, live_with_tag, abort_missing, abort_task, is_before, abort_all, function_to, function_marks, management_marks}
+use Rattle.iscsi_session.specs.Items.{marks_after, execution, waiting_item, immediate_item, function_item, item_of}
+use Rattle.iscsi_session.proofs.BoolLemmas.{and_parts}
+
+abbrev received_by : List Mark → List ℕ
+received_by item = filter_map number_received item
+
+-- no number, or one
+abbrev pub AtMostOne : List ℕ → Type 0
+AtMostOne ns = (ns ≡ []) ⊎ ((n : ℕ) × (ns ≡ n ∷ []))
+
+leaves_none : (cs : List Command) (ms : List Mark) → received_by (map Leaves cs ++ ms) ≡ received_by ms
+leaves_none [] ms = refl
+leaves_none (c ∷ cs) ms = leaves_none cs ms
+
+verdict_none : (t : Trace) (a : Arrival) (v : Verdict) → received_by (marks_of t a v) ≡ []
+verdict_none t a Nothing = refl
+verdict_none t a (Answer reply) = refl
+verdict_none t a (EnterUnit unit) = refl
+
+-- ---- ABORT TASK
+
+missing_one : (o : Setting) (t : Trace) (a : Arrival) (n : ℕ) → AtMostOne (received_by (abort_missing o t a n))
+missing_one o t a n =
+    elim (is_immediate a.request && nat_le (exp_of o t) n && nat_le n (max_of o t) && nat_lt n a.number) as (λ b. AtMostOne (received_by (cond b ((cond (is_received t n) [] (Voids n ∷ [])) ++ answer a 0) (answer a 1)))) [
+      | false ↦ inl refl
+      | true ↦ elim (is_received t n) as (λ b. AtMostOne (received_by ((cond b [] (Voids n ∷ [])) ++ answer a 0))) [
+        | true ↦ inl refl
+        | false ↦ inr (n, refl)
+      ]
+    ]
+
+missing_none : (o : Setting) (t : Trace) (a : Arrival) (n : ℕ) → is_immediate a.request ≡ false → received_by (abort_missing o t a n) ≡ []
+missing_none o t a n numbered = ap (λ b. received_by (cond (b && nat_le (exp_of o t) n && nat_le n (max_of o t) && nat_lt n a.number) ((cond (is_received t n) [] (Voids n ∷ [])) ++ answer a 0) (answer a 1))) numbered
+
+abbrev abort_as : Setting → Trace → Arrival → Option Command → Option Arrival → List Mark
+abort_as o t a c h = elim c [
+  | Some c ↦ Leaves c ∷ answer a 0
+  | None ↦ elim h [ Some h ↦ Empties h ∷ answer a 0 | None ↦ abort_missing o t a (lift (exp_of o t) (ref_cmd_sn a.request)) ]
+]
+
+as_one : (o : Setting) (t : Trace) (a : Arrival) (c : Option Command) (h : Option Arrival) → AtMostOne (received_by (abort_as o t a c h))
+as_one o t a (Some c) h = inl refl
+as_one o t a None (Some h) = inl refl
+as_one o t a None None = missing_one o t a (lift (exp_of o t) (ref_cmd_sn a.request))
+
+as_none : (o : Setting) (t : Trace) (a : Arrival) (c : Option Command) (h : Option Arrival) → is_immediate a.request ≡ false → received_by (abort_as o t a c h) ≡ []
+as_none o t a (Some c) h numbered = refl
+as_none o t a None (Some h) numbered = refl
+as_none o t a None None numbered = missing_none o t a (lift (exp_of o t) (ref_cmd_sn a.request)) numbered
+
+-- ---- the other functions
+
+all_none : (t : Trace) (a : Arrival) (unit : ℕ) (covers : Command → Bool) → received_by (abort_all t a unit covers) ≡ []
+all_none t a unit covers = leaves_none (filter covers (live_in unit t)) (answer a 0)
+
+abbrev others : Setting → Trace → Arrival → ℕ → List Mark
+others o t a unit =
+    cond (function a.request == 5) (abort_all t a unit (λ c. true))
+    (cond (function a.request == 9) (answer a (cond (list_any (λ c. itt c.arrival.request == rtt a.request) (live_in unit t)) 7 0))
+    (cond (function a.request == 10) (answer a (cond (list_any (λ c. true) (live_in unit t)) 7 0))
+    (abort_all t a unit (is_before a))))
+
+others_none : (o : Setting) (t : Trace) (a : Arrival) (unit : ℕ) → received_by (others o t a unit) ≡ []
+others_none o t a unit =
+    elim (function a.request == 5) as (λ b. received_by (cond b (abort_all t a unit (λ c. true)) (cond (function a.request == 9) (answer a (cond (list_any (λ c. itt c.arrival.request == rtt a.request) (live_in unit t)) 7 0)) (cond (function a.request == 10) (answer a (cond (list_any (λ c. true) (live_in unit t)) 7 0)) (abort_all t a unit (is_before a))))) ≡ []) [
+      | true ↦ all_none t a unit (λ c. true)
+      | false ↦ elim (function a.request == 9) as (λ b. received_by (cond b (answer a (cond (list_any (λ c. itt c.arrival.request == rtt a.request) (live_in unit t)) 7 0)) (cond (function a.request == 10) (answer a (cond (list_any (λ c. true) (live_in unit t)) 7 0)) (abort_all t a unit (is_before a)))) ≡ []) [
+        | true ↦ refl
+        | false ↦ elim (function a.request == 10) as (λ b. received_by (cond b (answer a (cond (list_any (λ c. true) (live_in unit t)) 7 0)) (abort_all t a unit (is_before a))) ≡ []) [
+          | true ↦ refl
+          | false ↦ all_none t a unit (is_before a)
+        ]
+      ]
+    ]
+
+to_one : (o : Setting) (t : Trace) (a : Arrival) (unit : ℕ) → AtMostOne (received_by (function_to o t a unit))
+to_one o t a unit =
+    elim (function a.request == 1) as (λ b. AtMostOne (received_by (cond b (abort_task o t a unit) (others o t a unit)))) [
+      | true ↦ as_one o t a (live_with_tag t (rtt a.request) unit) (held_command o t (rtt a.request) unit a.number)
+      | false ↦ inl (others_none o t a unit)
+    ]
+
+to_none : (o : Setting) (t : Trace) (a : Arrival) (unit : ℕ) → is_immediate a.request ≡ false → received_by (function_to o t a unit) ≡ []
+to_none o t a unit numbered =
+    elim (function a.request == 1) as (λ b. received_by (cond b (abort_task o t a unit) (others o t a unit)) ≡ []) [
+      | true ↦ as_none o t a (live_with_tag t (rtt a.request) unit) (held_command o t (rtt a.request) unit a.number) numbered
+      | false ↦ others_none o t a unit
+    ]
+
+to_none_waiting : (o : Setting) (t : Trace) (a : Arrival) (unit : ℕ) → (function a.request == 1) ≡ false → received_by (function_to o t a unit) ≡ []
+to_none_waiting o t a unit other = ap (λ b. received_by (cond b (abort_task o t a unit) (others o t a unit))) other ∙ others_none o t a unit
+
+marks_one : (o : Setting) (t : Trace) (a : Arrival) → AtMostOne (received_by (function_marks o t a))
+marks_one o t a = elim (unit_named o.units a.request) as (λ x. AtMostOne (received_by (elim x [ Some unit ↦ function_to o t a unit | None ↦ [] ]))) [
+  | Some unit ↦ to_one o t a unit
+  | None ↦ inl refl
+]
+
+marks_none : (o : Setting) (t : Trace) (a : Arrival) → is_immediate a.request ≡ false → received_by (function_marks o t a) ≡ []
+marks_none o t a numbered = elim (unit_named o.units a.request) as (λ x. received_by (elim x [ Some unit ↦ function_to o t a unit | None ↦ [] ]) ≡ []) [
+  | Some unit ↦ to_none o t a unit numbered
+  | None ↦ refl
+]
+
+-- a function that waits is no ABORT TASK
+pub no_abort_task : (r : Request) → may_wait r ≡ true → (function r == 1) ≡ false
+no_abort_task r may = elim (function r == 1) as (λ b. (function r == 1) ≡ b → b ≡ false) [
+  | true ↦ λ is. absurd (false≢true (sym (none (eqb-true (function r) 1 is)) ∙ may))
+  | false ↦ λ is. refl
+] refl
+  where
+    and_false : (b : Bool) → (b && false) ≡ false
+    and_false true = refl
+    and_false false = refl
+
+    none : function r ≡ 1 → may_wait r ≡ false
+    none is = ap (λ f. is_immediate r && (f == 2 || f == 4 || f == 5)) is ∙ and_false (is_immediate r)
+
+pub function_receives_none : (o : Setting) (t : Trace) (a : Arrival) → may_wait a.request ≡ true → received_by (function_item o t a) ≡ []
+function_receives_none o t a may = elim (unit_named o.units a.request) as (λ x. received_by (elim x [ Some unit ↦ function_to o ((Executes a ∷ []) ∷ t) a unit | None ↦ [] ]) ≡ []) [
+  | Some unit ↦ to_none_waiting o ((Executes a ∷ []) ∷ t) a unit (no_abort_task a.request may)
+  | None ↦ refl
+]
+
+-- ---- items
+
+management_one : (o : Setting) (t : Trace) (a : Arrival) → AtMostOne (received_by (management_marks o t a))
+management_one o t a = elim (refusal_of_function o a.request) as (λ x. AtMostOne (received_by (elim x [ Some reply ↦ reply_on a reply | None ↦ function_marks o t a ]))) [
+  | Some reply ↦ inl refl
+  | None ↦ marks_one o t a
+]
+
+management_none : (o : Setting) (t : Trace) (a : Arrival) → is_immediate a.request ≡ false → received_by (management_marks o t a) ≡ []
+management_none o t a numbered = elim (refusal_of_function o a.request) as (λ x. received_by (elim x [ Some reply ↦ reply_on a reply | None ↦ function_marks o t a ]) ≡ []) [
+  | Some reply ↦ refl
+  | None ↦ marks_none o t a numbered
+]
+
+after_one : (o : Setting) (t : Trace) (a : Arrival) → AtMostOne (received_by (marks_after o t a))
+after_one o t a = elim (opcode a.request == 0x02) as (λ b. AtMostOne (received_by (cond b (management_marks o t a) (marks_of t a (verdict_of o t a.request))))) [
+  | true ↦ management_one o t a
+  | false ↦ inl (verdict_none t a (verdict_of o t a.request))
+]
+
+-- a numbered request's turn
+pub turn_receives_none : (o : Setting) (t : Trace) (a : Arrival) → is_immediate a.request ≡ false → received_by (item_of o t a) ≡ []
+turn_receives_none o t a numbered =
+    let t' : Trace = (Delivers a ∷ []) ∷ t in
+    elim (opcode a.request == 0x02) as (λ b. received_by (cond b (management_marks o t' a) (marks_of t' a (verdict_of o t' a.request))) ≡ []) [
+      | true ↦ management_none o t' a numbered
+      | false ↦ verdict_none t' a (verdict_of o t' a.request)
+    ]
+
+executed_one : (o : Setting) (t : Trace) (a : Arrival) → AtMostOne (received_by (execution o t (Executes a) a))
+executed_one o t a = after_one o ((Executes a ∷ []) ∷ t) a
+
+waiting_one : (o : Setting) (t : Trace) (a : Arrival) → AtMostOne (received_by (waiting_item o t a))
+waiting_one o t a =
+    elim (nat_lt (max_of o t + 1) a.number) as (λ b. AtMostOne (received_by (cond b (Executes a ∷ answer a 255) (cond (not (nat_lt (exp_of o t) a.number)) (execution o t (Executes a) a) (cond (nat_le 4 (waiting_on (connection_of a.request) t)) (Executes a ∷ reply_on a (Reject 6 a.request.bytes)) (Waits a ∷ [])))))) [
+      | true ↦ inl refl
+      | false ↦ elim (not (nat_lt (exp_of o t) a.number)) as (λ b. AtMostOne (received_by (cond b (execution o t (Executes a) a) (cond (nat_le 4 (waiting_on (connection_of a.request) t)) (Executes a ∷ reply_on a (Reject 6 a.request.bytes)) (Waits a ∷ []))))) [
+        | true ↦ executed_one o t a
+        | false ↦ elim (nat_le 4 (waiting_on (connection_of a.request) t)) as (λ b. AtMostOne (received_by (cond b (Executes a ∷ reply_on a (Reject 6 a.request.bytes)) (Waits a ∷ [])))) [
+          | true ↦ inl refl
+          | false ↦ inl refl
+        ]
+      ]
+    ]
+
+-- an immediate request's arrival
+pub immediate_receives_one : (o : Setting) (t : Trace) (a : Arrival) → AtMostOne (received_by (immediate_item o t a))
+immediate_receives_one o t a =
+    elim (opcode a.request == 0x02 && may_wait a.request) as (λ b. AtMostOne (received_by (cond b (elim (refusal_of_function o a.request) [ Some reply ↦ execution o t (Executes a) a | None ↦ waiting_item o t a ]) (execution o t (Executes a) a)))) [
+      | true ↦ elim (refusal_of_function o a.request) as (λ x. AtMostOne (received_by (elim x [ Some reply ↦ execution o t (Executes a) a | None ↦ waiting_item o t a ]))) [
+        | Some reply ↦ executed_one o t a
+        | None ↦ waiting_one o t a
+      ]
+      | false ↦ executed_one o t a
+    ]

@@ -1,0 +1,311 @@
+//! Task management (RFC 7143 sections 4.2.3 and 11.5, SAM-5 section 7).
+
+ghost use Rattle.std.specs.Prelude.{ℕ, pos, ◌-ℤ◌, ◌≡◌, ◌==◌, ◌&&◌, ◌+◌, ◌*◌, ◌≤◌, ◌<◌, true, false, [], ◌++◌, ◌∷◌, find, length, count_by, is_some, vec_len, vec_capacity, None};
+ghost use Rattle.iscsi_wire.specs.Serial.{number_of_first};
+ghost use Rattle.iscsi_wire.specs.Fields.{connection_of, is_immediate, itt as tag_of};
+ghost use Rattle.iscsi_window.specs.Windows.{number_expected, HasRoom, IsInside, place_in, held_at};
+ghost use Rattle.iscsi_session.specs.Settings.{is_known as known_in};
+ghost use Rattle.iscsi_session.specs.Management.{may_wait as may_wait_named, is_supported as supported_at, refusal_to};
+ghost use Rattle.iscsi_session.specs.Standing.{stat_sn_on, is_held};
+ghost use Rattle.iscsi_session.specs.Steps.{KeepsPace, with_reply, reply_effects};
+ghost use Rattle.iscsi_session.specs.Functions.{outcome_by, performed_as, performance_effects, owed};
+ghost use Rattle.iscsi_session.specs.Turning.{performed, performed_effects, managed, managed_effects, next_waiting, function_if, function_effects, wait_by, patience_by, with_waiting, immediate_as, immediate_effects};
+
+use crate::effect::Effect;
+use crate::kind::TASK_MANAGEMENT;
+use crate::outcome::Outcome;
+use crate::patience::Patience;
+use crate::session::execution::{INVALID_FIELD, NO_TAG, rejection};
+use crate::session::sets::{TOO_MANY_IMMEDIATE, unit_named};
+use crate::session::waiting::{MOST, Waiting, count_on, first_at};
+use crate::session::Session;
+use iscsi_wire::{Reply, Request, distance};
+
+/// ABORT TASK (RFC 7143 section 11.5.1).
+pub(crate) const ABORT_TASK: u8 = 1;
+
+/// ABORT TASK SET.
+const ABORT_TASK_SET: u8 = 2;
+
+/// CLEAR TASK SET.
+const CLEAR_TASK_SET: u8 = 4;
+
+/// LOGICAL UNIT RESET.
+pub(crate) const LOGICAL_UNIT_RESET: u8 = 5;
+
+/// TASK REASSIGN.
+const TASK_REASSIGN: u8 = 8;
+
+/// QUERY TASK (RFC 7144).
+pub(crate) const QUERY_TASK: u8 = 9;
+
+/// QUERY TASK SET (RFC 7144).
+pub(crate) const QUERY_TASK_SET: u8 = 10;
+
+/// The protocol level that knows the queries.
+const LEVEL_OF_QUERIES: u32 = 2;
+
+/// Response: function complete (RFC 7143 section 11.6.1).
+const COMPLETE: u8 = 0;
+
+/// Response: LUN does not exist.
+const NO_UNIT: u8 = 2;
+
+/// Response: task allegiance reassignment not supported.
+const NO_REASSIGNMENT: u8 = 4;
+
+/// Response: task management function not supported.
+const NO_FUNCTION: u8 = 5;
+
+/// Response: function rejected.
+const REJECTED: u8 = 255;
+
+impl Session {
+    /// Takes an immediate request: it executes, or is a function that waits or is refused for its number.
+    pub(crate) fn take_immediate(&mut self, request: Request, out: &mut Vec<Effect>)
+        requires immediate { is_immediate request ≡ true }
+        requires known { known_in (connection_of request) self.old.conns ≡ true }
+        requires turned { self.old.window.turned + count_by is_some self.old.window.places < self.old.taken }
+        requires entered { self.old.entered + count_by is_some self.old.window.places < self.old.taken }
+        requires room { vec_len out.old + owed self.old.live self.old.sets + 6 ≤ vec_capacity out.old }
+        ensures session { self.new ≡ immediate_as self.old request (patience_by self.old request) }
+        ensures effects { out.new.items ≡ out.old.items ++ immediate_effects self.old request (patience_by self.old request) }
+        ensures pace { KeepsPace self.old.window self.new.window }
+        ensures spent { vec_len out.new + owed self.new.live self.new.sets + 6 * (count_by is_held self.new.window.places + length self.new.waiting) ≤ vec_len out.old + owed self.old.live self.old.sets + 6 * (count_by is_held self.old.window.places + length self.old.waiting + 1) }
+        ensures capacity { vec_capacity out.new ≡ vec_capacity out.old }
+    {
+        let itt = request.itt();
+        match self.patience(&request) {
+            Patience::Now => self.execute_at_once(request, out),
+            Patience::Later => self.wait(request, out),
+            Patience::TooFar => {
+                let response = REJECTED;
+                self.refuse(request, Reply::Task { itt, response }, out);
+            }
+            Patience::TooMany => {
+                self.refuse(request, rejection(&request, TOO_MANY_IMMEDIATE), out)
+            }
+        }
+    }
+
+    /// Whether an immediate request executes at once.
+    fn patience(&self, request: &Request) -> Patience
+        requires { is_immediate request.now ≡ true }
+        ensures { result ≡ patience_by self.now request.now }
+    {
+        if request.opcode() == TASK_MANAGEMENT
+            && may_wait(request)
+            && self.refusal_of_function(request).is_none()
+        {
+            self.wait_for(request)
+        } else {
+            Patience::Now
+        }
+    }
+
+    /// Whether a function over a whole set executes at once, by its number.
+    fn wait_for(&self, request: &Request) -> Patience
+        ensures { result ≡ wait_by self.now request.now }
+    {
+        let ahead = distance(self.window.exp(), request.cmd_sn());
+        let room = self.window.size() - self.window.unfinished();
+        if ahead > i64::from(room) {
+            Patience::TooFar
+        } else if ahead <= 0 {
+            Patience::Now
+        } else if MOST <= count_on(&self.waiting, request.conn()) {
+            Patience::TooMany
+        } else {
+            Patience::Later
+        }
+    }
+
+    /// A function waits for its number.
+    fn wait(&mut self, request: Request, out: &mut Vec<Effect>)
+        requires later { patience_by self.old request ≡ Patience.Later }
+        requires known { known_in (connection_of request) self.old.conns ≡ true }
+        requires taken { 0 < self.old.taken }
+        requires room { vec_len out.old + 1 ≤ vec_capacity out.old }
+        ensures session { self.new ≡ with_waiting self.old request }
+        ensures effects { out.new.items ≡ out.old.items ++ Effect.Wait request ∷ [] }
+        ensures len { vec_len out.new ≡ vec_len out.old + 1 }
+        ensures capacity { vec_capacity out.new ≡ vec_capacity out.old }
+    {
+        out.push_reserved(Effect::Wait { request });
+        let ahead = distance(self.window.exp(), request.cmd_sn());
+        self.waiting.push_reserved(Waiting {
+            request,
+            turn: self.window.turned() + ahead as u64,
+            event: self.taken - 1,
+        });
+    }
+
+    /// An immediate function is refused for its number.
+    fn refuse(&mut self, request: Request, reply: Reply, out: &mut Vec<Effect>)
+        requires known { known_in (connection_of request) self.old.conns ≡ true }
+        requires room { vec_len out.old + 2 ≤ vec_capacity out.old }
+        ensures session { self.new ≡ with_reply self.old (connection_of request) }
+        ensures effects { out.new.items ≡ out.old.items ++ Effect.Immediate request ∷ reply_effects self.old (connection_of request) reply }
+        ensures len { vec_len out.new ≡ vec_len out.old + 2 }
+        ensures capacity { vec_capacity out.new ≡ vec_capacity out.old }
+    {
+        out.push_reserved(Effect::Immediate { request });
+        self.reply(request.conn(), reply, out);
+    }
+
+    /// Executes a function that has waited for the next number, if there is one, and tells whether there was.
+    pub(crate) fn take_function(&mut self, out: &mut Vec<Effect>) -> bool
+        requires room { vec_len out.old + owed self.old.live self.old.sets + 6 * length self.old.waiting ≤ vec_capacity out.old }
+        ensures answer { result ≡ is_some (next_waiting self.old) }
+        ensures session { self.new ≡ function_if self.old (next_waiting self.old) }
+        ensures effects { out.new.items ≡ out.old.items ++ function_effects self.old (next_waiting self.old) }
+        ensures spent { vec_len out.new + owed self.new.live self.new.sets + 6 * length self.new.waiting ≤ vec_len out.old + owed self.old.live self.old.sets + 6 * length self.old.waiting }
+        ensures capacity { vec_capacity out.new ≡ vec_capacity out.old }
+        ensures fewer { result ≡ true → length self.new.waiting < length self.old.waiting }
+    {
+        let number = self.window.turned();
+        let Some(function) = first_at(&self.waiting, number) else {
+            return false;
+        };
+        self.waiting.retain(|other| other.event != function.event);
+        let request = function.request;
+        out.push_reserved(Effect::Immediate { request });
+        self.perform(&request, number as i64, function.event, out);
+        true
+    }
+
+    /// Executes a function, whose number less the first CmdSN is this one, and which arrived in this event.
+    pub(crate) fn manage(
+        &mut self,
+        request: &Request,
+        number: i64,
+        event: u64,
+        out: &mut Vec<Effect>,
+    )
+        requires known { known_in (connection_of request.now) self.old.conns ≡ true }
+        requires voids { may_wait_named request.now ≡ false → is_immediate request.now ≡ true → (self.old.window.turned + count_by is_some self.old.window.places < self.old.taken) × (self.old.entered + count_by is_some self.old.window.places < self.old.taken) }
+        requires room { vec_len out.old + owed self.old.live self.old.sets + 2 ≤ vec_capacity out.old }
+        ensures session { self.new ≡ managed self.old request.now number event }
+        ensures effects { out.new.items ≡ out.old.items ++ managed_effects self.old request.now number event }
+        ensures spent { vec_len out.new + owed self.new.live self.new.sets ≤ vec_len out.old + owed self.old.live self.old.sets + 2 }
+        ensures capacity { vec_capacity out.new ≡ vec_capacity out.old }
+    {
+        match self.refusal_of_function(request) {
+            Some(reply) => self.reply(request.conn(), reply, out),
+            None => self.perform(request, number, event, out),
+        }
+    }
+
+    /// Why a function is refused before it executes itself, as the reply that says so.
+    fn refusal_of_function(&self, request: &Request) -> Option<Reply>
+        ensures { result ≡ refusal_to self.now.level (length self.now.sets) request.now }
+    {
+        let itt = request.itt();
+        if itt == NO_TAG {
+            return Some(rejection(request, INVALID_FIELD));
+        }
+        let response = if request.function() == TASK_REASSIGN {
+            NO_REASSIGNMENT
+        } else if !is_supported(self.level, request.function()) {
+            NO_FUNCTION
+        } else if unit_named(request, self.sets.len()).is_none() {
+            NO_UNIT
+        } else {
+            return None;
+        };
+        Some(Reply::Task { itt, response })
+    }
+
+    /// Executes a function that isn't refused.
+    fn perform(&mut self, request: &Request, number: i64, event: u64, out: &mut Vec<Effect>)
+        requires known { known_in (connection_of request.now) self.old.conns ≡ true }
+        requires voids { may_wait_named request.now ≡ false → is_immediate request.now ≡ true → (self.old.window.turned + count_by is_some self.old.window.places < self.old.taken) × (self.old.entered + count_by is_some self.old.window.places < self.old.taken) }
+        requires room { vec_len out.old + owed self.old.live self.old.sets + 2 ≤ vec_capacity out.old }
+        ensures session { self.new ≡ performed self.old request.now number event }
+        ensures effects { out.new.items ≡ out.old.items ++ performed_effects self.old request.now number event }
+        ensures spent { vec_len out.new + owed self.new.live self.new.sets ≤ vec_len out.old + owed self.old.live self.old.sets + 2 }
+        ensures capacity { vec_capacity out.new ≡ vec_capacity out.old }
+    {
+        if let Some(unit) = unit_named(request, self.sets.len()) {
+            let outcome = self.outcome(request, unit, number, event);
+            self.carry_out(request, unit, outcome, out);
+        }
+    }
+
+    /// Does what a function to a unit comes to, and answers it.
+    fn carry_out(
+        &mut self,
+        request: &Request,
+        unit: u16,
+        outcome: Outcome,
+        out: &mut Vec<Effect>,
+    )
+        requires unit { unit < length self.old.sets }
+        requires known { known_in (connection_of request.now) self.old.conns ≡ true }
+        requires held { (w : ℕ) → outcome ≡ Outcome.Empty w → is_some (held_at self.old.window (place_in self.old.window w)) ≡ true }
+        requires inside { (w : ℕ) → outcome ≡ Outcome.Void w → IsInside (place_in self.old.window w) }
+        requires voids { (w : ℕ) → outcome ≡ Outcome.Void w → (self.old.window.turned + count_by is_some self.old.window.places < self.old.taken) × (self.old.entered + count_by is_some self.old.window.places < self.old.taken) }
+        requires room { vec_len out.old + owed self.old.live self.old.sets + 2 ≤ vec_capacity out.old }
+        ensures session { self.new ≡ performed_as self.old request.now unit outcome }
+        ensures effects { out.new.items ≡ out.old.items ++ performance_effects self.old request.now unit outcome }
+        ensures spent { vec_len out.new + owed self.new.live self.new.sets ≤ vec_len out.old + owed self.old.live self.old.sets + 2 }
+        ensures capacity { vec_capacity out.new ≡ vec_capacity out.old }
+    {
+        match outcome {
+            Outcome::Respond(response) => self.respond(request, response, out),
+            Outcome::Abort(ticket) => {
+                self.leave_one(unit, ticket, out);
+                self.respond(request, COMPLETE, out);
+                self.tell_unit(unit, out);
+            }
+            Outcome::AbortAll(cover) => {
+                self.leave_covered(unit, &cover, out);
+                self.respond(request, COMPLETE, out);
+                self.tell_unit(unit, out);
+            }
+            Outcome::Empty(sn) => {
+                self.empty_number(sn, out);
+                self.respond(request, COMPLETE, out);
+            }
+            Outcome::Void(sn) => {
+                self.void_number(sn, out);
+                self.respond(request, COMPLETE, out);
+            }
+        }
+    }
+
+    /// A function is answered.
+    fn respond(&mut self, request: &Request, response: u8, out: &mut Vec<Effect>)
+        requires known { known_in (connection_of request.now) self.old.conns ≡ true }
+        requires room { vec_len out.old + 1 ≤ vec_capacity out.old }
+        ensures session { self.new ≡ with_reply self.old (connection_of request.now) }
+        ensures effects { out.new.items ≡ out.old.items ++ reply_effects self.old (connection_of request.now) (Reply.Task (tag_of request.now) response) }
+        ensures len { vec_len out.new ≡ vec_len out.old + 1 }
+        ensures capacity { vec_capacity out.new ≡ vec_capacity out.old }
+    {
+        let itt = request.itt();
+        self.reply(request.conn(), Reply::Task { itt, response }, out);
+    }
+}
+
+/// Whether a function waits for lower numbers where it is immediate: one over a whole set does.
+fn may_wait(request: &Request) -> bool
+    requires { is_immediate request.now ≡ true }
+    ensures { result ≡ may_wait_named request.now }
+{
+    matches!(
+        request.function(),
+        ABORT_TASK_SET | CLEAR_TASK_SET | LOGICAL_UNIT_RESET
+    )
+}
+
+/// Whether the protocol level knows a function.
+fn is_supported(level: u32, function: u8) -> bool
+    ensures { result ≡ supported_at level function }
+{
+    match function {
+        ABORT_TASK | ABORT_TASK_SET | CLEAR_TASK_SET | LOGICAL_UNIT_RESET => true,
+        QUERY_TASK | QUERY_TASK_SET => level == LEVEL_OF_QUERIES,
+        _ => false,
+    }
+}

@@ -1,0 +1,38 @@
+//! The task management functions that wait for lower numbers.
+
+ghost use Rattle.std.specs.Prelude.{◌≡◌, ◌==◌, find};
+ghost use Rattle.iscsi_session.specs.Turning.{waiting_in};
+
+use iscsi_wire::Request;
+use std::alloc::Global;
+
+/// The most functions of a connection that wait.
+pub(crate) const MOST: usize = 4;
+
+/// A function that waits: its number less the first CmdSN, and the event in which it arrived.
+#[derive(Clone, Copy, Debug, PartialEq, Eq)]
+pub(crate) struct Waiting {
+    pub(crate) request: Request,
+    pub(crate) turn: u64,
+    pub(crate) event: u64,
+}
+
+/// How many functions of a connection wait.
+pub(crate) fn count_on(waiting: &[Waiting], conn: u16) -> usize
+    ensures { result ≡ waiting_in waiting.now conn }
+{
+    waiting
+        .iter()
+        .filter(|function| function.request.conn() == conn)
+        .count()
+}
+
+/// The first function that waits for this turn.
+pub(crate) fn first_at(waiting: &[Waiting], turn: u64) -> Option<Waiting>
+    ensures { result ≡ find (λ w. w.turn == turn) waiting.now }
+{
+    waiting
+        .iter()
+        .find(|function| function.turn == turn)
+        .copied()
+}
