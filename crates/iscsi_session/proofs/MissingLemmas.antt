@@ -1,12 +1,15 @@
 -- A number that is received without a request, and a held request that is taken out, in the window.
 use Rattle.std.proofs.Common.{◌≡◌, ℕ, ◌+◌, ◌-◌, ◌<◌, ◌≤◌, ◌==◌, ◌&&◌, ◌||◌, ◌^◌, ⊎_elim, cond, Bool, true, false, List, [], ◌∷◌, ◌++◌, length, get_or, set, Option, Some, None, option_map, is_some, nat_lt, nat_le, refl, ap, sym, subst, ◌∙◌, arith, eq-eqb, length-set}
 use Rattle.std.specs.List.{list_any, filter_map, cons_option}
+use Rattle.std.specs.Option.{option_flatten}
 use Rattle.std.proofs.lemmas.Bool.{cases_eq, cases_lt, false≢true}
 use Rattle.std.proofs.lemmas.Bool.Decides.{nat_tests}
 use Rattle.std.proofs.lemmas.List.{append-nil, get_or-set_same, get_or-set_other}
 use Rattle.iscsi_wire.specs.declared.request.Request.{Request}
-use Rattle.iscsi_wire.specs.Serial.{number_of_first}
-use Rattle.iscsi_window.specs.Windows.{Received, number_expected, room_of, at_place, with_place}
+use Rattle.iscsi_wire.specs.Serial.{wire, lift, number_of_first}
+use Rattle.iscsi_window.specs.declared.answer.Place.{Place}
+use Rattle.iscsi_window.specs.declared.answer.Place.TheVariants.{Inside, Outside as NoPlace}
+use Rattle.iscsi_window.specs.Windows.{Received, number_expected, room_of, at_place, with_place, place_in, IsInside, received_at, is_received_at, held_at, voided, emptied, emptied_if}
 use Rattle.iscsi_session.specs.Settings.{Setting}
 use Rattle.iscsi_session.specs.Trace.{Arrival, Mark, Voids, Empties, Trace, shown, first_of, number_received, received, contains, is_received, delivers_number, is_delivered, empties_number, is_emptied, held, admitted, admits_at}
 use Rattle.iscsi_session.specs.Executed.{delivers, request_at}
@@ -219,3 +222,65 @@ WindowAgrees-emptied o w t m n h ms a q qs is low high =
     let number : h.number ≡ n = held-number t n h is in
     let v : EmptiesOne (m ∷ Empties h ∷ ms) n = subst (λ k. EmptiesOne (m ∷ Empties h ∷ ms) k) number (empties-one m h ms q qs) in
     WindowAgrees-empties (m ∷ Empties h ∷ ms) t n v o w h a is low high
+
+-- ---- what the window becomes, by the number that the wire shows
+
+-- a place of the window is that of a number inside
+pub inside_place : (w : Received) (n x : ℕ) → number_expected w ≤ n → n < number_expected w + room_of w → lift (number_expected w) x ≡ n → place_in w x ≡ Inside (n - number_expected w)
+inside_place w n x low high is =
+    let e : ℕ = number_expected w in
+    let test : (nat_le e n && nat_lt n (e + room_of w)) ≡ true = grind (arith, nat_tests) in
+    ap (λ m. cond (nat_le e m && nat_lt m (e + room_of w)) (Inside (m - e)) NoPlace) is ∙ ap (λ b. cond b (Inside (n - e)) NoPlace) test
+
+pub outside_place : (w : Received) (n x : ℕ) → (nat_le (number_expected w) n && nat_lt n (number_expected w + room_of w)) ≡ false → lift (number_expected w) x ≡ n → place_in w x ≡ NoPlace
+outside_place w n x test is =
+    let e : ℕ = number_expected w in
+    ap (λ m. cond (nat_le e m && nat_lt m (e + room_of w)) (Inside (m - e)) NoPlace) is ∙ ap (λ b. cond b (Inside (n - e)) NoPlace) test
+
+-- what the window keeps of a number inside
+pub read_inside : (o : Setting) (w : Received) (t : Trace) (n : ℕ) → WindowAgrees o w t → number_expected w ≤ n → n < number_expected w + length w.places → at_place w (n - number_expected w) ≡ place_of t n
+read_inside o w t n h low high = h.inside (n - number_expected w) (omega arith) ∙ ap (place_of t) (let z : number_expected w + (n - number_expected w) ≡ n = omega arith in z)
+
+some_place : (b : Bool) (x : Option Request) → is_some (let y : Option (Option Request) = cond b (Some x) None in y) ≡ b
+some_place true x = refl
+some_place false x = refl
+
+-- a number inside is voided
+pub record VoidedAt (w : Received) (t : Trace) (x n : ℕ) : Type 0 where
+  pub new : is_received t n ≡ false → voided w x ≡ with_place w (n - number_expected w) (Some None)
+  pub known : is_received t n ≡ true → voided w x ≡ w
+  pub received_is : is_received_at w (place_in w x) ≡ is_received t n
+
+pub voided_at : (o : Setting) (w : Received) (t : Trace) (x n : ℕ) → WindowAgrees o w t → number_expected w ≤ n → n < number_expected w + room_of w → lift (number_expected w) x ≡ n → VoidedAt w t x n
+voided_at o w t x n h low high is =
+    let e : ℕ = number_expected w in
+    let place : place_in w x ≡ Inside (n - e) = inside_place w n x low high is in
+    let test : is_some (at_place w (n - e)) ≡ is_received t n = ap (λ (p : Option (Option Request)). is_some p) (read_inside o w t n h low (omega (arith, high))) ∙ some_place (is_received t n) (option_map (λ (a : Arrival). a.request) (held t n)) in
+    let becomes : voided w x ≡ cond (is_received t n) w (with_place w (n - e) (Some None)) = ap (λ p. received_at w p None) place ∙ ap (λ b. cond b w (with_place w (n - e) (Some None))) test in
+    record {
+      new = λ gone. becomes ∙ ap (λ b. cond b w (with_place w (n - e) (Some None))) gone;
+      known = λ there. becomes ∙ ap (λ b. cond b w (with_place w (n - e) (Some None))) there;
+      received_is = ap (is_received_at w) place ∙ test;
+    }
+
+-- a held request is taken out
+pub record EmptiedAt (w : Received) (n : ℕ) (r : Request) : Type 0 where
+  pub place : place_in w (wire n) ≡ Inside (n - number_expected w)
+  pub held_is : held_at w (place_in w (wire n)) ≡ Some r
+  pub becomes : emptied w (wire n) ≡ with_place w (n - number_expected w) (Some None)
+
+pub emptied_at : (o : Setting) (w : Received) (t : Trace) (n : ℕ) (h : Arrival) → WindowAgrees o w t → length w.places ≤ 1024 → held t n ≡ Some h → number_expected w ≤ n → n < number_expected w + length w.places → EmptiedAt w n h.request
+emptied_at o w t n h a small is low high =
+    let e : ℕ = number_expected w in
+    let there : place_of t n ≡ Some (Some h.request) =
+    ap (λ b. cond b (Some (option_map (λ (x : Arrival). x.request) (held t n))) None) (held_received t n h is) ∙ ap (λ x. let y : Option (Option Request) = Some (option_map (λ (z : Arrival). z.request) x) in y) is in
+    let read : at_place w (n - e) ≡ Some (Some h.request) = read_inside o w t n a low high ∙ there in
+    let not_last : n - e + w.unfinished < length w.places = ⊎_elim (λ lt. lt) (λ last. absurd (let z : Some (Some h.request) ≡ None = sym read ∙ a.free (n - e) (omega arith) in cc)) (cases_lt (n - e + w.unfinished) (length w.places)) in
+    let lifted : lift e (wire n) ≡ n = omega (arith, small) in
+    let place : place_in w (wire n) ≡ Inside (n - e) = inside_place w n (wire n) low (omega (arith, not_last)) lifted in
+    let found : held_at w (place_in w (wire n)) ≡ Some h.request = ap (held_at w) place ∙ ap option_flatten read in
+    record {
+      place = place;
+      held_is = found;
+      becomes = ap (λ q. emptied_if w (place_in w (wire n)) q) found ∙ ap (λ p. emptied_if w p (Some h.request)) place;
+    }
