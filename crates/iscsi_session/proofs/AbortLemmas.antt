@@ -25,8 +25,8 @@ position-cons p x xs =
     elim (p x) as (λ b. cond (nat_lt (cond (not b) (1 + k) 0) (suc (length xs))) (Some (cond (not b) (1 + k) 0)) None ≡ cond b (Some 0) (option_map suc (position p xs))) [
       | true ↦ ap (λ b. cond b (Some 0) None) (lt-ltb 0 (suc (length xs)) (omega arith))
       | false ↦ ⊎_elim
-          (λ lt. ap (λ b. cond b (Some (1 + k)) None) (lt-ltb (1 + k) (suc (length xs)) (omega arith)) ∙ sym (ap (λ b. option_map suc (cond b (Some k) None)) (lt-ltb k (length xs) lt)))
-          (λ ge. ap (λ b. cond b (Some (1 + k)) None) (le-ltb (suc (length xs)) (1 + k) (omega arith)) ∙ sym (ap (λ b. option_map suc (cond b (Some k) None)) (le-ltb (length xs) k ge)))
+          (λ lt. ap (λ b. cond b (Some (1 + k)) None) (lt-ltb (1 + k) (suc (length xs)) (omega arith)) ∙ ap (λ (n : ℕ). Some n) (let z : 1 + k ≡ suc k = omega arith in z) ∙ sym (ap (λ b. option_map suc (cond b (Some k) None)) (lt-ltb k (length xs) lt)))
+          (λ ge. ap (λ b. cond b (Some (1 + k)) None) (le-ltb (1 + k) (suc (length xs)) (omega arith)) ∙ sym (ap (λ b. option_map suc (cond b (Some k) None)) (le-ltb k (length xs) ge)))
           (cases_lt k (length xs))
     ]
 
@@ -47,7 +47,7 @@ is_to-unit o unit r inside = by_lun (unit_of (lun r))
     by_lun None = refl
     by_lun (Some v) = ⊎_elim
         (λ lt. ap (λ b. elim (let y : Option ℕ = cond b (Some v) None in y) [ Some u ↦ u == unit | None ↦ false ]) (lt-ltb v o.units lt))
-        (λ ge. ap (λ b. elim (let y : Option ℕ = cond b (Some v) None in y) [ Some u ↦ u == unit | None ↦ false ]) (le-ltb o.units v ge) ∙ (let no : (v == unit) ≡ false = grind (arith, nat_tests) in sym no))
+        (λ ge. ap (λ b. elim (let y : Option ℕ = cond b (Some v) None in y) [ Some u ↦ u == unit | None ↦ false ]) (le-ltb v o.units ge) ∙ (let no : (v == unit) ≡ false = grind (arith, nat_tests) in sym no))
         (cases_lt v o.units)
 
 -- the request that is held at a number, or none
@@ -62,36 +62,35 @@ module _ (o : Setting) (t : Trace) (tag unit below : ℕ) where
   -- none from the number below on
   pub none_below : (count e : ℕ) → below ≤ e → filter (is_sought o tag unit below) (flat_map (held_list t) (range_with_len e count)) ≡ []
   none_below zero e past = refl
-  none_below (suc count) e past = by_held (held t e) refl
+  none_below (suc count) e past = by_held (none_below count (e + 1) (omega arith)) (held t e) refl
     where
       rest : List Arrival
       rest = flat_map (held_list t) (range_with_len (e + 1) count)
 
-      by_held : (x : Option Arrival) → held t e ≡ x → filter (is_sought o tag unit below) (elim (held t e) [ Some a ↦ a ∷ [] | None ↦ [] ] ++ rest) ≡ []
-      by_held None is = ap (λ y. filter (is_sought o tag unit below) ((let l : List Arrival = elim y [ Some a ↦ a ∷ [] | None ↦ [] ] in l) ++ rest)) is ∙ none_below count (e + 1) (omega arith)
-      by_held (Some a) is =
+      by_held : filter (is_sought o tag unit below) rest ≡ [] → (x : Option Arrival) → held t e ≡ x → filter (is_sought o tag unit below) (elim (held t e) [ Some a ↦ a ∷ [] | None ↦ [] ] ++ rest) ≡ []
+      by_held none None is = ap (λ y. filter (is_sought o tag unit below) ((let l : List Arrival = elim y [ Some a ↦ a ∷ [] | None ↦ [] ] in l) ++ rest)) is ∙ none
+      by_held none (Some a) is =
           let number : a.number ≡ e = held-number t e a is in
           let no : nat_lt a.number below ≡ false = grind (arith, nat_tests) in
           ap (λ y. filter (is_sought o tag unit below) ((let l : List Arrival = elim y [ Some b ↦ b ∷ [] | None ↦ [] ] in l) ++ rest)) is
           ∙ ap (λ b. cond (b && opcode a.request == 0x01 && itt a.request == tag && is_to o unit a.request) (a ∷ filter (is_sought o tag unit below) rest) (filter (is_sought o tag unit below) rest)) no
-          ∙ none_below count (e + 1) (omega arith)
+          ∙ none
 
   -- the one that is found is held, at a number of the range
   pub found_held : (count e : ℕ) (h : Arrival) → first_of (filter (is_sought o tag unit below) (flat_map (held_list t) (range_with_len e count))) ≡ Some h
       → (held t h.number ≡ Some h) × ((e ≤ h.number) × (h.number < e + count))
   found_held zero e h found = absurd cc
-  found_held (suc count) e h found = by_held (held t e) refl found
+  found_held (suc count) e h found =
+      by_held (λ f. let p = found_held count (e + 1) h f in (p.0, (omega (arith, p.1.0), omega (arith, p.1.1)))) (held t e) refl found
     where
       rest : List Arrival
       rest = flat_map (held_list t) (range_with_len (e + 1) count)
 
-      later : first_of (filter (is_sought o tag unit below) rest) ≡ Some h → (held t h.number ≡ Some h) × ((e ≤ h.number) × (h.number < e + suc count))
-      later f = let p = found_held count (e + 1) h f in (p.0, (omega (arith, p.1.0), omega (arith, p.1.1)))
-
-      by_held : (x : Option Arrival) → held t e ≡ x → first_of (filter (is_sought o tag unit below) ((let l : List Arrival = elim x [ Some a ↦ a ∷ [] | None ↦ [] ] in l) ++ rest)) ≡ Some h
+      by_held : (first_of (filter (is_sought o tag unit below) rest) ≡ Some h → (held t h.number ≡ Some h) × ((e ≤ h.number) × (h.number < e + suc count))) → (x : Option Arrival) → held t e ≡ x
+          → first_of (filter (is_sought o tag unit below) ((let l : List Arrival = elim x [ Some a ↦ a ∷ [] | None ↦ [] ] in l) ++ rest)) ≡ Some h
           → (held t h.number ≡ Some h) × ((e ≤ h.number) × (h.number < e + suc count))
-      by_held None is f = later f
-      by_held (Some a) is f =
+      by_held later None is f = later f
+      by_held later (Some a) is f =
           let number : a.number ≡ e = held-number t e a is in
           elim (is_sought o tag unit below a) as (λ b. first_of (cond b (a ∷ filter (is_sought o tag unit below) rest) (filter (is_sought o tag unit below) rest)) ≡ Some h → (held t h.number ≡ Some h) × ((e ≤ h.number) × (h.number < e + suc count))) [
             | true ↦ λ here. let same : a ≡ h = cc in subst (λ (b : Arrival). (held t b.number ≡ Some b) × ((e ≤ b.number) × (b.number < e + suc count))) same (ap (held t) number ∙ is, (omega (arith, number), omega (arith, number)))
@@ -114,7 +113,8 @@ module _ (o : Setting) (t : Trace) (tag unit below : ℕ) where
   pub found_numbers : (ps : List (Option (Option Request))) (e : ℕ) → unit < o.units → ((k : ℕ) → k < length ps → get_or ps k None ≡ place_of t (e + k))
       → option_map (λ (h : Arrival). h.number) (first_of (filter (is_sought o tag unit below) (flat_map (held_list t) (range_with_len e (length ps))))) ≡ option_map (λ k. e + k) (position (is_command tag unit) (take (below - e) ps))
   found_numbers [] e inside same = sym (ap (λ (qs : List (Option (Option Request))). option_map (λ k. e + k) (position (is_command tag unit) qs)) (take-none (below - e)))
-  found_numbers (p ∷ ps) e inside same = ⊎_elim (λ lt. before lt) (λ ge. past ge) (cases_lt e below)
+  found_numbers (p ∷ ps) e inside same =
+      ⊎_elim (λ lt. before (found_numbers ps (e + 1) inside (λ k l. same (suc k) (omega arith) ∙ ap (place_of t) (let z : e + suc k ≡ e + 1 + k = omega arith in z))) lt) (λ ge. past ge) (cases_lt e below)
     where
       rest : List Arrival
       rest = flat_map (held_list t) (range_with_len (e + 1) (length ps))
@@ -133,15 +133,15 @@ module _ (o : Setting) (t : Trace) (tag unit below : ℕ) where
       at_first : p ≡ place_of t e
       at_first = same 0 (omega arith) ∙ ap (place_of t) (let z : e + 0 ≡ e = omega arith in z)
 
-      after : option_map (λ (h : Arrival). h.number) (first_of (filter (is_sought o tag unit below) rest)) ≡ option_map (λ k. e + 1 + k) found
-      after = found_numbers ps (e + 1) inside (λ k lt. same (suc k) (omega arith) ∙ ap (place_of t) (let z : e + suc k ≡ e + 1 + k = omega arith in z))
+      rest_agrees : Type 0
+      rest_agrees = option_map (λ (h : Arrival). h.number) (first_of (filter (is_sought o tag unit below) rest)) ≡ option_map (λ k. e + 1 + k) found
 
-      by_held : e < below → (x : Option Arrival) → held t e ≡ x
+      by_held : rest_agrees → e < below → (x : Option Arrival) → held t e ≡ x
           → option_map (λ (h : Arrival). h.number) (first_of (filter (is_sought o tag unit below) ((let l : List Arrival = elim x [ Some a ↦ a ∷ [] | None ↦ [] ] in l) ++ rest))) ≡ option_map (λ k. e + k) (cond (is_command tag unit p) (Some 0) (option_map suc found))
-      by_held lt None is =
+      by_held after lt None is =
           let none : is_command tag unit p ≡ false = ap (is_command tag unit) (at_first ∙ ap (λ x. cond (is_received t e) (Some (option_map (λ (a : Arrival). a.request) x)) None) is) ∙ empty_place (is_received t e) in
           after ∙ fuse e found ∙ sym (ap (λ b. option_map (λ k. e + k) (cond b (Some 0) (option_map suc found))) none)
-      by_held lt (Some a) is =
+      by_held after lt (Some a) is =
           let number : a.number ≡ e = held-number t e a is in
           let low : nat_lt a.number below ≡ true = grind (arith, nat_tests) in
           let here : p ≡ Some (Some a.request) = at_first ∙ ap (λ b. cond b (Some (option_map (λ (x : Arrival). x.request) (held t e))) None) (held_received t e a is) ∙ ap (λ x. let y : Option (Option Request) = Some (option_map (λ (z : Arrival). z.request) x) in y) is in
@@ -155,9 +155,9 @@ module _ (o : Setting) (t : Trace) (tag unit below : ℕ) where
             | false ↦ after ∙ fuse e found
           ]
 
-      before : e < below → goal
-      before lt =
-          by_held lt (held t e) refl
+      before : rest_agrees → e < below → goal
+      before after lt =
+          by_held after lt (held t e) refl
           ∙ ap (option_map (λ k. e + k)) (sym (position-cons (is_command tag unit) p (take (below - (e + 1)) ps)))
           ∙ ap (λ n. option_map (λ k. e + k) (position (is_command tag unit) (take n (p ∷ ps)))) (let z : suc (below - (e + 1)) ≡ below - e = omega arith in z)
 
