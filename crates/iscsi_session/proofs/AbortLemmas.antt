@@ -11,7 +11,7 @@ use Rattle.iscsi_session.specs.declared.session.live.Live.{Live}
 use Rattle.iscsi_session.specs.Settings.{Setting}
 use Rattle.iscsi_session.specs.Trace.{Arrival, Command, Trace, first_of, is_received, held, live}
 use Rattle.iscsi_session.specs.Execution.{exp_of}
-use Rattle.iscsi_session.specs.Management.{is_to, held_requests, held_command, live_with_tag}
+use Rattle.iscsi_session.specs.Management.{is_to, held_command, live_with_tag}
 use Rattle.iscsi_session.specs.Standing.{Core, place_of, kept, WindowAgrees}
 use Rattle.iscsi_session.specs.Functions.{tagged_in}
 use Rattle.iscsi_session.proofs.HeldLemmas.{held-number}

@@ -1,5 +1,5 @@
 -- A number that is received without a request, and a held request that is taken out, in the window.
-use Rattle.std.proofs.Common.{◌≡◌, ℕ, ◌+◌, ◌-◌, ◌<◌, ◌≤◌, ◌==◌, ◌&&◌, ◌||◌, ◌^◌, ⊎_elim, cond, Bool, true, false, List, [], ◌∷◌, ◌++◌, length, get_or, set, Option, Some, None, option_map, is_some, nat_lt, nat_le, refl, ap, sym, subst, ◌∙◌, arith, eq-eqb, length-set}
+use Rattle.std.proofs.Common.{◌≡◌, ℕ, ◌+◌, ◌-◌, ◌<◌, ◌≤◌, ◌==◌, ◌&&◌, ◌||◌, ⊎_elim, cond, Bool, true, false, List, [], ◌∷◌, ◌++◌, length, get_or, set, Option, Some, None, option_map, is_some, nat_lt, nat_le, refl, ap, sym, subst, ◌∙◌, arith, eq-eqb, length-set}
 use Rattle.std.specs.List.{list_any, filter_map, cons_option}
 use Rattle.std.specs.Option.{option_flatten}
 use Rattle.std.proofs.lemmas.Bool.{cases_eq, cases_lt, false≢true}
@@ -7,9 +7,8 @@ use Rattle.std.proofs.lemmas.Bool.Decides.{nat_tests}
 use Rattle.std.proofs.lemmas.List.{append-nil, get_or-set_same, get_or-set_other}
 use Rattle.iscsi_wire.specs.declared.request.Request.{Request}
 use Rattle.iscsi_wire.specs.Serial.{wire, lift, number_of_first}
-use Rattle.iscsi_window.specs.declared.answer.Place.{Place}
 use Rattle.iscsi_window.specs.declared.answer.Place.TheVariants.{Inside, Outside as NoPlace}
-use Rattle.iscsi_window.specs.Windows.{Received, number_expected, room_of, at_place, with_place, place_in, IsInside, received_at, is_received_at, held_at, voided, emptied, emptied_if}
+use Rattle.iscsi_window.specs.Windows.{Received, number_expected, room_of, at_place, with_place, place_in, received_at, is_received_at, held_at, voided, emptied, emptied_if}
 use Rattle.iscsi_session.specs.Settings.{Setting}
 use Rattle.iscsi_session.specs.Trace.{Arrival, Mark, Voids, Empties, Trace, shown, first_of, number_received, received, contains, is_received, delivers_number, is_delivered, empties_number, is_emptied, held, admitted, admits_at}
 use Rattle.iscsi_session.specs.Executed.{delivers, request_at}

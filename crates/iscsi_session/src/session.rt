@@ -27,6 +27,7 @@ use std::marker::Model;
 mod arrival;
 mod completion;
 mod execution;
+mod function;
 mod immediate;
 mod live;
 mod sets;
