@@ -31,3 +31,5 @@ pub mod SearchLemmas
 pub mod TagLemmas
 pub mod GivingLemmas
 pub mod EnablingLemmas
+pub mod MissingLemmas
+pub mod AbortLemmas

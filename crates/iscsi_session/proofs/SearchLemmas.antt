@@ -21,10 +21,10 @@ above_at ticket (x ∷ lives) h zero d within =
 above_at ticket (x ∷ lives) h (suc k) d within = above_at ticket lives (and_second (nat_lt ticket x.ticket) (list_all (λ m. nat_lt ticket m.ticket) lives) h) k d (omega arith)
 
 -- the tickets after the first are above it
-later : (x : Live) (lives : List Live) → are_ascending (x ∷ lives) ≡ true → All (λ l. x.ticket < l.ticket) lives
+pub later : (x : Live) (lives : List Live) → are_ascending (x ∷ lives) ≡ true → All (λ l. x.ticket < l.ticket) lives
 later x lives up = above_at x.ticket lives (and_first (list_all (λ m. nat_lt x.ticket m.ticket) lives) (are_ascending lives) up)
 
-rest : (x : Live) (lives : List Live) → are_ascending (x ∷ lives) ≡ true → are_ascending lives ≡ true
+pub rest : (x : Live) (lives : List Live) → are_ascending (x ∷ lives) ≡ true → are_ascending lives ≡ true
 rest x lives up = and_second (list_all (λ m. nat_lt x.ticket m.ticket) lives) (are_ascending lives) up
 
 goes_up : (lives : List Live) → are_ascending lives ≡ true → (i j : ℕ) (d : Live) → i < j → j < length lives → (get_or lives i d).ticket < (get_or lives j d).ticket

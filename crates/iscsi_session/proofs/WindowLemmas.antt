@@ -1,6 +1,8 @@
 -- What an offer and a completion change of what a session keeps.
-use Rattle.std.proofs.Common.{◌≡◌, ℕ, zero, suc, ◌+◌, ◌-◌, ◌<◌, ◌≤◌, ◌&&◌, not, cond, Bool, true, false, List, [], ◌∷◌, ◌++◌, length, filter, drop, find, get_or, set, Option, Some, None, option_map, is_some, refl, ap, sym, ◌∙◌, arith, nat_lt, nat_le, count_by}
+use Rattle.std.proofs.Common.{◌≡◌, ℕ, zero, suc, ◌+◌, ◌-◌, ◌<◌, ◌≤◌, ◌&&◌, not, cond, Bool, true, false, List, [], ◌∷◌, ◌++◌, length, filter, drop, find, get_or, set, Option, Some, None, option_map, is_some, refl, ap, sym, ◌∙◌, arith, nat_lt, nat_le, count_by, length-set}
 use Rattle.std.specs.List.{list_all}
+use Rattle.std.specs.Option.{option_flatten}
+use Rattle.std.proofs.lemmas.Bool.{false≢true}
 use Rattle.std.proofs.lemmas.Bool.Decides.{nat_tests}
 use Rattle.std.proofs.lemmas.List.{length_push}
 use Rattle.std.proofs.lemmas.List.Folds.{list_all-append}
@@ -11,8 +13,9 @@ use Rattle.iscsi_wire.specs.declared.request.Request.{Request}
 use Rattle.iscsi_wire.specs.Serial.{wire, lift}
 use Rattle.iscsi_wire.specs.Fields.{cmd_sn}
 use Rattle.iscsi_window.specs.declared.answer.Offer.TheVariants.{Held, Duplicate as Known}
+use Rattle.iscsi_window.specs.declared.answer.Place.{Place}
 use Rattle.iscsi_window.specs.declared.answer.Place.TheVariants.{Inside, Outside as NoPlace}
-use Rattle.iscsi_window.specs.Windows.{Received, number_expected, room_of, at_place, advanced, advanced_if, turned_by, offer_at, offer_to, received_at, offered_to, with_place}
+use Rattle.iscsi_window.specs.Windows.{Received, number_expected, room_of, at_place, advanced, advanced_if, turned_by, offer_at, offer_to, place_in, IsInside, held_at, is_received_at, received_at, offered_to, voided, emptied, emptied_if, with_place}
 use Rattle.iscsi_session.proofs.BoolLemmas.{and_parts, and_both}
 
 -- ---- counts
@@ -150,3 +153,88 @@ advanced_at w t said = by_place (at_place w 0) refl said
               let h' = all_shift (is_place_known conns) t.request w.places refl here all in
               (h'.0, ap (λ (v : Received). list_all (is_place_known conns) v.places) moved ∙ h'.1);
         }
+
+-- ---- a number that is emptied or voided
+
+-- another element at a place
+pub count_replaced : {A : Type 0} (p : A → Bool) (ps : List A) (k : ℕ) (x d : A) → k < length ps → count_by p (set ps k x) + cond (p (get_or ps k d)) 1 0 ≡ count_by p ps + cond (p x) 1 0
+count_replaced p [] k x d lt = absurd (omega arith)
+count_replaced p (y ∷ ps) zero x d lt =
+    let new : count_by p (x ∷ ps) ≡ cond (p x) 1 0 + count_by p ps = sum_by-cons (λ z. cond (p z) 1 0) x ps in
+    let old : count_by p (y ∷ ps) ≡ cond (p y) 1 0 + count_by p ps = sum_by-cons (λ z. cond (p z) 1 0) y ps in
+    omega (arith, new, old)
+count_replaced p (y ∷ ps) (suc k) x d lt =
+    let new : count_by p (y ∷ set ps k x) ≡ cond (p y) 1 0 + count_by p (set ps k x) = sum_by-cons (λ z. cond (p z) 1 0) y (set ps k x) in
+    let old : count_by p (y ∷ ps) ≡ cond (p y) 1 0 + count_by p ps = sum_by-cons (λ z. cond (p z) 1 0) y ps in
+    let rest : count_by p (set ps k x) + cond (p (get_or ps k d)) 1 0 ≡ count_by p ps + cond (p x) 1 0 = count_replaced p ps k x d (omega arith) in
+    omega (arith, new, old, rest)
+
+some_within : {A : Type 0} (ps : List (Option A)) (k : ℕ) (x : A) → get_or ps k None ≡ Some x → k < length ps
+some_within [] k x h = absurd cc
+some_within (p ∷ ps) zero x h = omega arith
+some_within (p ∷ ps) (suc k) x h = omega (arith, some_within ps k x h)
+
+-- what the window has become: so many held requests fewer are counted in it, and so many received numbers more
+pub record Changed (old new : Received) (fewer_held more : ℕ) : Type 0 where
+  pub long : length new.places ≡ length old.places
+  pub turned : new.turned ≡ old.turned
+  pub unfinished : new.unfinished ≡ old.unfinished
+  pub held_is : count_by is_held new.places + fewer_held ≡ count_by is_held old.places
+  pub counted : count_by is_some new.places ≡ count_by is_some old.places + more
+  pub known : (conns : List (ℕ × ℕ)) → list_all (is_place_known conns) old.places ≡ true → list_all (is_place_known conns) new.places ≡ true
+
+pub emptied_changes : (w : Received) (sn : ℕ) → is_some (held_at w (place_in w sn)) ≡ true → Changed w (emptied w sn) 1 0
+emptied_changes w sn h = by_place (place_in w sn) h
+  where
+    by_kept : (k : ℕ) (p : Option (Option Request)) → at_place w k ≡ p → is_some (option_flatten p) ≡ true → Changed w (emptied_if w (Inside k) (option_flatten p)) 1 0
+    by_kept k None is said = absurd (false≢true said)
+    by_kept k (Some None) is said = absurd (false≢true said)
+    by_kept k (Some (Some r)) is said =
+        let within : k < length w.places = some_within w.places k (Some r) is in
+        let none : Option (Option Request) = Some None in
+        record {
+          long = length-set w.places k none;
+          turned = refl;
+          unfinished = refl;
+          held_is = omega (arith, count_replaced is_held w.places k none None within, ap {B = ℕ} (λ p. cond (is_held p) 1 0) is);
+          counted = omega (arith, count_replaced is_some w.places k none None within, ap {B = ℕ} (λ (p : Option (Option Request)). cond (is_some p) 1 0) is);
+          known = λ conns all. all_set (is_place_known conns) w.places k none all refl;
+        }
+
+    by_place : (p : Place) → is_some (held_at w p) ≡ true → Changed w (emptied_if w p (held_at w p)) 1 0
+    by_place NoPlace said = absurd (false≢true said)
+    by_place (Inside k) said = by_kept k (at_place w k) refl said
+
+-- a number inside the window has a place
+pub place_within : (w : Received) (sn k : ℕ) → place_in w sn ≡ Inside k → k < length w.places
+place_within w sn k h =
+    let e : ℕ = number_expected w in
+    let n : ℕ = lift e sn in
+    elim (nat_le e n && nat_lt n (e + room_of w)) as (λ b. (nat_le e n && nat_lt n (e + room_of w)) ≡ b → cond b (Inside (n - e)) NoPlace ≡ Inside k → k < length w.places) [
+      | true ↦ λ is said.
+          let same : n - e ≡ k = cc in
+          let low : e ≤ n = grind (arith, nat_tests) in
+          let high : n < e + room_of w = grind (arith, nat_tests) in
+          omega (arith, same, low, high)
+      | false ↦ λ is said. absurd cc
+    ] refl h
+
+pub voided_changes : (w : Received) (sn : ℕ) → IsInside (place_in w sn) → Changed w (voided w sn) 0 (cond (is_received_at w (place_in w sn)) 0 1)
+voided_changes w sn inside = by_place (place_in w sn) refl inside
+  where
+    by_kept : (k : ℕ) → k < length w.places → (p : Option (Option Request)) → at_place w k ≡ p → Changed w (cond (is_some p) w (with_place w k (Some None))) 0 (cond (is_some p) 0 1)
+    by_kept k within (Some x) is = record { long = refl; turned = refl; unfinished = refl; held_is = omega arith; counted = omega arith; known = λ conns all. all }
+    by_kept k within None is =
+        let none : Option (Option Request) = Some None in
+        record {
+          long = length-set w.places k none;
+          turned = refl;
+          unfinished = refl;
+          held_is = omega (arith, count_replaced is_held w.places k none None within, ap {B = ℕ} (λ p. cond (is_held p) 1 0) is);
+          counted = omega (arith, count_replaced is_some w.places k none None within, ap {B = ℕ} (λ (p : Option (Option Request)). cond (is_some p) 1 0) is);
+          known = λ conns all. all_set (is_place_known conns) w.places k none all refl;
+        }
+
+    by_place : (p : Place) → place_in w sn ≡ p → IsInside p → Changed w (received_at w p None) 0 (cond (is_received_at w p) 0 1)
+    by_place NoPlace is out = absurd out
+    by_place (Inside k) is there = by_kept k (place_within w sn k is) (at_place w k) refl

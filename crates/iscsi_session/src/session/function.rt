@@ -1,35 +1,114 @@
-//! What a task management function comes to, and the numbers that ABORT TASK takes.
+//! What a task management function comes to, and the numbers that it voids or empties.
 
-ghost use Rattle.std.specs.Prelude.{true, is_some, count_by, ◌≡◌, ◌+◌, ◌≤◌, ◌<◌, ◌++◌, ◌∷◌, [], length, vec_len, vec_capacity};
-ghost use Rattle.iscsi_window.specs.Windows.{IsInside, place_in, held_at, emptied, voided};
-ghost use Rattle.iscsi_session.specs.Functions.{outcome_by, void_effects};
+ghost use Rattle.std.specs.Prelude.{ℤ, ℕ, true, [], ◌∷◌, ◌++◌, ◌≡◌, ◌+◌, ◌<◌, ◌≤◌, length, count_by, is_some, vec_len, vec_capacity};
+ghost use Rattle.iscsi_wire.specs.Fields.{ref_cmd_sn as referenced};
+ghost use Rattle.iscsi_window.specs.Windows.{place_in, IsInside, held_at, voided, emptied};
+ghost use Rattle.iscsi_session.specs.Standing.{is_held};
+ghost use Rattle.iscsi_session.specs.Functions.{tagged_in, abort_by, missing_at, answer_if as answer_of, outcome_by, void_effects};
 
 use crate::effect::Effect;
 use crate::outcome::Outcome;
 use crate::session::Session;
-use iscsi_wire::Request;
+use crate::session::live::Live;
+use crate::session::tags::find_tagged;
+use iscsi_tasks::Cover;
+use iscsi_window::Place;
+use iscsi_wire::{Request, distance};
+
+/// ABORT TASK (RFC 7143 section 11.5.1).
+const ABORT_TASK: u8 = 1;
+
+/// LOGICAL UNIT RESET (RFC 7143 section 11.5.1).
+const LOGICAL_UNIT_RESET: u8 = 5;
+
+/// QUERY TASK (RFC 7144 section 4.1).
+const QUERY_TASK: u8 = 9;
+
+/// QUERY TASK SET (RFC 7144 section 4.1).
+const QUERY_TASK_SET: u8 = 10;
+
+/// Function complete (RFC 7143 section 11.6.1).
+const COMPLETE: u8 = 0;
+
+/// Task does not exist (RFC 7143 section 11.6.1).
+const NO_TASK: u8 = 1;
+
+/// Function succeeded (RFC 7144 section 4.2).
+const SUCCEEDED: u8 = 7;
 
 impl Session {
-    /// What a function to a unit comes to.
+    /// What a function to a unit comes to, of this number less the first CmdSN, that arrived in this event.
     pub(crate) fn outcome(&self, request: &Request, unit: u16, number: i64, event: u64) -> Outcome
         requires unit { unit < length self.now.sets }
         ensures { result ≡ outcome_by self.now request.now number event unit }
     {
-        Outcome::Respond(1)
+        match request.function() {
+            ABORT_TASK => self.abort_task(request, unit),
+            LOGICAL_UNIT_RESET => Outcome::AbortAll(Cover::All),
+            QUERY_TASK => answer_if(self.tagged(request.rtt(), unit).is_some()),
+            QUERY_TASK_SET => answer_if(self.sets[usize::from(unit)].len() > 0),
+            _ => Outcome::AbortAll(Cover::Below { pos: number, event }),
+        }
     }
 
-    /// A request that is held is taken out.
+    /// What ABORT TASK comes to.
+    fn abort_task(&self, request: &Request, unit: u16) -> Outcome
+        ensures { result ≡ abort_by self.now request.now unit }
+    {
+        if let Some(command) = self.tagged(request.rtt(), unit) {
+            return Outcome::Abort(command.ticket);
+        }
+        if let Some(sn) = self.window.find_held(request.rtt(), unit, request.cmd_sn()) {
+            return Outcome::Empty(sn);
+        }
+        self.missing(request)
+    }
+
+    /// What ABORT TASK comes to where no command is found: an immediate one voids the number that it refers to,
+    /// if that is in the window and below its own.
+    fn missing(&self, request: &Request) -> Outcome
+        ensures { result ≡ missing_at self.now request.now (place_in self.now.window (referenced request.now)) }
+    {
+        let Place::Inside(ahead) = self.window.place(request.ref_cmd_sn()) else {
+            return Outcome::Respond(NO_TASK);
+        };
+        let own = distance(self.window.exp(), request.cmd_sn());
+        if request.immediate() && i64::from(ahead) < own {
+            Outcome::Void(request.ref_cmd_sn())
+        } else {
+            Outcome::Respond(NO_TASK)
+        }
+    }
+
+    /// The live command of the unit with this tag.
+    fn tagged(&self, itt: u32, unit: u16) -> Option<Live>
+        ensures { result ≡ tagged_in self.now itt unit }
+    {
+        let command = find_tagged(itt, &self.tags, &self.live)?;
+        if command.unit == unit {
+            Some(command)
+        } else {
+            None
+        }
+    }
+
+    /// Takes out the request that is held for this number.
     pub(crate) fn empty_number(&mut self, sn: u32, out: &mut Vec<Effect>)
         requires held { is_some (held_at self.old.window (place_in self.old.window sn)) ≡ true }
         requires room { vec_len out.old + 1 ≤ vec_capacity out.old }
         ensures session { self.new ≡ record self.old { window = emptied self.old.window sn } }
         ensures effects { out.new.items ≡ out.old.items ++ Effect.Empty sn ∷ [] }
-        ensures len { vec_len out.new ≤ vec_len out.old + 1 }
+        ensures len { vec_len out.new ≡ vec_len out.old + 1 }
         ensures capacity { vec_capacity out.new ≡ vec_capacity out.old }
+        ensures held { count_by is_held self.new.window.places + 1 ≡ count_by is_held self.old.window.places }
+        ensures counted { count_by is_some self.new.window.places ≡ count_by is_some self.old.window.places }
     {
+        self.window.empty(sn);
+        self.held -= 1;
+        out.push_reserved(Effect::Empty { sn });
     }
 
-    /// A number is received without a request, if it wasn't received before.
+    /// Receives this number without a request, if it wasn't received before.
     pub(crate) fn void_number(&mut self, sn: u32, out: &mut Vec<Effect>)
         requires inside { IsInside (place_in self.old.window sn) }
         requires counted { self.old.window.turned + count_by is_some self.old.window.places < self.old.taken }
@@ -37,8 +116,20 @@ impl Session {
         requires room { vec_len out.old + 1 ≤ vec_capacity out.old }
         ensures session { self.new ≡ record self.old { window = voided self.old.window sn } }
         ensures effects { out.new.items ≡ out.old.items ++ void_effects self.old sn }
-        ensures len { vec_len out.new ≤ vec_len out.old + 1 }
+        ensures spent { vec_len out.new ≤ vec_len out.old + 1 }
         ensures capacity { vec_capacity out.new ≡ vec_capacity out.old }
+        ensures held { count_by is_held self.new.window.places ≡ count_by is_held self.old.window.places }
+        ensures counted { self.new.window.turned + count_by is_some self.new.window.places ≤ self.old.window.turned + count_by is_some self.old.window.places + 1 }
     {
+        if self.window.void(sn) {
+            out.push_reserved(Effect::Void { sn });
+        }
     }
+}
+
+/// What a function that asks comes to.
+fn answer_if(there: bool) -> Outcome
+    ensures { result ≡ answer_of there }
+{
+    Outcome::Respond(if there { SUCCEEDED } else { COMPLETE })
 }

@@ -1,6 +1,6 @@
 //! The index of the live commands by their Initiator Task Tags.
 
-ghost use Rattle.std.specs.Prelude.{false, true, Some, ◌≡◌, ◌==◌, ◌+◌, ◌*◌, ◌<◌, ◌≤◌, length, nat_eq, IfSome};
+ghost use Rattle.std.specs.Prelude.{false, true, Some, ◌≡◌, ◌==◌, ◌+◌, ◌*◌, ◌<◌, ◌≤◌, length, find, nat_eq, IfSome};
 ghost use Rattle.std.specs.List.{list_any};
 ghost use Rattle.std.specs.HashMap.{get, hash_map_len, spare, Updates};
 ghost use Rattle.iscsi_session.specs.Standing.{are_ascending};
@@ -24,19 +24,28 @@ pub(crate) fn open(alloc: Global, most: usize) -> Option<Tags>
     HashMap::with_capacity(alloc, 2 * most).ok()
 }
 
+/// The live command with this tag.
+pub(crate) fn find_tagged(itt: u32, tags: &Tags, live: &VecDeque<Live>) -> Option<Live>
+    requires ascending { are_ascending live.now.items ≡ true }
+    requires indexed { AreIndexed tags.now live.now.items }
+    ensures { result ≡ find (λ l. l.itt == itt) live.now.items }
+{
+    let ticket = tags.get(&itt)?;
+    let command = find(live, *ticket)?;
+    if command.itt == itt {
+        Some(command)
+    } else {
+        None
+    }
+}
+
 /// Whether a live command has this tag.
 pub(crate) fn is_tag_live(itt: u32, tags: &Tags, live: &VecDeque<Live>) -> bool
     requires ascending { are_ascending live.now.items ≡ true }
     requires indexed { AreIndexed tags.now live.now.items }
     ensures { result ≡ list_any (λ l. l.itt == itt) live.now.items }
 {
-    let Some(ticket) = tags.get(&itt) else {
-        return false;
-    };
-    match find(live, *ticket) {
-        Some(command) => command.itt == itt,
-        None => false,
-    }
+    find_tagged(itt, tags, live).is_some()
 }
 
 /// Takes up the tag of a command that enters, beside those of the live commands, none of which has it.
