@@ -117,13 +117,21 @@ abbrev pub waits : Mark → Option Arrival
 waits (Waits a) = Some a
 waits _ = None
 
-abbrev pub executes_event : ℕ → Mark → Bool
-executes_event event (Executes a) = a.event == event
-executes_event event _ = false
+-- the functions that wait, after a mark more: one that waits stands behind the others, one that executes waits no
+-- more. An event has one arrival
+abbrev pub waiting_by : Mark → List Arrival → List Arrival
+waiting_by (Waits a) ws = ws ++ a ∷ []
+waiting_by (Executes a) ws = filter (λ b. not (b.event == a.event)) ws
+waiting_by _ ws = ws
 
--- the functions that wait still, in order of arrival. An event has one arrival
+abbrev pub waiting_through : List Mark → List Arrival → List Arrival
+waiting_through [] ws = ws
+waiting_through (m ∷ ms) ws = waiting_through ms (waiting_by m ws)
+
+-- the functions that wait still, in order of arrival
 abbrev pub waiting : Trace → List Arrival
-waiting t = filter (λ a. not (has (executes_event a.event) t)) (shown waits t)
+waiting [] = []
+waiting (item ∷ t) = waiting_through item (waiting t)
 
 -- ---- commands (SAM-5 section 8)
 
