@@ -30,3 +30,4 @@ pub mod TagLemmas
 pub mod GivingLemmas
 pub mod EnablingLemmas
 pub mod AbortLemmas
+pub mod AbortMarks
