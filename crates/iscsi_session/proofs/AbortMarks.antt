@@ -66,7 +66,7 @@ follows_all t a unit covers = record {
 
 -- ---- ABORT TASK
 
-first_unlike : (k : ℕ) (cs : List Command) (c : Command) → first_of cs ≡ Some c → is_among k cs ≡ false → (c.ticket == k) ≡ false
+pub first_unlike : (k : ℕ) (cs : List Command) (c : Command) → first_of cs ≡ Some c → is_among k cs ≡ false → (c.ticket == k) ≡ false
 first_unlike k [] c is none = absurd cc
 first_unlike k (x ∷ cs) c is none =
     let same : x ≡ c = cc in

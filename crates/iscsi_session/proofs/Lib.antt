@@ -31,3 +31,5 @@ pub mod GivingLemmas
 pub mod EnablingLemmas
 pub mod AbortLemmas
 pub mod AbortMarks
+pub mod AbortItems
+pub mod AbortRuns
