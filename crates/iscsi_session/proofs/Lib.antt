@@ -33,3 +33,4 @@ pub mod AbortLemmas
 pub mod AbortMarks
 pub mod AbortItems
 pub mod AbortRuns
+pub mod AbortTheorem
