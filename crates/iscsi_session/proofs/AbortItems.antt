@@ -1,27 +1,24 @@
 -- Each item fits in where it stands.
-use Rattle.std.proofs.Common.{◌≡◌, ℕ, ◌+◌, ◌-◌, ◌<◌, ◌≤◌, ◌==◌, ◌&&◌, ◌||◌, ⊎_elim, not, cond, Bool, true, false, List, [], ◌∷◌, ◌++◌, map, filter, Option, Some, None, refl, ap, sym, subst, ◌∙◌, arith, nat_lt, nat_le, eq-eqb}
+use Rattle.std.proofs.Common.{◌≡◌, ℕ, ◌+◌, ◌-◌, ◌<◌, ◌≤◌, ◌==◌, ◌&&◌, ◌||◌, ⊎_elim, not, cond, Bool, true, false, List, [], ◌∷◌, ◌++◌, filter, Some, None, refl, ap, sym, subst, ◌∙◌, arith, nat_lt, nat_le}
 use Rattle.std.specs.List.{list_any, filter_map, cons_option}
 use Rattle.std.proofs.lemmas.Bool.{false≢true, eqb-true, cases_eq, or_cases}
 use Rattle.std.proofs.lemmas.Bool.Decides.{nat_tests}
-use Rattle.std.proofs.lemmas.List.{append-nil}
 use Rattle.iscsi_wire.specs.declared.reply.Reply.{Reply}
-use Rattle.iscsi_wire.specs.declared.reply.Reply.TheVariants.{Task, Reject, Scsi}
+use Rattle.iscsi_wire.specs.declared.reply.Reply.TheVariants.{Task, Reject}
 use Rattle.iscsi_wire.specs.declared.request.Request.{Request}
 use Rattle.iscsi_wire.specs.Fields.{connection_of, header_of, is_immediate, opcode, function, itt}
 use Rattle.iscsi_session.specs.declared.effect.Why.{Why}
 use Rattle.iscsi_session.specs.Settings.{Setting}
-use Rattle.iscsi_session.specs.Trace.{Arrival, Command, Mark, Admits, Delivers, Executes, Voids, Empties, Waits, Leaves, Enters, Sends, Ignores, Trace, first_of, has, shown, enters, entered, number_received, contains, received, is_received, admits_at, delivers_number, held, leaves_ticket, live, live_in, is_among, was_free}
-use Rattle.iscsi_session.specs.Execution.{exp_of, max_of, unit_named, verdict_of, marks_of, rejected, reply_on, sense_of_status}
-use Rattle.iscsi_session.specs.Management.{may_wait, refusal_of_function, MOST_WAITING, waiting_on, is_before, answer, abort_all, function_marks}
+use Rattle.iscsi_session.specs.Trace.{Arrival, Command, Mark, Admits, Delivers, Executes, Waits, Leaves, Ignores, Trace, has, enters, entered, number_received, contains, is_received, admits_at, delivers_number, held, leaves_ticket, live, live_in, is_among}
+use Rattle.iscsi_session.specs.Execution.{exp_of, max_of, verdict_of, marks_of, rejected, reply_on}
+use Rattle.iscsi_session.specs.Management.{may_wait, refusal_of_function, MOST_WAITING, waiting_on, is_before, answer, function_marks}
 use Rattle.iscsi_session.specs.Items.{marks_after, execution, item_of, waiting_item, immediate_item, function_item}
-use Rattle.iscsi_session.specs.Agenda.{command_of}
-use Rattle.iscsi_session.specs.Aborts.{is_set_abort, is_abort, executed_in, is_complete, completes, IsCompleted, is_in_unit_of, earlier, covers_ticket}
-use Rattle.iscsi_session.proofs.BoolLemmas.{or_first, or_second, or_none, or_false, and_parts, and_both, not_true}
-use Rattle.iscsi_session.proofs.ApartLemmas.{unamong-filter}
+use Rattle.iscsi_session.specs.Aborts.{is_set_abort, is_abort, executed_in, is_complete, completes, IsCompleted, is_in_unit_of, earlier, is_ticket_covered}
+use Rattle.iscsi_session.proofs.BoolLemmas.{or_first, or_second, or_none, and_parts, and_both}
 use Rattle.iscsi_session.proofs.TraceLemmas.{received-item, unadmitted, live-quiet, filter-same, filter-true}
 use Rattle.iscsi_session.proofs.HeldLemmas.{held-number}
 use Rattle.iscsi_session.proofs.AbortLemmas.{voids_number, Fits}
-use Rattle.iscsi_session.proofs.AbortMarks.{Follows, follows_reply, follows_function, follows_after, leaves_are, refused_incomplete, reply_incomplete, Sweeps, sweeps_function, sweeps_after}
+use Rattle.iscsi_session.proofs.AbortMarks.{and_false, Follows, follows_reply, follows_function, follows_after, leaves_are, refused_incomplete, reply_incomplete, Sweeps, sweeps_function, sweeps_after}
 
 -- ---- a mark by which a request begins to execute
 
@@ -134,7 +131,7 @@ module _ (o : Setting) (p : ℕ) (t : Trace) (mark : Mark) (a : Arrival) (b : Be
       ∙ or_first (is_among k (filter s.covers (live_in s.unit ((mark ∷ []) ∷ t)))) (list_any (leaves_ticket k) (answer a 0))
       (ap (λ cs. is_among k (filter s.covers (filter (λ (c : Command). c.unit == s.unit) cs))) live_same ∙ h)))
 
-  swept : (ms : List Mark) (s : Sweeps o ((mark ∷ []) ∷ t) a ms) → is_set_abort a.request ≡ true → (k : ℕ) → covers_ticket o a (mark ∷ ms) t k ≡ true → has (leaves_ticket k) ((mark ∷ ms) ∷ t) ≡ true
+  swept : (ms : List Mark) (s : Sweeps o ((mark ∷ []) ∷ t) a ms) → is_set_abort a.request ≡ true → (k : ℕ) → is_ticket_covered o a (mark ∷ ms) t k ≡ true → has (leaves_ticket k) ((mark ∷ ms) ∷ t) ≡ true
   swept ms s set k covered =
       let which : (is_among k (earlier o a t) || (function a.request == 5 && is_among k (filter (is_in_unit_of o a) (live t)))) ≡ true =
       sym (ap (λ c. cond c (list_any (leaves_ticket k) (mark ∷ ms)) (is_among k (earlier o a t) || (function a.request == 5 && is_among k (filter (is_in_unit_of o a) (live t))))) (not_one a.request set)) ∙ covered in
@@ -172,7 +169,7 @@ module _ (o : Setting) (p : ℕ) (t : Trace) (mark : Mark) (a : Arrival) (b : Be
     sweeps = λ g done set.
         let same : a ≡ g = same_request g done in
         let result = does_for g done set in
-        subst (λ (x : Arrival). (k : ℕ) → covers_ticket o x (mark ∷ ms) t k ≡ true → has (leaves_ticket k) ((mark ∷ ms) ∷ t) ≡ true) same
+        subst (λ (x : Arrival). (k : ℕ) → is_ticket_covered o x (mark ∷ ms) t k ≡ true → has (leaves_ticket k) ((mark ∷ ms) ∷ t) ≡ true) same
         (swept ms result.1 (ap (λ (x : Arrival). is_set_abort x.request) same ∙ set));
   }
     where
@@ -263,10 +260,6 @@ refused_fits : (o : Setting) (p : ℕ) (t : Trace) (a : Arrival) (reply : Reply)
 refused_fits o p t a reply incomplete =
     begun_fits o p t (Executes a) a (begins_executes p t a) (reply_on a reply) (follows_reply ((Executes a ∷ []) ∷ t) a reply)
     (λ aborts set done. absurd (false≢true (sym (reply_incomplete a reply incomplete) ∙ done)))
-
-and_false : (b : Bool) → (b && false) ≡ false
-and_false true = refl
-and_false false = refl
 
 waiting_fits : (o : Setting) (t : Trace) (a : Arrival) → Fits o (exp_of o t) t (waiting_item o t a)
 waiting_fits o t a = by_tests (nat_lt (max_of o t + 1) a.number) (nat_lt (exp_of o t) a.number) refl (nat_le MOST_WAITING (waiting_on (connection_of a.request) t))

@@ -1,13 +1,9 @@
 -- What a completed abort covers is over: what an item does, and where it stands.
-use Rattle.std.proofs.Common.{◌≡◌, ℕ, zero, suc, ◌+◌, ◌-◌, ◌<◌, ◌≤◌, ◌==◌, ◌&&◌, ◌||◌, ◌⊎◌, inl, inr, ⊎_elim, not, cond, Bool, true, false, List, [], ◌∷◌, ◌++◌, Option, Some, None, refl, ap, sym, subst, ◌∙◌, arith, nat_lt, filter}
+use Rattle.std.proofs.Common.{◌≡◌, ℕ, ◌+◌, ◌-◌, ◌<◌, ◌≤◌, ◌==◌, ◌||◌, Bool, true, false, List, [], ◌∷◌, ◌++◌, None, refl, ap, ◌∙◌, arith}
 use Rattle.std.specs.List.{list_any, filter_map}
-use Rattle.std.proofs.lemmas.Bool.{false≢true}
-use Rattle.std.proofs.lemmas.List.{append-nil}
 use Rattle.iscsi_session.specs.Settings.{Setting}
-use Rattle.iscsi_session.specs.Trace.{Arrival, Command, Mark, Admits, Delivers, Executes, Voids, Empties, Waits, Leaves, Enters, Sends, Ignores, Trace, after_items, has, shown, number_received, contains, received, is_received, admits_at, admitted, delivers_number, is_delivered, is_emptied, empties_number, held, leaves_ticket, live, is_among}
-use Rattle.iscsi_session.specs.Aborts.{is_set_abort, IsCompleted, covers_ticket, covers_number, takes_out}
-use Rattle.iscsi_session.proofs.BoolLemmas.{or_first, or_second, or_none}
-use Rattle.iscsi_session.proofs.TraceLemmas.{received-item}
+use Rattle.iscsi_session.specs.Trace.{Arrival, Mark, Voids, Trace, has, shown, is_received, admits_at, delivers_number, held, leaves_ticket, live, is_among}
+use Rattle.iscsi_session.specs.Aborts.{is_set_abort, IsCompleted, is_ticket_covered}
 
 abbrev pub voids_number : ℕ → Mark → Bool
 voids_number n (Voids k) = k == n
@@ -25,7 +21,7 @@ pub record Fits (o : Setting) (p : ℕ) (t : Trace) (item : List Mark) : Type 0 
   pub voids : (n : ℕ) → list_any (voids_number n) item ≡ true → shown (admits_at n) (item ∷ t) ≡ []
   -- an abort of a whole set stands at p at the latest, and what it covers leaves, if it didn't before
   pub reaches : (f : Arrival) → IsCompleted f item → is_set_abort f.request ≡ true → f.number ≤ p
-  pub sweeps : (f : Arrival) → IsCompleted f item → is_set_abort f.request ≡ true → (k : ℕ) → covers_ticket o f item t k ≡ true → has (leaves_ticket k) (item ∷ t) ≡ true
+  pub sweeps : (f : Arrival) → IsCompleted f item → is_set_abort f.request ≡ true → (k : ℕ) → is_ticket_covered o f item t k ≡ true → has (leaves_ticket k) (item ∷ t) ≡ true
 
 -- each item fits in where it stands, and none stands past p
 abbrev pub Fit : Setting → ℕ → Trace → Type 0

@@ -10,12 +10,12 @@ use Rattle.iscsi_wire.specs.Fields.{connection_of, header_of, is_immediate, opco
 use Rattle.iscsi_session.specs.declared.verdict.Verdict.{Verdict}
 use Rattle.iscsi_session.specs.declared.verdict.Verdict.TheVariants.{Nothing, Answer, Enter}
 use Rattle.iscsi_session.specs.Settings.{Setting}
-use Rattle.iscsi_session.specs.Trace.{Arrival, Command, Mark, Voids, Empties, Leaves, Enters, Sends, Trace, first_of, has, is_received, admits_at, delivers_number, leaves_ticket, entered, live, live_in, is_among}
+use Rattle.iscsi_session.specs.Trace.{Arrival, Command, Mark, Voids, Empties, Leaves, Trace, first_of, is_received, admits_at, delivers_number, leaves_ticket, live, live_in, is_among}
 use Rattle.iscsi_session.specs.Execution.{exp_of, max_of, NO_TAG, unit_named, verdict_of, marks_of, reply_on}
 use Rattle.iscsi_session.specs.Management.{is_supported, refusal_of_function, answer, held_command, live_with_tag, abort_missing, abort_task, is_before, abort_all, query, function_to, function_marks, management_marks}
 use Rattle.iscsi_session.specs.Items.{marks_after}
 use Rattle.iscsi_session.specs.Aborts.{is_set_abort, is_complete, completes}
-use Rattle.iscsi_session.proofs.BoolLemmas.{or_first, or_second, or_none, or_false, and_parts, and_both}
+use Rattle.iscsi_session.proofs.BoolLemmas.{or_none, or_false}
 use Rattle.iscsi_session.proofs.ApartLemmas.{unamong-filter}
 use Rattle.iscsi_session.proofs.AbortLemmas.{voids_number}
 
@@ -145,7 +145,7 @@ follows_after o t a =
 
 -- ---- replies that refuse a function
 
-and_false : (b : Bool) → (b && false) ≡ false
+pub and_false : (b : Bool) → (b && false) ≡ false
 and_false true = refl
 and_false false = refl
 

@@ -1,6 +1,6 @@
 -- In the trace of a list of events each item fits in where it stands.
-use Rattle.std.proofs.Common.{◌≡◌, ℕ, zero, suc, ◌+◌, ◌-◌, ◌<◌, ◌≤◌, ◌==◌, ◌&&◌, ◌||◌, ⊎_elim, not, cond, Bool, true, false, List, [], ◌∷◌, ◌++◌, filter, Option, Some, None, refl, ap, sym, subst, ◌∙◌, arith, nat_lt}
-use Rattle.std.specs.List.{list_any, list_all, filter_map}
+use Rattle.std.proofs.Common.{◌≡◌, ℕ, zero, suc, ◌+◌, ◌-◌, ◌≤◌, ◌==◌, ◌&&◌, ◌||◌, ⊎_elim, cond, Bool, true, false, List, [], ◌∷◌, ◌++◌, filter, Option, Some, None, refl, ap, sym, subst, ◌∙◌, arith, nat_lt}
+use Rattle.std.specs.List.{list_all, filter_map}
 use Rattle.std.proofs.lemmas.Bool.{false≢true, eqb-true, cases_lt}
 use Rattle.iscsi_wire.specs.Fields.{is_immediate, itt, request_of}
 use Rattle.iscsi_wire.specs.declared.reply.Reply.TheVariants.{Scsi}
@@ -10,12 +10,12 @@ use Rattle.iscsi_session.specs.declared.event.Event.TheVariants.{Arrive, Done}
 use Rattle.iscsi_session.specs.declared.kind.Kind.{Kind}
 use Rattle.iscsi_session.specs.declared.kind.Kind.TheVariants.{PassedOver, Unknown, Executes as ExecutesKind}
 use Rattle.iscsi_session.specs.Settings.{Setting}
-use Rattle.iscsi_session.specs.Trace.{Arrival, Command, Mark, Admits, Leaves, Ignores, Trace, after_items, first_of, is_received, number_received, contains, held, waiting, live, is_among, was_free}
+use Rattle.iscsi_session.specs.Trace.{Arrival, Command, Mark, Admits, Leaves, Ignores, Trace, after_items, is_received, number_received, contains, held, waiting, live, was_free}
 use Rattle.iscsi_session.specs.Execution.{exp_of, max_of, rejected, ignored, completion, reply_on, sense_of_status}
 use Rattle.iscsi_session.specs.Items.{immediate_item, function_item, item_of, is_waiting, functions, functions_at, turn_at, at_number, agenda}
-use Rattle.iscsi_session.specs.Agenda.{with_turns, numbered, kind_of, arrival_as, arrival, arrival_of, command_of, items_of}
+use Rattle.iscsi_session.specs.Agenda.{with_turns, numbered, kind_of, arrival_as, arrival, arrival_of, command_of}
 use Rattle.iscsi_session.specs.Run.{after_event, after_events, trace_of}
-use Rattle.iscsi_session.proofs.BoolLemmas.{and_parts, or_first, or_none}
+use Rattle.iscsi_session.proofs.BoolLemmas.{and_parts, or_first}
 use Rattle.iscsi_session.proofs.ApartLemmas.{unamong-filter}
 use Rattle.iscsi_session.proofs.TraceLemmas.{received-item}
 use Rattle.iscsi_session.proofs.Missing.{expected_below, expected_gone, expected_low}

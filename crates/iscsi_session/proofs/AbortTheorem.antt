@@ -1,5 +1,5 @@
 -- What a completed abort covers is over, in the trace of each list of events.
-use Rattle.std.proofs.Common.{◌≡◌, ℕ, ◌<◌, ◌≤◌, ◌==◌, ◌&&◌, ◌||◌, ◌⊎◌, inl, inr, ⊎_elim, not, cond, Bool, true, false, List, [], ◌∷◌, ◌++◌, filter, Option, Some, None, refl, ap, sym, subst, ◌∙◌, arith, nat_lt, append_assoc}
+use Rattle.std.proofs.Common.{◌≡◌, ℕ, ◌<◌, ◌≤◌, ◌==◌, ◌&&◌, ◌||◌, ◌⊎◌, inl, inr, ⊎_elim, not, cond, Bool, true, false, List, [], ◌∷◌, ◌++◌, filter, Option, None, refl, ap, sym, subst, ◌∙◌, arith, nat_lt, append_assoc}
 use Rattle.std.specs.List.{list_any, filter_map, flat_map, range_with_len}
 use Rattle.std.proofs.lemmas.Bool.{false≢true, or_cases}
 use Rattle.std.proofs.lemmas.Bool.Decides.{nat_tests}
@@ -9,9 +9,9 @@ use Rattle.iscsi_session.specs.declared.event.Event.{Event}
 use Rattle.iscsi_session.specs.Settings.{Setting}
 use Rattle.iscsi_session.specs.Trace.{Arrival, Command, Mark, Admits, Delivers, Executes, Voids, Empties, Waits, Leaves, Enters, Sends, Ignores, Trace, first_of, has, shown, number_received, contains, is_received, admits_at, admitted, delivers_number, is_delivered, empties_number, is_emptied, held, leaves_ticket, live, live_in, is_among, was_free, enabled_in}
 use Rattle.iscsi_session.specs.Execution.{exp_of}
-use Rattle.iscsi_session.specs.Run.{trace_of, newly_enabled, effects_of_item, run_of}
+use Rattle.iscsi_session.specs.Run.{trace_of, effects_of_item, run_of}
 use Rattle.iscsi_session.specs.Enabling.{is_enable}
-use Rattle.iscsi_session.specs.Aborts.{is_set_abort, IsCompleted, is_in_unit_of, earlier, covers_ticket, takes_out, covers_number, IsOver, AbortsHold, AbortsHoldIn}
+use Rattle.iscsi_session.specs.Aborts.{is_set_abort, IsCompleted, is_in_unit_of, earlier, is_ticket_covered, takes_out, is_number_covered, IsOver, AbortsHold, AbortsHoldIn}
 use Rattle.iscsi_session.proofs.BoolLemmas.{or_first, or_second, and_parts}
 use Rattle.iscsi_session.proofs.ApartLemmas.{unamong-filter}
 use Rattle.iscsi_session.proofs.TraceLemmas.{received-item}
@@ -32,7 +32,7 @@ set_abort f item done apart =
 -- ---- tickets
 
 -- a covered command has left by the end of the abort's item
-covered_left : (o : Setting) (p : ℕ) (f : Arrival) (item : List Mark) (before : Trace) → Fits o p before item → IsCompleted f item → (k : ℕ) → covers_ticket o f item before k ≡ true → has (leaves_ticket k) (item ∷ before) ≡ true
+covered_left : (o : Setting) (p : ℕ) (f : Arrival) (item : List Mark) (before : Trace) → Fits o p before item → IsCompleted f item → (k : ℕ) → is_ticket_covered o f item before k ≡ true → has (leaves_ticket k) (item ∷ before) ≡ true
 covered_left o p f item before fits done k covered =
     let swept : Bool = is_among k (earlier o f before) || (function f.request == 5 && is_among k (filter (is_in_unit_of o f) (live before))) in
     elim (function f.request == 1) as (λ b. (function f.request == 1) ≡ b → cond b (list_any (leaves_ticket k) item) swept ≡ true → has (leaves_ticket k) (item ∷ before) ≡ true) [
@@ -61,10 +61,6 @@ unlive_unenabled o t item k gone =
 abbrev Shut : ℕ → Trace → Type 0
 Shut n t = (is_emptied t n ≡ true) ⊎ ((is_received t n ≡ true) × (shown (admits_at n) t ≡ []))
 
-or_true : (b : Bool) → (b || true) ≡ true
-or_true true = refl
-or_true false = refl
-
 none_either : (b : Bool) → (let x : Option Arrival = cond b None None in x) ≡ None
 none_either true = refl
 none_either false = refl
@@ -72,7 +68,7 @@ none_either false = refl
 shut_held : (n : ℕ) (t : Trace) → Shut n t → held t n ≡ None
 shut_held n t s =
     ⊎_elim
-    (λ emptied. ap (λ b. cond (is_delivered t n || b) None (admitted t n)) emptied ∙ ap (λ b. cond b None (admitted t n)) (or_true (is_delivered t n)))
+    (λ emptied. ap (λ b. cond (is_delivered t n || b) None (admitted t n)) emptied ∙ ap (λ b. cond b None (admitted t n)) (or_second (is_delivered t n) true refl))
     (λ void. ap (λ xs. cond (is_delivered t n || is_emptied t n) None (first_of xs)) void.1 ∙ none_either (is_delivered t n || is_emptied t n))
     s
 
@@ -150,10 +146,10 @@ module _ (o : Setting) (p : ℕ) (later before : Trace) (item : List Mark) (f : 
   here = stood o p later item before x
 
   -- a covered command isn't live at any moment since
-  unlive_since : (k : ℕ) → covers_ticket o f item before k ≡ true → (moment : Trace) → is_among k (live (moment ++ item ∷ before)) ≡ false
+  unlive_since : (k : ℕ) → is_ticket_covered o f item before k ≡ true → (moment : Trace) → is_among k (live (moment ++ item ∷ before)) ≡ false
   unlive_since k covered moment = left_unlive (moment ++ item ∷ before) k (has_since (leaves_ticket k) moment (item ∷ before) (covered_left o here.place f item before here.fits done k covered))
 
-  undelivered : (n : ℕ) → covers_number f item before n ≡ true → has (delivers_number n) later ≡ false
+  undelivered : (n : ℕ) → is_number_covered f item before n ≡ true → has (delivers_number n) later ≡ false
   undelivered n covered = by_test (function f.request == 1) refl covered
     where
       by_test : (b : Bool) → (function f.request == 1) ≡ b → cond b (list_any (takes_out n) item) (nat_lt n f.number && not (is_delivered before n)) ≡ true → has (delivers_number n) later ≡ false

@@ -1,6 +1,6 @@
 -- Aborts: what a completed abort covers is over. It is in no task set, isn't answered, and isn't delivered
 -- (RFC 7143 sections 4.2.3.2 and 11.5, SAM-5 section 7).
-use Rattle.std.specs.Prelude.{◌≡◌, ℕ, ◌==◌, ◌&&◌, ◌||◌, not, Bool, true, false, nat_lt, List, [], ◌∷◌, ◌++◌, Option, Some, None, if◌then◌else◌, filter}
+use Rattle.std.specs.Prelude.{◌≡◌, ℕ, ◌==◌, ◌&&◌, ◌||◌, not, Bool, true, false, nat_lt, List, ◌∷◌, ◌++◌, Option, Some, None, if◌then◌else◌, filter}
 use Rattle.std.specs.List.{list_any}
 use Rattle.iscsi_wire.specs.declared.reply.Reply.{Reply}
 use Rattle.iscsi_wire.specs.declared.reply.Reply.TheVariants.{Task}
@@ -58,8 +58,8 @@ earlier o f t = filter (λ c. is_in_unit_of o f c && is_before f c) (entered t)
 
 -- the tickets that an abort covers, in this item: that of the task that ABORT TASK takes out, the earlier ones of a whole
 -- set, and after LOGICAL UNIT RESET those of the later ones too that were in the set by then
-abbrev pub covers_ticket : Setting → Arrival → List Mark → Trace → ℕ → Bool
-covers_ticket o f item before ticket =
+abbrev pub is_ticket_covered : Setting → Arrival → List Mark → Trace → ℕ → Bool
+is_ticket_covered o f item before ticket =
     if function f.request == 1 then list_any (leaves_ticket ticket) item
     else is_among ticket (earlier o f before) || (function f.request == 5 && is_among ticket (filter (is_in_unit_of o f) (live before)))
 
@@ -71,8 +71,8 @@ takes_out n _ = false
 
 -- the numbers that it covers: the one that ABORT TASK takes out, and all before the function's own where nothing
 -- executed yet
-abbrev pub covers_number : Arrival → List Mark → Trace → ℕ → Bool
-covers_number f item before n =
+abbrev pub is_number_covered : Arrival → List Mark → Trace → ℕ → Bool
+is_number_covered f item before n =
     if function f.request == 1 then list_any (takes_out n) item
     else nat_lt n f.number && not (is_delivered before n)
 
@@ -81,14 +81,14 @@ covers_number f item before n =
 -- what the abort of this item covers is over from the end of its item on
 pub record IsOver (o : Setting) (f : Arrival) (later : Trace) (item : List Mark) (before : Trace) : Type 0 where
   -- a covered command is in no task set, at any moment
-  pub sets : (k : ℕ) → covers_ticket o f item before k ≡ true → (after moment : Trace) → after ++ moment ≡ later → is_among k (live (moment ++ item ∷ before)) ≡ false
+  pub sets : (k : ℕ) → is_ticket_covered o f item before k ≡ true → (after moment : Trace) → after ++ moment ≡ later → is_among k (live (moment ++ item ∷ before)) ≡ false
   -- it doesn't leave any more: a completion's response goes out in the item that the command leaves by
-  pub completions : (k : ℕ) → covers_ticket o f item before k ≡ true → (after moment : Trace) (i : List Mark) → after ++ i ∷ moment ≡ later → list_any (leaves_ticket k) i ≡ false
+  pub completions : (k : ℕ) → is_ticket_covered o f item before k ≡ true → (after moment : Trace) (i : List Mark) → after ++ i ∷ moment ≡ later → list_any (leaves_ticket k) i ≡ false
   -- nor is its unit told to begin it
-  pub enables : (k : ℕ) → covers_ticket o f item before k ≡ true → (after moment : Trace) (i : List Mark) → after ++ i ∷ moment ≡ later
+  pub enables : (k : ℕ) → is_ticket_covered o f item before k ≡ true → (after moment : Trace) (i : List Mark) → after ++ i ∷ moment ≡ later
       → list_any (is_enable k) (effects_of_item o (moment ++ item ∷ before) i) ≡ false
   -- no request is delivered at a covered number
-  pub numbers : (n : ℕ) → covers_number f item before n ≡ true → has (delivers_number n) later ≡ false
+  pub numbers : (n : ℕ) → is_number_covered f item before n ≡ true → has (delivers_number n) later ≡ false
 
 -- so it is with each completed abort
 abbrev pub AbortsHold : Setting → Trace → Type 0
