@@ -1,5 +1,5 @@
 -- Aborts: what a completed abort covers is over. It is in no task set, isn't answered, and isn't delivered
--- (RFC 7143 sections 4.2.3.2 and 11.5, SAM-5 section 7).
+-- (RFC 7143 sections 4.2.3 and 11.5, SAM-5 section 7).
 use Rattle.std.specs.Prelude.{◌≡◌, ℕ, ◌==◌, ◌&&◌, ◌||◌, not, Bool, true, false, nat_lt, List, ◌∷◌, ◌++◌, Option, Some, None, if◌then◌else◌, filter}
 use Rattle.std.specs.List.{list_any}
 use Rattle.iscsi_wire.specs.declared.reply.Reply.{Reply}
