@@ -1,196 +1,65 @@
--- What ABORT TASK finds: a session's lookups against those of the definitions.
-use Rattle.std.proofs.Common.{◌≡◌, ℕ, zero, suc, ◌+◌, ◌-◌, ◌<◌, ◌≤◌, ◌==◌, ◌&&◌, not, ⊎_elim, cond, Bool, true, false, List, [], ◌∷◌, ◌++◌, length, map, filter, find, take, get_or, position, Option, Some, None, option_map, nat_lt, refl, ap, sym, subst, ◌∙◌, arith}
-use Rattle.std.specs.List.{flat_map, range_with_len, position_or_len}
-use Rattle.std.proofs.lemmas.Bool.{cases_lt, lt-ltb, le-ltb}
-use Rattle.std.proofs.lemmas.Bool.Decides.{nat_tests}
-use Rattle.iscsi_wire.specs.declared.request.Request.{Request}
-use Rattle.iscsi_wire.specs.Serial.{lift}
-use Rattle.iscsi_wire.specs.Fields.{opcode, itt, lun, unit_of}
-use Rattle.iscsi_window.specs.Windows.{Received, number_expected, is_unit, is_command, find_command}
-use Rattle.iscsi_session.specs.declared.session.live.Live.{Live}
+-- What a completed abort covers is over: what an item does, and where it stands.
+use Rattle.std.proofs.Common.{◌≡◌, ℕ, ◌+◌, ◌-◌, ◌<◌, ◌≤◌, ◌==◌, ◌||◌, Bool, true, false, List, [], ◌∷◌, ◌++◌, None, refl, ap, ◌∙◌, arith}
+use Rattle.std.specs.List.{list_any, filter_map}
 use Rattle.iscsi_session.specs.Settings.{Setting}
-use Rattle.iscsi_session.specs.Trace.{Arrival, Command, Trace, first_of, is_received, held, live}
-use Rattle.iscsi_session.specs.Execution.{exp_of}
-use Rattle.iscsi_session.specs.Management.{is_to, held_command, live_with_tag}
-use Rattle.iscsi_session.specs.Standing.{Core, place_of, kept, WindowAgrees}
-use Rattle.iscsi_session.specs.Functions.{tagged_in}
-use Rattle.iscsi_session.proofs.HeldLemmas.{held-number}
-use Rattle.iscsi_session.proofs.MissingLemmas.{held_received}
+use Rattle.iscsi_session.specs.Trace.{Arrival, Mark, Voids, Trace, has, shown, is_received, admits_at, delivers_number, held, leaves_ticket, live, is_among}
+use Rattle.iscsi_session.specs.Aborts.{is_set_abort, IsCompleted, is_ticket_covered}
 
--- ---- the first place that passes
+abbrev pub voids_number : ℕ → Mark → Bool
+voids_number n (Voids k) = k == n
+voids_number n _ = false
 
-pub position-cons : {A : Type 0} (p : A → Bool) (x : A) (xs : List A) → position p (x ∷ xs) ≡ cond (p x) (Some 0) (option_map suc (position p xs))
-position-cons p x xs =
-    let k : ℕ = position_or_len p xs in
-    elim (p x) as (λ b. cond (nat_lt (cond (not b) (1 + k) 0) (suc (length xs))) (Some (cond (not b) (1 + k) 0)) None ≡ cond b (Some 0) (option_map suc (position p xs))) [
-      | true ↦ ap (λ b. cond b (Some 0) None) (lt-ltb 0 (suc (length xs)) (omega arith))
-      | false ↦ ⊎_elim
-          (λ lt. ap (λ b. cond b (Some (1 + k)) None) (lt-ltb (1 + k) (suc (length xs)) (omega arith)) ∙ ap (λ (n : ℕ). Some n) (let z : 1 + k ≡ suc k = omega arith in z) ∙ sym (ap (λ b. option_map suc (cond b (Some k) None)) (lt-ltb k (length xs) lt)))
-          (λ ge. ap (λ b. cond b (Some (1 + k)) None) (le-ltb (1 + k) (suc (length xs)) (omega arith)) ∙ sym (ap (λ b. option_map suc (cond b (Some k) None)) (le-ltb k (length xs) ge)))
-          (cases_lt k (length xs))
-    ]
+-- ---- an item after t, where nothing below p is due any more
 
-pub position-within : {A : Type 0} (p : A → Bool) (xs : List A) (k : ℕ) → position p xs ≡ Some k → k < length xs
-position-within p xs k h =
-    elim (nat_lt (position_or_len p xs) (length xs)) as (λ b. nat_lt (position_or_len p xs) (length xs) ≡ b → cond b (Some (position_or_len p xs)) None ≡ Some k → k < length xs) [
-      | true ↦ λ is found. let same : position_or_len p xs ≡ k = cc in let lt : position_or_len p xs < length xs = grind (arith, nat_tests) in subst (λ n. n < length xs) same lt
-      | false ↦ λ is found. absurd cc
-    ] refl h
+pub record Fits (o : Setting) (p : ℕ) (t : Trace) (item : List Mark) : Type 0 where
+  -- what leaves is live, and what is delivered is held, at p or above
+  pub leaves : (k : ℕ) → is_among k (live t) ≡ false → list_any (leaves_ticket k) item ≡ false
+  pub delivers_held : (n : ℕ) → held t n ≡ None → list_any (delivers_number n) item ≡ false
+  pub delivers_on : (n : ℕ) → n < p → list_any (delivers_number n) item ≡ false
+  -- a number that was received admits nothing, and one that is voided never did
+  pub admits : (n : ℕ) → is_received t n ≡ true → filter_map (admits_at n) item ≡ []
+  pub voids : (n : ℕ) → list_any (voids_number n) item ≡ true → shown (admits_at n) (item ∷ t) ≡ []
+  -- an abort of a whole set stands at p at the latest, and what it covers leaves, if it didn't before
+  pub reaches : (f : Arrival) → IsCompleted f item → is_set_abort f.request ≡ true → f.number ≤ p
+  pub sweeps : (f : Arrival) → IsCompleted f item → is_set_abort f.request ≡ true → (k : ℕ) → is_ticket_covered o f item t k ≡ true → has (leaves_ticket k) (item ∷ t) ≡ true
 
--- ---- held commands
+-- each item fits in where it stands, and none stands past p
+abbrev pub Fit : Setting → ℕ → Trace → Type 0
+Fit o p [] = Unit {0}
+Fit o p (item ∷ t) = (q : ℕ) × ((q ≤ p) × (Fits o q t item × Fit o q t))
 
--- the unit that a request names is one of the session's
-pub is_to-unit : (o : Setting) (unit : ℕ) (r : Request) → unit < o.units → is_to o unit r ≡ is_unit unit (unit_of (lun r))
-is_to-unit o unit r inside = by_lun (unit_of (lun r))
-  where
-    by_lun : (x : Option ℕ) → elim (let y : Option ℕ = elim x [ Some v ↦ cond (nat_lt v o.units) (Some v) None | None ↦ None ] in y) [ Some u ↦ u == unit | None ↦ false ] ≡ is_unit unit x
-    by_lun None = refl
-    by_lun (Some v) = ⊎_elim
-        (λ lt. ap (λ b. elim (let y : Option ℕ = cond b (Some v) None in y) [ Some u ↦ u == unit | None ↦ false ]) (lt-ltb v o.units lt))
-        (λ ge. ap (λ b. elim (let y : Option ℕ = cond b (Some v) None in y) [ Some u ↦ u == unit | None ↦ false ]) (le-ltb v o.units ge) ∙ (let no : (v == unit) ≡ false = grind (arith, nat_tests) in sym no))
-        (cases_lt v o.units)
+pub Fit-on : (o : Setting) (p q : ℕ) (t : Trace) → p ≤ q → Fit o p t → Fit o q t
+Fit-on o p q [] on x = tt
+Fit-on o p q (item ∷ t) on x = (x.0, ((let z : x.0 ≤ q = omega (arith, x.1.0) in z), x.1.1))
 
--- the request that is held at a number, or none
-abbrev held_list : Trace → ℕ → List Arrival
-held_list t n = elim (held t n) [ Some a ↦ a ∷ [] | None ↦ [] ]
+pub Fit-more : (o : Setting) (p : ℕ) (t : Trace) (item : List Mark) → Fit o p t → Fits o p t item → Fit o p (item ∷ t)
+Fit-more o p t item x f = (p, ((let z : p ≤ p = omega arith in z), (f, x)))
 
--- a SCSI Command with this tag and unit, of a number below
-abbrev pub is_sought : Setting → ℕ → ℕ → ℕ → Arrival → Bool
-is_sought o tag unit below h = nat_lt h.number below && opcode h.request == 0x01 && itt h.request == tag && is_to o unit h.request
+-- an item stands where it does, and the later ones deliver nothing below
+pub record Stood (o : Setting) (later : Trace) (item : List Mark) (before : Trace) : Type 0 where
+  pub place : ℕ
+  pub fits : Fits o place before item
+  pub none_below : (n : ℕ) → n < place → has (delivers_number n) later ≡ false
 
-module _ (o : Setting) (t : Trace) (tag unit below : ℕ) where
-  -- none from the number below on
-  pub none_below : (count e : ℕ) → below ≤ e → filter (is_sought o tag unit below) (flat_map (held_list t) (range_with_len e count)) ≡ []
-  none_below zero e past = refl
-  none_below (suc count) e past = by_held (none_below count (e + 1) (omega arith)) (held t e) refl
-    where
-      rest : List Arrival
-      rest = flat_map (held_list t) (range_with_len (e + 1) count)
+-- its place is no later than p
+record StoodBy (o : Setting) (p : ℕ) (later : Trace) (item : List Mark) (before : Trace) : Type 0 where
+  stood : Stood o later item before
+  by : stood.place ≤ p
 
-      by_held : filter (is_sought o tag unit below) rest ≡ [] → (x : Option Arrival) → held t e ≡ x → filter (is_sought o tag unit below) (elim (held t e) [ Some a ↦ a ∷ [] | None ↦ [] ] ++ rest) ≡ []
-      by_held none None is = ap (λ y. filter (is_sought o tag unit below) ((let l : List Arrival = elim y [ Some a ↦ a ∷ [] | None ↦ [] ] in l) ++ rest)) is ∙ none
-      by_held none (Some a) is =
-          let number : a.number ≡ e = held-number t e a is in
-          let no : nat_lt a.number below ≡ false = grind (arith, nat_tests) in
-          ap (λ y. filter (is_sought o tag unit below) ((let l : List Arrival = elim y [ Some b ↦ b ∷ [] | None ↦ [] ] in l) ++ rest)) is
-          ∙ ap (λ b. cond (b && opcode a.request == 0x01 && itt a.request == tag && is_to o unit a.request) (a ∷ filter (is_sought o tag unit below) rest) (filter (is_sought o tag unit below) rest)) no
-          ∙ none
+stood_by : (o : Setting) (p : ℕ) (later : Trace) (item : List Mark) (before : Trace) → Fit o p (later ++ item ∷ before) → StoodBy o p later item before
+stood_by o p [] item before x = record { stood = record { place = x.0; fits = x.1.1.0; none_below = λ n lt. refl }; by = x.1.0 }
+stood_by o p (i ∷ later) item before x =
+    let s : StoodBy o x.0 later item before = stood_by o x.0 later item before x.1.1.1 in
+    let now : Fits o x.0 (later ++ item ∷ before) i = x.1.1.0 in
+    let here : x.0 ≤ p = x.1.0 in
+    record {
+      stood = record {
+        place = s.stood.place;
+        fits = s.stood.fits;
+        none_below = λ n lt. ap (λ b. b || has (delivers_number n) later) (now.delivers_on n (omega (arith, lt, s.by))) ∙ s.stood.none_below n lt;
+      };
+      by = omega (arith, s.by, here);
+    }
 
-  -- the one that is found is held, at a number of the range
-  pub found_held : (count e : ℕ) (h : Arrival) → first_of (filter (is_sought o tag unit below) (flat_map (held_list t) (range_with_len e count))) ≡ Some h
-      → (held t h.number ≡ Some h) × ((e ≤ h.number) × (h.number < e + count))
-  found_held zero e h found = absurd cc
-  found_held (suc count) e h found =
-      by_held (λ f. let p = found_held count (e + 1) h f in (p.0, (omega (arith, p.1.0), omega (arith, p.1.1)))) (held t e) refl found
-    where
-      rest : List Arrival
-      rest = flat_map (held_list t) (range_with_len (e + 1) count)
-
-      by_held : (first_of (filter (is_sought o tag unit below) rest) ≡ Some h → (held t h.number ≡ Some h) × ((e ≤ h.number) × (h.number < e + suc count))) → (x : Option Arrival) → held t e ≡ x
-          → first_of (filter (is_sought o tag unit below) ((let l : List Arrival = elim x [ Some a ↦ a ∷ [] | None ↦ [] ] in l) ++ rest)) ≡ Some h
-          → (held t h.number ≡ Some h) × ((e ≤ h.number) × (h.number < e + suc count))
-      by_held later None is f = later f
-      by_held later (Some a) is f =
-          let number : a.number ≡ e = held-number t e a is in
-          elim (is_sought o tag unit below a) as (λ b. first_of (cond b (a ∷ filter (is_sought o tag unit below) rest) (filter (is_sought o tag unit below) rest)) ≡ Some h → (held t h.number ≡ Some h) × ((e ≤ h.number) × (h.number < e + suc count))) [
-            | true ↦ λ here. let same : a ≡ h = cc in subst (λ (b : Arrival). (held t b.number ≡ Some b) × ((e ≤ b.number) × (b.number < e + suc count))) same (ap (held t) number ∙ is, (omega (arith, number), omega (arith, number)))
-            | false ↦ λ not_here. later not_here
-          ] f
-
-  fuse : (e : ℕ) (y : Option ℕ) → option_map (λ k. e + 1 + k) y ≡ option_map (λ k. e + k) (option_map suc y)
-  fuse e None = refl
-  fuse e (Some k) = ap (λ (n : ℕ). Some n) (let z : e + 1 + k ≡ e + suc k = omega arith in z)
-
-  take-none : {A : Type 0} (n : ℕ) → take n (let xs : List A = [] in xs) ≡ []
-  take-none zero = refl
-  take-none (suc n) = refl
-
-  empty_place : (b : Bool) → is_command tag unit (let p : Option (Option Request) = cond b (Some None) None in p) ≡ false
-  empty_place true = refl
-  empty_place false = refl
-
-  -- the number that is found is that of the place that is found
-  pub found_numbers : (ps : List (Option (Option Request))) (e : ℕ) → unit < o.units → ((k : ℕ) → k < length ps → get_or ps k None ≡ place_of t (e + k))
-      → option_map (λ (h : Arrival). h.number) (first_of (filter (is_sought o tag unit below) (flat_map (held_list t) (range_with_len e (length ps))))) ≡ option_map (λ k. e + k) (position (is_command tag unit) (take (below - e) ps))
-  found_numbers [] e inside same = sym (ap (λ (qs : List (Option (Option Request))). option_map (λ k. e + k) (position (is_command tag unit) qs)) (take-none (below - e)))
-  found_numbers (p ∷ ps) e inside same =
-      ⊎_elim (λ lt. before (found_numbers ps (e + 1) inside (λ k l. same (suc k) (omega arith) ∙ ap (place_of t) (let z : e + suc k ≡ e + 1 + k = omega arith in z))) lt) (λ ge. past ge) (cases_lt e below)
-    where
-      rest : List Arrival
-      rest = flat_map (held_list t) (range_with_len (e + 1) (length ps))
-
-      found : Option ℕ
-      found = position (is_command tag unit) (take (below - (e + 1)) ps)
-
-      goal : Type 0
-      goal = option_map (λ (h : Arrival). h.number) (first_of (filter (is_sought o tag unit below) (flat_map (held_list t) (range_with_len e (suc (length ps)))))) ≡ option_map (λ k. e + k) (position (is_command tag unit) (take (below - e) (p ∷ ps)))
-
-      past : below ≤ e → goal
-      past ge =
-          ap (λ as'. option_map (λ (h : Arrival). h.number) (first_of as')) (none_below (suc (length ps)) e ge)
-          ∙ sym (ap (λ n. option_map (λ k. e + k) (position (is_command tag unit) (take n (p ∷ ps)))) (let z : below - e ≡ 0 = omega arith in z))
-
-      at_first : p ≡ place_of t e
-      at_first = same 0 (omega arith) ∙ ap (place_of t) (let z : e + 0 ≡ e = omega arith in z)
-
-      rest_agrees : Type 0
-      rest_agrees = option_map (λ (h : Arrival). h.number) (first_of (filter (is_sought o tag unit below) rest)) ≡ option_map (λ k. e + 1 + k) found
-
-      by_held : rest_agrees → e < below → (x : Option Arrival) → held t e ≡ x
-          → option_map (λ (h : Arrival). h.number) (first_of (filter (is_sought o tag unit below) ((let l : List Arrival = elim x [ Some a ↦ a ∷ [] | None ↦ [] ] in l) ++ rest))) ≡ option_map (λ k. e + k) (cond (is_command tag unit p) (Some 0) (option_map suc found))
-      by_held after lt None is =
-          let none : is_command tag unit p ≡ false = ap (is_command tag unit) (at_first ∙ ap (λ x. cond (is_received t e) (Some (option_map (λ (a : Arrival). a.request) x)) None) is) ∙ empty_place (is_received t e) in
-          after ∙ fuse e found ∙ sym (ap (λ b. option_map (λ k. e + k) (cond b (Some 0) (option_map suc found))) none)
-      by_held after lt (Some a) is =
-          let number : a.number ≡ e = held-number t e a is in
-          let low : nat_lt a.number below ≡ true = grind (arith, nat_tests) in
-          let here : p ≡ Some (Some a.request) = at_first ∙ ap (λ b. cond b (Some (option_map (λ (x : Arrival). x.request) (held t e))) None) (held_received t e a is) ∙ ap (λ x. let y : Option (Option Request) = Some (option_map (λ (z : Arrival). z.request) x) in y) is in
-          let test : is_sought o tag unit below a ≡ is_command tag unit p =
-          ap (λ b. b && opcode a.request == 0x01 && itt a.request == tag && is_to o unit a.request) low
-          ∙ ap (λ b. (opcode a.request == 0x01 && itt a.request == tag) && b) (is_to-unit o unit a.request inside)
-          ∙ sym (ap (is_command tag unit) here) in
-          ap (λ b. option_map (λ (h : Arrival). h.number) (first_of (cond b (a ∷ filter (is_sought o tag unit below) rest) (filter (is_sought o tag unit below) rest)))) test
-          ∙ elim (is_command tag unit p) as (λ b. option_map (λ (h : Arrival). h.number) (first_of (cond b (a ∷ filter (is_sought o tag unit below) rest) (filter (is_sought o tag unit below) rest))) ≡ option_map (λ k. e + k) (cond b (Some 0) (option_map suc found))) [
-            | true ↦ ap (λ (n : ℕ). Some n) (let z : a.number ≡ e + 0 = omega (arith, number) in z)
-            | false ↦ after ∙ fuse e found
-          ]
-
-      before : rest_agrees → e < below → goal
-      before after lt =
-          by_held after lt (held t e) refl
-          ∙ ap (option_map (λ k. e + k)) (sym (position-cons (is_command tag unit) p (take (below - (e + 1)) ps)))
-          ∙ ap (λ n. option_map (λ k. e + k) (position (is_command tag unit) (take n (p ∷ ps)))) (let z : suc (below - (e + 1)) ≡ below - e = omega arith in z)
-
--- the held command of the definitions has the number of the one that the window finds
-pub held_command-is : (o : Setting) (w : Received) (t : Trace) (tag unit sn : ℕ) → WindowAgrees o w t → exp_of o t ≡ number_expected w → unit < o.units
-    → option_map (λ (h : Arrival). h.number) (held_command o t tag unit (lift (exp_of o t) sn)) ≡ option_map (λ k. number_expected w + k) (find_command w tag unit sn)
-held_command-is o w t tag unit sn h exp inside =
-    let e : ℕ = number_expected w in
-    ap (λ n. option_map (λ (x : Arrival). x.number) (first_of (filter (is_sought o tag unit (lift n sn)) (flat_map (held_list t) (range_with_len n o.window))))) exp
-    ∙ ap (λ n. option_map (λ (x : Arrival). x.number) (first_of (filter (is_sought o tag unit (lift e sn)) (flat_map (held_list t) (range_with_len e n))))) (sym h.size)
-    ∙ found_numbers o t tag unit (lift e sn) w.places e inside h.inside
-
--- and is held at a place of the window
-pub held_command-held : (o : Setting) (t : Trace) (tag unit below : ℕ) (h : Arrival) → held_command o t tag unit below ≡ Some h → (held t h.number ≡ Some h) × ((exp_of o t ≤ h.number) × (h.number < exp_of o t + o.window))
-held_command-held o t tag unit below h found = found_held o t tag unit below o.window (exp_of o t) h found
-
--- none is held below ExpCmdSN
-pub held_command-none : (o : Setting) (t : Trace) (tag unit below : ℕ) → below ≤ exp_of o t → held_command o t tag unit below ≡ None
-held_command-none o t tag unit below past = ap first_of (none_below o t tag unit below o.window (exp_of o t) past)
-
--- ---- live commands
-
-find-two : (p : Live → Bool) (q r : Command → Bool) (cs : List Command) → ((c : Command) → p (kept c) ≡ (q c && r c)) → find p (map kept cs) ≡ option_map kept (first_of (filter r (filter q cs)))
-find-two p q r [] h = refl
-find-two p q r (c ∷ cs) h =
-    ap (λ b. cond b (Some (kept c)) (find p (map kept cs))) (h c)
-    ∙ elim (q c) as (λ b. cond (b && r c) (Some (kept c)) (find p (map kept cs)) ≡ option_map kept (first_of (filter r (cond b (c ∷ filter q cs) (filter q cs))))) [
-      | true ↦ elim (r c) as (λ b. cond b (Some (kept c)) (find p (map kept cs)) ≡ option_map kept (first_of (cond b (c ∷ filter r (filter q cs)) (filter r (filter q cs))))) [ true ↦ refl | false ↦ find-two p q r cs h ]
-      | false ↦ find-two p q r cs h
-    ]
-
--- the live command with a tag and a unit
-pub tagged_in-is : (s : Core) (t : Trace) (tag unit : ℕ) → s.live ≡ map kept (live t) → tagged_in s tag unit ≡ option_map kept (live_with_tag t tag unit)
-tagged_in-is s t tag unit lives =
-    ap (find (λ l. l.unit == unit && l.itt == tag)) lives
-    ∙ find-two (λ l. l.unit == unit && l.itt == tag) (λ c. c.unit == unit) (λ c. itt c.arrival.request == tag) (live t) (λ c. refl)
+pub stood : (o : Setting) (p : ℕ) (later : Trace) (item : List Mark) (before : Trace) → Fit o p (later ++ item ∷ before) → Stood o later item before
+stood o p later item before x = let s : StoodBy o p later item before = stood_by o p later item before x in s.stood

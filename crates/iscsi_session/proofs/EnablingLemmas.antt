@@ -54,7 +54,7 @@ no_leave : (k : ℕ) (cs : List Command) → list_any (is_leave k) (enables cs) 
 no_leave k [] = refl
 no_leave k (c ∷ cs) = no_leave k cs
 
-item_enables : (o : Setting) (t : Trace) (item : List Mark) (k : ℕ) → list_any (is_enable k) (effects_of_item o t item) ≡ is_among k (newly_enabled o t item)
+pub item_enables : (o : Setting) (t : Trace) (item : List Mark) (k : ℕ) → list_any (is_enable k) (effects_of_item o t item) ≡ is_among k (newly_enabled o t item)
 item_enables o t item k =
     list_any-append (is_enable k) (flat_map (effects_of_mark o t) item) (enables (newly_enabled o t item))
     ∙ ap (λ b. b || list_any (is_enable k) (enables (newly_enabled o t item))) (enabled_marks o t k item)
@@ -115,7 +115,7 @@ all_in_unit (x ∷ cs) =
         more false b e k = absurd (false≢true k)
 
 -- nothing that left is live
-left_unlive : (t : Trace) (k : ℕ) → has (leaves_ticket k) t ≡ true → is_among k (live t) ≡ false
+pub left_unlive : (t : Trace) (k : ℕ) → has (leaves_ticket k) t ≡ true → is_among k (live t) ≡ false
 left_unlive t k left = none (entered t)
   where
     none : (cs : List Command) → is_among k (filter (λ (c : Command). not (has (leaves_ticket c.ticket) t)) cs) ≡ false

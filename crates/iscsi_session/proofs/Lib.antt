@@ -32,4 +32,9 @@ pub mod TagLemmas
 pub mod GivingLemmas
 pub mod EnablingLemmas
 pub mod MissingLemmas
+pub mod FindLemmas
+pub mod AbortMarks
+pub mod AbortItems
+pub mod AbortRuns
 pub mod AbortLemmas
+pub mod AbortTheorem

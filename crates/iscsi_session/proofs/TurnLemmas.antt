@@ -12,7 +12,7 @@ use Rattle.iscsi_session.specs.declared.effect.Effect.TheVariants.{Deliver}
 use Rattle.iscsi_session.specs.declared.verdict.Verdict.{Verdict}
 use Rattle.iscsi_session.specs.declared.verdict.Verdict.TheVariants.{Nothing, Answer, Enter as EnterUnit}
 use Rattle.iscsi_session.specs.Settings.{Setting, is_known}
-use Rattle.iscsi_session.specs.Trace.{Arrival, Mark, Delivers, Executes, Trace, after_items, has, shown, waits, executes_event, number_received, received, held, least_missing}
+use Rattle.iscsi_session.specs.Trace.{Arrival, Mark, Delivers, Executes, Trace, after_items, shown, waits, number_received, received, held, least_missing}
 use Rattle.iscsi_session.specs.Execution.{exp_of, verdict_of, marks_of}
 use Rattle.iscsi_session.specs.Agenda.{kind_of}
 use Rattle.iscsi_session.specs.declared.kind.Kind.TheVariants.{PassedOver, Unknown, Executes as ExecutesKind}
@@ -23,6 +23,7 @@ use Rattle.iscsi_session.specs.Standing.{Core, Agrees, Settled}
 use Rattle.iscsi_session.specs.Steps.{verdict_by, executed_as, execution_effects, with_executed, turned_if, turn_effects}
 use Rattle.iscsi_session.proofs.BoolLemmas.{and_parts, not_true}
 use Rattle.iscsi_session.proofs.Missing.{expected_past}
+use Rattle.iscsi_session.proofs.TraceLemmas.{none_waiting}
 use Rattle.iscsi_session.proofs.HeldLemmas.{held-number, admitted_of_held}
 use Rattle.iscsi_session.proofs.DeliveryLemmas.{IsQuiet}
 use Rattle.iscsi_session.proofs.WindowParts.{Next, next_request, Passed, passed_at, WindowAgrees-passed, turned_window, WindowAgrees-turned}
@@ -112,7 +113,7 @@ immediate_item-is o t a no_function =
 
 -- no function waits for a number
 pub no_functions : (o : Setting) (n : ℕ) (t : Trace) → shown waits t ≡ [] → functions_at o n t ≡ []
-no_functions o n t none = ap (λ as'. functions o (filter (λ a. a.number == n) (filter (λ (a : Arrival). not (has (executes_event a.event) t)) as')) t) none
+no_functions o n t none = ap (λ as'. functions o (filter (λ a. a.number == n) as') t) (none_waiting t none)
 
 -- what is left of the agenda, where a number is due still
 agenda-more : (o : Setting) (e f : ℕ) (t : Trace) → shown waits t ≡ [] → e < f → agenda o e (f - e) t ≡ turn_at o e t ++ agenda o (e + 1) (f - (e + 1)) (after_items (turn_at o e t) t)

@@ -8,6 +8,7 @@ pub mod Run
 pub mod Executed
 pub mod Flow
 pub mod Enabling
+pub mod Aborts
 pub mod Refusals
 pub mod Lines
 pub mod Standing
