@@ -29,3 +29,4 @@ pub mod SearchLemmas
 pub mod TagLemmas
 pub mod GivingLemmas
 pub mod EnablingLemmas
+pub mod LeavingLemmas
