@@ -38,3 +38,4 @@ pub mod AbortItems
 pub mod AbortRuns
 pub mod AbortLemmas
 pub mod AbortTheorem
+pub mod LeavingLemmas

@@ -28,7 +28,7 @@ pub newly-untouched : (o : Setting) (t : Trace) (item : List Mark) → Untouched
 newly-untouched o t item u = newly-none o item t (live_in-untouched item t u)
 
 -- one set is another now, and the other units are as they were
-set-changed : (o : Setting) (sets : List Members) (t : Trace) (item : List Mark) (unit : ℕ) (new : Members) → SetsAgree o sets t → unit < o.units → new.depth ≡ o.depth → new.list ≡ set_of o (item ∷ t) unit
+pub set-changed : (o : Setting) (sets : List Members) (t : Trace) (item : List Mark) (unit : ℕ) (new : Members) → SetsAgree o sets t → unit < o.units → new.depth ≡ o.depth → new.list ≡ set_of o (item ∷ t) unit
     → ((other : ℕ) → (other == unit) ≡ false → live_in other (item ∷ t) ≡ live_in other t) → SetsAgree o (set sets unit new) (item ∷ t)
 set-changed o sets t item unit new a inside depth list same =
     let in_range : unit < length sets = omega (arith, a.units) in
