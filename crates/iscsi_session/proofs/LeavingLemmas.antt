@@ -15,7 +15,7 @@ use Rattle.iscsi_session.specs.declared.effect.Effect.{Effect}
 use Rattle.iscsi_session.specs.declared.effect.Effect.TheVariants.{Enable, Leave, Send}
 use Rattle.iscsi_session.specs.declared.session.live.Live.{Live}
 use Rattle.iscsi_session.specs.Settings.{Setting}
-use Rattle.iscsi_session.specs.Trace.{Arrival, Command, Mark, Leaves, Trace, shown, waits, enters, entered, has, leaves_ticket, live, live_in, is_among, was_free, sent_on}
+use Rattle.iscsi_session.specs.Trace.{Arrival, Command, Mark, Leaves, Trace, shown, waiting, waiting_by, waiting_through, enters, entered, has, leaves_ticket, live, live_in, is_among, was_free, sent_on}
 use Rattle.iscsi_session.specs.Execution.{unfinished, reply_on}
 use Rattle.iscsi_session.specs.Run.{effects_of_mark, effects_of_item, newly_enabled, stat_sn_of}
 use Rattle.iscsi_session.specs.Standing.{Core, stat_sn_on, kept, task_of, member_of, set_of, are_apart, WindowAgrees, CommandsAgree, SetsAgree, Agrees}
@@ -123,9 +123,9 @@ leaving-enters : (cs : List Command) (a : Arrival) (reply : Reply) → filter_ma
 leaving-enters [] a reply = refl
 leaving-enters (c ∷ cs) a reply = leaving-enters cs a reply
 
-leaving-waits : (cs : List Command) (a : Arrival) (reply : Reply) → filter_map waits (map Leaves cs ++ reply_on a reply) ≡ []
-leaving-waits [] a reply = refl
-leaving-waits (c ∷ cs) a reply = leaving-waits cs a reply
+leaving-calm : (cs : List Command) (a : Arrival) (reply : Reply) (ws : List Arrival) → waiting_through (map Leaves cs ++ reply_on a reply) ws ≡ ws
+leaving-calm [] a reply ws = refl
+leaving-calm (c ∷ cs) a reply ws = leaving-calm cs a reply ws
 
 leaving-sends : (cs : List Command) (a : Arrival) (reply : Reply) → filter_map sent_on (map Leaves cs ++ reply_on a reply) ≡ connection_of a.request ∷ []
 leaving-sends [] a reply = refl
@@ -317,7 +317,9 @@ module _ (o : Setting) (s : Core) (t : Trace) (m : Mark) (e : Effect) (a : Arriv
       sets = subst (λ (ms : List Members). SetsAgree o ms (item ∷ t)) (sym sets_are) sets.agrees;
       unfinished = omega (arith, before, after, b.unfinished_is);
       enabled = EnabledSoFar-left o item t out leaves (units_live o rest s.entered (item ∷ t) commands) b.enabled;
-      none_waits = ap (λ as'. as' ++ filter_map waits item) b.none_waits ∙ ap (λ x. cons_option x (filter_map waits (map Leaves gone ++ reply_on a reply))) b.waits_no ∙ leaving-waits gone a reply;
+      level = b.level;
+      arrived = (let now = b.arrived (map Leaves gone ++ reply_on a reply) (quiet-leaving gone a reply) in record { long = now.long; at_place = now.at_place });
+      waiting = record { list = leaving-calm gone a reply (waiting_by m (waiting t)) ∙ b.waiting; may = b.may };
     },
     effects_are,
   )

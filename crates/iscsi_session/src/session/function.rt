@@ -10,25 +10,11 @@ use crate::effect::Effect;
 use crate::outcome::Outcome;
 use crate::session::Session;
 use crate::session::live::Live;
+use crate::session::management::{ABORT_TASK, COMPLETE, LOGICAL_UNIT_RESET, QUERY_TASK, QUERY_TASK_SET};
 use crate::session::tags::find_tagged;
 use iscsi_tasks::Cover;
 use iscsi_window::Place;
 use iscsi_wire::{Request, distance};
-
-/// ABORT TASK (RFC 7143 section 11.5.1).
-const ABORT_TASK: u8 = 1;
-
-/// LOGICAL UNIT RESET (RFC 7143 section 11.5.1).
-const LOGICAL_UNIT_RESET: u8 = 5;
-
-/// QUERY TASK (RFC 7144 section 4.1).
-const QUERY_TASK: u8 = 9;
-
-/// QUERY TASK SET (RFC 7144 section 4.1).
-const QUERY_TASK_SET: u8 = 10;
-
-/// Function complete (RFC 7143 section 11.6.1).
-const COMPLETE: u8 = 0;
 
 /// Task does not exist (RFC 7143 section 11.6.1).
 const NO_TASK: u8 = 1;

@@ -46,7 +46,7 @@ pub(crate) const QUERY_TASK_SET: u8 = 10;
 const LEVEL_OF_QUERIES: u32 = 2;
 
 /// Response: function complete (RFC 7143 section 11.6.1).
-const COMPLETE: u8 = 0;
+pub(crate) const COMPLETE: u8 = 0;
 
 /// Response: LUN does not exist.
 const NO_UNIT: u8 = 2;
