@@ -30,3 +30,4 @@ pub mod TagLemmas
 pub mod GivingLemmas
 pub mod EnablingLemmas
 pub mod LeavingLemmas
+pub mod LeavingParts

@@ -28,6 +28,7 @@ mod arrival;
 mod completion;
 mod execution;
 mod immediate;
+mod leaving;
 mod live;
 mod sets;
 mod tags;
