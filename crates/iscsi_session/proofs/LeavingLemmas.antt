@@ -2,11 +2,10 @@
 use Rattle.std.proofs.Common.{◌≡◌, ℕ, ◌+◌, ◌-◌, ◌<◌, ◌≤◌, ◌==◌, ◌&&◌, ◌||◌, not, cond, Bool, true, false, List, [], ◌∷◌, ◌++◌, length, map, filter, count_by, get_or, set, refl, ap, sym, subst, ◌∙◌, arith, eq-eqb}
 use Rattle.std.specs.List.{list_any, list_all, filter_map, flat_map, cons_option}
 use Rattle.std.proofs.lemmas.Bool.{false≢true, eqb-true}
-use Rattle.std.proofs.lemmas.List.{append-nil, get_or-set_same, set-set}
-use Rattle.std.proofs.lemmas.List.Folds.{list_any-append}
+use Rattle.std.proofs.lemmas.List.{get_or-set_same, set-set}
 use Rattle.iscsi_wire.specs.declared.reply.Reply.{Reply}
 use Rattle.iscsi_wire.specs.declared.reply.Reply.TheVariants.{Task as TaskReply}
-use Rattle.iscsi_wire.specs.Fields.{connection_of, is_immediate, itt}
+use Rattle.iscsi_wire.specs.Fields.{connection_of, itt}
 use Rattle.iscsi_window.specs.Windows.{Received, with_unfinished}
 use Rattle.iscsi_tasks.specs.declared.task.Task.{Task}
 use Rattle.iscsi_tasks.specs.declared.member.Member.{Member}
@@ -15,12 +14,12 @@ use Rattle.iscsi_session.specs.declared.effect.Effect.{Effect}
 use Rattle.iscsi_session.specs.declared.effect.Effect.TheVariants.{Enable, Leave, Send}
 use Rattle.iscsi_session.specs.declared.session.live.Live.{Live}
 use Rattle.iscsi_session.specs.Settings.{Setting}
-use Rattle.iscsi_session.specs.Trace.{Arrival, Command, Mark, Leaves, Trace, shown, waits, enters, entered, has, leaves_ticket, live, live_in, is_among, was_free, sent_on}
+use Rattle.iscsi_session.specs.Trace.{Arrival, Command, Mark, Leaves, Trace, waits, enters, entered, has, leaves_ticket, live, live_in, is_among, was_free, sent_on}
 use Rattle.iscsi_session.specs.Execution.{unfinished, reply_on}
 use Rattle.iscsi_session.specs.Run.{effects_of_mark, effects_of_item, newly_enabled, stat_sn_of}
 use Rattle.iscsi_session.specs.Standing.{Core, stat_sn_on, kept, task_of, member_of, set_of, are_apart, WindowAgrees, CommandsAgree, SetsAgree, Agrees}
 use Rattle.iscsi_session.specs.Steps.{set_at, all_given, as_given, enable_effects, is_numbered}
-use Rattle.iscsi_session.specs.Functions.{is_gone, staying, set_staying, finished_by, with_left, leaving_effects, aborted, abort_effects}
+use Rattle.iscsi_session.specs.Functions.{is_gone, staying, set_staying, with_left, aborted, abort_effects}
 use Rattle.iscsi_session.proofs.BoolLemmas.{and_parts, and_both, or_none}
 use Rattle.iscsi_session.proofs.ListLemmas.{list_any-map, count_by-map, list_all-filter}
 use Rattle.iscsi_session.proofs.TraceLemmas.{filter-same, filter-true, weaker}

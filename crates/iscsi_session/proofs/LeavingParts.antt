@@ -1,5 +1,5 @@
 -- Chosen commands of a unit leave one after the other: what is left to do after one of them left.
-use Rattle.std.proofs.Common.{◌≡◌, ℕ, zero, suc, ◌+◌, ◌-◌, ◌<◌, ◌≤◌, ◌==◌, ◌&&◌, ◌||◌, not, ⊎_elim, cond, Bool, true, false, nat_lt, List, [], ◌∷◌, ◌++◌, length, map, filter, find, count_by, get_or, set, Option, Some, None, option_map, refl, ap, sym, subst, ◌∙◌, arith, eq-eqb, length-set}
+use Rattle.std.proofs.Common.{◌≡◌, ℕ, zero, suc, ◌+◌, ◌-◌, ◌<◌, ◌≤◌, ◌==◌, ◌&&◌, ◌||◌, not, ⊎_elim, cond, Bool, true, false, nat_lt, List, [], ◌∷◌, length, map, filter, find, count_by, get_or, set, Some, None, refl, ap, sym, subst, ◌∙◌, arith, eq-eqb, length-set}
 use Rattle.std.specs.List.{list_any, list_all}
 use Rattle.std.proofs.lemmas.Bool.{cases_eq, eqb-true, false≢true}
 use Rattle.std.proofs.lemmas.Bool.Decides.{nat_tests}
@@ -8,7 +8,7 @@ use Rattle.std.proofs.lemmas.List.Sums.{sum_by-cons}
 use Rattle.iscsi_window.specs.Windows.{Received, with_unfinished}
 use Rattle.iscsi_tasks.specs.declared.task.Task.{Task}
 use Rattle.iscsi_tasks.specs.declared.member.Member.{Member}
-use Rattle.iscsi_tasks.specs.Sets.{Members, opened, tasks_in, without, looked_at, after_moment, left_by, is_new}
+use Rattle.iscsi_tasks.specs.Sets.{Members, opened, tasks_in, without, looked_at, after_moment, is_new}
 use Rattle.iscsi_session.specs.declared.effect.Effect.{Effect}
 use Rattle.iscsi_session.specs.declared.effect.Effect.TheVariants.{Leave}
 use Rattle.iscsi_session.specs.declared.session.live.Live.{Live}
@@ -23,7 +23,7 @@ use Rattle.iscsi_session.proofs.EnabledLemmas.{filter-map, filter-twice, map-map
 use Rattle.iscsi_session.proofs.WindowLemmas.{fewer as fewer_all}
 use Rattle.iscsi_session.proofs.CountLemmas.{fewer_counted}
 use Rattle.iscsi_session.proofs.KeptLemmas.{shorter, tickets_in-left, other_kept}
-use Rattle.iscsi_session.proofs.GroupLemmas.{passing, passing_after}
+use Rattle.iscsi_session.proofs.GroupLemmas.{passing_after}
 
 -- ---- nothing is left to leave
 

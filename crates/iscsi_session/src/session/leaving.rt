@@ -106,7 +106,13 @@ fn take(sets: &mut [TaskSet], unit: u16, choice: &Choice) -> Option<u64>
 }
 
 /// The live command with this ticket is over.
-fn end(window: &mut Window, immediate: &mut Vec<u8>, conns: &[(u16, u32)], live: &mut VecDeque<Live>, ticket: u64)
+fn end(
+    window: &mut Window,
+    immediate: &mut Vec<u8>,
+    conns: &[(u16, u32)],
+    live: &mut VecDeque<Live>,
+    ticket: u64,
+)
     requires ascending { are_ascending live.old.items ≡ true }
     requires there { IsSome (find_ticket ticket live.old.items) }
     requires numbered { count_by is_numbered live.old.items ≤ window.old.unfinished }

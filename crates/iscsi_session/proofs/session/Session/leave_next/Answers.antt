@@ -1,4 +1,4 @@
-use Rattle.std.proofs.Common.{◌≡◌, ◌∙◌, ◌+◌, ◌-◌, ◌*◌, ◌<◌, ◌≤◌, ◌==◌, ◌++◌, ◌∷◌, [], ℕ, Bool, not, true, false, nat_eq, List, Option, Some, None, option_map, find, length, count_by, is_some, take, drop, get_or, set, append_assoc, length-set, refl, ap, sym, subst, arith}
+use Rattle.std.proofs.Common.{◌≡◌, ◌∙◌, ◌+◌, ◌-◌, ◌<◌, ◌≤◌, ◌==◌, ◌++◌, ◌∷◌, [], ℕ, Bool, not, true, false, nat_eq, List, Option, Some, None, option_map, find, length, count_by, is_some, take, drop, get_or, set, append_assoc, length-set, refl, ap, sym, subst, arith}
 use Rattle.std.specs.Prelude.{IsSome}
 use Rattle.std.specs.List.{list_all}
 use Rattle.std.specs.HashMap.{get}
@@ -11,10 +11,9 @@ use Rattle.iscsi_tasks.specs.Sets.{Members, opened, tasks_in, left_by}
 use Rattle.iscsi_session.specs.declared.effect.Effect.{Effect}
 use Rattle.iscsi_session.specs.declared.effect.Effect.TheVariants.{Leave}
 use Rattle.iscsi_session.specs.declared.session.leaving.Choice.{Choice}
-use Rattle.iscsi_session.specs.declared.session.leaving.Choice.TheVariants.{Ticket}
 use Rattle.iscsi_session.specs.declared.session.live.Live.{Live}
 use Rattle.iscsi_session.specs.Standing.{Core, are_known, is_held, is_place_known, Match, are_ascending, are_within}
-use Rattle.iscsi_session.specs.Steps.{AreIndexed, AreCounted, is_numbered, set_at, find_ticket, without_ticket}
+use Rattle.iscsi_session.specs.Steps.{AreIndexed, AreCounted, is_numbered, set_at, without_ticket}
 use Rattle.iscsi_session.specs.Functions.{finished_by, with_left, leaving_effects, has_covered, chosen, covers_ticket, owed}
 use Rattle.iscsi_session.proofs.ListLemmas.{are_known-left}
 use Rattle.iscsi_session.proofs.WindowLemmas.{find-found}

@@ -1,4 +1,4 @@
-use Rattle.std.proofs.Common.{◌≡◌, ◌∙◌, ◌+◌, ◌<◌, ◌++◌, ℕ, List, length, count_by, take, drop, get_or, set, length-set, ap, sym, subst, arith}
+use Rattle.std.proofs.Common.{◌≡◌, ◌∙◌, ◌<◌, ◌++◌, ℕ, List, length, count_by, take, drop, get_or, set, length-set, ap, sym, subst, arith}
 use Rattle.iscsi_tasks.specs.Sets.{Members, opened, is_new}
 use Rattle.iscsi_session.specs.Standing.{Core, Match, are_within}
 use Rattle.iscsi_session.specs.Steps.{all_given}
