@@ -141,7 +141,7 @@ newest_in sets lives n units unit m within inside =
 
 -- ---- a command leaves
 
-tickets_in-left : (k unit : ℕ) (lives : List Live) → tickets_in unit (without_ticket k lives) ≡ filter (λ t. not (t == k)) (tickets_in unit lives)
+pub tickets_in-left : (k unit : ℕ) (lives : List Live) → tickets_in unit (without_ticket k lives) ≡ filter (λ t. not (t == k)) (tickets_in unit lives)
 tickets_in-left k unit lives =
     ap (map (λ (x : Live). x.ticket)) (filter-swap (λ (x : Live). x.unit == unit) (λ (x : Live). not (x.ticket == k)) lives)
     ∙ sym (filter-map (λ t. not (t == k)) (λ (x : Live). x.ticket) (filter (λ (x : Live). x.unit == unit) lives))
@@ -161,7 +161,7 @@ later_kept k unit (x ∷ lives) h =
     differ t test = let lt : k < t = grind (arith, nat_tests) in let no : (t == k) ≡ false = grind (arith, nat_tests) in no
 
 -- the ticket is in no other unit
-other_kept : (k unit : ℕ) (lives : List Live) (l : Live) → are_ascending lives ≡ true → find_ticket k lives ≡ Some l → (l.unit == unit) ≡ false → filter (λ t. not (t == k)) (tickets_in unit lives) ≡ tickets_in unit lives
+pub other_kept : (k unit : ℕ) (lives : List Live) (l : Live) → are_ascending lives ≡ true → find_ticket k lives ≡ Some l → (l.unit == unit) ≡ false → filter (λ t. not (t == k)) (tickets_in unit lives) ≡ tickets_in unit lives
 other_kept k unit [] l up found apart = refl
 other_kept k unit (x ∷ lives) l up found apart =
     let ups = and_parts (list_all (λ (y : Live). nat_lt x.ticket y.ticket) lives) (are_ascending lives) up in
@@ -208,7 +208,7 @@ ascending-left k (x ∷ lives) up =
 pub within-left : (k n units : ℕ) (lives : List Live) → are_within n units lives ≡ true → are_within n units (without_ticket k lives) ≡ true
 within-left k n units lives h = list_all-filter (λ (x : Live). not (x.ticket == k)) (λ (x : Live). nat_le x.ticket n && nat_lt x.unit units) lives h
 
-shorter : {A : Type 0} (p : A → Bool) (xs : List A) → length (filter p xs) ≤ length xs
+pub shorter : {A : Type 0} (p : A → Bool) (xs : List A) → length (filter p xs) ≤ length xs
 shorter p [] = omega arith
 shorter p (x ∷ xs) =
     let rest : length (filter p xs) ≤ length xs = shorter p xs in

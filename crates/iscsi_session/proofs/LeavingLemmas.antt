@@ -1,12 +1,11 @@
 -- Commands of a unit leave together, and the function that took them out is answered.
-use Rattle.std.proofs.Common.{◌≡◌, ℕ, ◌+◌, ◌-◌, ◌<◌, ◌≤◌, ◌==◌, ◌&&◌, ◌||◌, not, cond, Bool, true, false, List, [], ◌∷◌, ◌++◌, length, map, filter, count_by, get_or, set, refl, ap, sym, subst, ◌∙◌, arith, eq-eqb}
+use Rattle.std.proofs.Common.{◌≡◌, ℕ, ◌+◌, ◌-◌, ◌<◌, ◌≤◌, ◌==◌, ◌&&◌, ◌||◌, not, cond, Bool, true, false, List, [], ◌∷◌, ◌++◌, length, map, filter, count_by, get_or, set, Some, refl, ap, sym, subst, ◌∙◌, arith, eq-eqb}
 use Rattle.std.specs.List.{list_any, list_all, filter_map, flat_map, cons_option}
 use Rattle.std.proofs.lemmas.Bool.{false≢true, eqb-true}
-use Rattle.std.proofs.lemmas.List.{append-nil, get_or-set_same, set-set}
-use Rattle.std.proofs.lemmas.List.Folds.{list_any-append}
+use Rattle.std.proofs.lemmas.List.{get_or-set_same, set-set}
 use Rattle.iscsi_wire.specs.declared.reply.Reply.{Reply}
 use Rattle.iscsi_wire.specs.declared.reply.Reply.TheVariants.{Task as TaskReply}
-use Rattle.iscsi_wire.specs.Fields.{connection_of, is_immediate, itt}
+use Rattle.iscsi_wire.specs.Fields.{connection_of, itt}
 use Rattle.iscsi_window.specs.Windows.{Received, with_unfinished}
 use Rattle.iscsi_tasks.specs.declared.task.Task.{Task}
 use Rattle.iscsi_tasks.specs.declared.member.Member.{Member}
@@ -15,13 +14,13 @@ use Rattle.iscsi_session.specs.declared.effect.Effect.{Effect}
 use Rattle.iscsi_session.specs.declared.effect.Effect.TheVariants.{Enable, Leave, Send}
 use Rattle.iscsi_session.specs.declared.session.live.Live.{Live}
 use Rattle.iscsi_session.specs.Settings.{Setting}
-use Rattle.iscsi_session.specs.Trace.{Arrival, Command, Mark, Leaves, Trace, shown, waiting, waiting_by, waiting_through, enters, entered, has, leaves_ticket, live, live_in, is_among, was_free, sent_on}
+use Rattle.iscsi_session.specs.Trace.{first_of, Arrival, Command, Mark, Leaves, Trace, waiting, waiting_by, waiting_through, enters, entered, has, leaves_ticket, live, live_in, is_among, was_free, sent_on}
 use Rattle.iscsi_session.specs.Execution.{unfinished, reply_on}
 use Rattle.iscsi_session.specs.Run.{effects_of_mark, effects_of_item, newly_enabled, stat_sn_of}
 use Rattle.iscsi_session.specs.Standing.{Core, stat_sn_on, kept, task_of, member_of, set_of, are_apart, WindowAgrees, CommandsAgree, SetsAgree, Agrees}
 use Rattle.iscsi_session.specs.Steps.{set_at, all_given, as_given, enable_effects, is_numbered}
-use Rattle.iscsi_session.specs.Functions.{is_gone, staying, set_staying, finished_by, with_left, leaving_effects, aborted, abort_effects}
-use Rattle.iscsi_session.proofs.BoolLemmas.{and_parts, and_both, or_none}
+use Rattle.iscsi_session.specs.Functions.{covers_ticket, is_gone, staying, set_staying, with_left, aborted, abort_effects}
+use Rattle.iscsi_session.proofs.BoolLemmas.{and_parts, and_both, or_none, or_second, not_true}
 use Rattle.iscsi_session.proofs.ListLemmas.{list_any-map, count_by-map, list_all-filter}
 use Rattle.iscsi_session.proofs.TraceLemmas.{filter-same, filter-true, weaker}
 use Rattle.iscsi_session.proofs.ApartLemmas.{eq_sym, unamong-filter, apart-filter}
@@ -206,6 +205,37 @@ module _ (o : Setting) (t : Trace) (old : Members) (unit : ℕ) (list_is : old.l
       ∙ map-map (λ (m : Member). Leave m.task.ticket unit) (member_of o t) (filter q here)
       ∙ map_all (λ (c : Command). Leave c.ticket unit) (λ (c : Command). Leave c.ticket c.unit) (is_here unit here) (filter q here) (list_all-filter q (is_here unit here) here (all_here unit t))
       (λ c h. ap (λ u. Leave c.ticket u) (sym (eqb-true c.unit unit (and_parts (c.unit == unit) (is_among c.ticket here) h).0)))
+
+-- no other command has the ticket of the first that passes
+pub ticket_alone : (q : Command → Bool) (cs : List Command) (c : Command) → are_apart cs ≡ true → first_of (filter q cs) ≡ Some c → (filter (λ d. d.ticket == c.ticket) cs ≡ c ∷ []) × (is_among c.ticket cs ≡ true)
+ticket_alone q [] c apart found = absurd cc
+ticket_alone q (x ∷ cs) c apart found =
+    let parts = and_parts (not (is_among x.ticket cs)) (are_apart cs) apart in
+    let gone : is_among x.ticket cs ≡ false = not_true (is_among x.ticket cs) parts.0 in
+    elim (q x) as (λ b. first_of (cond b (x ∷ filter q cs) (filter q cs)) ≡ Some c → (filter (λ d. d.ticket == c.ticket) (x ∷ cs) ≡ c ∷ []) × (is_among c.ticket (x ∷ cs) ≡ true)) [
+      | true ↦ λ here.
+          let same : x ≡ c = cc in
+          subst (λ (d : Command). (filter (λ e. e.ticket == d.ticket) (x ∷ cs) ≡ d ∷ []) × (is_among d.ticket (x ∷ cs) ≡ true)) same
+          (ap (λ b. cond b (x ∷ filter (λ e. e.ticket == x.ticket) cs) (filter (λ e. e.ticket == x.ticket) cs)) (eq-eqb x.ticket x.ticket refl) ∙ ap (λ ds. x ∷ ds) (none_with x.ticket cs gone), ap (λ b. b || is_among x.ticket cs) (eq-eqb x.ticket x.ticket refl))
+      | false ↦ λ later.
+          let rest = ticket_alone q cs c parts.1 later in
+          let other : (x.ticket == c.ticket) ≡ false =
+          elim (x.ticket == c.ticket) as (λ b. (x.ticket == c.ticket) ≡ b → b ≡ false) [
+            | true ↦ λ is. absurd (false≢true (sym gone ∙ ap (λ k. is_among k cs) (eqb-true x.ticket c.ticket is) ∙ rest.1))
+            | false ↦ λ is. refl
+          ] refl in
+          (ap (λ b. cond b (x ∷ filter (λ e. e.ticket == c.ticket) cs) (filter (λ e. e.ticket == c.ticket) cs)) other ∙ rest.0, or_second (x.ticket == c.ticket) (is_among c.ticket cs) rest.1)
+    ] found
+  where
+    none_with : (k : ℕ) (ds : List Command) → is_among k ds ≡ false → filter (λ e. e.ticket == k) ds ≡ []
+    none_with k [] h = refl
+    none_with k (d ∷ ds) h =
+        let parts = or_none (d.ticket == k) (is_among k ds) h in
+        ap (λ b. cond b (d ∷ filter (λ e. e.ticket == k) ds) (filter (λ e. e.ticket == k) ds)) parts.0 ∙ none_with k ds parts.1
+
+-- the first command of a unit that passes is the one that its ticket covers
+pub covered_one : (o : Setting) (t : Trace) (unit : ℕ) (q : Command → Bool) (c : Command) → are_apart (live t) ≡ true → first_of (filter q (live_in unit t)) ≡ Some c → covered_in o t unit (covers_ticket c.ticket) ≡ c ∷ []
+covered_one o t unit q c apart found = (ticket_alone q (live_in unit t) c (apart-filter (λ (d : Command). d.unit == unit) (live t) apart) found).0
 
 -- a set that nothing leaves, once every enabled command is given
 pub given_already : (o : Setting) (t : Trace) (cs : List Command) → map as_given (map (member_of o t) cs) ≡ map (member_of o t) cs

@@ -17,6 +17,8 @@ use Rattle.iscsi_session.specs.declared.effect.Effect.{Effect}
 use Rattle.iscsi_session.specs.declared.effect.Effect.TheVariants.{Void, Empty, Leave}
 use Rattle.iscsi_session.specs.declared.outcome.Outcome.{Outcome}
 use Rattle.iscsi_session.specs.declared.outcome.Outcome.TheVariants.{Respond, Abort, AbortAll, Empty as EmptyNumber, Void as VoidNumber}
+use Rattle.iscsi_session.specs.declared.session.leaving.Choice.{Choice}
+use Rattle.iscsi_session.specs.declared.session.leaving.Choice.TheVariants.{Covered, Ticket}
 use Rattle.iscsi_session.specs.declared.session.live.Live.{Live}
 use Rattle.iscsi_session.specs.Standing.{Core}
 use Rattle.iscsi_session.specs.Steps.{set_at, with_set, all_given, enable_effects, is_numbered, with_reply, reply_effects}
@@ -96,6 +98,15 @@ outcome_by s r number event unit =
 
 abbrev pub covers_ticket : ℕ → Task → Bool
 covers_ticket ticket t = t.ticket == ticket
+
+-- what a choice covers
+abbrev pub chosen : Choice → Task → Bool
+chosen (Covered cover) = is_covered cover
+chosen (Ticket ticket) = covers_ticket ticket
+
+-- some command of the set is covered
+abbrev pub has_covered : (Task → Bool) → Members → Bool
+has_covered covers set = list_any (λ m. covers m.task) set.list
 
 -- commands left, and it is answered
 abbrev pub aborted : Core → Request → ℕ → (Task → Bool) → Core

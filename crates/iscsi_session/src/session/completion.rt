@@ -65,7 +65,12 @@ impl Session {
 }
 
 /// A command is over: it gives its place of the window back, or counts no more among the immediate ones.
-fn finish(window: &mut Window, immediate: &mut Vec<u8>, conns: &[(u16, u32)], command: &Live)
+pub(crate) fn finish(
+    window: &mut Window,
+    immediate: &mut Vec<u8>,
+    conns: &[(u16, u32)],
+    command: &Live,
+)
     requires numbered { command.now.immediate ≡ false → 0 < window.old.unfinished }
     requires long { length immediate.old.items ≡ length conns.now }
     requires known { known_in command.now.conn conns.now ≡ true }

@@ -1,13 +1,28 @@
-//! Commands of a unit leave by an abort.
+//! Commands of a unit that leave before they are completed.
 
-ghost use Rattle.std.specs.Prelude.{◌≡◌, ◌+◌, ◌≤◌, ◌<◌, ◌++◌, length, vec_len, vec_capacity};
-ghost use Rattle.iscsi_tasks.specs.Sets.{is_covered};
-ghost use Rattle.iscsi_session.specs.Steps.{set_at, enable_effects};
-ghost use Rattle.iscsi_session.specs.Functions.{with_left, leaving_effects, covers_ticket, with_given, owed};
+ghost use Rattle.std.specs.Prelude.{ℕ, ◌≡◌, ◌+◌, ◌<◌, ◌≤◌, ◌++◌, true, false, find, length, count_by, option_map, slice_index_or, slice_set, IsSome, vec_len, vec_capacity};
+ghost use Rattle.std.specs.VecDeque.{deque_capacity};
+ghost use Rattle.iscsi_tasks.specs.Sets.{tasks_in, opened, left_by, is_covered};
+ghost use Rattle.iscsi_session.specs.Standing.{are_ascending, are_known};
+ghost use Rattle.iscsi_session.specs.Steps.{AreCounted, is_numbered, find_ticket, without_ticket, enable_effects, set_at};
+ghost use Rattle.iscsi_session.specs.Functions.{finished_by, with_left, leaving_effects, with_given, covers_ticket, chosen, has_covered, owed};
 
 use crate::effect::Effect;
-use crate::session::Session;
-use iscsi_tasks::Cover;
+use crate::session::completion::finish;
+use crate::session::live::{Live, find as find_live, remove};
+use crate::session::{Session, sets};
+use iscsi_tasks::{Cover, TaskSet};
+use iscsi_window::Window;
+use std::collections::VecDeque;
+
+/// Which commands of a set leave.
+#[derive(Clone, Copy)]
+pub(crate) enum Choice {
+    /// Those that are covered.
+    Covered(Cover),
+    /// The one with this ticket.
+    Ticket(u64),
+}
 
 impl Session {
     /// The covered commands of a unit leave, the oldest first.
@@ -19,7 +34,8 @@ impl Session {
         ensures spent { vec_len out.new + owed self.new.live self.new.sets ≤ vec_len out.old + owed self.old.live self.old.sets }
         ensures capacity { vec_capacity out.new ≡ vec_capacity out.old }
     {
-        self.sets[usize::from(unit)].leave_first(cover);
+        let choice = Choice::Covered(*cover);
+        while self.leave_next(unit, &choice, out) {}
     }
 
     /// The command of a unit with this ticket leaves.
@@ -31,7 +47,7 @@ impl Session {
         ensures spent { vec_len out.new + owed self.new.live self.new.sets ≤ vec_len out.old + owed self.old.live self.old.sets }
         ensures capacity { vec_capacity out.new ≡ vec_capacity out.old }
     {
-        self.sets[usize::from(unit)].leave(ticket);
+        self.leave_next(unit, &Choice::Ticket(ticket), out);
     }
 
     /// A unit is told of the commands that became enabled.
@@ -43,5 +59,71 @@ impl Session {
         ensures spent { vec_len out.new + owed self.new.live self.new.sets ≤ vec_len out.old + owed self.old.live self.old.sets }
         ensures capacity { vec_capacity out.new ≡ vec_capacity out.old }
     {
+        sets::tell(&mut self.sets, unit, out);
     }
+
+    /// The oldest of the chosen commands of a unit leaves, if there is one. Whether there was.
+    fn leave_next(&mut self, unit: u16, choice: &Choice, out: &mut Vec<Effect>) -> bool
+        requires unit { unit < length self.old.sets }
+        requires room { vec_len out.old + owed self.old.live self.old.sets ≤ vec_capacity out.old }
+        // What is still to leave is the rest of what was to leave before.
+        ensures session { with_left self.new unit (chosen choice.now) ≡ with_left self.old unit (chosen choice.now) }
+        ensures effects { out.new.items ++ leaving_effects self.new unit (chosen choice.now) ≡ out.old.items ++ leaving_effects self.old unit (chosen choice.now) }
+        ensures last { result ≡ false → has_covered (chosen choice.now) (set_at self.new unit) ≡ false }
+        ensures one { (ticket : ℕ) → choice.now ≡ Choice.Ticket ticket → has_covered (chosen choice.now) (set_at self.new unit) ≡ false }
+        ensures fewer { result ≡ true → length (set_at self.new unit).list < length (set_at self.old unit).list }
+        ensures units { length self.new.sets ≡ length self.old.sets }
+        ensures spent { vec_len out.new + owed self.new.live self.new.sets ≤ vec_len out.old + owed self.old.live self.old.sets }
+        ensures capacity { vec_capacity out.new ≡ vec_capacity out.old }
+    {
+        let Some(ticket) = take(&mut self.sets, unit, choice) else {
+            return false;
+        };
+        end(
+            &mut self.window,
+            &mut self.immediate,
+            &self.conns,
+            &mut self.live,
+            ticket,
+        );
+        out.push_reserved(Effect::Leave { ticket, unit });
+        true
+    }
+}
+
+/// The oldest of the chosen commands leaves the set of its unit: its ticket.
+fn take(sets: &mut [TaskSet], unit: u16, choice: &Choice) -> Option<u64>
+    requires { unit < length sets.old }
+    ensures ticket { result ≡ option_map (λ t. t.ticket) (find (chosen choice.now) (tasks_in (slice_index_or sets.old unit (opened 0)))) }
+    ensures sets { sets.new ≡ slice_set sets.old unit (left_by (slice_index_or sets.old unit (opened 0)) (find (chosen choice.now) (tasks_in (slice_index_or sets.old unit (opened 0))))) }
+{
+    let set = &mut sets[usize::from(unit)];
+    let task = match choice {
+        Choice::Covered(cover) => set.leave_first(cover)?,
+        Choice::Ticket(ticket) => set.leave(*ticket)?,
+    };
+    Some(task.ticket)
+}
+
+/// The live command with this ticket is over.
+fn end(
+    window: &mut Window,
+    immediate: &mut Vec<u8>,
+    conns: &[(u16, u32)],
+    live: &mut VecDeque<Live>,
+    ticket: u64,
+)
+    requires ascending { are_ascending live.old.items ≡ true }
+    requires there { IsSome (find_ticket ticket live.old.items) }
+    requires numbered { count_by is_numbered live.old.items ≤ window.old.unfinished }
+    requires known { are_known live.old.items conns.now ≡ true }
+    requires counted { AreCounted immediate.old.items conns.now live.old.items }
+    ensures window { window.new ≡ finished_by window.old live.old.items (without_ticket ticket live.old.items) }
+    ensures live { live.new.items ≡ without_ticket ticket live.old.items }
+    ensures counted { AreCounted immediate.new.items conns.now live.new.items }
+    ensures capacity { deque_capacity live.new ≡ deque_capacity live.old }
+{
+    let command = find_live(live, ticket).unwrap();
+    finish(window, immediate, conns, &command);
+    remove(live, ticket);
 }

@@ -116,12 +116,26 @@ pub(crate) fn leave(sets: &mut [TaskSet], command: &Live, out: &mut Vec<Effect>)
     enable_new(set, command.unit, out);
 }
 
+/// Tells a unit of the commands of its set that became enabled.
+pub(crate) fn tell(sets: &mut [TaskSet], unit: u16, out: &mut Vec<Effect>)
+    requires unit { unit < length sets.old }
+    requires room { vec_len out.old + count_by is_new (slice_index_or sets.old unit (opened 0)).list ≤ vec_capacity out.old }
+    ensures sets { sets.new ≡ slice_set sets.old unit (all_given (slice_index_or sets.old unit (opened 0))) }
+    ensures effects { out.new.items ≡ out.old.items ++ enable_effects unit (slice_index_or sets.old unit (opened 0)).list }
+    ensures spent { vec_len out.new ≡ vec_len out.old + count_by is_new (slice_index_or sets.old unit (opened 0)).list }
+    ensures capacity { vec_capacity out.new ≡ vec_capacity out.old }
+{
+    let set = &mut sets[usize::from(unit)];
+    enable_new(set, unit, out);
+}
+
 /// Tells a unit of the commands that became enabled, the oldest first.
 pub(crate) fn enable_new(set: &mut TaskSet, unit: u16, out: &mut Vec<Effect>)
     requires room { vec_len out.old + count_by is_new set.old.list ≤ vec_capacity out.old }
     ensures set { set.new ≡ all_given set.old }
     ensures effects { out.new.items ≡ out.old.items ++ enable_effects unit set.old.list }
     ensures spent { vec_len out.new ≡ vec_len out.old + count_by is_new set.old.list }
+    ensures capacity { vec_capacity out.new ≡ vec_capacity out.old }
 {
     while let Some(ticket) = set.next_new() {
         out.push_reserved(Effect::Enable { ticket, unit });
