@@ -10,6 +10,7 @@ pub mod DeliveryLemmas
 pub mod RefusalLemmas
 pub mod ArrivedLemmas
 pub mod ReceiveLemmas
+pub mod WaitLemmas
 pub mod AgreeLemmas
 pub mod TurnLemmas
 pub mod ApartLemmas

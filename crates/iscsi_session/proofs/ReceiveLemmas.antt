@@ -46,7 +46,7 @@ missing_one o t a n =
 missing_none : (o : Setting) (t : Trace) (a : Arrival) (n : ℕ) → is_immediate a.request ≡ false → received_by (abort_missing o t a n) ≡ []
 missing_none o t a n numbered = ap (λ b. received_by (cond (b && nat_le (exp_of o t) n && nat_le n (max_of o t) && nat_lt n a.number) ((cond (is_received t n) [] (Voids n ∷ [])) ++ answer a 0) (answer a 1))) numbered
 
-abbrev abort_as : Setting → Trace → Arrival → Option Command → Option Arrival → List Mark
+abbrev pub abort_as : Setting → Trace → Arrival → Option Command → Option Arrival → List Mark
 abort_as o t a c h = elim c [
   | Some c ↦ Leaves c ∷ answer a 0
   | None ↦ elim h [ Some h ↦ Empties h ∷ answer a 0 | None ↦ abort_missing o t a (lift (exp_of o t) (ref_cmd_sn a.request)) ]

@@ -120,30 +120,3 @@ unadmitted n [] h = refl
 unadmitted n (item ∷ t) h =
     let parts = or_none (is_received t n) (contains (filter_map number_received item) n) (sym (received-item item t n) ∙ h) in
     ap (λ xs. shown (admits_at n) t ++ xs) (unadmitted_item n item parts.1) ∙ append-nil (shown (admits_at n) t) ∙ unadmitted n t parts.0
-
--- ---- functions that wait
-
-append_none : {A : Type 0} (xs ys : List A) → xs ++ ys ≡ [] → (xs ≡ []) × (ys ≡ [])
-append_none [] ys h = (refl, h)
-append_none (x ∷ xs) ys h = absurd cc
-
--- an item in which none begins to wait
-none_through : (item : List Mark) → filter_map waits item ≡ [] → waiting_through item [] ≡ []
-none_through [] h = refl
-none_through (Admits a ∷ ms) h = none_through ms h
-none_through (Delivers a ∷ ms) h = none_through ms h
-none_through (Executes a ∷ ms) h = none_through ms h
-none_through (Voids n ∷ ms) h = none_through ms h
-none_through (Empties a ∷ ms) h = none_through ms h
-none_through (Waits a ∷ ms) h = absurd cc
-none_through (Leaves c ∷ ms) h = none_through ms h
-none_through (Enters c ∷ ms) h = none_through ms h
-none_through (Sends conn reply ∷ ms) h = none_through ms h
-none_through (Ignores why ∷ ms) h = none_through ms h
-
--- where none ever began to wait, none waits
-pub none_waiting : (t : Trace) → shown waits t ≡ [] → waiting t ≡ []
-none_waiting [] h = refl
-none_waiting (item ∷ t) h =
-    let parts = append_none (shown waits t) (filter_map waits item) h in
-    ap (waiting_through item) (none_waiting t parts.0) ∙ none_through item parts.1

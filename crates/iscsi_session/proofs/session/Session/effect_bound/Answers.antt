@@ -14,6 +14,6 @@ overflow_add-result-2 c =
 pub returns-clause-bound : goal.returns-clause-bound
 returns-clause-bound c = λ o h stands.
     let held : c.self.inside.held ≡ count_by is_held c.args.self.now.window.places = c.self.invariant.4 ∙ ap (λ (s : Core). count_by is_held s.window.places) c.self.view_is in
-    let lives : c.len.result ≡ length c.args.self.now.live = c.len.ensures ∙ c.self.inside.live.ok.0 ∙ ap (λ (s : Core). length s.live) c.self.view_is in
+    let lives : c.len-2.result ≡ length c.args.self.now.live = c.len-2.ensures ∙ c.self.inside.live.ok.0 ∙ ap (λ (s : Core). length s.live) c.self.view_is in
     let waits : length c.self.inside.waiting.items ≡ length c.args.self.now.waiting = ap (λ (s : Core). length s.waiting) c.self.view_is in
-    omega (arith, held, lives, waits, c.self.inside.waiting.ok.0, bound_is o c.args.self.now h stands)
+    omega (arith, held, lives, waits, c.len.ensures, c.self.inside.waiting.ok.0, bound_is o c.args.self.now h stands)
