@@ -31,3 +31,4 @@ pub mod GivingLemmas
 pub mod EnablingLemmas
 pub mod MissingLemmas
 pub mod AbortLemmas
+pub mod AbortParts

@@ -1,0 +1,187 @@
+-- What ABORT TASK comes to, by what a session keeps, and by the definitions.
+use Rattle.std.proofs.Common.{◌≡◌, ℕ, suc, ◌+◌, ◌-◌, ◌<◌, ◌≤◌, ◌==◌, ◌&&◌, ◌||◌, ◌^◌, not, ⊎_elim, cond, Bool, true, false, nat_lt, nat_le, List, [], ◌∷◌, ◌++◌, length, map, filter, Option, Some, None, option_map, refl, ap, sym, subst, ◌∙◌, arith, eq-eqb}
+use Rattle.std.specs.List.{list_any, filter_map}
+use Rattle.std.proofs.lemmas.Bool.{cases_lt, false≢true, eqb-true}
+use Rattle.std.proofs.lemmas.Bool.Decides.{nat_tests}
+use Rattle.iscsi_wire.specs.declared.request.Request.{Request}
+use Rattle.iscsi_wire.specs.Serial.{wire, lift}
+use Rattle.iscsi_wire.specs.Fields.{is_immediate, rtt, cmd_sn, ref_cmd_sn}
+use Rattle.iscsi_window.specs.declared.answer.Place.{Place}
+use Rattle.iscsi_window.specs.declared.answer.Place.TheVariants.{Inside, Outside as NoPlace}
+use Rattle.iscsi_window.specs.Windows.{Received, number_expected, room_of, at_place, place_in, find_command, number_shown}
+use Rattle.iscsi_session.specs.declared.outcome.Outcome.{Outcome}
+use Rattle.iscsi_session.specs.declared.outcome.Outcome.TheVariants.{Respond, Abort, AbortAll, Empty as EmptyNumber, Void as VoidNumber}
+use Rattle.iscsi_session.specs.declared.session.live.Live.{Live}
+use Rattle.iscsi_session.specs.Settings.{Setting}
+use Rattle.iscsi_session.specs.Trace.{Arrival, Command, Mark, Executes, Voids, Empties, Leaves, Trace, first_of, is_received, is_among, held, live, live_in}
+use Rattle.iscsi_session.specs.Execution.{exp_of, max_of, unfinished}
+use Rattle.iscsi_session.specs.Management.{answer, live_with_tag, held_command, abort_missing, abort_task}
+use Rattle.iscsi_session.specs.Standing.{Core, task_of, kept, are_apart, WindowAgrees, Agrees, Settled}
+use Rattle.iscsi_session.specs.Functions.{missing_at, tagged_in, abort_by, covers_ticket}
+use Rattle.iscsi_session.proofs.BoolLemmas.{and_parts, or_none, not_true}
+use Rattle.iscsi_session.proofs.ApartLemmas.{apart-filter}
+use Rattle.iscsi_session.proofs.DeliveryLemmas.{IsQuiet}
+use Rattle.iscsi_session.proofs.WindowParts.{next_expected, WindowAgrees-quiet}
+use Rattle.iscsi_session.proofs.CommandParts.{Untouched, CommandsAgree-untouched}
+use Rattle.iscsi_session.proofs.ReplyParts.{RepliesAgree-quiet}
+use Rattle.iscsi_session.proofs.SetParts.{SetsAgree-untouched}
+use Rattle.iscsi_session.proofs.EnablingLemmas.{EnabledSoFar-untouched}
+use Rattle.iscsi_session.proofs.AgreeLemmas.{unfinished-untouched}
+use Rattle.iscsi_session.proofs.MissingLemmas.{inside_place, outside_place}
+use Rattle.iscsi_session.proofs.AbortLemmas.{held_command-is, held_command-held, held_command-none, tagged_in-is}
+
+-- ---- one command by its ticket
+
+none_filtered : (k : ℕ) (ds : List Command) → is_among k ds ≡ false → filter (λ d. d.ticket == k) ds ≡ []
+none_filtered k [] h = refl
+none_filtered k (d ∷ ds) h =
+    let parts = or_none (d.ticket == k) (is_among k ds) h in
+    ap (λ b. cond b (d ∷ filter (λ e. e.ticket == k) ds) (filter (λ e. e.ticket == k) ds)) parts.0 ∙ none_filtered k ds parts.1
+
+-- a command that is found is the only one with its ticket
+pub only_one : (q : Command → Bool) (ds : List Command) (c : Command) → are_apart ds ≡ true → first_of (filter q ds) ≡ Some c → filter (λ d. d.ticket == c.ticket) ds ≡ c ∷ []
+only_one q [] c apart found = absurd cc
+only_one q (x ∷ ds) c apart found =
+    let parts = and_parts (not (is_among x.ticket ds)) (are_apart ds) apart in
+    let alone : is_among x.ticket ds ≡ false = not_true (is_among x.ticket ds) parts.0 in
+    let others : List Command = filter (λ d. d.ticket == c.ticket) ds in
+    elim (q x) as (λ b. first_of (cond b (x ∷ filter q ds) (filter q ds)) ≡ Some c → cond (x.ticket == c.ticket) (x ∷ others) others ≡ c ∷ []) [
+      | true ↦ λ here.
+          let same : x ≡ c = cc in
+          let ticket : x.ticket ≡ c.ticket = ap (λ (d : Command). d.ticket) same in
+          ap (λ b. cond b (x ∷ others) others) (eq-eqb x.ticket c.ticket ticket)
+          ∙ ap (λ ds'. x ∷ ds') (none_filtered c.ticket ds (ap (λ k. is_among k ds) (sym ticket) ∙ alone))
+          ∙ ap (λ d. d ∷ []) same
+      | false ↦ λ later.
+          let rest : others ≡ c ∷ [] = only_one q ds c parts.1 later in
+          elim (x.ticket == c.ticket) as (λ b. (x.ticket == c.ticket) ≡ b → cond b (x ∷ others) others ≡ c ∷ []) [
+            | true ↦ λ is. absurd (let none : [] ≡ c ∷ [] = sym (none_filtered c.ticket ds (ap (λ k. is_among k ds) (sym (eqb-true x.ticket c.ticket is)) ∙ alone)) ∙ rest in cc)
+            | false ↦ λ is. rest
+          ] refl
+    ] found
+
+-- ---- what it comes to
+
+-- a live command leaves
+pub record AbortsOne (o : Setting) (t : Trace) (a : Arrival) (unit ticket : ℕ) : Type 0 where
+  pub command : Command
+  pub marks : abort_task o t a unit ≡ Leaves command ∷ answer a 0
+  pub ticket_is : command.ticket ≡ ticket
+  pub found : live_with_tag t (rtt a.request) unit ≡ Some command
+  pub one : filter (λ d. covers_ticket ticket (task_of o d)) (live_in unit t) ≡ command ∷ []
+
+-- a held request is taken out
+pub record EmptiesHeld (o : Setting) (w : Received) (t : Trace) (a : Arrival) (unit sn : ℕ) : Type 0 where
+  pub request : Arrival
+  pub marks : abort_task o t a unit ≡ Empties request ∷ answer a 0
+  pub held_is : held t request.number ≡ Some request
+  pub low : number_expected w ≤ request.number
+  pub high : request.number < number_expected w + length w.places
+  pub shown : sn ≡ wire request.number
+
+-- a number is received without a request, if it wasn't received before
+pub record VoidsMissing (o : Setting) (w : Received) (t : Trace) (a : Arrival) (unit sn : ℕ) : Type 0 where
+  pub marks : abort_task o t a unit ≡ cond (is_received t (lift (number_expected w) sn)) [] (Voids (lift (number_expected w) sn) ∷ []) ++ answer a 0
+  pub low : number_expected w ≤ lift (number_expected w) sn
+  pub high : lift (number_expected w) sn < number_expected w + room_of w
+  pub sn_is : sn ≡ ref_cmd_sn a.request
+
+-- ABORT TASK by the definitions is what the session says
+abbrev pub AbortsAs : Setting → Received → Trace → Arrival → ℕ → Outcome → Type 0
+AbortsAs o w t a unit (Respond response) = abort_task o t a unit ≡ answer a response
+AbortsAs o w t a unit (Abort ticket) = AbortsOne o t a unit ticket
+AbortsAs o w t a unit (AbortAll cover) = ⊥
+AbortsAs o w t a unit (EmptyNumber sn) = EmptiesHeld o w t a unit sn
+AbortsAs o w t a unit (VoidNumber sn) = VoidsMissing o w t a unit sn
+
+-- by what is found
+abbrev marks_by : Setting → Trace → Arrival → Option Command → Option Arrival → List Mark
+marks_by o t a x y =
+    elim x [
+      | Some c ↦ Leaves c ∷ answer a 0
+      | None ↦ elim y [ Some h ↦ Empties h ∷ answer a 0 | None ↦ abort_missing o t a (lift (exp_of o t) (ref_cmd_sn a.request)) ]
+    ]
+
+abbrev outcome_by_found : Core → Request → Option Live → Option ℕ → Outcome
+outcome_by_found s r x y =
+    elim x [
+      | Some l ↦ Abort l.ticket
+      | None ↦ elim y [ Some k ↦ EmptyNumber (number_shown s.window k) | None ↦ missing_at s r (place_in s.window (ref_cmd_sn r)) ]
+    ]
+
+-- what both find
+pub record Found (o : Setting) (s : Core) (t : Trace) (a : Arrival) (unit : ℕ) : Type 0 where
+  pub window : WindowAgrees o s.window t
+  pub lives : s.live ≡ map kept (live t)
+  pub apart : are_apart (live t) ≡ true
+  pub held_same : option_map (λ (h : Arrival). h.number) (held_command o t (rtt a.request) unit a.number) ≡ option_map (λ k. number_expected s.window + k) (find_command s.window (rtt a.request) unit (cmd_sn a.request))
+  pub held_inside : (h : Arrival) → held_command o t (rtt a.request) unit a.number ≡ Some h → (held t h.number ≡ Some h) × ((number_expected s.window ≤ h.number) × (h.number < number_expected s.window + length s.window.places))
+
+module _ (o : Setting) (s : Core) (t : Trace) (a : Arrival) (unit : ℕ) (f : Found o s t a unit) where
+  found_live : (c : Command) → live_with_tag t (rtt a.request) unit ≡ Some c → AbortsAs o s.window t a unit (abort_by s a.request unit)
+  found_live c found =
+      let outcome : abort_by s a.request unit ≡ Abort c.ticket =
+      ap (λ x. outcome_by_found s a.request x (find_command s.window (rtt a.request) unit (cmd_sn a.request))) (tagged_in-is s t (rtt a.request) unit f.lives ∙ ap (option_map kept) found) in
+      subst (AbortsAs o s.window t a unit) (sym outcome) (record {
+        command = c;
+        marks = ap (λ x. marks_by o t a x (held_command o t (rtt a.request) unit a.number)) found;
+        ticket_is = refl;
+        found = found;
+        one = only_one (λ d. Rattle.iscsi_wire.specs.Fields.itt d.arrival.request == rtt a.request) (live_in unit t) c (apart-filter (λ d. d.unit == unit) (live t) f.apart) found;
+      })
+
+  none_live : live_with_tag t (rtt a.request) unit ≡ None
+      → (abort_by s a.request unit ≡ outcome_by_found s a.request None (find_command s.window (rtt a.request) unit (cmd_sn a.request))) × (abort_task o t a unit ≡ marks_by o t a None (held_command o t (rtt a.request) unit a.number))
+  none_live none = (
+    ap (λ x. outcome_by_found s a.request x (find_command s.window (rtt a.request) unit (cmd_sn a.request))) (tagged_in-is s t (rtt a.request) unit f.lives ∙ ap (option_map kept) none),
+    ap (λ x. marks_by o t a x (held_command o t (rtt a.request) unit a.number)) none,
+  )
+
+  found_held : (h : Arrival) → live_with_tag t (rtt a.request) unit ≡ None → held_command o t (rtt a.request) unit a.number ≡ Some h → AbortsAs o s.window t a unit (abort_by s a.request unit)
+  found_held h none found = by_place (find_command s.window (rtt a.request) unit (cmd_sn a.request)) refl (sym (ap (option_map (λ (x : Arrival). x.number)) found) ∙ f.held_same)
+    where
+      by_place : (y : Option ℕ) → find_command s.window (rtt a.request) unit (cmd_sn a.request) ≡ y → Some h.number ≡ option_map (λ k. number_expected s.window + k) (find_command s.window (rtt a.request) unit (cmd_sn a.request))
+          → AbortsAs o s.window t a unit (abort_by s a.request unit)
+      by_place None is same = absurd (let z : Some h.number ≡ None = same ∙ ap (option_map (λ k. number_expected s.window + k)) is in cc)
+      by_place (Some k) is same =
+          let z : Some h.number ≡ Some (number_expected s.window + k) = same ∙ ap (option_map (λ k'. number_expected s.window + k')) is in
+          let number : h.number ≡ number_expected s.window + k = cc in
+          let outcome : abort_by s a.request unit ≡ EmptyNumber (number_shown s.window k) = (none_live none).0 ∙ ap (outcome_by_found s a.request None) is in
+          let inside = f.held_inside h found in
+          subst (AbortsAs o s.window t a unit) (sym outcome) (record {
+            request = h;
+            marks = (none_live none).1 ∙ ap (marks_by o t a None) found;
+            held_is = inside.0;
+            low = inside.1.0;
+            high = inside.1.1;
+            shown = ap wire (sym number);
+          })
+
+  -- nothing is found
+  pub record Neither : Type 0 where
+    outcome : abort_by s a.request unit ≡ missing_at s a.request (place_in s.window (ref_cmd_sn a.request))
+    marks : abort_task o t a unit ≡ abort_missing o t a (lift (exp_of o t) (ref_cmd_sn a.request))
+
+  neither : live_with_tag t (rtt a.request) unit ≡ None → held_command o t (rtt a.request) unit a.number ≡ None → Neither
+  neither none nowhere =
+      let no_place : find_command s.window (rtt a.request) unit (cmd_sn a.request) ≡ None = no_number (find_command s.window (rtt a.request) unit (cmd_sn a.request)) (sym (ap (option_map (λ (x : Arrival). x.number)) nowhere) ∙ f.held_same) in
+      record {
+        outcome = (none_live none).0 ∙ ap (outcome_by_found s a.request None) no_place;
+        marks = (none_live none).1 ∙ ap (marks_by o t a None) nowhere;
+      }
+    where
+      no_number : (y : Option ℕ) → None ≡ option_map (λ k. number_expected s.window + k) y → y ≡ None
+      no_number None h = refl
+      no_number (Some k) h = absurd cc
+
+  -- the three cases
+  pub by_found : (Neither → AbortsAs o s.window t a unit (abort_by s a.request unit)) → AbortsAs o s.window t a unit (abort_by s a.request unit)
+  by_found missing = by_live (live_with_tag t (rtt a.request) unit) refl
+    where
+      by_request : live_with_tag t (rtt a.request) unit ≡ None → (y : Option Arrival) → held_command o t (rtt a.request) unit a.number ≡ y → AbortsAs o s.window t a unit (abort_by s a.request unit)
+      by_request none (Some h) is = found_held h none is
+      by_request none None is = missing (neither none is)
+
+      by_live : (x : Option Command) → live_with_tag t (rtt a.request) unit ≡ x → AbortsAs o s.window t a unit (abort_by s a.request unit)
+      by_live (Some c) is = found_live c is
+      by_live None is = by_request is (held_command o t (rtt a.request) unit a.number) refl
