@@ -1,5 +1,5 @@
 -- What ABORT TASK comes to, by what a session keeps, and by the definitions.
-use Rattle.std.proofs.Common.{◌≡◌, ℕ, suc, ◌+◌, ◌-◌, ◌<◌, ◌≤◌, ◌==◌, ◌&&◌, ◌||◌, ◌^◌, not, ⊎_elim, cond, Bool, true, false, nat_lt, nat_le, List, [], ◌∷◌, ◌++◌, length, map, filter, Option, Some, None, option_map, refl, ap, sym, subst, ◌∙◌, arith, eq-eqb}
+use Rattle.std.proofs.Common.{◌≡◌, ℕ, suc, ◌+◌, ◌-◌, ◌<◌, ◌≤◌, ◌==◌, ◌&&◌, ◌||◌, ◌^◌, not, ⊎_elim, cond, Bool, true, false, nat_lt, nat_le, List, [], ◌∷◌, ◌++◌, length, map, filter, take, position, Option, Some, None, option_map, refl, ap, sym, subst, ◌∙◌, arith, eq-eqb}
 use Rattle.std.specs.List.{list_any, filter_map}
 use Rattle.std.proofs.lemmas.Bool.{cases_lt, false≢true, eqb-true}
 use Rattle.std.proofs.lemmas.Bool.Decides.{nat_tests}
@@ -8,7 +8,7 @@ use Rattle.iscsi_wire.specs.Serial.{wire, lift}
 use Rattle.iscsi_wire.specs.Fields.{is_immediate, rtt, cmd_sn, ref_cmd_sn}
 use Rattle.iscsi_window.specs.declared.answer.Place.{Place}
 use Rattle.iscsi_window.specs.declared.answer.Place.TheVariants.{Inside, Outside as NoPlace}
-use Rattle.iscsi_window.specs.Windows.{Received, number_expected, room_of, at_place, place_in, find_command, number_shown}
+use Rattle.iscsi_window.specs.Windows.{Received, number_expected, room_of, at_place, place_in, is_command, find_command, number_shown}
 use Rattle.iscsi_session.specs.declared.outcome.Outcome.{Outcome}
 use Rattle.iscsi_session.specs.declared.outcome.Outcome.TheVariants.{Respond, Abort, AbortAll, Empty as EmptyNumber, Void as VoidNumber}
 use Rattle.iscsi_session.specs.declared.session.live.Live.{Live}
@@ -16,9 +16,11 @@ use Rattle.iscsi_session.specs.Settings.{Setting}
 use Rattle.iscsi_session.specs.Trace.{Arrival, Command, Mark, Executes, Voids, Empties, Leaves, Trace, first_of, is_received, is_among, held, live, live_in}
 use Rattle.iscsi_session.specs.Execution.{exp_of, max_of, unfinished}
 use Rattle.iscsi_session.specs.Management.{answer, live_with_tag, held_command, abort_missing, abort_task}
+use Rattle.iscsi_session.specs.Agenda.{arrival_of}
 use Rattle.iscsi_session.specs.Standing.{Core, task_of, kept, are_apart, WindowAgrees, Agrees, Settled}
 use Rattle.iscsi_session.specs.Functions.{missing_at, tagged_in, abort_by, covers_ticket}
 use Rattle.iscsi_session.proofs.BoolLemmas.{and_parts, or_none, not_true}
+use Rattle.iscsi_session.proofs.Missing.{expected_gone, expected_low}
 use Rattle.iscsi_session.proofs.ApartLemmas.{apart-filter}
 use Rattle.iscsi_session.proofs.DeliveryLemmas.{IsQuiet}
 use Rattle.iscsi_session.proofs.WindowParts.{next_expected, WindowAgrees-quiet}
@@ -26,7 +28,7 @@ use Rattle.iscsi_session.proofs.CommandParts.{Untouched, CommandsAgree-untouched
 use Rattle.iscsi_session.proofs.ReplyParts.{RepliesAgree-quiet}
 use Rattle.iscsi_session.proofs.SetParts.{SetsAgree-untouched}
 use Rattle.iscsi_session.proofs.EnablingLemmas.{EnabledSoFar-untouched}
-use Rattle.iscsi_session.proofs.AgreeLemmas.{unfinished-untouched}
+use Rattle.iscsi_session.proofs.AgreeLemmas.{settled_expected, settled_max, unfinished-untouched}
 use Rattle.iscsi_session.proofs.MissingLemmas.{inside_place, outside_place}
 use Rattle.iscsi_session.proofs.AbortLemmas.{held_command-is, held_command-held, held_command-none, tagged_in-is}
 
@@ -185,3 +187,144 @@ module _ (o : Setting) (s : Core) (t : Trace) (a : Arrival) (unit : ℕ) (f : Fo
       by_live : (x : Option Command) → live_with_tag t (rtt a.request) unit ≡ x → AbortsAs o s.window t a unit (abort_by s a.request unit)
       by_live (Some c) is = found_live c is
       by_live None is = by_request is (held_command o t (rtt a.request) unit a.number) refl
+
+-- ---- an immediate function
+
+-- the numbers up to MaxCmdSN
+within_window : (e n long unfinished : ℕ) → 1 ≤ e → unfinished ≤ long → nat_le n (e + long - 1 - unfinished) ≡ nat_lt n (e + (long - unfinished))
+within_window e n long unfinished some few = ⊎_elim
+    (λ inside. (let x : nat_le n (e + long - 1 - unfinished) ≡ true = grind (arith, nat_tests) in x) ∙ (let y : nat_lt n (e + (long - unfinished)) ≡ true = grind (arith, nat_tests) in sym y))
+    (λ beyond. (let x : nat_le n (e + long - 1 - unfinished) ≡ false = grind (arith, nat_tests) in x) ∙ (let y : nat_lt n (e + (long - unfinished)) ≡ false = grind (arith, nat_tests) in sym y))
+    (cases_lt n (e + (long - unfinished)))
+
+module _ (o : Setting) (s : Core) (t : Trace) (a : Arrival) (unit : ℕ) (f : Found o s t a unit) where
+  -- a number is voided where it is in the window and below the function's own
+  immediate_missing : is_immediate a.request ≡ true → exp_of o t ≡ number_expected s.window → max_of o t ≡ number_expected s.window + length s.window.places - 1 - s.window.unfinished → a.number ≡ lift (number_expected s.window) (cmd_sn a.request)
+      → Neither o s t a unit f → AbortsAs o s.window t a unit (abort_by s a.request unit)
+  immediate_missing at_once exp max own x =
+      let w : Received = s.window in
+      let r : Request = a.request in
+      let e : ℕ = number_expected w in
+      let n : ℕ = lift e (ref_cmd_sn r) in
+      let below : Bool = nat_lt n a.number in
+      let inside : Bool = nat_le e n && nat_lt n (e + room_of w) in
+      let voids : List Mark = cond (is_received t n) [] (Voids n ∷ []) ++ answer a 0 in
+      let some : 1 ≤ e = omega arith in
+      let marks : abort_task o t a unit ≡ cond (inside && below) voids (answer a 1) =
+      x.marks ∙ ap (λ y. abort_missing o t a (lift y (ref_cmd_sn r))) exp
+      ∙ ap (λ b. cond (b && nat_le (exp_of o t) n && nat_le n (max_of o t) && below) voids (answer a 1)) at_once
+      ∙ ap (λ y. cond (nat_le y n && nat_le n (max_of o t) && below) voids (answer a 1)) exp
+      ∙ ap (λ y. cond (nat_le e n && nat_le n y && below) voids (answer a 1)) max
+      ∙ ap (λ b. cond (nat_le e n && b && below) voids (answer a 1)) (within_window e n (length w.places) w.unfinished some f.window.few) in
+      elim inside as (λ b. inside ≡ b → abort_task o t a unit ≡ cond (b && below) voids (answer a 1) → AbortsAs o w t a unit (abort_by s r unit)) [
+        | false ↦ λ is m.
+            let outcome : abort_by s r unit ≡ Respond 1 = x.outcome ∙ ap (missing_at s r) (outside_place w n (ref_cmd_sn r) is refl) in
+            subst (AbortsAs o w t a unit) (sym outcome) m
+        | true ↦ λ is m.
+            let low : e ≤ n = grind (arith, nat_tests) in
+            let high : n < e + room_of w = grind (arith, nat_tests) in
+            let outcome : abort_by s r unit ≡ cond below (VoidNumber (ref_cmd_sn r)) (Respond 1) =
+            x.outcome ∙ ap (missing_at s r) (inside_place w n (ref_cmd_sn r) low high refl)
+            ∙ ap (λ b. cond (b && nat_lt (e + (n - e)) (lift e (cmd_sn r))) (VoidNumber (ref_cmd_sn r)) (Respond 1)) at_once
+            ∙ ap (λ y. cond (nat_lt y (lift e (cmd_sn r))) (VoidNumber (ref_cmd_sn r)) (Respond 1)) (let z : e + (n - e) ≡ n = omega (arith, low) in z)
+            ∙ ap (λ y. cond (nat_lt n y) (VoidNumber (ref_cmd_sn r)) (Respond 1)) (sym own) in
+            subst (AbortsAs o w t a unit) (sym outcome)
+            (elim below as (λ b. abort_task o t a unit ≡ cond b voids (answer a 1) → AbortsAs o w t a unit (cond b (VoidNumber (ref_cmd_sn r)) (Respond 1))) [
+              | true ↦ λ said. record { marks = said; low = low; high = high; sn_is = refl }
+              | false ↦ λ said. said
+            ] m)
+      ] refl marks
+
+-- what a settled session and the definitions find
+found_settled : (o : Setting) (s : Core) (t : Trace) (a : Arrival) (unit : ℕ) → Settled o s t → unit < o.units → a.number ≡ lift (number_expected s.window) (cmd_sn a.request) → Found o s t a unit
+found_settled o s t a unit h inside own =
+    let e : ℕ = number_expected s.window in
+    let w = h.agrees.window in
+    let exp : exp_of o t ≡ e = settled_expected o s t h in
+    record {
+      window = w;
+      lives = h.agrees.commands.commands;
+      apart = h.agrees.commands.apart;
+      held_same = ap (λ n. option_map (λ (x : Arrival). x.number) (held_command o t (rtt a.request) unit n)) (own ∙ ap (λ x. lift x (cmd_sn a.request)) (sym exp))
+          ∙ held_command-is o s.window t (rtt a.request) unit (cmd_sn a.request) w exp inside;
+      held_inside = λ x found. let k = held_command-held o t (rtt a.request) unit a.number x found in (k.0, (omega (arith, k.1.0, exp), omega (arith, k.1.1, exp, w.size)));
+    }
+
+pub AbortsAs-settled : (o : Setting) (s : Core) (t : Trace) (a : Arrival) (unit : ℕ) → Settled o s t → is_immediate a.request ≡ true → unit < o.units → a.number ≡ lift (number_expected s.window) (cmd_sn a.request)
+    → AbortsAs o s.window t a unit (abort_by s a.request unit)
+AbortsAs-settled o s t a unit h at_once inside own =
+    let f : Found o s t a unit = found_settled o s t a unit h inside own in
+    by_found o s t a unit f (immediate_missing o s t a unit f at_once (settled_expected o s t h) (settled_max o s t h) own)
+
+-- an immediate request begins to execute, and nothing is due still
+pub Settled-executes : (o : Setting) (s : Core) (t : Trace) (a : Arrival) → Settled o s t → Settled o s ((Executes a ∷ []) ∷ t)
+Settled-executes o s t a h =
+    let b = h.agrees in
+    let item : List Mark = Executes a ∷ [] in
+    let u : Untouched item = record { enters_none = refl; leaves_no = λ k. refl } in
+    let q : IsQuiet item = record { receives = refl; admits = λ n. refl; delivers_none = refl; delivers_no = λ n. refl; empties_no = λ n. refl } in
+    record {
+      agrees = record {
+        events = b.events;
+        window = WindowAgrees-quiet o s.window t item q b.window;
+        replies = RepliesAgree-quiet o s.conns t item refl b.replies;
+        commands = CommandsAgree-untouched o s.live s.entered t item u b.commands;
+        sets = SetsAgree-untouched o s.sets t item u b.sets;
+        unfinished = b.unfinished ∙ sym (unfinished-untouched item t u);
+        enabled = EnabledSoFar-untouched o item t u b.enabled;
+        none_waits = ap (λ as'. as' ++ []) b.none_waits;
+      };
+      none_due = h.none_due;
+    }
+
+-- ABORT TASK that is immediate, at its arrival
+pub AbortsAs-arrived : (o : Setting) (s : Core) (index : ℕ) (t : Trace) (r : Request) (unit : ℕ) → Settled o s t → is_immediate r ≡ true → unit < o.units
+    → AbortsAs o s.window ((Executes (arrival_of o index t r) ∷ []) ∷ t) (arrival_of o index t r) unit (abort_by s r unit)
+AbortsAs-arrived o s index t r unit h at_once inside =
+    let a : Arrival = arrival_of o index t r in
+    AbortsAs-settled o s ((Executes a ∷ []) ∷ t) a unit (Settled-executes o s t a h) at_once inside (ap (λ e. lift e (cmd_sn r)) (settled_expected o s t h))
+
+-- ---- a numbered function at its turn
+
+-- ExpCmdSN isn't below the next number of the window
+pub expected_from : (o : Setting) (w : Received) (t : Trace) → WindowAgrees o w t → number_expected w ≤ exp_of o t
+expected_from o w t h =
+    let e : ℕ = exp_of o t in
+    ⊎_elim (λ lt. absurd (false≢true (sym (expected_gone o.first t) ∙ h.below e (expected_low o.first t) lt))) (λ ge. ge) (cases_lt e (number_expected w))
+
+-- the number of the request that turned last, by what the wire shows
+last_number : (e n sn : ℕ) → 2 ^ 32 ≤ e → n + 1 ≡ e → wire sn ≡ wire n → lift e sn ≡ n
+last_number e n sn big next shows = omega (arith, next, shows)
+
+module _ (o : Setting) (s : Core) (t : Trace) (a : Arrival) (unit : ℕ) where
+  -- no number is voided by it
+  numbered_missing : (f : Found o s t a unit) → is_immediate a.request ≡ false → Neither o s t a unit f → AbortsAs o s.window t a unit (abort_by s a.request unit)
+  numbered_missing f later x =
+      let r : Request = a.request in
+      let n : ℕ = lift (exp_of o t) (ref_cmd_sn r) in
+      let outcome : abort_by s r unit ≡ Respond 1 = x.outcome ∙ by_place (place_in s.window (ref_cmd_sn r)) in
+      let marks : abort_task o t a unit ≡ answer a 1 =
+      x.marks ∙ ap (λ b. cond (b && nat_le (exp_of o t) n && nat_le n (max_of o t) && nat_lt n a.number) (cond (is_received t n) [] (Voids n ∷ []) ++ answer a 0) (answer a 1)) later in
+      subst (AbortsAs o s.window t a unit) (sym outcome) marks
+    where
+      by_place : (p : Place) → missing_at s a.request p ≡ Respond 1
+      by_place NoPlace = refl
+      by_place (Inside k) = ap (λ b. cond (b && nat_lt (number_expected s.window + k) (lift (number_expected s.window) (cmd_sn a.request))) (VoidNumber (ref_cmd_sn a.request)) (Respond 1)) later
+
+  pub AbortsAs-numbered : WindowAgrees o s.window t → s.live ≡ map kept (live t) → are_apart (live t) ≡ true → is_immediate a.request ≡ false → a.number + 1 ≡ number_expected s.window → wire (cmd_sn a.request) ≡ wire a.number
+      → AbortsAs o s.window t a unit (abort_by s a.request unit)
+  AbortsAs-numbered w lives apart later next shows =
+      let e : ℕ = number_expected s.window in
+      let exp : e ≤ exp_of o t = expected_from o s.window t w in
+      let own : lift e (cmd_sn a.request) ≡ a.number = last_number e a.number (cmd_sn a.request) (omega arith) next shows in
+      let nowhere : held_command o t (rtt a.request) unit a.number ≡ None = held_command-none o t (rtt a.request) unit a.number (omega (arith, exp, next)) in
+      let no_place : find_command s.window (rtt a.request) unit (cmd_sn a.request) ≡ None =
+      ap (λ n. position (is_command (rtt a.request) unit) (take n s.window.places)) (let z : lift e (cmd_sn a.request) - e ≡ 0 = omega (arith, own, next) in z) in
+      let f : Found o s t a unit = record {
+        window = w;
+        lives = lives;
+        apart = apart;
+        held_same = ap (option_map (λ (x : Arrival). x.number)) nowhere ∙ sym (ap (option_map (λ k. e + k)) no_place);
+        held_inside = λ x found. absurd (let z : None ≡ Some x = sym nowhere ∙ found in cc);
+      } in
+      by_found o s t a unit f (numbered_missing f later)
