@@ -5,15 +5,15 @@ use Rattle.std.proofs.lemmas.Bool.{cases_lt, false≢true, eqb-true}
 use Rattle.std.proofs.lemmas.Bool.Decides.{nat_tests}
 use Rattle.iscsi_wire.specs.declared.request.Request.{Request}
 use Rattle.iscsi_wire.specs.Serial.{wire, lift}
-use Rattle.iscsi_wire.specs.Fields.{is_immediate, rtt, cmd_sn, ref_cmd_sn}
+use Rattle.iscsi_wire.specs.Fields.{connection_of, is_immediate, opcode, itt, rtt, cmd_sn, ref_cmd_sn}
 use Rattle.iscsi_window.specs.declared.answer.Place.{Place}
 use Rattle.iscsi_window.specs.declared.answer.Place.TheVariants.{Inside, Outside as NoPlace}
 use Rattle.iscsi_window.specs.Windows.{Received, number_expected, room_of, at_place, place_in, is_command, find_command, number_shown}
 use Rattle.iscsi_session.specs.declared.outcome.Outcome.{Outcome}
 use Rattle.iscsi_session.specs.declared.outcome.Outcome.TheVariants.{Respond, Abort, AbortAll, Empty as EmptyNumber, Void as VoidNumber}
 use Rattle.iscsi_session.specs.declared.session.live.Live.{Live}
-use Rattle.iscsi_session.specs.Settings.{Setting}
-use Rattle.iscsi_session.specs.Trace.{Arrival, Command, Mark, Executes, Voids, Empties, Leaves, Trace, first_of, is_received, is_among, held, live, live_in}
+use Rattle.iscsi_session.specs.Settings.{Setting, is_known}
+use Rattle.iscsi_session.specs.Trace.{Arrival, Command, Mark, Delivers, Executes, Voids, Empties, Leaves, Trace, first_of, is_received, is_among, held, live, live_in}
 use Rattle.iscsi_session.specs.Execution.{exp_of, max_of, unfinished}
 use Rattle.iscsi_session.specs.Management.{answer, live_with_tag, held_command, abort_missing, abort_task}
 use Rattle.iscsi_session.specs.Agenda.{arrival_of}
@@ -22,8 +22,9 @@ use Rattle.iscsi_session.specs.Functions.{missing_at, tagged_in, abort_by, cover
 use Rattle.iscsi_session.proofs.BoolLemmas.{and_parts, or_none, not_true}
 use Rattle.iscsi_session.proofs.Missing.{expected_gone, expected_low}
 use Rattle.iscsi_session.proofs.ApartLemmas.{apart-filter}
+use Rattle.iscsi_session.proofs.HeldLemmas.{held-number, admitted_of_held}
 use Rattle.iscsi_session.proofs.DeliveryLemmas.{IsQuiet}
-use Rattle.iscsi_session.proofs.WindowParts.{next_expected, WindowAgrees-quiet}
+use Rattle.iscsi_session.proofs.WindowParts.{Next, turned_window, WindowAgrees-quiet, WindowAgrees-turned}
 use Rattle.iscsi_session.proofs.CommandParts.{Untouched, CommandsAgree-untouched}
 use Rattle.iscsi_session.proofs.ReplyParts.{RepliesAgree-quiet}
 use Rattle.iscsi_session.proofs.SetParts.{SetsAgree-untouched}
@@ -129,7 +130,7 @@ module _ (o : Setting) (s : Core) (t : Trace) (a : Arrival) (unit : ℕ) (f : Fo
         marks = ap (λ x. marks_by o t a x (held_command o t (rtt a.request) unit a.number)) found;
         ticket_is = refl;
         found = found;
-        one = only_one (λ d. Rattle.iscsi_wire.specs.Fields.itt d.arrival.request == rtt a.request) (live_in unit t) c (apart-filter (λ d. d.unit == unit) (live t) f.apart) found;
+        one = only_one (λ d. itt d.arrival.request == rtt a.request) (live_in unit t) c (apart-filter (λ d. d.unit == unit) (live t) f.apart) found;
       })
 
   none_live : live_with_tag t (rtt a.request) unit ≡ None
@@ -328,3 +329,20 @@ module _ (o : Setting) (s : Core) (t : Trace) (a : Arrival) (unit : ℕ) where
         held_inside = λ x found. absurd (let z : None ≡ Some x = sym nowhere ∙ found in cc);
       } in
       by_found o s t a unit f (numbered_missing f later)
+
+-- ABORT TASK that is numbered, at its turn
+pub AbortsAs-turned : (o : Setting) (s : Core) (t : Trace) (r : Request) (unit : ℕ) → Agrees o s t → at_place s.window 0 ≡ Some (Some r) → (x : Next s.window t r)
+    → AbortsAs o (turned_window s.window) ((Delivers x.arrival ∷ []) ∷ t) x.arrival unit (abort_by (record s { window = turned_window s.window }) x.arrival.request unit)
+AbortsAs-turned o s t r unit h place x =
+    let a : Arrival = x.arrival in
+    let e : ℕ = number_expected s.window in
+    let item : List Mark = Delivers a ∷ [] in
+    let q : IsQuiet [] = record { receives = refl; admits = λ n. refl; delivers_none = refl; delivers_no = λ n. refl; empties_no = λ n. refl } in
+    let u : Untouched item = record { enters_none = refl; leaves_no = λ k. refl } in
+    let commands = CommandsAgree-untouched o s.live s.entered t item u h.commands in
+    let number : a.number ≡ e = held-number t e a x.held_is in
+    let admitted_is = admitted_of_held t e a x.held_is in
+    let regular = and_parts (not (is_immediate a.request) && not (opcode a.request == 0x02)) (is_known (connection_of a.request) o.conns) (h.window.requests e a admitted_is) in
+    let numbered : is_immediate a.request ≡ false = not_true (is_immediate a.request) (and_parts (not (is_immediate a.request)) (not (opcode a.request == 0x02)) regular.0).0 in
+    AbortsAs-numbered o (record s { window = turned_window s.window }) (item ∷ t) a unit (WindowAgrees-turned o s.window t r [] h.window place x q).agrees commands.commands commands.apart numbered
+    (let z : a.number + 1 ≡ number_expected (turned_window s.window) = omega (arith, number) in z) (h.window.numbers e a admitted_is ∙ ap wire (sym number))

@@ -128,6 +128,7 @@ module _ (item : List Mark) (t : Trace) (n : ℕ) (v : VoidsOne item n) where
         undelivered = λ k u. ap (λ b. b || is_delivered t k) (v.delivers_no k) ∙ h.undelivered k u;
         unemptied = λ k gone. ap (λ b. b || is_emptied t k) (v.empties_no k) ∙ h.unemptied k (or_none (is_received t k) (n == k) (sym (received-voids k) ∙ gone)).0;
         requests = λ k b found. h.requests k b (sym (ap first_of (admitted-voids k)) ∙ found);
+        numbers = λ k b found. h.numbers k b (sym (ap first_of (admitted-voids k)) ∙ found);
         delivered = ap (λ rs. shown delivers t ++ rs) v.delivers_none ∙ append-nil (shown delivers t) ∙ h.delivered
             ∙ same_range t (item ∷ t) (number_of_first o.first) (e - number_of_first o.first) (λ k l u. sym (request_at-voids k));
         few = omega (arith, h.few, long);
@@ -209,6 +210,7 @@ module _ (item : List Mark) (t : Trace) (n : ℕ) (v : EmptiesOne item n) where
         undelivered = λ k u. ap (λ b. b || is_delivered t k) (v.delivers_no k) ∙ a.undelivered k u;
         unemptied = λ k gone. let before : is_received t k ≡ false = sym (same_received k) ∙ gone in emptied-empties k ∙ ap (λ b. b || is_emptied t k) (apart_of k before) ∙ a.unemptied k before;
         requests = λ k b found. a.requests k b (sym (ap first_of (admitted-empties k)) ∙ found);
+        numbers = λ k b found. a.numbers k b (sym (ap first_of (admitted-empties k)) ∙ found);
         delivered = ap (λ rs. shown delivers t ++ rs) v.delivers_none ∙ append-nil (shown delivers t) ∙ a.delivered
             ∙ same_range t (item ∷ t) (number_of_first o.first) (e - number_of_first o.first) (λ k l u. sym (request_at-empties k (let no : (n == k) ≡ false = let lt : k < n = omega (arith, a.first) in grind (arith, nat_tests) in no)));
         few = omega (arith, a.few, long);
