@@ -1,6 +1,6 @@
 -- What ABORT TASK comes to, by what a session keeps, and by the definitions.
 use Rattle.std.proofs.Common.{◌≡◌, ℕ, suc, ◌+◌, ◌-◌, ◌<◌, ◌≤◌, ◌==◌, ◌&&◌, ◌||◌, ◌^◌, not, ⊎_elim, cond, Bool, true, false, nat_lt, nat_le, List, [], ◌∷◌, ◌++◌, length, map, filter, take, position, Option, Some, None, option_map, refl, ap, sym, subst, ◌∙◌, arith, eq-eqb}
-use Rattle.std.specs.List.{list_any, filter_map}
+use Rattle.std.specs.List.{list_any, flat_map, filter_map}
 use Rattle.std.proofs.lemmas.Bool.{cases_lt, false≢true, eqb-true}
 use Rattle.std.proofs.lemmas.Bool.Decides.{nat_tests}
 use Rattle.iscsi_wire.specs.declared.request.Request.{Request}
@@ -8,29 +8,32 @@ use Rattle.iscsi_wire.specs.Serial.{wire, lift}
 use Rattle.iscsi_wire.specs.Fields.{connection_of, is_immediate, opcode, itt, rtt, cmd_sn, ref_cmd_sn}
 use Rattle.iscsi_window.specs.declared.answer.Place.{Place}
 use Rattle.iscsi_window.specs.declared.answer.Place.TheVariants.{Inside, Outside as NoPlace}
-use Rattle.iscsi_window.specs.Windows.{Received, number_expected, room_of, at_place, place_in, is_command, find_command, number_shown}
+use Rattle.iscsi_window.specs.Windows.{Received, number_expected, room_of, at_place, with_place, place_in, is_command, voided, find_command, number_shown, emptied}
+use Rattle.iscsi_session.specs.declared.effect.Effect.TheVariants.{Void}
 use Rattle.iscsi_session.specs.declared.outcome.Outcome.{Outcome}
 use Rattle.iscsi_session.specs.declared.outcome.Outcome.TheVariants.{Respond, Abort, AbortAll, Empty as EmptyNumber, Void as VoidNumber}
 use Rattle.iscsi_session.specs.declared.session.live.Live.{Live}
 use Rattle.iscsi_session.specs.Settings.{Setting, is_known}
-use Rattle.iscsi_session.specs.Trace.{Arrival, Command, Mark, Delivers, Executes, Voids, Empties, Leaves, Trace, first_of, is_received, is_among, held, live, live_in}
+use Rattle.iscsi_session.specs.Trace.{Arrival, Command, Mark, Delivers, Executes, Voids, Empties, Leaves, Trace, first_of, contains, is_received, is_among, held, live, live_in}
 use Rattle.iscsi_session.specs.Execution.{exp_of, max_of, unfinished}
 use Rattle.iscsi_session.specs.Management.{answer, live_with_tag, held_command, abort_missing, abort_task}
 use Rattle.iscsi_session.specs.Agenda.{arrival_of}
 use Rattle.iscsi_session.specs.Standing.{Core, task_of, kept, are_apart, WindowAgrees, Agrees, Settled}
-use Rattle.iscsi_session.specs.Functions.{missing_at, tagged_in, abort_by, covers_ticket}
+use Rattle.iscsi_session.specs.Run.{effects_of_mark}
+use Rattle.iscsi_session.specs.Functions.{missing_at, tagged_in, abort_by, covers_ticket, void_effects}
 use Rattle.iscsi_session.proofs.BoolLemmas.{and_parts, or_none, not_true}
+use Rattle.iscsi_session.proofs.NumberLemmas.{wire-lift}
 use Rattle.iscsi_session.proofs.Missing.{expected_gone, expected_low}
 use Rattle.iscsi_session.proofs.ApartLemmas.{apart-filter}
 use Rattle.iscsi_session.proofs.HeldLemmas.{held-number, admitted_of_held}
-use Rattle.iscsi_session.proofs.DeliveryLemmas.{IsQuiet}
+use Rattle.iscsi_session.proofs.DeliveryLemmas.{IsQuiet, received-quiet, held-quiet}
 use Rattle.iscsi_session.proofs.WindowParts.{Next, turned_window, WindowAgrees-quiet, WindowAgrees-turned}
 use Rattle.iscsi_session.proofs.CommandParts.{Untouched, CommandsAgree-untouched}
 use Rattle.iscsi_session.proofs.ReplyParts.{RepliesAgree-quiet}
 use Rattle.iscsi_session.proofs.SetParts.{SetsAgree-untouched}
 use Rattle.iscsi_session.proofs.EnablingLemmas.{EnabledSoFar-untouched}
 use Rattle.iscsi_session.proofs.AgreeLemmas.{settled_expected, settled_max, unfinished-untouched}
-use Rattle.iscsi_session.proofs.MissingLemmas.{inside_place, outside_place}
+use Rattle.iscsi_session.proofs.MissingLemmas.{quiet-both, WindowAgrees-voided, WindowAgrees-emptied, inside_place, outside_place, VoidedAt, voided_at, emptied_at}
 use Rattle.iscsi_session.proofs.AbortLemmas.{held_command-is, held_command-held, held_command-none, tagged_in-is}
 
 -- ---- one command by its ticket
@@ -346,3 +349,41 @@ AbortsAs-turned o s t r unit h place x =
     let numbered : is_immediate a.request ≡ false = not_true (is_immediate a.request) (and_parts (not (is_immediate a.request)) (not (opcode a.request == 0x02)) regular.0).0 in
     AbortsAs-numbered o (record s { window = turned_window s.window }) (item ∷ t) a unit (WindowAgrees-turned o s.window t r [] h.window place x q).agrees commands.commands commands.apart numbered
     (let z : a.number + 1 ≡ number_expected (turned_window s.window) = omega (arith, number) in z) (h.window.numbers e a admitted_is ∙ ap wire (sym number))
+
+-- ---- the window after it
+
+module _ (o : Setting) (w : Received) (t : Trace) (m : Mark) (a : Arrival) (unit sn : ℕ) (ms : List Mark) (h : WindowAgrees o w t) (q : IsQuiet (m ∷ [])) (qs : IsQuiet ms) where
+  -- the held request is out of the window
+  pub WindowAgrees-emptying : length w.places ≤ 1024 → (x : EmptiesHeld o w ((m ∷ []) ∷ t) a unit sn) → WindowAgrees o (emptied w sn) ((m ∷ Empties x.request ∷ ms) ∷ t)
+  WindowAgrees-emptying small x =
+      let n : ℕ = x.request.number in
+      let held_is : held t n ≡ Some x.request = sym (held-quiet (m ∷ []) t n q) ∙ x.held_is in
+      let becomes : emptied w sn ≡ with_place w (n - number_expected w) (Some None) = ap (emptied w) x.shown ∙ (emptied_at o w t n x.request h small held_is x.low x.high).becomes in
+      subst (λ v. WindowAgrees o v ((m ∷ Empties x.request ∷ ms) ∷ t)) (sym becomes) (WindowAgrees-emptied o w t m n x.request ms h q qs held_is x.low x.high)
+
+  -- the number is received
+  pub WindowAgrees-voiding : (x : VoidsMissing o w ((m ∷ []) ∷ t) a unit sn)
+      → WindowAgrees o (voided w sn) ((m ∷ (cond (is_received ((m ∷ []) ∷ t) (lift (number_expected w) sn)) [] (Voids (lift (number_expected w) sn) ∷ []) ++ ms)) ∷ t)
+  WindowAgrees-voiding x =
+      let n : ℕ = lift (number_expected w) sn in
+      let same : is_received ((m ∷ []) ∷ t) n ≡ is_received t n = ap (λ ns. contains ns n) (received-quiet (m ∷ []) t q) in
+      let v : VoidedAt w t sn n = voided_at o w t sn n h x.low x.high refl in
+      elim (is_received ((m ∷ []) ∷ t) n) as (λ b. is_received ((m ∷ []) ∷ t) n ≡ b → WindowAgrees o (voided w sn) ((m ∷ (cond b [] (Voids n ∷ []) ++ ms)) ∷ t)) [
+        | true ↦ λ is. subst (λ u. WindowAgrees o u ((m ∷ ms) ∷ t)) (sym (v.known (sym same ∙ is))) (WindowAgrees-quiet o w t (m ∷ ms) both_quiet h)
+        | false ↦ λ is. let gone : is_received t n ≡ false = sym same ∙ is in subst (λ u. WindowAgrees o u ((m ∷ Voids n ∷ ms) ∷ t)) (sym (v.new gone)) (WindowAgrees-voided o w t m n ms h q qs x.low x.high gone)
+      ] refl
+    where
+      both_quiet : IsQuiet (m ∷ ms)
+      both_quiet = quiet-both m ms q qs
+
+-- what a voided number shows
+pub void_effects-are : (o : Setting) (s : Core) (t : Trace) (m : Mark) (a : Arrival) (unit sn : ℕ) → WindowAgrees o s.window t → IsQuiet (m ∷ []) → wire sn ≡ sn → VoidsMissing o s.window ((m ∷ []) ∷ t) a unit sn
+    → void_effects s sn ≡ flat_map (effects_of_mark o t) (cond (is_received ((m ∷ []) ∷ t) (lift (number_expected s.window) sn)) [] (Voids (lift (number_expected s.window) sn) ∷ []))
+void_effects-are o s t m a unit sn h q fits x =
+    let w : Received = s.window in
+    let n : ℕ = lift (number_expected w) sn in
+    let same : is_received ((m ∷ []) ∷ t) n ≡ is_received t n = ap (λ ns. contains ns n) (received-quiet (m ∷ []) t q) in
+    let shows : wire n ≡ sn = wire-lift (number_expected w) sn ∙ fits in
+    ap (λ b. cond b [] (Void sn ∷ [])) ((voided_at o w t sn n h x.low x.high refl).received_is ∙ sym same)
+    ∙ ap (λ k. cond (is_received ((m ∷ []) ∷ t) n) [] (Void k ∷ [])) (sym shows)
+    ∙ elim (is_received ((m ∷ []) ∷ t) n) as (λ b. cond b [] (Void (wire n) ∷ []) ≡ flat_map (effects_of_mark o t) (cond b [] (Voids n ∷ []))) [ true ↦ refl | false ↦ refl ]

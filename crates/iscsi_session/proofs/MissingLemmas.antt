@@ -40,6 +40,16 @@ none_first : {A : Type 0} (x : Option A) → cons_option x [] ≡ [] → x ≡ N
 none_first None h = refl
 none_first (Some x) h = absurd cc
 
+-- a quiet mark before quiet ones
+pub quiet-both : (m : Mark) (ms : List Mark) → IsQuiet (m ∷ []) → IsQuiet ms → IsQuiet (m ∷ ms)
+quiet-both m ms q qs = record {
+  receives = ap (λ x. cons_option x (filter_map number_received ms)) (none_first (number_received m) q.receives) ∙ qs.receives;
+  admits = λ k. ap (λ x. cons_option x (filter_map (admits_at k) ms)) (none_first (admits_at k m) (q.admits k)) ∙ qs.admits k;
+  delivers_none = ap (λ x. cons_option x (filter_map delivers ms)) (none_first (delivers m) q.delivers_none) ∙ qs.delivers_none;
+  delivers_no = λ k. ap (λ b. b || list_any (delivers_number k) ms) (sym (or_false (delivers_number k m)) ∙ q.delivers_no k) ∙ qs.delivers_no k;
+  empties_no = λ k. ap (λ b. b || list_any (empties_number k) ms) (sym (or_false (empties_number k m)) ∙ q.empties_no k) ∙ qs.empties_no k;
+}
+
 pub voids-one : (m : Mark) (n : ℕ) (ms : List Mark) → IsQuiet (m ∷ []) → IsQuiet ms → VoidsOne (m ∷ Voids n ∷ ms) n
 voids-one m n ms q qs = record {
   receives = ap (λ x. cons_option x (n ∷ filter_map number_received ms)) (none_first (number_received m) q.receives) ∙ ap (λ ns. n ∷ ns) qs.receives;
