@@ -3,7 +3,7 @@ use Rattle.std.proofs.Common.{◌≡◌, ℕ, ◌+◌, ◌-◌, ◌<◌, ◌≤�
 use Rattle.std.specs.List.{list_all}
 use Rattle.std.proofs.lemmas.Bool.Decides.{nat_tests}
 use Rattle.iscsi_wire.specs.Serial.{wire}
-use Rattle.iscsi_wire.specs.Fields.{connection_of, is_immediate}
+use Rattle.iscsi_wire.specs.Fields.{connection_of, is_immediate, cmd_sn}
 use Rattle.iscsi_window.specs.Windows.{number_expected, room_of}
 use Rattle.iscsi_session.specs.declared.effect.Effect.{Effect}
 use Rattle.iscsi_session.specs.declared.effect.Effect.TheVariants.{Ignore}
@@ -116,14 +116,14 @@ Stepped-ignored o s t why h =
 pub untouched-admits : (a : Arrival) → Untouched (Admits a ∷ [])
 untouched-admits a = record { enters_none = refl; leaves_no = λ k. refl }
 
-pub Agrees-admitted : (o : Setting) (s : Core) (t : Trace) (a : Arrival) → Agrees o s t → number_expected s.window ≤ a.number → a.number < number_expected s.window + room_of s.window → is_received t a.number ≡ false → is_regular_request o a.request ≡ true
+pub Agrees-admitted : (o : Setting) (s : Core) (t : Trace) (a : Arrival) → Agrees o s t → number_expected s.window ≤ a.number → a.number < number_expected s.window + room_of s.window → is_received t a.number ≡ false → is_regular_request o a.request ≡ true → wire (cmd_sn a.request) ≡ wire a.number
     → Agrees o (record s { window = with_held s.window a; arrived = set s.arrived (a.number - number_expected s.window) a.event }) ((Admits a ∷ []) ∷ t)
-Agrees-admitted o s t a h low high new regular =
+Agrees-admitted o s t a h low high new regular shows =
     let item : List Mark = Admits a ∷ [] in
     let u : Untouched item = untouched-admits a in
     record {
       events = h.events;
-      window = WindowAgrees-admitted o s.window t a h.window low high new regular;
+      window = WindowAgrees-admitted o s.window t a h.window low high new regular shows;
       replies = RepliesAgree-quiet o s.conns t item refl h.replies;
       commands = CommandsAgree-untouched o s.live s.entered t item u h.commands;
       sets = SetsAgree-untouched o s.sets t item u h.sets;

@@ -41,3 +41,6 @@ pub mod AbortLemmas
 pub mod AbortTheorem
 pub mod LeavingLemmas
 pub mod LeavingParts
+pub mod AbortParts
+pub mod FunctionLemmas
+pub mod AgendaLemmas

@@ -40,6 +40,16 @@ none_first : {A : Type 0} (x : Option A) → cons_option x [] ≡ [] → x ≡ N
 none_first None h = refl
 none_first (Some x) h = absurd cc
 
+-- a quiet mark before quiet ones
+pub quiet-both : (m : Mark) (ms : List Mark) → IsQuiet (m ∷ []) → IsQuiet ms → IsQuiet (m ∷ ms)
+quiet-both m ms q qs = record {
+  receives = ap (λ x. cons_option x (filter_map number_received ms)) (none_first (number_received m) q.receives) ∙ qs.receives;
+  admits = λ k. ap (λ x. cons_option x (filter_map (admits_at k) ms)) (none_first (admits_at k m) (q.admits k)) ∙ qs.admits k;
+  delivers_none = ap (λ x. cons_option x (filter_map delivers ms)) (none_first (delivers m) q.delivers_none) ∙ qs.delivers_none;
+  delivers_no = λ k. ap (λ b. b || list_any (delivers_number k) ms) (sym (or_false (delivers_number k m)) ∙ q.delivers_no k) ∙ qs.delivers_no k;
+  empties_no = λ k. ap (λ b. b || list_any (empties_number k) ms) (sym (or_false (empties_number k m)) ∙ q.empties_no k) ∙ qs.empties_no k;
+}
+
 pub voids-one : (m : Mark) (n : ℕ) (ms : List Mark) → IsQuiet (m ∷ []) → IsQuiet ms → VoidsOne (m ∷ Voids n ∷ ms) n
 voids-one m n ms q qs = record {
   receives = ap (λ x. cons_option x (n ∷ filter_map number_received ms)) (none_first (number_received m) q.receives) ∙ ap (λ ns. n ∷ ns) qs.receives;
@@ -128,6 +138,7 @@ module _ (item : List Mark) (t : Trace) (n : ℕ) (v : VoidsOne item n) where
         undelivered = λ k u. ap (λ b. b || is_delivered t k) (v.delivers_no k) ∙ h.undelivered k u;
         unemptied = λ k gone. ap (λ b. b || is_emptied t k) (v.empties_no k) ∙ h.unemptied k (or_none (is_received t k) (n == k) (sym (received-voids k) ∙ gone)).0;
         requests = λ k b found. h.requests k b (sym (ap first_of (admitted-voids k)) ∙ found);
+        numbers = λ k b found. h.numbers k b (sym (ap first_of (admitted-voids k)) ∙ found);
         delivered = ap (λ rs. shown delivers t ++ rs) v.delivers_none ∙ append-nil (shown delivers t) ∙ h.delivered
             ∙ same_range t (item ∷ t) (number_of_first o.first) (e - number_of_first o.first) (λ k l u. sym (request_at-voids k));
         few = omega (arith, h.few, long);
@@ -209,6 +220,7 @@ module _ (item : List Mark) (t : Trace) (n : ℕ) (v : EmptiesOne item n) where
         undelivered = λ k u. ap (λ b. b || is_delivered t k) (v.delivers_no k) ∙ a.undelivered k u;
         unemptied = λ k gone. let before : is_received t k ≡ false = sym (same_received k) ∙ gone in emptied-empties k ∙ ap (λ b. b || is_emptied t k) (apart_of k before) ∙ a.unemptied k before;
         requests = λ k b found. a.requests k b (sym (ap first_of (admitted-empties k)) ∙ found);
+        numbers = λ k b found. a.numbers k b (sym (ap first_of (admitted-empties k)) ∙ found);
         delivered = ap (λ rs. shown delivers t ++ rs) v.delivers_none ∙ append-nil (shown delivers t) ∙ a.delivered
             ∙ same_range t (item ∷ t) (number_of_first o.first) (e - number_of_first o.first) (λ k l u. sym (request_at-empties k (let no : (n == k) ≡ false = let lt : k < n = omega (arith, a.first) in grind (arith, nat_tests) in no)));
         few = omega (arith, a.few, long);

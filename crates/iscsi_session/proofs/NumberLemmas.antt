@@ -18,6 +18,10 @@ is_window_open e window unfinished some =
     (λ shut. (let a : nat_le e (e + window - 1 - unfinished) ≡ false = grind (arith, nat_tests) in a) ∙ (let b : nat_lt unfinished window ≡ false = grind (arith, nat_tests) in sym b))
     (cases_lt unfinished window)
 
+-- a number is shown as what it was lifted from
+pub wire-lift : (e w : ℕ) → wire (lift e w) ≡ wire w
+wire-lift e w = omega arith
+
 -- a number that goes up by one, on the wire
 pub wire-next : (n : ℕ) → wire (wire n + 1) ≡ wire (n + 1)
 wire-next n = omega arith

@@ -59,6 +59,7 @@ Settled-opened o s window events conns entered none sets level arrived waits =
           undelivered = λ n high. refl;
           unemptied = λ n gone. refl;
           requests = λ n a found. absurd cc;
+          numbers = λ n a found. absurd cc;
           delivered = sym (ap (λ m. filter_map (request_at []) (range_with_len (number_of_first o.first) m)) (let z : number_expected s.window - number_of_first o.first ≡ 0 = omega (arith, first, turned) in z));
           few = omega (arith, free);
           free = λ k big. nothing k;

@@ -32,6 +32,7 @@ use Rattle.iscsi_session.specs.Refusals.{belongs, refusal_of}
 use Rattle.iscsi_session.specs.Standing.{Core, CommandsAgree, place_of, kept, is_regular, is_regular_request, member_of, WindowAgrees, Agrees, Settled, StandsFor, ArrivalsAgree}
 use Rattle.iscsi_session.specs.Steps.{set_at, set_left, enable_effects, finished, with_offered, comes_on, refusal_by, find_ticket, without_ticket, enabled_of, find_enabled, without_command, leave_effects, after_completion, completion_effects, counted, noted_at}
 use Rattle.iscsi_session.proofs.BoolLemmas.{and_parts, and_both, or_false}
+use Rattle.iscsi_session.proofs.NumberLemmas.{wire-lift}
 use Rattle.iscsi_session.proofs.ListLemmas.{list_any-map, is_known-cids}
 use Rattle.iscsi_session.proofs.ApartLemmas.{eq_sym, count-without, one_unit}
 use Rattle.iscsi_session.proofs.TraceLemmas.{all_among}
@@ -290,7 +291,7 @@ offered o s event t r h not_immediate known taken =
           let f = x.taken said in
           let start : exp_of o t ≡ number_expected (with_offered s r).window = same_exp ∙ ap number_expected (sym f.0) in (
             subst (λ (w : Received). Agrees o (record s { window = w; arrived = noted }) t₁) (sym f.0)
-                (subst (λ (ns : List ℕ). Agrees o (record s { window = with_held s.window a; arrived = ns }) t₁) (sym f.1.0) (Agrees-admitted o s t a h.agrees f.1.1.1.1.0 f.1.1.1.1.1 f.1.1.1.0 regular)),
+                (subst (λ (ns : List ℕ). Agrees o (record s { window = with_held s.window a; arrived = ns }) t₁) (sym f.1.0) (Agrees-admitted o s t a h.agrees f.1.1.1.1.0 f.1.1.1.1.1 f.1.1.1.0 regular (sym (wire-lift (exp_of o t) (cmd_sn r))))),
             (
               items ∙ ap (λ b. cases b (is_received t a.number)) f.1.1.0 ∙ ap (cases false) f.1.1.1.0
                   ∙ ap (λ e. (Admits a ∷ []) ∷ agenda o e (exp_of o t₁ - e) t₁) start,

@@ -183,13 +183,16 @@ pub record Changed (old new : Received) (fewer_held more : ℕ) : Type 0 where
   pub counted : count_by is_some new.places ≡ count_by is_some old.places + more
   pub known : (conns : List (ℕ × ℕ)) → list_all (is_place_known conns) old.places ≡ true → list_all (is_place_known conns) new.places ≡ true
 
-pub emptied_changes : (w : Received) (sn : ℕ) → is_some (held_at w (place_in w sn)) ≡ true → Changed w (emptied w sn) 1 0
-emptied_changes w sn h = by_place (place_in w sn) h
+pub emptied_changes : (w : Received) (sn : ℕ) → Changed w (emptied w sn) (cond (is_some (held_at w (place_in w sn))) 1 0) 0
+emptied_changes w sn = by_place (place_in w sn)
   where
-    by_kept : (k : ℕ) (p : Option (Option Request)) → at_place w k ≡ p → is_some (option_flatten p) ≡ true → Changed w (emptied_if w (Inside k) (option_flatten p)) 1 0
-    by_kept k None is said = absurd (false≢true said)
-    by_kept k (Some None) is said = absurd (false≢true said)
-    by_kept k (Some (Some r)) is said =
+    same : Changed w w 0 0
+    same = record { long = refl; turned = refl; unfinished = refl; held_is = omega arith; counted = omega arith; known = λ conns all. all }
+
+    by_kept : (k : ℕ) (p : Option (Option Request)) → at_place w k ≡ p → Changed w (emptied_if w (Inside k) (option_flatten p)) (cond (is_some (option_flatten p)) 1 0) 0
+    by_kept k None is = same
+    by_kept k (Some None) is = same
+    by_kept k (Some (Some r)) is =
         let within : k < length w.places = some_within w.places k (Some r) is in
         let none : Option (Option Request) = Some None in
         record {
@@ -201,9 +204,9 @@ emptied_changes w sn h = by_place (place_in w sn) h
           known = λ conns all. all_set (is_place_known conns) w.places k none all refl;
         }
 
-    by_place : (p : Place) → is_some (held_at w p) ≡ true → Changed w (emptied_if w p (held_at w p)) 1 0
-    by_place NoPlace said = absurd (false≢true said)
-    by_place (Inside k) said = by_kept k (at_place w k) refl said
+    by_place : (p : Place) → Changed w (emptied_if w p (held_at w p)) (cond (is_some (held_at w p)) 1 0) 0
+    by_place NoPlace = same
+    by_place (Inside k) = by_kept k (at_place w k) refl
 
 -- a number inside the window has a place
 pub place_within : (w : Received) (sn k : ℕ) → place_in w sn ≡ Inside k → k < length w.places

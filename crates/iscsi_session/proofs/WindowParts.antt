@@ -6,7 +6,8 @@ use Rattle.std.proofs.lemmas.Bool.Decides.{nat_tests}
 use Rattle.std.proofs.lemmas.List.{append-nil, length_push, get_or_append_left, get_or-drop, get_or-set_same, get_or-set_other}
 use Rattle.std.proofs.lemmas.List.Folds.{list_any-append}
 use Rattle.iscsi_wire.specs.declared.request.Request.{Request}
-use Rattle.iscsi_wire.specs.Serial.{number_of_first}
+use Rattle.iscsi_wire.specs.Serial.{wire, number_of_first}
+use Rattle.iscsi_wire.specs.Fields.{cmd_sn}
 use Rattle.iscsi_window.specs.Windows.{Received, number_expected, room_of, at_place, with_place, with_unfinished}
 use Rattle.iscsi_session.specs.Settings.{Setting}
 use Rattle.iscsi_session.specs.Trace.{Arrival, Mark, Admits, Delivers, Trace, shown, first_of, received, contains, is_received, delivers_number, is_delivered, is_emptied, held, admitted, admits_at}
@@ -15,7 +16,7 @@ use Rattle.iscsi_session.specs.Executed.{delivers, request_at, executed_below}
 use Rattle.iscsi_session.specs.Standing.{place_of, is_regular_request, WindowAgrees}
 use Rattle.iscsi_session.proofs.BoolLemmas.{or_none, or_second, or_false}
 use Rattle.iscsi_session.proofs.Missing.{expected_is}
-use Rattle.iscsi_session.proofs.HeldLemmas.{admitted-cases, admitted-admits, held-admits, held-here, held-number, held-turned, request_at-turned, admitted_of_held, held_unemptied}
+use Rattle.iscsi_session.proofs.HeldLemmas.{admitted-number, admitted-cases, admitted-admits, held-admits, held-here, held-number, held-turned, request_at-turned, admitted_of_held, held_unemptied}
 use Rattle.iscsi_session.proofs.DeliveryLemmas.{IsQuiet, same_range, received-quiet, place_of-quiet, executed_below-quiet, delivered-quiet, admitted-quiet, executed_below-more}
 
 -- ---- the next number
@@ -50,6 +51,7 @@ WindowAgrees-quiet o w t item q a = record {
   undelivered = λ n high. ap (λ b. b || is_delivered t n) (q.delivers_no n) ∙ a.undelivered n high;
   unemptied = λ n gone. ap (λ b. b || is_emptied t n) (q.empties_no n) ∙ a.unemptied n (sym (ap (λ ns. contains ns n) (received-quiet item t q)) ∙ gone);
   requests = λ n b found. a.requests n b (sym (ap first_of (admitted-quiet item t n q)) ∙ found);
+  numbers = λ n b found. a.numbers n b (sym (ap first_of (admitted-quiet item t n q)) ∙ found);
   delivered = delivered-quiet item t q ∙ a.delivered ∙ sym (executed_below-quiet o item t (number_expected w) q);
   few = a.few;
   free = a.free;
@@ -78,9 +80,9 @@ place_of-here t a new undelivered unemptied =
 request_at-admits : (t : Trace) (a : Arrival) (k : ℕ) → (a.number == k) ≡ false → request_at ((Admits a ∷ []) ∷ t) k ≡ request_at t k
 request_at-admits t a k apart = ap (λ x. cond (is_emptied t k) None (option_map (λ (b : Arrival). b.request) x)) (admitted-admits t a k apart)
 
-pub WindowAgrees-admitted : (o : Setting) (w : Received) (t : Trace) (a : Arrival) → WindowAgrees o w t → number_expected w ≤ a.number → a.number < number_expected w + room_of w → is_received t a.number ≡ false → is_regular_request o a.request ≡ true
+pub WindowAgrees-admitted : (o : Setting) (w : Received) (t : Trace) (a : Arrival) → WindowAgrees o w t → number_expected w ≤ a.number → a.number < number_expected w + room_of w → is_received t a.number ≡ false → is_regular_request o a.request ≡ true → wire (cmd_sn a.request) ≡ wire a.number
     → WindowAgrees o (with_held w a) ((Admits a ∷ []) ∷ t)
-WindowAgrees-admitted o w t a h low high new regular =
+WindowAgrees-admitted o w t a h low high new regular shows =
     let e : ℕ = number_expected w in
     let k₀ : ℕ = a.number - e in
     let t' : Trace = (Admits a ∷ []) ∷ t in
@@ -102,6 +104,7 @@ WindowAgrees-admitted o w t a h low high new regular =
       undelivered = h.undelivered;
       unemptied = λ n gone. h.unemptied n (or_none (is_received t n) (a.number == n) (sym (received-admits t a n) ∙ gone)).0;
       requests = λ n b found. ⊎_elim (λ before. h.requests n b before) (λ this. ap (λ (x : Arrival). is_regular_request o x.request) (sym this) ∙ regular) (admitted-cases t a n b found);
+      numbers = λ n b found. ⊎_elim (λ before. h.numbers n b before) (λ this. ap (λ (x : Arrival). wire (cmd_sn x.request)) (sym this) ∙ shows ∙ ap wire (ap (λ (x : Arrival). x.number) this ∙ admitted-number t' n b found)) (admitted-cases t a n b found);
       delivered = append-nil (shown delivers t) ∙ h.delivered ∙ same_range t t' (number_of_first o.first) (e - number_of_first o.first) (λ k l u. sym (request_at-admits t a k (let no : (a.number == k) ≡ false = let lt : k < a.number = omega (arith, h.first) in grind (arith, nat_tests) in no)));
       few = omega (arith, h.few, long);
       free = λ k big. get_or-set_other w.places k₀ k (Some (Some a.request)) None (λ same_place. omega (arith, same_place, big, long, h.few)) ∙ h.free k (omega (arith, big, long));
@@ -188,6 +191,7 @@ WindowAgrees-turned o w t r ms h place x q =
         undelivered = λ n u. ap (λ b. (b || list_any (delivers_number n) ms) || is_delivered t n) (let no : (a.number == n) ≡ false = grind (arith, nat_tests) in no) ∙ ap (λ b. b || is_delivered t n) (q.delivers_no n) ∙ h.undelivered n (omega arith);
         unemptied = λ n gone. ap (λ b. b || is_emptied t n) (q.empties_no n) ∙ h.unemptied n (sym (ap (λ ns. contains ns n) same_received) ∙ gone);
         requests = λ n b found. h.requests n b (sym (ap (λ xs. first_of (shown (admits_at n) t ++ xs)) (q.admits n) ∙ ap first_of (append-nil (shown (admits_at n) t))) ∙ found);
+        numbers = λ n b found. h.numbers n b (sym (ap (λ xs. first_of (shown (admits_at n) t ++ xs)) (q.admits n) ∙ ap first_of (append-nil (shown (admits_at n) t))) ∙ found);
         delivered = ap (λ rs. shown delivers t ++ (a.request ∷ rs)) q.delivers_none
             ∙ ap (λ rs. rs ++ a.request ∷ []) (h.delivered ∙ same_range t t' (number_of_first o.first) (e - number_of_first o.first) (λ k l u. sym (request_at-turned t a ms k q)))
             ∙ ap (λ y. executed_below o t' e ++ cons_option y []) (sym (request_at-turned t a ms e q ∙ ap (λ b. cond b None (option_map (λ (b : Arrival). b.request) (admitted t e))) stays ∙ ap (option_map (λ (b : Arrival). b.request)) admitted_is))
@@ -242,6 +246,7 @@ WindowAgrees-passed o w t h place =
       undelivered = λ n u. h.undelivered n (omega arith);
       unemptied = h.unemptied;
       requests = h.requests;
+      numbers = h.numbers;
       delivered = h.delivered ∙ sym (append-nil (executed_below o t e)) ∙ ap (λ y. executed_below o t e ++ cons_option y []) (sym (nothing_here (is_emptied t e) refl (held_none p.held_is)))
           ∙ sym (executed_below-more o t e low) ∙ ap (executed_below o t) (let z : e + 1 ≡ number_of_first w.first + (w.turned + 1) = omega arith in z);
       few = omega (arith, long, h.few);
@@ -261,9 +266,9 @@ WindowAgrees-passed o w t h place =
 pub WindowAgrees-started : (o : Setting) (w : Received) (t : Trace) → Turned o w t → WindowAgrees o (with_unfinished w (w.unfinished + 1)) t
 WindowAgrees-started o w t h =
     let a = h.agrees in
-    record { first = a.first; size = a.size; below = a.below; inside = a.inside; above = a.above; undelivered = a.undelivered; unemptied = a.unemptied; requests = a.requests; delivered = a.delivered; few = omega (arith, h.not_full); free = λ k big. h.last_free k (omega (arith, big)) }
+    record { first = a.first; size = a.size; below = a.below; inside = a.inside; above = a.above; undelivered = a.undelivered; unemptied = a.unemptied; requests = a.requests; numbers = a.numbers; delivered = a.delivered; few = omega (arith, h.not_full); free = λ k big. h.last_free k (omega (arith, big)) }
 
 -- a command is over
 pub WindowAgrees-finished : (o : Setting) (w : Received) (t : Trace) → WindowAgrees o w t → WindowAgrees o (with_unfinished w (w.unfinished - 1)) t
 WindowAgrees-finished o w t a =
-    record { first = a.first; size = a.size; below = a.below; inside = a.inside; above = a.above; undelivered = a.undelivered; unemptied = a.unemptied; requests = a.requests; delivered = a.delivered; few = omega (arith, a.few); free = λ k big. a.free k (omega (arith, big)) }
+    record { first = a.first; size = a.size; below = a.below; inside = a.inside; above = a.above; undelivered = a.undelivered; unemptied = a.unemptied; requests = a.requests; numbers = a.numbers; delivered = a.delivered; few = omega (arith, a.few); free = λ k big. a.free k (omega (arith, big)) }

@@ -3,7 +3,7 @@ use Rattle.std.specs.Prelude.{◌≡◌, ℕ, pos, ◌-ℤ◌, ◌+◌, ◌*◌,
 use Rattle.std.specs.List.{list_all, range_with_len}
 use Rattle.iscsi_wire.specs.declared.request.Request.{Request}
 use Rattle.iscsi_wire.specs.Serial.{wire, number_of_first}
-use Rattle.iscsi_wire.specs.Fields.{connection_of, is_immediate, opcode, itt}
+use Rattle.iscsi_wire.specs.Fields.{connection_of, is_immediate, opcode, itt, cmd_sn}
 use Rattle.iscsi_window.specs.Received.{Received, number_expected}
 use Rattle.iscsi_tasks.specs.declared.task.Task.{Task}
 use Rattle.iscsi_tasks.specs.declared.member.Member.{Member}
@@ -127,6 +127,8 @@ pub record WindowAgrees (o : Setting) (w : Received) (t : Trace) : Type 0 where
   -- what was taken out was received
   pub unemptied : (n : ℕ) → is_received t n ≡ false → is_emptied t n ≡ false
   pub requests : (n : ℕ) (a : Arrival) → admitted t n ≡ Some a → is_regular_request o a.request ≡ true
+  -- an admitted request carries its number
+  pub numbers : (n : ℕ) (a : Arrival) → admitted t n ≡ Some a → wire (cmd_sn a.request) ≡ wire n
   pub delivered : shown delivers t ≡ executed_below o t (number_expected w)
   -- a live numbered command takes a place at the window's end
   pub few : w.unfinished ≤ length w.places

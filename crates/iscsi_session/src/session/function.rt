@@ -1,6 +1,6 @@
 //! What a task management function comes to, and the numbers that it voids or empties.
 
-ghost use Rattle.std.specs.Prelude.{ℤ, ℕ, true, [], ◌∷◌, ◌++◌, ◌≡◌, ◌+◌, ◌<◌, ◌≤◌, length, count_by, is_some, vec_len, vec_capacity};
+ghost use Rattle.std.specs.Prelude.{ℤ, ℕ, if◌then◌else◌, [], ◌∷◌, ◌++◌, ◌≡◌, ◌+◌, ◌<◌, ◌≤◌, length, count_by, is_some, vec_len, vec_capacity};
 ghost use Rattle.iscsi_wire.specs.Fields.{ref_cmd_sn as referenced};
 ghost use Rattle.iscsi_window.specs.Windows.{place_in, IsInside, held_at, voided, emptied};
 ghost use Rattle.iscsi_session.specs.Standing.{is_held};
@@ -80,17 +80,18 @@ impl Session {
 
     /// Takes out the request that is held for this number.
     pub(crate) fn empty_number(&mut self, sn: u32, out: &mut Vec<Effect>)
-        requires held { is_some (held_at self.old.window (place_in self.old.window sn)) ≡ true }
         requires room { vec_len out.old + 1 ≤ vec_capacity out.old }
         ensures session { self.new ≡ record self.old { window = emptied self.old.window sn } }
         ensures effects { out.new.items ≡ out.old.items ++ Effect.Empty sn ∷ [] }
         ensures len { vec_len out.new ≡ vec_len out.old + 1 }
         ensures capacity { vec_capacity out.new ≡ vec_capacity out.old }
-        ensures held { count_by is_held self.new.window.places + 1 ≡ count_by is_held self.old.window.places }
+        ensures held { count_by is_held self.new.window.places + (if is_some (held_at self.old.window (place_in self.old.window sn)) then 1 else 0) ≡ count_by is_held self.old.window.places }
+        ensures turned { self.new.window.turned ≡ self.old.window.turned }
         ensures counted { count_by is_some self.new.window.places ≡ count_by is_some self.old.window.places }
     {
-        self.window.empty(sn);
-        self.held -= 1;
+        if self.window.empty(sn).is_some() {
+            self.held -= 1;
+        }
         out.push_reserved(Effect::Empty { sn });
     }
 

@@ -1,6 +1,6 @@
-use Rattle.std.proofs.Common.{◌≡◌, ◌∙◌, ap, sym, subst, arith, is_some, true}
+use Rattle.std.proofs.Common.{rules, ◌≡◌, ◌∙◌, cond, ap, sym, subst, arith, count_by, is_some, true, false, ℕ}
 use Rattle.iscsi_window.specs.Windows.{Received, place_in, held_at}
-use Rattle.iscsi_session.specs.Standing.{Core}
+use Rattle.iscsi_session.specs.Standing.{is_held}
 use Rattle.iscsi_session.proofs.WindowLemmas.{Changed, emptied_changes}
 use Rattle.iscsi_session.proofs.session.Session.empty_number.Goals as goal
 
@@ -8,13 +8,13 @@ pub invariant_of-self : goal.invariant_of-self
 invariant_of-self c =
     let inv = c.self.invariant in
     let w : Received = c.self.inside.window in
-    let there : is_some (held_at w (place_in w c.args.sn)) ≡ true = ap (λ (s : Core). is_some (held_at s.window (place_in s.window c.args.sn))) c.self.view_is ∙ c.requires.held in
-    let g : Changed w c.empty.new.self 1 0 = subst (λ (v : Received). Changed w v 1 0) (sym c.empty.ensures.state) (emptied_changes w c.args.sn there) in (
+    let there : is_some (held_at w (place_in w c.args.sn)) ≡ true = ap is_some (sym c.empty.ensures.answer) ∙ search rules in
+    let g : Changed w c.empty.new.self (cond (is_some (held_at w (place_in w c.args.sn))) 1 0) 0 = subst (λ (v : Received). Changed w v (cond (is_some (held_at w (place_in w c.args.sn))) 1 0) 0) (sym c.empty.ensures.state) (emptied_changes w c.args.sn) in (
       omega (arith, inv.0, g.unfinished),
       omega (arith, inv.1, g.unfinished, g.long),
       omega (arith, inv.2, g.long),
       omega (arith, inv.3, g.long),
-      omega (arith, inv.4, g.held_is),
+      omega (arith, inv.4, g.held_is, ap {B = ℕ} (λ b. cond b 1 0) there),
       omega (arith, inv.5, g.turned, g.counted),
       omega (arith, inv.6, g.counted),
       inv.7,

@@ -1,0 +1,392 @@
+-- What ABORT TASK comes to, by what a session keeps, and by the definitions.
+use Rattle.std.proofs.Common.{◌≡◌, ℕ, suc, ◌+◌, ◌-◌, ◌<◌, ◌≤◌, ◌==◌, ◌&&◌, ◌||◌, ◌^◌, not, ⊎_elim, cond, Bool, true, false, nat_lt, nat_le, List, [], ◌∷◌, ◌++◌, length, map, filter, take, position, Option, Some, None, option_map, refl, ap, sym, subst, ◌∙◌, arith, eq-eqb}
+use Rattle.std.specs.List.{list_any, flat_map, filter_map}
+use Rattle.std.proofs.lemmas.Bool.{cases_lt, false≢true, eqb-true}
+use Rattle.std.proofs.lemmas.Bool.Decides.{nat_tests}
+use Rattle.iscsi_wire.specs.declared.request.Request.{Request}
+use Rattle.iscsi_wire.specs.Serial.{wire, lift}
+use Rattle.iscsi_wire.specs.Fields.{connection_of, is_immediate, opcode, itt, rtt, cmd_sn, ref_cmd_sn}
+use Rattle.iscsi_window.specs.declared.answer.Place.{Place}
+use Rattle.iscsi_window.specs.declared.answer.Place.TheVariants.{Inside, Outside as NoPlace}
+use Rattle.iscsi_window.specs.Windows.{Received, number_expected, room_of, at_place, with_place, place_in, is_command, voided, find_command, number_shown, emptied}
+use Rattle.iscsi_session.specs.declared.effect.Effect.TheVariants.{Void}
+use Rattle.iscsi_session.specs.declared.outcome.Outcome.{Outcome}
+use Rattle.iscsi_session.specs.declared.outcome.Outcome.TheVariants.{Respond, Abort, AbortAll, Empty as EmptyNumber, Void as VoidNumber}
+use Rattle.iscsi_session.specs.declared.session.live.Live.{Live}
+use Rattle.iscsi_session.specs.Settings.{Setting, is_known}
+use Rattle.iscsi_session.specs.Trace.{Arrival, Command, Mark, Delivers, Executes, Voids, Empties, Leaves, Trace, first_of, contains, waiting, is_received, is_among, held, live, live_in}
+use Rattle.iscsi_session.specs.Execution.{exp_of, max_of, unfinished}
+use Rattle.iscsi_session.specs.Management.{answer, live_with_tag, held_command, abort_missing, abort_task}
+use Rattle.iscsi_session.specs.Agenda.{arrival_of}
+use Rattle.iscsi_session.specs.Standing.{Core, task_of, kept, are_apart, arrival_waiting, WindowAgrees, Agrees, Settled}
+use Rattle.iscsi_session.specs.Run.{effects_of_mark}
+use Rattle.iscsi_session.specs.Functions.{missing_at, tagged_in, abort_by, covers_ticket, void_effects}
+use Rattle.iscsi_session.proofs.BoolLemmas.{and_parts, or_none, not_true}
+use Rattle.iscsi_session.proofs.NumberLemmas.{wire-lift}
+use Rattle.iscsi_session.proofs.Missing.{expected_gone, expected_low}
+use Rattle.iscsi_session.proofs.ApartLemmas.{apart-filter}
+use Rattle.iscsi_session.proofs.HeldLemmas.{held-number, admitted_of_held}
+use Rattle.iscsi_session.proofs.DeliveryLemmas.{IsQuiet, received-quiet, held-quiet}
+use Rattle.iscsi_session.proofs.WindowParts.{Next, turned_window, WindowAgrees-quiet, WindowAgrees-turned}
+use Rattle.iscsi_session.proofs.CommandParts.{Untouched, CommandsAgree-untouched}
+use Rattle.iscsi_session.proofs.ReplyParts.{RepliesAgree-quiet}
+use Rattle.iscsi_session.proofs.ArrivedLemmas.{ArrivalsAgree-quiet}
+use Rattle.iscsi_session.proofs.SetParts.{SetsAgree-untouched}
+use Rattle.iscsi_session.proofs.EnablingLemmas.{EnabledSoFar-untouched}
+use Rattle.iscsi_session.proofs.AgreeLemmas.{settled_expected, settled_max, unfinished-untouched}
+use Rattle.iscsi_session.proofs.MissingLemmas.{quiet-both, WindowAgrees-voided, WindowAgrees-emptied, inside_place, outside_place, VoidedAt, voided_at, emptied_at}
+use Rattle.iscsi_session.proofs.FindLemmas.{held_command-is, held_command-held, held_command-none, tagged_in-is}
+
+-- ---- one command by its ticket
+
+none_filtered : (k : ℕ) (ds : List Command) → is_among k ds ≡ false → filter (λ d. d.ticket == k) ds ≡ []
+none_filtered k [] h = refl
+none_filtered k (d ∷ ds) h =
+    let parts = or_none (d.ticket == k) (is_among k ds) h in
+    ap (λ b. cond b (d ∷ filter (λ e. e.ticket == k) ds) (filter (λ e. e.ticket == k) ds)) parts.0 ∙ none_filtered k ds parts.1
+
+-- a command that is found is the only one with its ticket
+pub only_one : (q : Command → Bool) (ds : List Command) (c : Command) → are_apart ds ≡ true → first_of (filter q ds) ≡ Some c → filter (λ d. d.ticket == c.ticket) ds ≡ c ∷ []
+only_one q [] c apart found = absurd cc
+only_one q (x ∷ ds) c apart found =
+    let parts = and_parts (not (is_among x.ticket ds)) (are_apart ds) apart in
+    let alone : is_among x.ticket ds ≡ false = not_true (is_among x.ticket ds) parts.0 in
+    let others : List Command = filter (λ d. d.ticket == c.ticket) ds in
+    elim (q x) as (λ b. first_of (cond b (x ∷ filter q ds) (filter q ds)) ≡ Some c → cond (x.ticket == c.ticket) (x ∷ others) others ≡ c ∷ []) [
+      | true ↦ λ here.
+          let same : x ≡ c = cc in
+          let ticket : x.ticket ≡ c.ticket = ap (λ (d : Command). d.ticket) same in
+          ap (λ b. cond b (x ∷ others) others) (eq-eqb x.ticket c.ticket ticket)
+          ∙ ap (λ ds'. x ∷ ds') (none_filtered c.ticket ds (ap (λ k. is_among k ds) (sym ticket) ∙ alone))
+          ∙ ap (λ d. d ∷ []) same
+      | false ↦ λ later.
+          let rest : others ≡ c ∷ [] = only_one q ds c parts.1 later in
+          elim (x.ticket == c.ticket) as (λ b. (x.ticket == c.ticket) ≡ b → cond b (x ∷ others) others ≡ c ∷ []) [
+            | true ↦ λ is. absurd (let none : [] ≡ c ∷ [] = sym (none_filtered c.ticket ds (ap (λ k. is_among k ds) (sym (eqb-true x.ticket c.ticket is)) ∙ alone)) ∙ rest in cc)
+            | false ↦ λ is. rest
+          ] refl
+    ] found
+
+-- ---- what it comes to
+
+-- a live command leaves
+pub record AbortsOne (o : Setting) (t : Trace) (a : Arrival) (unit ticket : ℕ) : Type 0 where
+  pub command : Command
+  pub marks : abort_task o t a unit ≡ Leaves command ∷ answer a 0
+  pub ticket_is : command.ticket ≡ ticket
+  pub found : live_with_tag t (rtt a.request) unit ≡ Some command
+  pub one : filter (λ d. covers_ticket ticket (task_of o d)) (live_in unit t) ≡ command ∷ []
+
+-- a held request is taken out
+pub record EmptiesHeld (o : Setting) (w : Received) (t : Trace) (a : Arrival) (unit sn : ℕ) : Type 0 where
+  pub request : Arrival
+  pub marks : abort_task o t a unit ≡ Empties request ∷ answer a 0
+  pub held_is : held t request.number ≡ Some request
+  pub low : number_expected w ≤ request.number
+  pub high : request.number < number_expected w + length w.places
+  pub shown : sn ≡ wire request.number
+
+-- a number is received without a request, if it wasn't received before
+pub record VoidsMissing (o : Setting) (w : Received) (t : Trace) (a : Arrival) (unit sn : ℕ) : Type 0 where
+  pub marks : abort_task o t a unit ≡ cond (is_received t (lift (number_expected w) sn)) [] (Voids (lift (number_expected w) sn) ∷ []) ++ answer a 0
+  pub low : number_expected w ≤ lift (number_expected w) sn
+  pub high : lift (number_expected w) sn < number_expected w + room_of w
+  pub sn_is : sn ≡ ref_cmd_sn a.request
+
+-- ABORT TASK by the definitions is what the session says
+abbrev pub AbortsAs : Setting → Received → Trace → Arrival → ℕ → Outcome → Type 0
+AbortsAs o w t a unit (Respond response) = abort_task o t a unit ≡ answer a response
+AbortsAs o w t a unit (Abort ticket) = AbortsOne o t a unit ticket
+AbortsAs o w t a unit (AbortAll cover) = ⊥
+AbortsAs o w t a unit (EmptyNumber sn) = EmptiesHeld o w t a unit sn
+AbortsAs o w t a unit (VoidNumber sn) = VoidsMissing o w t a unit sn
+
+-- by what is found
+abbrev marks_by : Setting → Trace → Arrival → Option Command → Option Arrival → List Mark
+marks_by o t a x y =
+    elim x [
+      | Some c ↦ Leaves c ∷ answer a 0
+      | None ↦ elim y [ Some h ↦ Empties h ∷ answer a 0 | None ↦ abort_missing o t a (lift (exp_of o t) (ref_cmd_sn a.request)) ]
+    ]
+
+abbrev outcome_by_found : Core → Request → Option Live → Option ℕ → Outcome
+outcome_by_found s r x y =
+    elim x [
+      | Some l ↦ Abort l.ticket
+      | None ↦ elim y [ Some k ↦ EmptyNumber (number_shown s.window k) | None ↦ missing_at s r (place_in s.window (ref_cmd_sn r)) ]
+    ]
+
+-- what both find
+pub record Found (o : Setting) (s : Core) (t : Trace) (a : Arrival) (unit : ℕ) : Type 0 where
+  pub window : WindowAgrees o s.window t
+  pub lives : s.live ≡ map kept (live t)
+  pub apart : are_apart (live t) ≡ true
+  pub held_same : option_map (λ (h : Arrival). h.number) (held_command o t (rtt a.request) unit a.number) ≡ option_map (λ k. number_expected s.window + k) (find_command s.window (rtt a.request) unit (cmd_sn a.request))
+  pub held_inside : (h : Arrival) → held_command o t (rtt a.request) unit a.number ≡ Some h → (held t h.number ≡ Some h) × ((number_expected s.window ≤ h.number) × (h.number < number_expected s.window + length s.window.places))
+
+module _ (o : Setting) (s : Core) (t : Trace) (a : Arrival) (unit : ℕ) (f : Found o s t a unit) where
+  found_live : (c : Command) → live_with_tag t (rtt a.request) unit ≡ Some c → AbortsAs o s.window t a unit (abort_by s a.request unit)
+  found_live c found =
+      let outcome : abort_by s a.request unit ≡ Abort c.ticket =
+      ap (λ x. outcome_by_found s a.request x (find_command s.window (rtt a.request) unit (cmd_sn a.request))) (tagged_in-is s t (rtt a.request) unit f.lives ∙ ap (option_map kept) found) in
+      subst (AbortsAs o s.window t a unit) (sym outcome) (record {
+        command = c;
+        marks = ap (λ x. marks_by o t a x (held_command o t (rtt a.request) unit a.number)) found;
+        ticket_is = refl;
+        found = found;
+        one = only_one (λ d. itt d.arrival.request == rtt a.request) (live_in unit t) c (apart-filter (λ d. d.unit == unit) (live t) f.apart) found;
+      })
+
+  none_live : live_with_tag t (rtt a.request) unit ≡ None
+      → (abort_by s a.request unit ≡ outcome_by_found s a.request None (find_command s.window (rtt a.request) unit (cmd_sn a.request))) × (abort_task o t a unit ≡ marks_by o t a None (held_command o t (rtt a.request) unit a.number))
+  none_live none = (
+    ap (λ x. outcome_by_found s a.request x (find_command s.window (rtt a.request) unit (cmd_sn a.request))) (tagged_in-is s t (rtt a.request) unit f.lives ∙ ap (option_map kept) none),
+    ap (λ x. marks_by o t a x (held_command o t (rtt a.request) unit a.number)) none,
+  )
+
+  found_held : (h : Arrival) → live_with_tag t (rtt a.request) unit ≡ None → held_command o t (rtt a.request) unit a.number ≡ Some h → AbortsAs o s.window t a unit (abort_by s a.request unit)
+  found_held h none found = by_place (find_command s.window (rtt a.request) unit (cmd_sn a.request)) refl (sym (ap (option_map (λ (x : Arrival). x.number)) found) ∙ f.held_same)
+    where
+      by_place : (y : Option ℕ) → find_command s.window (rtt a.request) unit (cmd_sn a.request) ≡ y → Some h.number ≡ option_map (λ k. number_expected s.window + k) (find_command s.window (rtt a.request) unit (cmd_sn a.request))
+          → AbortsAs o s.window t a unit (abort_by s a.request unit)
+      by_place None is same = absurd (let z : Some h.number ≡ None = same ∙ ap (option_map (λ k. number_expected s.window + k)) is in cc)
+      by_place (Some k) is same =
+          let z : Some h.number ≡ Some (number_expected s.window + k) = same ∙ ap (option_map (λ k'. number_expected s.window + k')) is in
+          let number : h.number ≡ number_expected s.window + k = cc in
+          let outcome : abort_by s a.request unit ≡ EmptyNumber (number_shown s.window k) = (none_live none).0 ∙ ap (outcome_by_found s a.request None) is in
+          let inside = f.held_inside h found in
+          subst (AbortsAs o s.window t a unit) (sym outcome) (record {
+            request = h;
+            marks = (none_live none).1 ∙ ap (marks_by o t a None) found;
+            held_is = inside.0;
+            low = inside.1.0;
+            high = inside.1.1;
+            shown = ap wire (sym number);
+          })
+
+  -- nothing is found
+  pub record Neither : Type 0 where
+    outcome : abort_by s a.request unit ≡ missing_at s a.request (place_in s.window (ref_cmd_sn a.request))
+    marks : abort_task o t a unit ≡ abort_missing o t a (lift (exp_of o t) (ref_cmd_sn a.request))
+
+  neither : live_with_tag t (rtt a.request) unit ≡ None → held_command o t (rtt a.request) unit a.number ≡ None → Neither
+  neither none nowhere =
+      let no_place : find_command s.window (rtt a.request) unit (cmd_sn a.request) ≡ None = no_number (find_command s.window (rtt a.request) unit (cmd_sn a.request)) (sym (ap (option_map (λ (x : Arrival). x.number)) nowhere) ∙ f.held_same) in
+      record {
+        outcome = (none_live none).0 ∙ ap (outcome_by_found s a.request None) no_place;
+        marks = (none_live none).1 ∙ ap (marks_by o t a None) nowhere;
+      }
+    where
+      no_number : (y : Option ℕ) → None ≡ option_map (λ k. number_expected s.window + k) y → y ≡ None
+      no_number None h = refl
+      no_number (Some k) h = absurd cc
+
+  -- the three cases
+  pub by_found : (Neither → AbortsAs o s.window t a unit (abort_by s a.request unit)) → AbortsAs o s.window t a unit (abort_by s a.request unit)
+  by_found missing = by_live (live_with_tag t (rtt a.request) unit) refl
+    where
+      by_request : live_with_tag t (rtt a.request) unit ≡ None → (y : Option Arrival) → held_command o t (rtt a.request) unit a.number ≡ y → AbortsAs o s.window t a unit (abort_by s a.request unit)
+      by_request none (Some h) is = found_held h none is
+      by_request none None is = missing (neither none is)
+
+      by_live : (x : Option Command) → live_with_tag t (rtt a.request) unit ≡ x → AbortsAs o s.window t a unit (abort_by s a.request unit)
+      by_live (Some c) is = found_live c is
+      by_live None is = by_request is (held_command o t (rtt a.request) unit a.number) refl
+
+-- ---- an immediate function
+
+-- the numbers up to MaxCmdSN
+within_window : (e n long unfinished : ℕ) → 1 ≤ e → unfinished ≤ long → nat_le n (e + long - 1 - unfinished) ≡ nat_lt n (e + (long - unfinished))
+within_window e n long unfinished some few = ⊎_elim
+    (λ inside. (let x : nat_le n (e + long - 1 - unfinished) ≡ true = grind (arith, nat_tests) in x) ∙ (let y : nat_lt n (e + (long - unfinished)) ≡ true = grind (arith, nat_tests) in sym y))
+    (λ beyond. (let x : nat_le n (e + long - 1 - unfinished) ≡ false = grind (arith, nat_tests) in x) ∙ (let y : nat_lt n (e + (long - unfinished)) ≡ false = grind (arith, nat_tests) in sym y))
+    (cases_lt n (e + (long - unfinished)))
+
+module _ (o : Setting) (s : Core) (t : Trace) (a : Arrival) (unit : ℕ) (f : Found o s t a unit) where
+  -- a number is voided where it is in the window and below the function's own
+  immediate_missing : is_immediate a.request ≡ true → exp_of o t ≡ number_expected s.window → max_of o t ≡ number_expected s.window + length s.window.places - 1 - s.window.unfinished → a.number ≡ lift (number_expected s.window) (cmd_sn a.request)
+      → Neither o s t a unit f → AbortsAs o s.window t a unit (abort_by s a.request unit)
+  immediate_missing at_once exp max own x =
+      let w : Received = s.window in
+      let r : Request = a.request in
+      let e : ℕ = number_expected w in
+      let n : ℕ = lift e (ref_cmd_sn r) in
+      let below : Bool = nat_lt n a.number in
+      let inside : Bool = nat_le e n && nat_lt n (e + room_of w) in
+      let voids : List Mark = cond (is_received t n) [] (Voids n ∷ []) ++ answer a 0 in
+      let some : 1 ≤ e = omega arith in
+      let marks : abort_task o t a unit ≡ cond (inside && below) voids (answer a 1) =
+      x.marks ∙ ap (λ y. abort_missing o t a (lift y (ref_cmd_sn r))) exp
+      ∙ ap (λ b. cond (b && nat_le (exp_of o t) n && nat_le n (max_of o t) && below) voids (answer a 1)) at_once
+      ∙ ap (λ y. cond (nat_le y n && nat_le n (max_of o t) && below) voids (answer a 1)) exp
+      ∙ ap (λ y. cond (nat_le e n && nat_le n y && below) voids (answer a 1)) max
+      ∙ ap (λ b. cond (nat_le e n && b && below) voids (answer a 1)) (within_window e n (length w.places) w.unfinished some f.window.few) in
+      elim inside as (λ b. inside ≡ b → abort_task o t a unit ≡ cond (b && below) voids (answer a 1) → AbortsAs o w t a unit (abort_by s r unit)) [
+        | false ↦ λ is m.
+            let outcome : abort_by s r unit ≡ Respond 1 = x.outcome ∙ ap (missing_at s r) (outside_place w n (ref_cmd_sn r) is refl) in
+            subst (AbortsAs o w t a unit) (sym outcome) m
+        | true ↦ λ is m.
+            let low : e ≤ n = grind (arith, nat_tests) in
+            let high : n < e + room_of w = grind (arith, nat_tests) in
+            let outcome : abort_by s r unit ≡ cond below (VoidNumber (ref_cmd_sn r)) (Respond 1) =
+            x.outcome ∙ ap (missing_at s r) (inside_place w n (ref_cmd_sn r) low high refl)
+            ∙ ap (λ b. cond (b && nat_lt (e + (n - e)) (lift e (cmd_sn r))) (VoidNumber (ref_cmd_sn r)) (Respond 1)) at_once
+            ∙ ap (λ y. cond (nat_lt y (lift e (cmd_sn r))) (VoidNumber (ref_cmd_sn r)) (Respond 1)) (let z : e + (n - e) ≡ n = omega (arith, low) in z)
+            ∙ ap (λ y. cond (nat_lt n y) (VoidNumber (ref_cmd_sn r)) (Respond 1)) (sym own) in
+            subst (AbortsAs o w t a unit) (sym outcome)
+            (elim below as (λ b. abort_task o t a unit ≡ cond b voids (answer a 1) → AbortsAs o w t a unit (cond b (VoidNumber (ref_cmd_sn r)) (Respond 1))) [
+              | true ↦ λ said. record { marks = said; low = low; high = high; sn_is = refl }
+              | false ↦ λ said. said
+            ] m)
+      ] refl marks
+
+-- what a settled session and the definitions find
+found_settled : (o : Setting) (s : Core) (t : Trace) (a : Arrival) (unit : ℕ) → Settled o s t → unit < o.units → a.number ≡ lift (number_expected s.window) (cmd_sn a.request) → Found o s t a unit
+found_settled o s t a unit h inside own =
+    let e : ℕ = number_expected s.window in
+    let w = h.agrees.window in
+    let exp : exp_of o t ≡ e = settled_expected o s t h in
+    record {
+      window = w;
+      lives = h.agrees.commands.commands;
+      apart = h.agrees.commands.apart;
+      held_same = ap (λ n. option_map (λ (x : Arrival). x.number) (held_command o t (rtt a.request) unit n)) (own ∙ ap (λ x. lift x (cmd_sn a.request)) (sym exp))
+          ∙ held_command-is o s.window t (rtt a.request) unit (cmd_sn a.request) w exp inside;
+      held_inside = λ x found. let k = held_command-held o t (rtt a.request) unit a.number x found in (k.0, (omega (arith, k.1.0, exp), omega (arith, k.1.1, exp, w.size)));
+    }
+
+pub AbortsAs-settled : (o : Setting) (s : Core) (t : Trace) (a : Arrival) (unit : ℕ) → Settled o s t → is_immediate a.request ≡ true → unit < o.units → a.number ≡ lift (number_expected s.window) (cmd_sn a.request)
+    → AbortsAs o s.window t a unit (abort_by s a.request unit)
+AbortsAs-settled o s t a unit h at_once inside own =
+    let f : Found o s t a unit = found_settled o s t a unit h inside own in
+    by_found o s t a unit f (immediate_missing o s t a unit f at_once (settled_expected o s t h) (settled_max o s t h) own)
+
+-- an immediate request begins to execute, and nothing is due still
+pub Settled-executes : (o : Setting) (s : Core) (t : Trace) (a : Arrival) → Settled o s t → waiting ((Executes a ∷ []) ∷ t) ≡ map (arrival_waiting o.first) s.waiting → Settled o s ((Executes a ∷ []) ∷ t)
+Settled-executes o s t a h waits =
+    let b = h.agrees in
+    let item : List Mark = Executes a ∷ [] in
+    let u : Untouched item = record { enters_none = refl; leaves_no = λ k. refl } in
+    let q : IsQuiet item = record { receives = refl; admits = λ n. refl; delivers_none = refl; delivers_no = λ n. refl; empties_no = λ n. refl } in
+    record {
+      agrees = record {
+        events = b.events;
+        window = WindowAgrees-quiet o s.window t item q b.window;
+        replies = RepliesAgree-quiet o s.conns t item refl b.replies;
+        commands = CommandsAgree-untouched o s.live s.entered t item u b.commands;
+        sets = SetsAgree-untouched o s.sets t item u b.sets;
+        unfinished = b.unfinished ∙ sym (unfinished-untouched item t u);
+        enabled = EnabledSoFar-untouched o item t u b.enabled;
+        level = b.level;
+        arrived = ArrivalsAgree-quiet s.window s.arrived t item q b.arrived;
+        waiting = record { list = waits; may = b.waiting.may };
+      };
+      none_due = h.none_due;
+    }
+
+-- ABORT TASK that is immediate, at its arrival
+pub AbortsAs-arrived : (o : Setting) (s : Core) (index : ℕ) (t : Trace) (r : Request) (unit : ℕ) → Settled o s t → is_immediate r ≡ true → unit < o.units → waiting ((Executes (arrival_of o index t r) ∷ []) ∷ t) ≡ map (arrival_waiting o.first) s.waiting
+    → AbortsAs o s.window ((Executes (arrival_of o index t r) ∷ []) ∷ t) (arrival_of o index t r) unit (abort_by s r unit)
+AbortsAs-arrived o s index t r unit h at_once inside waits =
+    let a : Arrival = arrival_of o index t r in
+    AbortsAs-settled o s ((Executes a ∷ []) ∷ t) a unit (Settled-executes o s t a h waits) at_once inside (ap (λ e. lift e (cmd_sn r)) (settled_expected o s t h))
+
+-- ---- a numbered function at its turn
+
+-- ExpCmdSN isn't below the next number of the window
+pub expected_from : (o : Setting) (w : Received) (t : Trace) → WindowAgrees o w t → number_expected w ≤ exp_of o t
+expected_from o w t h =
+    let e : ℕ = exp_of o t in
+    ⊎_elim (λ lt. absurd (false≢true (sym (expected_gone o.first t) ∙ h.below e (expected_low o.first t) lt))) (λ ge. ge) (cases_lt e (number_expected w))
+
+-- the number of the request that turned last, by what the wire shows
+last_number : (e n sn : ℕ) → 2 ^ 32 ≤ e → n + 1 ≡ e → wire sn ≡ wire n → lift e sn ≡ n
+last_number e n sn big next shows = omega (arith, next, shows)
+
+module _ (o : Setting) (s : Core) (t : Trace) (a : Arrival) (unit : ℕ) where
+  -- no number is voided by it
+  numbered_missing : (f : Found o s t a unit) → is_immediate a.request ≡ false → Neither o s t a unit f → AbortsAs o s.window t a unit (abort_by s a.request unit)
+  numbered_missing f later x =
+      let r : Request = a.request in
+      let n : ℕ = lift (exp_of o t) (ref_cmd_sn r) in
+      let outcome : abort_by s r unit ≡ Respond 1 = x.outcome ∙ by_place (place_in s.window (ref_cmd_sn r)) in
+      let marks : abort_task o t a unit ≡ answer a 1 =
+      x.marks ∙ ap (λ b. cond (b && nat_le (exp_of o t) n && nat_le n (max_of o t) && nat_lt n a.number) (cond (is_received t n) [] (Voids n ∷ []) ++ answer a 0) (answer a 1)) later in
+      subst (AbortsAs o s.window t a unit) (sym outcome) marks
+    where
+      by_place : (p : Place) → missing_at s a.request p ≡ Respond 1
+      by_place NoPlace = refl
+      by_place (Inside k) = ap (λ b. cond (b && nat_lt (number_expected s.window + k) (lift (number_expected s.window) (cmd_sn a.request))) (VoidNumber (ref_cmd_sn a.request)) (Respond 1)) later
+
+  pub AbortsAs-numbered : WindowAgrees o s.window t → s.live ≡ map kept (live t) → are_apart (live t) ≡ true → is_immediate a.request ≡ false → a.number + 1 ≡ number_expected s.window → wire (cmd_sn a.request) ≡ wire a.number
+      → AbortsAs o s.window t a unit (abort_by s a.request unit)
+  AbortsAs-numbered w lives apart later next shows =
+      let e : ℕ = number_expected s.window in
+      let exp : e ≤ exp_of o t = expected_from o s.window t w in
+      let own : lift e (cmd_sn a.request) ≡ a.number = last_number e a.number (cmd_sn a.request) (omega arith) next shows in
+      let nowhere : held_command o t (rtt a.request) unit a.number ≡ None = held_command-none o t (rtt a.request) unit a.number (omega (arith, exp, next)) in
+      let no_place : find_command s.window (rtt a.request) unit (cmd_sn a.request) ≡ None =
+      ap (λ n. position (is_command (rtt a.request) unit) (take n s.window.places)) (let z : lift e (cmd_sn a.request) - e ≡ 0 = omega (arith, own, next) in z) in
+      let f : Found o s t a unit = record {
+        window = w;
+        lives = lives;
+        apart = apart;
+        held_same = ap (option_map (λ (x : Arrival). x.number)) nowhere ∙ sym (ap (option_map (λ k. e + k)) no_place);
+        held_inside = λ x found. absurd (let z : None ≡ Some x = sym nowhere ∙ found in cc);
+      } in
+      by_found o s t a unit f (numbered_missing f later)
+
+-- ABORT TASK that is numbered, at its turn
+pub AbortsAs-turned : (o : Setting) (s : Core) (t : Trace) (r : Request) (unit : ℕ) → Agrees o s t → at_place s.window 0 ≡ Some (Some r) → (x : Next s.window t r)
+    → AbortsAs o (turned_window s.window) ((Delivers x.arrival ∷ []) ∷ t) x.arrival unit (abort_by (record s { window = turned_window s.window }) x.arrival.request unit)
+AbortsAs-turned o s t r unit h place x =
+    let a : Arrival = x.arrival in
+    let e : ℕ = number_expected s.window in
+    let item : List Mark = Delivers a ∷ [] in
+    let q : IsQuiet [] = record { receives = refl; admits = λ n. refl; delivers_none = refl; delivers_no = λ n. refl; empties_no = λ n. refl } in
+    let u : Untouched item = record { enters_none = refl; leaves_no = λ k. refl } in
+    let commands = CommandsAgree-untouched o s.live s.entered t item u h.commands in
+    let number : a.number ≡ e = held-number t e a x.held_is in
+    let admitted_is = admitted_of_held t e a x.held_is in
+    let regular = and_parts (not (is_immediate a.request)) (is_known (connection_of a.request) o.conns) (h.window.requests e a admitted_is) in
+    let numbered : is_immediate a.request ≡ false = not_true (is_immediate a.request) regular.0 in
+    AbortsAs-numbered o (record s { window = turned_window s.window }) (item ∷ t) a unit (WindowAgrees-turned o s.window t r [] h.window place x q).agrees commands.commands commands.apart numbered
+    (let z : a.number + 1 ≡ number_expected (turned_window s.window) = omega (arith, number) in z) (h.window.numbers e a admitted_is ∙ ap wire (sym number))
+
+-- ---- the window after it
+
+module _ (o : Setting) (w : Received) (t : Trace) (m : Mark) (a : Arrival) (unit sn : ℕ) (ms : List Mark) (h : WindowAgrees o w t) (q : IsQuiet (m ∷ [])) (qs : IsQuiet ms) where
+  -- the held request is out of the window
+  pub WindowAgrees-emptying : length w.places ≤ 1024 → (x : EmptiesHeld o w ((m ∷ []) ∷ t) a unit sn) → WindowAgrees o (emptied w sn) ((m ∷ Empties x.request ∷ ms) ∷ t)
+  WindowAgrees-emptying small x =
+      let n : ℕ = x.request.number in
+      let held_is : held t n ≡ Some x.request = sym (held-quiet (m ∷ []) t n q) ∙ x.held_is in
+      let becomes : emptied w sn ≡ with_place w (n - number_expected w) (Some None) = ap (emptied w) x.shown ∙ (emptied_at o w t n x.request h small held_is x.low x.high).becomes in
+      subst (λ v. WindowAgrees o v ((m ∷ Empties x.request ∷ ms) ∷ t)) (sym becomes) (WindowAgrees-emptied o w t m n x.request ms h q qs held_is x.low x.high)
+
+  -- the number is received
+  pub WindowAgrees-voiding : (x : VoidsMissing o w ((m ∷ []) ∷ t) a unit sn)
+      → WindowAgrees o (voided w sn) ((m ∷ (cond (is_received ((m ∷ []) ∷ t) (lift (number_expected w) sn)) [] (Voids (lift (number_expected w) sn) ∷ []) ++ ms)) ∷ t)
+  WindowAgrees-voiding x =
+      let n : ℕ = lift (number_expected w) sn in
+      let same : is_received ((m ∷ []) ∷ t) n ≡ is_received t n = ap (λ ns. contains ns n) (received-quiet (m ∷ []) t q) in
+      let v : VoidedAt w t sn n = voided_at o w t sn n h x.low x.high refl in
+      elim (is_received ((m ∷ []) ∷ t) n) as (λ b. is_received ((m ∷ []) ∷ t) n ≡ b → WindowAgrees o (voided w sn) ((m ∷ (cond b [] (Voids n ∷ []) ++ ms)) ∷ t)) [
+        | true ↦ λ is. subst (λ u. WindowAgrees o u ((m ∷ ms) ∷ t)) (sym (v.known (sym same ∙ is))) (WindowAgrees-quiet o w t (m ∷ ms) both_quiet h)
+        | false ↦ λ is. let gone : is_received t n ≡ false = sym same ∙ is in subst (λ u. WindowAgrees o u ((m ∷ Voids n ∷ ms) ∷ t)) (sym (v.new gone)) (WindowAgrees-voided o w t m n ms h q qs x.low x.high gone)
+      ] refl
+    where
+      both_quiet : IsQuiet (m ∷ ms)
+      both_quiet = quiet-both m ms q qs
+
+-- what a voided number shows
+pub void_effects-are : (o : Setting) (s : Core) (t : Trace) (m : Mark) (a : Arrival) (unit sn : ℕ) → WindowAgrees o s.window t → IsQuiet (m ∷ []) → wire sn ≡ sn → VoidsMissing o s.window ((m ∷ []) ∷ t) a unit sn
+    → void_effects s sn ≡ flat_map (effects_of_mark o t) (cond (is_received ((m ∷ []) ∷ t) (lift (number_expected s.window) sn)) [] (Voids (lift (number_expected s.window) sn) ∷ []))
+void_effects-are o s t m a unit sn h q fits x =
+    let w : Received = s.window in
+    let n : ℕ = lift (number_expected w) sn in
+    let same : is_received ((m ∷ []) ∷ t) n ≡ is_received t n = ap (λ ns. contains ns n) (received-quiet (m ∷ []) t q) in
+    let shows : wire n ≡ sn = wire-lift (number_expected w) sn ∙ fits in
+    ap (λ b. cond b [] (Void sn ∷ [])) ((voided_at o w t sn n h x.low x.high refl).received_is ∙ sym same)
+    ∙ ap (λ k. cond (is_received ((m ∷ []) ∷ t) n) [] (Void k ∷ [])) (sym shows)
+    ∙ elim (is_received ((m ∷ []) ∷ t) n) as (λ b. cond b [] (Void (wire n) ∷ []) ≡ flat_map (effects_of_mark o t) (cond b [] (Voids n ∷ []))) [ true ↦ refl | false ↦ refl ]
