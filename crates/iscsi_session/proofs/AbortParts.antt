@@ -1,14 +1,15 @@
 -- What ABORT TASK comes to, by what a session keeps, and by the definitions.
-use Rattle.std.proofs.Common.{◌≡◌, ℕ, suc, ◌+◌, ◌-◌, ◌<◌, ◌≤◌, ◌==◌, ◌&&◌, ◌||◌, ◌^◌, not, ⊎_elim, cond, Bool, true, false, nat_lt, nat_le, List, [], ◌∷◌, ◌++◌, length, map, filter, take, position, Option, Some, None, option_map, refl, ap, sym, subst, ◌∙◌, arith, eq-eqb}
-use Rattle.std.specs.List.{list_any, flat_map, filter_map}
+use Rattle.std.proofs.Common.{◌≡◌, ℕ, ℤ, ◌+◌, ◌-◌, ◌<◌, ◌≤◌, ◌==◌, ◌&&◌, ◌^◌, not, ⊎_elim, cond, Bool, true, false, nat_lt, nat_le, List, [], ◌∷◌, ◌++◌, length, map, filter, take, position, Option, Some, None, option_map, refl, ap, sym, subst, ◌∙◌, arith, eq-eqb}
+use Rattle.std.specs.List.{list_any, flat_map}
 use Rattle.std.proofs.lemmas.Bool.{cases_lt, false≢true, eqb-true}
 use Rattle.std.proofs.lemmas.Bool.Decides.{nat_tests}
 use Rattle.iscsi_wire.specs.declared.request.Request.{Request}
 use Rattle.iscsi_wire.specs.Serial.{wire, lift}
-use Rattle.iscsi_wire.specs.Fields.{connection_of, is_immediate, opcode, itt, rtt, cmd_sn, ref_cmd_sn}
+use Rattle.iscsi_wire.specs.Fields.{connection_of, is_immediate, opcode, function, itt, rtt, cmd_sn, ref_cmd_sn}
 use Rattle.iscsi_window.specs.declared.answer.Place.{Place}
 use Rattle.iscsi_window.specs.declared.answer.Place.TheVariants.{Inside, Outside as NoPlace}
-use Rattle.iscsi_window.specs.Windows.{Received, number_expected, room_of, at_place, with_place, place_in, is_command, voided, find_command, number_shown, emptied}
+use Rattle.iscsi_window.specs.Windows.{Received, number_expected, room_of, at_place, with_place, place_in, IsInside, is_command, voided, find_command, number_shown, emptied}
+use Rattle.iscsi_tasks.specs.declared.cover.Cover.TheVariants.{All as AllOfThem, Below}
 use Rattle.iscsi_session.specs.declared.effect.Effect.TheVariants.{Void}
 use Rattle.iscsi_session.specs.declared.outcome.Outcome.{Outcome}
 use Rattle.iscsi_session.specs.declared.outcome.Outcome.TheVariants.{Respond, Abort, AbortAll, Empty as EmptyNumber, Void as VoidNumber}
@@ -20,7 +21,7 @@ use Rattle.iscsi_session.specs.Management.{answer, live_with_tag, held_command, 
 use Rattle.iscsi_session.specs.Agenda.{arrival_of}
 use Rattle.iscsi_session.specs.Standing.{Core, task_of, kept, are_apart, arrival_waiting, WindowAgrees, Agrees, Settled}
 use Rattle.iscsi_session.specs.Run.{effects_of_mark}
-use Rattle.iscsi_session.specs.Functions.{missing_at, tagged_in, abort_by, covers_ticket, void_effects}
+use Rattle.iscsi_session.specs.Functions.{missing_at, tagged_in, abort_by, answer_if, outcome_by, covers_ticket, void_effects}
 use Rattle.iscsi_session.proofs.BoolLemmas.{and_parts, or_none, not_true}
 use Rattle.iscsi_session.proofs.NumberLemmas.{wire-lift}
 use Rattle.iscsi_session.proofs.Missing.{expected_gone, expected_low}
@@ -390,3 +391,63 @@ void_effects-are o s t m a unit sn h q fits x =
     ap (λ b. cond b [] (Void sn ∷ [])) ((voided_at o w t sn n h x.low x.high refl).received_is ∙ sym same)
     ∙ ap (λ k. cond (is_received ((m ∷ []) ∷ t) n) [] (Void k ∷ [])) (sym shows)
     ∙ elim (is_received ((m ∷ []) ∷ t) n) as (λ b. cond b [] (Void (wire n) ∷ []) ≡ flat_map (effects_of_mark o t) (cond b [] (Voids n ∷ []))) [ true ↦ refl | false ↦ refl ]
+
+-- ---- what is known of an outcome
+
+module _ (s : Core) (r : Request) (unit : ℕ) where
+  -- a number that is voided is in the window
+  void_place : (sn : ℕ) (p : Place) → place_in s.window (ref_cmd_sn r) ≡ p → missing_at s r p ≡ VoidNumber sn → IsInside (place_in s.window sn)
+  void_place sn NoPlace is said = absurd cc
+  void_place sn (Inside k) is said =
+      elim (is_immediate r && nat_lt (number_expected s.window + k) (lift (number_expected s.window) (cmd_sn r))) as (λ b. cond b (VoidNumber (ref_cmd_sn r)) (Respond 1) ≡ VoidNumber sn → IsInside (place_in s.window sn)) [
+        | true ↦ λ e. let same : ref_cmd_sn r ≡ sn = cc in subst (λ x. IsInside (place_in s.window x)) same (subst IsInside (sym is) record {})
+        | false ↦ λ e. absurd cc
+      ] said
+
+  pub void_inside : (sn : ℕ) → abort_by s r unit ≡ VoidNumber sn → IsInside (place_in s.window sn)
+  void_inside sn said = by_found_both (tagged_in s (rtt r) unit) (find_command s.window (rtt r) unit (cmd_sn r)) said
+    where
+      by_found_both : (x : Option Live) (y : Option ℕ) → outcome_by_found s r x y ≡ VoidNumber sn → IsInside (place_in s.window sn)
+      by_found_both (Some l) y h = absurd cc
+      by_found_both None (Some k) h = absurd cc
+      by_found_both None None h = void_place sn (place_in s.window (ref_cmd_sn r)) refl h
+
+  -- a command that is aborted is the live one with the tag
+  pub abort_found : (ticket : ℕ) → abort_by s r unit ≡ Abort ticket → (l : Live) × ((tagged_in s (rtt r) unit ≡ Some l) × (l.ticket ≡ ticket))
+  abort_found ticket said = by_live (tagged_in s (rtt r) unit) refl said
+    where
+      by_place : (p : Place) → missing_at s r p ≡ Abort ticket → ⊥
+      by_place NoPlace h = cc
+      by_place (Inside k) h =
+          elim (is_immediate r && nat_lt (number_expected s.window + k) (lift (number_expected s.window) (cmd_sn r))) as (λ b. cond b (VoidNumber (ref_cmd_sn r)) (Respond 1) ≡ Abort ticket → ⊥) [ true ↦ λ e. cc | false ↦ λ e. cc ] h
+
+      by_number : (y : Option ℕ) → outcome_by_found s r None y ≡ Abort ticket → ⊥
+      by_number (Some k) h = cc
+      by_number None h = by_place (place_in s.window (ref_cmd_sn r)) h
+
+      by_live : (x : Option Live) → tagged_in s (rtt r) unit ≡ x → outcome_by_found s r x (find_command s.window (rtt r) unit (cmd_sn r)) ≡ Abort ticket → (l : Live) × ((tagged_in s (rtt r) unit ≡ Some l) × (l.ticket ≡ ticket))
+      by_live (Some l) is h = (l, (is, cc))
+      by_live None is h = absurd (by_number (find_command s.window (rtt r) unit (cmd_sn r)) h)
+
+-- an outcome that voids a number or aborts one command is ABORT TASK's
+pub outcome_void : (s : Core) (r : Request) (number : ℤ) (event unit sn : ℕ) → outcome_by s r number event unit ≡ VoidNumber sn → IsInside (place_in s.window sn)
+outcome_void s r number event unit sn h =
+    by_tests (function r == 1) (function r == 5) (function r == 9) (function r == 10) (list_any (λ l. l.unit == unit && l.itt == rtt r) s.live) (list_any (λ l. l.unit == unit) s.live) h
+  where
+    by_tests : (b c d e x y : Bool) → cond b (abort_by s r unit) (cond c (AbortAll AllOfThem) (cond d (answer_if x) (cond e (answer_if y) (AbortAll (Below number event))))) ≡ VoidNumber sn → IsInside (place_in s.window sn)
+    by_tests true c d e x y h = void_inside s r unit sn h
+    by_tests false true d e x y h = absurd cc
+    by_tests false false true e x y h = absurd cc
+    by_tests false false false true x y h = absurd cc
+    by_tests false false false false x y h = absurd cc
+
+pub outcome_abort : (s : Core) (r : Request) (number : ℤ) (event unit ticket : ℕ) → outcome_by s r number event unit ≡ Abort ticket → (l : Live) × ((tagged_in s (rtt r) unit ≡ Some l) × (l.ticket ≡ ticket))
+outcome_abort s r number event unit ticket h =
+    by_tests (function r == 1) (function r == 5) (function r == 9) (function r == 10) (list_any (λ l. l.unit == unit && l.itt == rtt r) s.live) (list_any (λ l. l.unit == unit) s.live) h
+  where
+    by_tests : (b c d e x y : Bool) → cond b (abort_by s r unit) (cond c (AbortAll AllOfThem) (cond d (answer_if x) (cond e (answer_if y) (AbortAll (Below number event))))) ≡ Abort ticket → (l : Live) × ((tagged_in s (rtt r) unit ≡ Some l) × (l.ticket ≡ ticket))
+    by_tests true c d e x y h = abort_found s r unit ticket h
+    by_tests false true d e x y h = absurd cc
+    by_tests false false true e x y h = absurd cc
+    by_tests false false false true x y h = absurd cc
+    by_tests false false false false x y h = absurd cc

@@ -21,7 +21,7 @@ use Rattle.iscsi_session.proofs.Missing.{expected_past}
 use Rattle.iscsi_session.proofs.WindowParts.{Next, next_request, Passed, passed_at, WindowAgrees-passed}
 use Rattle.iscsi_session.proofs.ArrivedLemmas.{ArrivalsAgree-passed}
 use Rattle.iscsi_session.proofs.BoolLemmas.{and_parts}
-use Rattle.iscsi_session.proofs.ListLemmas.{list_all-filter}
+use Rattle.iscsi_session.proofs.ListLemmas.{list_all-filter, find-passes}
 use Rattle.iscsi_session.proofs.WaitLemmas.{next_function, no_function}
 use Rattle.iscsi_session.proofs.ReceiveLemmas.{turn_receives_none, function_receives_none}
 use Rattle.iscsi_session.proofs.TurnLemmas.{turned_core, turned_is, turn_effects-are, numbered_held}
@@ -104,6 +104,10 @@ pub Due-start : (o : Setting) (s₀ : Core) (t₀ : Trace) (out₀ : List Effect
 Due-start o s₀ t₀ out₀ a = record { trace = t₀; agrees = a; same = refl; effects = refl; after = refl }
 
 -- ---- the functions of the next number
+
+all_map : {A B : Type 0} (p : B → Bool) (f : A → B) (xs : List A) → list_all p (map f xs) ≡ list_all (λ x. p (f x)) xs
+all_map p f [] = refl
+all_map p f (x ∷ xs) = ap (λ b. p (f x) && b) (all_map p f xs)
 
 -- the functions of a number receive none
 functions_receive_none : (o : Setting) (as' : List Arrival) (t : Trace) → list_all (λ a. may_wait a.request) as' ≡ true → received (after_items (functions o as' t) t) ≡ received t

@@ -88,7 +88,7 @@ is_known-cids cid xs ys h =
 -- ---- live commands
 
 -- one of some commands that all pass
-pub find-passes : (p q : Live → Bool) (lives : List Live) (l : Live) → list_all q lives ≡ true → find p lives ≡ Some l → q l ≡ true
+pub find-passes : {A : Type 0} (p q : A → Bool) (lives : List A) (l : A) → list_all q lives ≡ true → find p lives ≡ Some l → q l ≡ true
 find-passes p q [] l all found = absurd cc
 find-passes p q (x ∷ lives) l all found =
     elim (p x) as (λ b. cond b (Some x) (find p lives) ≡ Some l → q l ≡ true) [

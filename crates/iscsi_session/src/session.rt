@@ -3,11 +3,11 @@
 ghost use Rattle.std.specs.Prelude.{Err, ◌*◌, ◌≡◌, ◌≢◌, ℕ, ◌+◌, ◌≤◌, ◌<◌, true, List, [], ◌∷◌, ◌++◌, OnOk, OnErr, IfOk, length, nat_lt, count_by, is_some, vec_len, vec_capacity};
 ghost use Rattle.std.specs.List.{list_all};
 ghost use Rattle.iscsi_session.specs.Settings.{Setting, setting_of};
-ghost use Rattle.iscsi_session.specs.Trace.{Trace, after_items};
+ghost use Rattle.iscsi_session.specs.Trace.{Trace, after_items, received};
 ghost use Rattle.std.specs.VecDeque.{deque_capacity};
 ghost use Rattle.iscsi_session.specs.Agenda.{arrival, items_of};
 ghost use Rattle.iscsi_session.specs.Run.{trace_of, next_entry, effects_of};
-ghost use Rattle.iscsi_session.specs.Flow.{Flows};
+ghost use Rattle.iscsi_session.specs.Flow.{Flows, HasOneMore};
 ghost use Rattle.iscsi_session.specs.Refusals.{RefusesAs, refusal_of, refusal_of_options};
 ghost use Rattle.iscsi_session.specs.Standing.{Settled, StandsFor, effect_bound_of, is_held, are_ascending};
 ghost use Rattle.iscsi_session.specs.Steps.{refusal_by, comes_on, KeepsPace, counted, numbers_by};
@@ -197,6 +197,7 @@ impl Session {
         requires room { vec_len out.old + 12 * (count_by is_held self.old.window.places + length self.old.waiting + 1) + 2 * length self.old.live ≤ vec_capacity out.old }
         ensures settled { (o : Setting) (index : ℕ) (t : Trace) → self.old.taken ≡ index + 1 → Settled o self.old t → Settled o self.new (after_items (items_of o index t event.now) t) }
         ensures effects { (o : Setting) (index : ℕ) (t : Trace) → self.old.taken ≡ index + 1 → Settled o self.old t → out.new.items ≡ out.old.items ++ effects_of o t (items_of o index t event.now) }
+        ensures received { (o : Setting) (index : ℕ) (t : Trace) → self.old.taken ≡ index + 1 → Settled o self.old t → HasOneMore (received t) (received (after_items (items_of o index t event.now) t)) }
         ensures taken { self.new.taken ≡ self.old.taken }
         ensures pace { KeepsPace self.old.window self.new.window }
         ensures spent { vec_len out.new ≤ vec_len out.old + 12 * (count_by is_held self.old.window.places + length self.old.waiting + 1) + 2 * length self.old.live }

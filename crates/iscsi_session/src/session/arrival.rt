@@ -6,7 +6,8 @@ ghost use Rattle.std.specs.VecDeque.{deque_capacity};
 ghost use Rattle.iscsi_wire.specs.Fields.{connection_of, is_immediate, opcode};
 ghost use Rattle.iscsi_window.specs.Windows.{at_place, offer_to, number_expected};
 ghost use Rattle.iscsi_session.specs.Settings.{Setting, is_known as known_in};
-ghost use Rattle.iscsi_session.specs.Trace.{Trace, after_items};
+ghost use Rattle.iscsi_session.specs.Trace.{Trace, after_items, received};
+ghost use Rattle.iscsi_session.specs.Flow.{HasOneMore};
 ghost use Rattle.iscsi_session.specs.Execution.{exp_of};
 ghost use Rattle.iscsi_session.specs.Agenda.{arrival, arrival_of, numbered};
 ghost use Rattle.iscsi_session.specs.Items.{agenda, functions_at};
@@ -34,6 +35,7 @@ impl Session {
         requires room { vec_len out.old + owed self.old.live self.old.sets + 6 * (count_by is_held self.old.window.places + length self.old.waiting + 1) ≤ vec_capacity out.old }
         ensures settled { (o : Setting) (index : ℕ) (t : Trace) → self.old.taken ≡ index + 1 → Settled o self.old t → Settled o self.new (after_items (arrival o t (arrival_of o index t request)) t) }
         ensures effects { (o : Setting) (index : ℕ) (t : Trace) → self.old.taken ≡ index + 1 → Settled o self.old t → out.new.items ≡ out.old.items ++ effects_of o t (arrival o t (arrival_of o index t request)) }
+        ensures received { (o : Setting) (index : ℕ) (t : Trace) → self.old.taken ≡ index + 1 → Settled o self.old t → HasOneMore (received t) (received (after_items (arrival o t (arrival_of o index t request)) t)) }
         ensures taken { self.new.taken ≡ self.old.taken }
         ensures pace { KeepsPace self.old.window self.new.window }
         ensures spent { vec_len out.new ≤ vec_len out.old + owed self.old.live self.old.sets + 6 * (count_by is_held self.old.window.places + length self.old.waiting + 1) }
@@ -59,8 +61,9 @@ impl Session {
         requires counted { self.old.window.turned + count_by is_some self.old.window.places < self.old.taken }
         requires entered { self.old.entered + count_by is_some self.old.window.places < self.old.taken }
         requires room { vec_len out.old + owed self.old.live self.old.sets + 6 * (count_by is_held self.old.window.places + length self.old.waiting + 1) ≤ vec_capacity out.old }
-        ensures settled { (o : Setting) (index : ℕ) (t : Trace) → Settled o self.old t → Settled o self.new (after_items (numbered o t (arrival_of o index t request)) t) }
-        ensures effects { (o : Setting) (index : ℕ) (t : Trace) → Settled o self.old t → out.new.items ≡ out.old.items ++ effects_of o t (numbered o t (arrival_of o index t request)) }
+        ensures settled { (o : Setting) (index : ℕ) (t : Trace) → self.old.taken ≡ index + 1 → Settled o self.old t → Settled o self.new (after_items (numbered o t (arrival_of o index t request)) t) }
+        ensures effects { (o : Setting) (index : ℕ) (t : Trace) → self.old.taken ≡ index + 1 → Settled o self.old t → out.new.items ≡ out.old.items ++ effects_of o t (numbered o t (arrival_of o index t request)) }
+        ensures received { (o : Setting) (index : ℕ) (t : Trace) → self.old.taken ≡ index + 1 → Settled o self.old t → HasOneMore (received t) (received (after_items (numbered o t (arrival_of o index t request)) t)) }
         ensures taken { self.new.taken ≡ self.old.taken }
         ensures pace { KeepsPace self.old.window self.new.window }
         ensures spent { vec_len out.new ≤ vec_len out.old + owed self.old.live self.old.sets + 6 * (count_by is_held self.old.window.places + length self.old.waiting + 1) }
@@ -98,6 +101,7 @@ impl Session {
         requires room { vec_len out.old + owed self.old.live self.old.sets + 6 * (count_by is_held self.old.window.places + length self.old.waiting) ≤ vec_capacity out.old }
         ensures settled { (o : Setting) (t : Trace) → Agrees o self.old t → Settled o self.new (after_items (agenda o (number_expected self.old.window) (exp_of o t - number_expected self.old.window) t) t) }
         ensures effects { (o : Setting) (t : Trace) → Agrees o self.old t → out.new.items ≡ out.old.items ++ effects_of o t (agenda o (number_expected self.old.window) (exp_of o t - number_expected self.old.window) t) }
+        ensures received { (o : Setting) (t : Trace) → Agrees o self.old t → received (after_items (agenda o (number_expected self.old.window) (exp_of o t - number_expected self.old.window) t) t) ≡ received t }
         ensures taken { self.new.taken ≡ self.old.taken }
         ensures pace { KeepsPace self.old.window self.new.window }
         ensures spent { vec_len out.new ≤ vec_len out.old + owed self.old.live self.old.sets + 6 * (count_by is_held self.old.window.places + length self.old.waiting) }

@@ -19,7 +19,7 @@ use iscsi_wire::{Request, distance};
 /// Task does not exist (RFC 7143 section 11.6.1).
 const NO_TASK: u8 = 1;
 
-/// Function succeeded (RFC 7144 section 4.2).
+/// Function succeeded (RFC 7144).
 const SUCCEEDED: u8 = 7;
 
 impl Session {

@@ -1,6 +1,5 @@
-use Rattle.std.proofs.Common.{rules, ◌≡◌, ◌∙◌, cond, ap, sym, subst, arith, count_by, is_some, true, false, ℕ}
+use Rattle.std.proofs.Common.{rules, ◌≡◌, ◌∙◌, cond, ap, sym, subst, arith, is_some, true, ℕ}
 use Rattle.iscsi_window.specs.Windows.{Received, place_in, held_at}
-use Rattle.iscsi_session.specs.Standing.{is_held}
 use Rattle.iscsi_session.proofs.WindowLemmas.{Changed, emptied_changes}
 use Rattle.iscsi_session.proofs.session.Session.empty_number.Goals as goal
 
