@@ -1,5 +1,5 @@
 -- What ABORT TASK comes to, by what a session keeps, and by the definitions.
-use Rattle.std.proofs.Common.{◌≡◌, ℕ, ℤ, ◌+◌, ◌-◌, ◌<◌, ◌≤◌, ◌==◌, ◌&&◌, ◌^◌, not, ⊎_elim, cond, Bool, true, false, nat_lt, nat_le, List, [], ◌∷◌, ◌++◌, length, map, filter, take, position, Option, Some, None, option_map, refl, ap, sym, subst, ◌∙◌, arith, eq-eqb}
+use Rattle.std.proofs.Common.{◌≡◌, ℕ, ℤ, ◌+◌, ◌-◌, ◌<◌, ◌≤◌, ◌==◌, ◌&&◌, ◌^◌, not, ◌⊎◌, inl, inr, ⊎_elim, cond, Bool, true, false, nat_lt, nat_le, List, [], ◌∷◌, ◌++◌, length, map, filter, take, position, Option, Some, None, option_map, refl, ap, sym, subst, ◌∙◌, arith, eq-eqb}
 use Rattle.std.specs.List.{list_any, flat_map}
 use Rattle.std.proofs.lemmas.Bool.{cases_lt, false≢true, eqb-true}
 use Rattle.std.proofs.lemmas.Bool.Decides.{nat_tests}
@@ -36,7 +36,7 @@ use Rattle.iscsi_session.proofs.SetParts.{SetsAgree-untouched}
 use Rattle.iscsi_session.proofs.EnablingLemmas.{EnabledSoFar-untouched}
 use Rattle.iscsi_session.proofs.AgreeLemmas.{settled_expected, settled_max, unfinished-untouched}
 use Rattle.iscsi_session.proofs.MissingLemmas.{quiet-both, WindowAgrees-voided, WindowAgrees-emptied, inside_place, outside_place, VoidedAt, voided_at, emptied_at}
-use Rattle.iscsi_session.proofs.FindLemmas.{held_command-is, held_command-held, held_command-none, tagged_in-is}
+use Rattle.iscsi_session.proofs.FindLemmas.{held_command-is, held_command-held, held_command-below, held_command-none, tagged_in-is}
 
 -- ---- one command by its ticket
 
@@ -85,6 +85,7 @@ pub record EmptiesHeld (o : Setting) (w : Received) (t : Trace) (a : Arrival) (u
   pub held_is : held t request.number ≡ Some request
   pub low : number_expected w ≤ request.number
   pub high : request.number < number_expected w + length w.places
+  pub near : request.number < number_expected w + 2 ^ 31
   pub shown : sn ≡ wire request.number
 
 -- a number is received without a request, if it wasn't received before
@@ -123,7 +124,7 @@ pub record Found (o : Setting) (s : Core) (t : Trace) (a : Arrival) (unit : ℕ)
   pub lives : s.live ≡ map kept (live t)
   pub apart : are_apart (live t) ≡ true
   pub held_same : option_map (λ (h : Arrival). h.number) (held_command o t (rtt a.request) unit a.number) ≡ option_map (λ k. number_expected s.window + k) (find_command s.window (rtt a.request) unit (cmd_sn a.request))
-  pub held_inside : (h : Arrival) → held_command o t (rtt a.request) unit a.number ≡ Some h → (held t h.number ≡ Some h) × ((number_expected s.window ≤ h.number) × (h.number < number_expected s.window + length s.window.places))
+  pub held_inside : (h : Arrival) → held_command o t (rtt a.request) unit a.number ≡ Some h → (held t h.number ≡ Some h) × ((number_expected s.window ≤ h.number) × ((h.number < number_expected s.window + length s.window.places) × (h.number < number_expected s.window + 2 ^ 31)))
 
 module _ (o : Setting) (s : Core) (t : Trace) (a : Arrival) (unit : ℕ) (f : Found o s t a unit) where
   found_live : (c : Command) → live_with_tag t (rtt a.request) unit ≡ Some c → AbortsAs o s.window t a unit (abort_by s a.request unit)
@@ -161,7 +162,8 @@ module _ (o : Setting) (s : Core) (t : Trace) (a : Arrival) (unit : ℕ) (f : Fo
             marks = (none_live none).1 ∙ ap (marks_by o t a None) found;
             held_is = inside.0;
             low = inside.1.0;
-            high = inside.1.1;
+            high = inside.1.1.0;
+            near = inside.1.1.1;
             shown = ap wire (sym number);
           })
 
@@ -253,7 +255,7 @@ found_settled o s t a unit h inside own =
       apart = h.agrees.commands.apart;
       held_same = ap (λ n. option_map (λ (x : Arrival). x.number) (held_command o t (rtt a.request) unit n)) (own ∙ ap (λ x. lift x (cmd_sn a.request)) (sym exp))
           ∙ held_command-is o s.window t (rtt a.request) unit (cmd_sn a.request) w exp inside;
-      held_inside = λ x found. let k = held_command-held o t (rtt a.request) unit a.number x found in (k.0, (omega (arith, k.1.0, exp), omega (arith, k.1.1, exp, w.size)));
+      held_inside = λ x found. let k = held_command-held o t (rtt a.request) unit a.number x found in (k.0, (omega (arith, k.1.0, exp), (omega (arith, k.1.1, exp, w.size), omega (arith, held_command-below o t (rtt a.request) unit a.number x found, own))));
     }
 
 pub AbortsAs-settled : (o : Setting) (s : Core) (t : Trace) (a : Arrival) (unit : ℕ) → Settled o s t → is_immediate a.request ≡ true → unit < o.units → a.number ≡ lift (number_expected s.window) (cmd_sn a.request)
@@ -280,7 +282,7 @@ Settled-executes o s t a h waits =
         enabled = EnabledSoFar-untouched o item t u b.enabled;
         level = b.level;
         arrived = ArrivalsAgree-quiet s.window s.arrived t item q b.arrived;
-        waiting = record { list = waits; may = b.waiting.may };
+        waiting = record { list = waits; may = b.waiting.may; known = b.waiting.known };
       };
       none_due = h.none_due;
     }
@@ -303,6 +305,30 @@ expected_from o w t h =
 -- the number of the request that turned last, by what the wire shows
 last_number : (e n sn : ℕ) → 2 ^ 32 ≤ e → n + 1 ≡ e → wire sn ≡ wire n → lift e sn ≡ n
 last_number e n sn big next shows = omega (arith, next, shows)
+
+-- no request is held below its number
+pub none_below : (w : Received) (r : Request) (unit n : ℕ) → n + 1 ≡ number_expected w → wire (cmd_sn r) ≡ wire n → find_command w (rtt r) unit (cmd_sn r) ≡ None
+none_below w r unit n next shows =
+    let own : lift (number_expected w) (cmd_sn r) ≡ n = last_number (number_expected w) n (cmd_sn r) (omega arith) next shows in
+    ap (λ k. position (is_command (rtt r) unit) (take k w.places)) (let z : lift (number_expected w) (cmd_sn r) - number_expected w ≡ 0 = omega (arith, own, next) in z)
+
+-- so it neither empties nor voids a number
+pub numbered_outcome : (s : Core) (r : Request) (unit n sn : ℕ) → is_immediate r ≡ false → n + 1 ≡ number_expected s.window → wire (cmd_sn r) ≡ wire n → (abort_by s r unit ≡ EmptyNumber sn) ⊎ (abort_by s r unit ≡ VoidNumber sn) → ⊥
+numbered_outcome s r unit n sn later next shows said =
+    by_live (tagged_in s (rtt r) unit) (⊎_elim (λ h. inl (sym (is_found (tagged_in s (rtt r) unit)) ∙ h)) (λ h. inr (sym (is_found (tagged_in s (rtt r) unit)) ∙ h)) said)
+  where
+    is_found : (x : Option Live) → outcome_by_found s r x (find_command s.window (rtt r) unit (cmd_sn r)) ≡ outcome_by_found s r x None
+    is_found x = ap (outcome_by_found s r x) (none_below s.window r unit n next shows)
+
+    by_place : (p : Place) → missing_at s r p ≡ Respond 1
+    by_place NoPlace = refl
+    by_place (Inside k) = ap (λ b. cond (b && nat_lt (number_expected s.window + k) (lift (number_expected s.window) (cmd_sn r))) (VoidNumber (ref_cmd_sn r)) (Respond 1)) later
+
+    by_live : (x : Option Live) → (outcome_by_found s r x None ≡ EmptyNumber sn) ⊎ (outcome_by_found s r x None ≡ VoidNumber sn) → ⊥
+    by_live (Some l) (inl h) = cc
+    by_live (Some l) (inr h) = cc
+    by_live None (inl h) = let z : Respond 1 ≡ EmptyNumber sn = sym (by_place (place_in s.window (ref_cmd_sn r))) ∙ h in cc
+    by_live None (inr h) = let z : Respond 1 ≡ VoidNumber sn = sym (by_place (place_in s.window (ref_cmd_sn r))) ∙ h in cc
 
 module _ (o : Setting) (s : Core) (t : Trace) (a : Arrival) (unit : ℕ) where
   -- no number is voided by it
@@ -358,11 +384,11 @@ AbortsAs-turned o s t r unit h place x =
 
 module _ (o : Setting) (w : Received) (t : Trace) (m : Mark) (a : Arrival) (unit sn : ℕ) (ms : List Mark) (h : WindowAgrees o w t) (q : IsQuiet (m ∷ [])) (qs : IsQuiet ms) where
   -- the held request is out of the window
-  pub WindowAgrees-emptying : length w.places ≤ 1024 → (x : EmptiesHeld o w ((m ∷ []) ∷ t) a unit sn) → WindowAgrees o (emptied w sn) ((m ∷ Empties x.request ∷ ms) ∷ t)
-  WindowAgrees-emptying small x =
+  pub WindowAgrees-emptying : (x : EmptiesHeld o w ((m ∷ []) ∷ t) a unit sn) → WindowAgrees o (emptied w sn) ((m ∷ Empties x.request ∷ ms) ∷ t)
+  WindowAgrees-emptying x =
       let n : ℕ = x.request.number in
       let held_is : held t n ≡ Some x.request = sym (held-quiet (m ∷ []) t n q) ∙ x.held_is in
-      let becomes : emptied w sn ≡ with_place w (n - number_expected w) (Some None) = ap (emptied w) x.shown ∙ (emptied_at o w t n x.request h small held_is x.low x.high).becomes in
+      let becomes : emptied w sn ≡ with_place w (n - number_expected w) (Some None) = ap (emptied w) x.shown ∙ (emptied_at o w t n x.request h x.near held_is x.low x.high).becomes in
       subst (λ v. WindowAgrees o v ((m ∷ Empties x.request ∷ ms) ∷ t)) (sym becomes) (WindowAgrees-emptied o w t m n x.request ms h q qs held_is x.low x.high)
 
   -- the number is received
@@ -381,14 +407,14 @@ module _ (o : Setting) (w : Received) (t : Trace) (m : Mark) (a : Arrival) (unit
       both_quiet = quiet-both m ms q qs
 
 -- what a voided number shows
-pub void_effects-are : (o : Setting) (s : Core) (t : Trace) (m : Mark) (a : Arrival) (unit sn : ℕ) → WindowAgrees o s.window t → IsQuiet (m ∷ []) → wire sn ≡ sn → VoidsMissing o s.window ((m ∷ []) ∷ t) a unit sn
+pub void_effects-are : (o : Setting) (s : Core) (t : Trace) (m : Mark) (a : Arrival) (unit sn : ℕ) → WindowAgrees o s.window t → IsQuiet (m ∷ []) → VoidsMissing o s.window ((m ∷ []) ∷ t) a unit sn
     → void_effects s sn ≡ flat_map (effects_of_mark o t) (cond (is_received ((m ∷ []) ∷ t) (lift (number_expected s.window) sn)) [] (Voids (lift (number_expected s.window) sn) ∷ []))
-void_effects-are o s t m a unit sn h q fits x =
+void_effects-are o s t m a unit sn h q x =
     let w : Received = s.window in
     let n : ℕ = lift (number_expected w) sn in
     let same : is_received ((m ∷ []) ∷ t) n ≡ is_received t n = ap (λ ns. contains ns n) (received-quiet (m ∷ []) t q) in
-    let shows : wire n ≡ sn = wire-lift (number_expected w) sn ∙ fits in
-    ap (λ b. cond b [] (Void sn ∷ [])) ((voided_at o w t sn n h x.low x.high refl).received_is ∙ sym same)
+    let shows : wire n ≡ wire sn = wire-lift (number_expected w) sn in
+    ap (λ b. cond b [] (Void (wire sn) ∷ [])) ((voided_at o w t sn n h x.low x.high refl).received_is ∙ sym same)
     ∙ ap (λ k. cond (is_received ((m ∷ []) ∷ t) n) [] (Void k ∷ [])) (sym shows)
     ∙ elim (is_received ((m ∷ []) ∷ t) n) as (λ b. cond b [] (Void (wire n) ∷ []) ≡ flat_map (effects_of_mark o t) (cond b [] (Voids n ∷ []))) [ true ↦ refl | false ↦ refl ]
 

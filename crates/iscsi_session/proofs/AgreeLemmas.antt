@@ -104,7 +104,7 @@ Stepped-ignored o s t why h =
           enabled = EnabledSoFar-untouched o item t u a.enabled;
           level = a.level;
           arrived = ArrivalsAgree-quiet s.window s.arrived t item (quiet-ignored why) a.arrived;
-          waiting = record { list = a.waiting.list; may = a.waiting.may };
+          waiting = record { list = a.waiting.list; may = a.waiting.may; known = a.waiting.known };
         };
         none_due = h.none_due;
       };
@@ -131,5 +131,5 @@ Agrees-admitted o s t a h low high new regular shows =
       enabled = EnabledSoFar-untouched o item t u h.enabled;
       level = h.level;
       arrived = ArrivalsAgree-admitted s.window s.arrived t a h.arrived low high (held-here t a new (h.window.undelivered a.number low) (h.window.unemptied a.number new));
-      waiting = record { list = h.waiting.list; may = h.waiting.may };
+      waiting = record { list = h.waiting.list; may = h.waiting.may; known = h.waiting.known };
     }

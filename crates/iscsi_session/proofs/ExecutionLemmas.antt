@@ -163,12 +163,11 @@ pub record Begun (o : Setting) (s : Core) (t : Trace) (m : Mark) (e : Effect) (a
   pub enabled : EnabledSoFar o t
   pub known : is_known (connection_of a.request) o.conns ≡ true
   pub first : s.window.first ≡ o.first
-  pub number : number_by s a.request ≡ a.number
-  pub event : event_by s a.request ≡ cond (is_immediate a.request) a.event 0
   pub level : s.level ≡ o.level
   pub arrived : (ms : List Mark) → IsQuiet ms → ArrivalsAgree s.window s.arrived ((m ∷ ms) ∷ t)
   pub waiting : waiting_by m (waiting t) ≡ map (arrival_waiting o.first) s.waiting
   pub may : list_all (λ w. may_wait w.request) s.waiting ≡ true
+  pub waiting_known : list_all (λ w. is_known (connection_of w.request) o.conns) s.waiting ≡ true
   pub enters_no : enters m ≡ None
   pub leaves_no : (k : ℕ) → leaves_ticket k m ≡ false
   pub sends_no : sent_on m ≡ None
@@ -200,7 +199,7 @@ module _ (o : Setting) (s : Core) (t : Trace) (m : Mark) (e : Effect) (a : Arriv
           enabled = EnabledSoFar-untouched o (m ∷ []) t u b.enabled;
           level = b.level;
           arrived = b.arrived [] (quiet-marks t a Nothing);
-          waiting = record { list = b.waiting; may = b.may };
+          waiting = record { list = b.waiting; may = b.may; known = b.waiting_known };
         };
         effects = ap (λ es. (es ++ []) ++ []) (sym b.shows) ∙ ap (λ cs. (effects_of_mark o t m ++ []) ++ enables cs) (sym (newly-untouched o t (m ∷ []) u));
       }
@@ -222,7 +221,7 @@ module _ (o : Setting) (s : Core) (t : Trace) (m : Mark) (e : Effect) (a : Arriv
           enabled = EnabledSoFar-untouched o item t u b.enabled;
           level = b.level;
           arrived = b.arrived (Sends conn reply ∷ []) (quiet-marks t a (Answer reply));
-          waiting = record { list = b.waiting; may = b.may };
+          waiting = record { list = b.waiting; may = b.may; known = b.waiting_known };
         };
         effects = ap (λ n. e ∷ Send conn n reply ∷ []) (b.replies.stat_sns conn b.known)
             ∙ ap (λ es. (es ++ Send conn (stat_sn_of o t conn) reply ∷ []) ++ []) (sym b.shows)
@@ -252,8 +251,8 @@ module _ (o : Setting) (s : Core) (t : Trace) (m : Mark) (e : Effect) (a : Arriv
       ]
 
   -- a command enters
-  enters_unit : (unit : ℕ) → unit < o.units → Executed o s t m e a (EnterUnit unit)
-  enters_unit unit inside =
+  enters_unit : number_by s a.request ≡ a.number → event_by s a.request ≡ cond (is_immediate a.request) a.event 0 → (unit : ℕ) → unit < o.units → Executed o s t m e a (EnterUnit unit)
+  enters_unit number_is event_is unit inside =
       let c : Command = next_command ((m ∷ []) ∷ t) a unit in
       let item : List Mark = m ∷ Enters c ∷ [] in
       let entered_is : length (entered ((m ∷ []) ∷ t)) ≡ length (entered t) = ap (λ x. length (entered t ++ cons_option x [])) b.enters_no ∙ ap length (append-nil (entered t)) in
@@ -265,9 +264,9 @@ module _ (o : Setting) (s : Core) (t : Trace) (m : Mark) (e : Effect) (a : Arriv
       } in
       let task_is : new_task s a.request ≡ task_of o c =
       ap (λ n. task_with n (number_by s a.request) s.window.first (event_by s a.request)) count
-      ∙ ap (λ n. task_with (length (entered ((m ∷ []) ∷ t))) n s.window.first (event_by s a.request)) b.number
+      ∙ ap (λ n. task_with (length (entered ((m ∷ []) ∷ t))) n s.window.first (event_by s a.request)) number_is
       ∙ ap (λ f. task_with (length (entered ((m ∷ []) ∷ t))) a.number f (event_by s a.request)) b.first
-      ∙ ap (task_with (length (entered ((m ∷ []) ∷ t))) a.number o.first) b.event in
+      ∙ ap (task_with (length (entered ((m ∷ []) ∷ t))) a.number o.first) event_is in
       let live_is : new_live s a.request unit ≡ kept c = ap live_with count in
       let entry : SetEntry o s.sets t item c (new_task s a.request) = SetsAgree-entered o s.live s.entered s.sets t item c (new_task s a.request) b.commands b.sets en inside task_is in
       let regular : is_regular o c ≡ true = both (nat_lt unit o.units) (is_known (connection_of a.request) o.conns) (let test : nat_lt unit o.units ≡ true = grind (arith, nat_tests) in test) b.known in
@@ -284,7 +283,7 @@ module _ (o : Setting) (s : Core) (t : Trace) (m : Mark) (e : Effect) (a : Arriv
           enabled = EnabledSoFar-entered o s.live s.entered item t c b.commands en inside (never_free c t (b.commands.fresh c.ticket (omega (arith, en.ticket)))) b.enabled;
           level = b.level;
           arrived = arrived-started (Enters c ∷ []) (quiet-marks ((m ∷ []) ∷ t) a (EnterUnit unit));
-          waiting = record { list = b.waiting; may = b.may };
+          waiting = record { list = b.waiting; may = b.may; known = b.waiting_known };
         };
         effects = ap (λ es. e ∷ Enter (s.entered + 1) unit (attr_of (attr_code a.request)) ∷ es) entry.effects
             ∙ ap (λ n. e ∷ Enter (n + 1) unit (attr_of (attr_code a.request)) ∷ enables (newly_enabled o t item)) count
@@ -301,21 +300,21 @@ module _ (o : Setting) (s : Core) (t : Trace) (m : Mark) (e : Effect) (a : Arriv
       both true q h k = k
       both false q h k = absurd (false≢true h)
 
-  executed-by : (v : Verdict) → verdict_by s a.request ≡ v → Executed o s t m e a v
-  executed-by Nothing is = nothing_more
-  executed-by (Answer reply) is = answered reply
-  executed-by (EnterUnit unit) is =
+  executed-by : number_by s a.request ≡ a.number → event_by s a.request ≡ cond (is_immediate a.request) a.event 0 → (v : Verdict) → verdict_by s a.request ≡ v → Executed o s t m e a v
+  executed-by number_is event_is Nothing is = nothing_more
+  executed-by number_is event_is (Answer reply) is = answered reply
+  executed-by number_is event_is (EnterUnit unit) is =
       let x : Entering (is_tag_kept s (itt a.request)) (is_crowded_by s a.request) (place_in s.sets a.request) unit = entering_by a.request (is_tag_kept s (itt a.request)) (is_crowded_by s a.request) (place_in s.sets a.request) unit is in
       let p = placed s.sets a.request unit false x.place_is in
-      enters_unit unit (omega (arith, p.0, b.sets.units))
+      enters_unit number_is event_is unit (omega (arith, p.0, b.sets.units))
 
   -- the item of the execution
-  pub executed-item : (opcode a.request == 0x02) ≡ false → Agrees o (executed_as s a.request (verdict_by s a.request)) (execution o t m a ∷ t) × (e ∷ execution_effects s a.request (verdict_by s a.request) ≡ effects_of_item o t (execution o t m a))
-  executed-item no_function =
+  pub executed-item : (opcode a.request == 0x02) ≡ false → number_by s a.request ≡ a.number → event_by s a.request ≡ cond (is_immediate a.request) a.event 0 → Agrees o (executed_as s a.request (verdict_by s a.request)) (execution o t m a ∷ t) × (e ∷ execution_effects s a.request (verdict_by s a.request) ≡ effects_of_item o t (execution o t m a))
+  executed-item no_function number_is event_is =
       let v : Verdict = verdict_by s a.request in
       let u : Untouched (m ∷ []) = untouched-begun [] (record { enters_none = refl; leaves_no = λ k. refl }) in
       let same : verdict_of o ((m ∷ []) ∷ t) a.request ≡ v = verdict-untouched o t (m ∷ []) a.request u ∙ sym (verdict_is o s t a.request b.commands b.sets) in
-      let done : Executed o s t m e a v = executed-by v refl in
+      let done : Executed o s t m e a v = executed-by number_is event_is v refl in
       let is : execution o t m a ≡ m ∷ marks_of ((m ∷ []) ∷ t) a v =
       ap (λ c. m ∷ cond c (management_marks o ((m ∷ []) ∷ t) a) (marks_of ((m ∷ []) ∷ t) a (verdict_of o ((m ∷ []) ∷ t) a.request))) no_function
       ∙ ap (λ w. m ∷ marks_of ((m ∷ []) ∷ t) a w) same in (

@@ -11,7 +11,8 @@ use Rattle.iscsi_session.specs.declared.session.live.Live.{Live}
 use Rattle.iscsi_session.specs.Settings.{Setting}
 use Rattle.iscsi_session.specs.Trace.{Arrival, Command, Trace, first_of, is_received, held, live}
 use Rattle.iscsi_session.specs.Execution.{exp_of}
-use Rattle.iscsi_session.specs.Management.{is_to, held_command, live_with_tag}
+use Rattle.iscsi_session.specs.Management.{is_to, held_requests, held_command, live_with_tag}
+use Rattle.iscsi_session.proofs.BoolLemmas.{and_first}
 use Rattle.iscsi_session.specs.Standing.{Core, place_of, kept, WindowAgrees}
 use Rattle.iscsi_session.specs.Functions.{tagged_in}
 use Rattle.iscsi_session.proofs.HeldLemmas.{held-number}
@@ -36,6 +37,15 @@ position-within p xs k h =
       | true ↦ λ is found. let same : position_or_len p xs ≡ k = cc in let lt : position_or_len p xs < length xs = grind (arith, nat_tests) in subst (λ n. n < length xs) same lt
       | false ↦ λ is found. absurd cc
     ] refl h
+
+-- what is found passes
+first_itself : {A : Type 0} (p : A → Bool) (xs : List A) (x : A) → first_of (filter p xs) ≡ Some x → p x ≡ true
+first_itself p [] x found = absurd cc
+first_itself p (y ∷ xs) x found =
+    elim (p y) as (λ b. p y ≡ b → first_of (cond b (y ∷ filter p xs) (filter p xs)) ≡ Some x → p x ≡ true) [
+      | true ↦ λ is here. let same : y ≡ x = cc in ap p (sym same) ∙ is
+      | false ↦ λ is later. first_itself p xs x later
+    ] refl found
 
 -- ---- held commands
 
@@ -173,6 +183,15 @@ held_command-is o w t tag unit sn h exp inside =
 -- and is held at a place of the window
 pub held_command-held : (o : Setting) (t : Trace) (tag unit below : ℕ) (h : Arrival) → held_command o t tag unit below ≡ Some h → (held t h.number ≡ Some h) × ((exp_of o t ≤ h.number) × (h.number < exp_of o t + o.window))
 held_command-held o t tag unit below h found = found_held o t tag unit below o.window (exp_of o t) h found
+
+-- it is below the function's number
+pub held_command-below : (o : Setting) (t : Trace) (tag unit below : ℕ) (h : Arrival) → held_command o t tag unit below ≡ Some h → h.number < below
+held_command-below o t tag unit below h found =
+    let passes : (nat_lt h.number below && opcode h.request == 0x01 && itt h.request == tag && is_to o unit h.request) ≡ true = first_itself (λ x. nat_lt x.number below && opcode x.request == 0x01 && itt x.request == tag && is_to o unit x.request) (held_requests o t) h found in
+    by_test (and_first (nat_lt h.number below) (opcode h.request == 0x01) (and_first (nat_lt h.number below && opcode h.request == 0x01) (itt h.request == tag) (and_first (nat_lt h.number below && opcode h.request == 0x01 && itt h.request == tag) (is_to o unit h.request) passes)))
+  where
+    by_test : nat_lt h.number below ≡ true → h.number < below
+    by_test test = let lt : h.number < below = grind (arith, nat_tests) in lt
 
 -- none is held below ExpCmdSN
 pub held_command-none : (o : Setting) (t : Trace) (tag unit below : ℕ) → below ≤ exp_of o t → held_command o t tag unit below ≡ None

@@ -1,35 +1,503 @@
 -- A request executes: a task management function or another one, at its turn, at its arrival, or once it has waited.
-use Rattle.std.proofs.Common.{◌≡◌, ℕ, ◌+◌, ◌-◌, ◌==◌, ◌&&◌, not, cond, Bool, true, false, nat_lt, List, [], ◌∷◌, ◌++◌, map, filter, find, Option, Some, None, refl, ap, sym, subst, ◌∙◌, arith}
-use Rattle.std.specs.List.{list_all}
+use Rattle.std.proofs.Common.{◌≡◌, ℕ, ℤ, pos, ◌-ℤ◌, ◌+◌, ◌-◌, ◌<◌, ◌≤◌, ◌==◌, ◌&&◌, ◌||◌, not, ⊎_elim, cond, Bool, true, false, nat_lt, nat_le, int_lt, List, [], ◌∷◌, ◌++◌, length, map, filter, find, set, get_or, is_some, ◌⊎◌, inl, inr, Option, Some, None, refl, ap, sym, subst, ◌∙◌, arith, append_assoc, length-set, eq-eqb, Decides}
+use Rattle.std.specs.List.{list_any, list_all, filter_map, flat_map, cons_option}
+use Rattle.std.specs.Ordering.{int_eq}
+use Rattle.std.proofs.lemmas.Int.{ints}
+use Rattle.std.proofs.lemmas.Bool.{cases_lt, cases_eq, false≢true, eqb-true}
+use Rattle.std.proofs.lemmas.Bool.Decides.{nat_tests, Decides-int_eq}
+use Rattle.std.proofs.lemmas.List.{append-nil}
+use Rattle.std.proofs.lemmas.List.Folds.{list_any-append}
+use Rattle.iscsi_wire.specs.declared.reply.Reply.{Reply}
+use Rattle.iscsi_wire.specs.declared.reply.Reply.TheVariants.{Task as TaskReply, Reject}
 use Rattle.iscsi_wire.specs.declared.request.Request.{Request}
-use Rattle.iscsi_wire.specs.Fields.{connection_of, is_immediate}
-use Rattle.iscsi_window.specs.Windows.{number_expected, at_place}
+use Rattle.iscsi_wire.specs.Serial.{wire, lift, number_of_first}
+use Rattle.iscsi_wire.specs.Fields.{connection_of, header_of, is_immediate, opcode, function, itt, rtt, cmd_sn}
+use Rattle.iscsi_window.specs.declared.answer.Place.{Place}
+use Rattle.iscsi_window.specs.declared.answer.Place.TheVariants.{Inside, Outside as NoPlace}
+use Rattle.iscsi_window.specs.Windows.{Received, number_expected, at_place, place_in, held_at, received_at, emptied_if, emptied, voided, with_place, with_unfinished, is_received_at}
+use Rattle.iscsi_tasks.specs.declared.cover.Cover.{Cover}
+use Rattle.iscsi_tasks.specs.declared.cover.Cover.TheVariants.{All as AllOfThem, Below}
+use Rattle.iscsi_tasks.specs.declared.task.Task.{Task}
+use Rattle.iscsi_tasks.specs.Sets.{is_covered}
 use Rattle.iscsi_session.specs.declared.effect.Effect.{Effect}
-use Rattle.iscsi_session.specs.declared.effect.Effect.TheVariants.{Deliver, Immediate}
+use Rattle.iscsi_session.specs.declared.effect.Effect.TheVariants.{Deliver, Immediate, Send, Empty}
+use Rattle.iscsi_session.specs.declared.outcome.Outcome.{Outcome}
+use Rattle.iscsi_session.specs.declared.outcome.Outcome.TheVariants.{Respond, Abort, AbortAll, Empty as EmptyNumber, Void as VoidNumber}
+use Rattle.iscsi_session.specs.declared.session.live.Live.{Live}
 use Rattle.iscsi_session.specs.declared.session.waiting.Waiting.{Waiting}
+use Rattle.iscsi_session.specs.declared.verdict.Verdict.TheVariants.{Nothing, Answer}
 use Rattle.iscsi_session.specs.Settings.{Setting, is_known}
-use Rattle.iscsi_session.specs.Trace.{Arrival, Mark, Trace}
+use Rattle.iscsi_session.specs.Trace.{Arrival, Command, Mark, Executes, Delivers, Voids, Empties, Leaves, Sends, Trace, admits_at, delivers_number, empties_number, shown, first_of, is_received, is_delivered, is_emptied, held, admitted, waiting, waiting_by, waiting_through, live, live_in, enters, leaves_ticket, sent_on}
+use Rattle.iscsi_session.specs.Execution.{unfinished, unit_named, reply_on, marks_of, verdict_of}
+use Rattle.iscsi_session.specs.Management.{may_wait, refusal_to, refusal_of_function, answer, is_before, abort_all, abort_task, query, function_to, function_marks, management_marks}
 use Rattle.iscsi_session.specs.Agenda.{arrival_of}
-use Rattle.iscsi_session.specs.Items.{immediate_item, item_of, function_item}
-use Rattle.iscsi_session.specs.Run.{effects_of_item}
-use Rattle.iscsi_session.specs.Standing.{Core, arrival_waiting, Agrees, Settled}
-use Rattle.iscsi_session.specs.Turning.{with_executed, executed_effects, next_arrived, next_waiting, function_if, function_effects, patience_by, immediate_as, immediate_effects}
-use Rattle.iscsi_session.proofs.WindowParts.{Next}
-use Rattle.iscsi_session.proofs.TurnLemmas.{turned_core}
+use Rattle.iscsi_session.specs.Items.{execution, immediate_item, item_of, function_item}
+use Rattle.iscsi_session.specs.Run.{effects_of_mark, effects_of_item, newly_enabled, stat_sn_of}
+use Rattle.iscsi_session.specs.Standing.{Core, kept, task_of, WindowAgrees, ArrivalsAgree, arrival_waiting, Agrees, Settled}
+use Rattle.iscsi_session.specs.Functions.{aborted, abort_effects, answer_if, outcome_by, abort_by, performed_as, performance_effects, covers_ticket, response_effects, void_effects}
+use Rattle.iscsi_session.specs.Steps.{count_reply, with_reply, reply_effects, number_by, event_by, verdict_by, executed_as, execution_effects}
+use Rattle.iscsi_session.specs.Turning.{position_by, next_position, without_waiting, performed, performed_effects, managed, managed_effects, with_executed, executed_effects, next_arrived, next_waiting, function_if, function_effects, patience_by, immediate_as, immediate_effects}
+use Rattle.iscsi_session.proofs.BoolLemmas.{and_parts}
+use Rattle.iscsi_session.proofs.ListLemmas.{list_any-map, list_all-filter, find-passes}
+use Rattle.iscsi_session.proofs.TraceLemmas.{filter-same}
+use Rattle.iscsi_session.proofs.DeliveryLemmas.{IsQuiet}
+use Rattle.iscsi_session.proofs.HeldLemmas.{held-number, admitted_of_held}
+use Rattle.iscsi_session.proofs.WindowLemmas.{find-found}
+use Rattle.iscsi_session.proofs.WindowParts.{Next, turned_window, WindowAgrees-quiet}
+use Rattle.iscsi_session.proofs.ArrivedLemmas.{ArrivalsAgree-quiet}
+use Rattle.iscsi_session.proofs.ReceiveLemmas.{no_abort_task}
+use Rattle.iscsi_session.proofs.WaitLemmas.{kept_waiting}
+use Rattle.iscsi_session.proofs.CommandParts.{Untouched, live_in-untouched, CommandsAgree-untouched}
+use Rattle.iscsi_session.proofs.ReplyParts.{RepliesAgree-sent}
+use Rattle.iscsi_session.proofs.EnabledLemmas.{enables}
+use Rattle.iscsi_session.proofs.EnablingLemmas.{EnabledSoFar-untouched}
+use Rattle.iscsi_session.proofs.SetParts.{SetsAgree-untouched, newly-untouched}
+use Rattle.iscsi_session.proofs.AgreeLemmas.{unfinished-untouched}
+use Rattle.iscsi_session.proofs.ExecutionLemmas.{named_below, Begun, Executed, nothing_more, answered, executed-item, untouched-begun}
+use Rattle.iscsi_session.proofs.LeavingLemmas.{covered_in, leaving_item, leaving-item}
+use Rattle.iscsi_session.proofs.AbortParts.{numbered_outcome, AbortsOne, EmptiesHeld, VoidsMissing, AbortsAs, AbortsAs-arrived, AbortsAs-turned, WindowAgrees-emptying, WindowAgrees-voiding, void_effects-are}
+use Rattle.iscsi_session.proofs.TurnLemmas.{turned_core, numbered_held, turn-begun, arrived_next, number_next, event_next}
+
+-- ---- a command is before a function, by positions
+
+position_lt : (x y f : ℕ) → int_lt (pos x -ℤ pos f) (pos y -ℤ pos f) ≡ nat_lt x y
+position_lt x y f = by_test (int_lt (pos x -ℤ pos f) (pos y -ℤ pos f)) refl
+  where
+    by_test : (b : Bool) → int_lt (pos x -ℤ pos f) (pos y -ℤ pos f) ≡ b → int_lt (pos x -ℤ pos f) (pos y -ℤ pos f) ≡ nat_lt x y
+    by_test true is = is ∙ (let lt : x < y = omega (arith, ints, is) in let z : nat_lt x y ≡ true = grind (arith, nat_tests) in sym z)
+    by_test false is = is ∙ (let le : y ≤ x = omega (arith, ints, is) in let z : nat_lt x y ≡ false = grind (arith, nat_tests) in sym z)
+
+position_eq : (x y f : ℕ) → int_eq (pos x -ℤ pos f) (pos y -ℤ pos f) ≡ (x == y)
+position_eq x y f = by_test (int_eq (pos x -ℤ pos f) (pos y -ℤ pos f)) refl
+  where
+    decides : Decides (int_eq (pos x -ℤ pos f) (pos y -ℤ pos f)) ((pos x -ℤ pos f) ≡ (pos y -ℤ pos f))
+    decides = Decides-int_eq (pos x -ℤ pos f) (pos y -ℤ pos f)
+
+    by_test : (b : Bool) → int_eq (pos x -ℤ pos f) (pos y -ℤ pos f) ≡ b → int_eq (pos x -ℤ pos f) (pos y -ℤ pos f) ≡ (x == y)
+    by_test true is = is ∙ (let same : x ≡ y = omega (arith, ints, decides.0 is) in sym (eq-eqb x y same))
+    by_test false is = is ∙ ⊎_elim
+        (λ same. absurd (false≢true (sym is ∙ decides.1 (ap (λ n. pos n -ℤ pos f) same))))
+        (λ apart. let no : (x == y) ≡ false = grind (arith, nat_tests) in sym no)
+        (cases_eq x y)
+
+covers_before : (o : Setting) (a : Arrival) (c : Command) → is_covered (Below (pos a.number -ℤ pos (number_of_first o.first)) a.event) (task_of o c) ≡ is_before a c
+covers_before o a c =
+    let f : ℕ = number_of_first o.first in
+    let i : Bool = is_immediate c.arrival.request in
+    ap (λ b. b || (i && int_eq (pos c.arrival.number -ℤ pos f) (pos a.number -ℤ pos f) && nat_lt (cond i c.arrival.event 0) a.event)) (position_lt c.arrival.number a.number f)
+    ∙ ap (λ b. nat_lt c.arrival.number a.number || (i && b && nat_lt (cond i c.arrival.event 0) a.event)) (position_eq c.arrival.number a.number f)
+    ∙ elim i as (λ v. (nat_lt c.arrival.number a.number || (v && c.arrival.number == a.number && nat_lt (cond v c.arrival.event 0) a.event)) ≡ (nat_lt c.arrival.number a.number || (v && c.arrival.number == a.number && nat_lt c.arrival.event a.event))) [
+      | true ↦ refl
+      | false ↦ refl
+    ]
+
+-- ---- a function by its outcome
+
+-- the marks of a function are those that its outcome tells
+abbrev OutcomeIs : Setting → Core → Trace → Mark → Arrival → ℕ → List Mark → Outcome → Type 0
+OutcomeIs o s t m a unit fm (Respond response) = fm ≡ answer a response
+OutcomeIs o s t m a unit fm (Abort ticket) = fm ≡ map Leaves (covered_in o t unit (covers_ticket ticket)) ++ answer a 0
+OutcomeIs o s t m a unit fm (AbortAll cover) = fm ≡ map Leaves (covered_in o t unit (is_covered cover)) ++ answer a 0
+OutcomeIs o s t m a unit fm (EmptyNumber sn) = (x : EmptiesHeld o s.window ((m ∷ []) ∷ t) a unit sn) × (fm ≡ Empties x.request ∷ answer a 0)
+OutcomeIs o s t m a unit fm (VoidNumber sn) = (x : VoidsMissing o s.window ((m ∷ []) ∷ t) a unit sn) × (fm ≡ cond (is_received ((m ∷ []) ∷ t) (lift (number_expected s.window) sn)) [] (Voids (lift (number_expected s.window) sn) ∷ []) ++ answer a 0)
+
+any_filter : {A : Type 0} (p q : A → Bool) (xs : List A) → list_any p (filter q xs) ≡ list_any (λ x. q x && p x) xs
+any_filter p q [] = refl
+any_filter p q (x ∷ xs) =
+    elim (q x) as (λ b. list_any p (cond b (x ∷ filter q xs) (filter q xs)) ≡ ((b && p x) || list_any (λ y. q y && p y) xs)) [
+      | true ↦ ap (λ b. p x || b) (any_filter p q xs)
+      | false ↦ any_filter p q xs
+    ]
+
+any_same : {A : Type 0} (p q : A → Bool) (xs : List A) → ((x : A) → p x ≡ q x) → list_any p xs ≡ list_any q xs
+any_same p q [] h = refl
+any_same p q (x ∷ xs) h = ap (λ b. b || list_any p xs) (h x) ∙ ap (λ b. q x || b) (any_same p q xs h)
+
+module _ (o : Setting) (s : Core) (t : Trace) (m : Mark) (e : Effect) (a : Arrival) (b : Begun o s t m e a) (unit : ℕ) where
+  abbrev t' : Trace
+  t' = (m ∷ []) ∷ t
+
+  same_live : live_in unit t' ≡ live_in unit t
+  same_live = live_in-untouched (m ∷ []) t (untouched-begun o s t m e a b [] (record { enters_none = refl; leaves_no = λ k. refl })) unit
+
+  -- ABORT TASK
+  task_is : (x : Outcome) → AbortsAs o s.window t' a unit x → OutcomeIs o s t m a unit (abort_task o t' a unit) x
+  task_is (Respond response) h = h
+  task_is (Abort ticket) h =
+      h.marks ∙ ap (λ cs. map Leaves cs ++ answer a 0) (sym h.one ∙ ap (filter (λ d. covers_ticket ticket (task_of o d))) same_live)
+  task_is (AbortAll cover) h = absurd h
+  task_is (EmptyNumber sn) h = (h, h.marks)
+  task_is (VoidNumber sn) h = (h, h.marks)
+
+  all_is : abort_all t' a unit (λ c. true) ≡ map Leaves (covered_in o t unit (is_covered AllOfThem)) ++ answer a 0
+  all_is = ap (λ cs. map Leaves (filter (λ (c : Command). true) cs) ++ answer a 0) same_live
+
+  before_is : (position : ℤ) (event : ℕ) → position ≡ pos a.number -ℤ pos (number_of_first o.first) → event ≡ a.event
+      → abort_all t' a unit (is_before a) ≡ map Leaves (covered_in o t unit (is_covered (Below position event))) ++ answer a 0
+  before_is position event position_is event_is =
+      ap (λ cs. map Leaves (filter (is_before a) cs) ++ answer a 0) same_live
+      ∙ ap (λ cs. map Leaves cs ++ answer a 0) (filter-same (is_before a) (λ c. is_covered (Below (pos a.number -ℤ pos (number_of_first o.first)) a.event) (task_of o c)) (live_in unit t) (λ c. sym (covers_before o a c)))
+      ∙ ap (λ p. map Leaves (covered_in o t unit (is_covered (Below p a.event))) ++ answer a 0) (sym position_is)
+      ∙ ap (λ n. map Leaves (covered_in o t unit (is_covered (Below position n))) ++ answer a 0) (sym event_is)
+
+  asked : (p : Command → Bool) (q : Live → Bool) → ((c : Command) → q (kept c) ≡ ((c.unit == unit) && p c)) → list_any p (live_in unit t') ≡ list_any q s.live
+  asked p q same =
+      ap (list_any p) same_live ∙ any_filter p (λ c. c.unit == unit) (live t)
+      ∙ any_same (λ c. (c.unit == unit) && p c) (λ c. q (kept c)) (live t) (λ c. sym (same c))
+      ∙ sym (list_any-map q kept (live t)) ∙ ap (list_any q) (sym b.commands.commands)
+
+  and_true : (v : Bool) → v ≡ (v && true)
+  and_true true = refl
+  and_true false = refl
+
+  -- the marks of the function
+  outcome_is : (position : ℤ) (event : ℕ) → position ≡ pos a.number -ℤ pos (number_of_first o.first) → event ≡ a.event → ((function a.request == 1) ≡ true → AbortsAs o s.window t' a unit (abort_by s a.request unit))
+      → OutcomeIs o s t m a unit (function_to o t' a unit) (outcome_by s a.request position event unit)
+  outcome_is position event position_is event_is aborts =
+      let is : List Mark → Outcome → Type 0 = λ fm x. OutcomeIs o s t m a unit fm x in
+      let query_task : List Mark = query a (list_any (λ c. itt c.arrival.request == rtt a.request) (live_in unit t')) in
+      let query_set : List Mark = query a (list_any (λ c. true) (live_in unit t')) in
+      let tagged : Outcome = answer_if (list_any (λ (l : Live). l.unit == unit && l.itt == rtt a.request) s.live) in
+      let there : Outcome = answer_if (list_any (λ (l : Live). l.unit == unit) s.live) in
+      let sweep : Outcome = AbortAll (Below position event) in
+      elim (function a.request == 1) as (λ v. (function a.request == 1) ≡ v → is (cond v (abort_task o t' a unit) (cond (function a.request == 5) (abort_all t' a unit (λ c. true)) (cond (function a.request == 9) query_task (cond (function a.request == 10) query_set (abort_all t' a unit (is_before a))))))
+      (cond v (abort_by s a.request unit) (cond (function a.request == 5) (AbortAll AllOfThem) (cond (function a.request == 9) tagged (cond (function a.request == 10) there sweep))))) [
+        | true ↦ λ one. task_is (abort_by s a.request unit) (aborts one)
+        | false ↦ λ one. elim (function a.request == 5) as (λ v. is (cond v (abort_all t' a unit (λ c. true)) (cond (function a.request == 9) query_task (cond (function a.request == 10) query_set (abort_all t' a unit (is_before a))))) (cond v (AbortAll AllOfThem) (cond (function a.request == 9) tagged (cond (function a.request == 10) there sweep)))) [
+          | true ↦ all_is
+          | false ↦ elim (function a.request == 9) as (λ v. is (cond v query_task (cond (function a.request == 10) query_set (abort_all t' a unit (is_before a)))) (cond v tagged (cond (function a.request == 10) there sweep))) [
+            | true ↦ ap (query a) (asked (λ c. itt c.arrival.request == rtt a.request) (λ l. l.unit == unit && l.itt == rtt a.request) (λ c. refl))
+            | false ↦ elim (function a.request == 10) as (λ v. is (cond v query_set (abort_all t' a unit (is_before a))) (cond v there sweep)) [
+              | true ↦ ap (query a) (asked (λ c. true) (λ l. l.unit == unit) (λ c. and_true (c.unit == unit)))
+              | false ↦ before_is position event position_is event_is
+            ]
+          ]
+        ]
+      ] refl
+
+-- ---- lists of marks
+
+filter_map-append : {A B : Type 0} (f : A → Option B) (xs ys : List A) → filter_map f (xs ++ ys) ≡ filter_map f xs ++ filter_map f ys
+filter_map-append f [] ys = refl
+filter_map-append f (x ∷ xs) ys =
+    elim (f x) as (λ y. cons_option y (filter_map f (xs ++ ys)) ≡ cons_option y (filter_map f xs) ++ filter_map f ys) [
+      | None ↦ filter_map-append f xs ys
+      | Some y ↦ ap (λ zs. y ∷ zs) (filter_map-append f xs ys)
+    ]
+
+flat_map-append : {A B : Type 0} (f : A → List B) (xs ys : List A) → flat_map f (xs ++ ys) ≡ flat_map f xs ++ flat_map f ys
+flat_map-append f [] ys = refl
+flat_map-append f (x ∷ xs) ys = ap (λ zs. f x ++ zs) (flat_map-append f xs ys) ∙ sym (append_assoc (f x) (flat_map f xs) (flat_map f ys))
+
+-- ---- what an outcome makes of the session
+
+-- what is held after an item that admits nothing was held before
+held_before : (item : List Mark) (t : Trace) (n : ℕ) (h : Arrival) → filter_map (admits_at n) item ≡ [] → held (item ∷ t) n ≡ Some h → held t n ≡ Some h
+held_before item t n h none found = by_tests (list_any (delivers_number n) item) (is_delivered t n) (list_any (empties_number n) item) (is_emptied t n)
+    (sym (ap (λ xs. cond (is_delivered (item ∷ t) n || is_emptied (item ∷ t) n) None (first_of (shown (admits_at n) t ++ xs))) none ∙ ap (λ xs. cond (is_delivered (item ∷ t) n || is_emptied (item ∷ t) n) None (first_of xs)) (append-nil (shown (admits_at n) t))) ∙ found)
+  where
+    by_tests : (d d' f f' : Bool) → cond ((d || d') || (f || f')) None (admitted t n) ≡ Some h → cond (d' || f') None (admitted t n) ≡ Some h
+    by_tests true d' f f' k = absurd cc
+    by_tests false true f f' k = absurd cc
+    by_tests false false true f' k = absurd cc
+    by_tests false false false true k = absurd cc
+    by_tests false false false false k = k
+
+-- a window whose next number and length are the same
+record SameFrame (w w' : Received) : Type 0 where
+  expected : number_expected w' ≡ number_expected w
+  long : length w'.places ≡ length w.places
+  unfinished : w'.unfinished ≡ w.unfinished
+
+emptied_frame : (w : Received) (sn : ℕ) → SameFrame w (emptied w sn)
+emptied_frame w sn = by_place (place_in w sn) (held_at w (place_in w sn))
+  where
+    by_place : (p : Place) (r : Option Request) → SameFrame w (emptied_if w p r)
+    by_place NoPlace r = record { expected = refl; long = refl; unfinished = refl }
+    by_place (Inside k) None = record { expected = refl; long = refl; unfinished = refl }
+    by_place (Inside k) (Some r) = record { expected = refl; long = length-set w.places k (Some None); unfinished = refl }
+
+voided_frame : (w : Received) (sn : ℕ) → SameFrame w (voided w sn)
+voided_frame w sn = by_place (place_in w sn)
+  where
+    by_place : (p : Place) → SameFrame w (received_at w p None)
+    by_place NoPlace = record { expected = refl; long = refl; unfinished = refl }
+    by_place (Inside k) =
+        elim (is_some (at_place w k)) as (λ b. SameFrame w (cond b w (with_place w k (Some None)))) [
+          | true ↦ record { expected = refl; long = refl; unfinished = refl }
+          | false ↦ record { expected = refl; long = length-set w.places k (Some None); unfinished = refl }
+        ]
+
+arrived_same : (w w' : Received) (arrived : List ℕ) (t : Trace) (item : List Mark) → SameFrame w w' → ((n : ℕ) → filter_map (admits_at n) item ≡ []) → ArrivalsAgree w arrived t → ArrivalsAgree w' arrived (item ∷ t)
+arrived_same w w' arrived t item same none a = record {
+  long = a.long ∙ sym same.long;
+  at_place = λ k h lt found. a.at_place k h (omega (arith, lt, same.long)) (held_before item t (number_expected w + k) h (none (number_expected w + k)) (ap (λ e. held (item ∷ t) (e + k)) (sym same.expected) ∙ found));
+}
+
+-- where a function voids or empties a number, its window agrees before it
+record Windowed (o : Setting) (s : Core) (t : Trace) (m : Mark) : Type 0 where
+  window : WindowAgrees o s.window t
+  quiet : IsQuiet (m ∷ [])
+  arrived : ArrivalsAgree s.window s.arrived t
+
+module _ (o : Setting) (s : Core) (t : Trace) (m : Mark) (e : Effect) (a : Arrival) (b : Begun o s t m e a) (unit : ℕ) (inside : unit < o.units) where
+  abbrev function_reply : Reply
+  function_reply = TaskReply (itt a.request) 0
+
+  quiet_answer : IsQuiet (answer a 0)
+  quiet_answer = record { receives = refl; admits = λ n. refl; delivers_none = refl; delivers_no = λ n. refl; empties_no = λ n. refl }
+
+  -- a number is taken out of the window or put into it, and the function is answered
+  windowed : (w' : Received) (mid : List Mark) → SameFrame s.window w' → Windowed o s t m → WindowAgrees o w' ((m ∷ (mid ++ answer a 0)) ∷ t) → filter_map enters mid ≡ [] → ((k : ℕ) → list_any (leaves_ticket k) mid ≡ false) → filter_map sent_on mid ≡ []
+      → ((ws : List Arrival) → waiting_through mid ws ≡ ws) → ((n : ℕ) → filter_map (admits_at n) mid ≡ [])
+      → Agrees o (record s { window = w'; conns = count_reply (connection_of a.request) s.conns }) ((m ∷ (mid ++ answer a 0)) ∷ t)
+      × (e ∷ (flat_map (effects_of_mark o t) mid ++ response_effects s a.request 0) ≡ effects_of_item o t (m ∷ (mid ++ answer a 0)))
+  windowed w' mid same before window enters_none leaves_none sends_none calm admits_none =
+      let conn : ℕ = connection_of a.request in
+      let item : List Mark = m ∷ (mid ++ answer a 0) in
+      let u : Untouched item = untouched-begun o s t m e a b (mid ++ answer a 0) (record {
+        enters_none = filter_map-append enters mid (answer a 0) ∙ ap (λ cs. cs ++ []) enters_none;
+        leaves_no = λ k. list_any-append (leaves_ticket k) mid (answer a 0) ∙ ap (λ v. v || false) (leaves_none k);
+      }) in
+      let first_admits : (n : ℕ) → filter_map (admits_at n) item ≡ [] = λ n.
+      filter_map-append (admits_at n) (m ∷ []) (mid ++ answer a 0) ∙ ap (λ xs. xs ++ filter_map (admits_at n) (mid ++ answer a 0)) (before.quiet.admits n)
+      ∙ filter_map-append (admits_at n) mid (answer a 0) ∙ ap (λ xs. xs ++ []) (admits_none n) in
+      let sends : filter_map sent_on item ≡ conn ∷ [] =
+      ap (λ x. cons_option x (filter_map sent_on (mid ++ answer a 0))) b.sends_no ∙ filter_map-append sent_on mid (answer a 0) ∙ ap (λ xs. xs ++ conn ∷ []) sends_none in (
+        record {
+          events = b.events;
+          window = window;
+          replies = RepliesAgree-sent o s.conns t item conn sends b.known b.replies;
+          commands = CommandsAgree-untouched o s.live s.entered t item u b.commands;
+          sets = SetsAgree-untouched o s.sets t item u b.sets;
+          unfinished = same.unfinished ∙ b.unfinished_is ∙ sym (unfinished-untouched item t u);
+          enabled = EnabledSoFar-untouched o item t u b.enabled;
+          level = b.level;
+          arrived = arrived_same s.window w' s.arrived t item same first_admits before.arrived;
+          waiting = record { list = through_append mid (answer a 0) (waiting_by m (waiting t)) ∙ calm (waiting_by m (waiting t)) ∙ b.waiting; may = b.may; known = b.waiting_known };
+        },
+        ap (λ n. e ∷ (flat_map (effects_of_mark o t) mid ++ Send conn n function_reply ∷ [])) (b.replies.stat_sns conn b.known)
+            ∙ sym (ap (λ es. (effects_of_mark o t m ++ es) ++ enables (newly_enabled o t item)) (flat_map-append (effects_of_mark o t) mid (answer a 0))
+            ∙ ap (λ cs. (effects_of_mark o t m ++ (flat_map (effects_of_mark o t) mid ++ Send conn (stat_sn_of o t conn) function_reply ∷ [])) ++ enables cs) (newly-untouched o t item u)
+            ∙ append-nil (effects_of_mark o t m ++ (flat_map (effects_of_mark o t) mid ++ Send conn (stat_sn_of o t conn) function_reply ∷ []))
+            ∙ ap (λ es. es ++ (flat_map (effects_of_mark o t) mid ++ Send conn (stat_sn_of o t conn) function_reply ∷ [])) b.shows),
+      )
+    where
+      through_append : (xs ys : List Mark) (ws : List Arrival) → waiting_through (xs ++ ys) ws ≡ waiting_through ys (waiting_through xs ws)
+      through_append [] ys ws = refl
+      through_append (x ∷ xs) ys ws = through_append xs ys (waiting_by x ws)
+
+  responds : (response : ℕ) → Agrees o (performed_as s a.request unit (Respond response)) ((m ∷ answer a response) ∷ t) × (e ∷ performance_effects s a.request unit (Respond response) ≡ effects_of_item o t (m ∷ answer a response))
+  responds response = let done : Executed o s t m e a (Answer (TaskReply (itt a.request) response)) = answered o s t m e a b (TaskReply (itt a.request) response) in (done.agrees, done.effects)
+
+  abbrev Performs : Outcome → List Mark → Type 0
+  Performs x fm = Agrees o (performed_as s a.request unit x) ((m ∷ fm) ∷ t) × (e ∷ performance_effects s a.request unit x ≡ effects_of_item o t (m ∷ fm))
+
+  performs_void : (sn : ℕ) (fm : List Mark) → OutcomeIs o s t m a unit fm (VoidNumber sn) → Windowed o s t m → Performs (VoidNumber sn) fm
+  performs_void sn fm is before =
+      let n : ℕ = lift (number_expected s.window) sn in
+      let known : Bool = is_received ((m ∷ []) ∷ t) n in
+      let mid : List Mark = cond known [] (Voids n ∷ []) in
+      let window : WindowAgrees o (voided s.window sn) ((m ∷ (mid ++ answer a 0)) ∷ t) = WindowAgrees-voiding o s.window t m a unit sn (answer a 0) before.window before.quiet quiet_answer is.0 in
+      let done = windowed (voided s.window sn) mid (voided_frame s.window sn) before window
+      (elim known as (λ v. filter_map enters (cond v [] (Voids n ∷ [])) ≡ []) [ true ↦ refl | false ↦ refl ])
+      (λ k. elim known as (λ v. list_any (leaves_ticket k) (cond v [] (Voids n ∷ [])) ≡ false) [ true ↦ refl | false ↦ refl ])
+      (elim known as (λ v. filter_map sent_on (cond v [] (Voids n ∷ [])) ≡ []) [ true ↦ refl | false ↦ refl ])
+      (λ ws. elim known as (λ v. waiting_through (cond v [] (Voids n ∷ [])) ws ≡ ws) [ true ↦ refl | false ↦ refl ])
+      (λ k. elim known as (λ v. filter_map (admits_at k) (cond v [] (Voids n ∷ [])) ≡ []) [ true ↦ refl | false ↦ refl ]) in
+      subst (Performs (VoidNumber sn)) (sym is.1) (done.0, ap (λ es. e ∷ (es ++ response_effects s a.request 0)) (void_effects-are o s t m a unit sn before.window before.quiet is.0) ∙ done.1)
+
+  performs_empty : (sn : ℕ) (fm : List Mark) → OutcomeIs o s t m a unit fm (EmptyNumber sn) → Windowed o s t m → Performs (EmptyNumber sn) fm
+  performs_empty sn fm is before =
+      let h : Arrival = is.0.request in
+      let done = windowed (emptied s.window sn) (Empties h ∷ []) (emptied_frame s.window sn) before (WindowAgrees-emptying o s.window t m a unit sn (answer a 0) before.window before.quiet quiet_answer is.0) refl (λ k. refl) refl (λ ws. refl) (λ k. refl) in
+      subst (Performs (EmptyNumber sn)) (sym is.1) (done.0, ap (λ w. e ∷ Empty w ∷ response_effects s a.request 0) is.0.shown ∙ done.1)
+
+  performs_leaving : (covers : Task → Bool) (fm : List Mark) (x : Outcome) → fm ≡ map Leaves (covered_in o t unit covers) ++ answer a 0
+      → performed_as s a.request unit x ≡ aborted s a.request unit covers → performance_effects s a.request unit x ≡ abort_effects s a.request unit covers → Performs x fm
+  performs_leaving covers fm x is core effects =
+      let done = leaving-item o s t m e a b unit inside covers in
+      subst (Performs x) (sym is) (
+        subst (λ (c : Core). Agrees o c (leaving_item o t m a unit covers ∷ t)) (sym core) done.0,
+        ap (λ es. e ∷ es) effects ∙ done.1,
+      )
+
+  -- an outcome, where what voids or empties a number has a window that agrees
+  performs : (x : Outcome) (fm : List Mark) → OutcomeIs o s t m a unit fm x → ((sn : ℕ) → (x ≡ EmptyNumber sn) ⊎ (x ≡ VoidNumber sn) → Windowed o s t m) → Performs x fm
+  performs (Respond response) fm is before = subst (Performs (Respond response)) (sym is) (responds response)
+  performs (Abort ticket) fm is before = performs_leaving (covers_ticket ticket) fm (Abort ticket) is refl refl
+  performs (AbortAll cover) fm is before = performs_leaving (is_covered cover) fm (AbortAll cover) is refl refl
+  performs (EmptyNumber sn) fm is before = performs_empty sn fm is (before sn (inl refl))
+  performs (VoidNumber sn) fm is before = performs_void sn fm is (before sn (inr refl))
+
+-- ---- a function, whatever its unit
+
+-- only ABORT TASK voids or empties a number
+outcome_task : (s : Core) (r : Request) (position : ℤ) (event unit sn : ℕ) → (outcome_by s r position event unit ≡ EmptyNumber sn) ⊎ (outcome_by s r position event unit ≡ VoidNumber sn)
+    → ((function r == 1) ≡ true) × ((abort_by s r unit ≡ EmptyNumber sn) ⊎ (abort_by s r unit ≡ VoidNumber sn))
+outcome_task s r position event unit sn h =
+    by_tests (function r == 1) (function r == 5) (function r == 9) (function r == 10) (list_any (λ (l : Live). l.unit == unit && l.itt == rtt r) s.live) (list_any (λ (l : Live). l.unit == unit) s.live) h
+  where
+    takes : Outcome → Type 0
+    takes x = (x ≡ EmptyNumber sn) ⊎ (x ≡ VoidNumber sn)
+
+    never : (x : Outcome) → (x ≡ EmptyNumber sn → ⊥) → (x ≡ VoidNumber sn → ⊥) → (x ≡ EmptyNumber sn) ⊎ (x ≡ VoidNumber sn) → ⊥
+    never x f g (inl k) = f k
+    never x f g (inr k) = g k
+
+    by_tests : (b c d f x y : Bool) → (cond b (abort_by s r unit) (cond c (AbortAll AllOfThem) (cond d (answer_if x) (cond f (answer_if y) (AbortAll (Below position event))))) ≡ EmptyNumber sn) ⊎ (cond b (abort_by s r unit) (cond c (AbortAll AllOfThem) (cond d (answer_if x) (cond f (answer_if y) (AbortAll (Below position event))))) ≡ VoidNumber sn)
+        → (b ≡ true) × ((abort_by s r unit ≡ EmptyNumber sn) ⊎ (abort_by s r unit ≡ VoidNumber sn))
+    by_tests true c d f x y k = (refl, k)
+    by_tests false true d f x y k = absurd (never (AbortAll AllOfThem) (λ z. cc) (λ z. cc) k)
+    by_tests false false true f x y k = absurd (never (answer_if x) (λ z. cc) (λ z. cc) k)
+    by_tests false false false true x y k = absurd (never (answer_if y) (λ z. cc) (λ z. cc) k)
+    by_tests false false false false x y k = absurd (never (AbortAll (Below position event)) (λ z. cc) (λ z. cc) k)
+
+-- what is known of a function as it begins to execute
+record Called (o : Setting) (s : Core) (t : Trace) (m : Mark) (a : Arrival) (position : ℤ) (event : ℕ) : Type 0 where
+  position_is : position ≡ pos a.number -ℤ pos (number_of_first o.first)
+  event_is : event ≡ a.event
+  aborts : (unit : ℕ) → unit < o.units → (function a.request == 1) ≡ true → AbortsAs o s.window ((m ∷ []) ∷ t) a unit (abort_by s a.request unit)
+  windowed : (unit sn : ℕ) → (outcome_by s a.request position event unit ≡ EmptyNumber sn) ⊎ (outcome_by s a.request position event unit ≡ VoidNumber sn) → Windowed o s t m
+
+module _ (o : Setting) (s : Core) (t : Trace) (m : Mark) (e : Effect) (a : Arrival) (b : Begun o s t m e a) (position : ℤ) (event : ℕ) (k : Called o s t m a position event) where
+  function-executed : Agrees o (performed s a.request position event) ((m ∷ function_marks o ((m ∷ []) ∷ t) a) ∷ t) × (e ∷ performed_effects s a.request position event ≡ effects_of_item o t (m ∷ function_marks o ((m ∷ []) ∷ t) a))
+  function-executed =
+      subst (λ n. Agrees o (let c : Core = elim (unit_named n a.request) [ Some unit ↦ performed_as s a.request unit (outcome_by s a.request position event unit) | None ↦ s ] in c) ((m ∷ function_marks o ((m ∷ []) ∷ t) a) ∷ t)
+      × (e ∷ elim (unit_named n a.request) [ Some unit ↦ performance_effects s a.request unit (outcome_by s a.request position event unit) | None ↦ [] ] ≡ effects_of_item o t (m ∷ function_marks o ((m ∷ []) ∷ t) a))) (sym b.sets.units)
+      (elim (unit_named o.units a.request) as (λ x. unit_named o.units a.request ≡ x → Agrees o (let c : Core = elim x [ Some unit ↦ performed_as s a.request unit (outcome_by s a.request position event unit) | None ↦ s ] in c) ((m ∷ elim x [ Some unit ↦ function_to o ((m ∷ []) ∷ t) a unit | None ↦ [] ]) ∷ t)
+      × (e ∷ elim x [ Some unit ↦ performance_effects s a.request unit (outcome_by s a.request position event unit) | None ↦ [] ] ≡ effects_of_item o t (m ∷ elim x [ Some unit ↦ function_to o ((m ∷ []) ∷ t) a unit | None ↦ [] ]))) [
+        | Some unit ↦ λ is.
+            let inside : unit < o.units = named_below o.units a.request unit is in
+            performs o s t m e a b unit inside (outcome_by s a.request position event unit) (function_to o ((m ∷ []) ∷ t) a unit)
+            (outcome_is o s t m e a b unit position event k.position_is k.event_is (k.aborts unit inside))
+            (λ sn. k.windowed unit sn)
+        | None ↦ λ is. let done : Executed o s t m e a Nothing = nothing_more o s t m e a b in (done.agrees, done.effects)
+      ] refl)
+
+  managed-item : Agrees o (managed s a.request position event) ((m ∷ management_marks o ((m ∷ []) ∷ t) a) ∷ t) × (e ∷ managed_effects s a.request position event ≡ effects_of_item o t (m ∷ management_marks o ((m ∷ []) ∷ t) a))
+  managed-item =
+      let same : refusal_to s.level (length s.sets) a.request ≡ refusal_of_function o a.request = ap (λ n. refusal_to n (length s.sets) a.request) b.level ∙ ap (λ n. refusal_to o.level n a.request) b.sets.units in
+      subst (λ y. Agrees o (let c : Core = elim y [ Some reply ↦ with_reply s (connection_of a.request) | None ↦ performed s a.request position event ] in c) ((m ∷ management_marks o ((m ∷ []) ∷ t) a) ∷ t)
+      × (e ∷ elim y [ Some reply ↦ reply_effects s (connection_of a.request) reply | None ↦ performed_effects s a.request position event ] ≡ effects_of_item o t (m ∷ management_marks o ((m ∷ []) ∷ t) a))) (sym same)
+      (elim (refusal_of_function o a.request) as (λ y. Agrees o (let c : Core = elim y [ Some reply ↦ with_reply s (connection_of a.request) | None ↦ performed s a.request position event ] in c) ((m ∷ elim y [ Some reply ↦ reply_on a reply | None ↦ function_marks o ((m ∷ []) ∷ t) a ]) ∷ t)
+      × (e ∷ elim y [ Some reply ↦ reply_effects s (connection_of a.request) reply | None ↦ performed_effects s a.request position event ] ≡ effects_of_item o t (m ∷ elim y [ Some reply ↦ reply_on a reply | None ↦ function_marks o ((m ∷ []) ∷ t) a ]))) [
+        | Some reply ↦ let done : Executed o s t m e a (Answer reply) = answered o s t m e a b reply in (done.agrees, done.effects)
+        | None ↦ function-executed
+      ])
+
+-- a request of any kind executes
+executes : (o : Setting) (s : Core) (t : Trace) (m : Mark) (e : Effect) (a : Arrival) (event : ℕ) → Begun o s t m e a → number_by s a.request ≡ a.number → event_by s a.request ≡ cond (is_immediate a.request) a.event 0 → Called o s t m a (position_by s a.request) event
+    → Agrees o (with_executed s a.request event) (execution o t m a ∷ t) × (e ∷ executed_effects s a.request event ≡ effects_of_item o t (execution o t m a))
+executes o s t m e a event b number_is event_is k =
+    let t' : Trace = (m ∷ []) ∷ t in
+    elim (opcode a.request == 0x02) as (λ v. (opcode a.request == 0x02) ≡ v → Agrees o (cond v (managed s a.request (position_by s a.request) event) (executed_as s a.request (verdict_by s a.request))) (execution o t m a ∷ t)
+    × (e ∷ cond v (managed_effects s a.request (position_by s a.request) event) (execution_effects s a.request (verdict_by s a.request)) ≡ effects_of_item o t (execution o t m a))) [
+      | true ↦ λ is. subst (λ fm. Agrees o (managed s a.request (position_by s a.request) event) ((m ∷ fm) ∷ t) × (e ∷ managed_effects s a.request (position_by s a.request) event ≡ effects_of_item o t (m ∷ fm)))
+          (sym (ap (λ v. cond v (management_marks o t' a) (marks_of t' a (verdict_of o t' a.request))) is)) (managed-item o s t m e a b (position_by s a.request) event k)
+      | false ↦ λ is. executed-item o s t m e a b is number_is event_is
+    ] refl
+
+position_of : (o : Setting) (s : Core) (a : Arrival) → s.window.first ≡ o.first → number_by s a.request ≡ a.number → position_by s a.request ≡ pos a.number -ℤ pos (number_of_first o.first)
+position_of o s a first number = ap (λ n. pos n -ℤ pos (number_of_first s.window.first)) number ∙ ap (λ f. pos a.number -ℤ pos (number_of_first f)) first
 
 -- ---- at its turn
 
+turned_by_arrival : (o : Setting) (s : Core) (t : Trace) (r : Request) (h : Agrees o s t) → at_place s.window 0 ≡ Some (Some r) → (x : Next s.window t r)
+    → Agrees o (with_executed (turned_core s) x.arrival.request (next_arrived s)) (item_of o t x.arrival ∷ t) × (Deliver x.arrival.request ∷ executed_effects (turned_core s) x.arrival.request (next_arrived s) ≡ effects_of_item o t (item_of o t x.arrival))
+turned_by_arrival o s t r h place x =
+    let a : Arrival = x.arrival in
+    let s' : Core = turned_core s in
+    let b = turn-begun o s t r h place x in
+    let number : number_by s' a.request ≡ a.number = number_next o s t r h x in
+    executes o s' t (Delivers a) (Deliver a.request) a (next_arrived s) b number (event_next o s t r h x) (record {
+      position_is = position_of o s' a h.window.first number;
+      event_is = arrived_next o s t r h place x;
+      aborts = λ unit inside one. AbortsAs-turned o s t r unit h place x;
+      windowed = λ unit sn said. absurd (turned_safe unit sn (outcome_task s' a.request (position_by s' a.request) (next_arrived s) unit sn said).1);
+    })
+  where
+    turned_safe : (unit sn : ℕ) → (abort_by (turned_core s) x.arrival.request unit ≡ EmptyNumber sn) ⊎ (abort_by (turned_core s) x.arrival.request unit ≡ VoidNumber sn) → ⊥
+    turned_safe unit sn said =
+        let a : Arrival = x.arrival in
+        let number : a.number ≡ number_expected s.window = held-number t (number_expected s.window) a x.held_is in
+        numbered_outcome (turned_core s) a.request unit a.number sn (numbered_held o s t r h x) (let z : a.number + 1 ≡ number_expected (turned_window s.window) = omega (arith, number) in z)
+        (h.window.numbers (number_expected s.window) a (admitted_of_held t (number_expected s.window) a x.held_is) ∙ ap wire (sym number)) said
+
 pub turned-item : (o : Setting) (s : Core) (t : Trace) (r : Request) → Agrees o s t → at_place s.window 0 ≡ Some (Some r) → (x : Next s.window t r)
     → Agrees o (with_executed (turned_core s) r (next_arrived s)) (item_of o t x.arrival ∷ t) × (Deliver r ∷ executed_effects (turned_core s) r (next_arrived s) ≡ effects_of_item o t (item_of o t x.arrival))
-turned-item o s t r a place x = ?
+turned-item o s t r h place x =
+    subst (λ (q : Request). Agrees o (with_executed (turned_core s) q (next_arrived s)) (item_of o t x.arrival ∷ t) × (Deliver q ∷ executed_effects (turned_core s) q (next_arrived s) ≡ effects_of_item o t (item_of o t x.arrival))) x.request_is (turned_by_arrival o s t r h place x)
+
+-- ---- an immediate request begins to execute
+
+quiet_executes : (a : Arrival) (ms : List Mark) → IsQuiet ms → IsQuiet (Executes a ∷ ms)
+quiet_executes a ms q = record { receives = q.receives; admits = q.admits; delivers_none = q.delivers_none; delivers_no = q.delivers_no; empties_no = q.empties_no }
+
+immediate_begun : (o : Setting) (s s' : Core) (t : Trace) (a : Arrival) → Agrees o s t → s' ≡ record s { waiting = s'.waiting } → is_immediate a.request ≡ true → is_known (connection_of a.request) o.conns ≡ true
+    → waiting_by (Executes a) (waiting t) ≡ map (arrival_waiting o.first) s'.waiting → list_all (λ w. may_wait w.request) s'.waiting ≡ true → list_all (λ w. is_known (connection_of w.request) o.conns) s'.waiting ≡ true
+    → Begun o s' t (Executes a) (Immediate a.request) a
+immediate_begun o s s' t a h is immediate known waits may waits_known =
+    subst (λ (c : Core). Begun o c t (Executes a) (Immediate a.request) a) (sym is) (record {
+      events = h.events;
+      window = λ ms q. WindowAgrees-quiet o s.window t (Executes a ∷ ms) (quiet_executes a ms q) h.window;
+      room = λ no ms q. absurd (false≢true (sym no ∙ immediate));
+      replies = h.replies;
+      commands = h.commands;
+      sets = h.sets;
+      unfinished_is = h.unfinished;
+      enabled = h.enabled;
+      known = known;
+      first = h.window.first;
+      level = h.level;
+      arrived = λ ms q. ArrivalsAgree-quiet s.window s.arrived t (Executes a ∷ ms) (quiet_executes a ms q) h.arrived;
+      waiting = waits;
+      may = may;
+      waiting_known = waits_known;
+      enters_no = refl;
+      leaves_no = λ k. refl;
+      sends_no = refl;
+      shows = refl;
+    })
 
 -- ---- once it has waited
 
+found_turn : (turned : ℕ) (ws : List Waiting) (w : Waiting) → find (λ v. v.turn == turned) ws ≡ Some w → w.turn ≡ turned
+found_turn turned ws w found = eqb-true w.turn turned (find-found (λ (v : Waiting). v.turn == turned) ws w found)
+
+-- a function that may wait is immediate, and no ABORT TASK
+may_immediate : (r : Request) → may_wait r ≡ true → is_immediate r ≡ true
+may_immediate r may = (and_parts (is_immediate r) (function r == 2 || function r == 4 || function r == 5) may).0
+
 pub waited-item : (o : Setting) (s : Core) (t : Trace) (w : Waiting) → Agrees o s t → next_waiting s ≡ Some w
     → Agrees o (function_if s (Some w)) (function_item o t (arrival_waiting o.first w) ∷ t) × (function_effects s (Some w) ≡ effects_of_item o t (function_item o t (arrival_waiting o.first w)))
-waited-item o s t w a found = ?
+waited-item o s t w h found =
+    let a : Arrival = arrival_waiting o.first w in
+    let s' : Core = without_waiting s w in
+    let may : may_wait w.request ≡ true = find-passes (λ (v : Waiting). v.turn == s.window.turned) (λ v. may_wait v.request) s.waiting w h.waiting.may found in
+    let known : is_known (connection_of w.request) o.conns ≡ true = find-passes (λ (v : Waiting). v.turn == s.window.turned) (λ v. is_known (connection_of v.request) o.conns) s.waiting w h.waiting.known found in
+    let stays : Waiting → Bool = λ v. not (v.event == w.event) in
+    let b = immediate_begun o s s' t a h refl (may_immediate w.request may) known (ap (filter (λ (c : Arrival). not (c.event == w.event))) h.waiting.list ∙ kept_waiting o.first w.event s.waiting) (list_all-filter stays (λ v. may_wait v.request) s.waiting h.waiting.may) (list_all-filter stays (λ v. is_known (connection_of v.request) o.conns) s.waiting h.waiting.known) in
+    let number : number_expected s.window ≡ a.number = omega (arith, h.window.first, found_turn s.window.turned s.waiting w found) in
+    function-executed o s' t (Executes a) (Immediate a.request) a b (next_position s) w.event (record {
+      position_is = ap (λ n. pos n -ℤ pos (number_of_first s.window.first)) number ∙ ap (λ f. pos a.number -ℤ pos (number_of_first f)) h.window.first;
+      event_is = refl;
+      aborts = λ unit inside one. absurd (false≢true (sym (no_abort_task w.request may) ∙ one));
+      windowed = λ unit sn said. absurd (false≢true (sym (no_abort_task w.request may) ∙ (outcome_task s' w.request (next_position s) w.event unit sn said).0));
+    })
 
 -- ---- at its arrival
+
+-- no function that waits arrived in this event
+none_of_event : (first index taken : ℕ) (ws : List Waiting) → taken ≡ index + 1 → list_all (λ w. nat_lt (w.event + 1) taken) ws ≡ true → filter (λ b. not (b.event == index)) (map (arrival_waiting first) ws) ≡ map (arrival_waiting first) ws
+none_of_event first index taken [] is all = refl
+none_of_event first index taken (w ∷ ws) is all =
+    let parts = and_parts (nat_lt (w.event + 1) taken) (list_all (λ v. nat_lt (v.event + 1) taken) ws) all in
+    let rest : List Arrival = filter (λ b. not (b.event == index)) (map (arrival_waiting first) ws) in
+    ap (λ v. cond (not v) (arrival_waiting first w ∷ rest) rest) (apart parts.0) ∙ ap (λ bs. arrival_waiting first w ∷ bs) (none_of_event first index taken ws is parts.1)
+  where
+    apart : nat_lt (w.event + 1) taken ≡ true → (w.event == index) ≡ false
+    apart test = let lt : w.event + 1 < taken = grind (arith, nat_tests) in let less : w.event < index = omega (arith, lt, is) in let no : (w.event == index) ≡ false = grind (arith, nat_tests) in no
 
 pub immediate-item : (o : Setting) (s : Core) (index : ℕ) (t : Trace) (r : Request) → Settled o s t → is_immediate r ≡ true → is_known (connection_of r) o.conns ≡ true → s.taken ≡ index + 1 → list_all (λ w. nat_lt (w.event + 1) s.taken) s.waiting ≡ true
     → Agrees o (immediate_as s r (patience_by s r)) (immediate_item o t (arrival_of o index t r) ∷ t) × (immediate_effects s r (patience_by s r) ≡ effects_of_item o t (immediate_item o t (arrival_of o index t r)))
@@ -42,3 +510,4 @@ executed_expected s r event = ?
 
 pub function_expected : (s : Core) (x : Option Waiting) → number_expected (function_if s x).window ≡ number_expected s.window
 function_expected s x = ?
+

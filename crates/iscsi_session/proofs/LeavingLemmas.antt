@@ -349,7 +349,7 @@ module _ (o : Setting) (s : Core) (t : Trace) (m : Mark) (e : Effect) (a : Arriv
       enabled = EnabledSoFar-left o item t out leaves (units_live o rest s.entered (item ∷ t) commands) b.enabled;
       level = b.level;
       arrived = (let now = b.arrived (map Leaves gone ++ reply_on a reply) (quiet-leaving gone a reply) in record { long = now.long; at_place = now.at_place });
-      waiting = record { list = leaving-calm gone a reply (waiting_by m (waiting t)) ∙ b.waiting; may = b.may };
+      waiting = record { list = leaving-calm gone a reply (waiting_by m (waiting t)) ∙ b.waiting; may = b.may; known = b.waiting_known };
     },
     effects_are,
   )

@@ -1,5 +1,5 @@
 -- A number that is received without a request, and a held request that is taken out, in the window.
-use Rattle.std.proofs.Common.{◌≡◌, ℕ, ◌+◌, ◌-◌, ◌<◌, ◌≤◌, ◌==◌, ◌&&◌, ◌||◌, ⊎_elim, cond, Bool, true, false, List, [], ◌∷◌, ◌++◌, length, get_or, set, Option, Some, None, option_map, is_some, nat_lt, nat_le, refl, ap, sym, subst, ◌∙◌, arith, eq-eqb, length-set}
+use Rattle.std.proofs.Common.{◌≡◌, ℕ, ◌+◌, ◌-◌, ◌^◌, ◌<◌, ◌≤◌, ◌==◌, ◌&&◌, ◌||◌, ⊎_elim, cond, Bool, true, false, List, [], ◌∷◌, ◌++◌, length, get_or, set, Option, Some, None, option_map, is_some, nat_lt, nat_le, refl, ap, sym, subst, ◌∙◌, arith, eq-eqb, length-set}
 use Rattle.std.specs.List.{list_any, filter_map, cons_option}
 use Rattle.std.specs.Option.{option_flatten}
 use Rattle.std.proofs.lemmas.Bool.{cases_eq, cases_lt, false≢true}
@@ -280,14 +280,14 @@ pub record EmptiedAt (w : Received) (n : ℕ) (r : Request) : Type 0 where
   pub held_is : held_at w (place_in w (wire n)) ≡ Some r
   pub becomes : emptied w (wire n) ≡ with_place w (n - number_expected w) (Some None)
 
-pub emptied_at : (o : Setting) (w : Received) (t : Trace) (n : ℕ) (h : Arrival) → WindowAgrees o w t → length w.places ≤ 1024 → held t n ≡ Some h → number_expected w ≤ n → n < number_expected w + length w.places → EmptiedAt w n h.request
-emptied_at o w t n h a small is low high =
+pub emptied_at : (o : Setting) (w : Received) (t : Trace) (n : ℕ) (h : Arrival) → WindowAgrees o w t → n < number_expected w + 2 ^ 31 → held t n ≡ Some h → number_expected w ≤ n → n < number_expected w + length w.places → EmptiedAt w n h.request
+emptied_at o w t n h a near is low high =
     let e : ℕ = number_expected w in
     let there : place_of t n ≡ Some (Some h.request) =
     ap (λ b. cond b (Some (option_map (λ (x : Arrival). x.request) (held t n))) None) (held_received t n h is) ∙ ap (λ x. let y : Option (Option Request) = Some (option_map (λ (z : Arrival). z.request) x) in y) is in
     let read : at_place w (n - e) ≡ Some (Some h.request) = read_inside o w t n a low high ∙ there in
     let not_last : n - e + w.unfinished < length w.places = ⊎_elim (λ lt. lt) (λ last. absurd (let z : Some (Some h.request) ≡ None = sym read ∙ a.free (n - e) (omega arith) in cc)) (cases_lt (n - e + w.unfinished) (length w.places)) in
-    let lifted : lift e (wire n) ≡ n = omega (arith, small) in
+    let lifted : lift e (wire n) ≡ n = omega (arith, near, low) in
     let place : place_in w (wire n) ≡ Inside (n - e) = inside_place w n (wire n) low (omega (arith, not_last)) lifted in
     let found : held_at w (place_in w (wire n)) ≡ Some h.request = ap (held_at w) place ∙ ap option_flatten read in
     record {

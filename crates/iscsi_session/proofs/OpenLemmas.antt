@@ -7,7 +7,7 @@ use Rattle.iscsi_wire.specs.Serial.{wire, number_of_first}
 use Rattle.iscsi_window.specs.Windows.{Received, number_expected, opened}
 use Rattle.iscsi_tasks.specs.Sets.{Members, opened as opened_set}
 use Rattle.iscsi_session.specs.declared.event.Event.{Event}
-use Rattle.iscsi_session.specs.Settings.{Setting}
+use Rattle.iscsi_session.specs.Settings.{Setting, is_known}
 use Rattle.iscsi_session.specs.Trace.{Arrival, Trace, first_of, is_received, is_delivered, is_emptied, held, admitted, live, waiting}
 use Rattle.iscsi_session.specs.Run.{trace_of}
 use Rattle.iscsi_session.specs.Executed.{request_at}
@@ -88,7 +88,7 @@ Settled-opened o s window events conns entered none sets level arrived waits =
           long = ap length arrived ∙ so_many o.window 0 ∙ sym (ap (λ (w : Received). length w.places) window ∙ so_many o.window None);
           at_place = λ k a lt found. absurd cc;
         };
-        waiting = record { list = sym (ap (map (arrival_waiting o.first)) waits); may = ap (list_all (λ (w : Waiting). may_wait w.request)) waits };
+        waiting = record { list = sym (ap (map (arrival_waiting o.first)) waits); may = ap (list_all (λ (w : Waiting). may_wait w.request)) waits; known = ap (list_all (λ (w : Waiting). is_known (connection_of w.request) o.conns)) waits };
       };
       none_due = nothing 0;
     }

@@ -136,7 +136,7 @@ Stepped-completed o s t c ticket status h found =
           enabled = EnabledSoFar-left o item t out l (units_live o (without_ticket c.ticket s.live) s.entered (item ∷ t) commands) a.enabled;
           level = a.level;
           arrived = arrived-finished s.window s.arrived (item ∷ t) c (ArrivalsAgree-quiet s.window s.arrived t item (quiet-completion c status) a.arrived);
-          waiting = record { list = a.waiting.list; may = a.waiting.may };
+          waiting = record { list = a.waiting.list; may = a.waiting.may; known = a.waiting.known };
         };
         none_due = finished_place s.window c ∙ h.none_due;
       };

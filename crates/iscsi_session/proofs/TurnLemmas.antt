@@ -9,6 +9,7 @@ use Rattle.iscsi_session.specs.declared.effect.Effect.TheVariants.{Deliver}
 use Rattle.iscsi_session.specs.Settings.{Setting, is_known}
 use Rattle.iscsi_session.specs.Trace.{Arrival, Mark, Delivers, Trace, held}
 use Rattle.iscsi_session.specs.Standing.{Core, Agrees}
+use Rattle.iscsi_session.specs.Steps.{number_by, event_by}
 use Rattle.iscsi_session.specs.Turning.{with_executed, executed_effects, next_arrived, turned_if, turn_effects}
 use Rattle.iscsi_session.proofs.BoolLemmas.{and_parts, not_true}
 use Rattle.iscsi_session.proofs.HeldLemmas.{held-number, admitted_of_held}
@@ -54,12 +55,11 @@ turn-begun o s t r h place x =
       enabled = h.enabled;
       known = regular.1;
       first = h.window.first;
-      number = ap (λ i. cond i (lift (number_expected (turned_window s.window)) (cmd_sn a.request)) (number_expected (turned_window s.window) - 1)) numbered ∙ (let z : number_expected (turned_window s.window) - 1 ≡ a.number = omega (arith, number) in z);
-      event = ap (λ i. cond i (s.taken - 1) 0) numbered ∙ sym (ap (λ i. cond i a.event 0) numbered);
       level = h.level;
       arrived = λ ms q. ArrivalsAgree-turned o s.window s.arrived t a ms (Some r) h.window place number q h.arrived;
       waiting = h.waiting.list;
       may = h.waiting.may;
+      waiting_known = h.waiting.known;
       enters_no = refl;
       leaves_no = λ k. refl;
       sends_no = refl;
@@ -69,3 +69,16 @@ turn-begun o s t r h place x =
 -- the event in which it arrived
 pub arrived_next : (o : Setting) (s : Core) (t : Trace) (r : Request) (h : Agrees o s t) → at_place s.window 0 ≡ Some (Some r) → (x : Next s.window t r) → next_arrived s ≡ x.arrival.event
 arrived_next o s t r h place x = h.arrived.at_place 0 x.arrival (has_first s.window.places (Some r) place) (ap (held t) (let z : number_expected s.window + 0 ≡ number_expected s.window = omega arith in z) ∙ x.held_is)
+
+-- its number
+pub number_next : (o : Setting) (s : Core) (t : Trace) (r : Request) (h : Agrees o s t) → (x : Next s.window t r) → number_by (turned_core s) x.arrival.request ≡ x.arrival.number
+number_next o s t r h x =
+    let a : Arrival = x.arrival in
+    let number : a.number ≡ number_expected s.window = held-number t (number_expected s.window) a x.held_is in
+    ap (λ i. cond i (lift (number_expected (turned_window s.window)) (cmd_sn a.request)) (number_expected (turned_window s.window) - 1)) (numbered_held o s t r h x) ∙ (let z : number_expected (turned_window s.window) - 1 ≡ a.number = omega (arith, number) in z)
+
+pub event_next : (o : Setting) (s : Core) (t : Trace) (r : Request) (h : Agrees o s t) → (x : Next s.window t r) → event_by (turned_core s) x.arrival.request ≡ cond (is_immediate x.arrival.request) x.arrival.event 0
+event_next o s t r h x =
+    let a : Arrival = x.arrival in
+    let numbered : is_immediate a.request ≡ false = numbered_held o s t r h x in
+    ap (λ i. cond i (s.taken - 1) 0) numbered ∙ sym (ap (λ i. cond i a.event 0) numbered)

@@ -4,7 +4,7 @@ use Rattle.std.specs.Prelude.{ℕ, ℤ, pos, ◌-ℤ◌, ◌+◌, ◌-◌, ◌==
 use Rattle.std.specs.List.{list_any}
 use Rattle.iscsi_wire.specs.declared.reply.Reply.TheVariants.{Task as TaskReply}
 use Rattle.iscsi_wire.specs.declared.request.Request.{Request}
-use Rattle.iscsi_wire.specs.Serial.{lift, number_of_first}
+use Rattle.iscsi_wire.specs.Serial.{wire, lift}
 use Rattle.iscsi_wire.specs.Fields.{connection_of, is_immediate, function, itt, rtt, cmd_sn, ref_cmd_sn}
 use Rattle.iscsi_window.specs.declared.answer.Place.{Place}
 use Rattle.iscsi_window.specs.declared.answer.Place.TheVariants.{Inside, Outside}
@@ -126,7 +126,7 @@ abbrev pub abort_effects : Core → Request → ℕ → (Task → Bool) → List
 abort_effects s r unit covers = leaving_effects s unit covers ++ response_effects s r TASK_COMPLETE ++ enable_effects unit (set_at (with_left s unit covers) unit).list
 
 abbrev pub void_effects : Core → ℕ → List Effect
-void_effects s w = if is_received_at s.window (place_in s.window w) then [] else Void w ∷ []
+void_effects s w = if is_received_at s.window (place_in s.window w) then [] else Void (wire w) ∷ []
 
 abbrev pub performance_effects : Core → Request → ℕ → Outcome → List Effect
 performance_effects s r unit (Respond response) = response_effects s r response

@@ -147,6 +147,7 @@ arrival_waiting first w = record { event = w.event; number = number_of_first fir
 pub record WaitingAgrees (o : Setting) (waits : List Waiting) (t : Trace) : Type 0 where
   pub list : waiting t ≡ map (arrival_waiting o.first) waits
   pub may : list_all (λ w. may_wait w.request) waits ≡ true
+  pub known : list_all (λ w. is_known (connection_of w.request) o.conns) waits ≡ true
 
 -- its connections
 pub record RepliesAgree (o : Setting) (conns : List (ℕ × ℕ)) (t : Trace) : Type 0 where
