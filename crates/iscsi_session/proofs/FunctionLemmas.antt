@@ -1,12 +1,12 @@
 -- A request executes: a task management function or another one, at its turn, at its arrival, or once it has waited.
-use Rattle.std.proofs.Common.{◌≡◌, ℕ, ℤ, pos, ◌-ℤ◌, ◌+◌, ◌-◌, ◌<◌, ◌≤◌, ◌==◌, ◌&&◌, ◌||◌, not, ⊎_elim, cond, Bool, true, false, nat_lt, nat_le, int_lt, List, [], ◌∷◌, ◌++◌, length, map, filter, find, set, get_or, is_some, ◌⊎◌, inl, inr, Option, Some, None, refl, ap, sym, subst, ◌∙◌, arith, append_assoc, length-set, eq-eqb, Decides}
+use Rattle.std.proofs.Common.{◌≡◌, ℕ, ℤ, pos, ◌-ℤ◌, ◌+◌, ◌-◌, ◌<◌, ◌≤◌, ◌==◌, ◌&&◌, ◌||◌, not, ⊎_elim, cond, Bool, true, false, nat_lt, nat_le, int_lt, List, [], ◌∷◌, ◌++◌, length, map, filter, find, count_by, set, get_or, is_some, ◌⊎◌, inl, inr, Option, Some, None, refl, ap, sym, subst, ◌∙◌, arith, append_assoc, length-set, eq-eqb, Decides}
 use Rattle.std.specs.List.{list_any, list_all, filter_map, flat_map, cons_option}
 use Rattle.std.specs.Ordering.{int_eq}
 use Rattle.std.proofs.lemmas.Int.{ints}
 use Rattle.std.proofs.lemmas.Bool.{cases_lt, cases_eq, false≢true, eqb-true}
 use Rattle.std.proofs.lemmas.Bool.Decides.{nat_tests, Decides-int_eq}
-use Rattle.std.proofs.lemmas.List.{append-nil}
-use Rattle.std.proofs.lemmas.List.Folds.{list_any-append}
+use Rattle.std.proofs.lemmas.List.{append-nil, map-append}
+use Rattle.std.proofs.lemmas.List.Folds.{list_any-append, list_all-append}
 use Rattle.iscsi_wire.specs.declared.reply.Reply.{Reply}
 use Rattle.iscsi_wire.specs.declared.reply.Reply.TheVariants.{Task as TaskReply, Reject}
 use Rattle.iscsi_wire.specs.declared.request.Request.{Request}
@@ -14,31 +14,34 @@ use Rattle.iscsi_wire.specs.Serial.{wire, lift, number_of_first}
 use Rattle.iscsi_wire.specs.Fields.{connection_of, header_of, is_immediate, opcode, function, itt, rtt, cmd_sn}
 use Rattle.iscsi_window.specs.declared.answer.Place.{Place}
 use Rattle.iscsi_window.specs.declared.answer.Place.TheVariants.{Inside, Outside as NoPlace}
-use Rattle.iscsi_window.specs.Windows.{Received, number_expected, at_place, place_in, held_at, received_at, emptied_if, emptied, voided, with_place, with_unfinished, is_received_at}
+use Rattle.iscsi_window.specs.Windows.{Received, number_expected, room_of, at_place, place_in, held_at, received_at, emptied_if, emptied, voided, with_place, with_unfinished, is_received_at}
 use Rattle.iscsi_tasks.specs.declared.cover.Cover.{Cover}
 use Rattle.iscsi_tasks.specs.declared.cover.Cover.TheVariants.{All as AllOfThem, Below}
 use Rattle.iscsi_tasks.specs.declared.task.Task.{Task}
 use Rattle.iscsi_tasks.specs.Sets.{is_covered}
 use Rattle.iscsi_session.specs.declared.effect.Effect.{Effect}
-use Rattle.iscsi_session.specs.declared.effect.Effect.TheVariants.{Deliver, Immediate, Send, Empty}
+use Rattle.iscsi_session.specs.declared.effect.Effect.TheVariants.{Deliver, Immediate, Wait, Send, Empty}
 use Rattle.iscsi_session.specs.declared.outcome.Outcome.{Outcome}
 use Rattle.iscsi_session.specs.declared.outcome.Outcome.TheVariants.{Respond, Abort, AbortAll, Empty as EmptyNumber, Void as VoidNumber}
 use Rattle.iscsi_session.specs.declared.session.live.Live.{Live}
 use Rattle.iscsi_session.specs.declared.session.waiting.Waiting.{Waiting}
-use Rattle.iscsi_session.specs.declared.verdict.Verdict.TheVariants.{Nothing, Answer}
+use Rattle.iscsi_session.specs.declared.patience.Patience.{Patience}
+use Rattle.iscsi_session.specs.declared.patience.Patience.TheVariants.{Now, Later, TooFar, TooMany}
+use Rattle.iscsi_session.specs.declared.verdict.Verdict.{Verdict}
+use Rattle.iscsi_session.specs.declared.verdict.Verdict.TheVariants.{Nothing, Answer, Enter as EnterUnit}
 use Rattle.iscsi_session.specs.Settings.{Setting, is_known}
-use Rattle.iscsi_session.specs.Trace.{Arrival, Command, Mark, Executes, Delivers, Voids, Empties, Leaves, Sends, Trace, admits_at, delivers_number, empties_number, shown, first_of, is_received, is_delivered, is_emptied, held, admitted, waiting, waiting_by, waiting_through, live, live_in, enters, leaves_ticket, sent_on}
-use Rattle.iscsi_session.specs.Execution.{unfinished, unit_named, reply_on, marks_of, verdict_of}
-use Rattle.iscsi_session.specs.Management.{may_wait, refusal_to, refusal_of_function, answer, is_before, abort_all, abort_task, query, function_to, function_marks, management_marks}
+use Rattle.iscsi_session.specs.Trace.{Arrival, Command, Mark, Executes, Delivers, Voids, Empties, Waits, Leaves, Sends, Trace, admits_at, delivers_number, empties_number, shown, first_of, is_received, is_delivered, is_emptied, held, admitted, waiting, waiting_by, waiting_through, live, live_in, enters, leaves_ticket, sent_on}
+use Rattle.iscsi_session.specs.Execution.{exp_of, max_of, unfinished, unit_named, reply_on, marks_of, verdict_of}
+use Rattle.iscsi_session.specs.Management.{may_wait, waiting_on, refusal_to, refusal_of_function, answer, is_before, abort_all, abort_task, query, function_to, function_marks, management_marks}
 use Rattle.iscsi_session.specs.Agenda.{arrival_of}
-use Rattle.iscsi_session.specs.Items.{execution, immediate_item, item_of, function_item}
+use Rattle.iscsi_session.specs.Items.{execution, waiting_item, immediate_item, item_of, function_item}
 use Rattle.iscsi_session.specs.Run.{effects_of_mark, effects_of_item, newly_enabled, stat_sn_of}
 use Rattle.iscsi_session.specs.Standing.{Core, kept, task_of, WindowAgrees, ArrivalsAgree, arrival_waiting, Agrees, Settled}
 use Rattle.iscsi_session.specs.Functions.{aborted, abort_effects, answer_if, outcome_by, abort_by, performed_as, performance_effects, covers_ticket, response_effects, void_effects}
 use Rattle.iscsi_session.specs.Steps.{count_reply, with_reply, reply_effects, number_by, event_by, verdict_by, executed_as, execution_effects}
-use Rattle.iscsi_session.specs.Turning.{position_by, next_position, without_waiting, performed, performed_effects, managed, managed_effects, with_executed, executed_effects, next_arrived, next_waiting, function_if, function_effects, patience_by, immediate_as, immediate_effects}
+use Rattle.iscsi_session.specs.Turning.{position_by, next_position, without_waiting, performed, performed_effects, managed, managed_effects, with_executed, executed_effects, next_arrived, next_waiting, waiting_in, wait_by, function_if, function_effects, patience_by, immediate_as, immediate_effects}
 use Rattle.iscsi_session.proofs.BoolLemmas.{and_parts}
-use Rattle.iscsi_session.proofs.ListLemmas.{list_any-map, list_all-filter, find-passes}
+use Rattle.iscsi_session.proofs.ListLemmas.{count_by-map, list_any-map, list_all-filter, find-passes}
 use Rattle.iscsi_session.proofs.TraceLemmas.{filter-same}
 use Rattle.iscsi_session.proofs.DeliveryLemmas.{IsQuiet}
 use Rattle.iscsi_session.proofs.HeldLemmas.{held-number, admitted_of_held}
@@ -48,11 +51,11 @@ use Rattle.iscsi_session.proofs.ArrivedLemmas.{ArrivalsAgree-quiet}
 use Rattle.iscsi_session.proofs.ReceiveLemmas.{no_abort_task}
 use Rattle.iscsi_session.proofs.WaitLemmas.{kept_waiting}
 use Rattle.iscsi_session.proofs.CommandParts.{Untouched, live_in-untouched, CommandsAgree-untouched}
-use Rattle.iscsi_session.proofs.ReplyParts.{RepliesAgree-sent}
+use Rattle.iscsi_session.proofs.ReplyParts.{RepliesAgree-quiet, RepliesAgree-sent}
 use Rattle.iscsi_session.proofs.EnabledLemmas.{enables}
 use Rattle.iscsi_session.proofs.EnablingLemmas.{EnabledSoFar-untouched}
 use Rattle.iscsi_session.proofs.SetParts.{SetsAgree-untouched, newly-untouched}
-use Rattle.iscsi_session.proofs.AgreeLemmas.{unfinished-untouched}
+use Rattle.iscsi_session.proofs.AgreeLemmas.{unfinished-untouched, settled_expected, settled_max}
 use Rattle.iscsi_session.proofs.ExecutionLemmas.{named_below, Begun, Executed, nothing_more, answered, executed-item, untouched-begun}
 use Rattle.iscsi_session.proofs.LeavingLemmas.{covered_in, leaving_item, leaving-item}
 use Rattle.iscsi_session.proofs.AbortParts.{numbered_outcome, AbortsOne, EmptiesHeld, VoidsMissing, AbortsAs, AbortsAs-arrived, AbortsAs-turned, WindowAgrees-emptying, WindowAgrees-voiding, void_effects-are}
@@ -499,15 +502,171 @@ none_of_event first index taken (w ∷ ws) is all =
     apart : nat_lt (w.event + 1) taken ≡ true → (w.event == index) ≡ false
     apart test = let lt : w.event + 1 < taken = grind (arith, nat_tests) in let less : w.event < index = omega (arith, lt, is) in let no : (w.event == index) ≡ false = grind (arith, nat_tests) in no
 
+-- what begins at once, of a settled session
+record Arriving (o : Setting) (s : Core) (index : ℕ) (t : Trace) (r : Request) : Type 0 where
+  begun : Begun o s t (Executes (arrival_of o index t r)) (Immediate r) (arrival_of o index t r)
+  number : number_by s r ≡ lift (exp_of o t) (cmd_sn r)
+  event : event_by s r ≡ cond (is_immediate r) index 0
+  called : Called o s t (Executes (arrival_of o index t r)) (arrival_of o index t r) (position_by s r) (s.taken - 1)
+
+arriving : (o : Setting) (s : Core) (index : ℕ) (t : Trace) (r : Request) → Settled o s t → is_immediate r ≡ true → is_known (connection_of r) o.conns ≡ true → s.taken ≡ index + 1 → list_all (λ w. nat_lt (w.event + 1) s.taken) s.waiting ≡ true → Arriving o s index t r
+arriving o s index t r h immediate known taken waited =
+    let a : Arrival = arrival_of o index t r in
+    let now = h.agrees in
+    let waits : waiting_by (Executes a) (waiting t) ≡ map (arrival_waiting o.first) s.waiting =
+    ap (filter (λ (b : Arrival). not (b.event == index))) now.waiting.list ∙ none_of_event o.first index s.taken s.waiting taken waited in
+    let number : number_by s r ≡ lift (exp_of o t) (cmd_sn r) =
+    ap (λ i. cond i (lift (number_expected s.window) (cmd_sn r)) (number_expected s.window - 1)) immediate ∙ ap (λ e. lift e (cmd_sn r)) (sym (settled_expected o s t h)) in
+    record {
+      begun = immediate_begun o s s t a now refl immediate known waits now.waiting.may now.waiting.known;
+      number = number;
+      event = ap (λ i. cond i (s.taken - 1) 0) immediate ∙ (let z : s.taken - 1 ≡ index = omega (arith, taken) in z) ∙ sym (ap (λ i. cond i index 0) immediate);
+      called = record {
+        position_is = position_of o s a now.window.first number;
+        event_is = (let z : s.taken - 1 ≡ index = omega (arith, taken) in z);
+        aborts = λ unit inside one. AbortsAs-arrived o s index t r unit h immediate inside waits;
+        windowed = λ unit sn said. record { window = now.window; quiet = quiet_executes a [] (record { receives = refl; admits = λ n. refl; delivers_none = refl; delivers_no = λ n. refl; empties_no = λ n. refl }); arrived = now.arrived };
+      };
+    }
+
+abbrev Becomes : Setting → Core → Trace → Request → List Mark → Patience → Type 0
+Becomes o s t r item p = Agrees o (immediate_as s r p) (item ∷ t) × (immediate_effects s r p ≡ effects_of_item o t item)
+
+-- it executes
+becomes_now : (o : Setting) (s : Core) (index : ℕ) (t : Trace) (r : Request) → Arriving o s index t r → Becomes o s t r (execution o t (Executes (arrival_of o index t r)) (arrival_of o index t r)) Now
+becomes_now o s index t r x = executes o s t (Executes (arrival_of o index t r)) (Immediate r) (arrival_of o index t r) (s.taken - 1) x.begun x.number x.event x.called
+
+-- it is answered
+becomes_answered : (o : Setting) (s : Core) (index : ℕ) (t : Trace) (r : Request) (reply : Reply) → Arriving o s index t r
+    → Agrees o (with_reply s (connection_of r)) ((Executes (arrival_of o index t r) ∷ reply_on (arrival_of o index t r) reply) ∷ t)
+    × (Immediate r ∷ reply_effects s (connection_of r) reply ≡ effects_of_item o t (Executes (arrival_of o index t r) ∷ reply_on (arrival_of o index t r) reply))
+becomes_answered o s index t r reply x =
+    let done : Executed o s t (Executes (arrival_of o index t r)) (Immediate r) (arrival_of o index t r) (Answer reply) = answered o s t (Executes (arrival_of o index t r)) (Immediate r) (arrival_of o index t r) x.begun reply in
+    (done.agrees, done.effects)
+
+-- it waits
+becomes_waiting : (o : Setting) (s : Core) (index : ℕ) (t : Trace) (r : Request) → Settled o s t → may_wait r ≡ true → is_known (connection_of r) o.conns ≡ true → s.taken ≡ index + 1 → number_expected s.window < lift (number_expected s.window) (cmd_sn r)
+    → Becomes o s t r (Waits (arrival_of o index t r) ∷ []) Later
+becomes_waiting o s index t r h may known taken ahead =
+    let a : Arrival = arrival_of o index t r in
+    let now = h.agrees in
+    let item : List Mark = Waits a ∷ [] in
+    let w : Waiting = record { request = r; turn = lift (number_expected s.window) (cmd_sn r) - number_of_first s.window.first; event = s.taken - 1 } in
+    let u : Untouched item = record { enters_none = refl; leaves_no = λ k. refl } in
+    let q : IsQuiet item = record { receives = refl; admits = λ n. refl; delivers_none = refl; delivers_no = λ n. refl; empties_no = λ n. refl } in
+    let number : number_of_first o.first + w.turn ≡ a.number =
+    (let z : number_of_first o.first + w.turn ≡ lift (number_expected s.window) (cmd_sn r) = omega (arith, now.window.first, ahead) in z) ∙ ap (λ e. lift e (cmd_sn r)) (sym (settled_expected o s t h)) in
+    let same : arrival_waiting o.first w ≡ a =
+    ap (λ n. let x : Arrival = record { event = n; number = number_of_first o.first + w.turn; request = r } in x) (let z : s.taken - 1 ≡ index = omega (arith, taken) in z)
+    ∙ ap (λ n. let x : Arrival = record { event = index; number = n; request = r } in x) number in (
+      record {
+        events = now.events;
+        window = WindowAgrees-quiet o s.window t item q now.window;
+        replies = RepliesAgree-quiet o s.conns t item refl now.replies;
+        commands = CommandsAgree-untouched o s.live s.entered t item u now.commands;
+        sets = SetsAgree-untouched o s.sets t item u now.sets;
+        unfinished = now.unfinished ∙ sym (unfinished-untouched item t u);
+        enabled = EnabledSoFar-untouched o item t u now.enabled;
+        level = now.level;
+        arrived = ArrivalsAgree-quiet s.window s.arrived t item q now.arrived;
+        waiting = record {
+          list = ap (λ bs. bs ++ a ∷ []) now.waiting.list ∙ ap (λ b. map (arrival_waiting o.first) s.waiting ++ b ∷ []) (sym same) ∙ sym (map-append (arrival_waiting o.first) s.waiting (w ∷ []));
+          may = list_all-append (λ (v : Waiting). may_wait v.request) s.waiting (w ∷ []) ∙ ap (λ b. b && (may_wait r && true)) now.waiting.may ∙ ap (λ b. b && true) may;
+          known = list_all-append (λ (v : Waiting). is_known (connection_of v.request) o.conns) s.waiting (w ∷ []) ∙ ap (λ b. b && (is_known (connection_of r) o.conns && true)) now.waiting.known ∙ ap (λ b. b && true) known;
+        };
+      },
+      sym (ap (λ cs. (Wait r ∷ []) ++ enables cs) (newly-untouched o t item u)),
+    )
+
+-- how many functions of the connection wait
+waiting_same : (o : Setting) (s : Core) (t : Trace) (cid : ℕ) → Agrees o s t → waiting_on cid t ≡ waiting_in s.waiting cid
+waiting_same o s t cid h = ap (λ (bs : List Arrival). count_by (λ b. connection_of b.request == cid) bs) h.waiting.list ∙ count_by-map (λ (b : Arrival). connection_of b.request == cid) (arrival_waiting o.first) s.waiting
+
+-- a function that isn't refused, and may wait
+becomes_by_number : (o : Setting) (s : Core) (index : ℕ) (t : Trace) (r : Request) → Settled o s t → may_wait r ≡ true → is_known (connection_of r) o.conns ≡ true → s.taken ≡ index + 1 → Arriving o s index t r → Becomes o s t r (waiting_item o t (arrival_of o index t r)) (wait_by s r)
+becomes_by_number o s index t r h may known taken x =
+    let a : Arrival = arrival_of o index t r in
+    let e : ℕ = number_expected s.window in
+    let n : ℕ = lift e (cmd_sn r) in
+    let number : a.number ≡ n = ap (λ k. lift k (cmd_sn r)) (settled_expected o s t h) in
+    let far : nat_lt (max_of o t + 1) a.number ≡ nat_lt (e + room_of s.window) n =
+    ap (λ k. nat_lt k a.number) (let z : max_of o t + 1 ≡ e + room_of s.window = omega (arith, settled_max o s t h, h.agrees.window.few) in z) ∙ ap (nat_lt (e + room_of s.window)) number in
+    let near : nat_lt (exp_of o t) a.number ≡ nat_lt e n = ap (λ k. nat_lt k a.number) (settled_expected o s t h) ∙ ap (nat_lt e) number in
+    let many : nat_le 4 (waiting_on (connection_of r) t) ≡ nat_le 4 (waiting_in s.waiting (connection_of r)) = ap (nat_le 4) (waiting_same o s t (connection_of r) h.agrees) in
+    let items : Bool → Bool → Bool → List Mark = λ b c d. cond b (Executes a ∷ reply_on a (TaskReply (itt r) 255)) (cond (not c) (execution o t (Executes a) a) (cond d (Executes a ∷ reply_on a (Reject 6 (header_of r))) (Waits a ∷ []))) in
+    let patience : Bool → Bool → Bool → Patience = λ b c d. cond b TooFar (cond (not c) Now (cond d TooMany Later)) in
+    let item_is : waiting_item o t a ≡ items (nat_lt (e + room_of s.window) n) (nat_lt e n) (nat_le 4 (waiting_in s.waiting (connection_of r))) =
+    ap (λ b. items b (nat_lt (exp_of o t) a.number) (nat_le 4 (waiting_on (connection_of r) t))) far
+    ∙ ap (λ c. items (nat_lt (e + room_of s.window) n) c (nat_le 4 (waiting_on (connection_of r) t))) near
+    ∙ ap (items (nat_lt (e + room_of s.window) n) (nat_lt e n)) many in
+    subst (λ item. Becomes o s t r item (wait_by s r)) (sym item_is)
+    (elim (nat_lt (e + room_of s.window) n) as (λ b. Becomes o s t r (items b (nat_lt e n) (nat_le 4 (waiting_in s.waiting (connection_of r)))) (patience b (nat_lt e n) (nat_le 4 (waiting_in s.waiting (connection_of r))))) [
+      | true ↦ becomes_answered o s index t r (TaskReply (itt r) 255) x
+      | false ↦ elim (nat_lt e n) as (λ c. nat_lt e n ≡ c → Becomes o s t r (items false c (nat_le 4 (waiting_in s.waiting (connection_of r)))) (patience false c (nat_le 4 (waiting_in s.waiting (connection_of r))))) [
+        | false ↦ λ is. becomes_now o s index t r x
+        | true ↦ λ is. elim (nat_le 4 (waiting_in s.waiting (connection_of r))) as (λ d. Becomes o s t r (items false true d) (patience false true d)) [
+          | true ↦ becomes_answered o s index t r (Reject 6 (header_of r)) x
+          | false ↦ becomes_waiting o s index t r h may known taken (let lt : e < n = grind (arith, nat_tests) in lt)
+        ]
+      ] refl
+    ])
+
 pub immediate-item : (o : Setting) (s : Core) (index : ℕ) (t : Trace) (r : Request) → Settled o s t → is_immediate r ≡ true → is_known (connection_of r) o.conns ≡ true → s.taken ≡ index + 1 → list_all (λ w. nat_lt (w.event + 1) s.taken) s.waiting ≡ true
     → Agrees o (immediate_as s r (patience_by s r)) (immediate_item o t (arrival_of o index t r) ∷ t) × (immediate_effects s r (patience_by s r) ≡ effects_of_item o t (immediate_item o t (arrival_of o index t r)))
-immediate-item o s index t r h immediate known taken waited = ?
+immediate-item o s index t r h immediate known taken waited =
+    let a : Arrival = arrival_of o index t r in
+    let x : Arriving o s index t r = arriving o s index t r h immediate known taken waited in
+    let same : refusal_to s.level (length s.sets) r ≡ refusal_of_function o r = ap (λ n. refusal_to n (length s.sets) r) h.agrees.level ∙ ap (λ n. refusal_to o.level n r) h.agrees.sets.units in
+    subst (λ y. Becomes o s t r (immediate_item o t a) (cond (opcode r == 0x02 && may_wait r) (elim y [ Some reply ↦ Now | None ↦ wait_by s r ]) Now)) (sym same)
+    (elim (opcode r == 0x02 && may_wait r) as (λ v. (opcode r == 0x02 && may_wait r) ≡ v → Becomes o s t r (cond v (elim (refusal_of_function o r) [ Some reply ↦ execution o t (Executes a) a | None ↦ waiting_item o t a ]) (execution o t (Executes a) a)) (cond v (elim (refusal_of_function o r) [ Some reply ↦ Now | None ↦ wait_by s r ]) Now)) [
+      | false ↦ λ is. becomes_now o s index t r x
+      | true ↦ λ is. elim (refusal_of_function o r) as (λ y. Becomes o s t r (elim y [ Some reply ↦ execution o t (Executes a) a | None ↦ waiting_item o t a ]) (elim y [ Some reply ↦ Now | None ↦ wait_by s r ])) [
+        | Some reply ↦ becomes_now o s index t r x
+        | None ↦ becomes_by_number o s index t r h (and_parts (opcode r == 0x02) (may_wait r) is).1 known taken x
+      ]
+    ] refl)
 
 -- ---- what doesn't change
 
+performed_expected : (s : Core) (r : Request) (unit : ℕ) (x : Outcome) → number_expected (performed_as s r unit x).window ≡ number_expected s.window
+performed_expected s r unit (Respond response) = refl
+performed_expected s r unit (Abort ticket) = refl
+performed_expected s r unit (AbortAll cover) = refl
+performed_expected s r unit (EmptyNumber sn) = (emptied_frame s.window sn).expected
+performed_expected s r unit (VoidNumber sn) = (voided_frame s.window sn).expected
+
+function_same : (s : Core) (r : Request) (position : ℤ) (event : ℕ) → number_expected (performed s r position event).window ≡ number_expected s.window
+function_same s r position event =
+    elim (unit_named (length s.sets) r) as (λ x. number_expected (let c : Core = elim x [ Some unit ↦ performed_as s r unit (outcome_by s r position event unit) | None ↦ s ] in c).window ≡ number_expected s.window) [
+      | Some unit ↦ performed_expected s r unit (outcome_by s r position event unit)
+      | None ↦ refl
+    ]
+
+managed_same : (s : Core) (r : Request) (position : ℤ) (event : ℕ) → number_expected (managed s r position event).window ≡ number_expected s.window
+managed_same s r position event =
+    elim (refusal_to s.level (length s.sets) r) as (λ y. number_expected (let c : Core = elim y [ Some reply ↦ with_reply s (connection_of r) | None ↦ performed s r position event ] in c).window ≡ number_expected s.window) [
+      | Some reply ↦ refl
+      | None ↦ function_same s r position event
+    ]
+
+verdict_same : (s : Core) (r : Request) (v : Verdict) → number_expected (executed_as s r v).window ≡ number_expected s.window
+verdict_same s r Nothing = refl
+verdict_same s r (Answer reply) = refl
+verdict_same s r (EnterUnit unit) = elim (is_immediate r) as (λ b. number_expected (cond b s.window (with_unfinished s.window (s.window.unfinished + 1))) ≡ number_expected s.window) [ true ↦ refl | false ↦ refl ]
+
 pub executed_expected : (s : Core) (r : Request) (event : ℕ) → number_expected (with_executed s r event).window ≡ number_expected s.window
-executed_expected s r event = ?
+executed_expected s r event =
+    elim (opcode r == 0x02) as (λ v. number_expected (let c : Core = cond v (managed s r (position_by s r) event) (executed_as s r (verdict_by s r)) in c).window ≡ number_expected s.window) [
+      | true ↦ managed_same s r (position_by s r) event
+      | false ↦ verdict_same s r (verdict_by s r)
+    ]
 
 pub function_expected : (s : Core) (x : Option Waiting) → number_expected (function_if s x).window ≡ number_expected s.window
-function_expected s x = ?
+function_expected s None = refl
+function_expected s (Some w) = function_same (without_waiting s w) w.request (next_position s) w.event
 
+pub immediate_expected : (s : Core) (r : Request) (p : Patience) → number_expected (immediate_as s r p).window ≡ number_expected s.window
+immediate_expected s r Now = executed_expected s r (s.taken - 1)
+immediate_expected s r Later = refl
+immediate_expected s r TooFar = refl
+immediate_expected s r TooMany = refl

@@ -7,6 +7,7 @@ use Rattle.iscsi_wire.specs.Serial.{wire, number_of_first}
 use Rattle.iscsi_window.specs.Windows.{Received, number_expected, opened}
 use Rattle.iscsi_tasks.specs.Sets.{Members, opened as opened_set}
 use Rattle.iscsi_session.specs.declared.event.Event.{Event}
+use Rattle.iscsi_wire.specs.Fields.{connection_of}
 use Rattle.iscsi_session.specs.Settings.{Setting, is_known}
 use Rattle.iscsi_session.specs.Trace.{Arrival, Trace, first_of, is_received, is_delivered, is_emptied, held, admitted, live, waiting}
 use Rattle.iscsi_session.specs.Run.{trace_of}
