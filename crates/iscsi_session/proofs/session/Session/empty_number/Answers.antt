@@ -28,4 +28,11 @@ invariant_of-self c =
       omega (arith, inv.15, g.long),
       inv.16,
       inv.17,
+      omega (arith, inv.18, g.long),
+      omega (arith, inv.19, g.long),
+      inv.20,
+      inv.21,
+      inv.22,
+      inv.23,
+      inv.24,
     )
