@@ -39,3 +39,4 @@ pub mod AbortRuns
 pub mod AbortLemmas
 pub mod AbortTheorem
 pub mod LeavingLemmas
+pub mod ManageLemmas

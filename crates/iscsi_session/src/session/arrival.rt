@@ -74,8 +74,9 @@ impl Session {
         }
     }
 
-    /// Offers a request to the window.
+    /// Offers a numbered request to the window.
     fn offer(&mut self, request: &Request) -> Offer
+        requires regular { is_immediate request.now ≡ false }
         requires known { known_in (connection_of request.now) self.old.conns ≡ true }
         requires counted { self.old.window.turned + count_by is_some self.old.window.places < self.old.taken }
         requires entered { self.old.entered + count_by is_some self.old.window.places < self.old.taken }

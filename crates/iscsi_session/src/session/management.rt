@@ -227,6 +227,7 @@ impl Session {
         ensures capacity { vec_capacity out.new ≡ vec_capacity out.old }
     {
         if let Some(unit) = unit_named(request, self.sets.len()) {
+            prove!(self.window.unfinished() <= self.window.size());
             let outcome = self.outcome(request, unit, number, event);
             self.carry_out(request, unit, outcome, out);
         }
