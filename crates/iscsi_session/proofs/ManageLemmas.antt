@@ -6,6 +6,7 @@ use Rattle.std.proofs.lemmas.Bool.{false≢true, eqb-true, cases_lt}
 use Rattle.std.proofs.lemmas.Bool.Decides.{nat_tests}
 use Rattle.std.proofs.lemmas.List.{length_push}
 use Rattle.std.proofs.lemmas.List.Quantifiers.{position-Some}
+use Rattle.std.proofs.lemmas.List.Folds.{list_all-append}
 use Rattle.std.proofs.lemmas.List.Sums.{sum_by-cons}
 use Rattle.iscsi_wire.specs.declared.request.Request.{Request}
 use Rattle.iscsi_wire.specs.declared.reply.Reply.{Reply}
@@ -25,13 +26,15 @@ use Rattle.iscsi_session.specs.declared.session.live.Live.{Live}
 use Rattle.iscsi_session.specs.declared.session.waiting.Waiting.{Waiting}
 use Rattle.iscsi_session.specs.declared.verdict.Verdict.{Verdict}
 use Rattle.iscsi_session.specs.declared.verdict.Verdict.TheVariants.{Nothing, Answer, Enter}
+use Rattle.iscsi_session.specs.declared.patience.Patience.{Patience}
+use Rattle.iscsi_session.specs.declared.patience.Patience.TheVariants.{Now, Later as ToWait, TooFar, TooMany}
 use Rattle.iscsi_session.specs.Settings.{is_known}
 use Rattle.iscsi_session.specs.Execution.{unit_named}
 use Rattle.iscsi_session.specs.Management.{may_wait, refusal_to}
 use Rattle.iscsi_session.specs.Standing.{Core, is_held}
 use Rattle.iscsi_session.specs.Steps.{KeepsPace, is_numbered, started, new_live, set_at, set_entered, new_task, with_command, with_reply, verdict_by, executed_as}
 use Rattle.iscsi_session.specs.Functions.{tagged_in, missing_at, abort_by, answer_if, outcome_by, staying, covers_ticket, aborted, performed_as, ungiven, ungiven_in, owed}
-use Rattle.iscsi_session.specs.Turning.{waiting_in, performed, managed, position_by, with_executed}
+use Rattle.iscsi_session.specs.Turning.{waiting_in, wait_by, patience_by, performed, managed, position_by, with_executed}
 use Rattle.iscsi_session.proofs.BoolLemmas.{and_first, and_second}
 use Rattle.iscsi_session.proofs.ListLemmas.{count_by-map, count_by-push}
 use Rattle.iscsi_session.proofs.FindLemmas.{position-cons}
@@ -121,6 +124,73 @@ few_waiting (c ∷ conns) waits few known =
     let rest : length away ≤ 4 * length conns =
     few_waiting conns away (λ cid. let less : waiting_in away cid ≤ waiting_in waits cid = fewer_of (λ w. connection_of w.request == cid) (λ w. not (connection_of w.request == c.0)) waits in omega (arith, less, few cid)) (others_known c conns waits known) in
     omega (arith, parted (λ w. connection_of w.request == c.0) waits, few c.0, rest)
+
+more_waiting : (waits : List Waiting) (w : Waiting) → ((cid : ℕ) → waiting_in waits cid ≤ 4) → waiting_in waits (connection_of w.request) < 4 → (cid : ℕ) → waiting_in (waits ++ w ∷ []) cid ≤ 4
+more_waiting waits w few room cid =
+    let now : waiting_in (waits ++ w ∷ []) cid ≡ waiting_in waits cid + cond (connection_of w.request == cid) 1 0 = count_by-push (λ v. connection_of v.request == cid) waits w in
+    let more : waiting_in waits cid + cond (connection_of w.request == cid) 1 0 ≤ 4 =
+    elim (connection_of w.request == cid) as (λ b. (connection_of w.request == cid) ≡ b → waiting_in waits cid + cond b 1 0 ≤ 4) [
+      | true ↦ λ is. let there : connection_of w.request ≡ cid = eqb-true (connection_of w.request) cid is in omega (arith, room, ap (waiting_in waits) there)
+      | false ↦ λ is. omega (arith, few cid)
+    ] refl in
+    omega (arith, now, more)
+
+-- what is known of the functions that wait, with one more
+pub record Waits (conns : List (ℕ × ℕ)) (waits : List Waiting) (w : Waiting) : Type 0 where
+  pub few : (cid : ℕ) → waiting_in (waits ++ w ∷ []) cid ≤ 4
+  pub known : list_all (λ v. is_known (connection_of v.request) conns) (waits ++ w ∷ []) ≡ true
+  pub room : length waits < 4 * length conns
+
+pub waits_more : (conns : List (ℕ × ℕ)) (waits : List Waiting) (w : Waiting) → ((cid : ℕ) → waiting_in waits cid ≤ 4) → list_all (λ v. is_known (connection_of v.request) conns) waits ≡ true
+    → is_known (connection_of w.request) conns ≡ true → waiting_in waits (connection_of w.request) < 4 → Waits conns waits w
+waits_more conns waits w few known this room =
+    let few' : (cid : ℕ) → waiting_in (waits ++ w ∷ []) cid ≤ 4 = more_waiting waits w few room in
+    let known' : list_all (λ v. is_known (connection_of v.request) conns) (waits ++ w ∷ []) ≡ true =
+    list_all-append (λ v. is_known (connection_of v.request) conns) waits (w ∷ []) ∙ ap (λ b. b && (is_known (connection_of w.request) conns && true)) known ∙ ap (λ b. b && true) this in
+    record { few = few'; known = known'; room = omega (arith, few_waiting conns (waits ++ w ∷ []) few' known', length_push waits w) }
+
+-- ---- which functions wait
+
+pub record Later (s : Core) (r : Request) : Type 0 where
+  pub may : may_wait r ≡ true
+  pub ahead : number_expected s.window < lift (number_expected s.window) (cmd_sn r)
+  pub near : lift (number_expected s.window) (cmd_sn r) ≤ number_expected s.window + room_of s.window
+  pub few : waiting_in s.waiting (connection_of r) < 4
+
+later_by : (s : Core) (r : Request) → wait_by s r ≡ ToWait → may_wait r ≡ true → Later s r
+later_by s r said may =
+    let e : ℕ = number_expected s.window in
+    let n : ℕ = lift e (cmd_sn r) in
+    let waits : ℕ = waiting_in s.waiting (connection_of r) in
+    elim (nat_lt (e + room_of s.window) n) as (λ b. nat_lt (e + room_of s.window) n ≡ b → cond b TooFar (cond (not (nat_lt e n)) Now (cond (nat_le 4 waits) TooMany ToWait)) ≡ ToWait → Later s r) [
+      | true ↦ λ far h. absurd cc
+      | false ↦ λ far h. elim (nat_lt e n) as (λ b. nat_lt e n ≡ b → cond (not b) Now (cond (nat_le 4 waits) TooMany ToWait) ≡ ToWait → Later s r) [
+        | true ↦ λ ahead k. elim (nat_le 4 waits) as (λ b. nat_le 4 waits ≡ b → cond b TooMany ToWait ≡ ToWait → Later s r) [
+          | true ↦ λ many l. absurd cc
+          | false ↦ λ many l. record {
+            may = may;
+            ahead = let lt : e < n = grind (arith, nat_tests) in lt;
+            near = let le : n ≤ e + room_of s.window = grind (arith, nat_tests) in le;
+            few = let less : waits < 4 = grind (arith, nat_tests) in less;
+          }
+        ] refl k
+        | false ↦ λ ahead k. absurd cc
+      ] refl h
+    ] refl said
+
+abbrev unless_refused : Core → Request → Option Reply → Patience
+unless_refused s r x = elim x [ Some reply ↦ Now | None ↦ wait_by s r ]
+
+pub later : (s : Core) (r : Request) → patience_by s r ≡ ToWait → Later s r
+later s r said =
+    elim (opcode r == 0x02 && may_wait r) as (λ b. (opcode r == 0x02 && may_wait r) ≡ b → cond b (unless_refused s r (refusal_to s.level (length s.sets) r)) Now ≡ ToWait → Later s r) [
+      | true ↦ λ is here. by_refusal (and_second (opcode r == 0x02) (may_wait r) is) (refusal_to s.level (length s.sets) r) here
+      | false ↦ λ is here. absurd cc
+    ] refl said
+  where
+    by_refusal : may_wait r ≡ true → (x : Option Reply) → unless_refused s r x ≡ ToWait → Later s r
+    by_refusal may (Some reply) h = absurd cc
+    by_refusal may None h = later_by s r h may
 
 -- ---- what a function does to the window
 
@@ -233,21 +303,21 @@ tag_empties s r unit sn (Some k) None is said = record { k = k; found = is; show
 tag_empties s r unit sn None None is said = absurd (missing_empties s r sn (place_in s.window (ref_cmd_sn r)) said)
 
 module _ (s : Core) (r : Request) (number : ℤ) (event unit sn : ℕ) where
-  others : Outcome
+  abbrev others : Outcome
   others = by_test (function r == 5) (function r == 9) (function r == 10) (list_any (λ l. l.unit == unit && l.itt == rtt r) s.live) (list_any (λ l. l.unit == unit) s.live) (Below number event)
 
   pub outcome_voids : outcome_by s r number event unit ≡ VoidNumber sn → Voiding s r sn × (function r ≡ 1)
   outcome_voids said =
       elim (function r == 1) as (λ b. (function r == 1) ≡ b → cond b (abort_by s r unit) others ≡ VoidNumber sn → Voiding s r sn × (function r ≡ 1)) [
         | true ↦ λ is here. (tag_voids s r sn (find_command s.window (rtt r) unit (cmd_sn r)) (tagged_in s (rtt r) unit) here, eqb-true (function r) 1 is)
-        | false ↦ λ is here. absurd (test_voids _ _ _ _ _ _ sn here)
+        | false ↦ λ is here. absurd (test_voids (function r == 5) (function r == 9) (function r == 10) (list_any (λ l. l.unit == unit && l.itt == rtt r) s.live) (list_any (λ l. l.unit == unit) s.live) (Below number event) sn here)
       ] refl said
 
   pub outcome_empties : outcome_by s r number event unit ≡ EmptyNumber sn → Emptying s r unit sn
   outcome_empties said =
       elim (function r == 1) as (λ b. cond b (abort_by s r unit) others ≡ EmptyNumber sn → Emptying s r unit sn) [
         | true ↦ λ here. tag_empties s r unit sn (find_command s.window (rtt r) unit (cmd_sn r)) (tagged_in s (rtt r) unit) refl here
-        | false ↦ λ here. absurd (test_empties _ _ _ _ _ _ sn here)
+        | false ↦ λ here. absurd (test_empties (function r == 5) (function r == 9) (function r == 10) (list_any (λ l. l.unit == unit && l.itt == rtt r) s.live) (list_any (λ l. l.unit == unit) s.live) (Below number event) sn here)
       ] said
 
 -- ABORT TASK doesn't wait

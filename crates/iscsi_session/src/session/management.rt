@@ -71,7 +71,7 @@ impl Session {
         ensures session { self.new ≡ immediate_as self.old request (patience_by self.old request) }
         ensures effects { out.new.items ≡ out.old.items ++ immediate_effects self.old request (patience_by self.old request) }
         ensures pace { KeepsPace self.old.window self.new.window }
-        ensures spent { vec_len out.new + owed self.new.live self.new.sets + 6 * (count_by is_held self.new.window.places + length self.new.waiting) ≤ vec_len out.old + owed self.old.live self.old.sets + 6 * (count_by is_held self.old.window.places + length self.old.waiting + 1) }
+        ensures spent { vec_len out.new + owed self.new.live self.new.sets + 6 * (count_by is_held self.new.window.places + length self.new.waiting) ≤ vec_len out.old + owed self.old.live self.old.sets + 6 * (count_by is_held self.old.window.places + length self.old.waiting + 1) + 1 }
         ensures capacity { vec_capacity out.new ≡ vec_capacity out.old }
     {
         let itt = request.itt();
@@ -132,10 +132,10 @@ impl Session {
         ensures capacity { vec_capacity out.new ≡ vec_capacity out.old }
     {
         out.push_reserved(Effect::Wait { request });
-        let ahead = distance(self.window.exp(), request.cmd_sn());
+        let ahead = request.cmd_sn().wrapping_sub(self.window.exp());
         self.waiting.push_reserved(Waiting {
             request,
-            turn: self.window.turned() + ahead as u64,
+            turn: self.window.turned() + u64::from(ahead),
             event: self.taken - 1,
         });
     }

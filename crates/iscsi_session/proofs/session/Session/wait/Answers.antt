@@ -1,8 +1,5 @@
 use Rattle.iscsi_session.proofs.session.Session.wait.Goals as goal
 
-pub overflow_cast-ahead : goal.overflow_cast-ahead
-overflow_cast-ahead c = ?
-
 pub push_reserved-requires-2 : goal.push_reserved-requires-2
 push_reserved-requires-2 c = ?
 
