@@ -1,5 +1,5 @@
 -- What a session keeps when a request executes: its window, the functions that wait, and how many effects are to come.
-use Rattle.std.proofs.Common.{◌≡◌, ℕ, ℤ, zero, suc, ◌+◌, ◌-◌, ◌*◌, ◌<◌, ◌≤◌, ◌==◌, ◌&&◌, ◌||◌, not, cond, Bool, true, false, nat_lt, nat_le, List, [], ◌∷◌, ◌++◌, length, take, filter, find, get_or, set, count_by, position, is_some, Option, Some, None, option_map, subst, refl, ap, sym, ◌∙◌, ⊎_elim, arith, eq-eqb}
+use Rattle.std.proofs.Common.{◌≡◌, ℕ, ℤ, zero, suc, ◌+◌, ◌-◌, ◌*◌, ◌%◌, ◌^◌, ◌<◌, ◌≤◌, ◌==◌, ◌&&◌, ◌||◌, not, cond, Bool, true, false, nat_lt, nat_le, List, [], ◌∷◌, ◌++◌, length, take, filter, find, get_or, set, count_by, position, is_some, Option, Some, None, option_map, subst, refl, ap, sym, ◌∙◌, ⊎_elim, arith, eq-eqb}
 use Rattle.std.specs.List.{list_any, list_all}
 use Rattle.std.specs.Option.{option_flatten}
 use Rattle.std.proofs.lemmas.Bool.{false≢true, eqb-true, cases_lt}
@@ -11,7 +11,7 @@ use Rattle.std.proofs.lemmas.List.Sums.{sum_by-cons}
 use Rattle.iscsi_wire.specs.declared.request.Request.{Request}
 use Rattle.iscsi_wire.specs.declared.reply.Reply.{Reply}
 use Rattle.iscsi_wire.specs.Fields.{connection_of, is_immediate, opcode, function, itt, rtt, cmd_sn, ref_cmd_sn}
-use Rattle.iscsi_wire.specs.Serial.{wire, lift}
+use Rattle.iscsi_wire.specs.Serial.{wire, lift, number_of_first}
 use Rattle.iscsi_window.specs.declared.answer.Place.{Place}
 use Rattle.iscsi_window.specs.declared.answer.Place.TheVariants.{Inside, Outside}
 use Rattle.iscsi_window.specs.Windows.{Received, IsSound, IsInside, number_expected, room_of, at_place, place_in, held_at, is_received_at, received_at, is_command, find_command, number_shown, voided, emptied, emptied_if, with_unfinished}
@@ -177,6 +177,10 @@ later_by s r said may =
         | false ↦ λ ahead k. absurd cc
       ] refl h
     ] refl said
+
+-- how far a number is ahead
+pub ahead_by : (e w : ℕ) → 2 ^ 32 ≤ e → e < lift e w → (w + (2 ^ 32 - wire e)) % 2 ^ 32 ≡ lift e w - e
+ahead_by e w big ahead = omega (arith, big, ahead)
 
 abbrev unless_refused : Core → Request → Option Reply → Patience
 unless_refused s r x = elim x [ Some reply ↦ Now | None ↦ wait_by s r ]

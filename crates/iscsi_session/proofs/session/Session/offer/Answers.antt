@@ -35,32 +35,10 @@ grown old new r said is =
     })
 
 pub invariant_of-self : goal.invariant_of-self
-invariant_of-self c =
-    let said : c.offer-offer.result ≡ Held = search rules in
-    let g : Grown c.self.inside.window c.offer-offer.new.self c.args.request.now = grown c.self.inside.window c.offer-offer.new.self c.args.request.now (sym c.offer-offer.ensures.answer ∙ said) c.offer-offer.ensures.state in
-    let inv = c.self.invariant in
-    let room : c.self.inside.window.turned + count_by is_some c.self.inside.window.places < c.self.inside.taken = subst (λ (s : Core). s.window.turned + count_by is_some s.window.places < s.taken) (sym c.self.view_is) c.requires.counted in
-    let entered : c.self.inside.entered + count_by is_some c.self.inside.window.places < c.self.inside.taken = subst (λ (s : Core). s.entered + count_by is_some s.window.places < s.taken) (sym c.self.view_is) c.requires.entered in
-    let known : is_known (connection_of c.args.request.now) c.self.inside.conns.items ≡ true = ap (λ (s : Core). is_known (connection_of c.args.request.now) s.conns) c.self.view_is ∙ c.requires.known in (
-      omega (arith, inv.0, g.unfinished),
-      omega (arith, inv.1, g.unfinished, g.long),
-      omega (arith, inv.2, g.long),
-      omega (arith, inv.3, g.long),
-      omega (arith, inv.4, g.held),
-      omega (arith, room, g.turned, g.counted),
-      omega (arith, entered, g.counted),
-      inv.7,
-      inv.8,
-      inv.9,
-      g.known c.self.inside.conns.items inv.10 known,
-      inv.11,
-      inv.12,
-      inv.13,
-      inv.14,
-      omega (arith, inv.15, g.long),
-      inv.16,
-      inv.17,
-    )
+invariant_of-self c = ?
+
+pub invariant_of-self-else-eq : goal.invariant_of-self-else-eq
+invariant_of-self-else-eq c = ?
 
 pub returns-then-eq-clause-held : goal.returns-then-eq-clause-held
 returns-then-eq-clause-held c =
