@@ -1,5 +1,5 @@
 -- What a session keeps when a request executes: its window, the functions that wait, and how many effects are to come.
-use Rattle.std.proofs.Common.{◌≡◌, ℕ, ℤ, zero, suc, ◌+◌, ◌-◌, ◌*◌, ◌%◌, ◌^◌, ◌<◌, ◌≤◌, ◌==◌, ◌&&◌, ◌||◌, not, cond, Bool, true, false, nat_lt, nat_le, List, [], ◌∷◌, ◌++◌, length, take, filter, find, get_or, set, count_by, position, is_some, Option, Some, None, option_map, subst, refl, ap, sym, ◌∙◌, ⊎_elim, arith, eq-eqb}
+use Rattle.std.proofs.Common.{◌≡◌, ℕ, ℤ, zero, suc, ◌+◌, ◌-◌, ◌*◌, ◌%◌, ◌^◌, ◌<◌, ◌≤◌, ◌==◌, ◌&&◌, ◌||◌, not, cond, Bool, true, false, nat_lt, nat_le, List, [], ◌∷◌, ◌++◌, length, take, filter, find, get_or, set, count_by, position, is_some, Option, Some, None, option_map, subst, refl, ap, sym, ◌∙◌, ⊎_elim, arith, eq-eqb, length-set}
 use Rattle.std.specs.List.{list_any, list_all}
 use Rattle.std.specs.Option.{option_flatten}
 use Rattle.std.proofs.lemmas.Bool.{false≢true, eqb-true, cases_lt}
@@ -14,7 +14,8 @@ use Rattle.iscsi_wire.specs.Fields.{connection_of, is_immediate, opcode, functio
 use Rattle.iscsi_wire.specs.Serial.{wire, lift, number_of_first}
 use Rattle.iscsi_window.specs.declared.answer.Place.{Place}
 use Rattle.iscsi_window.specs.declared.answer.Place.TheVariants.{Inside, Outside}
-use Rattle.iscsi_window.specs.Windows.{Received, IsSound, IsInside, number_expected, room_of, at_place, place_in, held_at, is_received_at, received_at, is_command, find_command, number_shown, voided, emptied, emptied_if, with_unfinished}
+use Rattle.iscsi_window.specs.declared.answer.Offer.TheVariants.{Held, Duplicate}
+use Rattle.iscsi_window.specs.Windows.{with_place, offer_at, offer_to, offered_to, Received, IsSound, IsInside, number_expected, room_of, at_place, place_in, held_at, is_received_at, received_at, is_command, find_command, number_shown, voided, emptied, emptied_if, with_unfinished}
 use Rattle.iscsi_tasks.specs.declared.task.Task.{Task}
 use Rattle.iscsi_tasks.specs.declared.member.Member.{Member}
 use Rattle.iscsi_tasks.specs.declared.cover.Cover.{Cover}
@@ -32,7 +33,7 @@ use Rattle.iscsi_session.specs.Settings.{is_known}
 use Rattle.iscsi_session.specs.Execution.{unit_named}
 use Rattle.iscsi_session.specs.Management.{may_wait, refusal_to}
 use Rattle.iscsi_session.specs.Standing.{Core, is_held}
-use Rattle.iscsi_session.specs.Steps.{KeepsPace, is_numbered, started, new_live, set_at, set_entered, new_task, with_command, with_reply, verdict_by, executed_as}
+use Rattle.iscsi_session.specs.Steps.{noted_in, KeepsPace, is_numbered, started, new_live, set_at, set_entered, new_task, with_command, with_reply, verdict_by, executed_as}
 use Rattle.iscsi_session.specs.Functions.{tagged_in, missing_at, abort_by, answer_if, outcome_by, staying, covers_ticket, aborted, performed_as, ungiven, ungiven_in, owed}
 use Rattle.iscsi_session.specs.Turning.{waiting_in, wait_by, patience_by, performed, managed, position_by, with_executed}
 use Rattle.iscsi_session.proofs.BoolLemmas.{and_first, and_second}
@@ -40,7 +41,7 @@ use Rattle.iscsi_session.proofs.ListLemmas.{count_by-map, count_by-push}
 use Rattle.iscsi_session.proofs.FindLemmas.{position-cons}
 use Rattle.iscsi_session.proofs.MissingLemmas.{inside_place}
 use Rattle.iscsi_session.proofs.CountLemmas.{fewer_counted}
-use Rattle.iscsi_session.proofs.WindowLemmas.{Changed, emptied_changes, voided_changes}
+use Rattle.iscsi_session.proofs.WindowLemmas.{at_most, Changed, emptied_changes, voided_changes}
 
 -- ---- what is found by its place
 
@@ -67,6 +68,49 @@ found_nowhere p (x ∷ xs) h =
     later : (y : Option ℕ) → (y ≡ None → find p xs ≡ None) → option_map suc y ≡ None → find p xs ≡ None
     later None found said = found refl
     later (Some j) found said = absurd cc
+
+-- one of some that all pass
+pub found_passes : {A : Type 0} (p q : A → Bool) (xs : List A) (x : A) → list_all q xs ≡ true → find p xs ≡ Some x → q x ≡ true
+found_passes p q [] x all found = absurd cc
+found_passes p q (y ∷ xs) x all found =
+    elim (p y) as (λ b. cond b (Some y) (find p xs) ≡ Some x → q x ≡ true) [
+      | true ↦ λ here. let same : y ≡ x = cc in ap q (sym same) ∙ and_first (q y) (list_all q xs) all
+      | false ↦ λ there. found_passes p q xs x (and_second (q y) (list_all q xs) all) there
+    ] found
+
+-- at least the one that is found is left out
+pub fewer_left : {A : Type 0} (p q : A → Bool) (xs : List A) (x : A) → find p xs ≡ Some x → q x ≡ true → length (filter (λ y. not (q y)) xs) + 1 ≤ length xs
+fewer_left p q [] x found is = absurd cc
+fewer_left p q (y ∷ xs) x found is =
+    elim (p y) as (λ b. cond b (Some y) (find p xs) ≡ Some x → length (filter (λ z. not (q z)) (y ∷ xs)) + 1 ≤ suc (length xs)) [
+      | true ↦ λ here.
+          let same : y ≡ x = cc in
+          let out : q y ≡ true = ap q same ∙ is in
+          omega (arith, at_most q xs, ap (λ b. length (cond (not b) (y ∷ filter (λ z. not (q z)) xs) (filter (λ z. not (q z)) xs))) out)
+      | false ↦ λ there.
+          let rest : length (filter (λ z. not (q z)) xs) + 1 ≤ length xs = fewer_left p q xs x there is in
+          elim (q y) as (λ b. length (cond (not b) (y ∷ filter (λ z. not (q z)) xs) (filter (λ z. not (q z)) xs)) + 1 ≤ suc (length xs)) [
+            | true ↦ omega (arith, rest)
+            | false ↦ omega (arith, rest)
+          ]
+    ] found
+
+-- ---- an offer
+
+pub length-noted : (p : Place) (arrived : List ℕ) (event : ℕ) → length (noted_in p arrived event) ≡ length arrived
+length-noted Outside arrived event = refl
+length-noted (Inside k) arrived event = length-set arrived k event
+
+pub unheld_same : (w : Received) (r : Request) → (offer_to w r ≡ Held → ⊥) → offered_to w r ≡ w
+unheld_same w r apart = by_place (place_in w (cmd_sn r)) apart
+  where
+    by_kept : (k : ℕ) (b : Bool) → (cond b Duplicate Held ≡ Held → ⊥) → cond b w (with_place w k (Some (Some r))) ≡ w
+    by_kept k true unheld = refl
+    by_kept k false unheld = absurd (unheld refl)
+
+    by_place : (p : Place) → (offer_at w p ≡ Held → ⊥) → received_at w p (Some r) ≡ w
+    by_place Outside unheld = refl
+    by_place (Inside k) unheld = by_kept k (is_some (at_place w k)) unheld
 
 -- ---- how many functions wait
 

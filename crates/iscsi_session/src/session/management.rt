@@ -17,7 +17,7 @@ use crate::outcome::Outcome;
 use crate::patience::Patience;
 use crate::session::execution::{INVALID_FIELD, NO_TAG, rejection};
 use crate::session::sets::{TOO_MANY_IMMEDIATE, unit_named};
-use crate::session::waiting::{MOST, Waiting, count_on, first_at};
+use crate::session::waiting::{MOST, Waiting, count_on, first_at, take_out};
 use crate::session::Session;
 use iscsi_wire::{Reply, Request, distance};
 
@@ -167,7 +167,7 @@ impl Session {
         let Some(function) = first_at(&self.waiting, number) else {
             return false;
         };
-        self.waiting.retain(|other| other.event != function.event);
+        take_out(&mut self.waiting, function.event);
         let request = function.request;
         out.push_reserved(Effect::Immediate { request });
         self.perform(&request, number as i64, function.event, out);
