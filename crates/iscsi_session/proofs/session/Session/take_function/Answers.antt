@@ -1,6 +1,7 @@
-use Rattle.std.proofs.Common.{rules, ◌≡◌, ◌==◌, ◌<◌, ◌≤◌, ◌+◌, ◌*◌, ◌∙◌, ◌++◌, ◌∷◌, [], not, Bool, true, false, nat_lt, find, filter, List, Some, length, pos, ◌-ℤ◌, ℤ, subst, refl, ap, sym, arith, append_assoc, eq-eqb, ℕ}
+use Rattle.std.proofs.Common.{w64, to_z, ◌^◌, ◌≡◌, ◌==◌, ◌<◌, ◌≤◌, ◌+◌, ◌*◌, ◌∙◌, ◌++◌, ◌∷◌, [], not, Bool, true, false, nat_lt, find, filter, List, Some, length, pos, ◌-ℤ◌, ℤ, subst, refl, ap, sym, arith, append_assoc, eq-eqb, ℕ}
 use Rattle.std.specs.List.{list_all}
 use Rattle.std.proofs.lemmas.Bool.{false≢true}
+use Rattle.std.proofs.lemmas.Int.{ints, to_z_pos}
 use Rattle.iscsi_wire.specs.Serial.{number_of_first}
 use Rattle.iscsi_wire.specs.Fields.{connection_of}
 use Rattle.iscsi_window.specs.Windows.{number_expected}
@@ -15,6 +16,13 @@ use Rattle.iscsi_session.specs.Turning.{waiting_in, performed, performed_effects
 use Rattle.iscsi_session.proofs.ListLemmas.{list_all-filter}
 use Rattle.iscsi_session.proofs.ManageLemmas.{found_passes, fewer_left, fewer_of, waiting_performed}
 use Rattle.iscsi_session.proofs.session.Session.take_function.Goals as goal
+
+-- the number of the next turn, as a cast reads it
+next_is : (s : Core) (n : ℕ) → n ≡ s.window.turned → s.window.turned < 2 ^ 63 → to_z w64 n ≡ next_position s
+next_is s n is small =
+    let fits : n < 2 ^ 63 = omega (arith, is, small) in
+    let same : pos n ≡ pos (number_expected s.window) -ℤ pos (number_of_first s.window.first) = omega (arith, ints, is) in
+    to_z_pos w64 n fits ∙ same
 
 function_is : (s : Core) (f : Waiting) (ws : List Waiting) (n : ℤ) → next_waiting s ≡ Some f → ws ≡ filter (λ v. not (v.event == f.event)) s.waiting → n ≡ next_position s
     → performed (let u : Core = record s { waiting = ws } in u) f.request n f.event ≡ function_if s (next_waiting s)
@@ -88,7 +96,8 @@ returns-clause-session c =
     let f : Waiting = c.in-Some.function in
     let found : find (λ w. w.turn == s.window.turned) s.waiting ≡ Some f = ap (λ n. find (λ w. w.turn == n) s.waiting) (sym c.turned-number.ensures) ∙ ap (find (λ w. w.turn == c.turned-number.result)) (sym c.deref.ensures.value) ∙ sym c.first_at.ensures ∙ c.in-Some.is in
     let waits : c.take_out.new.waiting.items ≡ filter (λ v. not (v.event == f.event)) s.waiting = c.take_out.ensures.items in
-    c.perform.ensures.session ∙ function_is s f c.take_out.new.waiting.items _ found waits ? ∙ ap (λ (u : Core). function_if u (next_waiting u)) c.self.view_is
+    let number : to_z w64 c.turned-number.result ≡ next_position s = next_is s c.turned-number.result c.turned-number.ensures (omega (arith, inv.5, inv.7, inv.8)) in
+    c.perform.ensures.session ∙ function_is s f c.take_out.new.waiting.items _ found waits number ∙ ap (λ (u : Core). function_if u (next_waiting u)) c.self.view_is
 
 pub returns-clause-effects : goal.returns-clause-effects
 returns-clause-effects c =
@@ -97,10 +106,11 @@ returns-clause-effects c =
     let f : Waiting = c.in-Some.function in
     let found : find (λ w. w.turn == s.window.turned) s.waiting ≡ Some f = ap (λ n. find (λ w. w.turn == n) s.waiting) (sym c.turned-number.ensures) ∙ ap (find (λ w. w.turn == c.turned-number.result)) (sym c.deref.ensures.value) ∙ sym c.first_at.ensures ∙ c.in-Some.is in
     let waits : c.take_out.new.waiting.items ≡ filter (λ v. not (v.event == f.event)) s.waiting = c.take_out.ensures.items in
+    let number : to_z w64 c.turned-number.result ≡ next_position s = next_is s c.turned-number.result c.turned-number.ensures (omega (arith, inv.5, inv.7, inv.8)) in
     c.perform.ensures.effects
-    ∙ ap (λ (es : List Effect). es ++ performed_effects (let u : Core = record s { waiting = c.take_out.new.waiting.items } in u) f.request _ f.event) c.push_reserved.ensures.items
-    ∙ append_assoc c.args.out.now.items (Immediate f.request ∷ []) _
-    ∙ ap (λ (es : List Effect). c.args.out.now.items ++ es) (effects_are s f c.take_out.new.waiting.items _ found waits ?)
+    ∙ ap (λ (es : List Effect). es ++ performed_effects (let u : Core = record s { waiting = c.take_out.new.waiting.items } in u) f.request (to_z w64 c.turned-number.result) f.event) c.push_reserved.ensures.items
+    ∙ append_assoc c.args.out.now.items (Immediate f.request ∷ []) (performed_effects (let u : Core = record s { waiting = c.take_out.new.waiting.items } in u) f.request (to_z w64 c.turned-number.result) f.event)
+    ∙ ap (λ (es : List Effect). c.args.out.now.items ++ es) (effects_are s f c.take_out.new.waiting.items (to_z w64 c.turned-number.result) found waits number)
     ∙ ap (λ (u : Core). c.args.out.now.items ++ function_effects u (next_waiting u)) c.self.view_is
 
 pub returns-clause-spent : goal.returns-clause-spent
