@@ -11,11 +11,11 @@ use Rattle.std.proofs.lemmas.List.Sums.{sum_by-cons}
 use Rattle.iscsi_wire.specs.declared.request.Request.{Request}
 use Rattle.iscsi_wire.specs.declared.reply.Reply.{Reply}
 use Rattle.iscsi_wire.specs.Fields.{connection_of, is_immediate, opcode, function, itt, rtt, cmd_sn, ref_cmd_sn}
-use Rattle.iscsi_wire.specs.Serial.{wire, lift, number_of_first}
+use Rattle.iscsi_wire.specs.Serial.{wire, lift}
 use Rattle.iscsi_window.specs.declared.answer.Place.{Place}
 use Rattle.iscsi_window.specs.declared.answer.Place.TheVariants.{Inside, Outside}
 use Rattle.iscsi_window.specs.declared.answer.Offer.TheVariants.{Held, Duplicate}
-use Rattle.iscsi_window.specs.Windows.{with_place, offer_at, offer_to, offered_to, Received, IsSound, IsInside, number_expected, room_of, at_place, place_in, held_at, is_received_at, received_at, is_command, find_command, number_shown, voided, emptied, emptied_if, with_unfinished}
+use Rattle.iscsi_window.specs.Windows.{with_place, offer_at, offer_to, offered_to, Received, IsSound, IsInside, number_expected, room_of, at_place, place_in, held_at, received_at, is_command, find_command, number_shown, voided, emptied, emptied_if, with_unfinished}
 use Rattle.iscsi_tasks.specs.declared.task.Task.{Task}
 use Rattle.iscsi_tasks.specs.declared.member.Member.{Member}
 use Rattle.iscsi_tasks.specs.declared.cover.Cover.{Cover}
@@ -33,14 +33,13 @@ use Rattle.iscsi_session.specs.Settings.{is_known}
 use Rattle.iscsi_session.specs.Execution.{unit_named}
 use Rattle.iscsi_session.specs.Management.{may_wait, refusal_to}
 use Rattle.iscsi_session.specs.Standing.{Core, is_held}
-use Rattle.iscsi_session.specs.Steps.{noted_in, KeepsPace, is_numbered, started, new_live, set_at, set_entered, new_task, with_command, with_reply, verdict_by, executed_as}
+use Rattle.iscsi_session.specs.Steps.{noted_in, KeepsPace, is_numbered, new_live, set_at, set_entered, new_task, with_command, with_reply, verdict_by, executed_as}
 use Rattle.iscsi_session.specs.Functions.{tagged_in, missing_at, abort_by, answer_if, outcome_by, staying, covers_ticket, aborted, performed_as, ungiven, ungiven_in, owed}
 use Rattle.iscsi_session.specs.Turning.{waiting_in, wait_by, patience_by, performed, managed, position_by, with_executed}
 use Rattle.iscsi_session.proofs.BoolLemmas.{and_first, and_second}
 use Rattle.iscsi_session.proofs.ListLemmas.{count_by-map, count_by-push}
 use Rattle.iscsi_session.proofs.FindLemmas.{position-cons}
 use Rattle.iscsi_session.proofs.MissingLemmas.{inside_place}
-use Rattle.iscsi_session.proofs.CountLemmas.{fewer_counted}
 use Rattle.iscsi_session.proofs.WindowLemmas.{at_most, Changed, emptied_changes, voided_changes}
 
 -- ---- what is found by its place

@@ -1,4 +1,4 @@
-use Rattle.std.proofs.Common.{◌≡◌, ◌<◌, ◌≤◌, ◌+◌, length, ◌&&◌, ◌∙◌, false, ap, sym, arith, nat_le}
+use Rattle.std.proofs.Common.{◌≡◌, ◌<◌, length, ◌&&◌, ◌∙◌, false, ap, sym, arith, nat_le}
 use Rattle.std.proofs.lemmas.Bool.Decides.{nat_tests}
 use Rattle.iscsi_wire.specs.Fields.{connection_of, itt}
 use Rattle.iscsi_session.specs.Steps.{with_command, is_tag_kept, is_crowded_by, immediate_in, place_in}

@@ -1,13 +1,10 @@
-use Rattle.std.proofs.Common.{◌≡◌, ◌<◌, ◌+◌, ◌∙◌, ap, sym, subst, arith, length, is_some, Some, true, ℕ}
-use Rattle.iscsi_wire.specs.declared.request.Request.{Request}
+use Rattle.std.proofs.Common.{◌<◌, ◌∙◌, ap, sym, subst, arith, length, is_some}
 use Rattle.iscsi_wire.specs.Fields.{cmd_sn, rtt}
-use Rattle.iscsi_window.specs.Windows.{Received, IsSound, place_in, held_at, number_shown}
-use Rattle.iscsi_session.specs.declared.outcome.Outcome.TheVariants.{Empty as EmptyNumber, Void as VoidNumber}
+use Rattle.iscsi_window.specs.Windows.{IsSound, place_in, held_at}
 use Rattle.iscsi_session.specs.Execution.{unit_named}
 use Rattle.iscsi_session.specs.Standing.{Core}
-use Rattle.iscsi_session.specs.Functions.{outcome_by}
 use Rattle.iscsi_session.proofs.ExecutionLemmas.{named_below}
-use Rattle.iscsi_session.proofs.ManageLemmas.{Emptying, Voiding, outcome_empties, outcome_voids, one_waits_not, found_held}
+use Rattle.iscsi_session.proofs.ManageLemmas.{Emptying, outcome_empties, outcome_voids, one_waits_not, found_held}
 use Rattle.iscsi_session.proofs.session.Session.perform.Goals as goal
 
 pub outcome-outcome-requires : goal.outcome-outcome-requires

@@ -1,4 +1,4 @@
-use Rattle.std.proofs.Common.{rules, ◌≡◌, ◌<◌, ◌≤◌, ◌+◌, ◌∙◌, ◌++◌, ◌∷◌, [], not, cond, false, true, List, Option, Some, None, drop, length, length-drop, subst, ap, sym, arith, is_some, count_by, get_or, ℕ}
+use Rattle.std.proofs.Common.{rules, ◌≡◌, ◌<◌, ◌≤◌, ◌+◌, ◌∙◌, ◌++◌, ◌∷◌, [], not, cond, false, List, Option, Some, None, drop, length, length-drop, subst, ap, sym, arith, is_some, count_by, ℕ}
 use Rattle.std.specs.List.{list_all}
 use Rattle.std.proofs.lemmas.List.{length_push}
 use Rattle.iscsi_wire.specs.declared.request.Request.{Request}
@@ -9,7 +9,7 @@ use Rattle.iscsi_session.specs.declared.effect.Effect.TheVariants.{Deliver}
 use Rattle.iscsi_session.specs.Settings.{is_known}
 use Rattle.iscsi_session.specs.Standing.{Core, is_held, is_place_known}
 use Rattle.iscsi_session.specs.Functions.{owed}
-use Rattle.iscsi_session.specs.Turning.{with_executed, executed_effects, with_advanced, next_arrived, turned_if, turn_effects}
+use Rattle.iscsi_session.specs.Turning.{with_executed, executed_effects, with_advanced, turned_if, turn_effects}
 use Rattle.iscsi_session.proofs.BoolLemmas.{and_first, not_true}
 use Rattle.iscsi_session.proofs.WindowLemmas.{few_counted, Advanced, advanced_at}
 use Rattle.iscsi_session.proofs.ManageLemmas.{Placed, placed_executed, waiting_executed}
