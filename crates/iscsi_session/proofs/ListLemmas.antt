@@ -10,7 +10,7 @@ use Rattle.iscsi_session.specs.declared.session.live.Live.{Live}
 use Rattle.iscsi_session.specs.declared.session.waiting.Waiting.{Waiting}
 use Rattle.iscsi_session.specs.Settings.{is_known}
 use Rattle.iscsi_wire.specs.declared.request.Request.{Request}
-use Rattle.iscsi_wire.specs.Fields.{connection_of}
+use Rattle.iscsi_wire.specs.Fields.{connection_of, is_immediate}
 use Rattle.iscsi_session.specs.Standing.{stat_sn_on, are_known, is_place_known}
 use Rattle.iscsi_session.specs.Steps.{count_reply, without_ticket}
 use Rattle.iscsi_session.proofs.BoolLemmas.{and_first, and_second}
@@ -129,4 +129,4 @@ are_places_known-replied cid places conns h = list_all-same (is_place_known (cou
     same : (p : Option (Option Request)) → is_place_known (count_reply cid conns) p ≡ is_place_known conns p
     same None = refl
     same (Some None) = refl
-    same (Some (Some r)) = is_known-cids (connection_of r) (count_reply cid conns) conns (cids-count_reply cid conns)
+    same (Some (Some r)) = ap (λ b. not (is_immediate r) && b) (is_known-cids (connection_of r) (count_reply cid conns) conns (cids-count_reply cid conns))

@@ -42,9 +42,9 @@ is_held None = false
 is_held (Some None) = false
 is_held (Some (Some r)) = true
 
--- the request that is held at the place came on one of the connections
+-- the request that is held at the place is numbered, and came on one of the connections
 abbrev pub is_place_known : List (ℕ × ℕ) → Option (Option Request) → Bool
-is_place_known conns (Some (Some r)) = is_known (connection_of r) conns
+is_place_known conns (Some (Some r)) = not (is_immediate r) && is_known (connection_of r) conns
 is_place_known conns _ = true
 
 -- the next StatSN of a connection

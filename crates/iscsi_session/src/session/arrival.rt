@@ -32,13 +32,13 @@ impl Session {
         requires counted { self.old.window.turned + count_by is_some self.old.window.places < self.old.taken }
         requires entered { self.old.entered + count_by is_some self.old.window.places < self.old.taken }
         requires waited { list_all (λ w. nat_lt (w.event + 1) self.old.taken) self.old.waiting ≡ true }
-        requires room { vec_len out.old + owed self.old.live self.old.sets + 6 * (count_by is_held self.old.window.places + length self.old.waiting + 1) ≤ vec_capacity out.old }
+        requires room { vec_len out.old + owed self.old.live self.old.sets + 6 * (count_by is_held self.old.window.places + length self.old.waiting + 1) + 1 ≤ vec_capacity out.old }
         ensures settled { (o : Setting) (index : ℕ) (t : Trace) → self.old.taken ≡ index + 1 → Settled o self.old t → Settled o self.new (after_items (arrival o t (arrival_of o index t request)) t) }
         ensures effects { (o : Setting) (index : ℕ) (t : Trace) → self.old.taken ≡ index + 1 → Settled o self.old t → out.new.items ≡ out.old.items ++ effects_of o t (arrival o t (arrival_of o index t request)) }
         ensures received { (o : Setting) (index : ℕ) (t : Trace) → self.old.taken ≡ index + 1 → Settled o self.old t → HasOneMore (received t) (received (after_items (arrival o t (arrival_of o index t request)) t)) }
         ensures taken { self.new.taken ≡ self.old.taken }
         ensures pace { KeepsPace self.old.window self.new.window }
-        ensures spent { vec_len out.new ≤ vec_len out.old + owed self.old.live self.old.sets + 6 * (count_by is_held self.old.window.places + length self.old.waiting + 1) }
+        ensures spent { vec_len out.new ≤ vec_len out.old + owed self.old.live self.old.sets + 6 * (count_by is_held self.old.window.places + length self.old.waiting + 1) + 1 }
     {
         match kind_of(&request) {
             Kind::PassedOver => out.push_reserved(Effect::Ignore { why: Why::Data }),
@@ -77,8 +77,9 @@ impl Session {
         }
     }
 
-    /// Offers a request to the window.
+    /// Offers a numbered request to the window.
     fn offer(&mut self, request: &Request) -> Offer
+        requires regular { is_immediate request.now ≡ false }
         requires known { known_in (connection_of request.now) self.old.conns ≡ true }
         requires counted { self.old.window.turned + count_by is_some self.old.window.places < self.old.taken }
         requires entered { self.old.entered + count_by is_some self.old.window.places < self.old.taken }

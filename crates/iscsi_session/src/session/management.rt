@@ -15,10 +15,10 @@ use crate::effect::Effect;
 use crate::kind::TASK_MANAGEMENT;
 use crate::outcome::Outcome;
 use crate::patience::Patience;
+use crate::session::Session;
 use crate::session::execution::{INVALID_FIELD, NO_TAG, rejection};
 use crate::session::sets::{TOO_MANY_IMMEDIATE, unit_named};
-use crate::session::waiting::{MOST, Waiting, count_on, first_at};
-use crate::session::Session;
+use crate::session::waiting::{MOST, Waiting, count_on, first_at, take_out};
 use iscsi_wire::{Reply, Request, distance};
 
 /// ABORT TASK (RFC 7143 section 11.5.1).
@@ -71,7 +71,7 @@ impl Session {
         ensures session { self.new ≡ immediate_as self.old request (patience_by self.old request) }
         ensures effects { out.new.items ≡ out.old.items ++ immediate_effects self.old request (patience_by self.old request) }
         ensures pace { KeepsPace self.old.window self.new.window }
-        ensures spent { vec_len out.new + owed self.new.live self.new.sets + 6 * (count_by is_held self.new.window.places + length self.new.waiting) ≤ vec_len out.old + owed self.old.live self.old.sets + 6 * (count_by is_held self.old.window.places + length self.old.waiting + 1) }
+        ensures spent { vec_len out.new + owed self.new.live self.new.sets + 6 * (count_by is_held self.new.window.places + length self.new.waiting) ≤ vec_len out.old + owed self.old.live self.old.sets + 6 * (count_by is_held self.old.window.places + length self.old.waiting + 1) + 1 }
         ensures capacity { vec_capacity out.new ≡ vec_capacity out.old }
     {
         let itt = request.itt();
@@ -132,10 +132,10 @@ impl Session {
         ensures capacity { vec_capacity out.new ≡ vec_capacity out.old }
     {
         out.push_reserved(Effect::Wait { request });
-        let ahead = distance(self.window.exp(), request.cmd_sn());
+        let ahead = request.cmd_sn().wrapping_sub(self.window.exp());
         self.waiting.push_reserved(Waiting {
             request,
-            turn: self.window.turned() + ahead as u64,
+            turn: self.window.turned() + u64::from(ahead),
             event: self.taken - 1,
         });
     }
@@ -167,7 +167,7 @@ impl Session {
         let Some(function) = first_at(&self.waiting, number) else {
             return false;
         };
-        self.waiting.retain(|other| other.event != function.event);
+        take_out(&mut self.waiting, function.event);
         let request = function.request;
         out.push_reserved(Effect::Immediate { request });
         self.perform(&request, number as i64, function.event, out);
@@ -227,19 +227,14 @@ impl Session {
         ensures capacity { vec_capacity out.new ≡ vec_capacity out.old }
     {
         if let Some(unit) = unit_named(request, self.sets.len()) {
+            prove!(self.window.unfinished() <= self.window.size());
             let outcome = self.outcome(request, unit, number, event);
             self.carry_out(request, unit, outcome, out);
         }
     }
 
     /// Does what a function to a unit comes to, and answers it.
-    fn carry_out(
-        &mut self,
-        request: &Request,
-        unit: u16,
-        outcome: Outcome,
-        out: &mut Vec<Effect>,
-    )
+    fn carry_out(&mut self, request: &Request, unit: u16, outcome: Outcome, out: &mut Vec<Effect>)
         requires unit { unit < length self.old.sets }
         requires known { known_in (connection_of request.now) self.old.conns ≡ true }
         requires held { (w : ℕ) → outcome ≡ Outcome.Empty w → is_some (held_at self.old.window (place_in self.old.window w)) ≡ true }

@@ -1,6 +1,6 @@
 //! The task management functions that wait for lower numbers.
 
-ghost use Rattle.std.specs.Prelude.{◌≡◌, ◌==◌, find};
+ghost use Rattle.std.specs.Prelude.{◌≡◌, ◌==◌, not, filter, find, position, vec_capacity};
 ghost use Rattle.iscsi_session.specs.Turning.{waiting_in};
 
 use iscsi_wire::Request;
@@ -31,8 +31,21 @@ pub(crate) fn count_on(waiting: &[Waiting], conn: u16) -> usize
 pub(crate) fn first_at(waiting: &[Waiting], turn: u64) -> Option<Waiting>
     ensures { result ≡ find (λ w. w.turn == turn) waiting.now }
 {
-    waiting
-        .iter()
-        .find(|function| function.turn == turn)
-        .copied()
+    let at = place_at(waiting, turn)?;
+    Some(waiting[at])
+}
+
+/// The place of the first function that waits for this turn.
+fn place_at(waiting: &[Waiting], turn: u64) -> Option<usize>
+    ensures { result ≡ position (λ w. w.turn == turn) waiting.now }
+{
+    waiting.iter().position(|function| function.turn == turn)
+}
+
+/// Takes out the function that arrived in this event.
+pub(crate) fn take_out(waiting: &mut Vec<Waiting>, event: u64)
+    ensures items { waiting.new.items ≡ filter (λ w. not (w.event == event)) waiting.old.items }
+    ensures capacity { vec_capacity waiting.new ≡ vec_capacity waiting.old }
+{
+    waiting.retain(|function| function.event != event);
 }

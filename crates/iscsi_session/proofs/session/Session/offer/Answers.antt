@@ -1,4 +1,4 @@
-use Rattle.std.proofs.Common.{rules, ◌≡◌, ◌<◌, ◌+◌, ◌∙◌, ap, sym, subst, arith, length, length-set, count_by, is_some, List, Some, None, refl, true, ℕ}
+use Rattle.std.proofs.Common.{rules, ◌≡◌, ◌<◌, ◌≤◌, ◌-◌, ◌&&◌, not, ◌+◌, ◌∙◌, ap, sym, subst, arith, length, length-set, count_by, is_some, List, Some, None, refl, true, ℕ}
 use Rattle.std.specs.List.{list_all}
 use Rattle.iscsi_wire.specs.declared.request.Request.{Request}
 use Rattle.iscsi_wire.specs.Fields.{connection_of}
@@ -7,6 +7,8 @@ use Rattle.iscsi_window.specs.Windows.{Received, offer_to, offered_to, with_plac
 use Rattle.iscsi_session.specs.Settings.{is_known}
 use Rattle.iscsi_session.specs.Standing.{Core, is_held, is_place_known}
 use Rattle.iscsi_session.proofs.WindowLemmas.{few_counted, count_set, all_set, Taken, taken}
+use Rattle.iscsi_session.specs.Steps.{is_numbered}
+use Rattle.iscsi_session.proofs.ManageLemmas.{length-noted, unheld_same}
 use Rattle.iscsi_session.proofs.session.Session.offer.Goals as goal
 
 pub overflow_add-self : goal.overflow_add-self
@@ -19,7 +21,7 @@ record Grown (old new : Received) (r : Request) : Type 0 where
   unfinished : new.unfinished ≡ old.unfinished
   held : count_by is_held new.places ≡ count_by is_held old.places + 1
   counted : count_by is_some new.places ≡ count_by is_some old.places + 1
-  known : (conns : List (ℕ × ℕ)) → list_all (is_place_known conns) old.places ≡ true → is_known (connection_of r) conns ≡ true → list_all (is_place_known conns) new.places ≡ true
+  known : (conns : List (ℕ × ℕ)) → list_all (is_place_known conns) old.places ≡ true → is_place_known conns (Some (Some r)) ≡ true → list_all (is_place_known conns) new.places ≡ true
 
 grown : (old new : Received) (r : Request) → offer_to old r ≡ Held → new ≡ offered_to old r → Grown old new r
 grown old new r said is =
@@ -52,7 +54,7 @@ invariant_of-self c =
       inv.7,
       inv.8,
       inv.9,
-      g.known c.self.inside.conns.items inv.10 known,
+      g.known c.self.inside.conns.items inv.10 (ap (λ b. not b && is_known (connection_of c.args.request.now) c.self.inside.conns.items) c.requires.regular ∙ known),
       inv.11,
       inv.12,
       inv.13,
@@ -60,6 +62,45 @@ invariant_of-self c =
       omega (arith, inv.15, g.long),
       inv.16,
       inv.17,
+      omega (arith, inv.18, g.long, ap length c.note.ensures.events, length-noted c.place-place.result c.self.inside.arrived.items (c.self.inside.taken - 1)),
+      omega (arith, inv.19, g.long, c.note.ensures.capacity),
+      inv.20,
+      inv.21,
+      inv.22,
+      inv.23,
+      inv.24,
+    )
+
+pub invariant_of-self-else-eq : goal.invariant_of-self-else-eq
+invariant_of-self-else-eq c =
+    let inv = c.self.invariant in
+    let unheld : offer_to c.self.inside.window c.args.request.now ≡ Held → ⊥ = λ is. let said : c.offer-offer.result ≡ Held = c.offer-offer.ensures.answer ∙ is in search rules in
+    let same : c.offer-offer.new.self ≡ c.self.inside.window = c.offer-offer.ensures.state ∙ unheld_same c.self.inside.window c.args.request.now unheld in (
+      subst (λ (w : Received). count_by is_numbered c.self.inside.live.items ≤ w.unfinished) (sym same) inv.0,
+      subst (λ (w : Received). w.unfinished ≤ length w.places) (sym same) inv.1,
+      omega (arith, inv.2, ap (λ (w : Received). length w.places) same),
+      omega (arith, inv.3, ap (λ (w : Received). length w.places) same),
+      inv.4 ∙ ap (λ (w : Received). count_by is_held w.places) (sym same),
+      omega (arith, inv.5, ap (λ (w : Received). w.turned) same, ap (λ (w : Received). count_by is_some w.places) same),
+      omega (arith, inv.6, ap (λ (w : Received). count_by is_some w.places) same),
+      inv.7,
+      inv.8,
+      inv.9,
+      ap (λ (w : Received). list_all (is_place_known c.self.inside.conns.items) w.places) same ∙ inv.10,
+      inv.11,
+      inv.12,
+      inv.13,
+      inv.14,
+      omega (arith, inv.15, ap (λ (w : Received). length w.places) same),
+      inv.16,
+      inv.17,
+      inv.18 ∙ ap (λ (w : Received). length w.places) (sym same),
+      omega (arith, inv.19, ap (λ (w : Received). length w.places) same),
+      inv.20,
+      inv.21,
+      inv.22,
+      inv.23,
+      inv.24,
     )
 
 pub returns-then-eq-clause-held : goal.returns-then-eq-clause-held

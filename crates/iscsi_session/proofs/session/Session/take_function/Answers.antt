@@ -1,0 +1,136 @@
+use Rattle.std.proofs.Common.{w64, to_z, ◌^◌, ◌≡◌, ◌==◌, ◌<◌, ◌≤◌, ◌+◌, ◌∙◌, ◌++◌, ◌∷◌, [], not, Bool, true, false, nat_lt, find, filter, List, Some, length, pos, ◌-ℤ◌, ℤ, refl, ap, sym, arith, append_assoc, eq-eqb, ℕ}
+use Rattle.std.specs.List.{list_all}
+use Rattle.std.proofs.lemmas.Bool.{false≢true}
+use Rattle.std.proofs.lemmas.Int.{ints, to_z_pos}
+use Rattle.iscsi_wire.specs.Serial.{number_of_first}
+use Rattle.iscsi_wire.specs.Fields.{connection_of}
+use Rattle.iscsi_window.specs.Windows.{number_expected}
+use Rattle.iscsi_session.specs.declared.effect.Effect.{Effect}
+use Rattle.iscsi_session.specs.declared.effect.Effect.TheVariants.{Immediate}
+use Rattle.iscsi_session.specs.declared.session.waiting.Waiting.{Waiting}
+use Rattle.iscsi_session.specs.Settings.{is_known}
+use Rattle.iscsi_session.specs.Management.{may_wait}
+use Rattle.iscsi_session.specs.Standing.{Core}
+use Rattle.iscsi_session.specs.Functions.{owed}
+use Rattle.iscsi_session.specs.Turning.{waiting_in, performed, performed_effects, next_waiting, next_position, without_waiting, function_if, function_effects}
+use Rattle.iscsi_session.proofs.ListLemmas.{list_all-filter}
+use Rattle.iscsi_session.proofs.ManageLemmas.{found_passes, fewer_left, fewer_of, waiting_performed}
+use Rattle.iscsi_session.proofs.session.Session.take_function.Goals as goal
+
+-- the number of the next turn, as a cast reads it
+next_is : (s : Core) (n : ℕ) → n ≡ s.window.turned → s.window.turned < 2 ^ 63 → to_z w64 n ≡ next_position s
+next_is s n is small =
+    let fits : n < 2 ^ 63 = omega (arith, is, small) in
+    let same : pos n ≡ pos (number_expected s.window) -ℤ pos (number_of_first s.window.first) = omega (arith, ints, is) in
+    to_z_pos w64 n fits ∙ same
+
+function_is : (s : Core) (f : Waiting) (ws : List Waiting) (n : ℤ) → next_waiting s ≡ Some f → ws ≡ filter (λ v. not (v.event == f.event)) s.waiting → n ≡ next_position s
+    → performed (let u : Core = record s { waiting = ws } in u) f.request n f.event ≡ function_if s (next_waiting s)
+function_is s f ws n found waits number =
+    ap (λ vs. performed (let u : Core = record s { waiting = vs } in u) f.request n f.event) waits
+    ∙ ap (λ k. performed (without_waiting s f) f.request k f.event) number
+    ∙ sym (ap (function_if s) found)
+
+effects_are : (s : Core) (f : Waiting) (ws : List Waiting) (n : ℤ) → next_waiting s ≡ Some f → ws ≡ filter (λ v. not (v.event == f.event)) s.waiting → n ≡ next_position s
+    → Immediate f.request ∷ performed_effects (let u : Core = record s { waiting = ws } in u) f.request n f.event ≡ function_effects s (next_waiting s)
+effects_are s f ws n found waits number =
+    ap (λ vs. Immediate f.request ∷ performed_effects (let u : Core = record s { waiting = vs } in u) f.request n f.event) waits
+    ∙ ap (λ k. Immediate f.request ∷ performed_effects (without_waiting s f) f.request k f.event) number
+    ∙ sym (ap (function_effects s) found)
+
+pub invariant_of-self : goal.invariant_of-self
+invariant_of-self c =
+    let inv = c.self.invariant in
+    let s : Core = record { window = c.self.inside.window; events = c.self.inside.events; conns = c.self.inside.conns.items; entered = c.self.inside.entered; taken = c.self.inside.taken; live = c.self.inside.live.items; sets = c.self.inside.sets.items; level = c.self.inside.level; arrived = c.self.inside.arrived.items; waiting = c.self.inside.waiting.items } in
+    let f : Waiting = c.in-Some.function in
+    let found : find (λ w. w.turn == s.window.turned) s.waiting ≡ Some f = ap (λ n. find (λ w. w.turn == n) s.waiting) (sym c.turned-number.ensures) ∙ ap (find (λ w. w.turn == c.turned-number.result)) (sym c.deref.ensures.value) ∙ sym c.first_at.ensures ∙ c.in-Some.is in
+    let waits : c.take_out.new.waiting.items ≡ filter (λ v. not (v.event == f.event)) s.waiting = c.take_out.ensures.items in
+    let stays : Waiting → Bool = λ v. not (v.event == f.event) in (
+      inv.0,
+      inv.1,
+      inv.2,
+      inv.3,
+      inv.4,
+      inv.5,
+      inv.6,
+      inv.7,
+      inv.8,
+      inv.9,
+      inv.10,
+      inv.11,
+      inv.12,
+      inv.13,
+      inv.14,
+      inv.15,
+      inv.16,
+      inv.17,
+      inv.18,
+      inv.19,
+      ap (list_all (λ (v : Waiting). nat_lt v.event s.taken)) waits ∙ list_all-filter stays (λ (v : Waiting). nat_lt v.event s.taken) s.waiting inv.20,
+      ap (list_all (λ (v : Waiting). is_known (connection_of v.request) s.conns)) waits ∙ list_all-filter stays (λ (v : Waiting). is_known (connection_of v.request) s.conns) s.waiting inv.21,
+      ap (list_all (λ (v : Waiting). may_wait v.request)) waits ∙ list_all-filter stays (λ (v : Waiting). may_wait v.request) s.waiting inv.22,
+      λ cid. omega (arith, inv.23 cid, fewer_of (λ (v : Waiting). connection_of v.request == cid) stays s.waiting, ap (λ ws. waiting_in ws cid) waits),
+      omega (arith, inv.24, c.take_out.ensures.capacity),
+    )
+
+pub perform-requires-clause-known : goal.perform-requires-clause-known
+perform-requires-clause-known c =
+    let inv = c.self.invariant in
+    let s : Core = record { window = c.self.inside.window; events = c.self.inside.events; conns = c.self.inside.conns.items; entered = c.self.inside.entered; taken = c.self.inside.taken; live = c.self.inside.live.items; sets = c.self.inside.sets.items; level = c.self.inside.level; arrived = c.self.inside.arrived.items; waiting = c.self.inside.waiting.items } in
+    let f : Waiting = c.in-Some.function in
+    let found : find (λ w. w.turn == s.window.turned) s.waiting ≡ Some f = ap (λ n. find (λ w. w.turn == n) s.waiting) (sym c.turned-number.ensures) ∙ ap (find (λ w. w.turn == c.turned-number.result)) (sym c.deref.ensures.value) ∙ sym c.first_at.ensures ∙ c.in-Some.is in
+    found_passes (λ w. w.turn == s.window.turned) (λ w. is_known (connection_of w.request) s.conns) s.waiting f inv.21 found
+
+pub perform-requires-clause-voids : goal.perform-requires-clause-voids
+perform-requires-clause-voids c = λ waits_not immediate.
+    let inv = c.self.invariant in
+    let s : Core = record { window = c.self.inside.window; events = c.self.inside.events; conns = c.self.inside.conns.items; entered = c.self.inside.entered; taken = c.self.inside.taken; live = c.self.inside.live.items; sets = c.self.inside.sets.items; level = c.self.inside.level; arrived = c.self.inside.arrived.items; waiting = c.self.inside.waiting.items } in
+    let f : Waiting = c.in-Some.function in
+    let found : find (λ w. w.turn == s.window.turned) s.waiting ≡ Some f = ap (λ n. find (λ w. w.turn == n) s.waiting) (sym c.turned-number.ensures) ∙ ap (find (λ w. w.turn == c.turned-number.result)) (sym c.deref.ensures.value) ∙ sym c.first_at.ensures ∙ c.in-Some.is in
+    absurd (false≢true (sym waits_not ∙ found_passes (λ w. w.turn == s.window.turned) (λ w. may_wait w.request) s.waiting f inv.22 found))
+
+pub returns-clause-session : goal.returns-clause-session
+returns-clause-session c =
+    let inv = c.self.invariant in
+    let s : Core = record { window = c.self.inside.window; events = c.self.inside.events; conns = c.self.inside.conns.items; entered = c.self.inside.entered; taken = c.self.inside.taken; live = c.self.inside.live.items; sets = c.self.inside.sets.items; level = c.self.inside.level; arrived = c.self.inside.arrived.items; waiting = c.self.inside.waiting.items } in
+    let f : Waiting = c.in-Some.function in
+    let found : find (λ w. w.turn == s.window.turned) s.waiting ≡ Some f = ap (λ n. find (λ w. w.turn == n) s.waiting) (sym c.turned-number.ensures) ∙ ap (find (λ w. w.turn == c.turned-number.result)) (sym c.deref.ensures.value) ∙ sym c.first_at.ensures ∙ c.in-Some.is in
+    let waits : c.take_out.new.waiting.items ≡ filter (λ v. not (v.event == f.event)) s.waiting = c.take_out.ensures.items in
+    let number : to_z w64 c.turned-number.result ≡ next_position s = next_is s c.turned-number.result c.turned-number.ensures (omega (arith, inv.5, inv.7, inv.8)) in
+    c.perform.ensures.session ∙ function_is s f c.take_out.new.waiting.items _ found waits number ∙ ap (λ (u : Core). function_if u (next_waiting u)) c.self.view_is
+
+pub returns-clause-effects : goal.returns-clause-effects
+returns-clause-effects c =
+    let inv = c.self.invariant in
+    let s : Core = record { window = c.self.inside.window; events = c.self.inside.events; conns = c.self.inside.conns.items; entered = c.self.inside.entered; taken = c.self.inside.taken; live = c.self.inside.live.items; sets = c.self.inside.sets.items; level = c.self.inside.level; arrived = c.self.inside.arrived.items; waiting = c.self.inside.waiting.items } in
+    let f : Waiting = c.in-Some.function in
+    let found : find (λ w. w.turn == s.window.turned) s.waiting ≡ Some f = ap (λ n. find (λ w. w.turn == n) s.waiting) (sym c.turned-number.ensures) ∙ ap (find (λ w. w.turn == c.turned-number.result)) (sym c.deref.ensures.value) ∙ sym c.first_at.ensures ∙ c.in-Some.is in
+    let waits : c.take_out.new.waiting.items ≡ filter (λ v. not (v.event == f.event)) s.waiting = c.take_out.ensures.items in
+    let number : to_z w64 c.turned-number.result ≡ next_position s = next_is s c.turned-number.result c.turned-number.ensures (omega (arith, inv.5, inv.7, inv.8)) in
+    c.perform.ensures.effects
+    ∙ ap (λ (es : List Effect). es ++ performed_effects (let u : Core = record s { waiting = c.take_out.new.waiting.items } in u) f.request (to_z w64 c.turned-number.result) f.event) c.push_reserved.ensures.items
+    ∙ append_assoc c.args.out.now.items (Immediate f.request ∷ []) (performed_effects (let u : Core = record s { waiting = c.take_out.new.waiting.items } in u) f.request (to_z w64 c.turned-number.result) f.event)
+    ∙ ap (λ (es : List Effect). c.args.out.now.items ++ es) (effects_are s f c.take_out.new.waiting.items (to_z w64 c.turned-number.result) found waits number)
+    ∙ ap (λ (u : Core). c.args.out.now.items ++ function_effects u (next_waiting u)) c.self.view_is
+
+pub returns-clause-spent : goal.returns-clause-spent
+returns-clause-spent c =
+    let inv = c.self.invariant in
+    let s : Core = record { window = c.self.inside.window; events = c.self.inside.events; conns = c.self.inside.conns.items; entered = c.self.inside.entered; taken = c.self.inside.taken; live = c.self.inside.live.items; sets = c.self.inside.sets.items; level = c.self.inside.level; arrived = c.self.inside.arrived.items; waiting = c.self.inside.waiting.items } in
+    let f : Waiting = c.in-Some.function in
+    let found : find (λ w. w.turn == s.window.turned) s.waiting ≡ Some f = ap (λ n. find (λ w. w.turn == n) s.waiting) (sym c.turned-number.ensures) ∙ ap (find (λ w. w.turn == c.turned-number.result)) (sym c.deref.ensures.value) ∙ sym c.first_at.ensures ∙ c.in-Some.is in
+    let waits : c.take_out.new.waiting.items ≡ filter (λ v. not (v.event == f.event)) s.waiting = c.take_out.ensures.items in
+    let left : length (filter (λ v. not (v.event == f.event)) s.waiting) + 1 ≤ length s.waiting = fewer_left (λ w. w.turn == s.window.turned) (λ v. v.event == f.event) s.waiting f found (eq-eqb f.event f.event refl) in
+    let kept : length c.perform.new.self.waiting ≡ length (filter (λ v. not (v.event == f.event)) s.waiting) = ap (λ (u : Core). length u.waiting) c.perform.ensures.session ∙ ap length (waiting_performed _ f.request _ f.event ∙ waits) in
+    omega (arith, left, kept, c.perform.ensures.spent, c.push_reserved.ensures.len, ap (λ (u : Core). length u.waiting) c.self.view_is, ap (λ (u : Core). owed u.live u.sets) c.self.view_is)
+
+pub returns-clause-fewer : goal.returns-clause-fewer
+returns-clause-fewer c = λ said.
+    let inv = c.self.invariant in
+    let s : Core = record { window = c.self.inside.window; events = c.self.inside.events; conns = c.self.inside.conns.items; entered = c.self.inside.entered; taken = c.self.inside.taken; live = c.self.inside.live.items; sets = c.self.inside.sets.items; level = c.self.inside.level; arrived = c.self.inside.arrived.items; waiting = c.self.inside.waiting.items } in
+    let f : Waiting = c.in-Some.function in
+    let found : find (λ w. w.turn == s.window.turned) s.waiting ≡ Some f = ap (λ n. find (λ w. w.turn == n) s.waiting) (sym c.turned-number.ensures) ∙ ap (find (λ w. w.turn == c.turned-number.result)) (sym c.deref.ensures.value) ∙ sym c.first_at.ensures ∙ c.in-Some.is in
+    let waits : c.take_out.new.waiting.items ≡ filter (λ v. not (v.event == f.event)) s.waiting = c.take_out.ensures.items in
+    let left : length (filter (λ v. not (v.event == f.event)) s.waiting) + 1 ≤ length s.waiting = fewer_left (λ w. w.turn == s.window.turned) (λ v. v.event == f.event) s.waiting f found (eq-eqb f.event f.event refl) in
+    let kept : length c.perform.new.self.waiting ≡ length (filter (λ v. not (v.event == f.event)) s.waiting) = ap (λ (u : Core). length u.waiting) c.perform.ensures.session ∙ ap length (waiting_performed _ f.request _ f.event ∙ waits) in
+    omega (arith, left, kept, ap (λ (u : Core). length u.waiting) c.self.view_is)
