@@ -261,15 +261,7 @@ calm_changed : (w v : Received) (n : ℕ) → Changed w v n 0 → Calm w v
 calm_changed w v n g = record { eased = record { held = omega (arith, g.held_is); pace = omega (arith, g.unfinished, g.turned) }; counted = omega (arith, g.counted) }
 
 calm_emptied : (w : Received) (sn : ℕ) → Calm w (emptied w sn)
-calm_emptied w sn = by_held (held_at w (place_in w sn)) refl
-  where
-    unheld : (p : Place) → emptied_if w p None ≡ w
-    unheld Outside = refl
-    unheld (Inside k) = refl
-
-    by_held : (x : Option Request) → held_at w (place_in w sn) ≡ x → Calm w (emptied w sn)
-    by_held None is = subst (Calm w) (sym (ap (emptied_if w (place_in w sn)) is ∙ unheld (place_in w sn))) (calm_same w)
-    by_held (Some r) is = calm_changed w (emptied w sn) 1 (emptied_changes w sn (ap (λ (x : Option Request). is_some x) is))
+calm_emptied w sn = calm_changed w (emptied w sn) (cond (is_some (held_at w (place_in w sn))) 1 0) (emptied_changes w sn)
 
 eased_voided : (w : Received) (sn : ℕ) → Eased w (voided w sn)
 eased_voided w sn = by_place (place_in w sn) refl

@@ -1,15 +1,25 @@
-use Rattle.std.proofs.Common.{◌≡◌, ◌≤◌, ◌+◌, ◌*◌, ◌∙◌, ap, arith, length, count_by}
+use Rattle.std.proofs.Common.{ℕ, ◌≡◌, ◌≤◌, ◌+◌, ◌*◌, ◌∙◌, ap, arith, length, count_by, List}
+use Rattle.iscsi_session.specs.declared.session.live.Live.{Live}
+use Rattle.iscsi_session.specs.declared.session.waiting.Waiting.{Waiting}
 use Rattle.iscsi_session.specs.Standing.{Core, is_held}
 use Rattle.iscsi_session.proofs.OpenLemmas.{bound_is}
 use Rattle.iscsi_session.proofs.WindowLemmas.{few_counted}
 use Rattle.iscsi_session.proofs.CountLemmas.{few_live}
+use Rattle.iscsi_session.proofs.ManageLemmas.{few_waiting}
 use Rattle.iscsi_session.proofs.session.Session.effect_bound.Goals as goal
 
-pub overflow_add-result-2 : goal.overflow_add-result-2
-overflow_add-result-2 c =
+pub overflow_mul-result : goal.overflow_mul-result
+overflow_mul-result c =
     let inv = c.self.invariant in
+    let waits : length c.self.inside.waiting.items ≤ 4 * length c.self.inside.conns.items = few_waiting c.self.inside.conns.items c.self.inside.waiting.items inv.23 inv.21 in
+    omega (arith, c.len.ensures, c.self.inside.waiting.ok.0, waits, inv.17, inv.2, inv.4, few_counted is_held c.self.inside.window.places)
+
+pub overflow_add-result-3 : goal.overflow_add-result-3
+overflow_add-result-3 c =
+    let inv = c.self.invariant in
+    let waits : length c.self.inside.waiting.items ≤ 4 * length c.self.inside.conns.items = few_waiting c.self.inside.conns.items c.self.inside.waiting.items inv.23 inv.21 in
     let few : length c.self.inside.live.items ≤ c.self.inside.window.unfinished + 8 * length c.self.inside.conns.items = few_live c.self.inside.window.unfinished c.self.inside.conns.items c.self.inside.live.items inv.0 inv.16.few inv.9 in
-    omega (arith, c.len.ensures, c.self.inside.live.ok.0, few, inv.17, inv.1, inv.2, inv.4, few_counted is_held c.self.inside.window.places)
+    omega (arith, c.len.ensures, c.self.inside.waiting.ok.0, c.len-2.ensures, c.self.inside.live.ok.0, waits, few, inv.17, inv.1, inv.2, inv.4, few_counted is_held c.self.inside.window.places)
 
 pub returns-clause-bound : goal.returns-clause-bound
 returns-clause-bound c = λ o h stands.

@@ -1,10 +1,15 @@
-use Rattle.std.proofs.Common.{rules, ℕ, ◌*◌, ◌≡◌, ◌≤◌, ◌∙◌, ap, sym, subst, arith, length, count_by, is_some, replicate, None, refl, get_or, List}
+use Rattle.std.proofs.Common.{rules, ℕ, ◌*◌, ◌≡◌, ◌≤◌, ◌∙◌, ap, sym, subst, arith, length, count_by, is_some, replicate, None, refl, nat_lt, get_or, List}
 use Rattle.std.specs.List.{list_all}
 use Rattle.iscsi_window.specs.Windows.{Received}
 use Rattle.iscsi_tasks.specs.Sets.{Members, opened as opened_set}
 use Rattle.iscsi_session.specs.Settings.{setting_of}
 use Rattle.iscsi_session.specs.Standing.{are_known, is_held, is_place_known, tickets_of, tickets_in, are_ascending, are_within}
 use Rattle.iscsi_session.specs.declared.session.live.Live.{Live}
+use Rattle.iscsi_wire.specs.Fields.{connection_of}
+use Rattle.iscsi_session.specs.declared.session.waiting.Waiting.{Waiting}
+use Rattle.iscsi_session.specs.Settings.{is_known}
+use Rattle.iscsi_session.specs.Management.{may_wait}
+use Rattle.iscsi_session.specs.Turning.{waiting_in}
 use Rattle.iscsi_session.specs.Steps.{is_numbered, AreCounted}
 use Rattle.iscsi_session.proofs.CountLemmas.{AreCounted-opened}
 use Rattle.iscsi_session.proofs.OpenLemmas.{set_opened, Settled-opened, none_counted, all_none, so_many}
@@ -40,10 +45,17 @@ invariant_of-result c =
       subst (λ (counts : List ℕ). AreCounted counts c.args.options.conns.items c.in-Ok-Ok-Some-Some-Some.live.items) (sym c.in-Ok-Ok-Some-Some-Some.ensures''')
           (subst (λ (ls : List Live). AreCounted (replicate c.len-2.result 0) c.args.options.conns.items ls) (sym none) (AreCounted-opened c.len-2.result c.args.options.conns.items (c.len-2.ensures ∙ c.args.options.conns.ok.0))),
       search rules,
+      ap length c.in-Some-Ok.ensures.events ∙ so_many c.args.options.window 0 ∙ sym size,
+      omega (arith, size, c.in-Some-Ok.ensures.capacity),
+      ap (list_all (λ (w : Waiting). nat_lt w.event 0)) c.in-Some-Ok.ensures'.items,
+      ap (list_all (λ (w : Waiting). is_known (connection_of w.request) c.args.options.conns.items)) c.in-Some-Ok.ensures'.items,
+      ap (list_all (λ (w : Waiting). may_wait w.request)) c.in-Some-Ok.ensures'.items,
+      λ cid. omega (arith, ap (λ ws. waiting_in ws cid) c.in-Some-Ok.ensures'.items),
+      omega (arith, c.in-Some-Ok.ensures'.capacity, c.len-3.ensures, c.args.options.conns.ok.0),
     )
 
 pub returns-clause-stands : goal.returns-clause-stands
 returns-clause-stands c = record {
-  settled = Settled-opened (setting_of c.args.options) _ c.in-Ok-Ok-Some-Some-Some.ensures.ok refl refl refl c.in-Ok-Ok-Some-Some-Some.ensures'.items c.in-Ok-Ok-Some-Some-Some.ensures'''';
+  settled = Settled-opened (setting_of c.args.options) _ c.in-Ok-Ok-Some-Some-Some.ensures.ok refl refl refl c.in-Ok-Ok-Some-Some-Some.ensures'.items c.in-Ok-Ok-Some-Some-Some.ensures'''' refl c.in-Some-Ok.ensures.events c.in-Some-Ok.ensures'.items;
   taken = refl;
 }
