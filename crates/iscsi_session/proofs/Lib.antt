@@ -44,3 +44,4 @@ pub mod LeavingParts
 pub mod AbortParts
 pub mod FunctionLemmas
 pub mod AgendaLemmas
+pub mod PaceLemmas
