@@ -41,8 +41,11 @@ pub record Stays (more : ℕ) (s s' : Core) : Type 0 where
 stays : (more : ℕ) (s : Core) → Stays more s s
 stays more s = record { first = refl; turned = refl; unfinished = omega arith; taken = refl }
 
+pub same_expected : (w w' : Received) → w'.first ≡ w.first → w'.turned ≡ w.turned → number_expected w' ≡ number_expected w
+same_expected w w' first turned = ap (λ f. number_of_first f + w'.turned) first ∙ ap (λ k. number_of_first w.first + k) turned
+
 pub stays_expected : (more : ℕ) (s s' : Core) → Stays more s s' → number_expected s'.window ≡ number_expected s.window
-stays_expected more s s' h = ap (λ f. number_of_first f + s'.window.turned) h.first ∙ ap (λ k. number_of_first s.window.first + k) h.turned
+stays_expected more s s' h = same_expected s.window s'.window h.first h.turned
 
 pub is_none : {A : Type 0} (x : Option A) → is_some x ≡ false → x ≡ None
 is_none None h = refl
