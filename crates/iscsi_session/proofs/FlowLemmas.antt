@@ -1,39 +1,23 @@
 -- Received numbers and the window, from event to event.
-use Rattle.std.proofs.Common.{◌≡◌, ℕ, zero, suc, ◌+◌, ◌-◌, ◌<◌, ◌≤◌, ◌==◌, ◌&&◌, ◌||◌, ◌⊎◌, inl, inr, ⊎_elim, not, cond, Bool, true, false, List, [], ◌∷◌, ◌++◌, length, Option, Some, None, option_map, is_some, refl, ap, sym, subst, ◌∙◌, arith, nat_lt}
-use Rattle.std.specs.List.{filter_map}
+use Rattle.std.proofs.Common.{◌≡◌, ℕ, ◌+◌, ◌-◌, ◌<◌, ◌≤◌, ◌==◌, ◌||◌, ◌⊎◌, inl, inr, ⊎_elim, cond, Bool, true, false, List, [], ◌∷◌, ◌++◌, length, Option, Some, None, option_map, is_some, refl, ap, sym, subst, ◌∙◌, arith}
 use Rattle.std.proofs.lemmas.Bool.{cases_lt, false≢true}
-use Rattle.std.proofs.lemmas.List.{append-nil}
 use Rattle.std.proofs.lemmas.List.Folds.{list_any-append}
 use Rattle.iscsi_wire.specs.declared.request.Request.{Request}
-use Rattle.iscsi_wire.specs.Fields.{connection_of, is_immediate, opcode, cmd_sn, request_of}
+use Rattle.iscsi_wire.specs.Fields.{cmd_sn}
 use Rattle.iscsi_window.specs.declared.answer.Place.{Place}
 use Rattle.iscsi_window.specs.declared.answer.Place.TheVariants.{Inside, Outside as NoPlace}
-use Rattle.iscsi_window.specs.Windows.{Received, number_expected, at_place, place_in, received_at, offered_to, with_place, with_unfinished, advanced_if}
-use Rattle.iscsi_session.specs.declared.effect.Why.{Why}
-use Rattle.iscsi_session.specs.declared.effect.Why.TheVariants.{Outside, Duplicate, Data, Stale}
+use Rattle.iscsi_window.specs.Windows.{Received, number_expected, at_place, place_in, received_at, offered_to, with_place, with_unfinished}
 use Rattle.iscsi_session.specs.declared.event.Event.{Event}
-use Rattle.iscsi_session.specs.declared.event.Event.TheVariants.{Arrive, Done}
-use Rattle.iscsi_session.specs.declared.kind.Kind.{Kind}
-use Rattle.iscsi_session.specs.declared.kind.Kind.TheVariants.{PassedOver, Unknown, Executes as ExecutesKind}
 use Rattle.iscsi_session.specs.declared.session.live.Live.{Live}
-use Rattle.iscsi_session.specs.declared.verdict.Verdict.{Verdict}
-use Rattle.iscsi_session.specs.declared.verdict.Verdict.TheVariants.{Nothing, Answer, Enter}
-use Rattle.iscsi_session.specs.Settings.{Setting, is_known}
-use Rattle.iscsi_session.specs.Trace.{Arrival, Command, Mark, Admits, Delivers, Executes, Trace, after_items, shown, first_of, waits, received, contains, is_received, held, admitted, admits_at}
-use Rattle.iscsi_session.specs.Execution.{exp_of, max_of, marks_of, verdict_of, ignored, completion}
-use Rattle.iscsi_session.specs.Management.{management_marks}
-use Rattle.iscsi_session.specs.Items.{item_of, immediate_item, turn_at, agenda}
-use Rattle.iscsi_session.specs.Agenda.{with_turns, numbered, kind_of, arrival_as, arrival, arrival_of, command_of}
+use Rattle.iscsi_session.specs.Settings.{Setting}
+use Rattle.iscsi_session.specs.Trace.{Arrival, Trace, received, contains, is_received, held}
+use Rattle.iscsi_session.specs.Execution.{exp_of, max_of}
 use Rattle.iscsi_session.specs.Run.{after_event, trace_of}
-use Rattle.iscsi_session.specs.Standing.{Core, place_of, is_regular_request, Settled}
-use Rattle.iscsi_session.specs.Steps.{KeepsPace, comes_on, find_enabled, started, verdict_by, executed_as, with_executed, with_advanced, turned_if, after_completion, without_command}
+use Rattle.iscsi_session.specs.Standing.{Core, place_of, Settled}
+use Rattle.iscsi_session.specs.Steps.{KeepsPace, find_enabled, after_completion, without_command}
 use Rattle.iscsi_session.specs.Flow.{HasOneMore, Flows, FlowsThrough}
-use Rattle.iscsi_session.proofs.BoolLemmas.{and_parts, or_first, not_true}
+use Rattle.iscsi_session.proofs.BoolLemmas.{or_first}
 use Rattle.iscsi_session.proofs.Missing.{expected_below, expected_gone, expected_low}
-use Rattle.iscsi_session.proofs.ExecutionLemmas.{quiet-marks, waits-marks}
-use Rattle.iscsi_session.proofs.HeldLemmas.{admitted-cases, admitted_of_held}
-use Rattle.iscsi_session.proofs.DeliveryLemmas.{IsQuiet}
-use Rattle.iscsi_session.proofs.TurnLemmas.{no_functions, immediate_item-is, executes_no_function}
 use Rattle.iscsi_session.proofs.AgreeLemmas.{agrees_unfinished, settled_expected, settled_max}
 
 -- ---- ExpCmdSN doesn't go back
