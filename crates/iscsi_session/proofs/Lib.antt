@@ -45,3 +45,4 @@ pub mod AbortParts
 pub mod FunctionLemmas
 pub mod AgendaLemmas
 pub mod PaceLemmas
+pub mod OwedLemmas
