@@ -45,3 +45,5 @@ pub mod AbortParts
 pub mod FunctionLemmas
 pub mod AgendaLemmas
 pub mod ManageLemmas
+pub mod PaceLemmas
+pub mod OwedLemmas

@@ -259,6 +259,8 @@ answered o s t a h number =
 pub record Offered (o : Setting) (s : Core) (event : ℕ) (t : Trace) (r : Request) : Type 0 where
   pub outside : offer_to s.window r ≡ OutsideWindow → Stepped o (with_offered s r) t (numbered o t (arrival_of o event t r)) (Ignore Outside ∷ [])
   pub known : offer_to s.window r ≡ Known → Stepped o (with_offered s r) t (numbered o t (arrival_of o event t r)) (Ignore Duplicate ∷ [])
+  pub outside_is : offer_to s.window r ≡ OutsideWindow → numbered o t (arrival_of o event t r) ≡ ignored Outside
+  pub known_is : offer_to s.window r ≡ Known → numbered o t (arrival_of o event t r) ≡ ignored Duplicate
   pub taken : offer_to s.window r ≡ Held → Agrees o (with_offered s r) ((Admits (arrival_of o event t r) ∷ []) ∷ t)
       × ((numbered o t (arrival_of o event t r) ≡ (Admits (arrival_of o event t r) ∷ []) ∷ agenda o (number_expected (with_offered s r).window) (exp_of o ((Admits (arrival_of o event t r) ∷ []) ∷ t) - number_expected (with_offered s r).window) ((Admits (arrival_of o event t r) ∷ []) ∷ t))
       × ((rest : List (List Mark)) → effects_of o t ((Admits (arrival_of o event t r) ∷ []) ∷ rest) ≡ effects_of o ((Admits (arrival_of o event t r) ∷ []) ∷ t) rest))
@@ -287,6 +289,8 @@ offered o s event t r h not_immediate known taken =
           subst (λ (w : Received). Stepped o (record s { window = w; arrived = noted }) t (numbered o t a) (Ignore Duplicate ∷ [])) (sym f.0)
           (subst (λ (ns : List ℕ). Stepped o (record s { arrived = ns }) t (numbered o t a) (Ignore Duplicate ∷ [])) (sym f.1.0)
           (subst (λ is. Stepped o s t is (Ignore Duplicate ∷ [])) (sym all) (Stepped-ignored o s t Duplicate h)));
+      outside_is = λ said. items ∙ ap (λ b. cases b (is_received t a.number)) (x.outside said).1.1;
+      known_is = λ said. items ∙ ap (λ b. cases b (is_received t a.number)) (x.known said).1.1.0 ∙ ap (cases false) (x.known said).1.1.1;
       taken = λ said.
           let f = x.taken said in
           let start : exp_of o t ≡ number_expected (with_offered s r).window = same_exp ∙ ap number_expected (sym f.0) in (

@@ -11,6 +11,7 @@ ghost use Rattle.iscsi_session.specs.Flow.{Flows, HasOneMore};
 ghost use Rattle.iscsi_session.specs.Refusals.{RefusesAs, refusal_of, refusal_of_options};
 ghost use Rattle.iscsi_session.specs.Standing.{Settled, StandsFor, effect_bound_of, is_held, are_ascending};
 ghost use Rattle.iscsi_session.specs.Steps.{refusal_by, comes_on, KeepsPace, counted, numbers_by};
+ghost use Rattle.iscsi_session.specs.Functions.{owed};
 
 use crate::effect::{Effect, Numbers};
 use crate::event::Event;
@@ -195,6 +196,7 @@ impl Session {
         requires counted { self.old.window.turned + count_by is_some self.old.window.places < self.old.taken }
         requires entered { self.old.entered + count_by is_some self.old.window.places < self.old.taken }
         requires waited { list_all (λ w. nat_lt (w.event + 1) self.old.taken) self.old.waiting ≡ true }
+        requires owed { owed self.old.live self.old.sets ≤ 2 * length self.old.live }
         requires room { vec_len out.old + 12 * (count_by is_held self.old.window.places + length self.old.waiting + 1) + 2 * length self.old.live ≤ vec_capacity out.old }
         ensures settled { (o : Setting) (index : ℕ) (t : Trace) → self.old.taken ≡ index + 1 → Settled o self.old t → Settled o self.new (after_items (items_of o index t event.now) t) }
         ensures effects { (o : Setting) (index : ℕ) (t : Trace) → self.old.taken ≡ index + 1 → Settled o self.old t → out.new.items ≡ out.old.items ++ effects_of o t (items_of o index t event.now) }

@@ -162,6 +162,7 @@ impl Session {
         ensures spent { vec_len out.new + owed self.new.live self.new.sets + 6 * length self.new.waiting ≤ vec_len out.old + owed self.old.live self.old.sets + 6 * length self.old.waiting }
         ensures capacity { vec_capacity out.new ≡ vec_capacity out.old }
         ensures fewer { result ≡ true → length self.new.waiting < length self.old.waiting }
+        ensures places { self.new.window.places ≡ self.old.window.places }
     {
         let number = self.window.turned();
         let Some(function) = first_at(&self.waiting, number) else {

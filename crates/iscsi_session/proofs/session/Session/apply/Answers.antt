@@ -3,7 +3,8 @@ use Rattle.iscsi_wire.specs.declared.request.Request.{Request}
 use Rattle.iscsi_session.specs.declared.effect.Effect.{Effect}
 use Rattle.iscsi_session.specs.declared.event.Event.{Event}
 use Rattle.iscsi_session.specs.declared.event.Event.TheVariants.{Done}
-use Rattle.iscsi_session.specs.Trace.{after_items}
+use Rattle.iscsi_session.specs.Trace.{after_items, received}
+use Rattle.iscsi_session.specs.Flow.{HasOneMore}
 use Rattle.iscsi_session.specs.Agenda.{arrival, arrival_of, items_of}
 use Rattle.iscsi_session.specs.Run.{effects_of}
 use Rattle.iscsi_session.specs.Standing.{Core, Settled}
@@ -31,3 +32,8 @@ returns-in-Done-clause-effects c = λ o index t taken h.
     c.complete.ensures.effects
     ∙ ap (λ (es : List Effect). c.args.out.now.items ++ es) (Stepped-completion o c.args.self.now t index c.in-Done.ticket c.in-Done.status h).effects_are
     ∙ ap (λ (e : Event). c.args.out.now.items ++ effects_of o t (items_of o index t e)) (sym c.in-Done.is)
+
+pub returns-in-Arrive-clause-received : goal.returns-in-Arrive-clause-received
+returns-in-Arrive-clause-received c = λ o index t taken h.
+    subst (λ (e : Event). HasOneMore (received t) (received (after_items (items_of o index t e) t))) (sym c.in-Arrive.is)
+    (subst (λ (r : Request). HasOneMore (received t) (received (after_items (arrival o t (arrival_of o index t r)) t))) c.read.ensures (c.arrive.ensures.received o index t taken h))

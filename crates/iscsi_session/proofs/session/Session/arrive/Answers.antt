@@ -1,16 +1,16 @@
-use Rattle.std.proofs.Common.{◌≡◌, ◌∙◌, ◌++◌, ap, sym, subst, List, true}
+use Rattle.std.proofs.Common.{◌≡◌, ◌∙◌, ◌++◌, ap, sym, subst, List, true, arith}
 use Rattle.iscsi_wire.specs.Fields.{connection_of}
 use Rattle.iscsi_session.specs.declared.effect.Effect.{Effect}
 use Rattle.iscsi_session.specs.Settings.{is_known}
-use Rattle.iscsi_session.specs.Trace.{Mark, after_items}
+use Rattle.iscsi_session.specs.Trace.{Arrival, Mark, after_items, received}
+use Rattle.iscsi_session.specs.Flow.{HasOneMore}
 use Rattle.iscsi_session.specs.Agenda.{arrival, arrival_of}
 use Rattle.iscsi_session.specs.Run.{effects_of}
 use Rattle.iscsi_session.specs.Standing.{Core, Settled}
-use Rattle.iscsi_session.specs.Steps.{KeepsPace}
+use Rattle.iscsi_session.specs.Turning.{patience_by}
 use Rattle.iscsi_session.proofs.ListLemmas.{is_known-cids}
-use Rattle.iscsi_session.proofs.FlowLemmas.{pace-executed}
-use Rattle.iscsi_session.proofs.TurnLemmas.{executes_no_function}
-use Rattle.iscsi_session.proofs.ArriveLemmas.{executed_taken, passed_over, rejected_opcode, executed_at_once, is_numbered_arrival}
+use Rattle.iscsi_session.proofs.ArriveLemmas.{passed_over, rejected_opcode, passed_receives, rejected_receives, AtOnce, at_once, at_once_settled, at_once_effects, at_once_receives, is_numbered_arrival}
+use Rattle.iscsi_session.proofs.PaceLemmas.{immediate_stays}
 use Rattle.iscsi_session.proofs.session.Session.arrive.Goals as goal
 
 pub returns-in-PassedOver-clause-settled : goal.returns-in-PassedOver-clause-settled
@@ -29,29 +29,50 @@ returns-in-Unknown-clause-effects c = λ o index t taken h.
     let known : is_known (connection_of c.args.request) o.conns ≡ true = sym (is_known-cids (connection_of c.args.request) c.args.self.now.conns o.conns h.agrees.replies.cids) ∙ c.requires.known in
     c.reject_opcode.ensures.effects ∙ ap (λ (es : List Effect). c.args.out.now.items ++ es) (rejected_opcode o c.args.self.now index t c.args.request h (sym c.kind_of.ensures ∙ c.in-Unknown.is) known).effects_are
 
+pub returns-in-PassedOver-clause-received : goal.returns-in-PassedOver-clause-received
+returns-in-PassedOver-clause-received c = λ o index t taken h. passed_receives o t (arrival_of o index t c.args.request) (sym c.kind_of.ensures ∙ c.in-PassedOver.is)
+
+pub returns-in-Unknown-clause-received : goal.returns-in-Unknown-clause-received
+returns-in-Unknown-clause-received c = λ o index t taken h. rejected_receives o t (arrival_of o index t c.args.request) (sym c.kind_of.ensures ∙ c.in-Unknown.is)
+
 pub returns-then-immediate-clause-settled : goal.returns-then-immediate-clause-settled
 returns-then-immediate-clause-settled c = λ o index t taken h.
     let known : is_known (connection_of c.args.request) o.conns ≡ true = sym (is_known-cids (connection_of c.args.request) c.args.self.now.conns o.conns h.agrees.replies.cids) ∙ c.requires.known in
-    subst (λ (s : Core). Settled o s (after_items (arrival o t (arrival_of o index t c.args.request)) t)) (sym c.execute_at_once.ensures.session) (executed_at_once o c.args.self.now index t c.args.request h (sym c.kind_of.ensures ∙ c.in-Executes.is) (sym c.immediate.ensures ∙ c.if-immediate.true) known taken).settled
+    let a : Arrival = arrival_of o index t c.args.request in
+    let x : AtOnce o c.args.self.now c.take_immediate.new.self t a =
+    at_once o c.args.self.now c.take_immediate.new.self index t c.args.request h (sym c.kind_of.ensures ∙ c.in-Executes.is) (sym c.immediate.ensures ∙ c.if-immediate.true) known taken c.requires.waited c.take_immediate.ensures.session in
+    at_once_settled o c.args.self.now c.take_immediate.new.self c.take_turns.new.self t a x c.take_turns.ensures.settled
 
 pub returns-then-immediate-clause-effects : goal.returns-then-immediate-clause-effects
 returns-then-immediate-clause-effects c = λ o index t taken h.
     let known : is_known (connection_of c.args.request) o.conns ≡ true = sym (is_known-cids (connection_of c.args.request) c.args.self.now.conns o.conns h.agrees.replies.cids) ∙ c.requires.known in
-    c.execute_at_once.ensures.effects ∙ ap (λ (es : List Effect). c.args.out.now.items ++ es) (executed_at_once o c.args.self.now index t c.args.request h (sym c.kind_of.ensures ∙ c.in-Executes.is) (sym c.immediate.ensures ∙ c.if-immediate.true) known taken).effects_are
+    let a : Arrival = arrival_of o index t c.args.request in
+    let x : AtOnce o c.args.self.now c.take_immediate.new.self t a =
+    at_once o c.args.self.now c.take_immediate.new.self index t c.args.request h (sym c.kind_of.ensures ∙ c.in-Executes.is) (sym c.immediate.ensures ∙ c.if-immediate.true) known taken c.requires.waited c.take_immediate.ensures.session in
+    at_once_effects o c.args.self.now c.take_immediate.new.self t a c.args.out.now.items c.take_immediate.new.out.items c.take_turns.new.out.items x c.take_immediate.ensures.effects c.take_turns.ensures.effects
+
+pub returns-then-immediate-clause-received : goal.returns-then-immediate-clause-received
+returns-then-immediate-clause-received c = λ o index t taken h.
+    let known : is_known (connection_of c.args.request) o.conns ≡ true = sym (is_known-cids (connection_of c.args.request) c.args.self.now.conns o.conns h.agrees.replies.cids) ∙ c.requires.known in
+    let a : Arrival = arrival_of o index t c.args.request in
+    let x : AtOnce o c.args.self.now c.take_immediate.new.self t a =
+    at_once o c.args.self.now c.take_immediate.new.self index t c.args.request h (sym c.kind_of.ensures ∙ c.in-Executes.is) (sym c.immediate.ensures ∙ c.if-immediate.true) known taken c.requires.waited c.take_immediate.ensures.session in
+    at_once_receives o c.args.self.now c.take_immediate.new.self t a x c.take_turns.ensures.received
 
 pub returns-then-immediate-clause-taken : goal.returns-then-immediate-clause-taken
-returns-then-immediate-clause-taken c = ap (λ (s : Core). s.taken) c.execute_at_once.ensures.session ∙ executed_taken c.args.self.now c.args.request
+returns-then-immediate-clause-taken c = c.take_turns.ensures.taken ∙ ap (λ (s : Core). s.taken) c.take_immediate.ensures.session ∙ (immediate_stays c.args.self.now c.args.request (patience_by c.args.self.now c.args.request)).taken
 
 pub returns-then-immediate-clause-pace : goal.returns-then-immediate-clause-pace
-returns-then-immediate-clause-pace c = subst (λ (s : Core). KeepsPace c.args.self.now.window s.window) (sym c.execute_at_once.ensures.session) (pace-executed c.args.self.now c.args.request (sym c.immediate.ensures ∙ c.if-immediate.true))
+returns-then-immediate-clause-pace c = omega (arith, c.take_immediate.ensures.pace, c.take_turns.ensures.pace)
 
 pub returns-else-immediate-clause-settled : goal.returns-else-immediate-clause-settled
 returns-else-immediate-clause-settled c = λ o index t taken h.
-    subst (λ (items : List (List Mark)). Settled o c.receive.new.self (after_items items t)) (sym (is_numbered_arrival o index t c.args.request (sym c.kind_of.ensures ∙ c.in-Executes.is) (sym c.immediate.ensures ∙ c.if-immediate.false))) (c.receive.ensures.settled o index t h)
+    subst (λ (items : List (List Mark)). Settled o c.receive.new.self (after_items items t)) (sym (is_numbered_arrival o index t c.args.request (sym c.kind_of.ensures ∙ c.in-Executes.is) (sym c.immediate.ensures ∙ c.if-immediate.false))) (c.receive.ensures.settled o index t taken h)
 
 pub returns-else-immediate-clause-effects : goal.returns-else-immediate-clause-effects
 returns-else-immediate-clause-effects c = λ o index t taken h.
-    c.receive.ensures.effects o index t h ∙ ap (λ (items : List (List Mark)). c.args.out.now.items ++ effects_of o t items) (sym (is_numbered_arrival o index t c.args.request (sym c.kind_of.ensures ∙ c.in-Executes.is) (sym c.immediate.ensures ∙ c.if-immediate.false)))
+    c.receive.ensures.effects o index t taken h ∙ ap (λ (items : List (List Mark)). c.args.out.now.items ++ effects_of o t items) (sym (is_numbered_arrival o index t c.args.request (sym c.kind_of.ensures ∙ c.in-Executes.is) (sym c.immediate.ensures ∙ c.if-immediate.false)))
 
-pub receive-requires-clause-no_function : goal.receive-requires-clause-no_function
-receive-requires-clause-no_function c = executes_no_function c.args.request (sym c.kind_of.ensures ∙ c.in-Executes.is)
+pub returns-else-immediate-clause-received : goal.returns-else-immediate-clause-received
+returns-else-immediate-clause-received c = λ o index t taken h.
+    subst (λ (items : List (List Mark)). HasOneMore (received t) (received (after_items items t))) (sym (is_numbered_arrival o index t c.args.request (sym c.kind_of.ensures ∙ c.in-Executes.is) (sym c.immediate.ensures ∙ c.if-immediate.false))) (c.receive.ensures.received o index t taken h)

@@ -1,5 +1,8 @@
-use Rattle.std.proofs.Common.{◌≡◌, ℕ, true, ◌∙◌, ◌+◌, ◌++◌, ap, sym, subst, refl, arith, List, [], ◌∷◌, length, length-append, count_by, Option, Some, None, Err, Ok}
+use Rattle.std.proofs.Common.{◌≡◌, ℕ, true, ◌∙◌, ◌+◌, ◌<◌, nat_lt, ◌++◌, ap, sym, subst, refl, arith, List, [], ◌∷◌, length, length-append, count_by, Option, Some, None, Err, Ok}
+use Rattle.std.specs.List.{list_all}
+use Rattle.std.proofs.lemmas.Bool.Decides.{nat_tests}
 use Rattle.std.proofs.lemmas.List.{length_push}
+use Rattle.iscsi_session.specs.declared.session.waiting.Waiting.{Waiting}
 use Rattle.iscsi_session.specs.declared.effect.Numbers.{Numbers}
 use Rattle.iscsi_session.specs.declared.effect.Effect.{Effect}
 use Rattle.iscsi_session.specs.declared.event.Event.{Event}
@@ -8,12 +11,15 @@ use Rattle.iscsi_session.specs.declared.fault.SessionFault.TheVariants.{NoMemory
 use Rattle.iscsi_session.specs.Run.{trace_of, next_entry, after_event}
 use Rattle.iscsi_session.specs.Refusals.{RefusesAs, refusal_of}
 use Rattle.iscsi_session.specs.Standing.{Core, Settled, is_held}
-use Rattle.iscsi_session.specs.Steps.{KeepsPace, comes_on, counted}
-use Rattle.iscsi_session.specs.Flow.{Flows}
+use Rattle.iscsi_session.specs.Steps.{KeepsPace, counted}
+use Rattle.iscsi_session.specs.Trace.{received}
+use Rattle.iscsi_session.specs.Flow.{Flows, HasOneMore}
 use Rattle.iscsi_session.proofs.FlowLemmas.{Flows-step}
 use Rattle.iscsi_session.proofs.RunLemmas.{trace_of-push}
+use Rattle.iscsi_session.proofs.TraceLemmas.{weaker}
+use Rattle.iscsi_session.proofs.OwedLemmas.{owed_few}
 use Rattle.iscsi_session.proofs.AgreeLemmas.{settled_numbers}
-use Rattle.iscsi_session.proofs.StepLemmas.{Settled-counted, comes_on-same, taken_by, refusal_is}
+use Rattle.iscsi_session.proofs.StepLemmas.{Settled-counted, taken_by, refusal_is}
 use Rattle.iscsi_session.proofs.OpenLemmas.{bound_is}
 use Rattle.iscsi_session.proofs.session.Session.step.Goals as goal
 
@@ -28,6 +34,51 @@ returns-then-is_err-clause-refused c = λ o h stands.
     let refused : refusal_of o h c.args.event.now ≡ None = sym (refusal_is o c.args.self.now h c.args.event.now stands) ∙ sym c.refusal.ensures ∙ c.in_default.is in
     let P : Option SessionFault → Type 0 = λ x. RefusesAs {A = Numbers} x (Err NoMemory) in
     subst P (sym refused) refl
+
+-- a function that waits arrived before
+waited_before : (taken : ℕ) (waits : List Waiting) → list_all (λ w. nat_lt w.event taken) waits ≡ true → list_all (λ w. nat_lt w.event (taken + 1)) waits ≡ true
+waited_before taken waits h = weaker (λ (w : Waiting). nat_lt w.event taken) (λ w. nat_lt w.event (taken + 1)) waits (λ w before. later w.event before) h
+  where
+    later : (event : ℕ) → nat_lt event taken ≡ true → nat_lt event (taken + 1) ≡ true
+    later event before =
+        let lt : event < taken = grind (arith, nat_tests) in
+        grind (arith, nat_tests)
+
+pub invariant_of-self : goal.invariant_of-self
+invariant_of-self c =
+    let inv = c.self.invariant in
+    let taken : c.args.self.now.taken < c.args.self.now.events = (taken_by c.args.self.now c.args.event.now (sym c.refusal.ensures ∙ c.in_default.is)).1 in
+    let same : c.self.inside.taken ≡ c.args.self.now.taken = ap (λ (s : Core). s.taken) c.self.view_is in
+    let most : c.self.inside.events ≡ c.args.self.now.events = ap (λ (s : Core). s.events) c.self.view_is in (
+      inv.0,
+      inv.1,
+      inv.2,
+      inv.3,
+      inv.4,
+      omega (arith, inv.5),
+      omega (arith, inv.6),
+      omega (arith, taken, same, most),
+      inv.8,
+      inv.9,
+      inv.10,
+      inv.11,
+      inv.12,
+      inv.13,
+      inv.14,
+      inv.15,
+      inv.16,
+      inv.17,
+      inv.18,
+      inv.19,
+      waited_before c.self.inside.taken c.self.inside.waiting.items inv.20,
+      inv.21,
+      inv.22,
+      inv.23,
+      inv.24,
+    )
+
+pub apply-requires-clause-owed : goal.apply-requires-clause-owed
+apply-requires-clause-owed c = owed_few c.self.inside.sets.items c.self.inside.live.items c.self.invariant.11
 
 -- the event that is taken is the next one of the history
 index_is : (s : Core) (taken : ℕ) (h : List Event) → taken ≡ s.taken → s.taken ≡ length h → taken + 1 ≡ length h + 1
@@ -58,9 +109,9 @@ returns-clause-flow c = λ o h stands.
     let from = subst (λ (s : Core). Settled o (counted s) (trace_of o h)) (sym c.self.view_is) start in
     let e : Event = c.args.event.now in
     let now : Settled o c.apply.new.self (after_event o (length h) (trace_of o h) e) = c.apply.ensures.settled o (length h) (trace_of o h) (index_is c.args.self.now c.self.inside.taken h (ap (λ (s : Core). s.taken) c.self.view_is) stands.taken) from in
-    let known : comes_on o.conns e ≡ true = sym (comes_on-same o c.args.self.now (trace_of o h) e stands.settled.agrees) ∙ (taken_by c.args.self.now e (sym c.refusal.ensures ∙ c.in_default.is)).0 in
+    let more : HasOneMore (received (trace_of o h)) (received (after_event o (length h) (trace_of o h) e)) = c.apply.ensures.received o (length h) (trace_of o h) (index_is c.args.self.now c.self.inside.taken h (ap (λ (s : Core). s.taken) c.self.view_is) stands.taken) from in
     let pace : KeepsPace c.args.self.now.window c.apply.new.self.window = subst (λ (s : Core). KeepsPace s.window c.apply.new.self.window) c.self.view_is c.apply.ensures.pace in
-    subst (Flows o (trace_of o h)) (sym (trace_of-push o h e)) (Flows-step o c.args.self.now c.apply.new.self (length h) (trace_of o h) e known stands.settled now pace)
+    subst (Flows o (trace_of o h)) (sym (trace_of-push o h e)) (Flows-step o c.args.self.now c.apply.new.self (length h) (trace_of o h) e more stands.settled now pace)
 
 pub returns-clause-numbers : goal.returns-clause-numbers
 returns-clause-numbers c = λ o h stands.
@@ -81,5 +132,6 @@ returns-clause-bound c = λ o h stands.
     let es : List Effect = (next_entry o h c.args.event.now).effects in
     let added : length c.apply.new.out.items ≡ length c.reserve.new.self.items + length es = ap length (c.apply.ensures.effects o (length h) (trace_of o h) (index_is c.args.self.now c.self.inside.taken h (ap (λ (s : Core). s.taken) c.self.view_is) stands.taken) from) ∙ length-append c.reserve.new.self.items es in
     let held : count_by is_held c.self.inside.window.places ≡ count_by is_held c.args.self.now.window.places = ap (λ (s : Core). count_by is_held s.window.places) c.self.view_is in
+    let waits : length c.self.inside.waiting.items ≡ length c.args.self.now.waiting = ap (λ (s : Core). length s.waiting) c.self.view_is in
     let lives : length c.self.inside.live.items ≡ length c.args.self.now.live = ap (λ (s : Core). length s.live) c.self.view_is in
-    omega (arith, added, held, c.apply.new.out.ok.0, c.reserve.new.self.ok.0, c.apply.ensures.spent, bound_is o c.args.self.now h stands, lives)
+    omega (arith, added, held, c.apply.new.out.ok.0, c.reserve.new.self.ok.0, c.apply.ensures.spent, bound_is o c.args.self.now h stands, lives, waits)

@@ -1,39 +1,49 @@
-use Rattle.std.proofs.Common.{◌≡◌, ◌∙◌, ap, sym, subst, List, Option, None, refl, arith}
-use Rattle.iscsi_wire.specs.declared.request.Request.{Request}
+use Rattle.std.proofs.Common.{◌≡◌, ◌∙◌, ap, sym, subst, refl, arith, List, length, count_by}
 use Rattle.iscsi_window.specs.Windows.{at_place}
 use Rattle.iscsi_session.specs.declared.effect.Effect.{Effect}
-use Rattle.iscsi_session.specs.Standing.{Core}
-use Rattle.iscsi_session.specs.Steps.{KeepsPace, turned_if}
-use Rattle.iscsi_session.proofs.TurnLemmas.{Due, Due-all}
-use Rattle.iscsi_session.proofs.ArriveLemmas.{more_turns, turned_taken, is_none, no_turn}
-use Rattle.iscsi_session.proofs.FlowLemmas.{pace-turned}
+use Rattle.iscsi_session.specs.Standing.{Core, is_held}
+use Rattle.iscsi_session.specs.Steps.{KeepsPace}
+use Rattle.iscsi_session.specs.Turning.{turned_if}
+use Rattle.iscsi_session.proofs.AgendaLemmas.{Due, whole_of, Due-functions, turned-one}
+use Rattle.iscsi_session.proofs.ArriveLemmas.{turns_start, turns_done}
+use Rattle.iscsi_session.proofs.PaceLemmas.{same_expected, pace-turned, turned_taken}
 use Rattle.iscsi_session.proofs.session.Session.take_turns.Goals as goal
 
-pub loop-preserved : goal.loop-preserved
-loop-preserved c =
-    let inv = c.loop.invariant in
-    let p : Option (Option Request) = at_place c.loop.self.window 0 in
+pub loop-self-preserved : goal.loop-self-preserved
+loop-self-preserved c =
+    let inv = c.loop-self.invariant in
+    let s : Core = c.loop-self.self in
+    let p = at_place s.window 0 in
+    let f = c.take_functions-in-loop-self.ensures in
     record {
-      due = λ o t a.
-          subst (λ (s : Core). Due o c.args.self.now t c.args.out.now.items s c.turn_next.new.out.items) (sym c.turn_next.ensures.session)
-          (subst (λ (es : List Effect). Due o c.args.self.now t c.args.out.now.items (turned_if c.loop.self (at_place c.loop.self.window 0)) es) (sym c.turn_next.ensures.effects)
-          (more_turns o c.args.self.now t c.args.out.now.items c.loop.self c.loop.out.items p refl (sym c.turn_next.ensures.answer ∙ c.loop-test.true) (inv.due o t a)));
+      due = λ o t out whole d.
+          let due : Due o t out whole c.turn_next.new.self c.turn_next.new.out.items =
+          subst (λ (v : Core). Due o t out whole v c.turn_next.new.out.items) (sym c.turn_next.ensures.session)
+          (subst (λ (es : List Effect). Due o t out whole (turned_if s p) es) (sym c.turn_next.ensures.effects)
+          (turned-one o t out whole s c.loop-self.out.items p refl (sym c.turn_next.ensures.answer ∙ c.loop-self-test.true) (inv.due o t out whole d))) in
+          Due-functions o t out whole c.turn_next.new.self c.take_functions-in-loop-self.new.self c.turn_next.new.out.items c.take_functions-in-loop-self.new.out.items due (same_expected c.turn_next.new.self.window c.take_functions-in-loop-self.new.self.window f.first f.turned) f.agrees f.effects;
       pace =
-          let one : KeepsPace c.loop.self.window c.turn_next.new.self.window = subst (λ (s : Core). KeepsPace c.loop.self.window s.window) (sym c.turn_next.ensures.session) (pace-turned c.loop.self) in
-          omega (arith, one, inv.pace);
-      taken = ap (λ (s : Core). s.taken) c.turn_next.ensures.session ∙ turned_taken c.loop.self p ∙ inv.taken;
-      spent = omega (arith, c.turn_next.ensures.spent, inv.spent);
-      capacity = c.turn_next.ensures.capacity ∙ inv.capacity;
+          let one : KeepsPace s.window c.turn_next.new.self.window = subst (λ (v : Core). KeepsPace s.window v.window) (sym c.turn_next.ensures.session) (pace-turned s) in
+          omega (arith, one, f.pace, inv.pace);
+      taken = f.taken ∙ ap (λ (v : Core). v.taken) c.turn_next.ensures.session ∙ turned_taken s p ∙ inv.taken;
+      spent = omega (arith, c.turn_next.ensures.spent, ap length c.turn_next.ensures.waiting, f.spent, ap (count_by is_held) f.places, inv.spent);
+      capacity = f.capacity ∙ c.turn_next.ensures.capacity ∙ inv.capacity;
     }
 
 pub returns-clause-settled : goal.returns-clause-settled
 returns-clause-settled c = λ o t a.
-    let none : at_place c.loop.self.window 0 ≡ None = is_none (at_place c.loop.self.window 0) (sym c.turn_next.ensures.answer ∙ c.loop-test.false) in
-    let last = no_turn o c.args.self.now t c.args.out.now.items c.loop.self c.turn_next.new.self c.loop.out.items c.turn_next.new.out.items none c.turn_next.ensures.session c.turn_next.ensures.effects (c.loop.invariant.due o t a) in
-    (Due-all o c.args.self.now t c.args.out.now.items c.turn_next.new.self c.turn_next.new.out.items last.0 last.1).0
+    let f = c.take_functions.ensures in
+    (turns_done o t c.args.out.now.items (whole_of o c.args.self.now t) c.loop-self.self c.turn_next.new.self c.loop-self.out.items c.turn_next.new.out.items (sym c.turn_next.ensures.answer ∙ c.loop-self-test.false) c.turn_next.ensures.session c.turn_next.ensures.effects
+    (c.loop-self.invariant.due o t c.args.out.now.items (whole_of o c.args.self.now t) (turns_start o t c.args.self.now c.take_functions.new.self c.args.out.now.items c.take_functions.new.out.items a f.first f.turned f.agrees f.effects))).0
 
 pub returns-clause-effects : goal.returns-clause-effects
 returns-clause-effects c = λ o t a.
-    let none : at_place c.loop.self.window 0 ≡ None = is_none (at_place c.loop.self.window 0) (sym c.turn_next.ensures.answer ∙ c.loop-test.false) in
-    let last = no_turn o c.args.self.now t c.args.out.now.items c.loop.self c.turn_next.new.self c.loop.out.items c.turn_next.new.out.items none c.turn_next.ensures.session c.turn_next.ensures.effects (c.loop.invariant.due o t a) in
-    (Due-all o c.args.self.now t c.args.out.now.items c.turn_next.new.self c.turn_next.new.out.items last.0 last.1).1
+    let f = c.take_functions.ensures in
+    (turns_done o t c.args.out.now.items (whole_of o c.args.self.now t) c.loop-self.self c.turn_next.new.self c.loop-self.out.items c.turn_next.new.out.items (sym c.turn_next.ensures.answer ∙ c.loop-self-test.false) c.turn_next.ensures.session c.turn_next.ensures.effects
+    (c.loop-self.invariant.due o t c.args.out.now.items (whole_of o c.args.self.now t) (turns_start o t c.args.self.now c.take_functions.new.self c.args.out.now.items c.take_functions.new.out.items a f.first f.turned f.agrees f.effects))).1.0
+
+pub returns-clause-received : goal.returns-clause-received
+returns-clause-received c = λ o t a.
+    let f = c.take_functions.ensures in
+    (turns_done o t c.args.out.now.items (whole_of o c.args.self.now t) c.loop-self.self c.turn_next.new.self c.loop-self.out.items c.turn_next.new.out.items (sym c.turn_next.ensures.answer ∙ c.loop-self-test.false) c.turn_next.ensures.session c.turn_next.ensures.effects
+    (c.loop-self.invariant.due o t c.args.out.now.items (whole_of o c.args.self.now t) (turns_start o t c.args.self.now c.take_functions.new.self c.args.out.now.items c.take_functions.new.out.items a f.first f.turned f.agrees f.effects))).1.1

@@ -1,0 +1,184 @@
+-- What executing a request leaves as it was: the numbers that have turned, and the events. It begins one command at the
+-- most, and a function that has waited changes no place of the window.
+use Rattle.std.proofs.Common.{◌≡◌, ℕ, ℤ, ◌+◌, ◌-◌, ◌<◌, ◌≤◌, ◌==◌, ◌&&◌, not, cond, Bool, true, false, List, [], ◌∷◌, ◌++◌, length, filter, find, count_by, is_some, Option, Some, None, refl, ap, sym, subst, ◌∙◌, arith}
+use Rattle.std.specs.List.{list_all, list_any}
+use Rattle.std.proofs.lemmas.Bool.{false≢true}
+use Rattle.iscsi_wire.specs.declared.request.Request.{Request}
+use Rattle.iscsi_wire.specs.declared.reply.Reply.{Reply}
+use Rattle.iscsi_wire.specs.Serial.{number_of_first}
+use Rattle.iscsi_wire.specs.Fields.{connection_of, is_immediate, opcode, function, rtt}
+use Rattle.iscsi_window.specs.declared.answer.Place.{Place}
+use Rattle.iscsi_window.specs.declared.answer.Place.TheVariants.{Inside, Outside}
+use Rattle.iscsi_window.specs.Windows.{Received, number_expected, at_place, place_in, held_at, received_at, emptied_if, with_place, with_unfinished, advanced_if}
+use Rattle.iscsi_tasks.specs.declared.task.Task.{Task}
+use Rattle.iscsi_tasks.specs.declared.cover.Cover.TheVariants.{All as AllOfThem, Below}
+use Rattle.iscsi_tasks.specs.Sets.{is_covered}
+use Rattle.iscsi_session.specs.declared.outcome.Outcome.{Outcome}
+use Rattle.iscsi_session.specs.declared.outcome.Outcome.TheVariants.{Respond, Abort, AbortAll, Empty as EmptyNumber, Void as VoidNumber}
+use Rattle.iscsi_session.specs.declared.patience.Patience.{Patience}
+use Rattle.iscsi_session.specs.declared.patience.Patience.TheVariants.{Now, Later, TooFar, TooMany}
+use Rattle.iscsi_session.specs.declared.session.live.Live.{Live}
+use Rattle.iscsi_session.specs.declared.session.waiting.Waiting.{Waiting}
+use Rattle.iscsi_session.specs.declared.verdict.Verdict.{Verdict}
+use Rattle.iscsi_session.specs.declared.verdict.Verdict.TheVariants.{Nothing, Answer, Enter}
+use Rattle.iscsi_session.specs.Execution.{unit_named}
+use Rattle.iscsi_session.specs.Management.{may_wait, refusal_to}
+use Rattle.iscsi_session.specs.Standing.{Core}
+use Rattle.iscsi_session.specs.Steps.{KeepsPace, set_at, started, is_numbered, verdict_by, executed_as, with_reply}
+use Rattle.iscsi_session.specs.Functions.{is_gone, staying, with_left, abort_by, answer_if, outcome_by, aborted, performed_as}
+use Rattle.iscsi_session.specs.Turning.{performed, managed, position_by, with_executed, with_advanced, next_arrived, turned_if, next_waiting, without_waiting, next_position, function_if, immediate_as}
+use Rattle.iscsi_session.proofs.CountLemmas.{fewer_counted}
+use Rattle.iscsi_session.proofs.ListLemmas.{find-passes}
+use Rattle.iscsi_session.proofs.ReceiveLemmas.{no_abort_task}
+
+-- no number turns, no event is counted, and so many commands more are unfinished at the most
+pub record Stays (more : ℕ) (s s' : Core) : Type 0 where
+  pub first : s'.window.first ≡ s.window.first
+  pub turned : s'.window.turned ≡ s.window.turned
+  pub unfinished : s'.window.unfinished ≤ s.window.unfinished + more
+  pub taken : s'.taken ≡ s.taken
+
+stays : (more : ℕ) (s : Core) → Stays more s s
+stays more s = record { first = refl; turned = refl; unfinished = omega arith; taken = refl }
+
+pub same_expected : (w w' : Received) → w'.first ≡ w.first → w'.turned ≡ w.turned → number_expected w' ≡ number_expected w
+same_expected w w' first turned = ap (λ f. number_of_first f + w'.turned) first ∙ ap (λ k. number_of_first w.first + k) turned
+
+pub stays_expected : (more : ℕ) (s s' : Core) → Stays more s s' → number_expected s'.window ≡ number_expected s.window
+stays_expected more s s' h = same_expected s.window s'.window h.first h.turned
+
+pub is_none : {A : Type 0} (x : Option A) → is_some x ≡ false → x ≡ None
+is_none None h = refl
+is_none (Some a) h = absurd cc
+
+-- ---- a function
+
+left_fewer : (s : Core) (unit : ℕ) (covers : Task → Bool) → (with_left s unit covers).window.unfinished ≤ s.window.unfinished
+left_fewer s unit covers =
+    let gone : Live → Bool = λ l. not (is_gone covers (set_at s unit) l.ticket) in
+    let fewer : count_by is_numbered (filter gone s.live) ≤ count_by is_numbered s.live = fewer_counted is_numbered gone s.live in
+    omega (arith, fewer)
+
+aborted_stays : (s : Core) (r : Request) (unit : ℕ) (covers : Task → Bool) → Stays 0 s (aborted s r unit covers)
+aborted_stays s r unit covers = record { first = refl; turned = refl; unfinished = omega (arith, left_fewer s unit covers); taken = refl }
+
+emptied_stays : (s : Core) (conn : ℕ) (p : Place) (x : Option Request) → Stays 0 s (with_reply (record s { window = emptied_if s.window p x }) conn)
+emptied_stays s conn Outside x = record { first = refl; turned = refl; unfinished = omega arith; taken = refl }
+emptied_stays s conn (Inside k) None = record { first = refl; turned = refl; unfinished = omega arith; taken = refl }
+emptied_stays s conn (Inside k) (Some r) = record { first = refl; turned = refl; unfinished = omega arith; taken = refl }
+
+voided_stays : (s : Core) (conn : ℕ) (p : Place) → Stays 0 s (with_reply (record s { window = received_at s.window p None }) conn)
+voided_stays s conn Outside = record { first = refl; turned = refl; unfinished = omega arith; taken = refl }
+voided_stays s conn (Inside k) = elim (is_some (at_place s.window k)) as (λ b. Stays 0 s (with_reply (record s { window = cond b s.window (with_place s.window k (Some None)) }) conn)) [
+  | true ↦ record { first = refl; turned = refl; unfinished = omega arith; taken = refl }
+  | false ↦ record { first = refl; turned = refl; unfinished = omega arith; taken = refl }
+]
+
+done_stays : (s : Core) (r : Request) (unit : ℕ) (x : Outcome) → Stays 0 s (performed_as s r unit x)
+done_stays s r unit (Respond response) = record { first = refl; turned = refl; unfinished = omega arith; taken = refl }
+done_stays s r unit (Abort ticket) = aborted_stays s r unit (λ (t : Task). t.ticket == ticket)
+done_stays s r unit (AbortAll cover) = aborted_stays s r unit (is_covered cover)
+done_stays s r unit (EmptyNumber w) = emptied_stays s (connection_of r) (place_in s.window w) (held_at s.window (place_in s.window w))
+done_stays s r unit (VoidNumber w) = voided_stays s (connection_of r) (place_in s.window w)
+
+performed_stays : (s : Core) (r : Request) (number : ℤ) (event : ℕ) → Stays 0 s (performed s r number event)
+performed_stays s r number event = elim (unit_named (length s.sets) r) as (λ x. Stays 0 s (elim x [ Some unit ↦ performed_as s r unit (outcome_by s r number event unit) | None ↦ s ])) [
+  | Some unit ↦ done_stays s r unit (outcome_by s r number event unit)
+  | None ↦ stays 0 s
+]
+
+managed_stays : (s : Core) (r : Request) (number : ℤ) (event : ℕ) → Stays 0 s (managed s r number event)
+managed_stays s r number event = elim (refusal_to s.level (length s.sets) r) as (λ x. Stays 0 s (elim x [ Some reply ↦ with_reply s (connection_of r) | None ↦ performed s r number event ])) [
+  | Some reply ↦ record { first = refl; turned = refl; unfinished = omega arith; taken = refl }
+  | None ↦ performed_stays s r number event
+]
+
+-- ---- a function that has waited
+
+pub function_stays : (s : Core) (x : Option Waiting) → Stays 0 s (function_if s x)
+function_stays s None = stays 0 s
+function_stays s (Some w) =
+    let h : Stays 0 (without_waiting s w) (function_if s (Some w)) = performed_stays (without_waiting s w) w.request (next_position s) w.event in
+    record { first = h.first; turned = h.turned; unfinished = h.unfinished; taken = h.taken }
+
+pub pace-function : (s : Core) (x : Option Waiting) → KeepsPace s.window (function_if s x).window
+pace-function s x = let h : Stays 0 s (function_if s x) = function_stays s x in omega (arith, h.unfinished, h.turned)
+
+-- it is no ABORT TASK
+performed_places : (s : Core) (r : Request) (number : ℤ) (event : ℕ) → (function r == 1) ≡ false → (performed s r number event).window.places ≡ s.window.places
+performed_places s r number event other = elim (unit_named (length s.sets) r) as (λ x. (let now : Core = elim x [ Some unit ↦ performed_as s r unit (outcome_by s r number event unit) | None ↦ s ] in now.window.places) ≡ s.window.places) [
+  | Some unit ↦ to_unit unit
+  | None ↦ refl
+]
+  where
+    to_unit : (unit : ℕ) → (performed_as s r unit (outcome_by s r number event unit)).window.places ≡ s.window.places
+    to_unit unit =
+        let cover : Outcome = AbortAll (Below number event) in
+        let task : Outcome = answer_if (list_any (λ l. l.unit == unit && l.itt == rtt r) s.live) in
+        let any : Outcome = answer_if (list_any (λ l. l.unit == unit) s.live) in
+        elim (function r == 1) as (λ b. (function r == 1) ≡ b → (performed_as s r unit (cond b (abort_by s r unit) (cond (function r == 5) (AbortAll AllOfThem) (cond (function r == 9) task (cond (function r == 10) any cover))))).window.places ≡ s.window.places) [
+          | true ↦ λ is. absurd (false≢true (sym other ∙ is))
+          | false ↦ λ is. elim (function r == 5) as (λ b. (performed_as s r unit (cond b (AbortAll AllOfThem) (cond (function r == 9) task (cond (function r == 10) any cover)))).window.places ≡ s.window.places) [
+            | true ↦ refl
+            | false ↦ elim (function r == 9) as (λ b. (performed_as s r unit (cond b task (cond (function r == 10) any cover))).window.places ≡ s.window.places) [
+              | true ↦ refl
+              | false ↦ elim (function r == 10) as (λ b. (performed_as s r unit (cond b any cover)).window.places ≡ s.window.places) [
+                | true ↦ refl
+                | false ↦ refl
+              ]
+            ]
+          ]
+        ] refl
+
+pub function_places : (s : Core) (x : Option Waiting) → list_all (λ w. may_wait w.request) s.waiting ≡ true → next_waiting s ≡ x → (function_if s x).window.places ≡ s.window.places
+function_places s None may is = refl
+function_places s (Some w) may is = performed_places (without_waiting s w) w.request (next_position s) w.event (no_abort_task w.request (find-passes (λ (v : Waiting). v.turn == s.window.turned) (λ v. may_wait v.request) s.waiting w may is))
+
+-- ---- a request
+
+started_first : (w : Received) (r : Request) → (started w r).first ≡ w.first
+started_first w r = elim (is_immediate r) as (λ b. (let v : Received = cond b w (with_unfinished w (w.unfinished + 1)) in v.first) ≡ w.first) [ true ↦ refl | false ↦ refl ]
+
+started_turned : (w : Received) (r : Request) → (started w r).turned ≡ w.turned
+started_turned w r = elim (is_immediate r) as (λ b. (let v : Received = cond b w (with_unfinished w (w.unfinished + 1)) in v.turned) ≡ w.turned) [ true ↦ refl | false ↦ refl ]
+
+started_more : (w : Received) (r : Request) → (started w r).unfinished ≤ w.unfinished + 1
+started_more w r = elim (is_immediate r) as (λ b. (let v : Received = cond b w (with_unfinished w (w.unfinished + 1)) in v.unfinished) ≤ w.unfinished + 1) [ true ↦ omega arith | false ↦ omega arith ]
+
+obeyed_stays : (s : Core) (r : Request) (v : Verdict) → Stays 1 s (executed_as s r v)
+obeyed_stays s r Nothing = stays 1 s
+obeyed_stays s r (Answer reply) = record { first = refl; turned = refl; unfinished = omega arith; taken = refl }
+obeyed_stays s r (Enter unit) = record { first = started_first s.window r; turned = started_turned s.window r; unfinished = started_more s.window r; taken = refl }
+
+pub executed_stays : (s : Core) (r : Request) (event : ℕ) → Stays 1 s (with_executed s r event)
+executed_stays s r event = elim (opcode r == 0x02) as (λ b. Stays 1 s (cond b (managed s r (position_by s r) event) (executed_as s r (verdict_by s r)))) [
+  | true ↦
+      let h : Stays 0 s (managed s r (position_by s r) event) = managed_stays s r (position_by s r) event in
+      record { first = h.first; turned = h.turned; unfinished = omega (arith, h.unfinished); taken = h.taken }
+  | false ↦ obeyed_stays s r (verdict_by s r)
+]
+
+pub immediate_stays : (s : Core) (r : Request) (p : Patience) → Stays 1 s (immediate_as s r p)
+immediate_stays s r Now = executed_stays s r (s.taken - 1)
+immediate_stays s r Later = record { first = refl; turned = refl; unfinished = omega arith; taken = refl }
+immediate_stays s r TooFar = record { first = refl; turned = refl; unfinished = omega arith; taken = refl }
+immediate_stays s r TooMany = record { first = refl; turned = refl; unfinished = omega arith; taken = refl }
+
+-- ---- a turn
+
+pub pace-turned : (s : Core) → KeepsPace s.window (turned_if s (at_place s.window 0)).window
+pace-turned s = by_place (at_place s.window 0) refl
+  where
+    by_place : (p : Option (Option Request)) → at_place s.window 0 ≡ p → KeepsPace s.window (turned_if s p).window
+    by_place None is = omega arith
+    by_place (Some None) is = subst (λ q. KeepsPace s.window (advanced_if s.window q)) (sym is) (omega arith)
+    by_place (Some (Some r)) is =
+        let h : Stays 1 (with_advanced s) (turned_if s (Some (Some r))) = executed_stays (with_advanced s) r (next_arrived s) in
+        let turned : (advanced_if s.window (at_place s.window 0)).turned ≡ s.window.turned + 1 = ap (λ q. (advanced_if s.window q).turned) is in
+        let same : (advanced_if s.window (at_place s.window 0)).unfinished ≡ s.window.unfinished = ap (λ q. (advanced_if s.window q).unfinished) is in
+        omega (arith, h.unfinished, h.turned, turned, same)
+
+pub turned_taken : (s : Core) (p : Option (Option Request)) → (turned_if s p).taken ≡ s.taken
+turned_taken s None = refl
+turned_taken s (Some None) = refl
+turned_taken s (Some (Some r)) = (executed_stays (with_advanced s) r (next_arrived s)).taken
