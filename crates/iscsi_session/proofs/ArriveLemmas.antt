@@ -121,7 +121,7 @@ rejected_opcode o s index t r h kind known =
           enabled = EnabledSoFar-untouched o item t u a.enabled;
           level = a.level;
           arrived = ArrivalsAgree-quiet s.window s.arrived t item q a.arrived;
-          waiting = record { list = a.waiting.list; may = a.waiting.may };
+          waiting = record { list = a.waiting.list; may = a.waiting.may; known = a.waiting.known };
         };
         none_due = h.none_due;
       };

@@ -670,3 +670,21 @@ immediate_expected s r Now = executed_expected s r (s.taken - 1)
 immediate_expected s r Later = refl
 immediate_expected s r TooFar = refl
 immediate_expected s r TooMany = refl
+
+-- a function that waited leaves the places of the window as they are
+pub waited_places : (s : Core) (r : Request) (position : ℤ) (event : ℕ) → may_wait r ≡ true → (performed s r position event).window.places ≡ s.window.places
+waited_places s r position event may =
+    elim (unit_named (length s.sets) r) as (λ x. (let c : Core = elim x [ Some unit ↦ performed_as s r unit (outcome_by s r position event unit) | None ↦ s ] in c).window.places ≡ s.window.places) [
+      | Some unit ↦ by_outcome unit (outcome_by s r position event unit) refl
+      | None ↦ refl
+    ]
+  where
+    never : (unit sn : ℕ) → (outcome_by s r position event unit ≡ EmptyNumber sn) ⊎ (outcome_by s r position event unit ≡ VoidNumber sn) → ⊥
+    never unit sn said = false≢true (sym (no_abort_task r may) ∙ (outcome_task s r position event unit sn said).0)
+
+    by_outcome : (unit : ℕ) (x : Outcome) → outcome_by s r position event unit ≡ x → (performed_as s r unit x).window.places ≡ s.window.places
+    by_outcome unit (Respond response) is = refl
+    by_outcome unit (Abort ticket) is = refl
+    by_outcome unit (AbortAll cover) is = refl
+    by_outcome unit (EmptyNumber sn) is = absurd (never unit sn (inl is))
+    by_outcome unit (VoidNumber sn) is = absurd (never unit sn (inr is))

@@ -6,6 +6,7 @@ ghost use Rattle.iscsi_session.specs.Run.{run_of};
 ghost use Rattle.iscsi_session.specs.Executed.{executed, delivered};
 ghost use Rattle.iscsi_session.specs.Flow.{FlowsThrough};
 ghost use Rattle.iscsi_session.specs.Enabling.{EnablesByTheRule};
+ghost use Rattle.iscsi_session.specs.Aborts.{AbortsHoldIn};
 ghost use Rattle.iscsi_session.specs.Refusals.{RunRefusesAs, refusal_of_options, first_refusal};
 
 use crate::effect::{Effect, Numbers};
@@ -82,6 +83,9 @@ pub fn run(alloc: Global, options: Options, events: &[Event]) -> Result<Log, Ses
     // At each moment, the commands with an `Enable` and no `Leave` so far are those that the rules of task sets
     // enable.
     ensures enabling { IfOk result (λ log. EnablesByTheRule (setting_of options) events.now log.items) }
+
+    // What a completed abort covers is over: it is in no task set, isn't answered, and isn't delivered.
+    ensures aborts { IfOk result (λ log. AbortsHoldIn (setting_of options) events.now log.items) }
 
     // Each event receives one number at the most. ExpCmdSN and MaxCmdSN don't go back, and no more commands
     // are unfinished than the window has places.

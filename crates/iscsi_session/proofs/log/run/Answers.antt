@@ -13,6 +13,8 @@ use Rattle.iscsi_session.specs.Run.{run_of, trace_of, next_entry}
 use Rattle.iscsi_session.specs.Executed.{delivered, executed, executed_below}
 use Rattle.iscsi_session.specs.Flow.{FlowsThrough}
 use Rattle.iscsi_session.specs.Enabling.{effects_in}
+use Rattle.iscsi_session.specs.Aborts.{AbortsHoldIn}
+use Rattle.iscsi_session.proofs.AbortTheorem.{aborts_hold_in}
 use Rattle.iscsi_session.proofs.EnablingLemmas.{log_effects, rule_means}
 use Rattle.iscsi_session.proofs.FlowLemmas.{FlowsThrough-push}
 use Rattle.iscsi_session.specs.Refusals.{refusal_of, refusal_of_options, first_refusal}
@@ -100,6 +102,12 @@ returns-clause-enabling c =
       exact = stands.settled.agrees.enabled;
       means = rule_means;
     }
+
+pub returns-clause-aborts : goal.returns-clause-aborts
+returns-clause-aborts c =
+    let o : Setting = setting_of c.args.options in
+    let all : take c.loop-event.event-index c.args.events.now ≡ c.args.events.now = take_all c.loop-event.event-index c.args.events.now c.loop-event-test.false in
+    subst (AbortsHoldIn o c.args.events.now) (sym (c.loop-event.invariant.log ∙ ap (run_of o) all)) (aborts_hold_in o c.args.events.now)
 
 pub returns-clause-flow : goal.returns-clause-flow
 returns-clause-flow c =

@@ -15,6 +15,7 @@ use Rattle.iscsi_session.specs.Functions.{owed}
 use Rattle.iscsi_session.specs.Turning.{waiting_in, performed, performed_effects, next_waiting, next_position, without_waiting, function_if, function_effects}
 use Rattle.iscsi_session.proofs.ListLemmas.{list_all-filter}
 use Rattle.iscsi_session.proofs.ManageLemmas.{found_passes, fewer_left, fewer_of, waiting_performed}
+use Rattle.iscsi_session.proofs.FunctionLemmas.{waited_places}
 use Rattle.iscsi_session.proofs.session.Session.take_function.Goals as goal
 
 -- the number of the next turn, as a cast reads it
@@ -134,3 +135,12 @@ returns-clause-fewer c = λ said.
     let left : length (filter (λ v. not (v.event == f.event)) s.waiting) + 1 ≤ length s.waiting = fewer_left (λ w. w.turn == s.window.turned) (λ v. v.event == f.event) s.waiting f found (eq-eqb f.event f.event refl) in
     let kept : length c.perform.new.self.waiting ≡ length (filter (λ v. not (v.event == f.event)) s.waiting) = ap (λ (u : Core). length u.waiting) c.perform.ensures.session ∙ ap length (waiting_performed _ f.request _ f.event ∙ waits) in
     omega (arith, left, kept, ap (λ (u : Core). length u.waiting) c.self.view_is)
+
+pub returns-clause-places : goal.returns-clause-places
+returns-clause-places c =
+    let inv = c.self.invariant in
+    let s : Core = record { window = c.self.inside.window; events = c.self.inside.events; conns = c.self.inside.conns.items; entered = c.self.inside.entered; taken = c.self.inside.taken; live = c.self.inside.live.items; sets = c.self.inside.sets.items; level = c.self.inside.level; arrived = c.self.inside.arrived.items; waiting = c.self.inside.waiting.items } in
+    let f : Waiting = c.in-Some.function in
+    let found : find (λ w. w.turn == s.window.turned) s.waiting ≡ Some f = ap (λ n. find (λ w. w.turn == n) s.waiting) (sym c.turned-number.ensures) ∙ ap (find (λ w. w.turn == c.turned-number.result)) (sym c.deref.ensures.value) ∙ sym c.first_at.ensures ∙ c.in-Some.is in
+    let may : may_wait f.request ≡ true = found_passes (λ w. w.turn == s.window.turned) (λ w. may_wait w.request) s.waiting f inv.22 found in
+    ap (λ (u : Core). u.window.places) c.perform.ensures.session ∙ waited_places _ f.request _ f.event may ∙ ap (λ (u : Core). u.window.places) c.self.view_is
