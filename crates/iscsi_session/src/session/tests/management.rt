@@ -91,10 +91,10 @@ fn brings(
     header: [u8; 48],
     wanted: &[Effect],
 ) -> Result<(), Fail> {
-    let effects = arrive(alloc, session, 1, header)?;
+    let mut effects = arrive(alloc, session, 1, header)?;
     assert!(rt; !effects.is_empty());
-    assert_eq!(rt; effects[0], immediate(1, header));
-    assert_eq!(rt; &effects[1..], wanted);
+    assert_eq!(rt; effects.remove(0), immediate(1, header));
+    assert_eq!(rt; effects.as_slice(), wanted);
     Ok(())
 }
 
@@ -170,9 +170,11 @@ fn an_abort_stays_in_its_unit(rt: HostRuntime) -> Result<(), Fail> {
     arrive(alloc, &mut session, 1, to_unit(command(3, 0xa3), 1))?;
     let nothing = [task(1, 1, 0xb1, 1)];
     brings(&rt, alloc, &mut session, abort(4, 0xb1, 0xa1, 1), &nothing)?;
-    let nothing = [Effect::Void { sn: 2 }, task(1, 2, 0xb2, 0)];
+    // so the number is voided, and the request that is held at the next one has its turn
     let header = abort(4, 0xb2, 0xa3, 2);
     let effects = arrive(alloc, &mut session, 1, header)?;
+    assert_eq!(rt; effects.len(), 6);
+    let nothing = [Effect::Void { sn: 2 }, task(1, 2, 0xb2, 0)];
     assert_eq!(rt; &effects[1..3], nothing.as_slice());
     let none = [task(1, 3, 0xb3, 0)];
     let reset = function(AT_ONCE, LOGICAL_UNIT_RESET, 4, 0xb3);
@@ -203,15 +205,22 @@ fn the_table_of_functions_goes_in_its_order(rt: HostRuntime) -> Result<(), Fail>
         brings(&rt, alloc, &mut session, header, &answer)?;
     }
     // a unit that isn't there, before a number that is too far
-    let codes = [ABORT_TASK, ABORT_TASK_SET, CLEAR_TASK_SET, LOGICAL_UNIT_RESET];
-    for (code, stat_sn) in codes.into_iter().zip(8..) {
+    for (code, stat_sn) in [
+        (ABORT_TASK, 8),
+        (ABORT_TASK_SET, 9),
+        (CLEAR_TASK_SET, 10),
+        (LOGICAL_UNIT_RESET, 11),
+    ] {
         let header = to_unit(function(AT_ONCE, code, 99, 0xb2), 2);
         let answer = [task(1, stat_sn, 0xb2, 2)];
         brings(&rt, alloc, &mut session, header, &answer)?;
     }
     // too far, for those over a set
-    for (code, stat_sn) in [ABORT_TASK_SET, CLEAR_TASK_SET, LOGICAL_UNIT_RESET].into_iter().zip(12..)
-    {
+    for (code, stat_sn) in [
+        (ABORT_TASK_SET, 12),
+        (CLEAR_TASK_SET, 13),
+        (LOGICAL_UNIT_RESET, 14),
+    ] {
         let header = function(AT_ONCE, code, 10, 0xb3);
         let answer = [task(1, stat_sn, 0xb3, 255)];
         brings(&rt, alloc, &mut session, header, &answer)?;
@@ -302,6 +311,7 @@ fn a_reset_takes_all_commands_and_leaves_held_requests(rt: HostRuntime) -> Resul
     assert_eq!(rt; entered.len(), 3);
     // the held request has its turn
     let effects = arrive(alloc, &mut session, 1, command(2, 0xa2))?;
+    assert_eq!(rt; effects.len(), 6);
     assert_eq!(rt; &effects[3..], turn(1, 3, 0xa3, 12).as_slice());
     Ok(())
 }
@@ -346,24 +356,21 @@ fn queries_change_nothing(rt: HostRuntime) -> Result<(), Fail> {
         let mut session = session_at(alloc, 8, level)?;
         arrive(alloc, &mut session, 1, command(1, 0xa1))?;
         arrive(alloc, &mut session, 1, command(3, 0xa3))?;
-        let one = |rtt, unit, itt| {
-            to_unit(
-                referring(function(AT_ONCE, QUERY_TASK, 4, itt), rtt, 2),
-                unit,
-            )
-        };
-        let all = |unit, itt| to_unit(function(AT_ONCE, QUERY_TASK_SET, 99, itt), unit);
-        let queries = [
-            (one(0xa1, 0, 1), there),
-            (one(0xa1, 1, 2), absent),
-            (one(0xa3, 0, 3), absent),
-            (one(0xa9, 0, 4), absent),
-            (all(0, 5), there),
-            (all(1, 6), absent),
-        ];
-        for ((header, response), itt) in queries.into_iter().zip(1..) {
-            let answer = [task(1, itt, itt, response)];
-            brings(&rt, alloc, &mut session, header, &answer)?;
+        for (stat_sn, rtt, unit, response) in [
+            (1, 0xa1, 0, there),
+            (2, 0xa1, 1, absent),
+            (3, 0xa3, 0, absent),
+            (4, 0xa9, 0, absent),
+        ] {
+            let header = function(AT_ONCE, QUERY_TASK, 4, 0xb1);
+            let query = to_unit(referring(header, rtt, 2), unit);
+            let answer = [task(1, stat_sn, 0xb1, response)];
+            brings(&rt, alloc, &mut session, query, &answer)?;
+        }
+        for (stat_sn, unit, response) in [(5, 0, there), (6, 1, absent)] {
+            let query = to_unit(function(AT_ONCE, QUERY_TASK_SET, 99, 0xb2), unit);
+            let answer = [task(1, stat_sn, 0xb2, response)];
+            brings(&rt, alloc, &mut session, query, &answer)?;
         }
         // number 2 is missing still, and number 3 held
         let effects = arrive(alloc, &mut session, 1, command(2, 0xa2))?;
@@ -412,45 +419,53 @@ fn functions_wait_in_the_order_of_arrival(rt: HostRuntime) -> Result<(), Fail> {
 fn a_flood_of_functions_that_wait(rt: HostRuntime) -> Result<(), Fail> {
     let alloc = rt.alloc();
     let mut many = options(alloc, &[])?;
-    for conn in 1..=64u16 {
-        many.conns.push((conn, 1))?;
+    for cid in 0..64u16 {
+        many.conns.push((cid, 1))?;
     }
     let mut session = Session::open(alloc, many)?;
     let room = session.waiting.capacity();
     let header = function(AT_ONCE, ABORT_TASK_SET, 2, 0xb1);
-    arrive(alloc, &mut session, 1, command_at_once(1, 0xa9))?;
-    arrive(alloc, &mut session, 1, command(3, 0xa3))?;
+    arrive(alloc, &mut session, 0, command_at_once(1, 0xa9))?;
+    arrive(alloc, &mut session, 0, command(3, 0xa3))?;
     assert_eq!(rt; session.effect_bound(), 12 * 2 + 2);
-    let mut waiting = 0;
-    for conn in 1..=64u16 {
-        for _ in 0..4 {
-            let effects = arrive(alloc, &mut session, conn, header)?;
-            assert_eq!(rt; effects.as_slice(), [wait(conn, header)].as_slice());
-            waiting += 1;
-            assert_eq!(rt; session.effect_bound(), 12 * (1 + waiting + 1) + 2);
+    for cid in 0..64u16 {
+        for more in 1..=4usize {
+            let effects = arrive(alloc, &mut session, cid, header)?;
+            assert_eq!(rt; effects.as_slice(), [wait(cid, header)].as_slice());
+            let waiting = 4 * usize::from(cid) + more;
+            assert_eq!(rt; session.effect_bound(), 12 * (waiting + 2) + 2);
         }
-        let effects = arrive(alloc, &mut session, conn, header)?;
-        let rejected = [immediate(conn, header), reject(conn, 1, 0x06, header)];
+        let bound = session.effect_bound();
+        let effects = arrive(alloc, &mut session, cid, header)?;
+        let rejected = [immediate(cid, header), reject(cid, 1, 0x06, header)];
         assert_eq!(rt; effects.as_slice(), rejected.as_slice());
-        assert_eq!(rt; session.effect_bound(), 12 * (1 + waiting + 1) + 2);
+        assert_eq!(rt; session.effect_bound(), bound);
     }
+    assert_eq!(rt; session.effect_bound(), 12 * 258 + 2);
+
     let mut out = Vec::with_capacity(alloc, session.effect_bound())?;
-    let out_room = out.capacity();
-    let numbers = session.step(&arrival(1, 1, 0xa1), &mut out)?;
+    let spare = out.capacity();
+    let numbers = session.step(&arrival(0, 1, 0xa1), &mut out)?;
     // the room for functions that wait was taken at the opening
     assert_eq!(rt; session.waiting.capacity(), room);
-    assert_eq!(rt; out.capacity(), out_room);
+    assert_eq!(rt; out.capacity(), spare);
     assert_eq!(rt; numbers, Numbers { exp: 2, max: 0x21 });
-    assert_eq!(rt; out.len(), 3 + 2 + 2 * 256);
-    assert_eq!(rt; &out[..3], turn(1, 1, 0xa1, 2).as_slice());
-    // the first function takes both commands out
-    let done = [immediate(1, header), leave(1), leave(2), task(1, 2, 0xb1, 0)];
-    assert_eq!(rt; &out[3..7], done.as_slice());
-    for (effects, k) in out.as_slice()[7..].chunks(2).zip(1u32..) {
-        let conn = 1 + (k / 4) as u16;
-        let answered = [immediate(conn, header), task(conn, 2 + k % 4, 0xb1, 0)];
-        assert_eq!(rt; effects, answered.as_slice());
+    let mut wanted = Vec::new(alloc);
+    for effect in turn(0, 1, 0xa1, 2) {
+        wanted.push(effect)?;
     }
+    for cid in 0..64u16 {
+        for earlier in 0..4u32 {
+            wanted.push(immediate(cid, header))?;
+            // the first of them takes both commands out
+            if cid == 0 && earlier == 0 {
+                wanted.push(leave(1))?;
+                wanted.push(leave(2))?;
+            }
+            wanted.push(task(cid, 2 + earlier, 0xb1, 0))?;
+        }
+    }
+    assert_eq!(rt; out.as_slice(), wanted.as_slice());
     assert_eq!(rt; session.effect_bound(), 24);
     Ok(())
 }
