@@ -1,11 +1,11 @@
 -- Worked rows, computed: what the definitions give for short recordings, beside what must come.
 use Rattle.std.specs.Prelude.{◌≡◌, ℕ, ◌+◌, ◌/◌, ◌%◌, List, [], ◌∷◌, ◌++◌, map, replicate, refl, Some, None}
-use Rattle.iscsi_wire.specs.declared.reply.Reply.TheVariants.{Scsi, Nop, Reject}
+use Rattle.iscsi_wire.specs.declared.reply.Reply.TheVariants.{Scsi, Task, Nop, Reject}
 use Rattle.iscsi_wire.specs.Fields.{request_of}
 use Rattle.iscsi_tasks.specs.declared.task.Attr.TheVariants.{Simple, Ordered, Head}
 use Rattle.iscsi_session.specs.declared.effect.Effect.{Effect}
-use Rattle.iscsi_session.specs.declared.effect.Effect.TheVariants.{Deliver, Immediate, Enter, Enable, Leave, Send, Ignore}
-use Rattle.iscsi_session.specs.declared.effect.Why.TheVariants.{Outside, Stale, Data}
+use Rattle.iscsi_session.specs.declared.effect.Effect.TheVariants.{Deliver, Immediate, Wait, Void, Empty, Enter, Enable, Leave, Send, Ignore}
+use Rattle.iscsi_session.specs.declared.effect.Why.TheVariants.{Outside, Duplicate, Stale, Data}
 use Rattle.iscsi_session.specs.declared.event.Event.{Event}
 use Rattle.iscsi_session.specs.declared.event.Event.TheVariants.{Arrive, Done}
 use Rattle.iscsi_session.specs.declared.log.Entry.{Entry}
@@ -246,3 +246,196 @@ pub refused_commands_log : run_of (record (setting 1 32) { depth = 1 }) refused_
     ∷ []
 unfolding Rules.bars_as
 refused_commands_log = refl
+
+-- the header of a Task Management Request: byte 0, the function, CmdSN, the tag, the referenced tag and RefCmdSN, the unit
+abbrev pub management : ℕ → ℕ → ℕ → ℕ → ℕ → ℕ → ℕ → List ℕ
+management first f n t rt ref u = first ∷ (0x80 + f) ∷ replicate 7 0 ++ u ∷ replicate 6 0 ++ word t ++ word rt ++ word n ++ word 0 ++ word ref ++ replicate 12 0
+
+-- an immediate one to unit 0
+abbrev pub function_now : ℕ → ℕ → ℕ → ℕ → ℕ → List ℕ
+function_now f n t rt ref = management 0x42 f n t rt ref 0
+
+-- two connections, and a window of four places
+abbrev pub two_connections : Setting
+two_connections = record (setting 1 4) { conns = (1, 1) ∷ (2, 1) ∷ [] }
+
+-- ABORT TASK of a number that hasn't come: it is received without a request, and closes the gap
+abbrev pub abort_voids : List Event
+abort_voids =
+    Arrive 1 (command 0xa3 3)
+    ∷ Arrive 1 (function_now 1 4 0xb1 0xa2 2)
+    ∷ Arrive 2 (command 0xa2 2)
+    ∷ Arrive 2 (command 0xa1 1)
+    ∷ Arrive 1 (function_now 1 5 0xb2 0xa9 4)
+    ∷ Arrive 1 (management 0x02 1 6 0xb3 0xa9 5 0)
+    ∷ Arrive 1 (head 0x00 0x80 0xb4 5)
+    ∷ []
+
+pub abort_voids_log : run_of two_connections abort_voids ≡
+    entry 1 4 []
+    ∷ entry 1 4 (Immediate (request_of 1 (function_now 1 4 0xb1 0xa2 2)) ∷ Void 2 ∷ Send 1 1 (Task 0xb1 0) ∷ [])
+    ∷ entry 1 4 (Ignore Duplicate ∷ [])
+    ∷ entry 4 5 (Deliver (request_of 2 (command 0xa1 1)) ∷ Enter 1 0 Simple ∷ Enable 1 0 ∷ Deliver (request_of 1 (command 0xa3 3)) ∷ Enter 2 0 Simple ∷ Enable 2 0 ∷ [])
+    ∷ entry 5 6 (Immediate (request_of 1 (function_now 1 5 0xb2 0xa9 4)) ∷ Void 4 ∷ Send 1 2 (Task 0xb2 0) ∷ [])
+    ∷ entry 5 6 []
+    ∷ entry 7 8 (Deliver (request_of 1 (head 0x00 0x80 0xb4 5)) ∷ Send 1 3 (Nop 0xb4) ∷ Deliver (request_of 1 (management 0x02 1 6 0xb3 0xa9 5 0)) ∷ Send 1 4 (Task 0xb3 1) ∷ [])
+    ∷ []
+unfolding Rules.bars_as
+abort_voids_log = refl
+
+-- ABORT TASK of a request that is held: it is taken out, and never delivered
+abbrev pub abort_of_held : List Event
+abort_of_held = Arrive 1 (command 0xc3 3) ∷ Arrive 1 (function_now 1 4 0xb7 0xc3 3) ∷ Arrive 1 (command 0xc1 1) ∷ Arrive 1 (command 0xc2 2) ∷ []
+
+pub abort_of_held_log : run_of (setting 1 4) abort_of_held ≡
+    entry 1 4 []
+    ∷ entry 1 4 (Immediate (request_of 1 (function_now 1 4 0xb7 0xc3 3)) ∷ Empty 3 ∷ Send 1 1 (Task 0xb7 0) ∷ [])
+    ∷ entry 2 4 (Deliver (request_of 1 (command 0xc1 1)) ∷ Enter 1 0 Simple ∷ Enable 1 0 ∷ [])
+    ∷ entry 4 5 (Deliver (request_of 1 (command 0xc2 2)) ∷ Enter 2 0 Simple ∷ Enable 2 0 ∷ [])
+    ∷ []
+unfolding Rules.bars_as
+abort_of_held_log = refl
+
+-- ABORT TASK SET waits until the numbers below its own have had their turn
+abbrev pub function_waits : List Event
+function_waits =
+    Arrive 1 (function_now 2 3 0xb1 0 0)
+    ∷ Arrive 1 (command 0xa2 2)
+    ∷ Arrive 1 (command 0xa1 1)
+    ∷ Done 1 0
+    ∷ Arrive 1 (function_now 2 8 0xb2 0 0)
+    ∷ Arrive 1 (function_now 2 7 0xb3 0 0)
+    ∷ Arrive 1 (function_now 4 7 0xb4 0 0)
+    ∷ Arrive 1 (function_now 5 7 0xb5 0 0)
+    ∷ Arrive 1 (function_now 2 7 0xb6 0 0)
+    ∷ Arrive 1 (function_now 2 7 0xb7 0 0)
+    ∷ []
+
+pub function_waits_log : run_of (setting 1 4) function_waits ≡
+    entry 1 4 (Wait (request_of 1 (function_now 2 3 0xb1 0 0)) ∷ [])
+    ∷ entry 1 4 []
+    ∷ entry 3 6 (
+      Deliver (request_of 1 (command 0xa1 1)) ∷ Enter 1 0 Simple ∷ Enable 1 0 ∷ Deliver (request_of 1 (command 0xa2 2)) ∷ Enter 2 0 Simple ∷ Enable 2 0
+      ∷ Immediate (request_of 1 (function_now 2 3 0xb1 0 0)) ∷ Leave 1 0 ∷ Leave 2 0 ∷ Send 1 1 (Task 0xb1 0) ∷ [])
+    ∷ entry 3 6 (Ignore Stale ∷ [])
+    ∷ entry 3 6 (Immediate (request_of 1 (function_now 2 8 0xb2 0 0)) ∷ Send 1 2 (Task 0xb2 255) ∷ [])
+    ∷ entry 3 6 (Wait (request_of 1 (function_now 2 7 0xb3 0 0)) ∷ [])
+    ∷ entry 3 6 (Wait (request_of 1 (function_now 4 7 0xb4 0 0)) ∷ [])
+    ∷ entry 3 6 (Wait (request_of 1 (function_now 5 7 0xb5 0 0)) ∷ [])
+    ∷ entry 3 6 (Wait (request_of 1 (function_now 2 7 0xb6 0 0)) ∷ [])
+    ∷ entry 3 6 (Immediate (request_of 1 (function_now 2 7 0xb7 0 0)) ∷ Send 1 3 (Reject 6 (function_now 2 7 0xb7 0 0)) ∷ [])
+    ∷ []
+unfolding Rules.bars_as
+function_waits_log = refl
+
+-- the queries of level 2 change nothing; other functions are answered by their numbers
+abbrev pub queries : List Event
+queries =
+    Arrive 1 (command 0xa1 1)
+    ∷ Arrive 1 (function_now 9 2 0xb1 0xa1 1)
+    ∷ Arrive 1 (function_now 9 2 0xb2 0xa9 1)
+    ∷ Arrive 1 (function_now 10 2 0xb3 0 0)
+    ∷ Arrive 1 (function_now 8 2 0xb4 0 0)
+    ∷ Arrive 1 (function_now 3 2 0xb5 0 0)
+    ∷ Arrive 1 (management 0x42 1 2 0xb6 0xa1 1 1)
+    ∷ Arrive 1 (function_now 1 2 0xffff_ffff 0xa1 1)
+    ∷ Arrive 1 (function_now 1 2 0xb7 0xa1 1)
+    ∷ Done 1 0
+    ∷ Arrive 1 (function_now 10 2 0xb8 0 0)
+    ∷ []
+
+pub queries_log : run_of (record (setting 1 32) { level = 2 }) queries ≡
+    entry 2 0x20 (Deliver (request_of 1 (command 0xa1 1)) ∷ Enter 1 0 Simple ∷ Enable 1 0 ∷ [])
+    ∷ entry 2 0x20 (Immediate (request_of 1 (function_now 9 2 0xb1 0xa1 1)) ∷ Send 1 1 (Task 0xb1 7) ∷ [])
+    ∷ entry 2 0x20 (Immediate (request_of 1 (function_now 9 2 0xb2 0xa9 1)) ∷ Send 1 2 (Task 0xb2 0) ∷ [])
+    ∷ entry 2 0x20 (Immediate (request_of 1 (function_now 10 2 0xb3 0 0)) ∷ Send 1 3 (Task 0xb3 7) ∷ [])
+    ∷ entry 2 0x20 (Immediate (request_of 1 (function_now 8 2 0xb4 0 0)) ∷ Send 1 4 (Task 0xb4 4) ∷ [])
+    ∷ entry 2 0x20 (Immediate (request_of 1 (function_now 3 2 0xb5 0 0)) ∷ Send 1 5 (Task 0xb5 5) ∷ [])
+    ∷ entry 2 0x20 (Immediate (request_of 1 (management 0x42 1 2 0xb6 0xa1 1 1)) ∷ Send 1 6 (Task 0xb6 2) ∷ [])
+    ∷ entry 2 0x20 (Immediate (request_of 1 (function_now 1 2 0xffff_ffff 0xa1 1)) ∷ Send 1 7 (Reject 9 (function_now 1 2 0xffff_ffff 0xa1 1)) ∷ [])
+    ∷ entry 2 0x21 (Immediate (request_of 1 (function_now 1 2 0xb7 0xa1 1)) ∷ Leave 1 0 ∷ Send 1 8 (Task 0xb7 0) ∷ [])
+    ∷ entry 2 0x21 (Ignore Stale ∷ [])
+    ∷ entry 2 0x21 (Immediate (request_of 1 (function_now 10 2 0xb8 0 0)) ∷ Send 1 9 (Task 0xb8 0) ∷ [])
+    ∷ []
+unfolding Rules.bars_as
+queries_log = refl
+
+-- LOGICAL UNIT RESET takes commands of any number, greater ones too. The late answer is passed over
+abbrev pub reset : List Event
+reset =
+    Arrive 1 (command 0xa1 1)
+    ∷ Arrive 1 (head 0x41 0x81 0xa2 9)
+    ∷ Arrive 1 (function_now 5 1 0xb1 0 0)
+    ∷ Done 2 0
+    ∷ []
+
+pub reset_log : run_of (setting 1 4) reset ≡
+    entry 2 4 (Deliver (request_of 1 (command 0xa1 1)) ∷ Enter 1 0 Simple ∷ Enable 1 0 ∷ [])
+    ∷ entry 2 4 (Immediate (request_of 1 (head 0x41 0x81 0xa2 9)) ∷ Enter 2 0 Simple ∷ Enable 2 0 ∷ [])
+    ∷ entry 2 5 (Immediate (request_of 1 (function_now 5 1 0xb1 0 0)) ∷ Leave 1 0 ∷ Leave 2 0 ∷ Send 1 1 (Task 0xb1 0) ∷ [])
+    ∷ entry 2 5 (Ignore Stale ∷ [])
+    ∷ []
+unfolding Rules.bars_as
+reset_log = refl
+
+-- ABORT TASK SET, numbered: commands of another unit and of a greater number stay
+abbrev pub set_abort : List Event
+set_abort =
+    Arrive 1 (command 0xa1 1)
+    ∷ Arrive 1 (command_to 1 1 0xa2 2)
+    ∷ Arrive 1 (head 0x41 0x81 0xa3 9)
+    ∷ Arrive 1 (management 0x02 2 3 0xb1 0 0 0)
+    ∷ Done 2 0
+    ∷ Done 3 0
+    ∷ []
+
+pub set_abort_log : run_of (record (setting 1 8) { units = 2 }) set_abort ≡
+    entry 2 8 (Deliver (request_of 1 (command 0xa1 1)) ∷ Enter 1 0 Simple ∷ Enable 1 0 ∷ [])
+    ∷ entry 3 8 (Deliver (request_of 1 (command_to 1 1 0xa2 2)) ∷ Enter 2 1 Simple ∷ Enable 2 1 ∷ [])
+    ∷ entry 3 8 (Immediate (request_of 1 (head 0x41 0x81 0xa3 9)) ∷ Enter 3 0 Simple ∷ Enable 3 0 ∷ [])
+    ∷ entry 4 10 (Deliver (request_of 1 (management 0x02 2 3 0xb1 0 0 0)) ∷ Leave 1 0 ∷ Send 1 1 (Task 0xb1 0) ∷ [])
+    ∷ entry 4 11 (Leave 2 1 ∷ Send 1 2 (Scsi 0xa2 0 None) ∷ [])
+    ∷ entry 4 11 (Leave 3 0 ∷ Send 1 3 (Scsi 0xa3 0 None) ∷ [])
+    ∷ []
+unfolding Rules.bars_as
+set_abort_log = refl
+
+-- of the immediate commands of its own number a set abort takes those that arrived before it, though it executes later
+abbrev pub equal_numbers : List Event
+equal_numbers =
+    Arrive 1 (head 0x41 0x81 0xa1 2)
+    ∷ Arrive 1 (function_now 2 2 0xb1 0 0)
+    ∷ Arrive 1 (head 0x41 0x81 0xa2 2)
+    ∷ Arrive 1 (command 0xa3 1)
+    ∷ []
+
+pub equal_numbers_log : run_of (setting 1 4) equal_numbers ≡
+    entry 1 4 (Immediate (request_of 1 (head 0x41 0x81 0xa1 2)) ∷ Enter 1 0 Simple ∷ Enable 1 0 ∷ [])
+    ∷ entry 1 4 (Wait (request_of 1 (function_now 2 2 0xb1 0 0)) ∷ [])
+    ∷ entry 1 4 (Immediate (request_of 1 (head 0x41 0x81 0xa2 2)) ∷ Enter 2 0 Simple ∷ Enable 2 0 ∷ [])
+    ∷ entry 2 5 (
+      Deliver (request_of 1 (command 0xa3 1)) ∷ Enter 3 0 Simple ∷ Enable 3 0
+      ∷ Immediate (request_of 1 (function_now 2 2 0xb1 0 0)) ∷ Leave 1 0 ∷ Leave 3 0 ∷ Send 1 1 (Task 0xb1 0) ∷ [])
+    ∷ []
+unfolding Rules.bars_as
+equal_numbers_log = refl
+
+-- a tag is used again after an abort: the late answer doesn't reach the new command
+abbrev pub tag_used_again : List Event
+tag_used_again =
+    Arrive 1 (command 0xa1 1)
+    ∷ Arrive 1 (function_now 1 2 0xb1 0xa1 1)
+    ∷ Arrive 1 (command 0xa1 2)
+    ∷ Done 1 0
+    ∷ Done 2 0
+    ∷ []
+
+pub tag_used_again_log : run_of (setting 1 32) tag_used_again ≡
+    entry 2 0x20 (Deliver (request_of 1 (command 0xa1 1)) ∷ Enter 1 0 Simple ∷ Enable 1 0 ∷ [])
+    ∷ entry 2 0x21 (Immediate (request_of 1 (function_now 1 2 0xb1 0xa1 1)) ∷ Leave 1 0 ∷ Send 1 1 (Task 0xb1 0) ∷ [])
+    ∷ entry 3 0x21 (Deliver (request_of 1 (command 0xa1 2)) ∷ Enter 2 0 Simple ∷ Enable 2 0 ∷ [])
+    ∷ entry 3 0x21 (Ignore Stale ∷ [])
+    ∷ entry 3 0x22 (Leave 2 0 ∷ Send 1 2 (Scsi 0xa1 0 None) ∷ [])
+    ∷ []
+unfolding Rules.bars_as
+tag_used_again_log = refl

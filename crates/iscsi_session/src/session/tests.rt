@@ -5,6 +5,7 @@ use std::process::Abort;
 use std::test::Fail;
 
 mod commands;
+mod management;
 mod requests;
 
 /// Options within their limits, over these connections.
