@@ -1,4 +1,5 @@
-use Rattle.std.proofs.Common.{rules, ◌+◌, ◌≡◌, ◌≢◌, take, refl, sym, subst, Result, Ok, Err, MatchResult, IfErr}
+use Rattle.std.proofs.Common.{rules, ◌+◌, ◌≡◌, ◌≢◌, ◌∙◌, ◌↔◌, take, refl, ap, sym, subst, Bool, true, false, Result, Ok, Err, MatchResult, IfErr, IsErrOf}
+use Rattle.std.proofs.lemmas.Bool.{false≢true}
 use Rattle.iscsi_replay.specs.declared.fault.ReplayFault.{ReplayFault}
 use Rattle.iscsi_replay.specs.declared.fault.ReplayFault.TheVariants.{Write, NoMemory}
 use Rattle.std.proofs.lemmas.List.{take_more}
@@ -81,3 +82,11 @@ only_write (Err e) fresh failed h = λ other. absurd (other h.0)
 
 pub returns-clause-kinds : goal.returns-clause-kinds
 returns-clause-kinds g c = only_write c.put_all.result _ _ c.put_all.ensures.failed
+
+-- it is the answer Write just where the writer has failed
+just_write : {T : Type 0} (x : Result T ReplayFault) (now : Bool) → MatchResult x (λ v. now ≡ false) (λ e. (e ≡ Write) × (now ≡ true)) → IsErrOf x Write ↔ (now ≡ true)
+just_write (Ok v) now h = (λ none. absurd cc, λ said. absurd (false≢true (sym h ∙ said)))
+just_write (Err e) now h = (λ is. h.1, λ said. ap Err h.0)
+
+pub returns-clause-failed : goal.returns-clause-failed
+returns-clause-failed g c = just_write c.put_all.result _ c.put_all.ensures.failed
