@@ -10,7 +10,9 @@ use crate::effect::Effect;
 use crate::outcome::Outcome;
 use crate::session::Session;
 use crate::session::live::Live;
-use crate::session::management::{ABORT_TASK, COMPLETE, LOGICAL_UNIT_RESET, QUERY_TASK, QUERY_TASK_SET};
+use crate::session::management::{
+    ABORT_TASK, COMPLETE, LOGICAL_UNIT_RESET, QUERY_TASK, QUERY_TASK_SET,
+};
 use crate::session::tags::find_tagged;
 use iscsi_tasks::Cover;
 use iscsi_window::Place;

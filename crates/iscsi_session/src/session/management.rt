@@ -15,10 +15,10 @@ use crate::effect::Effect;
 use crate::kind::TASK_MANAGEMENT;
 use crate::outcome::Outcome;
 use crate::patience::Patience;
+use crate::session::Session;
 use crate::session::execution::{INVALID_FIELD, NO_TAG, rejection};
 use crate::session::sets::{TOO_MANY_IMMEDIATE, unit_named};
 use crate::session::waiting::{MOST, Waiting, count_on, first_at};
-use crate::session::Session;
 use iscsi_wire::{Reply, Request, distance};
 
 /// ABORT TASK (RFC 7143 section 11.5.1).
@@ -233,13 +233,7 @@ impl Session {
     }
 
     /// Does what a function to a unit comes to, and answers it.
-    fn carry_out(
-        &mut self,
-        request: &Request,
-        unit: u16,
-        outcome: Outcome,
-        out: &mut Vec<Effect>,
-    )
+    fn carry_out(&mut self, request: &Request, unit: u16, outcome: Outcome, out: &mut Vec<Effect>)
         requires unit { unit < length self.old.sets }
         requires known { known_in (connection_of request.now) self.old.conns ≡ true }
         requires held { (w : ℕ) → outcome ≡ Outcome.Empty w → is_some (held_at self.old.window (place_in self.old.window w)) ≡ true }

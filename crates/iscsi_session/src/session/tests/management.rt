@@ -130,7 +130,11 @@ fn abort_task_has_four_cases(rt: HostRuntime) -> Result<(), Fail> {
     };
     let numbers = session.step(&event, &mut out)?;
     assert_eq!(rt; numbers, Numbers { exp: 5, max: 11 });
-    let mut voided = vec![in alloc; immediate(1, void), Effect::Void { sn: 2 }, task(1, 8, 0xb5, 0)]?;
+    let mut voided = vec![in alloc;
+        immediate(1, void),
+        Effect::Void { sn: 2 },
+        task(1, 8, 0xb5, 0),
+    ]?;
     for effect in turn(1, 4, 0xa4, 2) {
         voided.push(effect)?;
     }
@@ -198,8 +202,14 @@ fn the_table_of_functions_goes_in_its_order(rt: HostRuntime) -> Result<(), Fail>
     let rejected = [reject(1, 1, 0x09, no_tag)];
     brings(&rt, alloc, &mut session, no_tag, &rejected)?;
     // functions that aren't supported, before a unit that isn't there
-    for (code, stat_sn, response) in [(8, 2, 4), (0, 3, 5), (3, 4, 5), (6, 5, 5), (7, 6, 5), (14, 7, 5)]
-    {
+    for (code, stat_sn, response) in [
+        (8, 2, 4),
+        (0, 3, 5),
+        (3, 4, 5),
+        (6, 5, 5),
+        (7, 6, 5),
+        (14, 7, 5),
+    ] {
         let header = to_unit(function(AT_ONCE, code, 1, 0xb1), 7);
         let answer = [task(1, stat_sn, 0xb1, response)];
         brings(&rt, alloc, &mut session, header, &answer)?;
