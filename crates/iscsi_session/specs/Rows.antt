@@ -315,8 +315,8 @@ pub function_waits_log : run_of (setting 1 4) function_waits ≡
     entry 1 4 (Wait (request_of 1 (function_now 2 3 0xb1 0 0)) ∷ [])
     ∷ entry 1 4 []
     ∷ entry 3 6 (
-      Deliver (request_of 1 (command 0xa1 1)) ∷ Enter 1 0 Simple ∷ Enable 1 0 ∷ Deliver (request_of 1 (command 0xa2 2)) ∷ Enter 2 0 Simple ∷ Enable 2 0
-      ∷ Immediate (request_of 1 (function_now 2 3 0xb1 0 0)) ∷ Leave 1 0 ∷ Leave 2 0 ∷ Send 1 1 (Task 0xb1 0) ∷ [])
+    Deliver (request_of 1 (command 0xa1 1)) ∷ Enter 1 0 Simple ∷ Enable 1 0 ∷ Deliver (request_of 1 (command 0xa2 2)) ∷ Enter 2 0 Simple ∷ Enable 2 0
+    ∷ Immediate (request_of 1 (function_now 2 3 0xb1 0 0)) ∷ Leave 1 0 ∷ Leave 2 0 ∷ Send 1 1 (Task 0xb1 0) ∷ [])
     ∷ entry 3 6 (Ignore Stale ∷ [])
     ∷ entry 3 6 (Immediate (request_of 1 (function_now 2 8 0xb2 0 0)) ∷ Send 1 2 (Task 0xb2 255) ∷ [])
     ∷ entry 3 6 (Wait (request_of 1 (function_now 2 7 0xb3 0 0)) ∷ [])
@@ -414,8 +414,8 @@ pub equal_numbers_log : run_of (setting 1 4) equal_numbers ≡
     ∷ entry 1 4 (Wait (request_of 1 (function_now 2 2 0xb1 0 0)) ∷ [])
     ∷ entry 1 4 (Immediate (request_of 1 (head 0x41 0x81 0xa2 2)) ∷ Enter 2 0 Simple ∷ Enable 2 0 ∷ [])
     ∷ entry 2 5 (
-      Deliver (request_of 1 (command 0xa3 1)) ∷ Enter 3 0 Simple ∷ Enable 3 0
-      ∷ Immediate (request_of 1 (function_now 2 2 0xb1 0 0)) ∷ Leave 1 0 ∷ Leave 3 0 ∷ Send 1 1 (Task 0xb1 0) ∷ [])
+    Deliver (request_of 1 (command 0xa3 1)) ∷ Enter 3 0 Simple ∷ Enable 3 0
+    ∷ Immediate (request_of 1 (function_now 2 2 0xb1 0 0)) ∷ Leave 1 0 ∷ Leave 3 0 ∷ Send 1 1 (Task 0xb1 0) ∷ [])
     ∷ []
 unfolding Rules.bars_as
 equal_numbers_log = refl

@@ -35,9 +35,14 @@ fn function(first: u8, code: u8, cmd_sn: u32, itt: u32) -> [u8; 48] {
 
 /// The header with this Referenced Task Tag and RefCmdSN.
 fn referring(header: [u8; 48], rtt: u32, ref_cmd_sn: u32) -> [u8; 48] {
+    let mut header = with_referenced_tag(header, rtt);
+    header[32..36].copy_from_slice(&ref_cmd_sn.to_be_bytes());
+    header
+}
+
+fn with_referenced_tag(header: [u8; 48], rtt: u32) -> [u8; 48] {
     let mut header = header;
     header[20..24].copy_from_slice(&rtt.to_be_bytes());
-    header[32..36].copy_from_slice(&ref_cmd_sn.to_be_bytes());
     header
 }
 
@@ -130,7 +135,11 @@ fn abort_task_has_four_cases(rt: HostRuntime) -> Result<(), Fail> {
     };
     let numbers = session.step(&event, &mut out)?;
     assert_eq!(rt; numbers, Numbers { exp: 5, max: 11 });
-    let mut voided = vec![in alloc; immediate(1, void), Effect::Void { sn: 2 }, task(1, 8, 0xb5, 0)]?;
+    let mut voided = vec![in alloc;
+        immediate(1, void),
+        Effect::Void { sn: 2 },
+        task(1, 8, 0xb5, 0),
+    ]?;
     for effect in turn(1, 4, 0xa4, 2) {
         voided.push(effect)?;
     }
@@ -198,8 +207,14 @@ fn the_table_of_functions_goes_in_its_order(rt: HostRuntime) -> Result<(), Fail>
     let rejected = [reject(1, 1, 0x09, no_tag)];
     brings(&rt, alloc, &mut session, no_tag, &rejected)?;
     // functions that aren't supported, before a unit that isn't there
-    for (code, stat_sn, response) in [(8, 2, 4), (0, 3, 5), (3, 4, 5), (6, 5, 5), (7, 6, 5), (14, 7, 5)]
-    {
+    for (code, stat_sn, response) in [
+        (8, 2, 4),
+        (0, 3, 5),
+        (3, 4, 5),
+        (6, 5, 5),
+        (7, 6, 5),
+        (14, 7, 5),
+    ] {
         let header = to_unit(function(AT_ONCE, code, 1, 0xb1), 7);
         let answer = [task(1, stat_sn, 0xb1, response)];
         brings(&rt, alloc, &mut session, header, &answer)?;
@@ -429,10 +444,10 @@ fn a_flood_of_functions_that_wait(rt: HostRuntime) -> Result<(), Fail> {
     arrive(alloc, &mut session, 0, command(3, 0xa3))?;
     assert_eq!(rt; session.effect_bound(), 12 * 2 + 2);
     for cid in 0..64u16 {
-        for more in 1..=4usize {
+        for more in 1..=4u8 {
             let effects = arrive(alloc, &mut session, cid, header)?;
             assert_eq!(rt; effects.as_slice(), [wait(cid, header)].as_slice());
-            let waiting = 4 * usize::from(cid) + more;
+            let waiting = 4 * usize::from(cid) + usize::from(more);
             assert_eq!(rt; session.effect_bound(), 12 * (waiting + 2) + 2);
         }
         let bound = session.effect_bound();
@@ -455,14 +470,14 @@ fn a_flood_of_functions_that_wait(rt: HostRuntime) -> Result<(), Fail> {
         wanted.push(effect)?;
     }
     for cid in 0..64u16 {
-        for earlier in 0..4u32 {
+        for earlier in 0..4u8 {
             wanted.push(immediate(cid, header))?;
             // the first of them takes both commands out
             if cid == 0 && earlier == 0 {
                 wanted.push(leave(1))?;
                 wanted.push(leave(2))?;
             }
-            wanted.push(task(cid, 2 + earlier, 0xb1, 0))?;
+            wanted.push(task(cid, 2 + u32::from(earlier), 0xb1, 0))?;
         }
     }
     assert_eq!(rt; out.as_slice(), wanted.as_slice());
