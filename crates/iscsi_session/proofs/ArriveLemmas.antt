@@ -89,9 +89,12 @@ held_receives o s s' index t r x said is none =
     let a : Arrival = arrival_of o index t r in
     let t₁ : Trace = (Admits a ∷ []) ∷ t in
     let h = x.taken said in
-    inr (a.number, ap (λ (items : List (List Mark)). received (after_items items t)) h.1.0
-    ∙ ap (λ (v : Core). received (after_items (agenda o (number_expected v.window) (exp_of o t₁ - number_expected v.window) t₁) t₁)) (sym is)
-    ∙ none o t₁ (subst (λ (v : Core). Agrees o v t₁) (sym is) h.0))
+    inr (
+      a.number,
+      ap (λ (items : List (List Mark)). received (after_items items t)) h.1.0
+          ∙ ap (λ (v : Core). received (after_items (agenda o (number_expected v.window) (exp_of o t₁ - number_expected v.window) t₁) t₁)) (sym is)
+          ∙ none o t₁ (subst (λ (v : Core). Agrees o v t₁) (sym is) h.0),
+    )
 
 -- ---- an arrival that isn't numbered
 
@@ -184,6 +187,7 @@ rejected_receives o t a kind = inl (ap (λ k. received (after_items (arrival_as 
 
 pub ignored_receives : (t : Trace) (items : List (List Mark)) (why : Why) → items ≡ ignored why → HasOneMore (received t) (received (after_items items t))
 ignored_receives t items why is = inl (ap (λ (is : List (List Mark)). received (after_items is t)) is ∙ append-nil (received t))
+
 -- it is numbered
 pub is_numbered_arrival : (o : Setting) (index : ℕ) (t : Trace) (r : Request) → kind_of r ≡ ExecutesKind → is_immediate r ≡ false → arrival o t (arrival_of o index t r) ≡ numbered o t (arrival_of o index t r)
 is_numbered_arrival o index t r kind numbered_is =

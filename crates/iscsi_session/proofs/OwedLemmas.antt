@@ -13,17 +13,17 @@ use Rattle.iscsi_session.specs.Functions.{ungiven, ungiven_in, owed}
 one_unit : (n u : ℕ) → cond (n == u) 1 0 + cond (nat_le (u + 1) n) 1 0 ≤ cond (nat_le u n) 1 0
 one_unit n u =
     ⊎_elim (λ below.
-        let x : (n == u) ≡ false = grind (arith, nat_tests) in
-        let y : nat_le (u + 1) n ≡ false = grind (arith, nat_tests) in
-        omega (arith, ap {B = ℕ} (λ b. cond b 1 0) x, ap {B = ℕ} (λ b. cond b 1 0) y))
+    let x : (n == u) ≡ false = grind (arith, nat_tests) in
+    let y : nat_le (u + 1) n ≡ false = grind (arith, nat_tests) in
+    omega (arith, ap {B = ℕ} (λ b. cond b 1 0) x, ap {B = ℕ} (λ b. cond b 1 0) y))
     (λ from. ⊎_elim (λ at.
-        let y : nat_le (u + 1) n ≡ false = grind (arith, nat_tests) in
-        let z : nat_le u n ≡ true = grind (arith, nat_tests) in
-        omega (arith, at_most (n == u), ap {B = ℕ} (λ b. cond b 1 0) y, ap {B = ℕ} (λ b. cond b 1 0) z))
+    let y : nat_le (u + 1) n ≡ false = grind (arith, nat_tests) in
+    let z : nat_le u n ≡ true = grind (arith, nat_tests) in
+    omega (arith, at_most (n == u), ap {B = ℕ} (λ b. cond b 1 0) y, ap {B = ℕ} (λ b. cond b 1 0) z))
     (λ above.
-        let x : (n == u) ≡ false = grind (arith, nat_tests) in
-        let z : nat_le u n ≡ true = grind (arith, nat_tests) in
-        omega (arith, ap {B = ℕ} (λ b. cond b 1 0) x, at_most (nat_le (u + 1) n), ap {B = ℕ} (λ b. cond b 1 0) z))
+    let x : (n == u) ≡ false = grind (arith, nat_tests) in
+    let z : nat_le u n ≡ true = grind (arith, nat_tests) in
+    omega (arith, ap {B = ℕ} (λ b. cond b 1 0) x, at_most (nat_le (u + 1) n), ap {B = ℕ} (λ b. cond b 1 0) z))
     (cases_lt n (u + 1)))
     (cases_lt n u)
   where
