@@ -285,6 +285,32 @@ fn a_set_abort_covers_what_came_before_it(rt: HostRuntime) -> Result<(), Fail> {
 }
 
 #[test]
+fn a_numbered_set_abort_goes_by_its_arrival(rt: HostRuntime) -> Result<(), Fail> {
+    let alloc = rt.alloc();
+    let mut session = session_at(alloc, 8, 1)?;
+    // immediate commands of its number before it and after it, and one number that turns in between
+    let header = function(IN_TURN, ABORT_TASK_SET, 3, 0xb1);
+    arrive(alloc, &mut session, 1, command_at_once(3, 0xa1))?;
+    arrive(alloc, &mut session, 1, header)?;
+    arrive(alloc, &mut session, 1, command_at_once(3, 0xa2))?;
+    arrive(alloc, &mut session, 1, command(1, 0xa3))?;
+    arrive(alloc, &mut session, 1, command_at_once(3, 0xa4))?;
+    let effects = arrive(alloc, &mut session, 1, command(2, 0xa5))?;
+    assert_eq!(rt; effects.len(), 8);
+    assert_eq!(rt; &effects[..3], turn(1, 2, 0xa5, 5).as_slice());
+    let request = Request::read(1, &header);
+    let done = [
+        Effect::Deliver { request },
+        leave(1),
+        leave(3),
+        leave(5),
+        task(1, 1, 0xb1, 0),
+    ];
+    assert_eq!(rt; &effects[3..], done.as_slice());
+    Ok(())
+}
+
+#[test]
 fn a_reset_takes_all_commands_and_leaves_held_requests(rt: HostRuntime) -> Result<(), Fail> {
     let alloc = rt.alloc();
     let mut session = session_at(alloc, 8, 1)?;
