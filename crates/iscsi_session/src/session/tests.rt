@@ -5,7 +5,6 @@ use std::process::Abort;
 use std::test::Fail;
 
 mod commands;
-mod management;
 mod requests;
 
 /// Options within their limits, over these connections.

@@ -17,7 +17,7 @@ fn header_of(first: u8, cmd_sn: u32, itt: u32) -> [u8; 48] {
 }
 
 /// The effects of the arrival of a header.
-pub(super) fn arrive(
+fn arrive(
     alloc: Global,
     session: &mut Session,
     conn: u16,
@@ -28,7 +28,7 @@ pub(super) fn arrive(
     Ok(out)
 }
 
-pub(super) fn send(conn: u16, stat_sn: u32, reply: Reply) -> Effect {
+fn send(conn: u16, stat_sn: u32, reply: Reply) -> Effect {
     Effect::Send {
         conn,
         stat_sn,
@@ -36,11 +36,11 @@ pub(super) fn send(conn: u16, stat_sn: u32, reply: Reply) -> Effect {
     }
 }
 
-pub(super) fn reject(conn: u16, stat_sn: u32, reason: u8, header: [u8; 48]) -> Effect {
+fn reject(conn: u16, stat_sn: u32, reason: u8, header: [u8; 48]) -> Effect {
     send(conn, stat_sn, Reply::Reject { reason, header })
 }
 
-pub(super) fn immediate(conn: u16, header: [u8; 48]) -> Effect {
+fn immediate(conn: u16, header: [u8; 48]) -> Effect {
     Effect::Immediate {
         request: Request::read(conn, &header),
     }
