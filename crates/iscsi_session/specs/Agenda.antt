@@ -3,14 +3,14 @@ use Rattle.std.specs.Prelude.{ℕ, ◌-◌, ◌==◌, ◌&&◌, ◌||◌, nat_lt
 use Rattle.std.specs.List.{flat_map, range_with_len}
 use Rattle.iscsi_wire.specs.declared.request.Request.{Request}
 use Rattle.iscsi_wire.specs.Serial.{lift}
-use Rattle.iscsi_wire.specs.Fields.{request_of, is_immediate, opcode, cmd_sn}
-use Rattle.iscsi_session.specs.declared.effect.Why.TheVariants.{Outside, Duplicate, Data}
+use Rattle.iscsi_wire.specs.Fields.{request_of, connection_of, is_immediate, opcode, cmd_sn}
+use Rattle.iscsi_session.specs.declared.effect.Why.TheVariants.{Outside, Duplicate, Closed, Data}
 use Rattle.iscsi_session.specs.declared.event.Event.{Event}
 use Rattle.iscsi_session.specs.declared.kind.Kind.{Kind}
 use Rattle.iscsi_session.specs.declared.kind.Kind.TheVariants.{PassedOver, Unknown, Executes as ExecutesKind}
 use Rattle.iscsi_session.specs.declared.event.Event.TheVariants.{Arrive, Done}
 use Rattle.iscsi_session.specs.Settings.{Setting}
-use Rattle.iscsi_session.specs.Trace.{Arrival, Command, Mark, Admits, Trace, after_items, first_of, is_received, held, live, was_free}
+use Rattle.iscsi_session.specs.Trace.{Arrival, Command, Mark, Admits, Trace, after_items, first_of, is_received, held, live, was_free, is_closed}
 use Rattle.iscsi_session.specs.Execution.{exp_of, max_of, rejected, ignored, completion}
 use Rattle.iscsi_session.specs.Items.{immediate_item, agenda}
 
@@ -25,11 +25,11 @@ numbered o t a =
     else (if is_received t a.number then ignored Duplicate
     else with_turns o t (Admits a ∷ []))
 
--- what becomes of a request by its opcode. So far Logout Requests are passed over, as Data-Out and SNACK are
+-- what becomes of a request by its opcode: Data-Out and SNACK are passed over
 abbrev pub kind_of : Request → Kind
 kind_of r =
-    if opcode r == 0x05 || opcode r == 0x10 || opcode r == 0x06 then PassedOver
-    else (if opcode r == 0x00 || opcode r == 0x01 || opcode r == 0x02 || opcode r == 0x04 then ExecutesKind
+    if opcode r == 0x05 || opcode r == 0x10 then PassedOver
+    else (if opcode r == 0x00 || opcode r == 0x01 || opcode r == 0x02 || opcode r == 0x04 || opcode r == 0x06 then ExecutesKind
     else Unknown)
 
 abbrev pub arrival_as : Setting → Trace → Arrival → Kind → List (List Mark)
@@ -37,9 +37,13 @@ arrival_as o t a PassedOver = ignored Data
 arrival_as o t a Unknown = rejected a ∷ []
 arrival_as o t a ExecutesKind = if is_immediate a.request then with_turns o t (immediate_item o t a) else numbered o t a
 
+-- the items of an arrival on a connection that isn't closed
+abbrev pub arrival_open : Setting → Trace → Arrival → List (List Mark)
+arrival_open o t a = arrival_as o t a (kind_of a.request)
+
 -- the items of an arrival
 abbrev pub arrival : Setting → Trace → Arrival → List (List Mark)
-arrival o t a = arrival_as o t a (kind_of a.request)
+arrival o t a = if is_closed (connection_of a.request) t then ignored Closed else arrival_open o t a
 
 -- the arrival of a request in the event-th event
 abbrev pub arrival_of : Setting → ℕ → Trace → Request → Arrival

@@ -7,10 +7,14 @@ use Rattle.iscsi_session.specs.Settings.{Setting}
 use Rattle.iscsi_session.specs.Trace.{Arrival, Mark, Delivers, Executes, Waits, Trace, after_items, waiting, held}
 use Rattle.iscsi_session.specs.Execution.{exp_of, max_of, marks_of, verdict_of, reply_on}
 use Rattle.iscsi_session.specs.Management.{may_wait, refusal_of_function, MOST_WAITING, waiting_on, function_marks, management_marks}
+use Rattle.iscsi_session.specs.Logout.{logout_marks}
 
 -- what a request does that executes
 abbrev pub marks_after : Setting → Trace → Arrival → List Mark
-marks_after o t a = if opcode a.request == 0x02 then management_marks o t a else marks_of t a (verdict_of o t a.request)
+marks_after o t a =
+    if opcode a.request == 0x02 then management_marks o t a
+    else (if opcode a.request == 0x06 then logout_marks o t a
+    else marks_of t a (verdict_of o t a.request))
 
 -- the item of a request that executes, which begins with this mark
 abbrev pub execution : Setting → Trace → Mark → Arrival → List Mark
@@ -63,7 +67,8 @@ turn_at o n t = elim (held t n) [ Some a ↦ item_of o t a ∷ [] | None ↦ [] 
 abbrev pub at_number : Setting → ℕ → Trace → List (List Mark)
 at_number o n t = let before = functions_at o n t in before ++ turn_at o n (after_items before t)
 
--- what becomes due as ExpCmdSN goes on from n by so many numbers, and what waits for the number that it has then
+-- what becomes due as ExpCmdSN goes on from n by so many numbers, and what waits for the number that it has then. After an item
+-- that closes the session nothing is held and nothing waits, so it is the last
 abbrev pub agenda : Setting → ℕ → ℕ → Trace → List (List Mark)
 agenda o n zero t = functions_at o n t
 agenda o n (suc more) t = let now = at_number o n t in now ++ agenda o (n + 1) more (after_items now t)

@@ -2,6 +2,7 @@ pub mod Settings
 pub mod Trace
 pub mod Execution
 pub mod Management
+pub mod Logout
 pub mod Items
 pub mod Agenda
 pub mod Run
@@ -9,10 +10,12 @@ pub mod Executed
 pub mod Flow
 pub mod Enabling
 pub mod Aborts
+pub mod Closes
 pub mod Refusals
 pub mod Lines
 pub mod Standing
 pub mod Steps
 pub mod Functions
+pub mod Parting
 pub mod Turning
 pub mod Rows

@@ -3,12 +3,12 @@ use Rattle.std.specs.Prelude.{ℕ, ◌+◌, ◌==◌, not, List, [], ◌∷◌, 
 use Rattle.std.specs.List.{flat_map, range_with_len}
 use Rattle.iscsi_wire.specs.Serial.{wire}
 use Rattle.iscsi_session.specs.declared.effect.Effect.{Effect}
-use Rattle.iscsi_session.specs.declared.effect.Effect.TheVariants.{Deliver, Immediate, Wait, Void, Empty, Enter, Enable, Leave, Send, Ignore}
+use Rattle.iscsi_session.specs.declared.effect.Effect.TheVariants.{Deliver, Immediate, Wait, Void, Empty, Enter, Enable, Leave, Send, CloseConn, CloseSession, Ignore}
 use Rattle.iscsi_session.specs.declared.effect.Numbers.{Numbers}
 use Rattle.iscsi_session.specs.declared.event.Event.{Event}
 use Rattle.iscsi_session.specs.declared.log.Entry.{Entry}
 use Rattle.iscsi_session.specs.Settings.{Setting}
-use Rattle.iscsi_session.specs.Trace.{Command, Mark, Admits, Delivers, Executes, Voids, Empties, Waits, Leaves, Enters, Sends, Ignores, Trace, after_items, shown, first_of, was_free, enabled_in, sent_on}
+use Rattle.iscsi_session.specs.Trace.{Command, Mark, Admits, Delivers, Executes, Voids, Empties, Waits, Leaves, Enters, Sends, ClosesConn, ClosesSession, Ignores, Trace, after_items, shown, first_of, was_free, enabled_in, sent_on}
 use Rattle.iscsi_session.specs.Execution.{exp_of, max_of}
 use Rattle.iscsi_session.specs.Agenda.{items_of}
 
@@ -44,6 +44,8 @@ effects_of_mark o t (Empties a) = Empty (wire a.number) ∷ []
 effects_of_mark o t (Leaves c) = Leave c.ticket c.unit ∷ []
 effects_of_mark o t (Enters c) = Enter c.ticket c.unit c.attr ∷ []
 effects_of_mark o t (Sends conn reply) = Send conn (stat_sn_of o t conn) reply ∷ []
+effects_of_mark o t (ClosesConn conn) = CloseConn conn ∷ []
+effects_of_mark o t ClosesSession = CloseSession ∷ []
 effects_of_mark o t (Ignores why) = Ignore why ∷ []
 
 -- the commands that are enabled after an item and weren't before: units ascending, oldest first

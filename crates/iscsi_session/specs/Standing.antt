@@ -15,6 +15,7 @@ use Rattle.iscsi_session.specs.Settings.{Setting, is_known}
 use Rattle.iscsi_session.specs.Trace.{Arrival, Command, Trace, has, shown, waiting, held, admitted, is_received, is_delivered, is_emptied, entered, live, live_in, was_free, is_among, leaves_ticket}
 use Rattle.iscsi_session.specs.Execution.{exp_of, unfinished}
 use Rattle.iscsi_session.specs.Management.{may_wait}
+use Rattle.iscsi_session.specs.Logout.{is_open}
 use Rattle.iscsi_session.specs.Run.{trace_of, stat_sn_of}
 use Rattle.iscsi_session.specs.Executed.{executed_below, delivers}
 use Rattle.iscsi_session.specs.Enabling.{EnabledSoFar}
@@ -31,6 +32,7 @@ pub record Core : Type 0 where
   pub level : ℕ
   pub arrived : List ℕ  -- the events in which the requests arrived that are held, for each place of the window
   pub waiting : List Waiting  -- the functions that wait, in order of arrival
+  pub open_conns : List ℕ  -- the connections that aren't closed
 
 -- what a window keeps of a number
 abbrev pub place_of : Trace → ℕ → Option (Option Request)
@@ -122,7 +124,8 @@ pub record WindowAgrees (o : Setting) (w : Received) (t : Trace) : Type 0 where
   pub below : (n : ℕ) → number_of_first o.first ≤ n → n < number_expected w → is_received t n ≡ true
   pub inside : (k : ℕ) → k < length w.places → slice_index_or w.places k None ≡ place_of t (number_expected w + k)
   pub above : (n : ℕ) → number_expected w + length w.places ≤ n → is_received t n ≡ false
-  -- those before the next had their turn
+  -- those before the next had their turn, and nothing is held there
+  pub past : (n : ℕ) → n < number_expected w → held t n ≡ None
   pub undelivered : (n : ℕ) → number_expected w ≤ n → is_delivered t n ≡ false
   -- what was taken out was received
   pub unemptied : (n : ℕ) → is_received t n ≡ false → is_emptied t n ≡ false
@@ -154,6 +157,10 @@ pub record RepliesAgree (o : Setting) (conns : List (ℕ × ℕ)) (t : Trace) : 
   pub cids : map (λ (c : ℕ × ℕ). c.0) conns ≡ map (λ (c : ℕ × ℕ). c.0) o.conns
   pub stat_sns : (cid : ℕ) → is_known cid o.conns ≡ true → stat_sn_on cid conns ≡ stat_sn_of o t cid
 
+-- the connections that aren't closed
+abbrev pub open_of : Setting → Trace → List ℕ
+open_of o t = filter (is_open o t) (map (λ (c : ℕ × ℕ). c.0) o.conns)
+
 -- its live commands, and how many ever entered
 pub record CommandsAgree (o : Setting) (lives : List Live) (count : ℕ) (t : Trace) : Type 0 where
   pub commands : lives ≡ map kept (live t)
@@ -181,6 +188,7 @@ pub record Agrees (o : Setting) (s : Core) (t : Trace) : Type 0 where
   pub level : s.level ≡ o.level
   pub arrived : ArrivalsAgree s.window s.arrived t
   pub waiting : WaitingAgrees o s.waiting t
+  pub open_conns : s.open_conns ≡ open_of o t
 
 -- and nothing is due
 pub record Settled (o : Setting) (s : Core) (t : Trace) : Type 0 where

@@ -1,10 +1,11 @@
 -- What has happened in a session, and what follows from it. A number of the session stands 2 ^ 32 above its
 -- first wire form, so that no number near one of the session is below 0.
-use Rattle.std.specs.Prelude.{ℕ, zero, suc, ◌+◌, ◌==◌, ◌&&◌, ◌||◌, not, Bool, false, List, [], ◌∷◌, ◌++◌, length, map, Option, Some, None, if◌then◌else◌, filter, filter_map}
+use Rattle.std.specs.Prelude.{ℕ, zero, suc, ◌+◌, ◌==◌, ◌&&◌, ◌||◌, not, Bool, true, false, List, [], ◌∷◌, ◌++◌, length, map, Option, Some, None, if◌then◌else◌, filter, filter_map}
 use Rattle.std.specs.List.{list_any}
 use Rattle.iscsi_wire.specs.declared.request.Request.{Request}
 use Rattle.iscsi_wire.specs.declared.reply.Reply.{Reply}
 use Rattle.iscsi_wire.specs.Serial.{number_of_first}
+use Rattle.iscsi_wire.specs.Fields.{connection_of}
 use Rattle.iscsi_tasks.specs.declared.task.Attr.{Attr}
 use Rattle.iscsi_tasks.specs.Rules.{Queued, is_free}
 use Rattle.iscsi_session.specs.declared.effect.Why.{Why}
@@ -33,6 +34,8 @@ pub data Mark : Type 0 where
   Leaves : Command → Mark
   Enters : Command → Mark
   Sends : ℕ → Reply → Mark  -- a reply goes out on a connection
+  ClosesConn : ℕ → Mark  -- a connection is closed
+  ClosesSession : Mark
   Ignores : Why → Mark
 
 -- the items of a history, the newest first; the marks of an item stand in order. The end of an item is a moment
@@ -114,10 +117,12 @@ held t n = if is_delivered t n || is_emptied t n then None else admitted t n
 -- ---- functions that wait
 
 -- the functions that wait, after a mark more: one that waits stands behind the others, one that executes waits no more. An
--- event has one arrival
+-- event has one arrival. Those of a connection that is closed are dropped
 abbrev pub waiting_by : Mark → List Arrival → List Arrival
 waiting_by (Waits a) ws = ws ++ a ∷ []
 waiting_by (Executes a) ws = filter (λ b. not (b.event == a.event)) ws
+waiting_by (ClosesConn conn) ws = filter (λ b. not (connection_of b.request == conn)) ws
+waiting_by ClosesSession ws = []
 waiting_by _ ws = ws
 
 abbrev pub waiting_through : List Mark → List Arrival → List Arrival
@@ -178,3 +183,21 @@ enabled_in unit t = filter (λ c. was_free c t) (live_in unit t)
 abbrev pub sent_on : Mark → Option ℕ
 sent_on (Sends conn reply) = Some conn
 sent_on _ = None
+
+-- ---- what is closed
+
+abbrev pub closes_conn : ℕ → Mark → Bool
+closes_conn conn (ClosesConn c) = c == conn
+closes_conn conn _ = false
+
+abbrev pub closes_session : Mark → Bool
+closes_session ClosesSession = true
+closes_session _ = false
+
+-- the session is closed
+abbrev pub is_ended : Trace → Bool
+is_ended t = has closes_session t
+
+-- the connection is closed, alone or with the session
+abbrev pub is_closed : ℕ → Trace → Bool
+is_closed conn t = is_ended t || has (closes_conn conn) t

@@ -16,6 +16,7 @@ use Rattle.iscsi_session.specs.Management.{may_wait, refusal_to, MOST_WAITING}
 use Rattle.iscsi_session.specs.Standing.{Core}
 use Rattle.iscsi_session.specs.Steps.{with_reply, reply_effects, verdict_by, number_by, executed_as, execution_effects}
 use Rattle.iscsi_session.specs.Functions.{outcome_by, performed_as, performance_effects}
+use Rattle.iscsi_session.specs.Parting.{closing_by, closed_as, closed_effects}
 
 -- ---- a function
 
@@ -40,10 +41,16 @@ position_by s r = pos (number_by s r) -ℤ pos (number_of_first s.window.first)
 
 -- a request that arrived in this event executes
 abbrev pub with_executed : Core → Request → ℕ → Core
-with_executed s r event = if opcode r == 0x02 then managed s r (position_by s r) event else executed_as s r (verdict_by s r)
+with_executed s r event =
+    if opcode r == 0x02 then managed s r (position_by s r) event
+    else (if opcode r == 0x06 then closed_as s r (closing_by s r)
+    else executed_as s r (verdict_by s r))
 
 abbrev pub executed_effects : Core → Request → ℕ → List Effect
-executed_effects s r event = if opcode r == 0x02 then managed_effects s r (position_by s r) event else execution_effects s r (verdict_by s r)
+executed_effects s r event =
+    if opcode r == 0x02 then managed_effects s r (position_by s r) event
+    else (if opcode r == 0x06 then closed_effects s r (closing_by s r)
+    else execution_effects s r (verdict_by s r))
 
 -- ---- a turn
 

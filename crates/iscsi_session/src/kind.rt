@@ -29,17 +29,18 @@ pub(crate) const TEXT: u8 = 0x04;
 
 const DATA_OUT: u8 = 0x05;
 
-const LOGOUT: u8 = 0x06;
+/// Logout Request.
+pub(crate) const LOGOUT: u8 = 0x06;
 
 const SNACK: u8 = 0x10;
 
-/// What becomes of a request. So far Logout Requests are passed over.
+/// What becomes of a request.
 pub(crate) fn kind_of(request: &Request) -> Kind
     ensures { result ≡ kind_named request.now }
 {
     match request.opcode() {
-        DATA_OUT | SNACK | LOGOUT => Kind::PassedOver,
-        NOP_OUT | SCSI_COMMAND | TASK_MANAGEMENT | TEXT => Kind::Executes,
+        DATA_OUT | SNACK => Kind::PassedOver,
+        NOP_OUT | SCSI_COMMAND | TASK_MANAGEMENT | TEXT | LOGOUT => Kind::Executes,
         _ => Kind::Unknown,
     }
 }

@@ -2,6 +2,7 @@
 //! An event goes in, and its effects come out, in order.
 #![tactic(auto)]
 
+mod closing;
 mod effect;
 mod event;
 mod fault;

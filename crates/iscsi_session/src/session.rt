@@ -1,8 +1,8 @@
 //! The session, and its step.
 
-ghost use Rattle.std.specs.Prelude.{Err, ◌*◌, ◌≡◌, ◌≢◌, ℕ, ◌+◌, ◌≤◌, ◌<◌, true, List, [], ◌∷◌, ◌++◌, OnOk, OnErr, IfOk, length, nat_lt, count_by, is_some, vec_len, vec_capacity};
+ghost use Rattle.std.specs.Prelude.{IfSome, Err, ◌*◌, ◌≡◌, ◌≢◌, ℕ, ◌+◌, ◌≤◌, ◌<◌, true, List, [], ◌∷◌, ◌++◌, OnOk, OnErr, IfOk, length, nat_lt, count_by, is_some, vec_len, vec_capacity};
 ghost use Rattle.std.specs.List.{list_all};
-ghost use Rattle.iscsi_session.specs.Settings.{Setting, setting_of};
+ghost use Rattle.iscsi_session.specs.Settings.{Setting, setting_of, is_valid};
 ghost use Rattle.iscsi_session.specs.Trace.{Trace, after_items, received};
 ghost use Rattle.std.specs.VecDeque.{deque_capacity};
 ghost use Rattle.iscsi_session.specs.Agenda.{arrival, items_of};
@@ -34,6 +34,7 @@ mod function;
 mod immediate;
 mod leaving;
 mod live;
+mod logout;
 mod management;
 mod sets;
 mod tags;
@@ -60,6 +61,7 @@ pub struct Session {
     level: u32,
     arrived: VecDeque<u64>,
     waiting: Vec<Waiting>,
+    open_conns: Vec<u16>,
 }
 
 impl Model for Session {
@@ -75,14 +77,14 @@ impl Model for Session {
 
     ghost Value = { Core };
 
-    ghost view = { λ s. record { window = s.window; events = s.events; conns = s.conns.items; entered = s.entered; taken = s.taken; live = s.live.items; sets = s.sets.items; level = s.level; arrived = s.arrived.items; waiting = s.waiting.items } };
+    ghost view = { λ s. record { window = s.window; events = s.events; conns = s.conns.items; entered = s.entered; taken = s.taken; live = s.live.items; sets = s.sets.items; level = s.level; arrived = s.arrived.items; waiting = s.waiting.items; open_conns = s.open_conns.items } };
 
     // Room for as many commands as the window has places and the connections immediate ones, the held requests counted,
     // nothing counted more often than there were events, each request and command on a connection of the session, the
     // requests that are held numbered, the live commands in the task sets, their tags in the index, and the immediate
     // ones counted. The events of arrival stand beside the places; the functions that wait arrived before, may wait,
     // and are few, with room for them.
-    ghost invariant = { λ s. (count_by is_numbered s.live.items ≤ s.window.unfinished) × (s.window.unfinished ≤ length s.window.places) × (length s.window.places ≤ 1024) × (length s.window.places + 8 * length s.conns.items ≤ deque_capacity s.live) × (s.held ≡ count_by is_held s.window.places) × (s.window.turned + count_by is_some s.window.places ≤ s.taken) × (s.entered + count_by is_some s.window.places ≤ s.taken) × (s.taken ≤ s.events) × (s.events ≤ 2 ^ 48) × (are_known s.live.items s.conns.items ≡ true) × (list_all (is_place_known s.conns.items) s.window.places ≡ true) × (Match s.sets.items s.live.items) × (are_ascending s.live.items ≡ true) × (are_within s.entered (length s.sets.items) s.live.items ≡ true) × AreIndexed s.tags s.live.items × (length s.window.places + 8 * length s.conns.items ≤ tag_room s.tags) × AreCounted s.immediate.items s.conns.items s.live.items × (length s.conns.items ≤ 64) × (length s.arrived.items ≡ length s.window.places) × (length s.window.places ≤ deque_capacity s.arrived) × (list_all (λ w. nat_lt w.event s.taken) s.waiting.items ≡ true) × (list_all (λ w. is_known (connection_of w.request) s.conns.items) s.waiting.items ≡ true) × (list_all (λ w. may_wait w.request) s.waiting.items ≡ true) × ((cid : ℕ) → waiting_in s.waiting.items cid ≤ 4) × (4 * length s.conns.items ≤ vec_capacity s.waiting) };
+    ghost invariant = { λ s. (count_by is_numbered s.live.items ≤ s.window.unfinished) × (s.window.unfinished ≤ length s.window.places) × (length s.window.places ≤ 1024) × (length s.window.places + 8 * length s.conns.items ≤ deque_capacity s.live) × (s.held ≡ count_by is_held s.window.places) × (s.window.turned + count_by is_some s.window.places ≤ s.taken) × (s.entered + count_by is_some s.window.places ≤ s.taken) × (s.taken ≤ s.events) × (s.events ≤ 2 ^ 48) × (are_known s.live.items s.conns.items ≡ true) × (list_all (is_place_known s.conns.items) s.window.places ≡ true) × (Match s.sets.items s.live.items) × (are_ascending s.live.items ≡ true) × (are_within s.entered (length s.sets.items) s.live.items ≡ true) × AreIndexed s.tags s.live.items × (length s.window.places + 8 * length s.conns.items ≤ tag_room s.tags) × AreCounted s.immediate.items s.conns.items s.live.items × (length s.conns.items ≤ 64) × (length s.arrived.items ≡ length s.window.places) × (length s.window.places ≤ deque_capacity s.arrived) × (list_all (λ w. nat_lt w.event s.taken) s.waiting.items ≡ true) × (list_all (λ w. is_known (connection_of w.request) s.conns.items) s.waiting.items ≡ true) × (list_all (λ w. may_wait w.request) s.waiting.items ≡ true) × ((cid : ℕ) → waiting_in s.waiting.items cid ≤ 4) × (4 * length s.conns.items ≤ vec_capacity s.waiting) × (length s.sets.items ≤ 256) };
 }
 
 impl Session {
@@ -96,46 +98,7 @@ impl Session {
         if !options.is_valid() {
             return Err(SessionFault::BadOptions);
         }
-        let Options {
-            first,
-            window: size,
-            units,
-            depth,
-            level,
-            events,
-            conns,
-        } = options;
-        let most_live = size as usize + usize::from(immediate::MOST) * conns.len();
-        let (Ok(window), Ok(live), Some(tags), Some(immediate), Some(sets)) = (
-            Window::open(alloc, first, size),
-            VecDeque::with_capacity(alloc, most_live),
-            tags::open(alloc, most_live),
-            immediate::open(alloc, conns.len()),
-            sets::open(alloc, units, depth),
-        ) else {
-            return Err(SessionFault::NoMemory);
-        };
-        let (Some(arrived), Ok(waiting)) = (
-            arrival::open(alloc, size),
-            Vec::with_capacity(alloc, waiting::MOST * conns.len()),
-        ) else {
-            return Err(SessionFault::NoMemory);
-        };
-        Ok(Session {
-            window,
-            held: 0,
-            events,
-            conns,
-            entered: 0,
-            taken: 0,
-            live,
-            tags,
-            immediate,
-            sets,
-            level,
-            arrived,
-            waiting,
-        })
+        make(alloc, options).ok_or(SessionFault::NoMemory)
     }
 
     /// ExpCmdSN and MaxCmdSN.
@@ -226,4 +189,37 @@ impl Session {
             Some(SessionFault::Exhausted)
         }
     }
+}
+
+/// A session by valid options. None where memory is refused.
+fn make(alloc: Global, options: Options) -> Option<Session>
+    requires { is_valid (setting_of options) ≡ true }
+    ensures { IfSome result (λ s. StandsFor (setting_of options) s []) }
+{
+    let Options {
+        first,
+        window: size,
+        units,
+        depth,
+        level,
+        events,
+        conns,
+    } = options;
+    let most_live = size as usize + usize::from(immediate::MOST) * conns.len();
+    Some(Session {
+        window: Window::open(alloc, first, size).ok()?,
+        held: 0,
+        events,
+        entered: 0,
+        taken: 0,
+        live: VecDeque::with_capacity(alloc, most_live).ok()?,
+        tags: tags::open(alloc, most_live)?,
+        immediate: immediate::open(alloc, conns.len())?,
+        sets: sets::open(alloc, units, depth)?,
+        level,
+        arrived: arrival::open(alloc, size)?,
+        waiting: Vec::with_capacity(alloc, waiting::MOST * conns.len()).ok()?,
+        open_conns: logout::open(alloc, &conns)?,
+        conns,
+    })
 }

@@ -9,7 +9,7 @@ ghost use Rattle.iscsi_session.specs.Settings.{Setting, is_known as known_in};
 ghost use Rattle.iscsi_session.specs.Trace.{Trace, after_items, received};
 ghost use Rattle.iscsi_session.specs.Flow.{HasOneMore};
 ghost use Rattle.iscsi_session.specs.Execution.{exp_of};
-ghost use Rattle.iscsi_session.specs.Agenda.{arrival, arrival_of, numbered};
+ghost use Rattle.iscsi_session.specs.Agenda.{arrival, arrival_open, arrival_of, numbered};
 ghost use Rattle.iscsi_session.specs.Items.{agenda, functions_at};
 ghost use Rattle.iscsi_session.specs.Run.{effects_of};
 ghost use Rattle.iscsi_session.specs.Standing.{Agrees, Settled, is_held};
@@ -26,7 +26,7 @@ use std::alloc::Global;
 use std::collections::VecDeque;
 
 impl Session {
-    /// Takes a request that arrived.
+    /// Takes a request that arrived. Nothing is taken on a connection that is closed.
     pub(crate) fn arrive(&mut self, request: Request, out: &mut Vec<Effect>)
         requires known { known_in (connection_of request) self.old.conns ≡ true }
         requires counted { self.old.window.turned + count_by is_some self.old.window.places < self.old.taken }
@@ -36,6 +36,27 @@ impl Session {
         ensures settled { (o : Setting) (index : ℕ) (t : Trace) → self.old.taken ≡ index + 1 → Settled o self.old t → Settled o self.new (after_items (arrival o t (arrival_of o index t request)) t) }
         ensures effects { (o : Setting) (index : ℕ) (t : Trace) → self.old.taken ≡ index + 1 → Settled o self.old t → out.new.items ≡ out.old.items ++ effects_of o t (arrival o t (arrival_of o index t request)) }
         ensures received { (o : Setting) (index : ℕ) (t : Trace) → self.old.taken ≡ index + 1 → Settled o self.old t → HasOneMore (received t) (received (after_items (arrival o t (arrival_of o index t request)) t)) }
+        ensures taken { self.new.taken ≡ self.old.taken }
+        ensures pace { KeepsPace self.old.window self.new.window }
+        ensures spent { vec_len out.new ≤ vec_len out.old + owed self.old.live self.old.sets + 6 * (count_by is_held self.old.window.places + length self.old.waiting + 1) + 1 }
+    {
+        if self.is_open(request.conn()) {
+            self.take(request, out);
+        } else {
+            out.push_reserved(Effect::Ignore { why: Why::Closed });
+        }
+    }
+
+    /// Takes a request that arrived on an open connection.
+    fn take(&mut self, request: Request, out: &mut Vec<Effect>)
+        requires known { known_in (connection_of request) self.old.conns ≡ true }
+        requires counted { self.old.window.turned + count_by is_some self.old.window.places < self.old.taken }
+        requires entered { self.old.entered + count_by is_some self.old.window.places < self.old.taken }
+        requires waited { list_all (λ w. nat_lt (w.event + 1) self.old.taken) self.old.waiting ≡ true }
+        requires room { vec_len out.old + owed self.old.live self.old.sets + 6 * (count_by is_held self.old.window.places + length self.old.waiting + 1) + 1 ≤ vec_capacity out.old }
+        ensures settled { (o : Setting) (index : ℕ) (t : Trace) → self.old.taken ≡ index + 1 → Settled o self.old t → Settled o self.new (after_items (arrival_open o t (arrival_of o index t request)) t) }
+        ensures effects { (o : Setting) (index : ℕ) (t : Trace) → self.old.taken ≡ index + 1 → Settled o self.old t → out.new.items ≡ out.old.items ++ effects_of o t (arrival_open o t (arrival_of o index t request)) }
+        ensures received { (o : Setting) (index : ℕ) (t : Trace) → self.old.taken ≡ index + 1 → Settled o self.old t → HasOneMore (received t) (received (after_items (arrival_open o t (arrival_of o index t request)) t)) }
         ensures taken { self.new.taken ≡ self.old.taken }
         ensures pace { KeepsPace self.old.window self.new.window }
         ensures spent { vec_len out.new ≤ vec_len out.old + owed self.old.live self.old.sets + 6 * (count_by is_held self.old.window.places + length self.old.waiting + 1) + 1 }
@@ -138,7 +159,7 @@ impl Session {
         ensures spent { vec_len out.new + owed self.new.live self.new.sets + 6 * count_by is_held self.new.window.places ≤ vec_len out.old + owed self.old.live self.old.sets + 6 * count_by is_held self.old.window.places }
         ensures capacity { vec_capacity out.new ≡ vec_capacity out.old }
         ensures fewer { result ≡ true → count_by is_some self.new.window.places + 1 ≡ count_by is_some self.old.window.places }
-        ensures waiting { self.new.waiting ≡ self.old.waiting }
+        ensures waiting { length self.new.waiting ≤ length self.old.waiting }
     {
         let Some(turned) = self.window.advance() else {
             return false;

@@ -1,18 +1,18 @@
 //! The execution of a request, by the first case of its table that fits.
 
-ghost use Rattle.std.specs.Prelude.{◌-◌, ℕ, pos, ◌-ℤ◌, false, ◌≡◌, ◌==◌, ◌&&◌, position, ◌+◌, ◌≤◌, ◌<◌, true, ◌∷◌, ◌++◌, length, count_by, is_some, if◌then◌else◌, vec_len, vec_capacity};
+ghost use Rattle.std.specs.Prelude.{◌-◌, ◌*◌, ℕ, pos, ◌-ℤ◌, false, ◌≡◌, ◌==◌, ◌&&◌, position, ◌+◌, ◌≤◌, ◌<◌, true, ◌∷◌, ◌++◌, length, count_by, is_some, if◌then◌else◌, vec_len, vec_capacity};
 ghost use Rattle.iscsi_wire.specs.Serial.{number_of_first};
 ghost use Rattle.iscsi_wire.specs.Fields.{connection_of, header_of, is_immediate, itt as tag_of};
 ghost use Rattle.iscsi_window.specs.Windows.{HasRoom};
 ghost use Rattle.iscsi_session.specs.Settings.{is_known as known_in};
 ghost use Rattle.iscsi_session.specs.Execution.{MOST_IMMEDIATE, reject as reject_of, attr_of as attr_named, scsi_verdict, nop_verdict};
-ghost use Rattle.iscsi_session.specs.Standing.{stat_sn_on};
+ghost use Rattle.iscsi_session.specs.Standing.{stat_sn_on, is_held};
 ghost use Rattle.iscsi_session.specs.Steps.{set_at, is_set_full, is_tag_kept, is_crowded_by, immediate_in, counted_on, place_in, verdict_by, number_by, event_by, started, with_command, entry_effects, with_reply, reply_effects, executed_as, execution_effects, count_reply};
 ghost use Rattle.iscsi_session.specs.Functions.{owed};
 ghost use Rattle.iscsi_session.specs.Turning.{with_executed, executed_effects};
 
 use crate::effect::Effect;
-use crate::kind::{NOP_OUT, TASK_MANAGEMENT, TEXT};
+use crate::kind::{LOGOUT, NOP_OUT, TASK_MANAGEMENT, TEXT};
 use crate::session::live::Live;
 use crate::session::tags::{is_tag_live, take_up};
 use crate::session::{Session, immediate, sets};
@@ -43,10 +43,11 @@ impl Session {
         requires numbered { is_immediate request ≡ false }
         requires counted { self.old.entered + count_by is_some self.old.window.places < self.old.taken }
         requires known { known_in (connection_of request) self.old.conns ≡ true }
-        requires room { vec_len out.old + owed self.old.live self.old.sets + 6 ≤ vec_capacity out.old }
+        requires room { vec_len out.old + owed self.old.live self.old.sets + 6 * count_by is_held self.old.window.places + 6 ≤ vec_capacity out.old }
         ensures session { self.new ≡ with_executed self.old request event }
         ensures effects { out.new.items ≡ out.old.items ++ Effect.Deliver request ∷ executed_effects self.old request event }
-        ensures spent { vec_len out.new + owed self.new.live self.new.sets ≤ vec_len out.old + owed self.old.live self.old.sets + 6 }
+        ensures spent { vec_len out.new + owed self.new.live self.new.sets + 6 * count_by is_held self.new.window.places ≤ vec_len out.old + owed self.old.live self.old.sets + 6 * count_by is_held self.old.window.places + 6 }
+        ensures waiting { length self.new.waiting ≤ length self.old.waiting }
         ensures capacity { vec_capacity out.new ≡ vec_capacity out.old }
     {
         out.push_reserved(Effect::Deliver { request });
@@ -59,10 +60,11 @@ impl Session {
         requires turned { self.old.window.turned + count_by is_some self.old.window.places < self.old.taken }
         requires counted { self.old.entered + count_by is_some self.old.window.places < self.old.taken }
         requires known { known_in (connection_of request) self.old.conns ≡ true }
-        requires room { vec_len out.old + owed self.old.live self.old.sets + 6 ≤ vec_capacity out.old }
+        requires room { vec_len out.old + owed self.old.live self.old.sets + 6 * count_by is_held self.old.window.places + 6 ≤ vec_capacity out.old }
         ensures session { self.new ≡ with_executed self.old request (self.old.taken - 1) }
         ensures effects { out.new.items ≡ out.old.items ++ Effect.Immediate request ∷ executed_effects self.old request (self.old.taken - 1) }
-        ensures spent { vec_len out.new + owed self.new.live self.new.sets ≤ vec_len out.old + owed self.old.live self.old.sets + 6 }
+        ensures spent { vec_len out.new + owed self.new.live self.new.sets + 6 * count_by is_held self.new.window.places ≤ vec_len out.old + owed self.old.live self.old.sets + 6 * count_by is_held self.old.window.places + 6 }
+        ensures waiting { length self.new.waiting ≤ length self.old.waiting }
         ensures capacity { vec_capacity out.new ≡ vec_capacity out.old }
     {
         out.push_reserved(Effect::Immediate { request });
@@ -88,17 +90,20 @@ impl Session {
         requires turned { is_immediate request.now ≡ true → self.old.window.turned + count_by is_some self.old.window.places < self.old.taken }
         requires counted { self.old.entered + count_by is_some self.old.window.places < self.old.taken }
         requires known { known_in (connection_of request.now) self.old.conns ≡ true }
-        requires room { vec_len out.old + owed self.old.live self.old.sets + 5 ≤ vec_capacity out.old }
+        requires room { vec_len out.old + owed self.old.live self.old.sets + 6 * count_by is_held self.old.window.places + 5 ≤ vec_capacity out.old }
         ensures session { self.new ≡ with_executed self.old request.now event }
         ensures effects { out.new.items ≡ out.old.items ++ executed_effects self.old request.now event }
-        ensures spent { vec_len out.new + owed self.new.live self.new.sets ≤ vec_len out.old + owed self.old.live self.old.sets + 5 }
+        ensures spent { vec_len out.new + owed self.new.live self.new.sets + 6 * count_by is_held self.new.window.places ≤ vec_len out.old + owed self.old.live self.old.sets + 6 * count_by is_held self.old.window.places + 5 }
+        ensures waiting { length self.new.waiting ≤ length self.old.waiting }
         ensures capacity { vec_capacity out.new ≡ vec_capacity out.old }
     {
-        if request.opcode() == TASK_MANAGEMENT {
-            let number = self.position(request);
-            self.manage(request, number, event, out);
-        } else {
-            self.obey(request, out);
+        match request.opcode() {
+            TASK_MANAGEMENT => {
+                let number = self.position(request);
+                self.manage(request, number, event, out);
+            }
+            LOGOUT => self.log_out(request, out),
+            _ => self.obey(request, out),
         }
     }
 

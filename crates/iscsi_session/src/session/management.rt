@@ -67,7 +67,7 @@ impl Session {
         requires known { known_in (connection_of request) self.old.conns ≡ true }
         requires turned { self.old.window.turned + count_by is_some self.old.window.places < self.old.taken }
         requires entered { self.old.entered + count_by is_some self.old.window.places < self.old.taken }
-        requires room { vec_len out.old + owed self.old.live self.old.sets + 6 ≤ vec_capacity out.old }
+        requires room { vec_len out.old + owed self.old.live self.old.sets + 6 * count_by is_held self.old.window.places + 6 ≤ vec_capacity out.old }
         ensures session { self.new ≡ immediate_as self.old request (patience_by self.old request) }
         ensures effects { out.new.items ≡ out.old.items ++ immediate_effects self.old request (patience_by self.old request) }
         ensures pace { KeepsPace self.old.window self.new.window }

@@ -1,0 +1,212 @@
+//! Logout, and the closing of connections and of the session (RFC 7143 sections 11.14 and 11.15).
+
+ghost use Rattle.std.specs.Prelude.{ℕ, ◌≡◌, ◌+◌, ◌*◌, ◌≤◌, ◌++◌, not, true, filter, map, count_by, if◌then◌else◌, IfSome, vec_len, vec_capacity};
+ghost use Rattle.iscsi_wire.specs.Fields.{connection_of, itt as tag_of, cid as cid_of};
+ghost use Rattle.iscsi_window.specs.Windows.{is_asked};
+ghost use Rattle.iscsi_session.specs.Settings.{is_known as known_in};
+ghost use Rattle.iscsi_session.specs.Standing.{is_held};
+ghost use Rattle.iscsi_session.specs.Functions.{owed};
+ghost use Rattle.iscsi_session.specs.Parting.{is_among_open, closing_by, closed_as, closed_effects, parted, parting_effects, cover_of as cover_named, covers_of, units_of, with_all_left, all_leaving_effects, with_emptied, emptying_effects, still_open, with_closed, close_effects, with_all_given, all_enable_effects};
+
+use crate::closing::Closing;
+use crate::effect::Effect;
+use crate::session::Session;
+use crate::session::execution::{INVALID_FIELD, NO_TAG, rejection};
+use crate::session::waiting::Waiting;
+use iscsi_tasks::Cover;
+use iscsi_wire::{Reply, Request};
+use std::alloc::Global;
+
+/// Reason: close the session (RFC 7143 section 11.14.1).
+const CLOSE_SESSION: u8 = 0;
+
+/// Reason: close the connection.
+const CLOSE_CONN: u8 = 1;
+
+/// Reason: remove the connection for recovery.
+const REMOVE_FOR_RECOVERY: u8 = 2;
+
+/// Response: closed (RFC 7143 section 11.15.1).
+const CLOSED: u8 = 0;
+
+/// Response: CID not found.
+const NO_CONN: u8 = 1;
+
+/// Response: connection recovery isn't supported.
+const NO_RECOVERY: u8 = 2;
+
+impl Session {
+    /// Whether a connection isn't closed.
+    pub(crate) fn is_open(&self, conn: u16) -> bool
+        ensures { result ≡ is_among_open conn self.now.open_conns }
+    {
+        self.open_conns.contains(&conn)
+    }
+
+    /// Executes a Logout Request.
+    pub(crate) fn log_out(&mut self, request: &Request, out: &mut Vec<Effect>)
+        requires known { known_in (connection_of request.now) self.old.conns ≡ true }
+        requires room { vec_len out.old + owed self.old.live self.old.sets + 6 * count_by is_held self.old.window.places + 3 ≤ vec_capacity out.old }
+        ensures session { self.new ≡ closed_as self.old request.now (closing_by self.old request.now) }
+        ensures effects { out.new.items ≡ out.old.items ++ closed_effects self.old request.now (closing_by self.old request.now) }
+        ensures spent { vec_len out.new + owed self.new.live self.new.sets + 6 * count_by is_held self.new.window.places ≤ vec_len out.old + owed self.old.live self.old.sets + 6 * count_by is_held self.old.window.places + 3 }
+        ensures capacity { vec_capacity out.new ≡ vec_capacity out.old }
+    {
+        match self.closing(request) {
+            Closing::Refused(reply) => self.reply(request.conn(), reply, out),
+            Closing::Session => self.part(request, None, out),
+            Closing::Conn(conn) => self.part(request, Some(conn), out),
+        }
+    }
+
+    /// What a Logout Request comes to: the first case of its table that fits.
+    fn closing(&self, request: &Request) -> Closing
+        ensures { result ≡ closing_by self.now request.now }
+    {
+        if request.itt() == NO_TAG {
+            return Closing::Refused(rejection(request, INVALID_FIELD));
+        }
+        match request.reason() {
+            CLOSE_SESSION => Closing::Session,
+            CLOSE_CONN => self.closing_conn(request),
+            REMOVE_FOR_RECOVERY => refused(request, NO_RECOVERY),
+            _ => Closing::Refused(rejection(request, INVALID_FIELD)),
+        }
+    }
+
+    /// What a Logout Request of a connection comes to, which is its own or another one.
+    fn closing_conn(&self, request: &Request) -> Closing
+        ensures { result ≡ (if is_among_open (cid_of request.now) self.now.open_conns then Closing.Conn (cid_of request.now) else Closing.Refused (Reply.Logout (tag_of request.now) 1)) }
+    {
+        if self.is_open(request.cid()) {
+            Closing::Conn(request.cid())
+        } else {
+            refused(request, NO_CONN)
+        }
+    }
+
+    /// Closes a connection, or the session for None. What of it is live, held or waits is over.
+    fn part(&mut self, request: &Request, whose: Option<u16>, out: &mut Vec<Effect>)
+        requires known { known_in (connection_of request.now) self.old.conns ≡ true }
+        requires room { vec_len out.old + owed self.old.live self.old.sets + 6 * count_by is_held self.old.window.places + 3 ≤ vec_capacity out.old }
+        ensures session { self.new ≡ parted self.old request.now whose }
+        ensures effects { out.new.items ≡ out.old.items ++ parting_effects self.old request.now whose }
+        ensures spent { vec_len out.new + owed self.new.live self.new.sets + 6 * count_by is_held self.new.window.places ≤ vec_len out.old + owed self.old.live self.old.sets + 6 * count_by is_held self.old.window.places + 3 }
+        ensures capacity { vec_capacity out.new ≡ vec_capacity out.old }
+    {
+        self.leave_all(whose, out);
+        self.empty_all(whose, out);
+        drop_waiting(&mut self.waiting, whose);
+        let itt = request.itt();
+        let response = CLOSED;
+        self.reply(request.conn(), Reply::Logout { itt, response }, out);
+        self.close(whose, out);
+        self.tell_all(out);
+    }
+
+    /// The live commands of a connection, or of all for None, leave: units ascending, the oldest first.
+    fn leave_all(&mut self, whose: Option<u16>, out: &mut Vec<Effect>)
+        requires room { vec_len out.old + owed self.old.live self.old.sets ≤ vec_capacity out.old }
+        ensures session { self.new ≡ with_all_left self.old (units_of self.old) (covers_of whose) }
+        ensures effects { out.new.items ≡ out.old.items ++ all_leaving_effects self.old (units_of self.old) (covers_of whose) }
+        ensures spent { vec_len out.new + owed self.new.live self.new.sets ≤ vec_len out.old + owed self.old.live self.old.sets }
+        ensures capacity { vec_capacity out.new ≡ vec_capacity out.old }
+        ensures places { self.new.window.places ≡ self.old.window.places }
+    {
+        let cover = cover_of(whose);
+        for unit in 0..self.sets.len() {
+            self.leave_covered(unit as u16, &cover, out);
+        }
+    }
+
+    /// The requests that are held of a connection, or of all for None, are taken out: numbers ascending.
+    fn empty_all(&mut self, whose: Option<u16>, out: &mut Vec<Effect>)
+        requires room { vec_len out.old + count_by is_held self.old.window.places ≤ vec_capacity out.old }
+        ensures session { self.new ≡ with_emptied self.old whose }
+        ensures effects { out.new.items ≡ out.old.items ++ emptying_effects self.old whose }
+        ensures spent { vec_len out.new + count_by is_held self.new.window.places ≤ vec_len out.old + count_by is_held self.old.window.places }
+        ensures capacity { vec_capacity out.new ≡ vec_capacity out.old }
+    {
+        while let Some(sn) = self.window.drop_first(whose) {
+            self.held -= 1;
+            out.push_reserved(Effect::Empty { sn });
+        }
+    }
+
+    /// A connection is closed, or the session for None, and with the last connection the session.
+    fn close(&mut self, whose: Option<u16>, out: &mut Vec<Effect>)
+        requires room { vec_len out.old + 2 ≤ vec_capacity out.old }
+        ensures session { self.new ≡ with_closed self.old whose }
+        ensures effects { out.new.items ≡ out.old.items ++ close_effects self.old whose }
+        ensures spent { vec_len out.new ≤ vec_len out.old + 2 }
+        ensures capacity { vec_capacity out.new ≡ vec_capacity out.old }
+    {
+        self.open_conns.retain(|conn| !is_of(whose, *conn));
+        if let Some(conn) = whose {
+            out.push_reserved(Effect::CloseConn { conn });
+        }
+        if self.open_conns.is_empty() {
+            out.push_reserved(Effect::CloseSession);
+        }
+    }
+
+    /// Each unit is told of the commands that became enabled.
+    fn tell_all(&mut self, out: &mut Vec<Effect>)
+        requires room { vec_len out.old + owed self.old.live self.old.sets ≤ vec_capacity out.old }
+        ensures session { self.new ≡ with_all_given self.old }
+        ensures effects { out.new.items ≡ out.old.items ++ all_enable_effects self.old }
+        ensures spent { vec_len out.new + owed self.new.live self.new.sets ≤ vec_len out.old + owed self.old.live self.old.sets }
+        ensures capacity { vec_capacity out.new ≡ vec_capacity out.old }
+    {
+        for unit in 0..self.sets.len() {
+            self.tell_unit(unit as u16, out);
+        }
+    }
+}
+
+/// A Logout Request that closes nothing.
+fn refused(request: &Request, response: u8) -> Closing
+    ensures { result ≡ Closing.Refused (Reply.Logout (tag_of request.now) response) }
+{
+    let itt = request.itt();
+    Closing::Refused(Reply::Logout { itt, response })
+}
+
+/// Whether a connection is the one that is closed: each is for None.
+fn is_of(whose: Option<u16>, conn: u16) -> bool
+    ensures { result ≡ is_asked whose conn }
+{
+    match whose {
+        Some(closing) => conn == closing,
+        None => true,
+    }
+}
+
+/// The commands of a connection, or all for None.
+fn cover_of(whose: Option<u16>) -> Cover
+    ensures { result ≡ cover_named whose }
+{
+    match whose {
+        Some(conn) => Cover::Conn(conn),
+        None => Cover::All,
+    }
+}
+
+/// The functions of a connection that wait, or of all for None, are dropped.
+fn drop_waiting(waiting: &mut Vec<Waiting>, whose: Option<u16>)
+    ensures items { waiting.new.items ≡ filter (λ w. not (is_asked whose (connection_of w.request))) waiting.old.items }
+    ensures capacity { vec_capacity waiting.new ≡ vec_capacity waiting.old }
+{
+    waiting.retain(|function| !is_of(whose, function.request.conn()));
+}
+
+/// The CIDs of the connections, all open. None where memory is refused.
+pub(crate) fn open(alloc: Global, conns: &[(u16, u32)]) -> Option<Vec<u16>>
+    ensures { IfSome result (λ cids. cids.items ≡ map (λ (c : ℕ × ℕ). c.0) conns.now) }
+{
+    let mut cids = Vec::with_capacity(alloc, conns.len()).ok()?;
+    for conn in conns {
+        cids.push_reserved(conn.0);
+    }
+    Some(cids)
+}
