@@ -18,6 +18,7 @@ use Rattle.iscsi_session.specs.Standing.{Core, CommandsAgree, is_regular, is_reg
 use Rattle.iscsi_session.specs.Steps.{numbers_by}
 use Rattle.iscsi_session.proofs.BoolLemmas.{and_parts}
 use Rattle.iscsi_session.proofs.ListLemmas.{list_all-filter}
+use Rattle.iscsi_session.proofs.OpenConns.{open_of-same}
 use Rattle.iscsi_session.proofs.TraceLemmas.{weaker}
 use Rattle.iscsi_session.proofs.DeliveryLemmas.{quiet-ignored}
 use Rattle.iscsi_session.proofs.WindowParts.{next_expected, WindowAgrees-quiet, with_held, WindowAgrees-admitted}
@@ -105,6 +106,7 @@ Stepped-ignored o s t why h =
           level = a.level;
           arrived = ArrivalsAgree-quiet s.window s.arrived t item (quiet-ignored why) a.arrived;
           waiting = record { list = a.waiting.list; may = a.waiting.may; known = a.waiting.known };
+          open_conns = a.open_conns ∙ sym (open_of-same o item t (record { session = refl; conns = λ c. refl }));
         };
         none_due = h.none_due;
       };
@@ -132,4 +134,5 @@ Agrees-admitted o s t a h low high new regular shows =
       level = h.level;
       arrived = ArrivalsAgree-admitted s.window s.arrived t a h.arrived low high (held-here t a new (h.window.undelivered a.number low) (h.window.unemptied a.number new));
       waiting = record { list = h.waiting.list; may = h.waiting.may; known = h.waiting.known };
+      open_conns = h.open_conns ∙ sym (open_of-same o item t (record { session = refl; conns = λ c. refl }));
     }

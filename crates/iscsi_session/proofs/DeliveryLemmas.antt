@@ -10,7 +10,7 @@ use Rattle.iscsi_session.specs.declared.effect.Effect.TheVariants.{Enable}
 use Rattle.iscsi_session.specs.declared.effect.Why.{Why}
 use Rattle.iscsi_session.specs.declared.event.Event.{Event}
 use Rattle.iscsi_session.specs.Settings.{Setting}
-use Rattle.iscsi_session.specs.Trace.{Arrival, Command, Mark, Admits, Delivers, Executes, Voids, Empties, Waits, Leaves, Enters, Sends, Ignores, Trace, after_items, shown, first_of, number_received, received, contains, is_received, delivers_number, is_delivered, empties_number, is_emptied, held, admits_at, admitted}
+use Rattle.iscsi_session.specs.Trace.{Arrival, Command, Mark, Admits, Delivers, Executes, Voids, Empties, Waits, Leaves, Enters, Sends, ClosesConn, ClosesSession, Ignores, Trace, after_items, shown, first_of, number_received, received, contains, is_received, delivers_number, is_delivered, empties_number, is_emptied, held, admits_at, admitted}
 use Rattle.iscsi_session.specs.Agenda.{items_of}
 use Rattle.iscsi_session.specs.Run.{after_event, after_events, effects_of_mark, newly_enabled, effects_of_item, effects_of, entries_from}
 use Rattle.iscsi_session.specs.Executed.{request_at, executed_below, delivers, delivered_by, delivered}
@@ -29,6 +29,8 @@ marks_deliver o t (Waits a ∷ ms) = marks_deliver o t ms
 marks_deliver o t (Leaves c ∷ ms) = marks_deliver o t ms
 marks_deliver o t (Enters c ∷ ms) = marks_deliver o t ms
 marks_deliver o t (Sends conn reply ∷ ms) = marks_deliver o t ms
+marks_deliver o t (ClosesConn conn ∷ ms) = marks_deliver o t ms
+marks_deliver o t (ClosesSession ∷ ms) = marks_deliver o t ms
 marks_deliver o t (Ignores why ∷ ms) = marks_deliver o t ms
 
 enables_deliver : (cs : List Command) → flat_map delivered_by (map (λ (c : Command). Enable c.ticket c.unit) cs) ≡ []

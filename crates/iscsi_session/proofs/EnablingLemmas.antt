@@ -9,7 +9,7 @@ use Rattle.iscsi_session.specs.declared.effect.Effect.TheVariants.{Enable}
 use Rattle.iscsi_session.specs.declared.event.Event.{Event}
 use Rattle.iscsi_session.specs.declared.session.live.Live.{Live}
 use Rattle.iscsi_session.specs.Settings.{Setting}
-use Rattle.iscsi_session.specs.Trace.{Command, Mark, Admits, Delivers, Executes, Voids, Empties, Waits, Leaves, Enters, Sends, Ignores, Trace, after_items, has, entered, leaves_ticket, live, live_in, is_among, first_of, is_free_at, was_free}
+use Rattle.iscsi_session.specs.Trace.{Command, Mark, Admits, Delivers, Executes, Voids, Empties, Waits, Leaves, Enters, Sends, ClosesConn, ClosesSession, Ignores, Trace, after_items, has, entered, leaves_ticket, live, live_in, is_among, first_of, is_free_at, was_free}
 use Rattle.iscsi_session.specs.Agenda.{items_of}
 use Rattle.iscsi_session.specs.Run.{after_event, after_events, effects_of_mark, newly_enabled, effects_of_item, effects_of, entries_from}
 use Rattle.iscsi_session.specs.Enabling.{effects_so_far, is_enable, is_leave, is_shown_enabled, is_enabled, FreeMoment, EnabledSoFar, effects_in}
@@ -35,6 +35,8 @@ enabled_marks o t k (Waits a ∷ ms) = enabled_marks o t k ms
 enabled_marks o t k (Leaves c ∷ ms) = enabled_marks o t k ms
 enabled_marks o t k (Enters c ∷ ms) = enabled_marks o t k ms
 enabled_marks o t k (Sends conn reply ∷ ms) = enabled_marks o t k ms
+enabled_marks o t k (ClosesConn conn ∷ ms) = enabled_marks o t k ms
+enabled_marks o t k (ClosesSession ∷ ms) = enabled_marks o t k ms
 enabled_marks o t k (Ignores why ∷ ms) = enabled_marks o t k ms
 
 left_marks : (o : Setting) (t : Trace) (k : ℕ) (item : List Mark) → list_any (is_leave k) (flat_map (effects_of_mark o t) item) ≡ list_any (leaves_ticket k) item
@@ -48,6 +50,8 @@ left_marks o t k (Waits a ∷ ms) = left_marks o t k ms
 left_marks o t k (Leaves c ∷ ms) = ap (λ b. (c.ticket == k) || b) (left_marks o t k ms)
 left_marks o t k (Enters c ∷ ms) = left_marks o t k ms
 left_marks o t k (Sends conn reply ∷ ms) = left_marks o t k ms
+left_marks o t k (ClosesConn conn ∷ ms) = left_marks o t k ms
+left_marks o t k (ClosesSession ∷ ms) = left_marks o t k ms
 left_marks o t k (Ignores why ∷ ms) = left_marks o t k ms
 
 no_leave : (k : ℕ) (cs : List Command) → list_any (is_leave k) (enables cs) ≡ false

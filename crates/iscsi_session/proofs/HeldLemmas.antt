@@ -3,7 +3,7 @@ use Rattle.std.proofs.Common.{◌≡◌, ℕ, zero, suc, ◌+◌, ◌-◌, ◌<�
 use Rattle.std.specs.List.{list_any, filter_map, flat_map, range_with_len, cons_option}
 use Rattle.std.proofs.lemmas.Bool.{false≢true, eqb-true}
 use Rattle.std.proofs.lemmas.List.{append-nil}
-use Rattle.iscsi_session.specs.Trace.{Arrival, Mark, Admits, Delivers, Executes, Voids, Empties, Waits, Leaves, Enters, Sends, Ignores, Trace, shown, first_of, is_received, is_delivered, is_emptied, held, admitted, admits_at, contains, number_received, delivers_number}
+use Rattle.iscsi_session.specs.Trace.{Arrival, Mark, Admits, Delivers, Executes, Voids, Empties, Waits, Leaves, Enters, Sends, ClosesConn, ClosesSession, Ignores, Trace, shown, first_of, is_received, is_delivered, is_emptied, held, admitted, admits_at, contains, number_received, delivers_number}
 use Rattle.iscsi_session.specs.Executed.{request_at}
 use Rattle.iscsi_session.proofs.TraceLemmas.{unadmitted, received-item}
 use Rattle.iscsi_session.proofs.DeliveryLemmas.{IsQuiet}
@@ -28,6 +28,8 @@ mark_number n (Waits b) a h = absurd cc
 mark_number n (Leaves c) a h = absurd cc
 mark_number n (Enters c) a h = absurd cc
 mark_number n (Sends conn reply) a h = absurd cc
+mark_number n (ClosesConn conn) a h = absurd cc
+mark_number n ClosesSession a h = absurd cc
 mark_number n (Ignores why) a h = absurd cc
 
 cons_first : {A : Type 0} (x : Option A) (xs : List A) (y : A) → first_of (cons_option x xs) ≡ Some y → (x ≡ Some y) ⊎ (first_of xs ≡ Some y)
@@ -90,6 +92,11 @@ held-turned t a ms n q apart =
     ∙ ap (λ b. cond (is_delivered t n || (b || is_emptied t n)) None (admitted ((Delivers a ∷ ms) ∷ t) n)) (q.empties_no n)
     ∙ ap (λ xs. cond (is_delivered t n || is_emptied t n) None (first_of (shown (admits_at n) t ++ xs))) (q.admits n)
     ∙ ap (λ xs. cond (is_delivered t n || is_emptied t n) None (first_of xs)) (append-nil (shown (admits_at n) t))
+
+-- the request itself isn't held any more
+pub held-delivered : (t : Trace) (a : Arrival) (ms : List Mark) (n : ℕ) → a.number ≡ n → held ((Delivers a ∷ ms) ∷ t) n ≡ None
+held-delivered t a ms n here =
+    ap (λ b. cond (((b || list_any (delivers_number n) ms) || is_delivered t n) || is_emptied ((Delivers a ∷ ms) ∷ t) n) None (admitted ((Delivers a ∷ ms) ∷ t) n)) (eq-eqb a.number n here)
 
 pub request_at-turned : (t : Trace) (a : Arrival) (ms : List Mark) (n : ℕ) → IsQuiet ms → request_at ((Delivers a ∷ ms) ∷ t) n ≡ request_at t n
 request_at-turned t a ms n q =

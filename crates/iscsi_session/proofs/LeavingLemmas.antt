@@ -144,7 +144,7 @@ leaving-shown o t (c ∷ cs) a reply = ap (λ es. Leave c.ticket c.unit ∷ es) 
 -- fewer are unfinished
 pub WindowAgrees-fewer : (o : Setting) (w : Received) (t : Trace) (n : ℕ) → n ≤ w.unfinished → WindowAgrees o w t → WindowAgrees o (with_unfinished w n) t
 WindowAgrees-fewer o w t n less a =
-    record { first = a.first; size = a.size; below = a.below; inside = a.inside; above = a.above; undelivered = a.undelivered; unemptied = a.unemptied; requests = a.requests; numbers = a.numbers; delivered = a.delivered; few = omega (arith, a.few, less); free = λ k big. a.free k (omega (arith, big, less)) }
+    record { first = a.first; size = a.size; below = a.below; inside = a.inside; above = a.above; past = a.past; undelivered = a.undelivered; unemptied = a.unemptied; requests = a.requests; numbers = a.numbers; delivered = a.delivered; few = omega (arith, a.few, less); free = λ k big. a.free k (omega (arith, big, less)) }
 
 -- the numbered live commands are the unfinished ones
 pub numbered_live : (o : Setting) (lives : List Live) (n : ℕ) (t : Trace) → CommandsAgree o lives n t → count_by is_numbered lives ≡ unfinished t

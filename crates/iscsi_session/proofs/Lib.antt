@@ -3,6 +3,7 @@ pub mod BoolLemmas
 pub mod ListLemmas
 pub mod Missing
 pub mod TraceLemmas
+pub mod OpenConns
 pub mod NumberLemmas
 pub mod LineLemmas
 pub mod HeldLemmas

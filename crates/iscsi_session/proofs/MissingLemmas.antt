@@ -135,6 +135,7 @@ module _ (item : List Mark) (t : Trace) (n : ℕ) (v : VoidsOne item n) where
             ∙ sym (place_of-other (e + k) (let no : (n == e + k) ≡ false = grind (arith, nat_tests) in no)))
             (cases_eq k k₀);
         above = λ k u. received-voids k ∙ ap (λ b. b || (n == k)) (h.above k (omega (arith, long))) ∙ (let far : n < k = omega (arith, long, in_range) in let no : (n == k) ≡ false = grind (arith, nat_tests) in no);
+        past = λ k before. held-voids k ∙ h.past k before;
         undelivered = λ k u. ap (λ b. b || is_delivered t k) (v.delivers_no k) ∙ h.undelivered k u;
         unemptied = λ k gone. ap (λ b. b || is_emptied t k) (v.empties_no k) ∙ h.unemptied k (or_none (is_received t k) (n == k) (sym (received-voids k) ∙ gone)).0;
         requests = λ k b found. h.requests k b (sym (ap first_of (admitted-voids k)) ∙ found);
@@ -217,6 +218,7 @@ module _ (item : List Mark) (t : Trace) (n : ℕ) (v : EmptiesOne item n) where
             ∙ sym (place_of-apart (e + k) (let no : (n == e + k) ≡ false = grind (arith, nat_tests) in no)))
             (cases_eq k k₀);
         above = λ k u. same_received k ∙ a.above k (omega (arith, long));
+        past = λ k before. held-other k (let far : k < n = omega (arith, before, low) in let no : (n == k) ≡ false = grind (arith, nat_tests) in no) ∙ a.past k before;
         undelivered = λ k u. ap (λ b. b || is_delivered t k) (v.delivers_no k) ∙ a.undelivered k u;
         unemptied = λ k gone. let before : is_received t k ≡ false = sym (same_received k) ∙ gone in emptied-empties k ∙ ap (λ b. b || is_emptied t k) (apart_of k before) ∙ a.unemptied k before;
         requests = λ k b found. a.requests k b (sym (ap first_of (admitted-empties k)) ∙ found);

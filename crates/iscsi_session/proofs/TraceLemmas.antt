@@ -5,7 +5,7 @@ use Rattle.std.proofs.lemmas.Bool.{false≢true}
 use Rattle.std.proofs.lemmas.List.{append-nil}
 use Rattle.std.proofs.lemmas.List.Elements.{filter-append}
 use Rattle.std.proofs.lemmas.List.Folds.{list_any-append}
-use Rattle.iscsi_session.specs.Trace.{Command, Mark, Trace, Admits, Delivers, Executes, Voids, Empties, Waits, Leaves, Enters, Sends, Ignores, has, shown, waiting_through, waiting, enters, entered, leaves_ticket, live, is_among, received, is_received, contains, number_received, admits_at}
+use Rattle.iscsi_session.specs.Trace.{Command, Mark, Trace, Admits, Delivers, Executes, Voids, Empties, Waits, Leaves, Enters, Sends, ClosesConn, ClosesSession, Ignores, has, shown, waiting_through, waiting, enters, entered, leaves_ticket, live, is_among, received, is_received, contains, number_received, admits_at}
 use Rattle.iscsi_session.proofs.BoolLemmas.{and_both, or_none, or_second}
 
 -- ---- filters
@@ -106,6 +106,8 @@ unadmitted_mark n (Waits a) marks h = (refl, h)
 unadmitted_mark n (Leaves c) marks h = (refl, h)
 unadmitted_mark n (Enters c) marks h = (refl, h)
 unadmitted_mark n (Sends conn reply) marks h = (refl, h)
+unadmitted_mark n (ClosesConn conn) marks h = (refl, h)
+unadmitted_mark n ClosesSession marks h = (refl, h)
 unadmitted_mark n (Ignores why) marks h = (refl, h)
 
 unadmitted_item : (n : ℕ) (item : List Mark) → contains (filter_map number_received item) n ≡ false → filter_map (admits_at n) item ≡ []

@@ -16,8 +16,8 @@ use Rattle.iscsi_session.specs.Executed.{delivers, request_at, executed_below}
 use Rattle.iscsi_session.specs.Standing.{place_of, is_regular_request, WindowAgrees}
 use Rattle.iscsi_session.proofs.BoolLemmas.{or_none, or_second, or_false}
 use Rattle.iscsi_session.proofs.Missing.{expected_is}
-use Rattle.iscsi_session.proofs.HeldLemmas.{admitted-number, admitted-cases, admitted-admits, held-admits, held-here, held-number, held-turned, request_at-turned, admitted_of_held, held_unemptied}
-use Rattle.iscsi_session.proofs.DeliveryLemmas.{IsQuiet, same_range, received-quiet, place_of-quiet, executed_below-quiet, delivered-quiet, admitted-quiet, executed_below-more}
+use Rattle.iscsi_session.proofs.HeldLemmas.{held-delivered, admitted-number, admitted-cases, admitted-admits, held-admits, held-here, held-number, held-turned, request_at-turned, admitted_of_held, held_unemptied}
+use Rattle.iscsi_session.proofs.DeliveryLemmas.{held-quiet, IsQuiet, same_range, received-quiet, place_of-quiet, executed_below-quiet, delivered-quiet, admitted-quiet, executed_below-more}
 
 -- ---- the next number
 
@@ -48,6 +48,7 @@ WindowAgrees-quiet o w t item q a = record {
   below = λ n low high. ap (λ ns. contains ns n) (received-quiet item t q) ∙ a.below n low high;
   inside = λ k lt. a.inside k lt ∙ sym (place_of-quiet item t (number_expected w + k) q);
   above = λ n high. ap (λ ns. contains ns n) (received-quiet item t q) ∙ a.above n high;
+  past = λ n low. held-quiet item t n q ∙ a.past n low;
   undelivered = λ n high. ap (λ b. b || is_delivered t n) (q.delivers_no n) ∙ a.undelivered n high;
   unemptied = λ n gone. ap (λ b. b || is_emptied t n) (q.empties_no n) ∙ a.unemptied n (sym (ap (λ ns. contains ns n) (received-quiet item t q)) ∙ gone);
   requests = λ n b found. a.requests n b (sym (ap first_of (admitted-quiet item t n q)) ∙ found);
@@ -101,6 +102,7 @@ WindowAgrees-admitted o w t a h low high new regular shows =
           ∙ sym (place_of-other t a (e + k) (let no : (a.number == e + k) ≡ false = grind (arith, nat_tests) in no)))
           (cases_eq k k₀);
       above = λ n u. received-admits t a n ∙ ap (λ b. b || (a.number == n)) (h.above n (omega (arith, long))) ∙ (let far : a.number < n = omega (arith, long, in_range) in let no : (a.number == n) ≡ false = grind (arith, nat_tests) in no);
+      past = λ n before. held-admits t a n (let far : n < a.number = omega (arith, before, low) in let no : (a.number == n) ≡ false = grind (arith, nat_tests) in no) ∙ h.past n before;
       undelivered = h.undelivered;
       unemptied = λ n gone. h.unemptied n (or_none (is_received t n) (a.number == n) (sym (received-admits t a n) ∙ gone)).0;
       requests = λ n b found. ⊎_elim (λ before. h.requests n b before) (λ this. ap (λ (x : Arrival). is_regular_request o x.request) (sym this) ∙ regular) (admitted-cases t a n b found);
@@ -188,6 +190,10 @@ WindowAgrees-turned o w t r ms h place x q =
             (ap (λ ns. contains ns (number_of_first w.first + (w.turned + 1) + k)) same_received ∙ h.above (number_of_first w.first + (w.turned + 1) + k) (omega (arith, last)))))
             (cases_lt (k + 1) (length old));
         above = λ n u. ap (λ ns. contains ns n) same_received ∙ h.above n (omega (arith, long));
+        past = λ n before. ⊎_elim
+            (λ here. ap (held t') here ∙ held-delivered t a ms e number)
+            (λ apart. held-turned t a ms n q (let no : (a.number == n) ≡ false = grind (arith, nat_tests) in no) ∙ h.past n (omega (arith, before, apart)))
+            (cases_eq n e);
         undelivered = λ n u. ap (λ b. (b || list_any (delivers_number n) ms) || is_delivered t n) (let no : (a.number == n) ≡ false = grind (arith, nat_tests) in no) ∙ ap (λ b. b || is_delivered t n) (q.delivers_no n) ∙ h.undelivered n (omega arith);
         unemptied = λ n gone. ap (λ b. b || is_emptied t n) (q.empties_no n) ∙ h.unemptied n (sym (ap (λ ns. contains ns n) same_received) ∙ gone);
         requests = λ n b found. h.requests n b (sym (ap (λ xs. first_of (shown (admits_at n) t ++ xs)) (q.admits n) ∙ ap first_of (append-nil (shown (admits_at n) t))) ∙ found);
@@ -243,6 +249,7 @@ WindowAgrees-passed o w t h place =
           ∙ sym (ap (λ b. cond b (Some (option_map (λ (y : Arrival). y.request) (held t (number_of_first w.first + (w.turned + 1) + k)))) None) (h.above (number_of_first w.first + (w.turned + 1) + k) (omega (arith, last)))))
           (cases_lt (k + 1) (length old));
       above = λ n u. h.above n (omega (arith, long));
+      past = λ n before. ⊎_elim (λ here. ap (held t) here ∙ p.held_is) (λ apart. h.past n (omega (arith, before, apart))) (cases_eq n e);
       undelivered = λ n u. h.undelivered n (omega arith);
       unemptied = h.unemptied;
       requests = h.requests;
@@ -266,9 +273,9 @@ WindowAgrees-passed o w t h place =
 pub WindowAgrees-started : (o : Setting) (w : Received) (t : Trace) → Turned o w t → WindowAgrees o (with_unfinished w (w.unfinished + 1)) t
 WindowAgrees-started o w t h =
     let a = h.agrees in
-    record { first = a.first; size = a.size; below = a.below; inside = a.inside; above = a.above; undelivered = a.undelivered; unemptied = a.unemptied; requests = a.requests; numbers = a.numbers; delivered = a.delivered; few = omega (arith, h.not_full); free = λ k big. h.last_free k (omega (arith, big)) }
+    record { first = a.first; size = a.size; below = a.below; inside = a.inside; above = a.above; past = a.past; undelivered = a.undelivered; unemptied = a.unemptied; requests = a.requests; numbers = a.numbers; delivered = a.delivered; few = omega (arith, h.not_full); free = λ k big. h.last_free k (omega (arith, big)) }
 
 -- a command is over
 pub WindowAgrees-finished : (o : Setting) (w : Received) (t : Trace) → WindowAgrees o w t → WindowAgrees o (with_unfinished w (w.unfinished - 1)) t
 WindowAgrees-finished o w t a =
-    record { first = a.first; size = a.size; below = a.below; inside = a.inside; above = a.above; undelivered = a.undelivered; unemptied = a.unemptied; requests = a.requests; numbers = a.numbers; delivered = a.delivered; few = omega (arith, a.few); free = λ k big. a.free k (omega (arith, big)) }
+    record { first = a.first; size = a.size; below = a.below; inside = a.inside; above = a.above; past = a.past; undelivered = a.undelivered; unemptied = a.unemptied; requests = a.requests; numbers = a.numbers; delivered = a.delivered; few = omega (arith, a.few); free = λ k big. a.free k (omega (arith, big)) }

@@ -1,6 +1,4 @@
-use Rattle.std.proofs.Common.{ℕ, ◌≡◌, ◌≤◌, ◌+◌, ◌*◌, ◌∙◌, ap, arith, length, count_by, List}
-use Rattle.iscsi_session.specs.declared.session.live.Live.{Live}
-use Rattle.iscsi_session.specs.declared.session.waiting.Waiting.{Waiting}
+use Rattle.std.proofs.Common.{◌≡◌, ◌≤◌, ◌+◌, ◌*◌, ◌∙◌, ap, arith, length, count_by}
 use Rattle.iscsi_session.specs.Standing.{Core, is_held}
 use Rattle.iscsi_session.proofs.OpenLemmas.{bound_is}
 use Rattle.iscsi_session.proofs.WindowLemmas.{few_counted}

@@ -1,0 +1,21 @@
+-- An item that closes nothing leaves the connections open that were.
+use Rattle.std.proofs.Common.{◌≡◌, ℕ, ◌||◌, ◌&&◌, not, Bool, false, List, ◌∷◌, map, refl, ap, ◌∙◌}
+use Rattle.std.specs.List.{list_any}
+use Rattle.iscsi_session.specs.Settings.{Setting, is_known}
+use Rattle.iscsi_session.specs.Trace.{Mark, Trace, has, closes_conn, closes_session, is_ended, is_closed}
+use Rattle.iscsi_session.specs.Logout.{is_open}
+use Rattle.iscsi_session.specs.Standing.{open_of}
+use Rattle.iscsi_session.proofs.TraceLemmas.{filter-same}
+
+pub record ClosesNone (item : List Mark) : Type 0 where
+  pub session : list_any closes_session item ≡ false
+  pub conns : (conn : ℕ) → list_any (closes_conn conn) item ≡ false
+
+pub closed-same : (conn : ℕ) (item : List Mark) (t : Trace) → ClosesNone item → is_closed conn (item ∷ t) ≡ is_closed conn t
+closed-same conn item t c =
+    ap (λ b. (b || is_ended t) || (list_any (closes_conn conn) item || has (closes_conn conn) t)) c.session
+    ∙ ap (λ b. is_ended t || (b || has (closes_conn conn) t)) (c.conns conn)
+
+pub open_of-same : (o : Setting) (item : List Mark) (t : Trace) → ClosesNone item → open_of o (item ∷ t) ≡ open_of o t
+open_of-same o item t c =
+    filter-same (is_open o (item ∷ t)) (is_open o t) (map (λ (k : ℕ × ℕ). k.0) o.conns) (λ conn. ap (λ b. is_known conn o.conns && not b) (closed-same conn item t c))
