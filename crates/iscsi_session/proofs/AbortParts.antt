@@ -22,6 +22,7 @@ use Rattle.iscsi_session.specs.Agenda.{arrival_of}
 use Rattle.iscsi_session.specs.Standing.{Core, task_of, kept, are_apart, arrival_waiting, WindowAgrees, Agrees, Settled}
 use Rattle.iscsi_session.specs.Run.{effects_of_mark}
 use Rattle.iscsi_session.specs.Functions.{missing_at, tagged_in, abort_by, answer_if, outcome_by, covers_ticket, void_effects}
+use Rattle.iscsi_session.proofs.OpenConns.{open_of-same}
 use Rattle.iscsi_session.proofs.BoolLemmas.{and_parts, or_none, not_true}
 use Rattle.iscsi_session.proofs.NumberLemmas.{wire-lift}
 use Rattle.iscsi_session.proofs.Missing.{expected_gone, expected_low}
@@ -283,6 +284,7 @@ Settled-executes o s t a h waits =
         level = b.level;
         arrived = ArrivalsAgree-quiet s.window s.arrived t item q b.arrived;
         waiting = record { list = waits; may = b.waiting.may; known = b.waiting.known };
+        open_conns = b.open_conns ∙ sym (open_of-same o item t (record { session = refl; conns = λ c. refl }));
       };
       none_due = h.none_due;
     }

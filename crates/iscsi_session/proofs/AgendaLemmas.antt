@@ -226,6 +226,7 @@ turned-nothing o t₀ out₀ whole s out d place =
       level = a.level;
       arrived = ArrivalsAgree-passed o s.window s.arrived t None a.window place a.arrived;
       waiting = record { list = a.waiting.list; may = a.waiting.may; known = a.waiting.known };
+      open_conns = a.open_conns;
     }) refl
     (turns-more o e f t past ∙ ap (λ now. now ++ agenda o (e + 1) (f - (e + 1)) (after_items now t)) turn_is ∙ ap (λ k. agenda o k (f - k) t) (sym next))
     (sym (append-nil out))))

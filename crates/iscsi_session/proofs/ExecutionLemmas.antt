@@ -23,9 +23,11 @@ use Rattle.iscsi_session.specs.Execution.{unfinished, unit_named, attr_of, scsi_
 use Rattle.iscsi_session.specs.Management.{may_wait, management_marks}
 use Rattle.iscsi_session.specs.Items.{execution}
 use Rattle.iscsi_session.specs.Run.{effects_of_mark, effects_of_item, newly_enabled, stat_sn_of}
-use Rattle.iscsi_session.specs.Standing.{Core, kept, is_regular, task_of, member_of, WindowAgrees, RepliesAgree, CommandsAgree, SetsAgree, ArrivalsAgree, arrival_waiting, Agrees}
+use Rattle.iscsi_session.specs.Standing.{open_of, Core, kept, is_regular, task_of, member_of, WindowAgrees, RepliesAgree, CommandsAgree, SetsAgree, ArrivalsAgree, arrival_waiting, Agrees}
 use Rattle.iscsi_session.specs.Enabling.{EnabledSoFar}
 use Rattle.iscsi_session.specs.Steps.{new_live, new_task, number_by, event_by, started, is_tag_kept, is_immediate_on, is_crowded_by, is_set_full, place_in, verdict_by, executed_as, execution_effects}
+use Rattle.iscsi_session.specs.Logout.{logout_marks}
+use Rattle.iscsi_session.proofs.OpenConns.{ClosesNone, open_of-same, closes-more}
 use Rattle.iscsi_session.proofs.ListLemmas.{list_any-map, count_by-map, count_by-push}
 use Rattle.iscsi_session.proofs.DeliveryLemmas.{IsQuiet}
 use Rattle.iscsi_session.proofs.WindowParts.{Turned, WindowAgrees-started}
@@ -171,6 +173,8 @@ pub record Begun (o : Setting) (s : Core) (t : Trace) (m : Mark) (e : Effect) (a
   pub enters_no : enters m ≡ None
   pub leaves_no : (k : ℕ) → leaves_ticket k m ≡ false
   pub sends_no : sent_on m ≡ None
+  pub closes_no : ClosesNone (m ∷ [])
+  pub open_is : s.open_conns ≡ open_of o t
   pub shows : effects_of_mark o t m ≡ e ∷ []
 
 pub record Executed (o : Setting) (s : Core) (t : Trace) (m : Mark) (e : Effect) (a : Arrival) (v : Verdict) : Type 0 where
@@ -200,6 +204,7 @@ module _ (o : Setting) (s : Core) (t : Trace) (m : Mark) (e : Effect) (a : Arriv
           level = b.level;
           arrived = b.arrived [] (quiet-marks t a Nothing);
           waiting = record { list = b.waiting; may = b.may; known = b.waiting_known };
+          open_conns = b.open_is ∙ sym (open_of-same o (m ∷ []) t b.closes_no);
         };
         effects = ap (λ es. (es ++ []) ++ []) (sym b.shows) ∙ ap (λ cs. (effects_of_mark o t m ++ []) ++ enables cs) (sym (newly-untouched o t (m ∷ []) u));
       }
@@ -222,6 +227,7 @@ module _ (o : Setting) (s : Core) (t : Trace) (m : Mark) (e : Effect) (a : Arriv
           level = b.level;
           arrived = b.arrived (Sends conn reply ∷ []) (quiet-marks t a (Answer reply));
           waiting = record { list = b.waiting; may = b.may; known = b.waiting_known };
+          open_conns = b.open_is ∙ sym (open_of-same o item t (closes-more m (Sends conn reply ∷ []) b.closes_no (record { session = refl; conns = λ k. refl })));
         };
         effects = ap (λ n. e ∷ Send conn n reply ∷ []) (b.replies.stat_sns conn b.known)
             ∙ ap (λ es. (es ++ Send conn (stat_sn_of o t conn) reply ∷ []) ++ []) (sym b.shows)
@@ -284,6 +290,7 @@ module _ (o : Setting) (s : Core) (t : Trace) (m : Mark) (e : Effect) (a : Arriv
           level = b.level;
           arrived = arrived-started (Enters c ∷ []) (quiet-marks ((m ∷ []) ∷ t) a (EnterUnit unit));
           waiting = record { list = b.waiting; may = b.may; known = b.waiting_known };
+          open_conns = b.open_is ∙ sym (open_of-same o item t (closes-more m (Enters c ∷ []) b.closes_no (record { session = refl; conns = λ k. refl })));
         };
         effects = ap (λ es. e ∷ Enter (s.entered + 1) unit (attr_of (attr_code a.request)) ∷ es) entry.effects
             ∙ ap (λ n. e ∷ Enter (n + 1) unit (attr_of (attr_code a.request)) ∷ enables (newly_enabled o t item)) count
@@ -309,14 +316,15 @@ module _ (o : Setting) (s : Core) (t : Trace) (m : Mark) (e : Effect) (a : Arriv
       enters_unit number_is event_is unit (omega (arith, p.0, b.sets.units))
 
   -- the item of the execution
-  pub executed-item : (opcode a.request == 0x02) ≡ false → number_by s a.request ≡ a.number → event_by s a.request ≡ cond (is_immediate a.request) a.event 0 → Agrees o (executed_as s a.request (verdict_by s a.request)) (execution o t m a ∷ t) × (e ∷ execution_effects s a.request (verdict_by s a.request) ≡ effects_of_item o t (execution o t m a))
-  executed-item no_function number_is event_is =
+  pub executed-item : (opcode a.request == 0x02) ≡ false → (opcode a.request == 0x06) ≡ false → number_by s a.request ≡ a.number → event_by s a.request ≡ cond (is_immediate a.request) a.event 0 → Agrees o (executed_as s a.request (verdict_by s a.request)) (execution o t m a ∷ t) × (e ∷ execution_effects s a.request (verdict_by s a.request) ≡ effects_of_item o t (execution o t m a))
+  executed-item no_function no_logout number_is event_is =
       let v : Verdict = verdict_by s a.request in
       let u : Untouched (m ∷ []) = untouched-begun [] (record { enters_none = refl; leaves_no = λ k. refl }) in
       let same : verdict_of o ((m ∷ []) ∷ t) a.request ≡ v = verdict-untouched o t (m ∷ []) a.request u ∙ sym (verdict_is o s t a.request b.commands b.sets) in
       let done : Executed o s t m e a v = executed-by number_is event_is v refl in
       let is : execution o t m a ≡ m ∷ marks_of ((m ∷ []) ∷ t) a v =
-      ap (λ c. m ∷ cond c (management_marks o ((m ∷ []) ∷ t) a) (marks_of ((m ∷ []) ∷ t) a (verdict_of o ((m ∷ []) ∷ t) a.request))) no_function
+      ap (λ c. m ∷ cond c (management_marks o ((m ∷ []) ∷ t) a) (cond (opcode a.request == 0x06) (logout_marks o ((m ∷ []) ∷ t) a) (marks_of ((m ∷ []) ∷ t) a (verdict_of o ((m ∷ []) ∷ t) a.request)))) no_function
+      ∙ ap (λ c. m ∷ cond c (logout_marks o ((m ∷ []) ∷ t) a) (marks_of ((m ∷ []) ∷ t) a (verdict_of o ((m ∷ []) ∷ t) a.request))) no_logout
       ∙ ap (λ w. m ∷ marks_of ((m ∷ []) ∷ t) a w) same in (
         subst (λ item. Agrees o (executed_as s a.request v) (item ∷ t)) (sym is) done.agrees,
         done.effects ∙ ap (effects_of_item o t) (sym is),

@@ -40,6 +40,10 @@ use Rattle.iscsi_session.specs.Standing.{Core, kept, task_of, WindowAgrees, Arri
 use Rattle.iscsi_session.specs.Functions.{aborted, abort_effects, answer_if, outcome_by, abort_by, performed_as, performance_effects, covers_ticket, response_effects, void_effects}
 use Rattle.iscsi_session.specs.Steps.{count_reply, with_reply, reply_effects, number_by, event_by, verdict_by, executed_as, execution_effects}
 use Rattle.iscsi_session.specs.Turning.{position_by, next_position, without_waiting, performed, performed_effects, managed, managed_effects, with_executed, executed_effects, next_arrived, next_waiting, waiting_in, wait_by, function_if, function_effects, patience_by, immediate_as, immediate_effects}
+use Rattle.iscsi_session.specs.Logout.{logout_marks}
+use Rattle.iscsi_session.specs.Parting.{closing_by, closed_as, closed_effects}
+use Rattle.iscsi_session.proofs.OpenConns.{ClosesNone, open_of-same, closes-more}
+use Rattle.iscsi_session.proofs.LogoutItem.{logout-item}
 use Rattle.iscsi_session.proofs.BoolLemmas.{and_parts}
 use Rattle.iscsi_session.proofs.ListLemmas.{count_by-map, list_any-map, list_all-filter, find-passes}
 use Rattle.iscsi_session.proofs.TraceLemmas.{filter-same}
@@ -251,11 +255,11 @@ module _ (o : Setting) (s : Core) (t : Trace) (m : Mark) (e : Effect) (a : Arriv
   quiet_answer = record { receives = refl; admits = λ n. refl; delivers_none = refl; delivers_no = λ n. refl; empties_no = λ n. refl }
 
   -- a number is taken out of the window or put into it, and the function is answered
-  windowed : (w' : Received) (mid : List Mark) → SameFrame s.window w' → Windowed o s t m → WindowAgrees o w' ((m ∷ (mid ++ answer a 0)) ∷ t) → filter_map enters mid ≡ [] → ((k : ℕ) → list_any (leaves_ticket k) mid ≡ false) → filter_map sent_on mid ≡ []
+  windowed : (w' : Received) (mid : List Mark) → SameFrame s.window w' → Windowed o s t m → WindowAgrees o w' ((m ∷ (mid ++ answer a 0)) ∷ t) → filter_map enters mid ≡ [] → ((k : ℕ) → list_any (leaves_ticket k) mid ≡ false) → filter_map sent_on mid ≡ [] → ClosesNone (mid ++ answer a 0)
       → ((ws : List Arrival) → waiting_through mid ws ≡ ws) → ((n : ℕ) → filter_map (admits_at n) mid ≡ [])
       → Agrees o (record s { window = w'; conns = count_reply (connection_of a.request) s.conns }) ((m ∷ (mid ++ answer a 0)) ∷ t)
       × (e ∷ (flat_map (effects_of_mark o t) mid ++ response_effects s a.request 0) ≡ effects_of_item o t (m ∷ (mid ++ answer a 0)))
-  windowed w' mid same before window enters_none leaves_none sends_none calm admits_none =
+  windowed w' mid same before window enters_none leaves_none sends_none closes calm admits_none =
       let conn : ℕ = connection_of a.request in
       let item : List Mark = m ∷ (mid ++ answer a 0) in
       let u : Untouched item = untouched-begun o s t m e a b (mid ++ answer a 0) (record {
@@ -278,6 +282,7 @@ module _ (o : Setting) (s : Core) (t : Trace) (m : Mark) (e : Effect) (a : Arriv
           level = b.level;
           arrived = arrived_same s.window w' s.arrived t item same first_admits before.arrived;
           waiting = record { list = through_append mid (answer a 0) (waiting_by m (waiting t)) ∙ calm (waiting_by m (waiting t)) ∙ b.waiting; may = b.may; known = b.waiting_known };
+          open_conns = b.open_is ∙ sym (open_of-same o item t (closes-more m (mid ++ answer a 0) b.closes_no closes));
         },
         ap (λ n. e ∷ (flat_map (effects_of_mark o t) mid ++ Send conn n function_reply ∷ [])) (b.replies.stat_sns conn b.known)
             ∙ sym (ap (λ es. (effects_of_mark o t m ++ es) ++ enables (newly_enabled o t item)) (flat_map-append (effects_of_mark o t) mid (answer a 0))
@@ -306,6 +311,7 @@ module _ (o : Setting) (s : Core) (t : Trace) (m : Mark) (e : Effect) (a : Arriv
       (elim known as (λ v. filter_map enters (cond v [] (Voids n ∷ [])) ≡ []) [ true ↦ refl | false ↦ refl ])
       (λ k. elim known as (λ v. list_any (leaves_ticket k) (cond v [] (Voids n ∷ [])) ≡ false) [ true ↦ refl | false ↦ refl ])
       (elim known as (λ v. filter_map sent_on (cond v [] (Voids n ∷ [])) ≡ []) [ true ↦ refl | false ↦ refl ])
+      (elim known as (λ v. ClosesNone (cond v [] (Voids n ∷ []) ++ answer a 0)) [ true ↦ record { session = refl; conns = λ k. refl } | false ↦ record { session = refl; conns = λ k. refl } ])
       (λ ws. elim known as (λ v. waiting_through (cond v [] (Voids n ∷ [])) ws ≡ ws) [ true ↦ refl | false ↦ refl ])
       (λ k. elim known as (λ v. filter_map (admits_at k) (cond v [] (Voids n ∷ [])) ≡ []) [ true ↦ refl | false ↦ refl ]) in
       subst (Performs (VoidNumber sn)) (sym is.1) (done.0, ap (λ es. e ∷ (es ++ response_effects s a.request 0)) (void_effects-are o s t m a unit sn before.window before.quiet is.0) ∙ done.1)
@@ -313,7 +319,7 @@ module _ (o : Setting) (s : Core) (t : Trace) (m : Mark) (e : Effect) (a : Arriv
   performs_empty : (sn : ℕ) (fm : List Mark) → OutcomeIs o s t m a unit fm (EmptyNumber sn) → Windowed o s t m → Performs (EmptyNumber sn) fm
   performs_empty sn fm is before =
       let h : Arrival = is.0.request in
-      let done = windowed (emptied s.window sn) (Empties h ∷ []) (emptied_frame s.window sn) before (WindowAgrees-emptying o s.window t m a unit sn (answer a 0) before.window before.quiet quiet_answer is.0) refl (λ k. refl) refl (λ ws. refl) (λ k. refl) in
+      let done = windowed (emptied s.window sn) (Empties h ∷ []) (emptied_frame s.window sn) before (WindowAgrees-emptying o s.window t m a unit sn (answer a 0) before.window before.quiet quiet_answer is.0) refl (λ k. refl) refl (record { session = refl; conns = λ k. refl }) (λ ws. refl) (λ k. refl) in
       subst (Performs (EmptyNumber sn)) (sym is.1) (done.0, ap (λ w. e ∷ Empty w ∷ response_effects s a.request 0) is.0.shown ∙ done.1)
 
   performs_leaving : (covers : Task → Bool) (fm : List Mark) (x : Outcome) → fm ≡ map Leaves (covered_in o t unit covers) ++ answer a 0
@@ -394,11 +400,17 @@ executes : (o : Setting) (s : Core) (t : Trace) (m : Mark) (e : Effect) (a : Arr
     → Agrees o (with_executed s a.request event) (execution o t m a ∷ t) × (e ∷ executed_effects s a.request event ≡ effects_of_item o t (execution o t m a))
 executes o s t m e a event b number_is event_is k =
     let t' : Trace = (m ∷ []) ∷ t in
-    elim (opcode a.request == 0x02) as (λ v. (opcode a.request == 0x02) ≡ v → Agrees o (cond v (managed s a.request (position_by s a.request) event) (executed_as s a.request (verdict_by s a.request))) (execution o t m a ∷ t)
-    × (e ∷ cond v (managed_effects s a.request (position_by s a.request) event) (execution_effects s a.request (verdict_by s a.request)) ≡ effects_of_item o t (execution o t m a))) [
+    let others : List Mark = marks_of t' a (verdict_of o t' a.request) in
+    elim (opcode a.request == 0x02) as (λ v. (opcode a.request == 0x02) ≡ v → Agrees o (cond v (managed s a.request (position_by s a.request) event) (cond (opcode a.request == 0x06) (closed_as s a.request (closing_by s a.request)) (executed_as s a.request (verdict_by s a.request)))) (execution o t m a ∷ t)
+    × (e ∷ cond v (managed_effects s a.request (position_by s a.request) event) (cond (opcode a.request == 0x06) (closed_effects s a.request (closing_by s a.request)) (execution_effects s a.request (verdict_by s a.request))) ≡ effects_of_item o t (execution o t m a))) [
       | true ↦ λ is. subst (λ fm. Agrees o (managed s a.request (position_by s a.request) event) ((m ∷ fm) ∷ t) × (e ∷ managed_effects s a.request (position_by s a.request) event ≡ effects_of_item o t (m ∷ fm)))
-          (sym (ap (λ v. cond v (management_marks o t' a) (marks_of t' a (verdict_of o t' a.request))) is)) (managed-item o s t m e a b (position_by s a.request) event k)
-      | false ↦ λ is. executed-item o s t m e a b is number_is event_is
+          (sym (ap (λ v. cond v (management_marks o t' a) (cond (opcode a.request == 0x06) (logout_marks o t' a) others)) is)) (managed-item o s t m e a b (position_by s a.request) event k)
+      | false ↦ λ is. elim (opcode a.request == 0x06) as (λ v. (opcode a.request == 0x06) ≡ v → Agrees o (cond v (closed_as s a.request (closing_by s a.request)) (executed_as s a.request (verdict_by s a.request))) (execution o t m a ∷ t)
+        × (e ∷ cond v (closed_effects s a.request (closing_by s a.request)) (execution_effects s a.request (verdict_by s a.request)) ≡ effects_of_item o t (execution o t m a))) [
+          | true ↦ λ out. subst (λ fm. Agrees o (closed_as s a.request (closing_by s a.request)) ((m ∷ fm) ∷ t) × (e ∷ closed_effects s a.request (closing_by s a.request) ≡ effects_of_item o t (m ∷ fm)))
+              (sym (ap (λ v. cond v (management_marks o t' a) (cond (opcode a.request == 0x06) (logout_marks o t' a) others)) is ∙ ap (λ v. cond v (logout_marks o t' a) others) out)) (logout-item o s t m e a b)
+          | false ↦ λ out. executed-item o s t m e a b is out number_is event_is
+        ] refl
     ] refl
 
 position_of : (o : Setting) (s : Core) (a : Arrival) → s.window.first ≡ o.first → number_by s a.request ≡ a.number → position_by s a.request ≡ pos a.number -ℤ pos (number_of_first o.first)
@@ -460,6 +472,8 @@ immediate_begun o s s' t a h is immediate known waits may waits_known =
       enters_no = refl;
       leaves_no = λ k. refl;
       sends_no = refl;
+      closes_no = record { session = refl; conns = λ c. refl };
+      open_is = h.open_conns;
       shows = refl;
     })
 
@@ -569,6 +583,7 @@ becomes_waiting o s index t r h may known taken ahead =
         enabled = EnabledSoFar-untouched o item t u now.enabled;
         level = now.level;
         arrived = ArrivalsAgree-quiet s.window s.arrived t item q now.arrived;
+        open_conns = now.open_conns ∙ sym (open_of-same o item t (record { session = refl; conns = λ c. refl }));
         waiting = record {
           list = ap (λ bs. bs ++ a ∷ []) now.waiting.list ∙ ap (λ b. map (arrival_waiting o.first) s.waiting ++ b ∷ []) (sym same) ∙ sym (map-append (arrival_waiting o.first) s.waiting (w ∷ []));
           may = list_all-append (λ (v : Waiting). may_wait v.request) s.waiting (w ∷ []) ∙ ap (λ b. b && (may_wait r && true)) now.waiting.may ∙ ap (λ b. b && true) may;

@@ -20,6 +20,7 @@ use Rattle.iscsi_session.specs.Run.{effects_of_mark, effects_of_item, newly_enab
 use Rattle.iscsi_session.specs.Standing.{Core, stat_sn_on, kept, task_of, member_of, set_of, are_apart, WindowAgrees, CommandsAgree, SetsAgree, Agrees}
 use Rattle.iscsi_session.specs.Steps.{set_at, all_given, as_given, enable_effects, is_numbered}
 use Rattle.iscsi_session.specs.Functions.{covers_ticket, is_gone, staying, set_staying, with_left, aborted, abort_effects}
+use Rattle.iscsi_session.proofs.OpenConns.{ClosesNone, open_of-same, closes-more}
 use Rattle.iscsi_session.proofs.BoolLemmas.{and_parts, and_both, or_none, or_second, not_true}
 use Rattle.iscsi_session.proofs.ListLemmas.{list_any-map, count_by-map, list_all-filter}
 use Rattle.iscsi_session.proofs.TraceLemmas.{filter-same, filter-true, weaker}
@@ -125,6 +126,10 @@ leaving-enters (c ∷ cs) a reply = leaving-enters cs a reply
 leaving-calm : (cs : List Command) (a : Arrival) (reply : Reply) (ws : List Arrival) → waiting_through (map Leaves cs ++ reply_on a reply) ws ≡ ws
 leaving-calm [] a reply ws = refl
 leaving-calm (c ∷ cs) a reply ws = leaving-calm cs a reply ws
+
+pub leaving-closes : (cs : List Command) (a : Arrival) (reply : Reply) → ClosesNone (map Leaves cs ++ reply_on a reply)
+leaving-closes [] a reply = record { session = refl; conns = λ c. refl }
+leaving-closes (c ∷ cs) a reply = let none : ClosesNone (map Leaves cs ++ reply_on a reply) = leaving-closes cs a reply in record { session = none.session; conns = λ k. none.conns k }
 
 leaving-sends : (cs : List Command) (a : Arrival) (reply : Reply) → filter_map sent_on (map Leaves cs ++ reply_on a reply) ≡ connection_of a.request ∷ []
 leaving-sends [] a reply = refl
@@ -350,6 +355,7 @@ module _ (o : Setting) (s : Core) (t : Trace) (m : Mark) (e : Effect) (a : Arriv
       level = b.level;
       arrived = (let now = b.arrived (map Leaves gone ++ reply_on a reply) (quiet-leaving gone a reply) in record { long = now.long; at_place = now.at_place });
       waiting = record { list = leaving-calm gone a reply (waiting_by m (waiting t)) ∙ b.waiting; may = b.may; known = b.waiting_known };
+      open_conns = b.open_is ∙ sym (open_of-same o item t (closes-more m (map Leaves gone ++ reply_on a reply) b.closes_no (leaving-closes gone a reply)));
     },
     effects_are,
   )

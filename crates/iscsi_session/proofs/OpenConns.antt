@@ -1,10 +1,11 @@
 -- An item that closes nothing leaves the connections open that were.
-use Rattle.std.proofs.Common.{◌≡◌, ℕ, ◌||◌, ◌&&◌, not, Bool, false, List, ◌∷◌, map, refl, ap, ◌∙◌}
+use Rattle.std.proofs.Common.{◌≡◌, ℕ, ◌||◌, ◌&&◌, not, Bool, false, List, [], ◌∷◌, map, refl, ap, sym, ◌∙◌}
 use Rattle.std.specs.List.{list_any}
 use Rattle.iscsi_session.specs.Settings.{Setting, is_known}
 use Rattle.iscsi_session.specs.Trace.{Mark, Trace, has, closes_conn, closes_session, is_ended, is_closed}
 use Rattle.iscsi_session.specs.Logout.{is_open}
 use Rattle.iscsi_session.specs.Standing.{open_of}
+use Rattle.iscsi_session.proofs.BoolLemmas.{or_false}
 use Rattle.iscsi_session.proofs.TraceLemmas.{filter-same}
 
 pub record ClosesNone (item : List Mark) : Type 0 where
@@ -19,3 +20,10 @@ closed-same conn item t c =
 pub open_of-same : (o : Setting) (item : List Mark) (t : Trace) → ClosesNone item → open_of o (item ∷ t) ≡ open_of o t
 open_of-same o item t c =
     filter-same (is_open o (item ∷ t)) (is_open o t) (map (λ (k : ℕ × ℕ). k.0) o.conns) (λ conn. ap (λ b. is_known conn o.conns && not b) (closed-same conn item t c))
+
+-- a mark, and those after it
+pub closes-more : (m : Mark) (ms : List Mark) → ClosesNone (m ∷ []) → ClosesNone ms → ClosesNone (m ∷ ms)
+closes-more m ms c cs = record {
+  session = ap (λ b. b || list_any closes_session ms) (sym (or_false (closes_session m)) ∙ c.session) ∙ cs.session;
+  conns = λ conn. ap (λ b. b || list_any (closes_conn conn) ms) (sym (or_false (closes_conn conn m)) ∙ c.conns conn) ∙ cs.conns conn;
+}

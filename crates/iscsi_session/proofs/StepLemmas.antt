@@ -31,6 +31,7 @@ use Rattle.iscsi_session.specs.Run.{stat_sn_of, newly_enabled, effects_of, trace
 use Rattle.iscsi_session.specs.Refusals.{belongs, refusal_of}
 use Rattle.iscsi_session.specs.Standing.{Core, CommandsAgree, place_of, kept, is_regular, is_regular_request, member_of, WindowAgrees, Agrees, Settled, StandsFor, ArrivalsAgree}
 use Rattle.iscsi_session.specs.Steps.{set_at, set_left, enable_effects, finished, with_offered, comes_on, refusal_by, find_ticket, without_ticket, enabled_of, find_enabled, without_command, leave_effects, after_completion, completion_effects, counted, noted_at}
+use Rattle.iscsi_session.proofs.OpenConns.{open_of-same}
 use Rattle.iscsi_session.proofs.BoolLemmas.{and_parts, and_both, or_false}
 use Rattle.iscsi_session.proofs.NumberLemmas.{wire-lift}
 use Rattle.iscsi_session.proofs.ListLemmas.{list_any-map, is_known-cids}
@@ -137,6 +138,7 @@ Stepped-completed o s t c ticket status h found =
           level = a.level;
           arrived = arrived-finished s.window s.arrived (item ∷ t) c (ArrivalsAgree-quiet s.window s.arrived t item (quiet-completion c status) a.arrived);
           waiting = record { list = a.waiting.list; may = a.waiting.may; known = a.waiting.known };
+          open_conns = a.open_conns ∙ sym (open_of-same o item t (record { session = refl; conns = λ k. refl }));
         };
         none_due = finished_place s.window c ∙ h.none_due;
       };
@@ -308,7 +310,7 @@ offered o s event t r h not_immediate known taken =
 
 pub Settled-counted : (o : Setting) (s : Core) (t : Trace) → Settled o s t → Settled o (counted s) t
 Settled-counted o s t h = let a = h.agrees in record {
-  agrees = record { events = a.events; window = a.window; replies = a.replies; commands = a.commands; sets = a.sets; unfinished = a.unfinished; enabled = a.enabled; level = a.level; arrived = a.arrived; waiting = a.waiting };
+  agrees = record { events = a.events; window = a.window; replies = a.replies; commands = a.commands; sets = a.sets; unfinished = a.unfinished; enabled = a.enabled; level = a.level; arrived = a.arrived; waiting = a.waiting; open_conns = a.open_conns };
   none_due = h.none_due;
 }
 

@@ -63,6 +63,8 @@ turn-begun o s t r h place x =
       enters_no = refl;
       leaves_no = λ k. refl;
       sends_no = refl;
+      closes_no = record { session = refl; conns = λ c. refl };
+      open_is = h.open_conns;
       shows = refl;
     }
 
