@@ -1,6 +1,7 @@
 -- The turns that are taken, and an arrival as a whole.
-use Rattle.std.proofs.Common.{◌≡◌, ℕ, ◌+◌, ◌-◌, ◌==◌, ◌⊎◌, inl, inr, ⊎_elim, cond, true, false, nat_lt, arith, List, [], ◌∷◌, ◌++◌, Option, Some, None, is_some, refl, ap, sym, subst, ◌∙◌, append_assoc}
-use Rattle.std.specs.List.{list_all}
+use Rattle.std.proofs.Common.{◌&&◌, ◌||◌, Bool, not, filter, map, ◌≡◌, ℕ, ◌+◌, ◌-◌, ◌==◌, ◌⊎◌, inl, inr, ⊎_elim, cond, true, false, nat_lt, arith, List, [], ◌∷◌, ◌++◌, Option, Some, None, is_some, refl, ap, sym, subst, ◌∙◌, append_assoc}
+use Rattle.std.specs.List.{list_all, list_any}
+use Rattle.std.proofs.lemmas.Bool.{eqb-true}
 use Rattle.std.proofs.lemmas.List.{append-nil}
 use Rattle.iscsi_wire.specs.declared.request.Request.{Request}
 use Rattle.iscsi_wire.specs.declared.reply.Reply.{Reply}
@@ -11,18 +12,22 @@ use Rattle.iscsi_window.specs.Windows.{at_place, offer_to, number_expected}
 use Rattle.iscsi_session.specs.declared.effect.Effect.{Effect}
 use Rattle.iscsi_session.specs.declared.effect.Effect.TheVariants.{Send, Ignore}
 use Rattle.iscsi_session.specs.declared.effect.Why.{Why}
-use Rattle.iscsi_session.specs.declared.effect.Why.TheVariants.{Data}
+use Rattle.iscsi_session.specs.declared.effect.Why.TheVariants.{Closed, Data}
 use Rattle.iscsi_session.specs.declared.kind.Kind.TheVariants.{PassedOver, Unknown, Executes as ExecutesKind}
 use Rattle.iscsi_session.specs.Settings.{Setting, is_known}
-use Rattle.iscsi_session.specs.Trace.{Arrival, Mark, Admits, Trace, after_items, received}
+use Rattle.iscsi_session.specs.Trace.{Arrival, Mark, Admits, Trace, after_items, received, is_closed}
 use Rattle.iscsi_session.specs.Flow.{HasOneMore}
 use Rattle.iscsi_session.specs.Execution.{exp_of, rejected, ignored}
-use Rattle.iscsi_session.specs.Agenda.{with_turns, numbered, kind_of, arrival_as, arrival, arrival_of}
+use Rattle.iscsi_session.specs.Agenda.{with_turns, numbered, kind_of, arrival_as, arrival_open, arrival, arrival_of}
 use Rattle.iscsi_session.specs.Items.{immediate_item, functions_at, agenda}
 use Rattle.iscsi_session.specs.Run.{effects_of, effects_of_item, stat_sn_of}
 use Rattle.iscsi_session.specs.Standing.{Core, Agrees, Settled}
 use Rattle.iscsi_session.specs.Steps.{with_reply, reply_effects, with_offered}
 use Rattle.iscsi_session.specs.Turning.{turned_if, turn_effects, patience_by, immediate_as, immediate_effects}
+use Rattle.iscsi_session.specs.Logout.{is_open}
+use Rattle.iscsi_session.specs.Parting.{is_among_open}
+use Rattle.iscsi_session.proofs.OpenConns.{open_of-same}
+use Rattle.iscsi_session.proofs.ListLemmas.{list_any-map}
 use Rattle.iscsi_session.proofs.DeliveryLemmas.{IsQuiet}
 use Rattle.iscsi_session.proofs.WindowParts.{WindowAgrees-quiet}
 use Rattle.iscsi_session.proofs.ArrivedLemmas.{ArrivalsAgree-quiet}
@@ -99,12 +104,12 @@ held_receives o s s' index t r x said is none =
 -- ---- an arrival that isn't numbered
 
 -- it is passed over
-pub passed_over : (o : Setting) (s : Core) (index : ℕ) (t : Trace) (r : Request) → Settled o s t → kind_of r ≡ PassedOver → Stepped o s t (arrival o t (arrival_of o index t r)) (Ignore Data ∷ [])
+pub passed_over : (o : Setting) (s : Core) (index : ℕ) (t : Trace) (r : Request) → Settled o s t → kind_of r ≡ PassedOver → Stepped o s t (arrival_open o t (arrival_of o index t r)) (Ignore Data ∷ [])
 passed_over o s index t r h kind = subst (λ k. Stepped o s t (arrival_as o t (arrival_of o index t r) k) (Ignore Data ∷ [])) (sym kind) (Stepped-ignored o s t Data h)
 
 -- it is rejected
 pub rejected_opcode : (o : Setting) (s : Core) (index : ℕ) (t : Trace) (r : Request) → Settled o s t → kind_of r ≡ Unknown → is_known (connection_of r) o.conns ≡ true
-    → Stepped o (with_reply s (connection_of r)) t (arrival o t (arrival_of o index t r)) (reply_effects s (connection_of r) (Reject 5 (header_of r)))
+    → Stepped o (with_reply s (connection_of r)) t (arrival_open o t (arrival_of o index t r)) (reply_effects s (connection_of r) (Reject 5 (header_of r)))
 rejected_opcode o s index t r h kind known =
     let a = h.agrees in
     let conn : ℕ = connection_of r in
@@ -125,6 +130,7 @@ rejected_opcode o s index t r h kind known =
           level = a.level;
           arrived = ArrivalsAgree-quiet s.window s.arrived t item q a.arrived;
           waiting = record { list = a.waiting.list; may = a.waiting.may; known = a.waiting.known };
+          open_conns = a.open_conns ∙ sym (open_of-same o item t (record { session = refl; conns = λ c. refl }));
         };
         none_due = h.none_due;
       };
@@ -134,7 +140,7 @@ rejected_opcode o s index t r h kind known =
 -- an immediate request executes, waits or is refused, and the agenda follows
 pub record AtOnce (o : Setting) (s s' : Core) (t : Trace) (a : Arrival) : Type 0 where
   pub agrees : Agrees o s' (immediate_item o t a ∷ t)
-  pub items_are : arrival o t a ≡ immediate_item o t a ∷ agenda o (number_expected s'.window) (exp_of o (immediate_item o t a ∷ t) - number_expected s'.window) (immediate_item o t a ∷ t)
+  pub items_are : arrival_open o t a ≡ immediate_item o t a ∷ agenda o (number_expected s'.window) (exp_of o (immediate_item o t a ∷ t) - number_expected s'.window) (immediate_item o t a ∷ t)
   pub effects_are : immediate_effects s a.request (patience_by s a.request) ≡ effects_of_item o t (immediate_item o t a)
 
 pub at_once : (o : Setting) (s s' : Core) (index : ℕ) (t : Trace) (r : Request) → Settled o s t → kind_of r ≡ ExecutesKind → is_immediate r ≡ true → is_known (connection_of r) o.conns ≡ true → s.taken ≡ index + 1 → list_all (λ w. nat_lt (w.event + 1) s.taken) s.waiting ≡ true → s' ≡ immediate_as s r (patience_by s r)
@@ -154,12 +160,12 @@ at_once o s s' index t r h kind immediate known taken waited is =
 
 pub at_once_settled : (o : Setting) (s s' f : Core) (t : Trace) (a : Arrival) → AtOnce o s s' t a
     → ((o : Setting) (t : Trace) → Agrees o s' t → Settled o f (after_items (agenda o (number_expected s'.window) (exp_of o t - number_expected s'.window) t) t))
-    → Settled o f (after_items (arrival o t a) t)
+    → Settled o f (after_items (arrival_open o t a) t)
 at_once_settled o s s' f t a x taken = subst (λ (items : List (List Mark)). Settled o f (after_items items t)) (sym x.items_are) (taken o (immediate_item o t a ∷ t) x.agrees)
 
 pub at_once_effects : (o : Setting) (s s' : Core) (t : Trace) (a : Arrival) (out out' out'' : List Effect) → AtOnce o s s' t a → out' ≡ out ++ immediate_effects s a.request (patience_by s a.request)
     → ((o : Setting) (t : Trace) → Agrees o s' t → out'' ≡ out' ++ effects_of o t (agenda o (number_expected s'.window) (exp_of o t - number_expected s'.window) t))
-    → out'' ≡ out ++ effects_of o t (arrival o t a)
+    → out'' ≡ out ++ effects_of o t (arrival_open o t a)
 at_once_effects o s s' t a out out' out'' x first given =
     let item : List Mark = immediate_item o t a in
     let t₁ : Trace = item ∷ t in
@@ -171,25 +177,82 @@ at_once_effects o s s' t a out out' out'' x first given =
 
 pub at_once_receives : (o : Setting) (s s' : Core) (t : Trace) (a : Arrival) → AtOnce o s s' t a
     → ((o : Setting) (t : Trace) → Agrees o s' t → received (after_items (agenda o (number_expected s'.window) (exp_of o t - number_expected s'.window) t) t) ≡ received t)
-    → HasOneMore (received t) (received (after_items (arrival o t a) t))
+    → HasOneMore (received t) (received (after_items (arrival_open o t a) t))
 at_once_receives o s s' t a x none =
-    let all : received (after_items (arrival o t a) t) ≡ received (immediate_item o t a ∷ t) = ap (λ (items : List (List Mark)). received (after_items items t)) x.items_are ∙ none o (immediate_item o t a ∷ t) x.agrees in
+    let all : received (after_items (arrival_open o t a) t) ≡ received (immediate_item o t a ∷ t) = ap (λ (items : List (List Mark)). received (after_items items t)) x.items_are ∙ none o (immediate_item o t a ∷ t) x.agrees in
     ⊎_elim (λ nothing. inl (all ∙ ap (λ ns. received t ++ ns) nothing ∙ append-nil (received t)))
     (λ one. inr (one.0, all ∙ ap (λ ns. received t ++ ns) one.1))
     (immediate_receives_one o t a)
 
 -- what isn't received
-pub passed_receives : (o : Setting) (t : Trace) (a : Arrival) → kind_of a.request ≡ PassedOver → HasOneMore (received t) (received (after_items (arrival o t a) t))
+pub passed_receives : (o : Setting) (t : Trace) (a : Arrival) → kind_of a.request ≡ PassedOver → HasOneMore (received t) (received (after_items (arrival_open o t a) t))
 passed_receives o t a kind = inl (ap (λ k. received (after_items (arrival_as o t a k) t)) kind ∙ append-nil (received t))
 
-pub rejected_receives : (o : Setting) (t : Trace) (a : Arrival) → kind_of a.request ≡ Unknown → HasOneMore (received t) (received (after_items (arrival o t a) t))
+pub rejected_receives : (o : Setting) (t : Trace) (a : Arrival) → kind_of a.request ≡ Unknown → HasOneMore (received t) (received (after_items (arrival_open o t a) t))
 rejected_receives o t a kind = inl (ap (λ k. received (after_items (arrival_as o t a k) t)) kind ∙ append-nil (received t))
 
 pub ignored_receives : (t : Trace) (items : List (List Mark)) (why : Why) → items ≡ ignored why → HasOneMore (received t) (received (after_items items t))
 ignored_receives t items why is = inl (ap (λ (is : List (List Mark)). received (after_items is t)) is ∙ append-nil (received t))
 
 -- it is numbered
-pub is_numbered_arrival : (o : Setting) (index : ℕ) (t : Trace) (r : Request) → kind_of r ≡ ExecutesKind → is_immediate r ≡ false → arrival o t (arrival_of o index t r) ≡ numbered o t (arrival_of o index t r)
+pub is_numbered_arrival : (o : Setting) (index : ℕ) (t : Trace) (r : Request) → kind_of r ≡ ExecutesKind → is_immediate r ≡ false → arrival_open o t (arrival_of o index t r) ≡ numbered o t (arrival_of o index t r)
 is_numbered_arrival o index t r kind numbered_is =
     let a : Arrival = arrival_of o index t r in
     ap (arrival_as o t a) kind ∙ ap (λ b. cond b (with_turns o t (immediate_item o t a)) (numbered o t a)) numbered_is
+
+-- ---- an arrival on a connection that is closed
+
+filtered_among : (p : ℕ → Bool) (c : ℕ) (cs : List ℕ) → list_any (λ k. k == c) (filter p cs) ≡ (list_any (λ k. k == c) cs && p c)
+filtered_among p c [] = refl
+filtered_among p c (k ∷ cs) = by_test (p k) refl (filtered_among p c cs)
+  where
+    rest : Bool
+    rest = list_any (λ j. j == c) cs
+
+    shown : Bool
+    shown = list_any (λ j. j == c) (filter p cs)
+
+    and_false : (b : Bool) → (b && false) ≡ false
+    and_false true = refl
+    and_false false = refl
+
+    by_test : (v : Bool) → p k ≡ v → shown ≡ (rest && p c) → list_any (λ j. j == c) (cond v (k ∷ filter p cs) (filter p cs)) ≡ (((k == c) || rest) && p c)
+    by_test true is later =
+        elim (k == c) as (λ b. (k == c) ≡ b → (b || shown) ≡ ((b || rest) && p c)) [
+          | true ↦ λ here. sym (ap p (sym (eqb-true k c here)) ∙ is)
+          | false ↦ λ here. later
+        ] refl
+    by_test false is later =
+        elim (k == c) as (λ b. (k == c) ≡ b → shown ≡ ((b || rest) && p c)) [
+          | true ↦ λ here. let no : p c ≡ false = ap p (sym (eqb-true k c here)) ∙ is in later ∙ ap (λ b. rest && b) no ∙ and_false rest ∙ sym no
+          | false ↦ λ here. later
+        ] refl
+
+-- the session knows which connections are open
+open_is : (o : Setting) (s : Core) (t : Trace) (conn : ℕ) → Agrees o s t → is_known conn o.conns ≡ true → is_among_open conn s.open_conns ≡ not (is_closed conn t)
+open_is o s t conn h known =
+    ap (list_any (λ c. c == conn)) h.open_conns
+    ∙ filtered_among (is_open o t) conn (map (λ (c : ℕ × ℕ). c.0) o.conns)
+    ∙ ap (λ b. b && is_open o t conn) (list_any-map (λ c. c == conn) (λ (c : ℕ × ℕ). c.0) o.conns)
+    ∙ ap (λ b. b && (b && not (is_closed conn t))) known
+
+not_flip : (b v : Bool) → v ≡ not b → b ≡ not v
+not_flip true v is = ap not (sym is)
+not_flip false v is = ap not (sym is)
+
+pub opened_arrival : (o : Setting) (s : Core) (index : ℕ) (t : Trace) (r : Request) → Agrees o s t → is_known (connection_of r) o.conns ≡ true → is_among_open (connection_of r) s.open_conns ≡ true
+    → arrival o t (arrival_of o index t r) ≡ arrival_open o t (arrival_of o index t r)
+opened_arrival o s index t r h known there =
+    ap (λ b. cond b (ignored Closed) (arrival_open o t (arrival_of o index t r))) (not_flip (is_closed (connection_of r) t) true (sym there ∙ open_is o s t (connection_of r) h known))
+
+closed_is : (o : Setting) (s : Core) (index : ℕ) (t : Trace) (r : Request) → Agrees o s t → is_known (connection_of r) o.conns ≡ true → is_among_open (connection_of r) s.open_conns ≡ false → arrival o t (arrival_of o index t r) ≡ ignored Closed
+closed_is o s index t r h known gone =
+    ap (λ b. cond b (ignored Closed) (arrival_open o t (arrival_of o index t r))) (not_flip (is_closed (connection_of r) t) false (sym gone ∙ open_is o s t (connection_of r) h known))
+
+pub closed_arrival : (o : Setting) (s : Core) (index : ℕ) (t : Trace) (r : Request) → Settled o s t → is_known (connection_of r) o.conns ≡ true → is_among_open (connection_of r) s.open_conns ≡ false
+    → Stepped o s t (arrival o t (arrival_of o index t r)) (Ignore Closed ∷ [])
+closed_arrival o s index t r h known gone = subst (λ items. Stepped o s t items (Ignore Closed ∷ [])) (sym (closed_is o s index t r h.agrees known gone)) (Stepped-ignored o s t Closed h)
+
+pub closed_receives : (o : Setting) (s : Core) (index : ℕ) (t : Trace) (r : Request) → Agrees o s t → is_known (connection_of r) o.conns ≡ true → is_among_open (connection_of r) s.open_conns ≡ false
+    → HasOneMore (received t) (received (after_items (arrival o t (arrival_of o index t r)) t))
+closed_receives o s index t r h known gone = ignored_receives t (arrival o t (arrival_of o index t r)) Closed (closed_is o s index t r h known gone)

@@ -44,6 +44,7 @@ use Rattle.iscsi_session.specs.Logout.{logout_marks}
 use Rattle.iscsi_session.specs.Parting.{closing_by, closed_as, closed_effects}
 use Rattle.iscsi_session.proofs.OpenConns.{ClosesNone, open_of-same, closes-more}
 use Rattle.iscsi_session.proofs.LogoutItem.{logout-item}
+use Rattle.iscsi_session.proofs.PartedLemmas.{closed_expected}
 use Rattle.iscsi_session.proofs.BoolLemmas.{and_parts}
 use Rattle.iscsi_session.proofs.ListLemmas.{count_by-map, list_any-map, list_all-filter, find-passes}
 use Rattle.iscsi_session.proofs.TraceLemmas.{filter-same}
@@ -671,9 +672,12 @@ verdict_same s r (EnterUnit unit) = elim (is_immediate r) as (λ b. number_expec
 
 pub executed_expected : (s : Core) (r : Request) (event : ℕ) → number_expected (with_executed s r event).window ≡ number_expected s.window
 executed_expected s r event =
-    elim (opcode r == 0x02) as (λ v. number_expected (let c : Core = cond v (managed s r (position_by s r) event) (executed_as s r (verdict_by s r)) in c).window ≡ number_expected s.window) [
+    elim (opcode r == 0x02) as (λ v. number_expected (let c : Core = cond v (managed s r (position_by s r) event) (cond (opcode r == 0x06) (closed_as s r (closing_by s r)) (executed_as s r (verdict_by s r))) in c).window ≡ number_expected s.window) [
       | true ↦ managed_same s r (position_by s r) event
-      | false ↦ verdict_same s r (verdict_by s r)
+      | false ↦ elim (opcode r == 0x06) as (λ v. number_expected (let c : Core = cond v (closed_as s r (closing_by s r)) (executed_as s r (verdict_by s r)) in c).window ≡ number_expected s.window) [
+        | true ↦ closed_expected s r (closing_by s r)
+        | false ↦ verdict_same s r (verdict_by s r)
+      ]
     ]
 
 pub function_expected : (s : Core) (x : Option Waiting) → number_expected (function_if s x).window ≡ number_expected s.window

@@ -43,6 +43,7 @@ pub mod AbortTheorem
 pub mod LeavingLemmas
 pub mod LeavingParts
 pub mod AbortParts
+pub mod PartedLemmas
 pub mod LogoutItem
 pub mod FunctionLemmas
 pub mod AgendaLemmas

@@ -36,6 +36,9 @@ use Rattle.iscsi_session.specs.Standing.{Core, is_held}
 use Rattle.iscsi_session.specs.Steps.{noted_in, KeepsPace, is_numbered, new_live, set_at, set_entered, new_task, with_command, with_reply, verdict_by, executed_as}
 use Rattle.iscsi_session.specs.Functions.{tagged_in, missing_at, abort_by, answer_if, outcome_by, staying, covers_ticket, aborted, performed_as, ungiven, ungiven_in, owed}
 use Rattle.iscsi_session.specs.Turning.{waiting_in, wait_by, patience_by, performed, managed, position_by, with_executed}
+use Rattle.iscsi_session.specs.declared.closing.Closing.{Closing}
+use Rattle.iscsi_session.specs.Parting.{closing_by, closed_as}
+use Rattle.iscsi_session.proofs.PartedLemmas.{Parts, closed_parts}
 use Rattle.iscsi_session.proofs.BoolLemmas.{and_first, and_second}
 use Rattle.iscsi_session.proofs.ListLemmas.{count_by-map, count_by-push}
 use Rattle.iscsi_session.proofs.FindLemmas.{position-cons}
@@ -426,11 +429,14 @@ through_performed P s r number event same does = by_unit (unit_named (length s.s
     by_unit None = same
     by_unit (Some unit) = does unit
 
-pub through_executed : (P : Core → Type 0) (s : Core) (r : Request) (event : ℕ) → P (with_reply s (connection_of r)) → P (performed s r (position_by s r) event) → ((v : Verdict) → P (executed_as s r v)) → P (with_executed s r event)
-through_executed P s r event replies performs obeys =
-    elim (opcode r == 0x02) as (λ b. P (cond b (managed s r (position_by s r) event) (executed_as s r (verdict_by s r)))) [
+pub through_executed : (P : Core → Type 0) (s : Core) (r : Request) (event : ℕ) → P (with_reply s (connection_of r)) → P (performed s r (position_by s r) event) → ((x : Closing) → P (closed_as s r x)) → ((v : Verdict) → P (executed_as s r v)) → P (with_executed s r event)
+through_executed P s r event replies performs closes obeys =
+    elim (opcode r == 0x02) as (λ b. P (cond b (managed s r (position_by s r) event) (cond (opcode r == 0x06) (closed_as s r (closing_by s r)) (executed_as s r (verdict_by s r))))) [
       | true ↦ by_refusal (refusal_to s.level (length s.sets) r)
-      | false ↦ obeys (verdict_by s r)
+      | false ↦ elim (opcode r == 0x06) as (λ b. P (cond b (closed_as s r (closing_by s r)) (executed_as s r (verdict_by s r)))) [
+        | true ↦ closes (closing_by s r)
+        | false ↦ obeys (verdict_by s r)
+      ]
     ]
   where
     by_refusal : (x : Option Reply) → P (managed_if s r (position_by s r) event x)
@@ -448,13 +454,13 @@ waiting_performed s r number event = through_performed (λ t. t.waiting ≡ s.wa
     by_outcome unit (EmptyNumber sn) = refl
     by_outcome unit (VoidNumber sn) = refl
 
-pub waiting_executed : (s : Core) (r : Request) (event : ℕ) → (with_executed s r event).waiting ≡ s.waiting
-waiting_executed s r event = through_executed (λ t. t.waiting ≡ s.waiting) s r event refl (waiting_performed s r (position_by s r) event) by_verdict
+pub waiting_executed : (s : Core) (r : Request) (event : ℕ) → length (with_executed s r event).waiting ≤ length s.waiting
+waiting_executed s r event = through_executed (λ t. length t.waiting ≤ length s.waiting) s r event (omega arith) (omega (arith, ap length (waiting_performed s r (position_by s r) event))) (λ x. (closed_parts s r x).waiting) by_verdict
   where
-    by_verdict : (v : Verdict) → (executed_as s r v).waiting ≡ s.waiting
-    by_verdict Nothing = refl
-    by_verdict (Answer reply) = refl
-    by_verdict (Enter unit) = refl
+    by_verdict : (v : Verdict) → length (executed_as s r v).waiting ≤ length s.waiting
+    by_verdict Nothing = omega arith
+    by_verdict (Answer reply) = omega arith
+    by_verdict (Enter unit) = omega arith
 
 pub eased_performed : (s : Core) (r : Request) (number : ℤ) (event : ℕ) → Eased s.window (performed s r number event).window
 eased_performed s r number event = through_performed (λ t. Eased s.window t.window) s r number event (eased_same s.window) (λ unit. by_outcome unit (outcome_by s r number event unit))
@@ -479,8 +485,11 @@ calm_performed s r number event numbered = through_performed (λ t. Calm s.windo
 
 -- an immediate request begins none of the numbered commands
 pub eased_executed : (s : Core) (r : Request) (event : ℕ) → is_immediate r ≡ true → Eased s.window (with_executed s r event).window
-eased_executed s r event immediate = through_executed (λ t. Eased s.window t.window) s r event (eased_same s.window) (eased_performed s r (position_by s r) event) by_verdict
+eased_executed s r event immediate = through_executed (λ t. Eased s.window t.window) s r event (eased_same s.window) (eased_performed s r (position_by s r) event) closes by_verdict
   where
+    closes : (x : Closing) → Eased s.window (closed_as s r x).window
+    closes x = let h : Parts s (closed_as s r x) = closed_parts s r x in record { held = h.held; pace = omega (arith, h.unfinished, h.turned) }
+
     by_verdict : (v : Verdict) → Eased s.window (executed_as s r v).window
     by_verdict Nothing = eased_same s.window
     by_verdict (Answer reply) = eased_same s.window
@@ -493,7 +502,7 @@ pub record Placed (old new : Received) : Type 0 where
 
 pub placed_executed : (s : Core) (r : Request) (event : ℕ) → is_immediate r ≡ false → Placed s.window (with_executed s r event).window
 placed_executed s r event numbered =
-    through_executed (λ t. Placed s.window t.window) s r event same (let g = calm_performed s r (position_by s r) event numbered in record { held = g.eased.held; counted = g.counted }) by_verdict
+    through_executed (λ t. Placed s.window t.window) s r event same (let g = calm_performed s r (position_by s r) event numbered in record { held = g.eased.held; counted = g.counted }) (λ x. let h : Parts s (closed_as s r x) = closed_parts s r x in record { held = h.held; counted = h.counted }) by_verdict
   where
     same : Placed s.window s.window
     same = record { held = omega arith; counted = refl }

@@ -13,8 +13,11 @@ use Rattle.iscsi_session.specs.Trace.{Arrival, Trace, first_of, is_received, is_
 use Rattle.iscsi_session.specs.Run.{trace_of}
 use Rattle.iscsi_session.specs.Executed.{request_at}
 use Rattle.iscsi_session.specs.Standing.{Core, Settled, StandsFor, place_of, is_held, stat_sn_on, held_count, effect_bound_of, kept, arrival_waiting}
+use Rattle.iscsi_session.specs.Settings.{is_known}
+use Rattle.iscsi_session.specs.Logout.{is_open}
+use Rattle.iscsi_session.proofs.BoolLemmas.{or_second}
 use Rattle.iscsi_session.proofs.EnablingLemmas.{EnabledSoFar-none}
-use Rattle.iscsi_session.proofs.TraceLemmas.{unadmitted}
+use Rattle.iscsi_session.proofs.TraceLemmas.{unadmitted, filter-true}
 use Rattle.iscsi_session.proofs.AgreeLemmas.{settled_expected}
 use Rattle.iscsi_session.specs.Management.{may_wait}
 use Rattle.iscsi_session.specs.declared.session.waiting.Waiting.{Waiting}
@@ -41,8 +44,15 @@ set_opened zero u depth lt = absurd (omega arith)
 set_opened (suc n) zero depth lt = refl
 set_opened (suc n) (suc u) depth lt = set_opened n u depth (omega arith)
 
-pub Settled-opened : (o : Setting) (s : Core) → s.window ≡ opened o.first o.window → s.events ≡ o.events → s.conns ≡ o.conns → s.entered ≡ 0 → s.live ≡ [] → s.sets ≡ replicate o.units (opened_set o.depth) → s.level ≡ o.level → s.arrived ≡ replicate o.window 0 → s.waiting ≡ [] → Settled o s []
-Settled-opened o s window events conns entered none sets level arrived waits =
+-- each connection of the session is open
+all_open : (o : Setting) (cs : List (ℕ × ℕ)) → ((cid : ℕ) → is_known cid cs ≡ true → is_known cid o.conns ≡ true) → list_all (is_open o []) (map (λ (c : ℕ × ℕ). c.0) cs) ≡ true
+all_open o [] within = refl
+all_open o (c ∷ cs) within =
+    ap (λ b. (b && true) && list_all (is_open o []) (map (λ (d : ℕ × ℕ). d.0) cs)) (within c.0 (ap (λ b. b || is_known c.0 cs) (eq-eqb c.0 c.0 refl)))
+    ∙ all_open o cs (λ cid known. within cid (or_second (c.0 == cid) (is_known cid cs) known))
+
+pub Settled-opened : (o : Setting) (s : Core) → s.window ≡ opened o.first o.window → s.events ≡ o.events → s.conns ≡ o.conns → s.entered ≡ 0 → s.live ≡ [] → s.sets ≡ replicate o.units (opened_set o.depth) → s.level ≡ o.level → s.arrived ≡ replicate o.window 0 → s.waiting ≡ [] → s.open_conns ≡ map (λ (c : ℕ × ℕ). c.0) o.conns → Settled o s []
+Settled-opened o s window events conns entered none sets level arrived waits cids =
     let first : s.window.first ≡ o.first = ap (λ (w : Received). w.first) window in
     let turned : s.window.turned ≡ 0 = ap (λ (w : Received). w.turned) window in
     let free : s.window.unfinished ≡ 0 = ap (λ (w : Received). w.unfinished) window in
@@ -57,6 +67,7 @@ Settled-opened o s window events conns entered none sets level arrived waits =
           below = λ n low high. absurd (omega (arith, first, turned));
           inside = λ k lt. nothing k;
           above = λ n high. refl;
+          past = λ n low. refl;
           undelivered = λ n high. refl;
           unemptied = λ n gone. refl;
           requests = λ n a found. absurd cc;
@@ -90,6 +101,7 @@ Settled-opened o s window events conns entered none sets level arrived waits =
           at_place = λ k a lt found. absurd cc;
         };
         waiting = record { list = sym (ap (map (arrival_waiting o.first)) waits); may = ap (list_all (λ (w : Waiting). may_wait w.request)) waits; known = ap (list_all (λ (w : Waiting). is_known (connection_of w.request) o.conns)) waits };
+        open_conns = cids ∙ sym (filter-true (is_open o []) (map (λ (c : ℕ × ℕ). c.0) o.conns) (all_open o o.conns (λ cid known. known)));
       };
       none_due = nothing 0;
     }

@@ -26,6 +26,8 @@ use Rattle.iscsi_session.specs.Management.{may_wait, refusal_to}
 use Rattle.iscsi_session.specs.Standing.{Core}
 use Rattle.iscsi_session.specs.Steps.{KeepsPace, set_at, started, is_numbered, verdict_by, executed_as, with_reply}
 use Rattle.iscsi_session.specs.Functions.{is_gone, staying, with_left, abort_by, answer_if, outcome_by, aborted, performed_as}
+use Rattle.iscsi_session.specs.Parting.{closing_by, closed_as}
+use Rattle.iscsi_session.proofs.PartedLemmas.{Parts, closed_parts}
 use Rattle.iscsi_session.specs.Turning.{performed, managed, position_by, with_executed, with_advanced, next_arrived, turned_if, next_waiting, without_waiting, next_position, function_if, immediate_as}
 use Rattle.iscsi_session.proofs.CountLemmas.{fewer_counted}
 use Rattle.iscsi_session.proofs.ListLemmas.{find-passes}
@@ -151,11 +153,16 @@ obeyed_stays s r (Answer reply) = record { first = refl; turned = refl; unfinish
 obeyed_stays s r (Enter unit) = record { first = started_first s.window r; turned = started_turned s.window r; unfinished = started_more s.window r; taken = refl }
 
 pub executed_stays : (s : Core) (r : Request) (event : ℕ) → Stays 1 s (with_executed s r event)
-executed_stays s r event = elim (opcode r == 0x02) as (λ b. Stays 1 s (cond b (managed s r (position_by s r) event) (executed_as s r (verdict_by s r)))) [
+executed_stays s r event = elim (opcode r == 0x02) as (λ b. Stays 1 s (cond b (managed s r (position_by s r) event) (cond (opcode r == 0x06) (closed_as s r (closing_by s r)) (executed_as s r (verdict_by s r))))) [
   | true ↦
       let h : Stays 0 s (managed s r (position_by s r) event) = managed_stays s r (position_by s r) event in
       record { first = h.first; turned = h.turned; unfinished = omega (arith, h.unfinished); taken = h.taken }
-  | false ↦ obeyed_stays s r (verdict_by s r)
+  | false ↦ elim (opcode r == 0x06) as (λ b. Stays 1 s (cond b (closed_as s r (closing_by s r)) (executed_as s r (verdict_by s r)))) [
+    | true ↦
+        let h : Parts s (closed_as s r (closing_by s r)) = closed_parts s r (closing_by s r) in
+        record { first = h.first; turned = h.turned; unfinished = omega (arith, h.unfinished); taken = h.taken }
+    | false ↦ obeyed_stays s r (verdict_by s r)
+  ]
 ]
 
 pub immediate_stays : (s : Core) (r : Request) (p : Patience) → Stays 1 s (immediate_as s r p)

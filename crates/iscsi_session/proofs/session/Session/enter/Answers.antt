@@ -80,7 +80,7 @@ room_in s r unit numbered fit few known this begins room = room_for_one s.window
 pub take_up-requires-clause-room : goal.take_up-requires-clause-room
 take_up-requires-clause-room c =
     let inv = c.self.invariant in
-    let s : Core = record { window = c.self.inside.window; events = c.self.inside.events; conns = c.self.inside.conns.items; entered = c.self.inside.entered; taken = c.self.inside.taken; live = c.self.inside.live.items; sets = c.self.inside.sets.items; level = c.self.inside.level; arrived = c.self.inside.arrived.items; waiting = c.self.inside.waiting.items } in
+    let s : Core = record { window = c.self.inside.window; events = c.self.inside.events; conns = c.self.inside.conns.items; entered = c.self.inside.entered; taken = c.self.inside.taken; live = c.self.inside.live.items; sets = c.self.inside.sets.items; level = c.self.inside.level; arrived = c.self.inside.arrived.items; waiting = c.self.inside.waiting.items; open_conns = c.self.inside.open_conns.items } in
     let room = room_in s c.args.request.now c.args.unit inv.0 inv.1 inv.16.few inv.9 (ap (λ (t : Core). is_known (connection_of c.args.request.now) t.conns) c.self.view_is ∙ c.requires.known)
     (λ is. subst (λ (t : Core). t.window.unfinished < length t.window.places) (sym c.self.view_is) (c.requires.space is).not_full) (λ is. subst (λ (t : Core). immediate_in t.live (connection_of c.args.request.now) < 8) (sym c.self.view_is) (c.requires.few is)) in
     omega (arith, room, inv.15)
@@ -88,7 +88,7 @@ take_up-requires-clause-room c =
 pub push_back_reserved-requires : goal.push_back_reserved-requires
 push_back_reserved-requires c =
     let inv = c.self.invariant in
-    let s : Core = record { window = c.self.inside.window; events = c.self.inside.events; conns = c.self.inside.conns.items; entered = c.self.inside.entered; taken = c.self.inside.taken; live = c.self.inside.live.items; sets = c.self.inside.sets.items; level = c.self.inside.level; arrived = c.self.inside.arrived.items; waiting = c.self.inside.waiting.items } in
+    let s : Core = record { window = c.self.inside.window; events = c.self.inside.events; conns = c.self.inside.conns.items; entered = c.self.inside.entered; taken = c.self.inside.taken; live = c.self.inside.live.items; sets = c.self.inside.sets.items; level = c.self.inside.level; arrived = c.self.inside.arrived.items; waiting = c.self.inside.waiting.items; open_conns = c.self.inside.open_conns.items } in
     let room = room_in s c.args.request.now c.args.unit inv.0 inv.1 inv.16.few inv.9 (ap (λ (t : Core). is_known (connection_of c.args.request.now) t.conns) c.self.view_is ∙ c.requires.known)
     (λ is. subst (λ (t : Core). t.window.unfinished < length t.window.places) (sym c.self.view_is) (c.requires.space is).not_full) (λ is. subst (λ (t : Core). immediate_in t.live (connection_of c.args.request.now) < 8) (sym c.self.view_is) (c.requires.few is)) in
     omega (arith, room, inv.3, c.self.inside.live.ok.0)
@@ -154,12 +154,13 @@ invariant_of-self c =
       inv.22,
       inv.23,
       inv.24,
+      inv.25,
     )
 
 pub returns-clause-session : goal.returns-clause-session
 returns-clause-session c =
     let r : Request = c.args.request.now in
-    let s : Core = record { window = c.self.inside.window; events = c.self.inside.events; conns = c.self.inside.conns.items; entered = c.self.inside.entered; taken = c.self.inside.taken; live = c.self.inside.live.items; sets = c.self.inside.sets.items; level = c.self.inside.level; arrived = c.self.inside.arrived.items; waiting = c.self.inside.waiting.items } in
+    let s : Core = record { window = c.self.inside.window; events = c.self.inside.events; conns = c.self.inside.conns.items; entered = c.self.inside.entered; taken = c.self.inside.taken; live = c.self.inside.live.items; sets = c.self.inside.sets.items; level = c.self.inside.level; arrived = c.self.inside.arrived.items; waiting = c.self.inside.waiting.items; open_conns = c.self.inside.open_conns.items } in
     let old : List Members = c.self.inside.sets.items in
     let task : Task = task_of (c.self.inside.entered + 1) c.conn-2.result c.itt-3.result c.attr_of-attr.result c.immediate-2.result (to_z w64 (of_z w64 c.position-pos.result)) c.event-event.result in
     let new : List Members = set old c.args.unit (given_by (entered_to (get_or old c.args.unit (opened 0)) task)) in
@@ -178,7 +179,7 @@ returns-clause-session c =
 pub returns-clause-effects : goal.returns-clause-effects
 returns-clause-effects c =
     let r : Request = c.args.request.now in
-    let s : Core = record { window = c.self.inside.window; events = c.self.inside.events; conns = c.self.inside.conns.items; entered = c.self.inside.entered; taken = c.self.inside.taken; live = c.self.inside.live.items; sets = c.self.inside.sets.items; level = c.self.inside.level; arrived = c.self.inside.arrived.items; waiting = c.self.inside.waiting.items } in
+    let s : Core = record { window = c.self.inside.window; events = c.self.inside.events; conns = c.self.inside.conns.items; entered = c.self.inside.entered; taken = c.self.inside.taken; live = c.self.inside.live.items; sets = c.self.inside.sets.items; level = c.self.inside.level; arrived = c.self.inside.arrived.items; waiting = c.self.inside.waiting.items; open_conns = c.self.inside.open_conns.items } in
     let old : List Members = c.self.inside.sets.items in
     let task : Task = task_of (c.self.inside.entered + 1) c.conn-2.result c.itt-3.result c.attr_of-attr.result c.immediate-2.result (to_z w64 (of_z w64 c.position-pos.result)) c.event-event.result in
     let same : task ≡ new_task s r = task_is s r c.conn-2.result c.itt-3.result c.attr_of-attr.result c.immediate-2.result (to_z w64 (of_z w64 c.position-pos.result)) c.event-event.result c.conn-2.ensures c.itt-3.ensures (c.attr_of-attr.ensures ∙ ap attr_of c.attr.ensures) c.immediate-2.ensures

@@ -43,7 +43,7 @@ pub returns-clause-session : goal.returns-clause-session
 returns-clause-session c =
     let found : position (has_cid c.args.cid) c.self.inside.conns.items ≡ Some c.unwrap-place.result = ap (position (has_cid c.args.cid)) (sym c.deref.ensures.value) ∙ sym c.place_of.ensures ∙ c.unwrap-place.ensures in
     let next = (read_at c.args.cid c.unwrap-place.result c.self.inside.conns.items c.index.result.now found c.index.ensures).next in
-    let old : Core = record { window = c.self.inside.window; events = c.self.inside.events; conns = c.self.inside.conns.items; entered = c.self.inside.entered; taken = c.self.inside.taken; live = c.self.inside.live.items; sets = c.self.inside.sets.items; level = c.self.inside.level; arrived = c.self.inside.arrived.items; waiting = c.self.inside.waiting.items } in
+    let old : Core = record { window = c.self.inside.window; events = c.self.inside.events; conns = c.self.inside.conns.items; entered = c.self.inside.entered; taken = c.self.inside.taken; live = c.self.inside.live.items; sets = c.self.inside.sets.items; level = c.self.inside.level; arrived = c.self.inside.arrived.items; waiting = c.self.inside.waiting.items; open_conns = c.self.inside.open_conns.items } in
     ap (λ (cs : List (ℕ × ℕ)). record old { conns = cs }) next ∙ ap (λ (s : Core). record s { conns = count_reply c.args.cid s.conns }) c.self.view_is
 
 pub invariant_of-self : goal.invariant_of-self

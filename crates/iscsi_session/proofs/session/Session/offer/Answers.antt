@@ -69,6 +69,7 @@ invariant_of-self c =
       inv.22,
       inv.23,
       inv.24,
+      inv.25,
     )
 
 pub invariant_of-self-else-eq : goal.invariant_of-self-else-eq
@@ -101,6 +102,7 @@ invariant_of-self-else-eq c =
       inv.22,
       inv.23,
       inv.24,
+      inv.25,
     )
 
 pub returns-then-eq-clause-held : goal.returns-then-eq-clause-held

@@ -75,6 +75,7 @@ invariant_of-self c =
       inv.22,
       inv.23,
       inv.24,
+      inv.25,
     )
 
 pub apply-requires-clause-owed : goal.apply-requires-clause-owed

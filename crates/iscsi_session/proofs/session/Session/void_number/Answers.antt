@@ -44,6 +44,7 @@ invariant_of-self c =
       inv.22,
       inv.23,
       inv.24,
+      inv.25,
     )
 
 pub returns-clause-held : goal.returns-clause-held

@@ -1,0 +1,131 @@
+-- What a Logout leaves as it is.
+use Rattle.std.proofs.Common.{◌≡◌, ℕ, ◌+◌, ◌-◌, ◌≤◌, ◌&&◌, not, cond, Bool, true, false, List, [], ◌∷◌, length, map, filter, count_by, is_some, length-set, Option, Some, None, refl, ap, sym, ◌∙◌, arith}
+use Rattle.std.proofs.lemmas.List.Sums.{sum_by-cons}
+use Rattle.iscsi_wire.specs.declared.request.Request.{Request}
+use Rattle.iscsi_wire.specs.Fields.{connection_of}
+use Rattle.iscsi_wire.specs.Serial.{number_of_first}
+use Rattle.iscsi_window.specs.Windows.{Received, number_expected, is_asked, is_held_from}
+use Rattle.iscsi_tasks.specs.declared.task.Task.{Task}
+use Rattle.iscsi_session.specs.declared.closing.Closing.{Closing}
+use Rattle.iscsi_session.specs.declared.closing.Closing.TheVariants.{Refused, Session, Conn}
+use Rattle.iscsi_session.specs.declared.session.live.Live.{Live}
+use Rattle.iscsi_session.specs.declared.session.waiting.Waiting.{Waiting}
+use Rattle.iscsi_session.specs.Standing.{Core, is_held}
+use Rattle.iscsi_session.specs.Steps.{set_at, is_numbered}
+use Rattle.iscsi_session.specs.Functions.{is_gone, set_staying, with_left}
+use Rattle.iscsi_session.specs.Parting.{units_of, covers_of, with_all_left, left_to, emptied_place, with_emptied, with_dropped, parted, closed_as}
+use Rattle.iscsi_session.proofs.CountLemmas.{fewer_counted}
+
+filter-shorter : {A : Type 0} (p : A → Bool) (xs : List A) → length (filter p xs) ≤ length xs
+filter-shorter p [] = omega arith
+filter-shorter p (x ∷ xs) = elim (p x) as (λ b. length (cond b (x ∷ filter p xs) (filter p xs)) ≤ length (x ∷ xs)) [
+  | true ↦ omega (arith, filter-shorter p xs)
+  | false ↦ omega (arith, filter-shorter p xs)
+]
+
+-- ---- commands of several units leave
+
+pub record Keeps (s s' : Core) : Type 0 where
+  pub first : s'.window.first ≡ s.window.first
+  pub turned : s'.window.turned ≡ s.window.turned
+  pub places : s'.window.places ≡ s.window.places
+  pub unfinished : s'.window.unfinished ≤ s.window.unfinished
+  pub taken : s'.taken ≡ s.taken
+  pub waiting : s'.waiting ≡ s.waiting
+  pub open_conns : s'.open_conns ≡ s.open_conns
+  pub conns : s'.conns ≡ s.conns
+  pub level : s'.level ≡ s.level
+  pub arrived : s'.arrived ≡ s.arrived
+  pub events : s'.events ≡ s.events
+  pub entered : s'.entered ≡ s.entered
+  pub units : length s'.sets ≡ length s.sets
+
+pub left_keeps : (s : Core) (units : List ℕ) (covers : Task → Bool) → Keeps s (with_all_left s units covers)
+left_keeps s [] covers = record { first = refl; turned = refl; places = refl; unfinished = omega arith; taken = refl; waiting = refl; open_conns = refl; conns = refl; level = refl; arrived = refl; events = refl; entered = refl; units = refl }
+left_keeps s (unit ∷ units) covers =
+    let s' : Core = with_left s unit covers in
+    let h : Keeps s' (with_all_left s' units covers) = left_keeps s' units covers in
+    let gone : Live → Bool = λ l. not (is_gone covers (set_at s unit) l.ticket) in
+    let fewer : count_by is_numbered (filter gone s.live) ≤ count_by is_numbered s.live = fewer_counted is_numbered gone s.live in
+    record {
+      first = h.first;
+      turned = h.turned;
+      places = h.places;
+      unfinished = omega (arith, fewer, h.unfinished);
+      taken = h.taken;
+      waiting = h.waiting;
+      open_conns = h.open_conns;
+      conns = h.conns;
+      level = h.level;
+      arrived = h.arrived;
+      events = h.events;
+      entered = h.entered;
+      units = h.units ∙ length-set s.sets unit (set_staying covers (set_at s unit));
+    }
+
+-- ---- held requests are taken out
+
+pub emptied_counted : (whose : Option ℕ) (ps : List (Option (Option Request))) → count_by is_some (map (emptied_place whose) ps) ≡ count_by is_some ps
+emptied_counted whose [] = refl
+emptied_counted whose (p ∷ ps) =
+    sum_by-cons (λ q. cond (is_some q) 1 0) (emptied_place whose p) (map (emptied_place whose) ps)
+    ∙ ap (λ b. cond b 1 0 + count_by is_some (map (emptied_place whose) ps)) (same p)
+    ∙ ap (λ n. cond (is_some p) 1 0 + n) (emptied_counted whose ps)
+    ∙ sym (sum_by-cons (λ q. cond (is_some q) 1 0) p ps)
+  where
+    same : (q : Option (Option Request)) → is_some (emptied_place whose q) ≡ is_some q
+    same None = refl
+    same (Some None) = refl
+    same (Some (Some r)) = elim (is_asked whose (connection_of r)) as (λ b. is_some (let x : Option (Option Request) = cond b (Some None) (Some (Some r)) in x) ≡ true) [ true ↦ refl | false ↦ refl ]
+
+pub emptied_fewer : (whose : Option ℕ) (ps : List (Option (Option Request))) → count_by is_held (map (emptied_place whose) ps) ≤ count_by is_held ps
+emptied_fewer whose [] = omega arith
+emptied_fewer whose (p ∷ ps) =
+    let now : count_by is_held (map (emptied_place whose) (p ∷ ps)) ≡ cond (is_held (emptied_place whose p)) 1 0 + count_by is_held (map (emptied_place whose) ps) = sum_by-cons (λ q. cond (is_held q) 1 0) (emptied_place whose p) (map (emptied_place whose) ps) in
+    let before : count_by is_held (p ∷ ps) ≡ cond (is_held p) 1 0 + count_by is_held ps = sum_by-cons (λ q. cond (is_held q) 1 0) p ps in
+    omega (arith, now, before, less p, emptied_fewer whose ps)
+  where
+    less : (q : Option (Option Request)) → cond (is_held (emptied_place whose q)) 1 0 ≤ cond (is_held q) 1 0
+    less None = omega arith
+    less (Some None) = omega arith
+    less (Some (Some r)) = elim (is_asked whose (connection_of r)) as (λ b. cond (is_held (let x : Option (Option Request) = cond b (Some None) (Some (Some r)) in x)) 1 0 ≤ 1) [ true ↦ omega arith | false ↦ omega arith ]
+
+-- ---- a Logout
+
+-- the numbers are the same, no more is held or waits, and no more is unfinished
+pub record Parts (s s' : Core) : Type 0 where
+  pub first : s'.window.first ≡ s.window.first
+  pub turned : s'.window.turned ≡ s.window.turned
+  pub unfinished : s'.window.unfinished ≤ s.window.unfinished
+  pub taken : s'.taken ≡ s.taken
+  pub held : count_by is_held s'.window.places ≤ count_by is_held s.window.places
+  pub counted : count_by is_some s'.window.places ≡ count_by is_some s.window.places
+  pub waiting : length s'.waiting ≤ length s.waiting
+
+parted_parts : (s : Core) (r : Request) (whose : Option ℕ) → Parts s (parted s r whose)
+parted_parts s r whose =
+    let left : Core = left_to s whose in
+    let k : Keeps s left = left_keeps s (units_of s) (covers_of whose) in
+    let fewer : count_by is_held (map (emptied_place whose) left.window.places) ≤ count_by is_held left.window.places = emptied_fewer whose left.window.places in
+    let held_same : count_by is_held left.window.places ≡ count_by is_held s.window.places = ap (count_by is_held) k.places in
+    let waits : length left.waiting ≡ length s.waiting = ap length k.waiting in
+    let dropped : length (filter (λ (w : Waiting). not (is_asked whose (connection_of w.request))) left.waiting) ≤ length left.waiting = filter-shorter (λ (w : Waiting). not (is_asked whose (connection_of w.request))) left.waiting in
+    record {
+      first = k.first;
+      turned = k.turned;
+      unfinished = k.unfinished;
+      taken = k.taken;
+      held = omega (arith, fewer, held_same);
+      counted = emptied_counted whose left.window.places ∙ ap (count_by is_some) k.places;
+      waiting = omega (arith, dropped, waits);
+    }
+
+pub closed_parts : (s : Core) (r : Request) (x : Closing) → Parts s (closed_as s r x)
+closed_parts s r (Refused reply) = record { first = refl; turned = refl; unfinished = omega arith; taken = refl; held = omega arith; counted = refl; waiting = omega arith }
+closed_parts s r Session = parted_parts s r None
+closed_parts s r (Conn conn) = parted_parts s r (Some conn)
+
+pub closed_expected : (s : Core) (r : Request) (x : Closing) → number_expected (closed_as s r x).window ≡ number_expected s.window
+closed_expected s r x =
+    let h : Parts s (closed_as s r x) = closed_parts s r x in
+    ap (λ f. number_of_first f + (closed_as s r x).window.turned) h.first ∙ ap (λ k. number_of_first s.window.first + k) h.turned
