@@ -1,5 +1,5 @@
 -- A session that was opened, and how many requests one holds.
-use Rattle.std.proofs.Common.{◌≡◌, ℕ, zero, suc, ◌+◌, ◌-◌, ◌*◌, ◌<◌, ◌==◌, ◌&&◌, ◌||◌, cond, Bool, true, false, List, [], ◌∷◌, length, map, filter, get_or, replicate, Option, Some, None, option_map, is_some, refl, ap, sym, ◌∙◌, arith, count_by}
+use Rattle.std.proofs.Common.{eq-eqb, ◌≡◌, ℕ, zero, suc, ◌+◌, ◌-◌, ◌*◌, ◌<◌, ◌==◌, ◌&&◌, ◌||◌, cond, Bool, true, false, List, [], ◌∷◌, length, map, filter, get_or, replicate, Option, Some, None, option_map, is_some, refl, ap, sym, ◌∙◌, arith, count_by}
 use Rattle.std.specs.List.{filter_map, range_with_len, list_all}
 use Rattle.std.proofs.lemmas.List.Sums.{sum_by-cons}
 use Rattle.std.proofs.lemmas.List.{length-map}
@@ -13,11 +13,10 @@ use Rattle.iscsi_session.specs.Trace.{Arrival, Trace, first_of, is_received, is_
 use Rattle.iscsi_session.specs.Run.{trace_of}
 use Rattle.iscsi_session.specs.Executed.{request_at}
 use Rattle.iscsi_session.specs.Standing.{Core, Settled, StandsFor, place_of, is_held, stat_sn_on, held_count, effect_bound_of, kept, arrival_waiting}
-use Rattle.iscsi_session.specs.Settings.{is_known}
 use Rattle.iscsi_session.specs.Logout.{is_open}
 use Rattle.iscsi_session.proofs.BoolLemmas.{or_second}
 use Rattle.iscsi_session.proofs.EnablingLemmas.{EnabledSoFar-none}
-use Rattle.iscsi_session.proofs.TraceLemmas.{unadmitted, filter-true}
+use Rattle.iscsi_session.proofs.TraceLemmas.{unadmitted}
 use Rattle.iscsi_session.proofs.AgreeLemmas.{settled_expected}
 use Rattle.iscsi_session.specs.Management.{may_wait}
 use Rattle.iscsi_session.specs.declared.session.waiting.Waiting.{Waiting}
@@ -45,11 +44,12 @@ set_opened (suc n) zero depth lt = refl
 set_opened (suc n) (suc u) depth lt = set_opened n u depth (omega arith)
 
 -- each connection of the session is open
-all_open : (o : Setting) (cs : List (ℕ × ℕ)) → ((cid : ℕ) → is_known cid cs ≡ true → is_known cid o.conns ≡ true) → list_all (is_open o []) (map (λ (c : ℕ × ℕ). c.0) cs) ≡ true
+all_open : (o : Setting) (cs : List (ℕ × ℕ)) → ((cid : ℕ) → is_known cid cs ≡ true → is_known cid o.conns ≡ true) → filter (is_open o []) (map (λ (c : ℕ × ℕ). c.0) cs) ≡ map (λ (c : ℕ × ℕ). c.0) cs
 all_open o [] within = refl
 all_open o (c ∷ cs) within =
-    ap (λ b. (b && true) && list_all (is_open o []) (map (λ (d : ℕ × ℕ). d.0) cs)) (within c.0 (ap (λ b. b || is_known c.0 cs) (eq-eqb c.0 c.0 refl)))
-    ∙ all_open o cs (λ cid known. within cid (or_second (c.0 == cid) (is_known cid cs) known))
+    let rest : List ℕ = filter (is_open o []) (map (λ (d : ℕ × ℕ). d.0) cs) in
+    ap (λ b. cond (b && true) (c.0 ∷ rest) rest) (within c.0 (ap (λ b. b || is_known c.0 cs) (eq-eqb c.0 c.0 refl)))
+    ∙ ap (λ ds. c.0 ∷ ds) (all_open o cs (λ cid known. within cid (or_second (c.0 == cid) (is_known cid cs) known)))
 
 pub Settled-opened : (o : Setting) (s : Core) → s.window ≡ opened o.first o.window → s.events ≡ o.events → s.conns ≡ o.conns → s.entered ≡ 0 → s.live ≡ [] → s.sets ≡ replicate o.units (opened_set o.depth) → s.level ≡ o.level → s.arrived ≡ replicate o.window 0 → s.waiting ≡ [] → s.open_conns ≡ map (λ (c : ℕ × ℕ). c.0) o.conns → Settled o s []
 Settled-opened o s window events conns entered none sets level arrived waits cids =
@@ -101,7 +101,7 @@ Settled-opened o s window events conns entered none sets level arrived waits cid
           at_place = λ k a lt found. absurd cc;
         };
         waiting = record { list = sym (ap (map (arrival_waiting o.first)) waits); may = ap (list_all (λ (w : Waiting). may_wait w.request)) waits; known = ap (list_all (λ (w : Waiting). is_known (connection_of w.request) o.conns)) waits };
-        open_conns = cids ∙ sym (filter-true (is_open o []) (map (λ (c : ℕ × ℕ). c.0) o.conns) (all_open o o.conns (λ cid known. known)));
+        open_conns = cids ∙ sym (all_open o o.conns (λ cid known. known));
       };
       none_due = nothing 0;
     }

@@ -154,7 +154,7 @@ invariant_of-self c =
       inv.22,
       inv.23,
       inv.24,
-      inv.25,
+      omega (arith, inv.25, ap length now, long),
     )
 
 pub returns-clause-session : goal.returns-clause-session
@@ -170,7 +170,7 @@ returns-clause-session c =
     let same : task ≡ new_task s r = task_is s r c.conn-2.result c.itt-3.result c.attr_of-attr.result c.immediate-2.result (to_z w64 (of_z w64 c.position-pos.result)) c.event-event.result c.conn-2.ensures c.itt-3.ensures (c.attr_of-attr.ensures ∙ ap attr_of c.attr.ensures) c.immediate-2.ensures
     (to_z-of_z w64 c.position-pos.result (search rules) ∙ c.position-pos.ensures ∙ ap (λ (t : Core). pos (number_by t r) -ℤ pos (number_of_first t.window.first)) (sym c.self.view_is)) (c.event-event.ensures ∙ ap (λ (t : Core). event_by t r) (sym c.self.view_is)) in
     let lives : c.push_back_reserved.new.self.items ≡ s.live ++ new_live s r c.args.unit ∷ [] = c.push_back_reserved.ensures.items ∙ ap (λ (l : Live). s.live ++ l ∷ []) (live_is s r c.args.unit c.conn.result c.itt-2.result c.immediate.result c.conn.ensures c.itt-2.ensures c.immediate.ensures) in
-    let made : Received → List Live → List Members → Core = λ w ls ms. record { window = w; events = s.events; conns = s.conns; entered = s.entered + 1; taken = s.taken; live = ls; sets = ms; level = s.level; arrived = s.arrived; waiting = s.waiting } in
+    let made : Received → List Live → List Members → Core = λ w ls ms. record { window = w; events = s.events; conns = s.conns; entered = s.entered + 1; taken = s.taken; live = ls; sets = ms; level = s.level; arrived = s.arrived; waiting = s.waiting; open_conns = s.open_conns } in
     ap (λ (w : Received). made w c.push_back_reserved.new.self.items (take c.self.inside.sets.len (c.enter.new.sets ++ drop (length c.enter.new.sets) old))) c.begin.ensures.window
     ∙ ap (λ (ls : List Live). made (started s.window r) ls (take c.self.inside.sets.len (c.enter.new.sets ++ drop (length c.enter.new.sets) old))) lives
     ∙ ap (made (started s.window r) (s.live ++ new_live s r c.args.unit ∷ [])) (now ∙ ap (λ (t : Task). set old c.args.unit (given_by (entered_to (get_or old c.args.unit (opened 0)) t))) same)

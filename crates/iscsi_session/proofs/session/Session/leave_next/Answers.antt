@@ -218,5 +218,5 @@ invariant_of-self-2 c =
       inv.22,
       inv.23,
       inv.24,
-      inv.25,
+      omega (arith, inv.25, ap length now, long),
     )

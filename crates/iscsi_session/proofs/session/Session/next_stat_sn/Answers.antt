@@ -77,4 +77,5 @@ invariant_of-self c =
       inv.22,
       inv.23,
       omega (arith, inv.24, ap length next, long),
+      inv.25,
     )

@@ -72,6 +72,7 @@ invariant_of-self c =
       ap (list_all (λ (v : Waiting). may_wait v.request)) waits ∙ list_all-filter stays (λ (v : Waiting). may_wait v.request) s.waiting inv.22,
       λ cid. omega (arith, inv.23 cid, fewer_of (λ (v : Waiting). connection_of v.request == cid) stays s.waiting, ap (λ ws. waiting_in ws cid) waits),
       omega (arith, inv.24, c.take_out.ensures.capacity),
+      inv.25,
     )
 
 pub perform-requires-clause-known : goal.perform-requires-clause-known

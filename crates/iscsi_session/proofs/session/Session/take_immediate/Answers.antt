@@ -4,7 +4,7 @@ use Rattle.iscsi_session.specs.Standing.{Core, is_held}
 use Rattle.iscsi_session.specs.Steps.{KeepsPace}
 use Rattle.iscsi_session.specs.Functions.{owed}
 use Rattle.iscsi_session.specs.Turning.{with_waiting}
-use Rattle.iscsi_session.proofs.ManageLemmas.{Eased, eased_executed, waiting_executed}
+use Rattle.iscsi_session.proofs.ManageLemmas.{Eased, eased_executed}
 use Rattle.iscsi_session.proofs.session.Session.take_immediate.Goals as goal
 
 pub returns-in-Now-clause-pace : goal.returns-in-Now-clause-pace
@@ -15,8 +15,7 @@ pub returns-in-Now-clause-spent : goal.returns-in-Now-clause-spent
 returns-in-Now-clause-spent c =
     let s : Core = c.args.self.now in
     let g : Eased s.window c.execute_at_once.new.self.window = subst (λ (t : Core). Eased s.window t.window) (sym c.execute_at_once.ensures.session) (eased_executed s c.args.request (s.taken - 1) c.requires.immediate) in
-    let waits : length c.execute_at_once.new.self.waiting ≡ length s.waiting = ap (λ (t : Core). length t.waiting) c.execute_at_once.ensures.session ∙ ap length (waiting_executed s c.args.request (s.taken - 1)) in
-    omega (arith, g.held, waits, c.execute_at_once.ensures.spent)
+    omega (arith, g.held, c.execute_at_once.ensures.waiting, c.execute_at_once.ensures.spent)
 
 pub returns-in-Later-clause-spent : goal.returns-in-Later-clause-spent
 returns-in-Later-clause-spent c =

@@ -147,13 +147,15 @@ pub returns-in-Some-request-clause-spent : goal.returns-in-Some-request-clause-s
 returns-in-Some-request-clause-spent c =
     let request : c.in-Some.turned.request ≡ Some c.in-Some-request.request = search rules in
     let n : Advanced c.self.inside.window (Some c.in-Some-request.request) = subst (Advanced c.self.inside.window) request (advanced_at c.self.inside.window c.in-Some.turned (sym c.advance.ensures.answer ∙ c.in-Some.is)) in
-    let known = (n.known c.self.inside.conns.items c.self.invariant.10).0 in
-    let numbered : is_immediate c.in-Some-request.request ≡ false = not_true (is_immediate c.in-Some-request.request) (and_first (not (is_immediate c.in-Some-request.request)) (is_known (connection_of c.in-Some-request.request) c.self.inside.conns.items) known) in
-    let s : Core = record { window = c.self.inside.window; events = c.self.inside.events; conns = c.self.inside.conns.items; entered = c.self.inside.entered; taken = c.self.inside.taken; live = c.self.inside.live.items; sets = c.self.inside.sets.items; level = c.self.inside.level; arrived = c.self.inside.arrived.items; waiting = c.self.inside.waiting.items; open_conns = c.self.inside.open_conns.items } in
-    let t : Core = record s { window = c.advance.new.self; arrived = c.pass-event.new.arrived.items } in
-    let g : Placed c.advance.new.self c.deliver.new.self.window = subst (λ (u : Core). Placed c.advance.new.self u.window) (sym c.deliver.ensures.session) (placed_executed t c.in-Some-request.request c.pass-event.result numbered) in
     let held : count_by is_held c.advance.new.self.places + 1 ≡ count_by is_held c.self.inside.window.places = ap (λ (w : Received). count_by is_held w.places + 1) c.advance.ensures.state ∙ n.held in
-    omega (arith, g.held, held, c.deliver.ensures.spent, ap (λ (u : Core). count_by is_held u.window.places) c.self.view_is, ap (λ (u : Core). owed u.live u.sets) c.self.view_is)
+    omega (arith, held, c.deliver.ensures.spent, ap (λ (u : Core). count_by is_held u.window.places) c.self.view_is, ap (λ (u : Core). owed u.live u.sets) c.self.view_is)
+
+pub deliver-requires-clause-room : goal.deliver-requires-clause-room
+deliver-requires-clause-room c =
+    let request : c.in-Some.turned.request ≡ Some c.in-Some-request.request = search rules in
+    let n : Advanced c.self.inside.window (Some c.in-Some-request.request) = subst (Advanced c.self.inside.window) request (advanced_at c.self.inside.window c.in-Some.turned (sym c.advance.ensures.answer ∙ c.in-Some.is)) in
+    let held : count_by is_held c.advance.new.self.places + 1 ≡ count_by is_held c.self.inside.window.places = ap (λ (w : Received). count_by is_held w.places + 1) c.advance.ensures.state ∙ n.held in
+    omega (arith, held, c.requires.room, ap (λ (u : Core). count_by is_held u.window.places) c.self.view_is, ap (λ (u : Core). owed u.live u.sets) c.self.view_is)
 
 pub returns-in-Some-request-clause-fewer : goal.returns-in-Some-request-clause-fewer
 returns-in-Some-request-clause-fewer c = λ said.
@@ -171,7 +173,7 @@ pub returns-in-Some-request-clause-waiting : goal.returns-in-Some-request-clause
 returns-in-Some-request-clause-waiting c =
     let s : Core = record { window = c.self.inside.window; events = c.self.inside.events; conns = c.self.inside.conns.items; entered = c.self.inside.entered; taken = c.self.inside.taken; live = c.self.inside.live.items; sets = c.self.inside.sets.items; level = c.self.inside.level; arrived = c.self.inside.arrived.items; waiting = c.self.inside.waiting.items; open_conns = c.self.inside.open_conns.items } in
     let t : Core = record s { window = c.advance.new.self; arrived = c.pass-event.new.arrived.items } in
-    ap (λ (u : Core). u.waiting) c.deliver.ensures.session ∙ waiting_executed t c.in-Some-request.request c.pass-event.result ∙ ap (λ (u : Core). u.waiting) c.self.view_is
+    omega (arith, ap (λ (u : Core). length u.waiting) c.deliver.ensures.session, waiting_executed t c.in-Some-request.request c.pass-event.result, ap (λ (u : Core). length u.waiting) c.self.view_is)
 
 pub returns-in_default-request-clause-spent : goal.returns-in_default-request-clause-spent
 returns-in_default-request-clause-spent c =

@@ -64,6 +64,7 @@ invariant_of-self c =
       ap (list_all (λ (v : Waiting). may_wait v.request)) items ∙ list_all-append (λ (v : Waiting). may_wait v.request) s.waiting (f ∷ []) ∙ ap (λ b. b && (may_wait r && true)) inv.22 ∙ ap (λ b. b && true) l.may,
       λ cid. omega (arith, w.few cid, ap (λ ws. waiting_in ws cid) items),
       omega (arith, inv.24, c.push_reserved-2.ensures.capacity),
+      inv.25,
     )
 
 pub returns-clause-session : goal.returns-clause-session

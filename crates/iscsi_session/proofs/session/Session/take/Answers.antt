@@ -4,14 +4,14 @@ use Rattle.iscsi_session.specs.declared.effect.Effect.{Effect}
 use Rattle.iscsi_session.specs.Settings.{is_known}
 use Rattle.iscsi_session.specs.Trace.{Arrival, Mark, after_items, received}
 use Rattle.iscsi_session.specs.Flow.{HasOneMore}
-use Rattle.iscsi_session.specs.Agenda.{arrival, arrival_of}
+use Rattle.iscsi_session.specs.Agenda.{arrival_open, arrival_of}
 use Rattle.iscsi_session.specs.Run.{effects_of}
 use Rattle.iscsi_session.specs.Standing.{Core, Settled}
 use Rattle.iscsi_session.specs.Turning.{patience_by}
 use Rattle.iscsi_session.proofs.ListLemmas.{is_known-cids}
 use Rattle.iscsi_session.proofs.ArriveLemmas.{passed_over, rejected_opcode, passed_receives, rejected_receives, AtOnce, at_once, at_once_settled, at_once_effects, at_once_receives, is_numbered_arrival}
 use Rattle.iscsi_session.proofs.PaceLemmas.{immediate_stays}
-use Rattle.iscsi_session.proofs.session.Session.arrive.Goals as goal
+use Rattle.iscsi_session.proofs.session.Session.take.Goals as goal
 
 pub returns-in-PassedOver-clause-settled : goal.returns-in-PassedOver-clause-settled
 returns-in-PassedOver-clause-settled c = λ o index t taken h. (passed_over o c.args.self.now index t c.args.request h (sym c.kind_of.ensures ∙ c.in-PassedOver.is)).settled
@@ -22,7 +22,7 @@ returns-in-PassedOver-clause-effects c = λ o index t taken h. c.push_reserved.e
 pub returns-in-Unknown-clause-settled : goal.returns-in-Unknown-clause-settled
 returns-in-Unknown-clause-settled c = λ o index t taken h.
     let known : is_known (connection_of c.args.request) o.conns ≡ true = sym (is_known-cids (connection_of c.args.request) c.args.self.now.conns o.conns h.agrees.replies.cids) ∙ c.requires.known in
-    subst (λ (s : Core). Settled o s (after_items (arrival o t (arrival_of o index t c.args.request)) t)) (sym c.reject_opcode.ensures.session) (rejected_opcode o c.args.self.now index t c.args.request h (sym c.kind_of.ensures ∙ c.in-Unknown.is) known).settled
+    subst (λ (s : Core). Settled o s (after_items (arrival_open o t (arrival_of o index t c.args.request)) t)) (sym c.reject_opcode.ensures.session) (rejected_opcode o c.args.self.now index t c.args.request h (sym c.kind_of.ensures ∙ c.in-Unknown.is) known).settled
 
 pub returns-in-Unknown-clause-effects : goal.returns-in-Unknown-clause-effects
 returns-in-Unknown-clause-effects c = λ o index t taken h.
