@@ -131,7 +131,7 @@ first_part cid (x ∷ lives) =
     and_false false = refl
 
 -- fewer are counted of fewer
-pub fewer_counted : (p q : Live → Bool) (lives : List Live) → count_by p (filter q lives) ≤ count_by p lives
+pub fewer_counted : {A : Type 0} (p q : A → Bool) (lives : List A) → count_by p (filter q lives) ≤ count_by p lives
 fewer_counted p q [] = omega arith
 fewer_counted p q (x ∷ lives) =
     let all : count_by p (x ∷ lives) ≡ cond (p x) 1 0 + count_by p lives = sum_by-cons (λ l. cond (p l) 1 0) x lives in

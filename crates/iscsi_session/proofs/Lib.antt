@@ -43,6 +43,8 @@ pub mod AbortTheorem
 pub mod LeavingLemmas
 pub mod LeavingParts
 pub mod AbortParts
+pub mod DroppingLemmas
+pub mod TellingLemmas
 pub mod PartedLemmas
 pub mod LogoutItem
 pub mod FunctionLemmas

@@ -483,6 +483,31 @@ calm_performed s r number event numbered = through_performed (λ t. Calm s.windo
     by_outcome unit (EmptyNumber sn) is = calm_emptied s.window sn
     by_outcome unit (VoidNumber sn) is = absurd (false≢true (sym numbered ∙ (outcome_voids s r number event unit sn is).0.immediate))
 
+-- a function, refused or not
+managed_through : (P : Core → Type 0) (s : Core) (r : Request) (number : ℤ) (event : ℕ) → P (with_reply s (connection_of r)) → P (performed s r number event) → P (managed s r number event)
+managed_through P s r number event replies performs =
+    elim (refusal_to s.level (length s.sets) r) as (λ x. P (managed_if s r number event x)) [
+      | Some reply ↦ replies
+      | None ↦ performs
+    ]
+
+pub managed_eased : (s : Core) (r : Request) (number : ℤ) (event : ℕ) → Eased s.window (managed s r number event).window
+managed_eased s r number event = managed_through (λ t. Eased s.window t.window) s r number event (eased_same s.window) (eased_performed s r number event)
+
+pub managed_waiting : (s : Core) (r : Request) (number : ℤ) (event : ℕ) → (managed s r number event).waiting ≡ s.waiting
+managed_waiting s r number event = managed_through (λ t. t.waiting ≡ s.waiting) s r number event refl (waiting_performed s r number event)
+
+-- a request that isn't one
+pub obeyed_places : (s : Core) (r : Request) (v : Verdict) → (executed_as s r v).window.places ≡ s.window.places
+obeyed_places s r Nothing = refl
+obeyed_places s r (Answer reply) = refl
+obeyed_places s r (Enter unit) = elim (is_immediate r) as (λ b. (let w : Received = cond b s.window (with_unfinished s.window (s.window.unfinished + 1)) in w.places) ≡ s.window.places) [ true ↦ refl | false ↦ refl ]
+
+pub obeyed_waiting : (s : Core) (r : Request) (v : Verdict) → (executed_as s r v).waiting ≡ s.waiting
+obeyed_waiting s r Nothing = refl
+obeyed_waiting s r (Answer reply) = refl
+obeyed_waiting s r (Enter unit) = refl
+
 -- an immediate request begins none of the numbered commands
 pub eased_executed : (s : Core) (r : Request) (event : ℕ) → is_immediate r ≡ true → Eased s.window (with_executed s r event).window
 eased_executed s r event immediate = through_executed (λ t. Eased s.window t.window) s r event (eased_same s.window) (eased_performed s r (position_by s r) event) closes by_verdict

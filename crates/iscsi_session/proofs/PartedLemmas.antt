@@ -1,19 +1,23 @@
 -- What a Logout leaves as it is.
-use Rattle.std.proofs.Common.{◌≡◌, ℕ, ◌+◌, ◌-◌, ◌≤◌, ◌&&◌, not, cond, Bool, true, false, List, [], ◌∷◌, length, map, filter, count_by, is_some, length-set, Option, Some, None, refl, ap, sym, ◌∙◌, arith}
+use Rattle.std.proofs.Common.{append_assoc, ◌++◌, ◌≡◌, ℕ, ◌+◌, ◌-◌, ◌≤◌, ◌&&◌, not, cond, Bool, true, false, List, [], ◌∷◌, length, map, filter, count_by, is_some, length-set, Option, Some, None, refl, ap, sym, ◌∙◌, arith}
 use Rattle.std.proofs.lemmas.List.Sums.{sum_by-cons}
 use Rattle.iscsi_wire.specs.declared.request.Request.{Request}
-use Rattle.iscsi_wire.specs.Fields.{connection_of}
+use Rattle.iscsi_wire.specs.declared.reply.Reply.{Reply}
+use Rattle.iscsi_wire.specs.declared.reply.Reply.TheVariants.{Logout}
+use Rattle.iscsi_wire.specs.Fields.{connection_of, itt}
 use Rattle.iscsi_wire.specs.Serial.{number_of_first}
 use Rattle.iscsi_window.specs.Windows.{Received, number_expected, is_asked, is_held_from}
 use Rattle.iscsi_tasks.specs.declared.task.Task.{Task}
 use Rattle.iscsi_session.specs.declared.closing.Closing.{Closing}
 use Rattle.iscsi_session.specs.declared.closing.Closing.TheVariants.{Refused, Session, Conn}
+use Rattle.iscsi_session.specs.declared.effect.Effect.{Effect}
+use Rattle.iscsi_session.specs.declared.effect.Effect.TheVariants.{Send, CloseConn}
 use Rattle.iscsi_session.specs.declared.session.live.Live.{Live}
 use Rattle.iscsi_session.specs.declared.session.waiting.Waiting.{Waiting}
-use Rattle.iscsi_session.specs.Standing.{Core, is_held}
-use Rattle.iscsi_session.specs.Steps.{set_at, is_numbered}
+use Rattle.iscsi_session.specs.Standing.{Core, is_held, stat_sn_on}
+use Rattle.iscsi_session.specs.Steps.{set_at, is_numbered, reply_effects}
 use Rattle.iscsi_session.specs.Functions.{is_gone, set_staying, with_left}
-use Rattle.iscsi_session.specs.Parting.{units_of, covers_of, with_all_left, left_to, emptied_place, with_emptied, with_dropped, parted, closed_as}
+use Rattle.iscsi_session.specs.Parting.{units_of, covers_of, with_all_left, all_leaving_effects, left_to, emptied_place, emptied_from, emptying_effects, still_open, session_closes, close_effects, all_enable_effects, parted, parting_effects, closed_as}
 use Rattle.iscsi_session.proofs.CountLemmas.{fewer_counted}
 
 filter-shorter : {A : Type 0} (p : A → Bool) (xs : List A) → length (filter p xs) ≤ length xs
@@ -63,6 +67,9 @@ left_keeps s (unit ∷ units) covers =
       units = h.units ∙ length-set s.sets unit (set_staying covers (set_at s unit));
     }
 
+pub left_one : (s : Core) (unit : ℕ) (covers : Task → Bool) → length (with_left s unit covers).sets ≡ length s.sets
+left_one s unit covers = length-set s.sets unit (set_staying covers (set_at s unit))
+
 -- ---- held requests are taken out
 
 pub emptied_counted : (whose : Option ℕ) (ps : List (Option (Option Request))) → count_by is_some (map (emptied_place whose) ps) ≡ count_by is_some ps
@@ -89,6 +96,45 @@ emptied_fewer whose (p ∷ ps) =
     less None = omega arith
     less (Some None) = omega arith
     less (Some (Some r)) = elim (is_asked whose (connection_of r)) as (λ b. cond (is_held (let x : Option (Option Request) = cond b (Some None) (Some (Some r)) in x)) 1 0 ≤ 1) [ true ↦ omega arith | false ↦ omega arith ]
+
+-- ---- the effects, one part after the other
+
+module _ (s : Core) (r : Request) (whose : Option ℕ) where
+  abbrev left : Core
+  left = left_to s whose
+
+  abbrev reply : Reply
+  reply = Logout (itt r) 0
+
+  -- what is emptied and closed doesn't depend on the commands that left
+  pub parting_chain : (out o1 o2 o3 o4 o5 : List Effect) → o1 ≡ out ++ all_leaving_effects s (units_of s) (covers_of whose) → o2 ≡ o1 ++ emptying_effects left whose
+      → o3 ≡ o2 ++ reply_effects left (connection_of r) reply → o4 ≡ o3 ++ close_effects left whose → o5 ≡ o4 ++ all_enable_effects left → o5 ≡ out ++ parting_effects s r whose
+  parting_chain out o1 o2 o3 o4 o5 e1 e2 e3 e4 e5 =
+      let k : Keeps s left = left_keeps s (units_of s) (covers_of whose) in
+      let a : List Effect = all_leaving_effects s (units_of s) (covers_of whose) in
+      let b : List Effect = emptying_effects s whose in
+      let d : List Effect = reply_effects s (connection_of r) reply in
+      let f : List Effect = close_effects s whose in
+      let g : List Effect = all_enable_effects left in
+      let expected : number_expected left.window ≡ number_expected s.window = ap (λ n. number_of_first n + left.window.turned) k.first ∙ ap (λ n. number_of_first s.window.first + n) k.turned in
+      let b_is : emptying_effects left whose ≡ b = ap (λ n. emptied_from n whose left.window.places) expected ∙ ap (emptied_from (number_expected s.window) whose) k.places in
+      let d_is : reply_effects left (connection_of r) reply ≡ d = ap (λ cs. Send (connection_of r) (stat_sn_on (connection_of r) cs) reply ∷ []) k.conns in
+      let f_is : close_effects left whose ≡ f = close_same whose left.open_conns s.open_conns k.open_conns in
+      e5 ∙ ap (λ (es : List Effect). es ++ g) (e4 ∙ ap (λ (es : List Effect). es ++ close_effects left whose) (e3 ∙ ap (λ (es : List Effect). es ++ reply_effects left (connection_of r) reply) (e2 ∙ ap (λ (es : List Effect). es ++ emptying_effects left whose) e1)))
+      ∙ ap (λ (es : List Effect). ((((out ++ a) ++ es) ++ reply_effects left (connection_of r) reply) ++ close_effects left whose) ++ g) b_is
+      ∙ ap (λ (es : List Effect). ((((out ++ a) ++ b) ++ es) ++ close_effects left whose) ++ g) d_is
+      ∙ ap (λ (es : List Effect). ((((out ++ a) ++ b) ++ d) ++ es) ++ g) f_is
+      ∙ append_assoc (((out ++ a) ++ b) ++ d) f g
+      ∙ append_assoc ((out ++ a) ++ b) d (f ++ g)
+      ∙ append_assoc (out ++ a) b (d ++ (f ++ g))
+      ∙ append_assoc out a (b ++ (d ++ (f ++ g)))
+    where
+      abbrev closing : Option ℕ → List ℕ → List Effect
+      closing None conns = session_closes (still_open None conns)
+      closing (Some conn) conns = CloseConn conn ∷ session_closes (still_open (Some conn) conns)
+
+      close_same : (x : Option ℕ) (conns conns' : List ℕ) → conns ≡ conns' → closing x conns ≡ closing x conns'
+      close_same x conns conns' is = ap (closing x) is
 
 -- ---- a Logout
 

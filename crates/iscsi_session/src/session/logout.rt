@@ -1,18 +1,17 @@
 //! Logout, and the closing of connections and of the session (RFC 7143 sections 11.14 and 11.15).
 
-ghost use Rattle.std.specs.Prelude.{ℕ, ◌≡◌, ◌+◌, ◌*◌, ◌≤◌, ◌++◌, not, true, filter, map, count_by, if◌then◌else◌, IfSome, vec_len, vec_capacity};
+ghost use Rattle.std.specs.Prelude.{ℕ, ◌≡◌, ◌+◌, ◌*◌, ◌≤◌, ◌<◌, [], ◌++◌, length, true, false, map, count_by, if◌then◌else◌, IfSome, vec_len, vec_capacity};
 ghost use Rattle.iscsi_wire.specs.Fields.{connection_of, itt as tag_of, cid as cid_of};
 ghost use Rattle.iscsi_window.specs.Windows.{is_asked};
 ghost use Rattle.iscsi_session.specs.Settings.{is_known as known_in};
 ghost use Rattle.iscsi_session.specs.Standing.{is_held};
 ghost use Rattle.iscsi_session.specs.Functions.{owed};
-ghost use Rattle.iscsi_session.specs.Parting.{is_among_open, closing_by, closed_as, closed_effects, parted, parting_effects, cover_of as cover_named, covers_of, units_of, with_all_left, all_leaving_effects, with_emptied, emptying_effects, still_open, with_closed, close_effects, with_all_given, all_enable_effects};
+ghost use Rattle.iscsi_session.specs.Parting.{is_among_open, closing_by, closed_as, closed_effects, parted, parting_effects, cover_of as cover_named, covers_of, units_of, with_all_left, all_leaving_effects, with_emptied, emptying_effects, with_dropped, with_closed, close_effects, with_all_given, all_enable_effects};
 
 use crate::closing::Closing;
 use crate::effect::Effect;
 use crate::session::Session;
 use crate::session::execution::{INVALID_FIELD, NO_TAG, rejection};
-use crate::session::waiting::Waiting;
 use iscsi_tasks::Cover;
 use iscsi_wire::{Reply, Request};
 use std::alloc::Global;
@@ -96,7 +95,7 @@ impl Session {
     {
         self.leave_all(whose, out);
         self.empty_all(whose, out);
-        drop_waiting(&mut self.waiting, whose);
+        self.drop_waiting(whose);
         let itt = request.itt();
         let response = CLOSED;
         self.reply(request.conn(), Reply::Logout { itt, response }, out);
@@ -114,8 +113,8 @@ impl Session {
         ensures places { self.new.window.places ≡ self.old.window.places }
     {
         let cover = cover_of(whose);
-        for unit in 0..self.sets.len() {
-            self.leave_covered(unit as u16, &cover, out);
+        for unit in 0..self.units() {
+            self.leave_covered(unit, &cover, out);
         }
     }
 
@@ -127,10 +126,35 @@ impl Session {
         ensures spent { vec_len out.new + count_by is_held self.new.window.places ≤ vec_len out.old + count_by is_held self.old.window.places }
         ensures capacity { vec_capacity out.new ≡ vec_capacity out.old }
     {
-        while let Some(sn) = self.window.drop_first(whose) {
-            self.held -= 1;
-            out.push_reserved(Effect::Empty { sn });
-        }
+        while self.empty_next(whose, out) {}
+    }
+
+    /// The lowest number of a request that is held of a connection, or of any for None, is emptied. Whether there was one.
+    fn empty_next(&mut self, whose: Option<u16>, out: &mut Vec<Effect>) -> bool
+        requires room { vec_len out.old + count_by is_held self.old.window.places ≤ vec_capacity out.old }
+        // What is still to be taken out is the rest of what was to be before.
+        ensures session { with_emptied self.new whose ≡ with_emptied self.old whose }
+        ensures effects { out.new.items ++ emptying_effects self.new whose ≡ out.old.items ++ emptying_effects self.old whose }
+        ensures last { result ≡ false → with_emptied self.new whose ≡ self.new }
+        ensures nothing { result ≡ false → emptying_effects self.new whose ≡ [] }
+        ensures fewer { result ≡ true → count_by is_held self.new.window.places < count_by is_held self.old.window.places }
+        ensures spent { vec_len out.new + count_by is_held self.new.window.places ≤ vec_len out.old + count_by is_held self.old.window.places }
+        ensures capacity { vec_capacity out.new ≡ vec_capacity out.old }
+    {
+        let Some(sn) = self.window.drop_first(whose) else {
+            return false;
+        };
+        self.held -= 1;
+        out.push_reserved(Effect::Empty { sn });
+        true
+    }
+
+    /// The functions of a connection that wait, or of all for None, are dropped.
+    fn drop_waiting(&mut self, whose: Option<u16>)
+        ensures session { self.new ≡ with_dropped self.old whose }
+    {
+        self.waiting
+            .retain(|function| !is_of(whose, function.request.conn()));
     }
 
     /// A connection is closed, or the session for None, and with the last connection the session.
@@ -158,9 +182,16 @@ impl Session {
         ensures spent { vec_len out.new + owed self.new.live self.new.sets ≤ vec_len out.old + owed self.old.live self.old.sets }
         ensures capacity { vec_capacity out.new ≡ vec_capacity out.old }
     {
-        for unit in 0..self.sets.len() {
-            self.tell_unit(unit as u16, out);
+        for unit in 0..self.units() {
+            self.tell_unit(unit, out);
         }
+    }
+
+    /// How many units there are.
+    fn units(&self) -> u16
+        ensures { result ≡ length self.now.sets }
+    {
+        self.sets.len() as u16
     }
 }
 
@@ -190,14 +221,6 @@ fn cover_of(whose: Option<u16>) -> Cover
         Some(conn) => Cover::Conn(conn),
         None => Cover::All,
     }
-}
-
-/// The functions of a connection that wait, or of all for None, are dropped.
-fn drop_waiting(waiting: &mut Vec<Waiting>, whose: Option<u16>)
-    ensures items { waiting.new.items ≡ filter (λ w. not (is_asked whose (connection_of w.request))) waiting.old.items }
-    ensures capacity { vec_capacity waiting.new ≡ vec_capacity waiting.old }
-{
-    waiting.retain(|function| !is_of(whose, function.request.conn()));
 }
 
 /// The CIDs of the connections, all open. None where memory is refused.

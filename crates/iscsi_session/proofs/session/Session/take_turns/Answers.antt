@@ -26,7 +26,7 @@ loop-self-preserved c =
           let one : KeepsPace s.window c.turn_next.new.self.window = subst (λ (v : Core). KeepsPace s.window v.window) (sym c.turn_next.ensures.session) (pace-turned s) in
           omega (arith, one, f.pace, inv.pace);
       taken = f.taken ∙ ap (λ (v : Core). v.taken) c.turn_next.ensures.session ∙ turned_taken s p ∙ inv.taken;
-      spent = omega (arith, c.turn_next.ensures.spent, ap length c.turn_next.ensures.waiting, f.spent, ap (count_by is_held) f.places, inv.spent);
+      spent = omega (arith, c.turn_next.ensures.spent, c.turn_next.ensures.waiting, f.spent, ap (count_by is_held) f.places, inv.spent);
       capacity = f.capacity ∙ c.turn_next.ensures.capacity ∙ inv.capacity;
     }
 

@@ -1,0 +1,32 @@
+use Rattle.std.proofs.Common.{◌≡◌, ◌≤◌, ◌∙◌, ap, sym, subst, arith, length, count_by}
+use Rattle.iscsi_session.specs.Standing.{Core, is_held}
+use Rattle.iscsi_session.specs.Steps.{verdict_by}
+use Rattle.iscsi_session.specs.Parting.{closing_by}
+use Rattle.iscsi_session.proofs.ManageLemmas.{Eased, managed_eased, managed_waiting, obeyed_places, obeyed_waiting}
+use Rattle.iscsi_session.proofs.PartedLemmas.{closed_parts}
+use Rattle.iscsi_session.proofs.session.Session.execute.Goals as goal
+
+pub returns-in-2-clause-spent : goal.returns-in-2-clause-spent
+returns-in-2-clause-spent c =
+    let s : Core = c.args.self.now in
+    let e : Eased s.window c.manage.new.self.window = subst (λ (v : Core). Eased s.window v.window) (sym c.manage.ensures.session) (managed_eased s c.args.request.now c.position-number.result c.args.event) in
+    omega (arith, e.held, c.manage.ensures.spent)
+
+pub returns-in-2-clause-waiting : goal.returns-in-2-clause-waiting
+returns-in-2-clause-waiting c =
+    omega (arith, ap (λ (v : Core). length v.waiting) c.manage.ensures.session, ap length (managed_waiting c.args.self.now c.args.request.now c.position-number.result c.args.event))
+
+pub returns-in-6-clause-waiting : goal.returns-in-6-clause-waiting
+returns-in-6-clause-waiting c =
+    let s : Core = c.args.self.now in
+    omega (arith, ap (λ (v : Core). length v.waiting) c.log_out.ensures.session, (closed_parts s c.args.request.now (closing_by s c.args.request.now)).waiting)
+
+pub returns-in_default-clause-spent : goal.returns-in_default-clause-spent
+returns-in_default-clause-spent c =
+    let s : Core = c.args.self.now in
+    omega (arith, c.obey.ensures.spent, ap (λ (v : Core). count_by is_held v.window.places) c.obey.ensures.session, ap (count_by is_held) (obeyed_places s c.args.request.now (verdict_by s c.args.request.now)))
+
+pub returns-in_default-clause-waiting : goal.returns-in_default-clause-waiting
+returns-in_default-clause-waiting c =
+    let s : Core = c.args.self.now in
+    omega (arith, ap (λ (v : Core). length v.waiting) c.obey.ensures.session, ap length (obeyed_waiting s c.args.request.now (verdict_by s c.args.request.now)))
