@@ -40,6 +40,8 @@ pub mod AbortItems
 pub mod AbortRuns
 pub mod AbortLemmas
 pub mod AbortTheorem
+pub mod CloseLemmas
+pub mod CloseItems
 pub mod LeavingLemmas
 pub mod LeavingParts
 pub mod AbortParts
