@@ -42,6 +42,8 @@ pub mod AbortLemmas
 pub mod AbortTheorem
 pub mod CloseLemmas
 pub mod CloseItems
+pub mod CloseRuns
+pub mod CloseTheorem
 pub mod LeavingLemmas
 pub mod LeavingParts
 pub mod AbortParts
