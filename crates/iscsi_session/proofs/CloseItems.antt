@@ -1,6 +1,6 @@
 -- Each item does and brings what is on open connections, and takes out what is going on on those that it closes.
 use Rattle.std.proofs.Common.{◌≡◌, ℕ, ◌+◌, ◌-◌, ◌<◌, ◌≤◌, ◌==◌, ◌&&◌, ◌||◌, ◌⊎◌, inl, inr, ⊎_elim, not, cond, Bool, true, false, List, [], ◌∷◌, ◌++◌, map, filter, Option, Some, None, option_map, refl, ap, sym, subst, ◌∙◌, arith, eq-eqb, append_assoc, nat_lt, nat_le}
-use Rattle.std.specs.List.{list_any, list_all, filter_map, flat_map, range_with_len, cons_option}
+use Rattle.std.specs.List.{list_any, list_all, filter_map, range_with_len, cons_option}
 use Rattle.std.proofs.lemmas.Bool.{false≢true, eqb-true}
 use Rattle.std.proofs.lemmas.List.{append-nil}
 use Rattle.std.proofs.lemmas.List.Folds.{list_any-append}
@@ -12,12 +12,12 @@ use Rattle.iscsi_session.specs.declared.effect.Why.{Why}
 use Rattle.iscsi_session.specs.declared.verdict.Verdict.{Verdict}
 use Rattle.iscsi_session.specs.declared.verdict.Verdict.TheVariants.{Nothing, Answer, Enter}
 use Rattle.iscsi_session.specs.Settings.{Setting, is_known}
-use Rattle.iscsi_session.specs.Trace.{Arrival, Command, Mark, Admits, Delivers, Executes, Voids, Empties, Waits, Leaves, Enters, ClosesConn, ClosesSession, Ignores, Trace, has, shown, first_of, is_received, admits_at, admitted, delivers_number, is_delivered, empties_number, is_emptied, held, enters, entered, leaves_ticket, live, live_in, closes_conn, closes_session, is_ended, is_closed}
+use Rattle.iscsi_session.specs.Trace.{Arrival, Command, Mark, Admits, Delivers, Executes, Voids, Empties, Waits, Leaves, Enters, ClosesConn, ClosesSession, Ignores, Trace, has, shown, first_of, is_received, admits_at, delivers_number, is_delivered, empties_number, is_emptied, held, enters, entered, leaves_ticket, live, live_in, closes_conn, closes_session, is_ended, is_closed}
 use Rattle.iscsi_session.specs.Execution.{exp_of, max_of, NO_TAG, unit_named, is_tag_live, is_crowded, place_named, is_full, verdict_of, marks_of, next_command, rejected, reply_on}
 use Rattle.iscsi_session.specs.Management.{may_wait, refusal_of_function, MOST_WAITING, waiting_on, answer, held_command, live_with_tag, abort_missing, abort_task, is_before, abort_all, query, function_to, function_marks, management_marks}
 use Rattle.iscsi_session.specs.Logout.{is_open, is_last_open, live_of_units, all_held, taken_out, parting, end_session, close_conn, logout_marks}
-use Rattle.iscsi_session.specs.Items.{marks_after, execution, item_of, waiting_item, immediate_item, function_item}
-use Rattle.iscsi_session.proofs.BoolLemmas.{and_parts, or_none, or_first, or_second, or_false, not_true}
+use Rattle.iscsi_session.specs.Items.{execution, item_of, waiting_item, immediate_item, function_item}
+use Rattle.iscsi_session.proofs.BoolLemmas.{and_parts, or_first, or_second, or_false, not_true}
 use Rattle.iscsi_session.proofs.ApartLemmas.{eq_sym}
 use Rattle.iscsi_session.proofs.TraceLemmas.{live-quiet}
 use Rattle.iscsi_session.proofs.HeldLemmas.{held-number, admitted_of_held}

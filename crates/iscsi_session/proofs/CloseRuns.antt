@@ -1,7 +1,6 @@
 -- In the trace of a list of events that come on the session's connections each item is sound.
-use Rattle.std.proofs.Common.{◌≡◌, ℕ, zero, suc, ◌+◌, ◌-◌, ◌<◌, ◌≤◌, ◌==◌, ◌&&◌, ◌||◌, inl, inr, not, cond, Bool, true, false, List, [], ◌∷◌, ◌++◌, filter, Option, Some, None, refl, ap, sym, subst, ◌∙◌, arith, nat_lt}
+use Rattle.std.proofs.Common.{◌≡◌, ℕ, zero, suc, ◌+◌, ◌-◌, ◌<◌, ◌≤◌, ◌==◌, ◌&&◌, ◌||◌, inl, inr, not, cond, Bool, true, false, List, [], ◌∷◌, ◌++◌, filter, Option, Some, None, refl, ap, sym, subst, arith, nat_lt}
 use Rattle.std.specs.List.{list_all}
-use Rattle.std.proofs.lemmas.Bool.{false≢true}
 use Rattle.std.proofs.lemmas.Bool.Decides.{nat_tests}
 use Rattle.iscsi_wire.specs.Serial.{number_of_first}
 use Rattle.iscsi_wire.specs.Fields.{connection_of, is_immediate, itt, request_of}
@@ -12,8 +11,8 @@ use Rattle.iscsi_session.specs.declared.event.Event.TheVariants.{Arrive, Done}
 use Rattle.iscsi_session.specs.declared.kind.Kind.{Kind}
 use Rattle.iscsi_session.specs.declared.kind.Kind.TheVariants.{PassedOver, Unknown, Executes as ExecutesKind}
 use Rattle.iscsi_session.specs.Settings.{Setting, is_known}
-use Rattle.iscsi_session.specs.Trace.{Arrival, Command, Mark, Admits, Leaves, Ignores, Trace, after_items, first_of, is_received, held, waiting, live, was_free, is_closed}
-use Rattle.iscsi_session.specs.Execution.{exp_of, max_of, unfinished, rejected, ignored, completion, reply_on, sense_of_status}
+use Rattle.iscsi_session.specs.Trace.{Arrival, Command, Mark, Admits, Trace, after_items, first_of, is_received, held, waiting, live, was_free, is_closed}
+use Rattle.iscsi_session.specs.Execution.{exp_of, max_of, unfinished, ignored, completion, sense_of_status}
 use Rattle.iscsi_session.specs.Logout.{is_open}
 use Rattle.iscsi_session.specs.Items.{immediate_item, function_item, item_of, is_waiting, functions, functions_at, turn_at, at_number, agenda}
 use Rattle.iscsi_session.specs.Agenda.{with_turns, numbered, kind_of, arrival_as, arrival_open, arrival, arrival_of, command_of}

@@ -10,15 +10,15 @@ use Rattle.iscsi_session.specs.declared.event.Event.{Event}
 use Rattle.iscsi_session.specs.declared.fault.SessionFault.{SessionFault}
 use Rattle.iscsi_session.specs.declared.fault.SessionFault.TheVariants.{UnknownConnection, Exhausted}
 use Rattle.iscsi_session.specs.Settings.{Setting, is_known}
-use Rattle.iscsi_session.specs.Trace.{Command, Mark, Admits, Delivers, Executes, Voids, Empties, Waits, Leaves, Enters, Sends, ClosesConn, ClosesSession, Ignores, Trace, has, live, live_in, was_free, enabled_in, closes_conn, closes_session, is_ended, is_closed}
+use Rattle.iscsi_session.specs.Trace.{Command, Mark, Admits, Delivers, Executes, Voids, Empties, Waits, Leaves, Enters, Sends, ClosesConn, ClosesSession, Ignores, Trace, has, live, live_in, was_free, enabled_in, closes_conn, closes_session, is_ended}
 use Rattle.iscsi_session.specs.Logout.{is_open}
 use Rattle.iscsi_session.specs.Run.{trace_of, effects_of_mark, newly_enabled, effects_of_item, run_of}
 use Rattle.iscsi_session.specs.Refusals.{belongs, first_refusal}
 use Rattle.iscsi_session.specs.Enabling.{effects_so_far}
 use Rattle.iscsi_session.specs.Closes.{is_session_close, is_close_of, is_ignored, is_on, ClosesHold, ClosesHoldIn}
-use Rattle.iscsi_session.proofs.BoolLemmas.{and_parts, and_both, or_none, or_first, or_second, or_comm, or_false}
+use Rattle.iscsi_session.proofs.BoolLemmas.{and_both, or_none, or_second, or_comm, or_false}
 use Rattle.iscsi_session.proofs.EnablingLemmas.{log_effects}
-use Rattle.iscsi_session.proofs.CloseLemmas.{In, in-filter, in-append, is_at, ignores, Sound, Clear, clear-item, open-unended, by_bool}
+use Rattle.iscsi_session.proofs.CloseLemmas.{In, in-filter, in-append, is_at, ignores, Sound, Clear, clear-item, open-unended}
 use Rattle.iscsi_session.proofs.CloseRuns.{Sounds, clear_of, trace_sounds}
 
 -- ---- what the effects show of closing
