@@ -12,6 +12,7 @@ use Rattle.iscsi_session.specs.Settings.{Setting}
 use Rattle.iscsi_session.specs.Trace.{Arrival, Command, Mark, Admits, Delivers, Executes, Waits, Leaves, Ignores, Trace, has, enters, entered, number_received, contains, is_received, admits_at, delivers_number, held, leaves_ticket, live, live_in, is_among}
 use Rattle.iscsi_session.specs.Execution.{exp_of, max_of, verdict_of, marks_of, rejected, reply_on}
 use Rattle.iscsi_session.specs.Management.{may_wait, refusal_of_function, MOST_WAITING, waiting_on, is_before, answer, function_marks}
+use Rattle.iscsi_session.specs.Logout.{logout_marks}
 use Rattle.iscsi_session.specs.Items.{marks_after, execution, item_of, waiting_item, immediate_item, function_item}
 use Rattle.iscsi_session.specs.Aborts.{is_set_abort, is_abort, executed_in, is_complete, completes, IsCompleted, is_in_unit_of, earlier, is_ticket_covered}
 use Rattle.iscsi_session.proofs.BoolLemmas.{or_first, or_second, or_none, and_parts, and_both}
@@ -288,7 +289,7 @@ refused_execution_fits : (o : Setting) (p : ℕ) (t : Trace) (a : Arrival) (repl
 refused_execution_fits o p t a reply function is =
     let t' : Trace = (Executes a ∷ []) ∷ t in
     let marks : marks_after o t' a ≡ reply_on a reply =
-    ap (λ b. cond b (elim (refusal_of_function o a.request) [ Some r ↦ reply_on a r | None ↦ function_marks o t' a ]) (marks_of t' a (verdict_of o t' a.request))) function ∙ ap (λ x. elim x [ Some r ↦ reply_on a r | None ↦ function_marks o t' a ]) is in
+    ap (λ b. cond b (elim (refusal_of_function o a.request) [ Some r ↦ reply_on a r | None ↦ function_marks o t' a ]) (cond (opcode a.request == 0x06) (logout_marks o t' a) (marks_of t' a (verdict_of o t' a.request)))) function ∙ ap (λ x. elim x [ Some r ↦ reply_on a r | None ↦ function_marks o t' a ]) is in
     subst (λ ms. Fits o p t (Executes a ∷ ms)) (sym marks) (refused_fits o p t a reply (refused_incomplete o a.request reply (itt a.request) is))
 
 pub immediate_fits : (o : Setting) (t : Trace) (a : Arrival) → is_immediate a.request ≡ true → Fits o (exp_of o t) t (immediate_item o t a)

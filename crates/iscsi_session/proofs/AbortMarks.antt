@@ -1,22 +1,26 @@
 -- The marks that follow the one by which a request executes, and what an abort of a whole set takes out.
-use Rattle.std.proofs.Common.{◌≡◌, ℕ, ◌==◌, ◌&&◌, ◌||◌, not, cond, Bool, true, false, List, [], ◌∷◌, ◌++◌, map, filter, Option, Some, None, refl, ap, sym, subst, ◌∙◌, nat_lt, nat_le}
-use Rattle.std.specs.List.{list_any, filter_map}
+use Rattle.std.proofs.Common.{◌≡◌, ℕ, ◌==◌, ◌&&◌, ◌||◌, not, cond, Bool, true, false, List, [], ◌∷◌, ◌++◌, map, filter, Option, Some, None, refl, ap, sym, subst, ◌∙◌, nat_lt, nat_le, append_assoc}
+use Rattle.std.specs.List.{list_any, filter_map, cons_option, flat_map, range_with_len}
 use Rattle.std.proofs.lemmas.Bool.{false≢true, eqb-true}
+use Rattle.std.proofs.lemmas.List.Elements.{filter_map-append}
+use Rattle.std.proofs.lemmas.List.Folds.{list_any-append}
 use Rattle.iscsi_wire.specs.declared.reply.Reply.{Reply}
-use Rattle.iscsi_wire.specs.declared.reply.Reply.TheVariants.{Task, Reject}
+use Rattle.iscsi_wire.specs.declared.reply.Reply.TheVariants.{Task, Logout, Reject}
 use Rattle.iscsi_wire.specs.declared.request.Request.{Request}
 use Rattle.iscsi_wire.specs.Serial.{lift}
-use Rattle.iscsi_wire.specs.Fields.{connection_of, header_of, is_immediate, opcode, function, itt, rtt, ref_cmd_sn}
+use Rattle.iscsi_wire.specs.Fields.{connection_of, header_of, is_immediate, opcode, function, itt, rtt, cid, ref_cmd_sn}
 use Rattle.iscsi_session.specs.declared.verdict.Verdict.{Verdict}
 use Rattle.iscsi_session.specs.declared.verdict.Verdict.TheVariants.{Nothing, Answer, Enter}
 use Rattle.iscsi_session.specs.Settings.{Setting}
-use Rattle.iscsi_session.specs.Trace.{Arrival, Command, Mark, Voids, Empties, Leaves, Trace, first_of, is_received, admits_at, delivers_number, leaves_ticket, live, live_in, is_among}
+use Rattle.iscsi_session.specs.Trace.{Arrival, Command, Mark, Voids, Empties, Leaves, ClosesConn, ClosesSession, Trace, first_of, is_received, admits_at, delivers_number, leaves_ticket, live, live_in, is_among}
 use Rattle.iscsi_session.specs.Execution.{exp_of, max_of, NO_TAG, unit_named, verdict_of, marks_of, reply_on}
 use Rattle.iscsi_session.specs.Management.{is_supported, refusal_of_function, answer, held_command, live_with_tag, abort_missing, abort_task, is_before, abort_all, query, function_to, function_marks, management_marks}
+use Rattle.iscsi_session.specs.Logout.{is_open, is_last_open, live_of_units, all_held, taken_out, parting, end_session, close_conn, logout_marks}
 use Rattle.iscsi_session.specs.Items.{marks_after}
 use Rattle.iscsi_session.specs.Aborts.{is_set_abort, is_complete, completes}
 use Rattle.iscsi_session.proofs.BoolLemmas.{or_none, or_false}
 use Rattle.iscsi_session.proofs.ApartLemmas.{unamong-filter}
+use Rattle.iscsi_session.proofs.ListLemmas.{list_any-map}
 use Rattle.iscsi_session.proofs.AbortLemmas.{voids_number}
 
 -- ---- marks after the one that begins the item; t has that one
@@ -136,12 +140,104 @@ follows_verdict t a Nothing = follows_none t
 follows_verdict t a (Answer reply) = follows_reply t a reply
 follows_verdict t a (Enter unit) = record { leaves = λ k h. refl; delivers = λ n. refl; admits = λ n. refl; voids = λ n h. absurd (false≢true h) }
 
+-- ---- Logout
+
+pub none_among : (k : ℕ) (f : ℕ → List Command) (units : List ℕ) → ((unit : ℕ) → is_among k (f unit) ≡ false) → is_among k (flat_map f units) ≡ false
+none_among k f [] none = refl
+none_among k f (unit ∷ units) none =
+    list_any-append (λ (c : Command). c.ticket == k) (f unit) (flat_map f units)
+    ∙ ap (λ b. b || is_among k (flat_map f units)) (none unit) ∙ none_among k f units none
+
+none_mapped : {A : Type 0} (p : Mark → Bool) (f : A → Mark) (xs : List A) → ((x : A) → p (f x) ≡ false) → list_any p (map f xs) ≡ false
+none_mapped p f [] none = refl
+none_mapped p f (x ∷ xs) none = ap (λ b. b || list_any p (map f xs)) (none x) ∙ none_mapped p f xs none
+
+none_viewed : {A B : Type 0} (view : Mark → Option B) (f : A → Mark) (xs : List A) → ((x : A) → view (f x) ≡ None) → filter_map view (map f xs) ≡ []
+none_viewed view f [] none = refl
+none_viewed view f (x ∷ xs) none = ap (λ y. cons_option y (filter_map view (map f xs))) (none x) ∙ none_viewed view f xs none
+
+-- what a Logout takes out
+module _ (o : Setting) (t : Trace) (of_these : ℕ → Bool) where
+  taken_commands : List Command
+  taken_commands = filter (λ (c : Command). of_these (connection_of c.arrival.request)) (live_of_units o t)
+
+  taken_requests : List Arrival
+  taken_requests = filter (λ (a : Arrival). of_these (connection_of a.request)) (all_held o t)
+
+  -- passes over it
+  pub any_taken : (p : Mark → Bool) → ((c : Command) → p (Leaves c) ≡ false) → ((a : Arrival) → p (Empties a) ≡ false) → list_any p (taken_out o t of_these) ≡ false
+  unfolding taken_commands taken_requests
+  any_taken p leaves empties =
+      list_any-append p (map Leaves taken_commands) (map Empties taken_requests)
+      ∙ ap (λ b. b || list_any p (map Empties taken_requests)) (none_mapped p Leaves taken_commands leaves)
+      ∙ none_mapped p Empties taken_requests empties
+
+  pub view_taken : {B : Type 0} (view : Mark → Option B) → ((c : Command) → view (Leaves c) ≡ None) → ((a : Arrival) → view (Empties a) ≡ None) → filter_map view (taken_out o t of_these) ≡ []
+  unfolding taken_commands taken_requests
+  view_taken view leaves empties =
+      filter_map-append view (map Leaves taken_commands) (map Empties taken_requests)
+      ∙ ap (λ xs. xs ++ filter_map view (map Empties taken_requests)) (none_viewed view Leaves taken_commands leaves)
+      ∙ none_viewed view Empties taken_requests empties
+
+  -- the commands are live
+  taken_live : (k : ℕ) → is_among k (live t) ≡ false → list_any (leaves_ticket k) (taken_out o t of_these) ≡ false
+  unfolding taken_commands taken_requests
+  taken_live k gone =
+      list_any-append (leaves_ticket k) (map Leaves taken_commands) (map Empties taken_requests)
+      ∙ ap (λ b. b || list_any (leaves_ticket k) (map Empties taken_requests))
+      (list_any-map (leaves_ticket k) Leaves taken_commands
+      ∙ unamong-filter (λ (c : Command). of_these (connection_of c.arrival.request)) k (live_of_units o t)
+      (none_among k (λ unit. live_in unit t) (range_with_len 0 o.units) (λ unit. unamong-filter (λ (c : Command). c.unit == unit) k (live t) gone)))
+      ∙ none_mapped (leaves_ticket k) Empties taken_requests (λ a. refl)
+
+  pub follows_taken : (ms : List Mark) → Follows t ms → Follows t (taken_out o t of_these ++ ms)
+  follows_taken ms f = record {
+    leaves = λ k h. list_any-append (leaves_ticket k) (taken_out o t of_these) ms ∙ ap (λ b. b || list_any (leaves_ticket k) ms) (taken_live k h) ∙ f.leaves k h;
+    delivers = λ n. passed (delivers_number n) (λ c. refl) (λ a. refl) ∙ f.delivers n;
+    admits = λ n. filter_map-append (admits_at n) (taken_out o t of_these) ms
+        ∙ ap (λ xs. xs ++ filter_map (admits_at n) ms) (view_taken (admits_at n) (λ c. refl) (λ a. refl)) ∙ f.admits n;
+    voids = λ n h. f.voids n (sym (passed (voids_number n) (λ c. refl) (λ a. refl)) ∙ h);
+  }
+    where
+      passed : (p : Mark → Bool) → ((c : Command) → p (Leaves c) ≡ false) → ((a : Arrival) → p (Empties a) ≡ false) → list_any p (taken_out o t of_these ++ ms) ≡ list_any p ms
+      passed p leaves empties = list_any-append p (taken_out o t of_these) ms ∙ ap (λ b. b || list_any p ms) (any_taken p leaves empties)
+
+follows_closing : (t : Trace) (a : Arrival) (closing : ℕ) (b : Bool) → Follows t (parting a 0 ++ ClosesConn closing ∷ cond b (ClosesSession ∷ []) [])
+follows_closing t a closing true = record { leaves = λ k h. refl; delivers = λ n. refl; admits = λ n. refl; voids = λ n h. absurd (false≢true h) }
+follows_closing t a closing false = record { leaves = λ k h. refl; delivers = λ n. refl; admits = λ n. refl; voids = λ n h. absurd (false≢true h) }
+
+follows_end : (t : Trace) (a : Arrival) → Follows t (parting a 0 ++ ClosesSession ∷ [])
+follows_end t a = record { leaves = λ k h. refl; delivers = λ n. refl; admits = λ n. refl; voids = λ n h. absurd (false≢true h) }
+
+follows_ended : (o : Setting) (t : Trace) (a : Arrival) → Follows t (end_session o t a)
+follows_ended o t a =
+    subst (Follows t) (sym (append_assoc (taken_out o t (λ conn. true)) (parting a 0) (ClosesSession ∷ [])))
+    (follows_taken o t (λ conn. true) (parting a 0 ++ ClosesSession ∷ []) (follows_end t a))
+
+follows_closed : (o : Setting) (t : Trace) (a : Arrival) (closing : ℕ) → Follows t (close_conn o t a closing)
+follows_closed o t a closing =
+    let last : Bool = is_last_open o t closing in
+    subst (Follows t) (sym (append_assoc (taken_out o t (λ conn. conn == closing)) (parting a 0) (ClosesConn closing ∷ cond last (ClosesSession ∷ []) [])))
+    (follows_taken o t (λ conn. conn == closing) (parting a 0 ++ ClosesConn closing ∷ cond last (ClosesSession ∷ []) []) (follows_closing t a closing last))
+
+follows_logout : (o : Setting) (t : Trace) (a : Arrival) → Follows t (logout_marks o t a)
+follows_logout o t a = by_tests (itt a.request == NO_TAG) (function a.request == 0) (function a.request == 1) (is_open o t (cid a.request)) (function a.request == 2)
+  where
+    by_tests : (b c d e f : Bool) → Follows t (cond b (reply_on a (Reject 9 (header_of a.request))) (cond c (end_session o t a) (cond d (cond e (close_conn o t a (cid a.request)) (parting a 1)) (cond f (parting a 2) (reply_on a (Reject 9 (header_of a.request)))))))
+    by_tests true c d e f = follows_reply t a (Reject 9 (header_of a.request))
+    by_tests false true d e f = follows_ended o t a
+    by_tests false false true true f = follows_closed o t a (cid a.request)
+    by_tests false false true false f = follows_reply t a (Logout (itt a.request) 1)
+    by_tests false false false e true = follows_reply t a (Logout (itt a.request) 2)
+    by_tests false false false e false = follows_reply t a (Reject 9 (header_of a.request))
+
 pub follows_after : (o : Setting) (t : Trace) (a : Arrival) → Follows t (marks_after o t a)
-follows_after o t a =
-    elim (opcode a.request == 0x02) as (λ b. Follows t (cond b (management_marks o t a) (marks_of t a (verdict_of o t a.request)))) [
-      | true ↦ follows_management o t a
-      | false ↦ follows_verdict t a (verdict_of o t a.request)
-    ]
+follows_after o t a = by_opcode (opcode a.request == 0x02) (opcode a.request == 0x06)
+  where
+    by_opcode : (b c : Bool) → Follows t (cond b (management_marks o t a) (cond c (logout_marks o t a) (marks_of t a (verdict_of o t a.request))))
+    by_opcode true c = follows_management o t a
+    by_opcode false true = follows_logout o t a
+    by_opcode false false = follows_verdict t a (verdict_of o t a.request)
 
 -- ---- replies that refuse a function
 
@@ -222,5 +318,5 @@ sweeps_management o t a set done =
 
 pub sweeps_after : (o : Setting) (t : Trace) (a : Arrival) → (opcode a.request == 0x02) ≡ true → is_set_abort a.request ≡ true → list_any (completes a.request) (marks_after o t a) ≡ true → Sweeps o t a (marks_after o t a)
 sweeps_after o t a function set done =
-    let is : marks_after o t a ≡ management_marks o t a = ap (λ b. cond b (management_marks o t a) (marks_of t a (verdict_of o t a.request))) function in
+    let is : marks_after o t a ≡ management_marks o t a = ap (λ b. cond b (management_marks o t a) (cond (opcode a.request == 0x06) (logout_marks o t a) (marks_of t a (verdict_of o t a.request)))) function in
     subst (Sweeps o t a) (sym is) (sweeps_management o t a set (ap (list_any (completes a.request)) (sym is) ∙ done))

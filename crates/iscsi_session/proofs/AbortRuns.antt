@@ -2,18 +2,18 @@
 use Rattle.std.proofs.Common.{◌≡◌, ℕ, zero, suc, ◌+◌, ◌-◌, ◌≤◌, ◌==◌, ◌&&◌, ◌||◌, ⊎_elim, cond, Bool, true, false, List, [], ◌∷◌, ◌++◌, filter, Option, Some, None, refl, ap, sym, subst, ◌∙◌, arith, nat_lt}
 use Rattle.std.specs.List.{list_all, filter_map}
 use Rattle.std.proofs.lemmas.Bool.{false≢true, eqb-true, cases_lt}
-use Rattle.iscsi_wire.specs.Fields.{is_immediate, itt, request_of}
+use Rattle.iscsi_wire.specs.Fields.{connection_of, is_immediate, itt, request_of}
 use Rattle.iscsi_wire.specs.declared.reply.Reply.TheVariants.{Scsi}
-use Rattle.iscsi_session.specs.declared.effect.Why.TheVariants.{Outside, Duplicate, Data, Stale}
+use Rattle.iscsi_session.specs.declared.effect.Why.TheVariants.{Outside, Duplicate, Closed, Data, Stale}
 use Rattle.iscsi_session.specs.declared.event.Event.{Event}
 use Rattle.iscsi_session.specs.declared.event.Event.TheVariants.{Arrive, Done}
 use Rattle.iscsi_session.specs.declared.kind.Kind.{Kind}
 use Rattle.iscsi_session.specs.declared.kind.Kind.TheVariants.{PassedOver, Unknown, Executes as ExecutesKind}
 use Rattle.iscsi_session.specs.Settings.{Setting}
-use Rattle.iscsi_session.specs.Trace.{Arrival, Command, Mark, Admits, Leaves, Ignores, Trace, after_items, is_received, number_received, contains, held, waiting, live, was_free}
+use Rattle.iscsi_session.specs.Trace.{Arrival, Command, Mark, Admits, Leaves, Ignores, Trace, after_items, is_received, number_received, contains, held, waiting, live, was_free, is_closed}
 use Rattle.iscsi_session.specs.Execution.{exp_of, max_of, rejected, ignored, completion, reply_on, sense_of_status}
 use Rattle.iscsi_session.specs.Items.{immediate_item, function_item, item_of, is_waiting, functions, functions_at, turn_at, at_number, agenda}
-use Rattle.iscsi_session.specs.Agenda.{with_turns, numbered, kind_of, arrival_as, arrival, arrival_of, command_of}
+use Rattle.iscsi_session.specs.Agenda.{with_turns, numbered, kind_of, arrival_as, arrival_open, arrival, arrival_of, command_of}
 use Rattle.iscsi_session.specs.Run.{after_event, after_events, trace_of}
 use Rattle.iscsi_session.proofs.BoolLemmas.{and_parts, or_first}
 use Rattle.iscsi_session.proofs.ApartLemmas.{unamong-filter}
@@ -25,7 +25,7 @@ use Rattle.iscsi_session.proofs.AbortItems.{item_fits, function_fits, ignored_fi
 
 -- ---- ExpCmdSN doesn't go back
 
-exp_item : (o : Setting) (item : List Mark) (t : Trace) → exp_of o t ≤ exp_of o (item ∷ t)
+pub exp_item : (o : Setting) (item : List Mark) (t : Trace) → exp_of o t ≤ exp_of o (item ∷ t)
 exp_item o item t =
     let e : ℕ = exp_of o (item ∷ t) in
     ⊎_elim
@@ -35,11 +35,11 @@ exp_item o item t =
     (λ on. on)
     (cases_lt e (exp_of o t))
 
-exp_items : (o : Setting) (items : List (List Mark)) (t : Trace) → exp_of o t ≤ exp_of o (after_items items t)
+pub exp_items : (o : Setting) (items : List (List Mark)) (t : Trace) → exp_of o t ≤ exp_of o (after_items items t)
 exp_items o [] t = omega arith
 exp_items o (item ∷ items) t = omega (arith, exp_item o item t, exp_items o items (item ∷ t))
 
-after_items-append : (now later : List (List Mark)) (t : Trace) → after_items (now ++ later) t ≡ after_items later (after_items now t)
+pub after_items-append : (now later : List (List Mark)) (t : Trace) → after_items (now ++ later) t ≡ after_items later (after_items now t)
 after_items-append [] later t = refl
 after_items-append (item ∷ now) later t = after_items-append now later (item ∷ t)
 
@@ -117,7 +117,11 @@ numbered_fit o t a x =
     ]
 
 arrival_fit : (o : Setting) (t : Trace) (a : Arrival) → FitSoFar o t → FitSoFar o (after_items (arrival o t a) t)
-arrival_fit o t a x = by_kind (kind_of a.request)
+arrival_fit o t a x =
+    elim (is_closed (connection_of a.request) t) as (λ b. FitSoFar o (after_items (cond b (ignored Closed) (arrival_open o t a)) t)) [
+      | true ↦ one_fit o t (Ignores Closed ∷ []) x (ignored_fits o (exp_of o t) t Closed)
+      | false ↦ by_kind (kind_of a.request)
+    ]
   where
     by_kind : (k : Kind) → FitSoFar o (after_items (arrival_as o t a k) t)
     by_kind PassedOver = one_fit o t (Ignores Data ∷ []) x (ignored_fits o (exp_of o t) t Data)

@@ -1,13 +1,12 @@
 -- What a completed abort covers is over, in the trace of each list of events.
 use Rattle.std.proofs.Common.{◌≡◌, ℕ, ◌<◌, ◌≤◌, ◌==◌, ◌&&◌, ◌||◌, ◌⊎◌, inl, inr, ⊎_elim, not, cond, Bool, true, false, List, [], ◌∷◌, ◌++◌, filter, Option, None, refl, ap, sym, subst, ◌∙◌, arith, nat_lt, append_assoc}
-use Rattle.std.specs.List.{list_any, filter_map, flat_map, range_with_len}
+use Rattle.std.specs.List.{list_any, filter_map, range_with_len}
 use Rattle.std.proofs.lemmas.Bool.{false≢true, or_cases}
 use Rattle.std.proofs.lemmas.Bool.Decides.{nat_tests}
-use Rattle.std.proofs.lemmas.List.Folds.{list_any-append}
 use Rattle.iscsi_wire.specs.Fields.{opcode, function}
 use Rattle.iscsi_session.specs.declared.event.Event.{Event}
 use Rattle.iscsi_session.specs.Settings.{Setting}
-use Rattle.iscsi_session.specs.Trace.{Arrival, Command, Mark, Admits, Delivers, Executes, Voids, Empties, Waits, Leaves, Enters, Sends, Ignores, Trace, first_of, has, shown, number_received, contains, is_received, admits_at, admitted, delivers_number, is_delivered, empties_number, is_emptied, held, leaves_ticket, live, live_in, is_among, was_free, enabled_in}
+use Rattle.iscsi_session.specs.Trace.{Arrival, Mark, Admits, Delivers, Executes, Voids, Empties, Waits, Leaves, Enters, Sends, ClosesConn, ClosesSession, Ignores, Trace, first_of, has, shown, number_received, contains, is_received, admits_at, admitted, delivers_number, is_delivered, empties_number, is_emptied, held, leaves_ticket, live, live_in, is_among, was_free, enabled_in}
 use Rattle.iscsi_session.specs.Execution.{exp_of}
 use Rattle.iscsi_session.specs.Run.{trace_of, effects_of_item, run_of}
 use Rattle.iscsi_session.specs.Enabling.{is_enable}
@@ -17,6 +16,7 @@ use Rattle.iscsi_session.proofs.ApartLemmas.{unamong-filter}
 use Rattle.iscsi_session.proofs.TraceLemmas.{received-item}
 use Rattle.iscsi_session.proofs.EnablingLemmas.{left_unlive, item_enables, log_effects}
 use Rattle.iscsi_session.proofs.AbortLemmas.{voids_number, Fits, Fit, Stood, stood}
+use Rattle.iscsi_session.proofs.AbortMarks.{none_among}
 use Rattle.iscsi_session.proofs.AbortRuns.{trace_fits}
 
 -- what has happened has happened at each later moment
@@ -39,12 +39,6 @@ covered_left o p f item before fits done k covered =
       | true ↦ λ one left. or_first (list_any (leaves_ticket k) item) (has (leaves_ticket k) before) left
       | false ↦ λ apart others. fits.sweeps f done (set_abort f item done apart) k covered
     ] refl covered
-
-none_among : (k : ℕ) (f : ℕ → List Command) (units : List ℕ) → ((unit : ℕ) → is_among k (f unit) ≡ false) → is_among k (flat_map f units) ≡ false
-none_among k f [] none = refl
-none_among k f (unit ∷ units) none =
-    list_any-append (λ (c : Command). c.ticket == k) (f unit) (flat_map f units)
-    ∙ ap (λ b. b || is_among k (flat_map f units)) (none unit) ∙ none_among k f units none
 
 -- what isn't live isn't enabled
 unlive_unenabled : (o : Setting) (t : Trace) (item : List Mark) (k : ℕ) → is_among k (live (item ∷ t)) ≡ false → list_any (is_enable k) (effects_of_item o t item) ≡ false
@@ -109,6 +103,8 @@ taken_cases n (Waits a ∷ ms) h = taken_cases n ms h
 taken_cases n (Leaves c ∷ ms) h = taken_cases n ms h
 taken_cases n (Enters c ∷ ms) h = taken_cases n ms h
 taken_cases n (Sends conn reply ∷ ms) h = taken_cases n ms h
+taken_cases n (ClosesConn conn ∷ ms) h = taken_cases n ms h
+taken_cases n (ClosesSession ∷ ms) h = taken_cases n ms h
 taken_cases n (Ignores why ∷ ms) h = taken_cases n ms h
 
 -- what is voided is received
@@ -126,6 +122,8 @@ voided_received n (Waits a ∷ ms) h = voided_received n ms h
 voided_received n (Leaves c ∷ ms) h = voided_received n ms h
 voided_received n (Enters c ∷ ms) h = voided_received n ms h
 voided_received n (Sends conn reply ∷ ms) h = voided_received n ms h
+voided_received n (ClosesConn conn ∷ ms) h = voided_received n ms h
+voided_received n (ClosesSession ∷ ms) h = voided_received n ms h
 voided_received n (Ignores why ∷ ms) h = voided_received n ms h
 
 -- a number that the item takes out is shut at its end

@@ -40,6 +40,10 @@ pub mod AbortItems
 pub mod AbortRuns
 pub mod AbortLemmas
 pub mod AbortTheorem
+pub mod CloseLemmas
+pub mod CloseItems
+pub mod CloseRuns
+pub mod CloseTheorem
 pub mod LeavingLemmas
 pub mod LeavingParts
 pub mod AbortParts

@@ -1,19 +1,21 @@
 -- Which numbers an item receives: ABORT TASK alone may receive one, where it is immediate.
-use Rattle.std.proofs.Common.{◌≡◌, ℕ, ◌==◌, ◌&&◌, ◌||◌, not, ◌⊎◌, inl, inr, cond, Bool, true, false, List, [], ◌∷◌, ◌++◌, map, filter, Option, Some, None, refl, ap, sym, ◌∙◌, nat_lt, nat_le, ◌+◌}
+use Rattle.std.proofs.Common.{append_assoc, ◌≡◌, ℕ, ◌==◌, ◌&&◌, ◌||◌, not, ◌⊎◌, inl, inr, cond, Bool, true, false, List, [], ◌∷◌, ◌++◌, map, filter, Option, Some, None, refl, ap, sym, ◌∙◌, nat_lt, nat_le, ◌+◌}
 use Rattle.std.specs.List.{list_any, filter_map}
 use Rattle.std.proofs.lemmas.Bool.{false≢true, eqb-true}
+use Rattle.std.proofs.lemmas.List.Elements.{filter_map-append}
 use Rattle.iscsi_wire.specs.declared.reply.Reply.TheVariants.{Reject}
 use Rattle.iscsi_wire.specs.declared.request.Request.{Request}
 use Rattle.iscsi_wire.specs.Serial.{lift}
-use Rattle.iscsi_wire.specs.Fields.{connection_of, is_immediate, opcode, function, itt, rtt, ref_cmd_sn}
+use Rattle.iscsi_wire.specs.Fields.{connection_of, header_of, is_immediate, opcode, function, itt, rtt, cid, ref_cmd_sn}
 use Rattle.iscsi_session.specs.declared.verdict.Verdict.{Verdict}
 use Rattle.iscsi_session.specs.declared.verdict.Verdict.TheVariants.{Nothing, Answer, Enter as EnterUnit}
 use Rattle.iscsi_session.specs.Settings.{Setting}
-use Rattle.iscsi_session.specs.Trace.{Arrival, Command, Mark, Delivers, Executes, Voids, Empties, Waits, Leaves, Trace, number_received, is_received, live_in}
-use Rattle.iscsi_session.specs.Execution.{exp_of, max_of, unit_named, marks_of, verdict_of, reply_on}
+use Rattle.iscsi_session.specs.Trace.{Arrival, Command, Mark, Delivers, Executes, Voids, Empties, Waits, Leaves, ClosesConn, ClosesSession, Trace, number_received, is_received, live_in}
+use Rattle.iscsi_session.specs.Execution.{exp_of, max_of, NO_TAG, unit_named, marks_of, verdict_of, reply_on}
 use Rattle.iscsi_session.specs.Management.{may_wait, refusal_of_function, waiting_on, answer, held_command, live_with_tag, abort_missing, abort_task, is_before, abort_all, function_to, function_marks, management_marks}
+use Rattle.iscsi_session.specs.Logout.{is_open, is_last_open, taken_out, parting, end_session, close_conn, logout_marks}
 use Rattle.iscsi_session.specs.Items.{marks_after, execution, waiting_item, immediate_item, function_item, item_of}
-use Rattle.iscsi_session.proofs.BoolLemmas.{and_parts}
+use Rattle.iscsi_session.proofs.AbortMarks.{view_taken}
 
 abbrev received_by : List Mark → List ℕ
 received_by item = filter_map number_received item
@@ -150,20 +152,58 @@ management_none o t a numbered = elim (refusal_of_function o a.request) as (λ x
   | None ↦ marks_none o t a numbered
 ]
 
+-- ---- Logout
+
+taken_none : (o : Setting) (t : Trace) (of_these : ℕ → Bool) (ms : List Mark) → received_by ms ≡ [] → received_by (taken_out o t of_these ++ ms) ≡ []
+taken_none o t of_these ms none =
+    filter_map-append number_received (taken_out o t of_these) ms
+    ∙ ap (λ ns. ns ++ received_by ms) (view_taken o t of_these number_received (λ c. refl) (λ b. refl)) ∙ none
+
+ended_none : (o : Setting) (t : Trace) (a : Arrival) → received_by (end_session o t a) ≡ []
+ended_none o t a =
+    ap (filter_map number_received) (append_assoc (taken_out o t (λ conn. true)) (parting a 0) (ClosesSession ∷ []))
+    ∙ taken_none o t (λ conn. true) (parting a 0 ++ ClosesSession ∷ []) refl
+
+closed_none : (o : Setting) (t : Trace) (a : Arrival) (closing : ℕ) → received_by (close_conn o t a closing) ≡ []
+closed_none o t a closing =
+    let last : Bool = is_last_open o t closing in
+    ap (filter_map number_received) (append_assoc (taken_out o t (λ conn. conn == closing)) (parting a 0) (ClosesConn closing ∷ cond last (ClosesSession ∷ []) []))
+    ∙ taken_none o t (λ conn. conn == closing) (parting a 0 ++ ClosesConn closing ∷ cond last (ClosesSession ∷ []) []) (by_last last)
+  where
+    by_last : (b : Bool) → received_by (parting a 0 ++ ClosesConn closing ∷ cond b (ClosesSession ∷ []) []) ≡ []
+    by_last true = refl
+    by_last false = refl
+
+logout_none : (o : Setting) (t : Trace) (a : Arrival) → received_by (logout_marks o t a) ≡ []
+logout_none o t a = by_tests (itt a.request == NO_TAG) (function a.request == 0) (function a.request == 1) (is_open o t (cid a.request)) (function a.request == 2)
+  where
+    by_tests : (b c d e f : Bool) → received_by (cond b (reply_on a (Reject 9 (header_of a.request))) (cond c (end_session o t a) (cond d (cond e (close_conn o t a (cid a.request)) (parting a 1)) (cond f (parting a 2) (reply_on a (Reject 9 (header_of a.request))))))) ≡ []
+    by_tests true c d e f = refl
+    by_tests false true d e f = ended_none o t a
+    by_tests false false true true f = closed_none o t a (cid a.request)
+    by_tests false false true false f = refl
+    by_tests false false false e true = refl
+    by_tests false false false e false = refl
+
 after_one : (o : Setting) (t : Trace) (a : Arrival) → AtMostOne (received_by (marks_after o t a))
-after_one o t a = elim (opcode a.request == 0x02) as (λ b. AtMostOne (received_by (cond b (management_marks o t a) (marks_of t a (verdict_of o t a.request))))) [
-  | true ↦ management_one o t a
-  | false ↦ inl (verdict_none t a (verdict_of o t a.request))
-]
+after_one o t a = by_opcode (opcode a.request == 0x02) (opcode a.request == 0x06)
+  where
+    by_opcode : (b c : Bool) → AtMostOne (received_by (cond b (management_marks o t a) (cond c (logout_marks o t a) (marks_of t a (verdict_of o t a.request)))))
+    by_opcode true c = management_one o t a
+    by_opcode false true = inl (logout_none o t a)
+    by_opcode false false = inl (verdict_none t a (verdict_of o t a.request))
 
 -- a numbered request's turn
 pub turn_receives_none : (o : Setting) (t : Trace) (a : Arrival) → is_immediate a.request ≡ false → received_by (item_of o t a) ≡ []
-turn_receives_none o t a numbered =
-    let t' : Trace = (Delivers a ∷ []) ∷ t in
-    elim (opcode a.request == 0x02) as (λ b. received_by (cond b (management_marks o t' a) (marks_of t' a (verdict_of o t' a.request))) ≡ []) [
-      | true ↦ management_none o t' a numbered
-      | false ↦ verdict_none t' a (verdict_of o t' a.request)
-    ]
+turn_receives_none o t a numbered = by_opcode (opcode a.request == 0x02) (opcode a.request == 0x06)
+  where
+    t' : Trace
+    t' = (Delivers a ∷ []) ∷ t
+
+    by_opcode : (b c : Bool) → received_by (cond b (management_marks o t' a) (cond c (logout_marks o t' a) (marks_of t' a (verdict_of o t' a.request)))) ≡ []
+    by_opcode true c = management_none o t' a numbered
+    by_opcode false true = logout_none o t' a
+    by_opcode false false = verdict_none t' a (verdict_of o t' a.request)
 
 executed_one : (o : Setting) (t : Trace) (a : Arrival) → AtMostOne (received_by (execution o t (Executes a) a))
 executed_one o t a = after_one o ((Executes a ∷ []) ∷ t) a
