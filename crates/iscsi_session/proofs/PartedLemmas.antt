@@ -99,6 +99,14 @@ emptied_fewer whose (p ∷ ps) =
 
 -- ---- the effects, one part after the other
 
+abbrev closing : Option ℕ → List ℕ → List Effect
+closing None conns = session_closes (still_open None conns)
+closing (Some conn) conns = CloseConn conn ∷ session_closes (still_open (Some conn) conns)
+
+close_is : (s : Core) (whose : Option ℕ) → close_effects s whose ≡ closing whose s.open_conns
+close_is s None = refl
+close_is s (Some conn) = refl
+
 module _ (s : Core) (r : Request) (whose : Option ℕ) where
   abbrev left : Core
   left = left_to s whose
@@ -119,22 +127,15 @@ module _ (s : Core) (r : Request) (whose : Option ℕ) where
       let expected : number_expected left.window ≡ number_expected s.window = ap (λ n. number_of_first n + left.window.turned) k.first ∙ ap (λ n. number_of_first s.window.first + n) k.turned in
       let b_is : emptying_effects left whose ≡ b = ap (λ n. emptied_from n whose left.window.places) expected ∙ ap (emptied_from (number_expected s.window) whose) k.places in
       let d_is : reply_effects left (connection_of r) reply ≡ d = ap (λ cs. Send (connection_of r) (stat_sn_on (connection_of r) cs) reply ∷ []) k.conns in
-      let f_is : close_effects left whose ≡ f = close_same whose left.open_conns s.open_conns k.open_conns in
+      let f_is : close_effects left whose ≡ f = close_is left whose ∙ ap (closing whose) k.open_conns ∙ sym (close_is s whose) in
       e5 ∙ ap (λ (es : List Effect). es ++ g) (e4 ∙ ap (λ (es : List Effect). es ++ close_effects left whose) (e3 ∙ ap (λ (es : List Effect). es ++ reply_effects left (connection_of r) reply) (e2 ∙ ap (λ (es : List Effect). es ++ emptying_effects left whose) e1)))
       ∙ ap (λ (es : List Effect). ((((out ++ a) ++ es) ++ reply_effects left (connection_of r) reply) ++ close_effects left whose) ++ g) b_is
       ∙ ap (λ (es : List Effect). ((((out ++ a) ++ b) ++ es) ++ close_effects left whose) ++ g) d_is
       ∙ ap (λ (es : List Effect). ((((out ++ a) ++ b) ++ d) ++ es) ++ g) f_is
-      ∙ append_assoc (((out ++ a) ++ b) ++ d) f g
-      ∙ append_assoc ((out ++ a) ++ b) d (f ++ g)
-      ∙ append_assoc (out ++ a) b (d ++ (f ++ g))
-      ∙ append_assoc out a (b ++ (d ++ (f ++ g)))
-    where
-      abbrev closing : Option ℕ → List ℕ → List Effect
-      closing None conns = session_closes (still_open None conns)
-      closing (Some conn) conns = CloseConn conn ∷ session_closes (still_open (Some conn) conns)
-
-      close_same : (x : Option ℕ) (conns conns' : List ℕ) → conns ≡ conns' → closing x conns ≡ closing x conns'
-      close_same x conns conns' is = ap (closing x) is
+      ∙ ap (λ (es : List Effect). ((es ++ d) ++ f) ++ g) (append_assoc out a b)
+      ∙ ap (λ (es : List Effect). (es ++ f) ++ g) (append_assoc out (a ++ b) d)
+      ∙ ap (λ (es : List Effect). es ++ g) (append_assoc out ((a ++ b) ++ d) f)
+      ∙ append_assoc out (((a ++ b) ++ d) ++ f) g
 
 -- ---- a Logout
 

@@ -9,12 +9,14 @@ use Rattle.iscsi_session.proofs.session.Session.execute.Goals as goal
 pub returns-in-2-clause-spent : goal.returns-in-2-clause-spent
 returns-in-2-clause-spent c =
     let s : Core = c.args.self.now in
-    let e : Eased s.window c.manage.new.self.window = subst (λ (v : Core). Eased s.window v.window) (sym c.manage.ensures.session) (managed_eased s c.args.request.now c.position-number.result c.args.event) in
+    let e : Eased s.window c.manage.new.self.window = subst (λ (v : Core). Eased s.window v.window) (sym c.manage.ensures.session) (managed_eased s c.args.request.now _ c.args.event) in
     omega (arith, e.held, c.manage.ensures.spent)
 
 pub returns-in-2-clause-waiting : goal.returns-in-2-clause-waiting
 returns-in-2-clause-waiting c =
-    omega (arith, ap (λ (v : Core). length v.waiting) c.manage.ensures.session, ap length (managed_waiting c.args.self.now c.args.request.now c.position-number.result c.args.event))
+    let s : Core = c.args.self.now in
+    let same : c.manage.new.self.waiting ≡ s.waiting = subst (λ (v : Core). v.waiting ≡ s.waiting) (sym c.manage.ensures.session) (managed_waiting s c.args.request.now _ c.args.event) in
+    omega (arith, ap length same)
 
 pub returns-in-6-clause-waiting : goal.returns-in-6-clause-waiting
 returns-in-6-clause-waiting c =
