@@ -26,7 +26,7 @@ use Rattle.iscsi_session.specs.Steps.{with_reply, reply_effects, with_offered}
 use Rattle.iscsi_session.specs.Turning.{turned_if, turn_effects, patience_by, immediate_as, immediate_effects}
 use Rattle.iscsi_session.specs.Logout.{is_open}
 use Rattle.iscsi_session.specs.Parting.{is_among_open}
-use Rattle.iscsi_session.proofs.OpenConns.{open_of-same}
+use Rattle.iscsi_session.proofs.OpenConns.{open_of-same, filtered_among}
 use Rattle.iscsi_session.proofs.ListLemmas.{list_any-map}
 use Rattle.iscsi_session.proofs.DeliveryLemmas.{IsQuiet}
 use Rattle.iscsi_session.proofs.WindowParts.{WindowAgrees-quiet}
@@ -201,32 +201,6 @@ is_numbered_arrival o index t r kind numbered_is =
     ap (arrival_as o t a) kind ∙ ap (λ b. cond b (with_turns o t (immediate_item o t a)) (numbered o t a)) numbered_is
 
 -- ---- an arrival on a connection that is closed
-
-filtered_among : (p : ℕ → Bool) (c : ℕ) (cs : List ℕ) → list_any (λ k. k == c) (filter p cs) ≡ (list_any (λ k. k == c) cs && p c)
-filtered_among p c [] = refl
-filtered_among p c (k ∷ cs) = by_test (p k) refl (filtered_among p c cs)
-  where
-    rest : Bool
-    rest = list_any (λ j. j == c) cs
-
-    shown : Bool
-    shown = list_any (λ j. j == c) (filter p cs)
-
-    and_false : (b : Bool) → (b && false) ≡ false
-    and_false true = refl
-    and_false false = refl
-
-    by_test : (v : Bool) → p k ≡ v → shown ≡ (rest && p c) → list_any (λ j. j == c) (cond v (k ∷ filter p cs) (filter p cs)) ≡ (((k == c) || rest) && p c)
-    by_test true is later =
-        elim (k == c) as (λ b. (k == c) ≡ b → (b || shown) ≡ ((b || rest) && p c)) [
-          | true ↦ λ here. sym (ap p (sym (eqb-true k c here)) ∙ is)
-          | false ↦ λ here. later
-        ] refl
-    by_test false is later =
-        elim (k == c) as (λ b. (k == c) ≡ b → shown ≡ ((b || rest) && p c)) [
-          | true ↦ λ here. let no : p c ≡ false = ap p (sym (eqb-true k c here)) ∙ is in later ∙ ap (λ b. rest && b) no ∙ and_false rest ∙ sym no
-          | false ↦ λ here. later
-        ] refl
 
 -- the session knows which connections are open
 open_is : (o : Setting) (s : Core) (t : Trace) (conn : ℕ) → Agrees o s t → is_known conn o.conns ≡ true → is_among_open conn s.open_conns ≡ not (is_closed conn t)

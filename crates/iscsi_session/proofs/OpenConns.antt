@@ -1,6 +1,7 @@
 -- An item that closes nothing leaves the connections open that were.
-use Rattle.std.proofs.Common.{◌≡◌, ℕ, ◌||◌, ◌&&◌, not, Bool, false, List, [], ◌∷◌, map, refl, ap, sym, ◌∙◌}
+use Rattle.std.proofs.Common.{cond, true, filter, ◌==◌, ◌≡◌, ℕ, ◌||◌, ◌&&◌, not, Bool, false, List, [], ◌∷◌, map, refl, ap, sym, ◌∙◌}
 use Rattle.std.specs.List.{list_any}
+use Rattle.std.proofs.lemmas.Bool.{eqb-true}
 use Rattle.iscsi_session.specs.Settings.{Setting, is_known}
 use Rattle.iscsi_session.specs.Trace.{Mark, Trace, has, closes_conn, closes_session, is_ended, is_closed}
 use Rattle.iscsi_session.specs.Logout.{is_open}
@@ -27,3 +28,31 @@ closes-more m ms c cs = record {
   session = ap (λ b. b || list_any closes_session ms) (sym (or_false (closes_session m)) ∙ c.session) ∙ cs.session;
   conns = λ conn. ap (λ b. b || list_any (closes_conn conn) ms) (sym (or_false (closes_conn conn m)) ∙ c.conns conn) ∙ cs.conns conn;
 }
+
+-- ---- a CID among those that pass
+
+pub filtered_among : (p : ℕ → Bool) (c : ℕ) (cs : List ℕ) → list_any (λ k. k == c) (filter p cs) ≡ (list_any (λ k. k == c) cs && p c)
+filtered_among p c [] = refl
+filtered_among p c (k ∷ cs) = by_test (p k) refl (filtered_among p c cs)
+  where
+    rest : Bool
+    rest = list_any (λ j. j == c) cs
+
+    shown : Bool
+    shown = list_any (λ j. j == c) (filter p cs)
+
+    and_false : (b : Bool) → (b && false) ≡ false
+    and_false true = refl
+    and_false false = refl
+
+    by_test : (v : Bool) → p k ≡ v → shown ≡ (rest && p c) → list_any (λ j. j == c) (cond v (k ∷ filter p cs) (filter p cs)) ≡ (((k == c) || rest) && p c)
+    by_test true is later =
+        elim (k == c) as (λ b. (k == c) ≡ b → (b || shown) ≡ ((b || rest) && p c)) [
+          | true ↦ λ here. sym (ap p (sym (eqb-true k c here)) ∙ is)
+          | false ↦ λ here. later
+        ] refl
+    by_test false is later =
+        elim (k == c) as (λ b. (k == c) ≡ b → shown ≡ ((b || rest) && p c)) [
+          | true ↦ λ here. let no : p c ≡ false = ap p (sym (eqb-true k c here)) ∙ is in later ∙ ap (λ b. rest && b) no ∙ and_false rest ∙ sym no
+          | false ↦ λ here. later
+        ] refl
