@@ -50,6 +50,8 @@ pub mod AbortParts
 pub mod DroppingLemmas
 pub mod TellingLemmas
 pub mod PartedLemmas
+pub mod PartingUnits
+pub mod PartingSets
 pub mod LogoutItem
 pub mod FunctionLemmas
 pub mod AgendaLemmas
