@@ -17,7 +17,7 @@ use Rattle.iscsi_session.specs.declared.session.waiting.Waiting.{Waiting}
 use Rattle.iscsi_session.specs.Standing.{Core, is_held, stat_sn_on}
 use Rattle.iscsi_session.specs.Steps.{set_at, is_numbered, reply_effects}
 use Rattle.iscsi_session.specs.Functions.{is_gone, set_staying, with_left}
-use Rattle.iscsi_session.specs.Parting.{units_of, covers_of, with_all_left, all_leaving_effects, left_to, emptied_place, emptied_from, emptying_effects, still_open, session_closes, close_effects, all_enable_effects, parted, parting_effects, closed_as}
+use Rattle.iscsi_session.specs.Parting.{units_of, covers_of, with_all_left, all_leaving_effects, left_to, emptied_place, emptied_from, emptying_effects, still_open, session_closes, waiting_then, close_effects, all_enable_effects, parted, parting_effects, closed_as}
 use Rattle.iscsi_session.proofs.CountLemmas.{fewer_counted}
 
 filter-shorter : {A : Type 0} (p : A → Bool) (xs : List A) → length (filter p xs) ≤ length xs
@@ -149,6 +149,10 @@ pub record Parts (s s' : Core) : Type 0 where
   pub counted : count_by is_some s'.window.places ≡ count_by is_some s.window.places
   pub waiting : length s'.waiting ≤ length s.waiting
 
+ended_fewer : (conns : List ℕ) (ws : List Waiting) → length (waiting_then conns ws) ≤ length ws
+ended_fewer [] ws = omega arith
+ended_fewer (conn ∷ conns) ws = omega arith
+
 parted_parts : (s : Core) (r : Request) (whose : Option ℕ) → Parts s (parted s r whose)
 parted_parts s r whose =
     let left : Core = left_to s whose in
@@ -164,7 +168,7 @@ parted_parts s r whose =
       taken = k.taken;
       held = omega (arith, fewer, held_same);
       counted = emptied_counted whose left.window.places ∙ ap (count_by is_some) k.places;
-      waiting = omega (arith, dropped, waits);
+      waiting = omega (arith, dropped, waits, ended_fewer (still_open whose left.open_conns) (filter (λ (w : Waiting). not (is_asked whose (connection_of w.request))) left.waiting));
     }
 
 pub closed_parts : (s : Core) (r : Request) (x : Closing) → Parts s (closed_as s r x)

@@ -14,6 +14,7 @@ use Rattle.iscsi_session.specs.declared.effect.Effect.{Effect}
 use Rattle.iscsi_session.specs.declared.effect.Effect.TheVariants.{Empty, CloseConn, CloseSession}
 use Rattle.iscsi_session.specs.declared.closing.Closing.{Closing}
 use Rattle.iscsi_session.specs.declared.closing.Closing.TheVariants.{Refused, Session, Conn}
+use Rattle.iscsi_session.specs.declared.session.waiting.Waiting.{Waiting}
 use Rattle.iscsi_session.specs.Execution.{NO_TAG}
 use Rattle.iscsi_session.specs.Standing.{Core}
 use Rattle.iscsi_session.specs.Steps.{set_at, all_given, enable_effects, with_reply, reply_effects}
@@ -74,8 +75,17 @@ with_dropped s whose = record s { waiting = filter (λ w. not (is_asked whose (c
 abbrev pub still_open : Option ℕ → List ℕ → List ℕ
 still_open whose conns = filter (λ c. not (is_asked whose c)) conns
 
+-- where none is open, nothing waits
+abbrev pub waiting_then : List ℕ → List Waiting → List Waiting
+waiting_then [] ws = []
+waiting_then (conn ∷ conns) ws = ws
+
+-- the session is closed with its last connection
+abbrev pub ended_if : Core → Core
+ended_if s = record s { waiting = waiting_then s.open_conns s.waiting }
+
 abbrev pub with_closed : Core → Option ℕ → Core
-with_closed s whose = record s { open_conns = still_open whose s.open_conns }
+with_closed s whose = ended_if (record s { open_conns = still_open whose s.open_conns })
 
 abbrev pub session_closes : List ℕ → List Effect
 session_closes [] = CloseSession ∷ []

@@ -6,7 +6,7 @@ ghost use Rattle.iscsi_window.specs.Windows.{is_asked};
 ghost use Rattle.iscsi_session.specs.Settings.{is_known as known_in};
 ghost use Rattle.iscsi_session.specs.Standing.{is_held};
 ghost use Rattle.iscsi_session.specs.Functions.{owed};
-ghost use Rattle.iscsi_session.specs.Parting.{is_among_open, closing_by, closed_as, closed_effects, parted, parting_effects, cover_of as cover_named, covers_of, units_of, with_all_left, all_leaving_effects, with_emptied, emptying_effects, with_dropped, with_closed, close_effects, with_all_given, all_enable_effects};
+ghost use Rattle.iscsi_session.specs.Parting.{is_among_open, closing_by, closed_as, closed_effects, parted, parting_effects, cover_of as cover_named, covers_of, units_of, with_all_left, all_leaving_effects, with_emptied, emptying_effects, with_dropped, ended_if, session_closes, with_closed, close_effects, with_all_given, all_enable_effects};
 
 use crate::closing::Closing;
 use crate::effect::Effect;
@@ -169,9 +169,22 @@ impl Session {
         if let Some(conn) = whose {
             out.push_reserved(Effect::CloseConn { conn });
         }
-        if self.open_conns.is_empty() {
-            out.push_reserved(Effect::CloseSession);
+        self.end_if_last(out);
+    }
+
+    /// Where no connection is open, the session is closed, and no function waits any more.
+    fn end_if_last(&mut self, out: &mut Vec<Effect>)
+        requires room { vec_len out.old + 1 ≤ vec_capacity out.old }
+        ensures session { self.new ≡ ended_if self.old }
+        ensures effects { out.new.items ≡ out.old.items ++ session_closes self.old.open_conns }
+        ensures spent { vec_len out.new ≤ vec_len out.old + 1 }
+        ensures capacity { vec_capacity out.new ≡ vec_capacity out.old }
+    {
+        if !self.open_conns.is_empty() {
+            return;
         }
+        self.waiting.clear();
+        out.push_reserved(Effect::CloseSession);
     }
 
     /// Each unit is told of the commands that became enabled.

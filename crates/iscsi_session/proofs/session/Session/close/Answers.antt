@@ -1,13 +1,11 @@
-use Rattle.std.proofs.Common.{◌==◌, false, vec_len, ◌<◌, length, arith, sym, rules, ◌≡◌, ℕ, ◌∙◌, ◌++◌, ap, refl, append_assoc, List, [], ◌∷◌, Option, Some, None}
+use Rattle.std.proofs.Common.{sym, rules, ◌≡◌, ℕ, ◌∙◌, ◌++◌, ap, refl, append_assoc, List, [], ◌∷◌, Option, Some, None}
 use Rattle.std.proofs.lemmas.Fn.{filter_same}
-use Rattle.std.proofs.lemmas.Bool.{eqb-true}
-use Rattle.std.proofs.lemmas.Bool.Decides.{nat_tests}
 use Rattle.std.proofs.lemmas.List.{append-nil}
 use Rattle.iscsi_session.specs.declared.effect.Effect.{Effect}
 use Rattle.iscsi_session.specs.declared.effect.Effect.TheVariants.{CloseConn}
 use Rattle.iscsi_session.specs.Standing.{Core}
-use Rattle.iscsi_session.specs.Parting.{still_open, session_closes, with_closed, close_effects}
-use Rattle.iscsi_session.proofs.session.Session.close.Goals.{in-Some, in_default, then-is_empty, else-is_empty}
+use Rattle.iscsi_session.specs.Parting.{still_open, session_closes, ended_if, with_closed, close_effects}
+use Rattle.iscsi_session.proofs.session.Session.close.Goals.{in-Some, in_default}
 use Rattle.iscsi_session.proofs.session.Session.close.Goals as goal
 
 -- what tells of a connection
@@ -23,17 +21,6 @@ both : (whose : Option ℕ) (conns : List ℕ) → told whose ++ session_closes 
 both None conns = refl
 both (Some conn) conns = refl
 
-above : (n : ℕ) → (n == 0) ≡ false → 0 < n
-above n h = grind (arith, nat_tests)
-
-nil_of : (xs : List ℕ) → length xs ≡ 0 → xs ≡ []
-nil_of [] h = refl
-nil_of (x ∷ xs) h = absurd (omega (arith, h))
-
-none_of : (xs : List ℕ) → 0 < length xs → session_closes xs ≡ []
-none_of [] h = absurd (omega (arith, h))
-none_of (x ∷ xs) h = refl
-
 effects_are : (s : Core) (whose : Option ℕ) → of_both whose s.open_conns ≡ close_effects s whose
 effects_are s None = refl
 effects_are s (Some conn) = refl
@@ -42,7 +29,7 @@ pub returns-clause-session : goal.returns-clause-session
 returns-clause-session c =
     let s : Core = record { window = c.self.inside.window; events = c.self.inside.events; conns = c.self.inside.conns.items; entered = c.self.inside.entered; taken = c.self.inside.taken; live = c.self.inside.live.items; sets = c.self.inside.sets.items; level = c.self.inside.level; arrived = c.self.inside.arrived.items; waiting = c.self.inside.waiting.items; open_conns = c.self.inside.open_conns.items } in
     let rest : c.retain.new.self.items ≡ still_open c.args.whose c.self.inside.open_conns.items = filter_same _ _ _ (λ x b f' k. search rules) _ _ c.retain.ensures.filtered in
-    ap (λ (cs : List ℕ). let t : Core = record s { open_conns = cs } in t) rest ∙ ap (λ (u : Core). with_closed u c.args.whose) c.self.view_is
+    c.end_if_last.ensures.session ∙ ap (λ (cs : List ℕ). ended_if (record s { open_conns = cs })) rest ∙ ap (λ (u : Core). with_closed u c.args.whose) c.self.view_is
 
 pub returns-clause-effects : goal.returns-clause-effects
 returns-clause-effects c =
@@ -53,9 +40,7 @@ returns-clause-effects c =
       | in-Some w ↦ ap (λ v. v.items) w.out-is ∙ w.push_reserved.ensures.items ∙ ap (λ x. out ++ told x) (sym w.in-Some.is)
       | in_default w ↦ ap (λ v. v.items) w.out-is ∙ sym (append-nil out) ∙ ap (λ x. out ++ told x) (sym w.in_default.is)
     ] in
-    let last : c.if-is_empty.out.items ≡ c.match-whose.out.items ++ session_closes conns = elim c.if-is_empty.branch [
-      | then-is_empty w ↦ ap (λ v. v.items) w.out-is ∙ w.push_reserved-then-is_empty.ensures.items ∙ ap (λ cs. c.match-whose.out.items ++ session_closes cs) (sym (nil_of conns (let zero : vec_len c.retain.new.self ≡ 0 = eqb-true (vec_len c.retain.new.self) 0 (sym c.is_empty.ensures ∙ w.if-is_empty.true) in omega (arith, ap length rest, zero, c.retain.new.self.ok.0))))
-      | else-is_empty w ↦ ap (λ v. v.items) w.out-is ∙ sym (append-nil c.match-whose.out.items) ∙ ap (λ (es : List Effect). c.match-whose.out.items ++ es) (sym (none_of conns (let some : 0 < vec_len c.retain.new.self = above (vec_len c.retain.new.self) (sym c.is_empty.ensures ∙ w.if-is_empty.false) in omega (arith, ap length rest, some, c.retain.new.self.ok.0))))
-    ] in
-    last ∙ ap (λ (es : List Effect). es ++ session_closes conns) first ∙ append_assoc out (told c.args.whose) (session_closes conns) ∙ ap (λ (es : List Effect). out ++ es) (both c.args.whose c.self.inside.open_conns.items ∙ effects_are (record { window = c.self.inside.window; events = c.self.inside.events; conns = c.self.inside.conns.items; entered = c.self.inside.entered; taken = c.self.inside.taken; live = c.self.inside.live.items; sets = c.self.inside.sets.items; level = c.self.inside.level; arrived = c.self.inside.arrived.items; waiting = c.self.inside.waiting.items; open_conns = c.self.inside.open_conns.items }) c.args.whose)
+    c.end_if_last.ensures.effects ∙ ap (λ cs. c.match-whose.out.items ++ session_closes cs) rest
+    ∙ ap (λ (es : List Effect). es ++ session_closes conns) first ∙ append_assoc out (told c.args.whose) (session_closes conns)
+    ∙ ap (λ (es : List Effect). out ++ es) (both c.args.whose c.self.inside.open_conns.items ∙ effects_are (record { window = c.self.inside.window; events = c.self.inside.events; conns = c.self.inside.conns.items; entered = c.self.inside.entered; taken = c.self.inside.taken; live = c.self.inside.live.items; sets = c.self.inside.sets.items; level = c.self.inside.level; arrived = c.self.inside.arrived.items; waiting = c.self.inside.waiting.items; open_conns = c.self.inside.open_conns.items }) c.args.whose)
     ∙ ap (λ (u : Core). out ++ close_effects u c.args.whose) c.self.view_is
