@@ -44,6 +44,7 @@ pub mod LeavingLemmas
 pub mod LeavingParts
 pub mod AbortParts
 pub mod PartedLemmas
+pub mod EmptyingLemmas
 pub mod LogoutItem
 pub mod FunctionLemmas
 pub mod AgendaLemmas
