@@ -45,6 +45,7 @@ pub mod LeavingParts
 pub mod AbortParts
 pub mod PartedLemmas
 pub mod EmptyingLemmas
+pub mod PartedWindow
 pub mod LogoutItem
 pub mod FunctionLemmas
 pub mod AgendaLemmas
