@@ -52,6 +52,8 @@ pub mod TellingLemmas
 pub mod PartedLemmas
 pub mod PartingUnits
 pub mod PartingSets
+pub mod EmptyingLemmas
+pub mod PartedWindow
 pub mod LogoutItem
 pub mod FunctionLemmas
 pub mod AgendaLemmas

@@ -1,5 +1,5 @@
 -- A Logout Request executes.
-use Rattle.std.proofs.Common.{◌≡◌, ℕ, ◌+◌, ◌-◌, ◌==◌, ◌&&◌, ◌||◌, not, cond, Bool, true, false, nat_lt, List, [], ◌∷◌, ◌++◌, length, map, filter, Option, Some, None, refl, ap, sym, subst, ◌∙◌, arith, append_assoc}
+use Rattle.std.proofs.Common.{drop, ◌≡◌, ℕ, ◌+◌, ◌-◌, ◌==◌, ◌&&◌, ◌||◌, not, cond, Bool, true, false, nat_lt, List, [], ◌∷◌, ◌++◌, length, map, filter, Option, Some, None, refl, ap, sym, subst, ◌∙◌, arith, append_assoc}
 use Rattle.std.specs.List.{list_any, list_all, filter_map, flat_map, cons_option}
 use Rattle.std.proofs.lemmas.Bool.{false≢true, eqb-true}
 use Rattle.std.proofs.lemmas.List.{append-nil}
@@ -33,45 +33,12 @@ use Rattle.iscsi_session.proofs.OpenConns.{ClosesNone, closed-same, filtered_amo
 use Rattle.iscsi_session.proofs.LeavingLemmas.{WindowAgrees-fewer}
 use Rattle.iscsi_session.proofs.PartedLemmas.{Keeps, left_keeps}
 use Rattle.iscsi_session.proofs.ExecutionLemmas.{Begun, Executed, answered}
-
--- ---- the marks of a Logout that closes something
-
--- those that it takes out
-abbrev pub gone_commands : Setting → Trace → Option ℕ → List Command
-gone_commands o t whose = filter (λ (c : Command). is_asked whose (connection_of c.arrival.request)) (live_of_units o t)
-
-abbrev pub gone_held : Setting → Trace → Option ℕ → List Arrival
-gone_held o t whose = filter (λ (a : Arrival). is_asked whose (connection_of a.request)) (all_held o t)
-
--- what closes
-abbrev pub closing_marks : Setting → Trace → Option ℕ → List Mark
-closing_marks o t None = ClosesSession ∷ []
-closing_marks o t (Some conn) = ClosesConn conn ∷ cond (is_last_open o t conn) (ClosesSession ∷ []) []
-
--- the reply and the closing
-abbrev pub farewell : Setting → Trace → Arrival → Option ℕ → List Mark
-farewell o t a whose = Sends (connection_of a.request) (Logout (itt a.request) 0) ∷ closing_marks o t whose
-
-abbrev pub parting_marks : Setting → Trace → Arrival → Option ℕ → List Mark
-parting_marks o t a whose = (map Leaves (gone_commands o t whose) ++ map Empties (gone_held o t whose)) ++ farewell o t a whose
-
--- what has become of the session's parts by then
-record Gone (o : Setting) (s : Core) (t : Trace) (m : Mark) (a : Arrival) (whose : Option ℕ) : Type 0 where
-  window : WindowAgrees o (record s.window { places = map (emptied_place whose) s.window.places }) ((m ∷ parting_marks o ((m ∷ []) ∷ t) a whose) ∷ t)
-  arrived : ArrivalsAgree (record s.window { places = map (emptied_place whose) s.window.places }) s.arrived ((m ∷ parting_marks o ((m ∷ []) ∷ t) a whose) ∷ t)
-  emptying : emptying_effects s whose ≡ map (λ (h : Arrival). Empty (wire h.number)) (gone_held o ((m ∷ []) ∷ t) whose)
-  commands : CommandsAgree o (left_to s whose).live s.entered ((m ∷ parting_marks o ((m ∷ []) ∷ t) a whose) ∷ t)
-  sets : SetsAgree o (map all_given (left_to s whose).sets) ((m ∷ parting_marks o ((m ∷ []) ∷ t) a whose) ∷ t)
-  unfinished_is : (left_to s whose).window.unfinished ≡ unfinished ((m ∷ parting_marks o ((m ∷ []) ∷ t) a whose) ∷ t)
-  enabled : EnabledSoFar o ((m ∷ parting_marks o ((m ∷ []) ∷ t) a whose) ∷ t)
-  leaving : all_leaving_effects s (units_of s) (covers_of whose) ≡ map (λ (c : Command). Leave c.ticket c.unit) (gone_commands o ((m ∷ []) ∷ t) whose)
-  enabling : all_enable_effects (left_to s whose) ≡ enables (newly_enabled o t (m ∷ parting_marks o ((m ∷ []) ∷ t) a whose))
+use Rattle.iscsi_session.proofs.DeliveryLemmas.{IsQuiet}
+use Rattle.iscsi_session.proofs.EmptyingLemmas.{taken_requests}
+use Rattle.iscsi_session.proofs.PartingSets.{parting_commands, emptied_marks, closing_marks, PartsAt, PartsAt-begun, commands-parted, sets-parted, unfinished-parted, enabled-parted, leaving-parted, enabling-parted, end_session-is, close_conn-is}
+use Rattle.iscsi_session.proofs.PartedWindow.{quiet-closing, emptying_effects-are, parted_window, parted_arrivals}
 
 -- ---- lists of such marks
-
-module _ (cs : List Command) (hs : List Arrival) (rest : List Mark) where
-  abbrev outs : List Mark
-  outs = map Leaves cs ++ map Empties hs
 
 emptied_sends : (hs : List Arrival) (rest : List Mark) → filter_map sent_on (map Empties hs ++ rest) ≡ filter_map sent_on rest
 emptied_sends [] rest = refl
@@ -129,6 +96,63 @@ twice_filtered p q (c ∷ cids) =
       ]
       | false ↦ twice_filtered p q cids
     ]
+
+-- ---- a connection or the session is closed
+
+module _ (o : Setting) (s : Core) (t : Trace) (m : Mark) (e : Effect) (a : Arrival) (b : Begun o s t m e a) (whose : Option ℕ) where
+  abbrev t₁ : Trace
+  t₁ = (m ∷ []) ∷ t
+
+  abbrev cs : List Command
+  cs = parting_commands o t₁ whose
+
+  abbrev hs : List Arrival
+  hs = taken_requests o t₁ whose
+
+  abbrev rest : List Mark
+  rest = closing_marks o t₁ a whose
+
+  abbrev marks : List Mark
+  marks = (map Leaves cs ++ map Empties hs) ++ rest
+
+  abbrev item : List Mark
+  item = m ∷ marks
+
+  abbrev conn : ℕ
+  conn = connection_of a.request
+
+  abbrev left : Core
+  left = left_to s whose
+
+  p : PartsAt o s t m (emptied_marks o t₁ whose) rest
+  p = PartsAt-begun o s t m e a b whose
+
+  k : Keeps s left
+  k = left_keeps s (units_of s) (covers_of whose)
+
+  quiet_none : IsQuiet []
+  quiet_none = record { receives = refl; admits = λ n. refl; delivers_none = refl; delivers_no = λ n. refl; empties_no = λ n. refl }
+
+  before : WindowAgrees o s.window t₁
+  before = b.window [] quiet_none
+
+  -- the reply goes out
+  sends : filter_map sent_on item ≡ conn ∷ []
+  sends =
+      ap (λ x. cons_option x (filter_map sent_on marks)) b.sends_no
+      ∙ ap (filter_map sent_on) (append_assoc (map Leaves cs) (map Empties hs) rest)
+      ∙ left_sends cs (map Empties hs ++ rest) ∙ emptied_sends hs rest ∙ rest_sends whose
+    where
+      rest_sends : (x : Option ℕ) → filter_map sent_on (closing_marks o t₁ a x) ≡ conn ∷ []
+      rest_sends None = refl
+      rest_sends (Some closing) = elim (is_last_open o t₁ closing) as (λ v. filter_map sent_on (parting a 0 ++ ClosesConn closing ∷ (let ms : List Mark = cond v (ClosesSession ∷ []) [] in ms)) ≡ conn ∷ []) [ true ↦ refl | false ↦ refl ]
+
+  -- the effects of the marks
+  shown : flat_map (effects_of_mark o t) marks ≡ ((map (λ (c : Command). Leave c.ticket c.unit) cs ++ map (λ (h : Arrival). Empty (wire h.number)) hs) ++ Send conn (stat_sn_of o t conn) (Logout (itt a.request) 0) ∷ []) ++ flat_map (effects_of_mark o t) (drop 1 rest)
+  shown = ?
+
+logout-item' : ℕ
+logout-item' = 0
 
 pub logout-item : (o : Setting) (s : Core) (t : Trace) (m : Mark) (e : Effect) (a : Arrival) → Begun o s t m e a
     → Agrees o (closed_as s a.request (closing_by s a.request)) ((m ∷ logout_marks o ((m ∷ []) ∷ t) a) ∷ t)
