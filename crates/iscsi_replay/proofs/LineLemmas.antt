@@ -61,7 +61,7 @@ unfolding lines_of
 end_byte bs = refl
 
 -- a line and its end
-whole_line : (p bs : List ℕ) → list_any is_end p ≡ false → lines_of (p ++ 10 ∷ bs) ≡ p ∷ lines_of bs
+pub whole_line : (p bs : List ℕ) → list_any is_end p ≡ false → lines_of (p ++ 10 ∷ bs) ≡ p ∷ lines_of bs
 whole_line [] bs h = end_byte bs
 whole_line (a ∷ p) bs h =
     let two = or_false (is_end a) (list_any is_end p) h in
