@@ -1,6 +1,6 @@
 -- Texts that are read line by line.
 use Rattle.std.proofs.Common.{◌≡◌, ℕ, ◌+◌, ◌<◌, ◌≤◌, ◌==◌, ◌^◌, ◌-◌, Bool, true, false, cond, List, [], ◌∷◌, ◌++◌, length, Option, Some, Ok, Err, refl, zero, suc, slice_index, ap, ap₂, sym, ◌∙◌, arith, append_assoc, append-nil, length-append, nat_lt}
-use Rattle.std.specs.Prelude.{◌||◌, ◌&&◌, not, codes, decimal, option_map, option_and_then}
+use Rattle.std.specs.Prelude.{not, codes, decimal, option_map, option_and_then}
 use Rattle.std.specs.List.{list_all, All, flat_map}
 use Rattle.std.specs.Int.{w32, from_be_bytes}
 use Rattle.std.proofs.lemmas.List.Elements.{All-head, All-tail}
@@ -20,7 +20,8 @@ use Rattle.iscsi_replay.specs.Grammar.{arrival_of, completion_of, connection_of,
 use Rattle.iscsi_replay.specs.Recorded.{Recorded, belongs_to, nothing, is_empty, take, read_line, read_end, read_lines, read_of, lines_of, ◌>>=◌}
 use Rattle.iscsi_replay.specs.declared.fault.ReplayFault.TheVariants.{NoConnection}
 use Rattle.iscsi_replay.specs.Again.{conn_line, conn_lines, IsRecordableConn, IsRecordableEvent}
-use Rattle.iscsi_replay.proofs.LineLemmas.{whole_line, line_ends}
+use Rattle.iscsi_replay.proofs.LineLemmas.{or_false, whole_line, line_ends}
+use Rattle.iscsi_replay.proofs.RecordedLemmas.{both_parts, other_way}
 use Rattle.iscsi_replay.proofs.FieldLemmas.{decimal_back, hex_back, bytes_4-bytes, from_bytes_4, field_before, field_after}
 use Rattle.iscsi_replay.proofs.EffectLemmas.{IsText, both_texts, decimal_text, hex_text, eight_text, IsShortEffect, effect_is_text}
 
@@ -101,20 +102,9 @@ conn_is_text c =
     (both_texts 64 9 251 (decimal c.0) _ (decimal_text c.0)
     (both_texts 1 8 9 (codes " ") _ (record { one = refl; short = omega arith }) (eight_text c.1) (omega arith)) (omega arith)) (omega arith)
 
-or_false : (a b : Bool) → (a || b) ≡ false → (a ≡ false) × (b ≡ false)
-or_false true b h = cc
-or_false false b h = (refl, h)
-
-both_parts : (a b : Bool) → (a && b) ≡ true → (a ≡ true) × (b ≡ true)
-both_parts true b h = (refl, h)
-both_parts false b h = cc
-
 not_true : (b : Bool) → not b ≡ true → b ≡ false
 not_true true h = cc
 not_true false h = refl
-
-other_way : (a b : ℕ) → (a == b) ≡ false → (b == a) ≡ false
-other_way a b h = grind arith
 
 -- the CID of a connection isn't among those before it
 unknown_before : (before : List (ℕ × ℕ)) (c : ℕ × ℕ) (after : List (ℕ × ℕ)) → are_distinct (before ++ c ∷ after) ≡ true → is_known c.0 before ≡ false

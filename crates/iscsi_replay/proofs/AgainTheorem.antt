@@ -1,5 +1,5 @@
 -- A report with its connection lines is read again.
-use Rattle.std.proofs.Common.{◌≡◌, ℕ, ◌+◌, ◌-◌, ◌^◌, ◌<◌, ◌≤◌, ◌||◌, ◌==◌, not, nat_lt, nat_le, Bool, true, false, cond, List, [], ◌∷◌, ◌++◌, length, slice_index, Option, Some, None, Result, Ok, Err, refl, sym, subst, ◌∙◌, arith}
+use Rattle.std.proofs.Common.{◌≡◌, ℕ, ◌+◌, ◌-◌, ◌^◌, ◌<◌, ◌≤◌, ◌||◌, ◌==◌, not, nat_lt, nat_le, true, false, cond, List, [], ◌∷◌, ◌++◌, length, slice_index, Option, Some, None, Result, Ok, Err, refl, sym, subst, ◌∙◌, arith}
 use Rattle.std.specs.Prelude.{codes, ok_or, option_map, option_and_then, unwrap_or, IfSome}
 use Rattle.std.specs.List.{All, before_first, after_first}
 use Rattle.std.specs.Option.{option_map_or}
@@ -28,7 +28,7 @@ use Rattle.iscsi_replay.specs.Replayed.{setting_for}
 use Rattle.iscsi_replay.specs.Again.{conn_lines, again_of, IsRecordableConn, IsRecordableEvent, IsRecordable, IsReadAgain}
 use Rattle.iscsi_replay.proofs.RecordedLemmas.{line_keeps, of_more, sound_from}
 use Rattle.iscsi_replay.proofs.AgainLemmas.{reads_both, conns_read, report_reads, whole_read}
-use Rattle.iscsi_replay.proofs.ShortRuns.{run_short, run_count}
+use Rattle.iscsi_replay.proofs.ShortRuns.{either, run_short, run_count}
 
 -- ---- a recording that lines can say
 
@@ -41,10 +41,6 @@ read_again s r h few =
     whole_read (again_of s r) r (reads_both nothing (record { conns = r.conns; events = [] }) r (conn_lines r.conns) (report_from r.events log) conns events) h.sound.some few
 
 -- ---- what fields hold
-
-either : {A : Type 0} (P : A → Type 0) (b : Bool) (x y : A) → P x → P y → P (cond b x y)
-either P true x y h k = h
-either P false x y h k = k
 
 abbrev IsUpTo : ℕ → Option ℕ → Type 0
 IsUpTo max None = Unit {0}

@@ -1,6 +1,6 @@
 -- What a written field holds, and how it is read.
 use Rattle.std.proofs.Common.{◌≡◌, ℕ, zero, suc, ◌+◌, ◌-◌, ◌*◌, ◌/◌, ◌%◌, ◌^◌, ◌<◌, ◌≤◌, ◌==◌, Bool, true, false, cond, List, [], ◌∷◌, ◌++◌, length, get_or, slice_index, Option, Some, None, refl, sym, subst, ap, ◌∙◌, arith}
-use Rattle.std.specs.Prelude.{◌||◌, option_and_then, decimal}
+use Rattle.std.specs.Prelude.{option_and_then, decimal}
 use Rattle.std.specs.Fmt.{digit_glyph, digits_onto}
 use Rattle.std.proofs.DigitsParse.{digits_onto-nil}
 use Rattle.std.specs.List.{list_any, before_first, after_first}
@@ -12,6 +12,7 @@ use Rattle.hex.proofs.HexLemmas.{length-encode_with, decode_of-encode_lower, dec
 use Rattle.iscsi_wire.specs.Replies.{bytes_4}
 use Rattle.clap.proofs.CutLemmas.{Lacks, before_first-at, after_first-at}
 use Rattle.iscsi_replay.specs.Reading.{is_end}
+use Rattle.iscsi_replay.proofs.LineLemmas.{or_false, false_or}
 use Rattle.iscsi_replay.specs.Fields.{is_blank, is_digit, digits_after, up_to, decimal_of, hex_of}
 
 -- ---- a decimal number is read again
@@ -109,27 +110,15 @@ pub record Spares (p : ℕ → Bool) : Type 0 where
   pub letters : list_any p lower_digits ≡ false
   pub nothing : p 0 ≡ false
 
-spare_or : (a b : Bool) → a ≡ false → b ≡ false → (a || b) ≡ false
-spare_or true b h k = cc
-spare_or false b h k = k
-
 glyph_spared : (p : ℕ → Bool) (d : ℕ) → Spares p → d < 10 → p (digit_glyph false d) ≡ false
 glyph_spared p d s h = let is : digit_glyph false d ≡ 48 + d = grind arith in ap p is ∙ s.decimals d h
-
-first_is : (a b : Bool) → (a || b) ≡ false → a ≡ false
-first_is true b h = h
-first_is false b h = refl
-
-rest_is : (a b : Bool) → (a || b) ≡ false → b ≡ false
-rest_is true b h = cc
-rest_is false b h = h
 
 onto_spared : (p : ℕ → Bool) (k n : ℕ) (acc : List ℕ) → Spares p → list_any p acc ≡ false → list_any p (digits_onto k 10 false n acc) ≡ false
 onto_spared p zero n acc s h = h
 onto_spared p (suc k) n acc s h =
     let small : n % 10 < 10 = omega arith in
     let one_more : list_any p (digit_glyph false (n % 10) ∷ acc) ≡ false =
-    spare_or (p (digit_glyph false (n % 10))) (list_any p acc) (glyph_spared p (n % 10) s small) h in
+    false_or (p (digit_glyph false (n % 10))) (list_any p acc) (glyph_spared p (n % 10) s small) h in
     elim (n / 10 == 0) as (λ b. list_any p (cond b (digit_glyph false (n % 10) ∷ acc) (digits_onto k 10 false (n / 10) (digit_glyph false (n % 10) ∷ acc))) ≡ false) [
       | true ↦ one_more
       | false ↦ onto_spared p k (n / 10) (digit_glyph false (n % 10) ∷ acc) s one_more
@@ -153,15 +142,15 @@ decimal_length n = let short : length (digits_onto 64 10 false n []) ≤ 64 = on
 
 place_spared : (p : ℕ → Bool) (t : List ℕ) (k : ℕ) → list_any p t ≡ false → p 0 ≡ false → p (slice_index t k) ≡ false
 place_spared p [] k h none = none
-place_spared p (x ∷ t) zero h none = first_is (p x) (list_any p t) h
-place_spared p (x ∷ t) (suc k) h none = place_spared p t k (rest_is (p x) (list_any p t) h) none
+place_spared p (x ∷ t) zero h none = (or_false (p x) (list_any p t) h).0
+place_spared p (x ∷ t) (suc k) h none = place_spared p t k (or_false (p x) (list_any p t) h).1 none
 
 with_spared : (p : ℕ → Bool) (t bytes : List ℕ) → list_any p t ≡ false → p 0 ≡ false → list_any p (encode_with t bytes) ≡ false
 unfolding encode_with
 with_spared p t [] h none = refl
 with_spared p t (b ∷ bytes) h none =
-    spare_or (p (slice_index t (b / 16))) _ (place_spared p t (b / 16) h none)
-    (spare_or (p (slice_index t (b % 16))) _ (place_spared p t (b % 16) h none) (with_spared p t bytes h none))
+    false_or (p (slice_index t (b / 16))) _ (place_spared p t (b / 16) h none)
+    (false_or (p (slice_index t (b % 16))) _ (place_spared p t (b % 16) h none) (with_spared p t bytes h none))
 
 -- nor one of bytes in hexadecimal digits
 pub hex_spared : (p : ℕ → Bool) (bytes : List ℕ) → Spares p → list_any p (encode_lower bytes) ≡ false
@@ -180,8 +169,8 @@ ends_spared = record { decimals = λ k h. grind arith; letters = refl; nothing =
 
 lacks : (xs : List ℕ) → list_any is_blank xs ≡ false → Lacks 32 xs
 lacks [] h i lt = absurd (omega arith)
-lacks (x ∷ xs) h zero lt = let other : (x == 32) ≡ false = first_is (is_blank x) (list_any is_blank xs) h in λ same. absurd (grind arith)
-lacks (x ∷ xs) h (suc i) lt = lacks xs (rest_is (is_blank x) (list_any is_blank xs) h) i (omega arith)
+lacks (x ∷ xs) h zero lt = let other : (x == 32) ≡ false = (or_false (is_blank x) (list_any is_blank xs) h).0 in λ same. absurd (grind arith)
+lacks (x ∷ xs) h (suc i) lt = lacks xs (or_false (is_blank x) (list_any is_blank xs) h).1 i (omega arith)
 
 pub field_before : (n : ℕ) (rest : List ℕ) → before_first is_blank (decimal n ++ 32 ∷ rest) ≡ decimal n
 field_before n rest = before_first-at 32 (decimal n) rest (lacks (decimal n) (decimal_spared is_blank n blanks_spared))

@@ -9,11 +9,11 @@ use Rattle.iscsi_replay.specs.Reading.{is_end}
 use Rattle.iscsi_replay.specs.declared.fault.ReplayFault.{ReplayFault}
 use Rattle.iscsi_replay.specs.declared.fault.ReplayFault.TheVariants.{BadLine, LineTooLong, TooManyLines, Read, NoMemory, NoConnection, Write, BadSettings}
 
-or_false : (a b : Bool) → (a || b) ≡ false → (a ≡ false) × (b ≡ false)
+pub or_false : (a b : Bool) → (a || b) ≡ false → (a ≡ false) × (b ≡ false)
 or_false true b h = cc
 or_false false b h = (refl, h)
 
-false_or : (a b : Bool) → a ≡ false → b ≡ false → (a || b) ≡ false
+pub false_or : (a b : Bool) → a ≡ false → b ≡ false → (a || b) ≡ false
 false_or true b h k = cc
 false_or false b h k = k
 
