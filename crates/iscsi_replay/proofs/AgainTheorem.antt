@@ -254,3 +254,7 @@ reads_again s bytes = by_answer (read_of bytes) (read_recordable bytes)
 pub again_if : (s : Settings) (bytes : Option (List ℕ)) → IfSome bytes (λ bs. IsReadAgain s (read_of bs))
 again_if s None = tt
 again_if s (Some bs) = reads_again s bs
+
+-- and of every recording that lines can say
+pub every_again : (s : Settings) (r : Recorded) → IsRecordable r → IsReadAgain s (Ok r)
+every_again s r h = read_again s r h
