@@ -9,11 +9,11 @@ use Rattle.iscsi_replay.specs.Reading.{is_end}
 use Rattle.iscsi_replay.specs.declared.fault.ReplayFault.{ReplayFault}
 use Rattle.iscsi_replay.specs.declared.fault.ReplayFault.TheVariants.{BadLine, LineTooLong, TooManyLines, Read, NoMemory, NoConnection, Write, BadSettings}
 
-or_false : (a b : Bool) → (a || b) ≡ false → (a ≡ false) × (b ≡ false)
+pub or_false : (a b : Bool) → (a || b) ≡ false → (a ≡ false) × (b ≡ false)
 or_false true b h = cc
 or_false false b h = (refl, h)
 
-false_or : (a b : Bool) → a ≡ false → b ≡ false → (a || b) ≡ false
+pub false_or : (a b : Bool) → a ≡ false → b ≡ false → (a || b) ≡ false
 false_or true b h k = cc
 false_or false b h k = k
 
@@ -61,7 +61,7 @@ unfolding lines_of
 end_byte bs = refl
 
 -- a line and its end
-whole_line : (p bs : List ℕ) → list_any is_end p ≡ false → lines_of (p ++ 10 ∷ bs) ≡ p ∷ lines_of bs
+pub whole_line : (p bs : List ℕ) → list_any is_end p ≡ false → lines_of (p ++ 10 ∷ bs) ≡ p ∷ lines_of bs
 whole_line [] bs h = end_byte bs
 whole_line (a ∷ p) bs h =
     let two = or_false (is_end a) (list_any is_end p) h in

@@ -17,7 +17,7 @@ both : (a b : Bool) → a ≡ true → b ≡ true → (a && b) ≡ true
 both true b h k = k
 both false b h k = cc
 
-both_parts : (a b : Bool) → (a && b) ≡ true → (a ≡ true) × (b ≡ true)
+pub both_parts : (a b : Bool) → (a && b) ≡ true → (a ≡ true) × (b ≡ true)
 both_parts true b h = (refl, h)
 both_parts false b h = cc
 
@@ -29,7 +29,7 @@ not_false : (b : Bool) → not b ≡ false → b ≡ true
 not_false true h = refl
 not_false false h = cc
 
-other_way : (a b : ℕ) → (a == b) ≡ false → (b == a) ≡ false
+pub other_way : (a b : ℕ) → (a == b) ≡ false → (b == a) ≡ false
 other_way a b h = grind arith
 
 -- a connection that comes after, of another CID

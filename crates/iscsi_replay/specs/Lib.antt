@@ -9,3 +9,4 @@ pub mod Command
 pub mod Writing
 pub mod Replayed
 pub mod Stops
+pub mod Again

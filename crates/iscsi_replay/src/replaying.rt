@@ -1,15 +1,16 @@
 //! A recording and its report.
 
-ghost use Rattle.std.specs.Prelude.{◌≡◌, ◌≢◌, ◌↔◌, ◌++◌, ◌<◌, true, false, [], vec_len, IfSome, OnOk, IfOk, IfErr, IsErrOf, MatchResult};
+ghost use Rattle.std.specs.Prelude.{◌≡◌, ◌≢◌, ◌↔◌, ◌++◌, ◌<◌, true, false, [], vec_len, IfSome, OnOk, IfOk, IfErr, IsErrOf, MatchResult, Ok};
 ghost use Rattle.std.specs.List.{list_all};
 ghost use Rattle.std.specs.Io.KnownBytes.{Appends};
 ghost use Rattle.iscsi_session.specs.Settings.{is_valid};
 ghost use Rattle.iscsi_session.specs.Standing.{StandsFor};
 ghost use Rattle.iscsi_session.specs.Lines.{event_line, entry_lines};
 ghost use Rattle.iscsi_replay.specs.Limits.{are_valid};
-ghost use Rattle.iscsi_replay.specs.Recorded.{view, read_of, IsSound};
+ghost use Rattle.iscsi_replay.specs.Recorded.{Recorded, view, read_of, IsSound};
 ghost use Rattle.iscsi_replay.specs.Replayed.{setting_for, report_of, Reported, FrontReported, AnswersAs};
 ghost use Rattle.iscsi_replay.specs.Writing.{AppendsFront, AppendsBut};
+ghost use Rattle.iscsi_replay.specs.Again.{IsRecordable, IsReadAgain};
 
 use crate::fault::ReplayFault;
 use crate::reading::read_recording;
@@ -131,6 +132,7 @@ fn write_report<W: Sink>(
 ///
 /// `BadSettings` stands before all others. After `Write`, and after `NoMemory` once the input was read, a
 /// front of the report is written, and after the others nothing.
+#[tactic(auto, using(crate::proofs::AgainTheorem::again_if, crate::proofs::AgainTheorem::every_again))]
 pub fn replay<R: Source, W: Sink>(
     alloc: Global,
     settings: &Settings,
@@ -147,6 +149,11 @@ pub fn replay<R: Source, W: Sink>(
     ensures fault { are_valid settings.now ≡ true → IfSome (R.remaining reader.old) (λ bytes. AnswersAs (read_of bytes) result) }
     // In any case a front of the report is written, and nothing where the bytes are no recording.
     ensures front { IfSome (R.remaining reader.old) (λ bytes. FrontReported settings.now (read_of bytes) (W.contents writer.old) (W.contents writer.new)) }
+    // With the lines of the connections before it, that report is a recording again: of the same connections and
+    // events, unless it has too many lines.
+    ensures again { IfSome (R.remaining reader.old) (λ bytes. IsReadAgain settings.now (read_of bytes)) }
+    // So is the report of every recording that lines can say, also of one that was never read.
+    ensures every { (r : Recorded) → IsRecordable r → IsReadAgain settings.now (Ok r) }
     ensures read_failed { IsErrOf result ReplayFault.Read ↔ (R.has_failed reader.new ≡ true) }
     ensures write_failed { IsErrOf result ReplayFault.Write ↔ (W.has_failed writer.new ≡ true) }
 {
