@@ -5,7 +5,7 @@ use Rattle.std.proofs.lemmas.Bool.{cases_lt, false≢true, eqb-true}
 use Rattle.std.proofs.lemmas.Bool.Decides.{nat_tests}
 use Rattle.iscsi_wire.specs.declared.request.Request.{Request}
 use Rattle.iscsi_wire.specs.Serial.{wire, lift}
-use Rattle.iscsi_wire.specs.Fields.{connection_of, is_immediate, opcode, function, itt, rtt, cmd_sn, ref_cmd_sn}
+use Rattle.iscsi_wire.specs.Fields.{connection_of, is_immediate, function, itt, rtt, cmd_sn, ref_cmd_sn}
 use Rattle.iscsi_window.specs.declared.answer.Place.{Place}
 use Rattle.iscsi_window.specs.declared.answer.Place.TheVariants.{Inside, Outside as NoPlace}
 use Rattle.iscsi_window.specs.Windows.{Received, number_expected, room_of, at_place, with_place, place_in, IsInside, is_command, voided, find_command, number_shown, emptied}

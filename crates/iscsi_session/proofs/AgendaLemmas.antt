@@ -1,16 +1,15 @@
 -- The agenda: what is left of it, function by function and number by number.
-use Rattle.std.proofs.Common.{◌≡◌, ℕ, zero, suc, ◌+◌, ◌-◌, ◌<◌, ◌≤◌, ◌==◌, ◌&&◌, not, cond, Bool, true, false, List, [], ◌∷◌, ◌++◌, map, filter, find, length, Option, Some, None, is_some, refl, ap, sym, subst, ◌∙◌, arith, append_assoc, eq-eqb}
-use Rattle.std.specs.List.{list_all, list_any, filter_map}
-use Rattle.std.proofs.lemmas.Bool.{false≢true, eqb-true}
+use Rattle.std.proofs.Common.{◌≡◌, ℕ, zero, suc, ◌+◌, ◌-◌, ◌<◌, ◌==◌, ◌&&◌, cond, Bool, true, false, List, [], ◌∷◌, ◌++◌, map, filter, find, length, Option, Some, None, is_some, refl, ap, sym, subst, ◌∙◌, arith, append_assoc}
+use Rattle.std.specs.List.{list_all}
 use Rattle.std.proofs.lemmas.List.{append-nil}
 use Rattle.iscsi_wire.specs.declared.request.Request.{Request}
 use Rattle.iscsi_wire.specs.Serial.{number_of_first}
-use Rattle.iscsi_window.specs.Windows.{Received, number_expected, at_place, advanced_if}
+use Rattle.iscsi_window.specs.Windows.{number_expected, at_place, advanced_if}
 use Rattle.iscsi_session.specs.declared.effect.Effect.{Effect}
 use Rattle.iscsi_session.specs.declared.effect.Effect.TheVariants.{Deliver}
 use Rattle.iscsi_session.specs.declared.session.waiting.Waiting.{Waiting}
 use Rattle.iscsi_session.specs.Settings.{Setting}
-use Rattle.iscsi_session.specs.Trace.{Arrival, Mark, Executes, Trace, after_items, waiting, waiting_by, waiting_through, number_received, received, held, least_missing}
+use Rattle.iscsi_session.specs.Trace.{Arrival, Mark, Trace, after_items, waiting, received, least_missing}
 use Rattle.iscsi_session.specs.Execution.{exp_of}
 use Rattle.iscsi_session.specs.Management.{may_wait}
 use Rattle.iscsi_session.specs.Items.{item_of, function_item, is_waiting, functions, functions_at, turn_at, agenda}

@@ -1,7 +1,6 @@
 -- The turns that are taken, and an arrival as a whole.
-use Rattle.std.proofs.Common.{◌&&◌, ◌||◌, Bool, not, filter, map, ◌≡◌, ℕ, ◌+◌, ◌-◌, ◌==◌, ◌⊎◌, inl, inr, ⊎_elim, cond, true, false, nat_lt, arith, List, [], ◌∷◌, ◌++◌, Option, Some, None, is_some, refl, ap, sym, subst, ◌∙◌, append_assoc}
+use Rattle.std.proofs.Common.{◌&&◌, Bool, not, map, ◌≡◌, ℕ, ◌+◌, ◌-◌, ◌==◌, inl, inr, ⊎_elim, cond, true, false, nat_lt, List, [], ◌∷◌, ◌++◌, None, is_some, refl, ap, sym, subst, ◌∙◌, append_assoc}
 use Rattle.std.specs.List.{list_all, list_any}
-use Rattle.std.proofs.lemmas.Bool.{eqb-true}
 use Rattle.std.proofs.lemmas.List.{append-nil}
 use Rattle.iscsi_wire.specs.declared.request.Request.{Request}
 use Rattle.iscsi_wire.specs.declared.reply.Reply.{Reply}

@@ -6,7 +6,7 @@ use Rattle.std.proofs.lemmas.List.{length_push, get_or-set_same, get_or-set_othe
 use Rattle.iscsi_wire.specs.declared.request.Request.{Request}
 use Rattle.iscsi_window.specs.Windows.{Received, number_expected, room_of, at_place}
 use Rattle.iscsi_session.specs.Settings.{Setting}
-use Rattle.iscsi_session.specs.Trace.{Arrival, Mark, Admits, Delivers, Trace, first_of, is_received, is_delivered, is_emptied, held, admitted}
+use Rattle.iscsi_session.specs.Trace.{Arrival, Mark, Admits, Delivers, Trace, first_of, is_delivered, is_emptied, held, admitted}
 use Rattle.iscsi_session.specs.Standing.{WindowAgrees, ArrivalsAgree}
 use Rattle.iscsi_session.proofs.TraceLemmas.{unadmitted}
 use Rattle.iscsi_session.proofs.HeldLemmas.{held-admits, held-turned}

@@ -1,7 +1,7 @@
 -- The live commands that are kept agree with what has happened after one item more.
 use Rattle.std.proofs.Common.{◌≡◌, ℕ, ◌+◌, ◌<◌, ◌≤◌, ◌==◌, ◌&&◌, ◌||◌, not, ⊎_elim, cond, Bool, true, false, List, [], ◌∷◌, ◌++◌, length, map, filter, Some, None, option_map, refl, ap, sym, subst, ◌∙◌, arith, eq-eqb}
 use Rattle.std.specs.List.{list_any, list_all, filter_map}
-use Rattle.std.proofs.lemmas.Bool.{cases_lt, cases_eq, false≢true, eqb-true}
+use Rattle.std.proofs.lemmas.Bool.{cases_lt, false≢true, eqb-true}
 use Rattle.std.proofs.lemmas.Bool.Decides.{nat_tests}
 use Rattle.std.proofs.lemmas.List.{append-nil, length_push, map-append}
 use Rattle.std.proofs.lemmas.List.Elements.{filter-append}
@@ -10,7 +10,7 @@ use Rattle.iscsi_session.specs.declared.session.live.Live.{Live}
 use Rattle.iscsi_session.specs.Settings.{Setting}
 use Rattle.iscsi_session.specs.Trace.{Command, Mark, Trace, has, enters, entered, leaves_ticket, live, live_in, is_among, first_of}
 use Rattle.iscsi_session.specs.Standing.{kept, is_regular, are_apart, CommandsAgree}
-use Rattle.iscsi_session.specs.Steps.{find_ticket, without_ticket}
+use Rattle.iscsi_session.specs.Steps.{find_ticket}
 use Rattle.iscsi_session.proofs.BoolLemmas.{and_parts, or_none, or_false, not_true}
 use Rattle.iscsi_session.proofs.ApartLemmas.{eq_sym, unamong-filter, apart-push, apart-filter}
 use Rattle.iscsi_session.proofs.EnabledLemmas.{filter-map}

@@ -1,19 +1,16 @@
 -- Held requests are taken out one after the other.
-use Rattle.std.proofs.Common.{◌≡◌, ℕ, zero, suc, ◌+◌, ◌<◌, ◌≤◌, ◌&&◌, cond, Bool, true, false, List, [], ◌∷◌, ◌++◌, length, map, set, get_or, count_by, is_some, position, option_map, length-set, Option, Some, None, refl, ap, sym, subst, ◌∙◌, arith}
+use Rattle.std.proofs.Common.{◌≡◌, ℕ, suc, ◌+◌, ◌<◌, ◌&&◌, cond, Bool, true, false, List, [], ◌∷◌, ◌++◌, length, map, set, count_by, is_some, position, option_map, length-set, Option, Some, None, refl, ap, sym, subst, ◌∙◌, arith}
 use Rattle.std.specs.List.{list_all}
 use Rattle.std.proofs.lemmas.Bool.{false≢true}
 use Rattle.std.proofs.lemmas.List.Sums.{sum_by-cons}
 use Rattle.iscsi_wire.specs.declared.request.Request.{Request}
 use Rattle.iscsi_wire.specs.Serial.{wire}
-use Rattle.iscsi_wire.specs.Fields.{connection_of}
-use Rattle.iscsi_window.specs.Windows.{Received, number_expected, is_asked, is_held_from, first_from, dropped_at}
-use Rattle.iscsi_session.specs.declared.effect.Effect.{Effect}
+use Rattle.iscsi_window.specs.Windows.{Received, number_expected, is_held_from, first_from, dropped_at}
 use Rattle.iscsi_session.specs.declared.effect.Effect.TheVariants.{Empty}
 use Rattle.iscsi_session.specs.Standing.{is_held, is_place_known}
 use Rattle.iscsi_session.specs.Parting.{emptied_place, emptied_from}
 use Rattle.iscsi_session.proofs.FindLemmas.{position-cons}
 use Rattle.iscsi_session.proofs.BoolLemmas.{and_parts}
-use Rattle.iscsi_session.proofs.WindowLemmas.{Changed}
 
 -- the first place that is concerned, and what is left to do after it
 record Dropped (whose : Option ℕ) (n : ℕ) (ps : List (Option (Option Request))) (k : ℕ) : Type 0 where

@@ -1,5 +1,5 @@
 -- The commands that the effects show as enabled are those that the rule enables, after one item more.
-use Rattle.std.proofs.Common.{◌≡◌, ◌↔◌, ℕ, zero, suc, ◌+◌, ◌<◌, ◌≤◌, nat_lt, ⊎_elim, ◌==◌, ◌&&◌, ◌||◌, not, cond, Bool, true, false, List, [], ◌∷◌, ◌++◌, filter, Some, refl, ap, sym, ◌∙◌, arith, eq-eqb, append_assoc}
+use Rattle.std.proofs.Common.{◌≡◌, ◌↔◌, ℕ, zero, suc, ◌+◌, ◌<◌, ◌≤◌, nat_lt, ⊎_elim, ◌==◌, ◌&&◌, ◌||◌, not, cond, Bool, true, false, List, [], ◌∷◌, ◌++◌, filter, refl, ap, sym, ◌∙◌, arith, eq-eqb, append_assoc}
 use Rattle.std.specs.List.{list_any, list_all, flat_map, range_with_len}
 use Rattle.std.proofs.lemmas.Bool.{cases_eq, false≢true, eqb-true}
 use Rattle.std.proofs.lemmas.Bool.Decides.{nat_tests}
@@ -9,13 +9,12 @@ use Rattle.iscsi_session.specs.declared.effect.Effect.TheVariants.{Enable}
 use Rattle.iscsi_session.specs.declared.event.Event.{Event}
 use Rattle.iscsi_session.specs.declared.session.live.Live.{Live}
 use Rattle.iscsi_session.specs.Settings.{Setting}
-use Rattle.iscsi_session.specs.Trace.{Command, Mark, Admits, Delivers, Executes, Voids, Empties, Waits, Leaves, Enters, Sends, ClosesConn, ClosesSession, Ignores, Trace, after_items, has, entered, leaves_ticket, live, live_in, is_among, first_of, is_free_at, was_free}
+use Rattle.iscsi_session.specs.Trace.{Command, Mark, Admits, Delivers, Executes, Voids, Empties, Waits, Leaves, Enters, Sends, ClosesConn, ClosesSession, Ignores, Trace, after_items, has, entered, leaves_ticket, live, live_in, is_among, is_free_at, was_free}
 use Rattle.iscsi_session.specs.Agenda.{items_of}
 use Rattle.iscsi_session.specs.Run.{after_event, after_events, effects_of_mark, newly_enabled, effects_of_item, effects_of, entries_from}
 use Rattle.iscsi_session.specs.Enabling.{effects_so_far, is_enable, is_leave, is_shown_enabled, is_enabled, FreeMoment, EnabledSoFar, effects_in}
 use Rattle.iscsi_session.specs.Standing.{CommandsAgree}
 use Rattle.iscsi_session.proofs.BoolLemmas.{and_parts, and_both, or_first, or_second, or_comm, or_false}
-use Rattle.iscsi_session.proofs.ApartLemmas.{eq_sym}
 use Rattle.iscsi_session.proofs.ListLemmas.{list_any-map}
 use Rattle.iscsi_session.proofs.TraceLemmas.{weaker}
 use Rattle.iscsi_session.proofs.EnabledLemmas.{enables, is_here, was_free-stays, new_in, new_in-more, newly-one, filter-twice}

@@ -1,9 +1,9 @@
 -- A request executes: a task management function or another one, at its turn, at its arrival, or once it has waited.
-use Rattle.std.proofs.Common.{◌≡◌, ℕ, ℤ, pos, ◌-ℤ◌, ◌+◌, ◌-◌, ◌<◌, ◌≤◌, ◌==◌, ◌&&◌, ◌||◌, not, ⊎_elim, cond, Bool, true, false, nat_lt, nat_le, int_lt, List, [], ◌∷◌, ◌++◌, length, map, filter, find, count_by, set, get_or, is_some, ◌⊎◌, inl, inr, Option, Some, None, refl, ap, sym, subst, ◌∙◌, arith, append_assoc, length-set, eq-eqb, Decides}
+use Rattle.std.proofs.Common.{◌≡◌, ℕ, ℤ, pos, ◌-ℤ◌, ◌+◌, ◌-◌, ◌<◌, ◌≤◌, ◌==◌, ◌&&◌, ◌||◌, not, ⊎_elim, cond, Bool, true, false, nat_lt, nat_le, int_lt, List, [], ◌∷◌, ◌++◌, length, map, filter, find, count_by, is_some, ◌⊎◌, inl, inr, Option, Some, None, refl, ap, sym, subst, ◌∙◌, arith, append_assoc, length-set, eq-eqb, Decides}
 use Rattle.std.specs.List.{list_any, list_all, filter_map, flat_map, cons_option}
 use Rattle.std.specs.Ordering.{int_eq}
 use Rattle.std.proofs.lemmas.Int.{ints}
-use Rattle.std.proofs.lemmas.Bool.{cases_lt, cases_eq, false≢true, eqb-true}
+use Rattle.std.proofs.lemmas.Bool.{cases_eq, false≢true, eqb-true}
 use Rattle.std.proofs.lemmas.Bool.Decides.{nat_tests, Decides-int_eq}
 use Rattle.std.proofs.lemmas.List.{append-nil, map-append}
 use Rattle.std.proofs.lemmas.List.Folds.{list_any-append, list_all-append}
@@ -14,8 +14,7 @@ use Rattle.iscsi_wire.specs.Serial.{wire, lift, number_of_first}
 use Rattle.iscsi_wire.specs.Fields.{connection_of, header_of, is_immediate, opcode, function, itt, rtt, cmd_sn}
 use Rattle.iscsi_window.specs.declared.answer.Place.{Place}
 use Rattle.iscsi_window.specs.declared.answer.Place.TheVariants.{Inside, Outside as NoPlace}
-use Rattle.iscsi_window.specs.Windows.{Received, number_expected, room_of, at_place, place_in, held_at, received_at, emptied_if, emptied, voided, with_place, with_unfinished, is_received_at}
-use Rattle.iscsi_tasks.specs.declared.cover.Cover.{Cover}
+use Rattle.iscsi_window.specs.Windows.{Received, number_expected, room_of, at_place, place_in, held_at, received_at, emptied_if, emptied, voided, with_place, with_unfinished}
 use Rattle.iscsi_tasks.specs.declared.cover.Cover.TheVariants.{All as AllOfThem, Below}
 use Rattle.iscsi_tasks.specs.declared.task.Task.{Task}
 use Rattle.iscsi_tasks.specs.Sets.{is_covered}
@@ -30,14 +29,14 @@ use Rattle.iscsi_session.specs.declared.patience.Patience.TheVariants.{Now, Late
 use Rattle.iscsi_session.specs.declared.verdict.Verdict.{Verdict}
 use Rattle.iscsi_session.specs.declared.verdict.Verdict.TheVariants.{Nothing, Answer, Enter as EnterUnit}
 use Rattle.iscsi_session.specs.Settings.{Setting, is_known}
-use Rattle.iscsi_session.specs.Trace.{Arrival, Command, Mark, Executes, Delivers, Voids, Empties, Waits, Leaves, Sends, Trace, admits_at, delivers_number, empties_number, shown, first_of, is_received, is_delivered, is_emptied, held, admitted, waiting, waiting_by, waiting_through, live, live_in, enters, leaves_ticket, sent_on}
-use Rattle.iscsi_session.specs.Execution.{exp_of, max_of, unfinished, unit_named, reply_on, marks_of, verdict_of}
+use Rattle.iscsi_session.specs.Trace.{Arrival, Command, Mark, Executes, Delivers, Voids, Empties, Waits, Leaves, Trace, admits_at, delivers_number, empties_number, shown, first_of, is_received, is_delivered, is_emptied, held, admitted, waiting, waiting_by, waiting_through, live, live_in, enters, leaves_ticket, sent_on}
+use Rattle.iscsi_session.specs.Execution.{exp_of, max_of, unit_named, reply_on, marks_of, verdict_of}
 use Rattle.iscsi_session.specs.Management.{may_wait, waiting_on, refusal_to, refusal_of_function, answer, is_before, abort_all, abort_task, query, function_to, function_marks, management_marks}
 use Rattle.iscsi_session.specs.Agenda.{arrival_of}
 use Rattle.iscsi_session.specs.Items.{execution, waiting_item, immediate_item, item_of, function_item}
 use Rattle.iscsi_session.specs.Run.{effects_of_mark, effects_of_item, newly_enabled, stat_sn_of}
 use Rattle.iscsi_session.specs.Standing.{Core, kept, task_of, WindowAgrees, ArrivalsAgree, arrival_waiting, Agrees, Settled}
-use Rattle.iscsi_session.specs.Functions.{aborted, abort_effects, answer_if, outcome_by, abort_by, performed_as, performance_effects, covers_ticket, response_effects, void_effects}
+use Rattle.iscsi_session.specs.Functions.{aborted, abort_effects, answer_if, outcome_by, abort_by, performed_as, performance_effects, covers_ticket, response_effects}
 use Rattle.iscsi_session.specs.Steps.{count_reply, with_reply, reply_effects, number_by, event_by, verdict_by, executed_as, execution_effects}
 use Rattle.iscsi_session.specs.Turning.{position_by, next_position, without_waiting, performed, performed_effects, managed, managed_effects, with_executed, executed_effects, next_arrived, next_waiting, waiting_in, wait_by, function_if, function_effects, patience_by, immediate_as, immediate_effects}
 use Rattle.iscsi_session.specs.Logout.{logout_marks}
@@ -63,7 +62,7 @@ use Rattle.iscsi_session.proofs.SetParts.{SetsAgree-untouched, newly-untouched}
 use Rattle.iscsi_session.proofs.AgreeLemmas.{unfinished-untouched, settled_expected, settled_max}
 use Rattle.iscsi_session.proofs.ExecutionLemmas.{named_below, Begun, Executed, nothing_more, answered, executed-item, untouched-begun}
 use Rattle.iscsi_session.proofs.LeavingLemmas.{covered_in, leaving_item, leaving-item}
-use Rattle.iscsi_session.proofs.AbortParts.{numbered_outcome, AbortsOne, EmptiesHeld, VoidsMissing, AbortsAs, AbortsAs-arrived, AbortsAs-turned, WindowAgrees-emptying, WindowAgrees-voiding, void_effects-are}
+use Rattle.iscsi_session.proofs.AbortParts.{numbered_outcome, EmptiesHeld, VoidsMissing, AbortsAs, AbortsAs-arrived, AbortsAs-turned, WindowAgrees-emptying, WindowAgrees-voiding, void_effects-are}
 use Rattle.iscsi_session.proofs.TurnLemmas.{turned_core, numbered_held, turn-begun, arrived_next, number_next, event_next}
 
 -- ---- a command is before a function, by positions

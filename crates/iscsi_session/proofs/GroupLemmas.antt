@@ -1,12 +1,11 @@
 -- Commands that leave a set one after the other: the moments between them don't matter.
-use Rattle.std.proofs.Common.{◌≡◌, ℕ, ◌==◌, ◌||◌, not, cond, Bool, true, false, List, [], ◌∷◌, map, filter, find, Option, Some, None, refl, ap, sym, ◌∙◌}
-use Rattle.std.specs.List.{list_any, list_all}
+use Rattle.std.proofs.Common.{◌≡◌, ℕ, ◌==◌, ◌||◌, not, cond, Bool, true, false, List, [], ◌∷◌, map, filter, refl, ap, sym, ◌∙◌}
+use Rattle.std.specs.List.{list_any}
 use Rattle.std.proofs.lemmas.Bool.{false≢true}
 use Rattle.iscsi_tasks.specs.declared.task.Task.{Task}
 use Rattle.iscsi_tasks.specs.declared.member.Member.{Member}
 use Rattle.iscsi_tasks.specs.Sets.{Queued, bars, is_free, queued, is_free_among, looked_at, after_moment, without}
-use Rattle.iscsi_session.proofs.BoolLemmas.{and_parts, or_none, not_true}
-use Rattle.iscsi_session.proofs.TraceLemmas.{filter-same}
+use Rattle.iscsi_session.proofs.BoolLemmas.{or_none, not_true}
 use Rattle.iscsi_session.proofs.EnabledLemmas.{filter-map, map-map}
 
 -- ---- who is free among more is free among fewer

@@ -1,11 +1,11 @@
 -- Which requests are held, and which are due.
-use Rattle.std.proofs.Common.{◌≡◌, ℕ, zero, suc, ◌+◌, ◌-◌, ◌<◌, ◌==◌, ◌||◌, ◌⊎◌, inl, inr, ⊎_elim, cond, Bool, true, false, List, [], ◌∷◌, ◌++◌, Option, Some, None, option_map, refl, ap, sym, ◌∙◌, arith, eq-eqb}
-use Rattle.std.specs.List.{list_any, filter_map, flat_map, range_with_len, cons_option}
-use Rattle.std.proofs.lemmas.Bool.{false≢true, eqb-true}
+use Rattle.std.proofs.Common.{◌≡◌, ℕ, ◌==◌, ◌||◌, ◌⊎◌, inl, inr, ⊎_elim, cond, Bool, true, false, List, [], ◌∷◌, ◌++◌, Option, Some, None, option_map, refl, ap, sym, ◌∙◌, eq-eqb}
+use Rattle.std.specs.List.{list_any, filter_map, cons_option}
+use Rattle.std.proofs.lemmas.Bool.{eqb-true}
 use Rattle.std.proofs.lemmas.List.{append-nil}
-use Rattle.iscsi_session.specs.Trace.{Arrival, Mark, Admits, Delivers, Executes, Voids, Empties, Waits, Leaves, Enters, Sends, ClosesConn, ClosesSession, Ignores, Trace, shown, first_of, is_received, is_delivered, is_emptied, held, admitted, admits_at, contains, number_received, delivers_number}
+use Rattle.iscsi_session.specs.Trace.{Arrival, Mark, Admits, Delivers, Executes, Voids, Empties, Waits, Leaves, Enters, Sends, ClosesConn, ClosesSession, Ignores, Trace, shown, first_of, is_received, is_delivered, is_emptied, held, admitted, admits_at, delivers_number}
 use Rattle.iscsi_session.specs.Executed.{request_at}
-use Rattle.iscsi_session.proofs.TraceLemmas.{unadmitted, received-item}
+use Rattle.iscsi_session.proofs.TraceLemmas.{unadmitted}
 use Rattle.iscsi_session.proofs.DeliveryLemmas.{IsQuiet}
 
 -- ---- who was admitted at a number

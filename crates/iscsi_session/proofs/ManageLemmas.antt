@@ -10,12 +10,12 @@ use Rattle.std.proofs.lemmas.List.Folds.{list_all-append}
 use Rattle.std.proofs.lemmas.List.Sums.{sum_by-cons}
 use Rattle.iscsi_wire.specs.declared.request.Request.{Request}
 use Rattle.iscsi_wire.specs.declared.reply.Reply.{Reply}
-use Rattle.iscsi_wire.specs.Fields.{connection_of, is_immediate, opcode, function, itt, rtt, cmd_sn, ref_cmd_sn}
+use Rattle.iscsi_wire.specs.Fields.{connection_of, is_immediate, opcode, function, rtt, cmd_sn, ref_cmd_sn}
 use Rattle.iscsi_wire.specs.Serial.{wire, lift}
 use Rattle.iscsi_window.specs.declared.answer.Place.{Place}
 use Rattle.iscsi_window.specs.declared.answer.Place.TheVariants.{Inside, Outside}
 use Rattle.iscsi_window.specs.declared.answer.Offer.TheVariants.{Held, Duplicate}
-use Rattle.iscsi_window.specs.Windows.{with_place, offer_at, offer_to, offered_to, Received, IsSound, IsInside, number_expected, room_of, at_place, place_in, held_at, received_at, is_command, find_command, number_shown, voided, emptied, emptied_if, with_unfinished}
+use Rattle.iscsi_window.specs.Windows.{with_place, offer_at, offer_to, offered_to, Received, IsSound, IsInside, number_expected, room_of, at_place, place_in, held_at, received_at, is_command, find_command, number_shown, voided, emptied, with_unfinished}
 use Rattle.iscsi_tasks.specs.declared.task.Task.{Task}
 use Rattle.iscsi_tasks.specs.declared.member.Member.{Member}
 use Rattle.iscsi_tasks.specs.declared.cover.Cover.{Cover}

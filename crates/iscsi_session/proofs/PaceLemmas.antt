@@ -1,10 +1,9 @@
 -- What executing a request leaves as it was: the numbers that have turned, and the events. It begins one command at the
 -- most, and a function that has waited changes no place of the window.
-use Rattle.std.proofs.Common.{◌≡◌, ℕ, ℤ, ◌+◌, ◌-◌, ◌<◌, ◌≤◌, ◌==◌, ◌&&◌, not, cond, Bool, true, false, List, [], ◌∷◌, ◌++◌, length, filter, find, count_by, is_some, Option, Some, None, refl, ap, sym, subst, ◌∙◌, arith}
+use Rattle.std.proofs.Common.{◌≡◌, ℕ, ℤ, ◌+◌, ◌-◌, ◌≤◌, ◌==◌, ◌&&◌, not, cond, Bool, true, false, length, filter, count_by, is_some, Option, Some, None, refl, ap, sym, subst, ◌∙◌, arith}
 use Rattle.std.specs.List.{list_all, list_any}
 use Rattle.std.proofs.lemmas.Bool.{false≢true}
 use Rattle.iscsi_wire.specs.declared.request.Request.{Request}
-use Rattle.iscsi_wire.specs.declared.reply.Reply.{Reply}
 use Rattle.iscsi_wire.specs.Serial.{number_of_first}
 use Rattle.iscsi_wire.specs.Fields.{connection_of, is_immediate, opcode, function, rtt}
 use Rattle.iscsi_window.specs.declared.answer.Place.{Place}
@@ -25,7 +24,7 @@ use Rattle.iscsi_session.specs.Execution.{unit_named}
 use Rattle.iscsi_session.specs.Management.{may_wait, refusal_to}
 use Rattle.iscsi_session.specs.Standing.{Core}
 use Rattle.iscsi_session.specs.Steps.{KeepsPace, set_at, started, is_numbered, verdict_by, executed_as, with_reply}
-use Rattle.iscsi_session.specs.Functions.{is_gone, staying, with_left, abort_by, answer_if, outcome_by, aborted, performed_as}
+use Rattle.iscsi_session.specs.Functions.{is_gone, with_left, abort_by, answer_if, outcome_by, aborted, performed_as}
 use Rattle.iscsi_session.specs.Parting.{closing_by, closed_as}
 use Rattle.iscsi_session.proofs.PartedLemmas.{Parts, closed_parts}
 use Rattle.iscsi_session.specs.Turning.{performed, managed, position_by, with_executed, with_advanced, next_arrived, turned_if, next_waiting, without_waiting, next_position, function_if, immediate_as}

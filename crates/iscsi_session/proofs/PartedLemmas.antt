@@ -1,12 +1,12 @@
 -- What a Logout leaves as it is.
-use Rattle.std.proofs.Common.{append_assoc, ◌++◌, ◌≡◌, ℕ, ◌+◌, ◌-◌, ◌≤◌, ◌&&◌, not, cond, Bool, true, false, List, [], ◌∷◌, length, map, filter, count_by, is_some, length-set, Option, Some, None, refl, ap, sym, ◌∙◌, arith}
+use Rattle.std.proofs.Common.{append_assoc, ◌++◌, ◌≡◌, ℕ, ◌+◌, ◌≤◌, not, cond, Bool, true, false, List, [], ◌∷◌, length, map, filter, count_by, is_some, length-set, Option, Some, None, refl, ap, sym, ◌∙◌, arith}
 use Rattle.std.proofs.lemmas.List.Sums.{sum_by-cons}
 use Rattle.iscsi_wire.specs.declared.request.Request.{Request}
 use Rattle.iscsi_wire.specs.declared.reply.Reply.{Reply}
 use Rattle.iscsi_wire.specs.declared.reply.Reply.TheVariants.{Logout}
 use Rattle.iscsi_wire.specs.Fields.{connection_of, itt}
 use Rattle.iscsi_wire.specs.Serial.{number_of_first}
-use Rattle.iscsi_window.specs.Windows.{Received, number_expected, is_asked, is_held_from}
+use Rattle.iscsi_window.specs.Windows.{number_expected, is_asked}
 use Rattle.iscsi_tasks.specs.declared.task.Task.{Task}
 use Rattle.iscsi_session.specs.declared.closing.Closing.{Closing}
 use Rattle.iscsi_session.specs.declared.closing.Closing.TheVariants.{Refused, Session, Conn}

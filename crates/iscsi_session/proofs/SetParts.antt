@@ -1,7 +1,6 @@
 -- Task sets that agree with what has happened agree after one item more.
-use Rattle.std.proofs.Common.{◌≡◌, ℕ, ◌<◌, ◌==◌, ◌||◌, not, ⊎_elim, cond, Bool, true, false, List, [], ◌∷◌, ◌++◌, length, map, filter, find, get_or, set, Some, refl, ap, sym, subst, ◌∙◌, arith, length-set}
+use Rattle.std.proofs.Common.{◌≡◌, ℕ, ◌<◌, ◌==◌, ◌||◌, not, ⊎_elim, cond, Bool, true, false, List, [], ◌∷◌, ◌++◌, length, map, filter, find, get_or, set, Some, refl, ap, sym, ◌∙◌, arith, length-set}
 use Rattle.std.proofs.lemmas.Bool.{cases_eq, eqb-true}
-use Rattle.iscsi_session.proofs.TraceLemmas.{filter-same}
 use Rattle.std.proofs.lemmas.Bool.Decides.{nat_tests}
 use Rattle.std.proofs.lemmas.List.{get_or-set_same, get_or-set_other}
 use Rattle.iscsi_tasks.specs.declared.task.Task.{Task}
@@ -9,13 +8,12 @@ use Rattle.iscsi_tasks.specs.declared.member.Member.{Member}
 use Rattle.iscsi_tasks.specs.Sets.{Members, opened, tasks_in, entered_to, left_by, with_ticket, without, after_moment, next_in, given_by}
 use Rattle.iscsi_session.specs.declared.session.live.Live.{Live}
 use Rattle.iscsi_session.specs.Settings.{Setting}
-use Rattle.iscsi_session.specs.Trace.{Command, Mark, Trace, live, live_in, is_among, first_of}
+use Rattle.iscsi_session.specs.Trace.{Command, Mark, Trace, live, live_in, is_among}
 use Rattle.iscsi_session.specs.Run.{newly_enabled}
 use Rattle.iscsi_session.specs.Standing.{task_of, member_of, set_of, SetsAgree, CommandsAgree}
 use Rattle.iscsi_session.specs.Steps.{all_given, as_given, enable_effects, enable_effect}
 use Rattle.iscsi_session.proofs.EnabledLemmas.{filter-map, noted_given, noted_effects, enables, newly-none, newly-one, set_of-same, never_free, EnteredSet, set-entered}
 use Rattle.iscsi_session.proofs.CommandParts.{Untouched, live_in-untouched, EntersOne, live_in-entered, live_in-elsewhere, LeavesSome, live_in-left, live_in-left_elsewhere, are_all_in}
-use Rattle.iscsi_session.proofs.ApartLemmas.{eq_sym}
 
 pub SetsAgree-untouched : (o : Setting) (sets : List Members) (t : Trace) (item : List Mark) → Untouched item → SetsAgree o sets t → SetsAgree o sets (item ∷ t)
 SetsAgree-untouched o sets t item u a = record {

@@ -8,7 +8,7 @@ use Rattle.iscsi_wire.specs.declared.request.Request.{Request}
 use Rattle.iscsi_wire.specs.declared.reply.Reply.{Reply}
 use Rattle.iscsi_wire.specs.declared.reply.Reply.TheVariants.{Scsi}
 use Rattle.iscsi_wire.specs.Serial.{lift}
-use Rattle.iscsi_wire.specs.Fields.{connection_of, is_immediate, opcode, itt, cmd_sn}
+use Rattle.iscsi_wire.specs.Fields.{connection_of, is_immediate, itt, cmd_sn}
 use Rattle.iscsi_window.specs.declared.answer.Offer.{Offer}
 use Rattle.iscsi_window.specs.declared.answer.Offer.TheVariants.{Held, Outside as OutsideWindow, Duplicate as Known}
 use Rattle.iscsi_window.specs.declared.answer.Place.TheVariants.{Inside, Outside as NoPlace}

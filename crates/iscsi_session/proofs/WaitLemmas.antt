@@ -1,20 +1,18 @@
 -- The functions that wait for a number, one after the other.
-use Rattle.std.proofs.Common.{◌≡◌, ℕ, ◌+◌, ◌-◌, ◌<◌, ◌≤◌, ◌==◌, ◌&&◌, ◌||◌, not, cond, Bool, true, false, nat_lt, nat_le, List, [], ◌∷◌, ◌++◌, map, filter, find, Option, Some, None, refl, ap, sym, subst, ◌∙◌, arith, eq-eqb}
-use Rattle.std.specs.List.{list_any, list_all}
+use Rattle.std.proofs.Common.{◌≡◌, ℕ, ◌+◌, ◌==◌, ◌&&◌, ◌||◌, not, cond, Bool, true, false, nat_lt, nat_le, List, [], ◌∷◌, ◌++◌, map, filter, find, Option, Some, None, refl, ap, sym, ◌∙◌, arith, eq-eqb}
+use Rattle.std.specs.List.{list_any}
 use Rattle.std.proofs.lemmas.Bool.{false≢true, eqb-true}
 use Rattle.std.proofs.lemmas.Bool.Decides.{nat_tests}
-use Rattle.iscsi_wire.specs.declared.reply.Reply.{Reply}
 use Rattle.iscsi_wire.specs.Serial.{lift, number_of_first}
 use Rattle.iscsi_wire.specs.Fields.{is_immediate, function, itt, rtt, ref_cmd_sn}
-use Rattle.iscsi_window.specs.Windows.{number_expected}
 use Rattle.iscsi_session.specs.declared.session.waiting.Waiting.{Waiting}
 use Rattle.iscsi_session.specs.Settings.{Setting}
-use Rattle.iscsi_session.specs.Trace.{Arrival, Command, Mark, Executes, Voids, Leaves, Trace, after_items, is_received, waiting, waiting_by, waiting_through, live_in}
+use Rattle.iscsi_session.specs.Trace.{Arrival, Command, Mark, Executes, Voids, Leaves, Trace, after_items, is_received, waiting, waiting_through, live_in}
 use Rattle.iscsi_session.specs.Execution.{exp_of, max_of, unit_named}
 use Rattle.iscsi_session.specs.Management.{answer, live_with_tag, held_command, abort_missing, abort_task, abort_all, is_before, function_to, function_marks}
 use Rattle.iscsi_session.specs.Items.{function_item, is_waiting, functions, functions_at}
 use Rattle.iscsi_session.specs.Standing.{arrival_waiting}
-use Rattle.iscsi_session.proofs.BoolLemmas.{and_parts, or_first}
+use Rattle.iscsi_session.proofs.BoolLemmas.{or_first}
 use Rattle.iscsi_session.proofs.EnabledLemmas.{filter-map}
 use Rattle.iscsi_session.proofs.CommandParts.{filter-swap}
 use Rattle.iscsi_session.proofs.ReceiveLemmas.{abort_as}

@@ -1,6 +1,5 @@
 -- The items of an event: what arrives, and what becomes due by it.
-use Rattle.std.specs.Prelude.{ℕ, ◌-◌, ◌==◌, ◌&&◌, ◌||◌, nat_lt, List, [], ◌∷◌, ◌++◌, Option, Some, None, if◌then◌else◌, filter, is_some}
-use Rattle.std.specs.List.{flat_map, range_with_len}
+use Rattle.std.specs.Prelude.{ℕ, ◌-◌, ◌==◌, ◌&&◌, ◌||◌, nat_lt, List, [], ◌∷◌, Option, if◌then◌else◌, filter}
 use Rattle.iscsi_wire.specs.declared.request.Request.{Request}
 use Rattle.iscsi_wire.specs.Serial.{lift}
 use Rattle.iscsi_wire.specs.Fields.{request_of, connection_of, is_immediate, opcode, cmd_sn}
@@ -10,7 +9,7 @@ use Rattle.iscsi_session.specs.declared.kind.Kind.{Kind}
 use Rattle.iscsi_session.specs.declared.kind.Kind.TheVariants.{PassedOver, Unknown, Executes as ExecutesKind}
 use Rattle.iscsi_session.specs.declared.event.Event.TheVariants.{Arrive, Done}
 use Rattle.iscsi_session.specs.Settings.{Setting}
-use Rattle.iscsi_session.specs.Trace.{Arrival, Command, Mark, Admits, Trace, after_items, first_of, is_received, held, live, was_free, is_closed}
+use Rattle.iscsi_session.specs.Trace.{Arrival, Command, Mark, Admits, Trace, first_of, is_received, live, was_free, is_closed}
 use Rattle.iscsi_session.specs.Execution.{exp_of, max_of, rejected, ignored, completion}
 use Rattle.iscsi_session.specs.Items.{immediate_item, agenda}
 

@@ -1,5 +1,5 @@
 -- Task management (RFC 7143 sections 4.2.3 and 11.5, RFC 7144, SAM-5 section 7).
-use Rattle.std.specs.Prelude.{ℕ, ◌+◌, ◌==◌, ◌&&◌, ◌||◌, nat_lt, nat_le, not, Bool, true, false, List, [], ◌∷◌, ◌++◌, map, Option, Some, None, if◌then◌else◌, filter, count_by}
+use Rattle.std.specs.Prelude.{ℕ, ◌==◌, ◌&&◌, ◌||◌, nat_lt, nat_le, not, Bool, true, false, List, [], ◌∷◌, ◌++◌, map, Option, Some, None, if◌then◌else◌, filter, count_by}
 use Rattle.std.specs.List.{list_any, flat_map, range_with_len}
 use Rattle.iscsi_wire.specs.declared.reply.Reply.{Reply}
 use Rattle.iscsi_wire.specs.declared.reply.Reply.TheVariants.{Task, Reject}
@@ -7,7 +7,7 @@ use Rattle.iscsi_wire.specs.declared.request.Request.{Request}
 use Rattle.iscsi_wire.specs.Serial.{lift}
 use Rattle.iscsi_wire.specs.Fields.{connection_of, header_of, is_immediate, opcode, function, itt, rtt, ref_cmd_sn}
 use Rattle.iscsi_session.specs.Settings.{Setting}
-use Rattle.iscsi_session.specs.Trace.{Arrival, Command, Mark, Voids, Empties, Waits, Leaves, Trace, first_of, is_received, held, waiting, live, live_in}
+use Rattle.iscsi_session.specs.Trace.{Arrival, Command, Mark, Voids, Empties, Leaves, Trace, first_of, is_received, held, waiting, live_in}
 use Rattle.iscsi_session.specs.Execution.{exp_of, max_of, NO_TAG, unit_named, reply_on}
 
 -- ---- which functions there are

@@ -1,5 +1,5 @@
 -- What a session keeps when a Logout Request executes, and the effects, by what it keeps before. For private contracts alone.
-use Rattle.std.specs.Prelude.{ℕ, ◌+◌, ◌==◌, not, Bool, true, false, List, [], ◌∷◌, ◌++◌, length, map, filter, Option, Some, None, if◌then◌else◌}
+use Rattle.std.specs.Prelude.{ℕ, ◌+◌, ◌==◌, not, Bool, List, [], ◌∷◌, ◌++◌, length, map, filter, Option, Some, None, if◌then◌else◌}
 use Rattle.std.specs.List.{list_any, flat_map, range_with_len}
 use Rattle.iscsi_wire.specs.declared.reply.Reply.TheVariants.{Logout, Reject}
 use Rattle.iscsi_wire.specs.declared.request.Request.{Request}

@@ -3,7 +3,7 @@ use Rattle.std.specs.Prelude.{◌≡◌, ℕ, pos, ◌-ℤ◌, ◌+◌, ◌*◌,
 use Rattle.std.specs.List.{list_all, range_with_len}
 use Rattle.iscsi_wire.specs.declared.request.Request.{Request}
 use Rattle.iscsi_wire.specs.Serial.{wire, number_of_first}
-use Rattle.iscsi_wire.specs.Fields.{connection_of, is_immediate, opcode, itt, cmd_sn}
+use Rattle.iscsi_wire.specs.Fields.{connection_of, is_immediate, itt, cmd_sn}
 use Rattle.iscsi_window.specs.Received.{Received, number_expected}
 use Rattle.iscsi_tasks.specs.declared.task.Task.{Task}
 use Rattle.iscsi_tasks.specs.declared.member.Member.{Member}

@@ -1,5 +1,5 @@
 -- What a session keeps after a part of an event, and the effects, by what it keeps before. For private contracts alone.
-use Rattle.std.specs.Prelude.{All, ◌≡◌, false, ◌<◌, ℕ, pos, ◌-ℤ◌, ◌+◌, ◌-◌, ◌≤◌, ◌==◌, ◌&&◌, ◌||◌, not, count_by, nat_lt, nat_le, nat_eq, Bool, true, List, [], ◌∷◌, ◌++◌, length, map, filter, find, is_some, slice_index_or, slice_set, Option, Some, None, option_map, if◌then◌else◌}
+use Rattle.std.specs.Prelude.{All, ◌≡◌, false, ◌<◌, ℕ, pos, ◌-ℤ◌, ◌+◌, ◌-◌, ◌≤◌, ◌==◌, ◌&&◌, ◌||◌, not, count_by, nat_lt, nat_le, nat_eq, Bool, true, List, [], ◌∷◌, ◌++◌, length, map, filter, find, slice_index_or, slice_set, Option, Some, None, option_map, if◌then◌else◌}
 use Rattle.std.specs.Option.{MatchOption}
 use Rattle.std.specs.HashMap.{HashMap, get, hash_map_len, spare}
 use Rattle.std.specs.List.{list_any}
@@ -16,7 +16,7 @@ use Rattle.iscsi_tasks.specs.declared.member.Member.{Member}
 use Rattle.iscsi_tasks.specs.Sets.{Members, tasks_in, opened as opened_set, entered_to, left_by, with_ticket, is_enabled_in, is_new, next_in, given_by}
 use Rattle.iscsi_session.specs.declared.effect.Why.TheVariants.{Stale}
 use Rattle.iscsi_session.specs.declared.effect.Effect.{Effect}
-use Rattle.iscsi_session.specs.declared.effect.Effect.TheVariants.{Deliver, Enter, Enable, Leave, Send, Ignore}
+use Rattle.iscsi_session.specs.declared.effect.Effect.TheVariants.{Enter, Enable, Leave, Send, Ignore}
 use Rattle.iscsi_session.specs.declared.effect.Numbers.{Numbers}
 use Rattle.iscsi_session.specs.declared.event.Event.{Event}
 use Rattle.iscsi_session.specs.declared.event.Event.TheVariants.{Arrive, Done}

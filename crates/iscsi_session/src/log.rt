@@ -7,6 +7,7 @@ ghost use Rattle.iscsi_session.specs.Executed.{executed, delivered};
 ghost use Rattle.iscsi_session.specs.Flow.{FlowsThrough};
 ghost use Rattle.iscsi_session.specs.Enabling.{EnablesByTheRule};
 ghost use Rattle.iscsi_session.specs.Aborts.{AbortsHoldIn};
+ghost use Rattle.iscsi_session.specs.Closes.{ClosesHoldIn};
 ghost use Rattle.iscsi_session.specs.Refusals.{RunRefusesAs, refusal_of_options, first_refusal};
 
 use crate::effect::{Effect, Numbers};
@@ -86,6 +87,9 @@ pub fn run(alloc: Global, options: Options, events: &[Event]) -> Result<Log, Ses
 
     // What a completed abort covers is over: it is in no task set, isn't answered, and isn't delivered.
     ensures aborts { IfOk result (λ log. AbortsHoldIn (setting_of options) events.now log.items) }
+
+    // In a session that was closed nothing goes on, and nothing on a connection that was.
+    ensures closes { IfOk result (λ log. ClosesHoldIn (setting_of options) events.now log.items) }
 
     // Each event receives one number at the most. ExpCmdSN and MaxCmdSN don't go back, and no more commands
     // are unfinished than the window has places.

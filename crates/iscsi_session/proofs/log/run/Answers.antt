@@ -14,6 +14,8 @@ use Rattle.iscsi_session.specs.Executed.{delivered, executed, executed_below}
 use Rattle.iscsi_session.specs.Flow.{FlowsThrough}
 use Rattle.iscsi_session.specs.Enabling.{effects_in}
 use Rattle.iscsi_session.specs.Aborts.{AbortsHoldIn}
+use Rattle.iscsi_session.specs.Closes.{ClosesHoldIn}
+use Rattle.iscsi_session.proofs.CloseTheorem.{closes_hold_run}
 use Rattle.iscsi_session.proofs.AbortTheorem.{aborts_hold_in}
 use Rattle.iscsi_session.proofs.EnablingLemmas.{log_effects, rule_means}
 use Rattle.iscsi_session.proofs.FlowLemmas.{FlowsThrough-push}
@@ -108,6 +110,14 @@ returns-clause-aborts c =
     let o : Setting = setting_of c.args.options in
     let all : take c.loop-event.event-index c.args.events.now ≡ c.args.events.now = take_all c.loop-event.event-index c.args.events.now c.loop-event-test.false in
     subst (AbortsHoldIn o c.args.events.now) (sym (c.loop-event.invariant.log ∙ ap (run_of o) all)) (aborts_hold_in o c.args.events.now)
+
+pub returns-clause-closes : goal.returns-clause-closes
+returns-clause-closes c =
+    let o : Setting = setting_of c.args.options in
+    let all : take c.loop-event.event-index c.args.events.now ≡ c.args.events.now = take_all c.loop-event.event-index c.args.events.now c.loop-event-test.false in
+    let over : drop c.loop-event.event-index c.args.events.now ≡ [] = grind (arith, common_steps) in
+    let taken : first_refusal o 0 c.args.events.now ≡ None = sym c.loop-event.invariant.refusal ∙ ap (first_refusal o c.loop-event.event-index) over in
+    subst (ClosesHoldIn o c.args.events.now) (sym (c.loop-event.invariant.log ∙ ap (run_of o) all)) (closes_hold_run o c.args.events.now taken)
 
 pub returns-clause-flow : goal.returns-clause-flow
 returns-clause-flow c =

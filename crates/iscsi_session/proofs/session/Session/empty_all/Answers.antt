@@ -1,4 +1,4 @@
-use Rattle.std.proofs.Common.{◌≡◌, ◌∙◌, ◌++◌, ap, sym, List}
+use Rattle.std.proofs.Common.{◌∙◌, ◌++◌, ap, sym, List}
 use Rattle.std.proofs.lemmas.List.{append-nil}
 use Rattle.iscsi_session.specs.declared.effect.Effect.{Effect}
 use Rattle.iscsi_session.proofs.session.Session.empty_all.Goals as goal

@@ -1,12 +1,7 @@
-use Rattle.std.proofs.Common.{◌==◌, ◌<◌, ◌≡◌, ◌∙◌, ◌++◌, ℕ, false, vec_len, length, arith, ap, sym, refl, List, [], ◌∷◌}
-use Rattle.std.proofs.lemmas.Bool.{eqb-true}
+use Rattle.std.proofs.Common.{◌==◌, ◌<◌, ◌≡◌, ℕ, false, length, arith, refl, List, [], ◌∷◌}
 use Rattle.std.proofs.lemmas.Bool.Decides.{nat_tests}
-use Rattle.std.proofs.lemmas.List.{append-nil}
-use Rattle.iscsi_session.specs.declared.effect.Effect.{Effect}
 use Rattle.iscsi_session.specs.declared.session.waiting.Waiting.{Waiting}
-use Rattle.iscsi_session.specs.Standing.{Core}
-use Rattle.iscsi_session.specs.Parting.{session_closes, waiting_then, ended_if}
-use Rattle.iscsi_session.proofs.session.Session.end_if_last.Goals as goal
+use Rattle.iscsi_session.specs.Parting.{session_closes, waiting_then}
 
 above : (n : ℕ) → (n == 0) ≡ false → 0 < n
 above n h = grind (arith, nat_tests)

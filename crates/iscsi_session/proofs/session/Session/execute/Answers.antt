@@ -1,4 +1,4 @@
-use Rattle.std.proofs.Common.{◌≡◌, ◌≤◌, ◌∙◌, ap, sym, subst, arith, length, count_by}
+use Rattle.std.proofs.Common.{◌≡◌, ap, sym, subst, arith, length, count_by}
 use Rattle.iscsi_session.specs.Standing.{Core, is_held}
 use Rattle.iscsi_session.specs.Steps.{verdict_by}
 use Rattle.iscsi_session.specs.Parting.{closing_by}

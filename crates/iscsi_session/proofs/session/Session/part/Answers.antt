@@ -1,7 +1,6 @@
-use Rattle.std.proofs.Common.{◌≡◌, ◌∙◌, ◌++◌, ℕ, true, ap, sym, List}
+use Rattle.std.proofs.Common.{◌≡◌, ◌∙◌, ◌++◌, ap}
 use Rattle.iscsi_wire.specs.declared.reply.Reply.TheVariants.{Logout}
-use Rattle.iscsi_wire.specs.Fields.{connection_of, itt}
-use Rattle.iscsi_session.specs.declared.effect.Effect.{Effect}
+use Rattle.iscsi_wire.specs.Fields.{connection_of}
 use Rattle.iscsi_session.specs.Settings.{is_known}
 use Rattle.iscsi_session.specs.Standing.{Core}
 use Rattle.iscsi_session.specs.Steps.{with_reply, reply_effects}

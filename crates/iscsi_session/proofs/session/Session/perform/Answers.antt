@@ -1,7 +1,6 @@
 use Rattle.std.proofs.Common.{◌<◌, ◌∙◌, ap, sym, subst, arith, length, is_some}
 use Rattle.iscsi_wire.specs.Fields.{cmd_sn, rtt}
 use Rattle.iscsi_window.specs.Windows.{IsSound, place_in, held_at}
-use Rattle.iscsi_session.specs.Execution.{unit_named}
 use Rattle.iscsi_session.specs.Standing.{Core}
 use Rattle.iscsi_session.proofs.ExecutionLemmas.{named_below}
 use Rattle.iscsi_session.proofs.ManageLemmas.{Emptying, outcome_empties, outcome_voids, one_waits_not, found_held}

@@ -1,4 +1,4 @@
-use Rattle.std.proofs.Common.{w64, to_z, ◌^◌, ◌≡◌, ◌==◌, ◌<◌, ◌≤◌, ◌+◌, ◌∙◌, ◌++◌, ◌∷◌, [], not, Bool, true, false, nat_lt, find, filter, List, Some, length, pos, ◌-ℤ◌, ℤ, refl, ap, sym, arith, append_assoc, eq-eqb, ℕ}
+use Rattle.std.proofs.Common.{w64, to_z, ◌^◌, ◌≡◌, ◌==◌, ◌<◌, ◌≤◌, ◌+◌, ◌∙◌, ◌++◌, ◌∷◌, [], not, Bool, true, nat_lt, find, filter, List, Some, length, pos, ◌-ℤ◌, ℤ, refl, ap, sym, arith, append_assoc, eq-eqb, ℕ}
 use Rattle.std.specs.List.{list_all}
 use Rattle.std.proofs.lemmas.Bool.{false≢true}
 use Rattle.std.proofs.lemmas.Int.{ints, to_z_pos}

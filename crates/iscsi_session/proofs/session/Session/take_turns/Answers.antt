@@ -1,4 +1,4 @@
-use Rattle.std.proofs.Common.{◌≡◌, ◌∙◌, ap, sym, subst, refl, arith, List, length, count_by}
+use Rattle.std.proofs.Common.{◌∙◌, ap, sym, subst, refl, arith, List, count_by}
 use Rattle.iscsi_window.specs.Windows.{at_place}
 use Rattle.iscsi_session.specs.declared.effect.Effect.{Effect}
 use Rattle.iscsi_session.specs.Standing.{Core, is_held}

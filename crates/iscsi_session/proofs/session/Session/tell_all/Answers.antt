@@ -1,4 +1,4 @@
-use Rattle.std.proofs.Common.{◌≡◌, ◌∙◌, ◌++◌, ◌+◌, ◌-◌, ◌<◌, ℕ, ap, sym, arith, List, length, map, get_or, set, length-set, append_assoc}
+use Rattle.std.proofs.Common.{◌≡◌, ◌∙◌, ◌++◌, ◌+◌, ◌-◌, ◌<◌, ℕ, ap, sym, arith, List, length, map, get_or, length-set, append_assoc}
 use Rattle.std.specs.List.{range_with_len, flat_map}
 use Rattle.iscsi_tasks.specs.Sets.{Members, opened}
 use Rattle.iscsi_session.specs.declared.effect.Effect.{Effect}

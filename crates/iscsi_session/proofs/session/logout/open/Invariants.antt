@@ -1,4 +1,4 @@
-use Rattle.std.proofs.Common.{◌≡◌, ◌-◌, ◌≤◌, ◌++◌, ℕ, map, take, length, vec_capacity}
+use Rattle.std.proofs.Common.{◌≡◌, ◌≤◌, ℕ, map, take, length, vec_capacity}
 use Rattle.iscsi_session.proofs.session.logout.open.Given as goal
 
 -- the CIDs of the connections so far
