@@ -406,11 +406,11 @@ executes o s t m e a event b number_is event_is k =
       | true ↦ λ is. subst (λ fm. Agrees o (managed s a.request (position_by s a.request) event) ((m ∷ fm) ∷ t) × (e ∷ managed_effects s a.request (position_by s a.request) event ≡ effects_of_item o t (m ∷ fm)))
           (sym (ap (λ v. cond v (management_marks o t' a) (cond (opcode a.request == 0x06) (logout_marks o t' a) others)) is)) (managed-item o s t m e a b (position_by s a.request) event k)
       | false ↦ λ is. elim (opcode a.request == 0x06) as (λ v. (opcode a.request == 0x06) ≡ v → Agrees o (cond v (closed_as s a.request (closing_by s a.request)) (executed_as s a.request (verdict_by s a.request))) (execution o t m a ∷ t)
-        × (e ∷ cond v (closed_effects s a.request (closing_by s a.request)) (execution_effects s a.request (verdict_by s a.request)) ≡ effects_of_item o t (execution o t m a))) [
-          | true ↦ λ out. subst (λ fm. Agrees o (closed_as s a.request (closing_by s a.request)) ((m ∷ fm) ∷ t) × (e ∷ closed_effects s a.request (closing_by s a.request) ≡ effects_of_item o t (m ∷ fm)))
-              (sym (ap (λ v. cond v (management_marks o t' a) (cond (opcode a.request == 0x06) (logout_marks o t' a) others)) is ∙ ap (λ v. cond v (logout_marks o t' a) others) out)) (logout-item o s t m e a b)
-          | false ↦ λ out. executed-item o s t m e a b is out number_is event_is
-        ] refl
+          × (e ∷ cond v (closed_effects s a.request (closing_by s a.request)) (execution_effects s a.request (verdict_by s a.request)) ≡ effects_of_item o t (execution o t m a))) [
+            | true ↦ λ out. subst (λ fm. Agrees o (closed_as s a.request (closing_by s a.request)) ((m ∷ fm) ∷ t) × (e ∷ closed_effects s a.request (closing_by s a.request) ≡ effects_of_item o t (m ∷ fm)))
+                (sym (ap (λ v. cond v (management_marks o t' a) (cond (opcode a.request == 0x06) (logout_marks o t' a) others)) is ∙ ap (λ v. cond v (logout_marks o t' a) others) out)) (logout-item o s t m e a b)
+            | false ↦ λ out. executed-item o s t m e a b is out number_is event_is
+          ] refl
     ] refl
 
 position_of : (o : Setting) (s : Core) (a : Arrival) → s.window.first ≡ o.first → number_by s a.request ≡ a.number → position_by s a.request ≡ pos a.number -ℤ pos (number_of_first o.first)

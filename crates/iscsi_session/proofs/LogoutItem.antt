@@ -392,21 +392,21 @@ module _ (o : Setting) (s : Core) (t : Trace) (m : Mark) (e : Effect) (a : Arriv
       (cond u (reply_on a bad) (cond (function r == 0) (end_session o began a) (cond (function r == 1) (cond (is_open o began (cid r)) (close_conn o began a (cid r)) (parting a 1)) (cond (function r == 2) (parting a 2) (reply_on a bad)))))) [
         | true ↦ refused bad
         | false ↦ elim (function r == 0) as (λ u. Closes (cond u Session (cond (function r == 1) (cond (is_among_open (cid r) s.open_conns) (Conn (cid r)) (Refused (Logout (itt r) 1))) (cond (function r == 2) (Refused (Logout (itt r) 2)) (Refused bad))))
-          (cond u (end_session o began a) (cond (function r == 1) (cond (is_open o began (cid r)) (close_conn o began a (cid r)) (parting a 1)) (cond (function r == 2) (parting a 2) (reply_on a bad))))) [
-            | true ↦ session_ends
-            | false ↦ elim (function r == 1) as (λ u. Closes (cond u (cond (is_among_open (cid r) s.open_conns) (Conn (cid r)) (Refused (Logout (itt r) 1))) (cond (function r == 2) (Refused (Logout (itt r) 2)) (Refused bad)))
-              (cond u (cond (is_open o began (cid r)) (close_conn o began a (cid r)) (parting a 1)) (cond (function r == 2) (parting a 2) (reply_on a bad)))) [
-                | true ↦ subst (λ v. Closes (cond v (Conn (cid r)) (Refused (Logout (itt r) 1))) (cond (is_open o began (cid r)) (close_conn o began a (cid r)) (parting a 1))) (sym (open_same (cid r)))
-                    (elim (is_open o began (cid r)) as (λ v. Closes (cond v (Conn (cid r)) (Refused (Logout (itt r) 1))) (cond v (close_conn o began a (cid r)) (parting a 1))) [
-                      | true ↦ conn_closes (cid r)
-                      | false ↦ refused (Logout (itt r) 1)
-                    ])
-                | false ↦ elim (function r == 2) as (λ u. Closes (cond u (Refused (Logout (itt r) 2)) (Refused bad)) (cond u (parting a 2) (reply_on a bad))) [
-                  | true ↦ refused (Logout (itt r) 2)
-                  | false ↦ refused bad
-                ]
-              ]
-          ]
+            (cond u (end_session o began a) (cond (function r == 1) (cond (is_open o began (cid r)) (close_conn o began a (cid r)) (parting a 1)) (cond (function r == 2) (parting a 2) (reply_on a bad))))) [
+              | true ↦ session_ends
+              | false ↦ elim (function r == 1) as (λ u. Closes (cond u (cond (is_among_open (cid r) s.open_conns) (Conn (cid r)) (Refused (Logout (itt r) 1))) (cond (function r == 2) (Refused (Logout (itt r) 2)) (Refused bad)))
+                  (cond u (cond (is_open o began (cid r)) (close_conn o began a (cid r)) (parting a 1)) (cond (function r == 2) (parting a 2) (reply_on a bad)))) [
+                    | true ↦ subst (λ v. Closes (cond v (Conn (cid r)) (Refused (Logout (itt r) 1))) (cond (is_open o began (cid r)) (close_conn o began a (cid r)) (parting a 1))) (sym (open_same (cid r)))
+                        (elim (is_open o began (cid r)) as (λ v. Closes (cond v (Conn (cid r)) (Refused (Logout (itt r) 1))) (cond v (close_conn o began a (cid r)) (parting a 1))) [
+                          | true ↦ conn_closes (cid r)
+                          | false ↦ refused (Logout (itt r) 1)
+                        ])
+                    | false ↦ elim (function r == 2) as (λ u. Closes (cond u (Refused (Logout (itt r) 2)) (Refused bad)) (cond u (parting a 2) (reply_on a bad))) [
+                      | true ↦ refused (Logout (itt r) 2)
+                      | false ↦ refused bad
+                    ]
+                  ]
+            ]
       ]
 
 pub logout-item : (o : Setting) (s : Core) (t : Trace) (m : Mark) (e : Effect) (a : Arrival) → Begun o s t m e a

@@ -1,11 +1,11 @@
 -- Worked rows, computed: what the definitions give for short recordings, beside what must come.
 use Rattle.std.specs.Prelude.{◌≡◌, ℕ, ◌+◌, ◌/◌, ◌%◌, List, [], ◌∷◌, ◌++◌, map, replicate, refl, Some, None}
-use Rattle.iscsi_wire.specs.declared.reply.Reply.TheVariants.{Scsi, Task, Nop, Reject}
+use Rattle.iscsi_wire.specs.declared.reply.Reply.TheVariants.{Scsi, Task, Logout, Nop, Reject}
 use Rattle.iscsi_wire.specs.Fields.{request_of}
 use Rattle.iscsi_tasks.specs.declared.task.Attr.TheVariants.{Simple, Ordered, Head}
 use Rattle.iscsi_session.specs.declared.effect.Effect.{Effect}
-use Rattle.iscsi_session.specs.declared.effect.Effect.TheVariants.{Deliver, Immediate, Wait, Void, Empty, Enter, Enable, Leave, Send, Ignore}
-use Rattle.iscsi_session.specs.declared.effect.Why.TheVariants.{Outside, Duplicate, Stale, Data}
+use Rattle.iscsi_session.specs.declared.effect.Effect.TheVariants.{Deliver, Immediate, Wait, Void, Empty, Enter, Enable, Leave, Send, CloseConn, CloseSession, Ignore}
+use Rattle.iscsi_session.specs.declared.effect.Why.TheVariants.{Outside, Duplicate, Closed, Stale, Data}
 use Rattle.iscsi_session.specs.declared.event.Event.{Event}
 use Rattle.iscsi_session.specs.declared.event.Event.TheVariants.{Arrive, Done}
 use Rattle.iscsi_session.specs.declared.log.Entry.{Entry}
@@ -439,3 +439,81 @@ pub tag_used_again_log : run_of (setting 1 32) tag_used_again ≡
     ∷ []
 unfolding Rules.bars_as
 tag_used_again_log = refl
+
+-- the header of a Logout Request, of this reason and CID
+abbrev pub logout : ℕ → ℕ → ℕ → ℕ → ℕ → List ℕ
+logout a reason t n cid = a ∷ (0x80 + reason) ∷ replicate 14 0 ++ word t ++ 0 ∷ cid ∷ 0 ∷ 0 ∷ word n ++ replicate 20 0
+
+-- a session of two connections
+abbrev pub of_two : ℕ → Setting
+of_two window = record (setting 1 window) { conns = (1, 1) ∷ (2, 1) ∷ [] }
+
+-- the session is closed: what is live leaves, what is held is taken out, of its own run too, and nothing is taken any more
+abbrev pub session_closes : List Event
+session_closes =
+    Arrive 1 (command 0xa3 3)
+    ∷ Arrive 1 (command 0xa4 4)
+    ∷ Arrive 1 (command 0xa1 1)
+    ∷ Arrive 2 (logout 0x06 0 0xc1 2 0)
+    ∷ Arrive 1 (command 0xa5 5)
+    ∷ Done 1 0
+    ∷ []
+
+pub session_closes_log : run_of (of_two 8) session_closes ≡
+    entry 1 8 []
+    ∷ entry 1 8 []
+    ∷ entry 2 8 (Deliver (request_of 1 (command 0xa1 1)) ∷ Enter 1 0 Simple ∷ Enable 1 0 ∷ [])
+    ∷ entry 5 12 (Deliver (request_of 2 (logout 0x06 0 0xc1 2 0)) ∷ Leave 1 0 ∷ Empty 3 ∷ Empty 4 ∷ Send 2 1 (Logout 0xc1 0) ∷ CloseSession ∷ [])
+    ∷ entry 5 12 (Ignore Closed ∷ [])
+    ∷ entry 5 12 (Ignore Stale ∷ [])
+    ∷ []
+unfolding Rules.bars_as
+session_closes_log = refl
+
+pub session_closes_executed : executed (of_two 8) session_closes ≡ request_of 1 (command 0xa1 1) ∷ request_of 2 (logout 0x06 0 0xc1 2 0) ∷ []
+unfolding Rules.bars_as
+session_closes_executed = refl
+
+-- a connection is closed by another one, which then closes itself, and the session with it
+abbrev pub connections_close : List Event
+connections_close =
+    Arrive 2 (command 0xa1 1)
+    ∷ Arrive 2 (command 0xa2 3)
+    ∷ Arrive 1 (logout 0x46 1 0xc1 2 9)
+    ∷ Arrive 1 (logout 0x46 2 0xc2 2 2)
+    ∷ Arrive 1 (logout 0x46 1 0xc3 2 2)
+    ∷ Arrive 2 (command 0xa2 2)
+    ∷ Arrive 1 (command 0xa9 3)
+    ∷ Arrive 1 (logout 0x46 1 0xc4 2 2)
+    ∷ Arrive 1 (logout 0x46 1 0xc5 2 1)
+    ∷ []
+
+pub connections_close_log : run_of (of_two 8) connections_close ≡
+    entry 2 8 (Deliver (request_of 2 (command 0xa1 1)) ∷ Enter 1 0 Simple ∷ Enable 1 0 ∷ [])
+    ∷ entry 2 8 []
+    ∷ entry 2 8 (Immediate (request_of 1 (logout 0x46 1 0xc1 2 9)) ∷ Send 1 1 (Logout 0xc1 1) ∷ [])
+    ∷ entry 2 8 (Immediate (request_of 1 (logout 0x46 2 0xc2 2 2)) ∷ Send 1 2 (Logout 0xc2 2) ∷ [])
+    ∷ entry 2 9 (Immediate (request_of 1 (logout 0x46 1 0xc3 2 2)) ∷ Leave 1 0 ∷ Empty 3 ∷ Send 1 3 (Logout 0xc3 0) ∷ CloseConn 2 ∷ [])
+    ∷ entry 2 9 (Ignore Closed ∷ [])
+    ∷ entry 2 9 (Ignore Duplicate ∷ [])
+    ∷ entry 2 9 (Immediate (request_of 1 (logout 0x46 1 0xc4 2 2)) ∷ Send 1 4 (Logout 0xc4 1) ∷ [])
+    ∷ entry 2 9 (Immediate (request_of 1 (logout 0x46 1 0xc5 2 1)) ∷ Send 1 5 (Logout 0xc5 0) ∷ CloseConn 1 ∷ CloseSession ∷ [])
+    ∷ []
+unfolding Rules.bars_as
+connections_close_log = refl
+
+-- a function that waits is dropped with its connection, and never answered
+abbrev pub waiting_dropped : List Event
+waiting_dropped =
+    Arrive 2 (function_now 2 2 0xb1 0 0)
+    ∷ Arrive 1 (logout 0x46 1 0xc1 1 2)
+    ∷ Arrive 1 (command 0xa1 1)
+    ∷ []
+
+pub waiting_dropped_log : run_of (of_two 4) waiting_dropped ≡
+    entry 1 4 (Wait (request_of 2 (function_now 2 2 0xb1 0 0)) ∷ [])
+    ∷ entry 1 4 (Immediate (request_of 1 (logout 0x46 1 0xc1 1 2)) ∷ Send 1 1 (Logout 0xc1 0) ∷ CloseConn 2 ∷ [])
+    ∷ entry 2 4 (Deliver (request_of 1 (command 0xa1 1)) ∷ Enter 1 0 Simple ∷ Enable 1 0 ∷ [])
+    ∷ []
+unfolding Rules.bars_as
+waiting_dropped_log = refl

@@ -62,7 +62,6 @@ invariant_of-result c =
       omega (arith, ap length sets, so_many c.args.options.units (opened_set c.args.options.depth), few_units),
     )
 
-
 pub returns : goal.returns
 returns c = record {
   settled =
