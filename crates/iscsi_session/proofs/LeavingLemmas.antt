@@ -71,10 +71,10 @@ any_of_filter f p (x ∷ xs) =
 
 -- ---- a command has the ticket of one that passes just where it passes
 
-abbrev alike : Bool → Bool → Bool
+abbrev pub alike : Bool → Bool → Bool
 alike a b = cond a b (not b)
 
-alike_same : (a b : Bool) → alike a b ≡ true → a ≡ b
+pub alike_same : (a b : Bool) → alike a b ≡ true → a ≡ b
 alike_same true true h = refl
 alike_same true false h = absurd (false≢true h)
 alike_same false true h = absurd (false≢true h)
@@ -86,7 +86,7 @@ same_alike true false h = absurd (false≢true (sym h))
 same_alike false true h = absurd (false≢true h)
 same_alike false false h = refl
 
-among_passing : (q : Command → Bool) (cs : List Command) → are_apart cs ≡ true → list_all (λ c. alike (is_among c.ticket (filter q cs)) (q c)) cs ≡ true
+pub among_passing : (q : Command → Bool) (cs : List Command) → are_apart cs ≡ true → list_all (λ c. alike (is_among c.ticket (filter q cs)) (q c)) cs ≡ true
 among_passing q [] apart = refl
 among_passing q (x ∷ cs) apart =
     let parts = and_parts (not (is_among x.ticket cs)) (are_apart cs) apart in
@@ -251,7 +251,7 @@ given_already o t (c ∷ cs) = ap (λ b. let m : Member = record { task = task_o
     twice true = refl
     twice false = refl
 
-none_given : (o : Setting) (t : Trace) (unit : ℕ) (cs : List Command) → enable_effects unit (map (member_of o t) cs) ≡ []
+pub none_given : (o : Setting) (t : Trace) (unit : ℕ) (cs : List Command) → enable_effects unit (map (member_of o t) cs) ≡ []
 none_given o t unit [] = refl
 none_given o t unit (c ∷ cs) =
     ap (λ b. map (λ (m : Member). Enable m.task.ticket unit) (cond b (member_of o t c ∷ filter is_new (map (member_of o t) cs)) (filter is_new (map (member_of o t) cs)))) (never (was_free c t)) ∙ none_given o t unit cs

@@ -1,16 +1,13 @@
 -- What executing a request leaves as it was: the numbers that have turned, and the events. It begins one command at the
 -- most, and a function that has waited changes no place of the window.
-use Rattle.std.proofs.Common.{◌≡◌, ℕ, ℤ, ◌+◌, ◌-◌, ◌≤◌, ◌==◌, ◌&&◌, not, cond, Bool, true, false, length, filter, count_by, is_some, Option, Some, None, refl, ap, sym, subst, ◌∙◌, arith}
-use Rattle.std.specs.List.{list_all, list_any}
-use Rattle.std.proofs.lemmas.Bool.{false≢true}
+use Rattle.std.proofs.Common.{◌≡◌, ℕ, ℤ, ◌+◌, ◌-◌, ◌≤◌, ◌==◌, not, cond, Bool, true, false, length, filter, count_by, is_some, Option, Some, None, refl, ap, sym, subst, ◌∙◌, arith}
 use Rattle.iscsi_wire.specs.declared.request.Request.{Request}
 use Rattle.iscsi_wire.specs.Serial.{number_of_first}
-use Rattle.iscsi_wire.specs.Fields.{connection_of, is_immediate, opcode, function, rtt}
+use Rattle.iscsi_wire.specs.Fields.{connection_of, is_immediate, opcode}
 use Rattle.iscsi_window.specs.declared.answer.Place.{Place}
 use Rattle.iscsi_window.specs.declared.answer.Place.TheVariants.{Inside, Outside}
 use Rattle.iscsi_window.specs.Windows.{Received, number_expected, at_place, place_in, held_at, received_at, emptied_if, with_place, with_unfinished, advanced_if}
 use Rattle.iscsi_tasks.specs.declared.task.Task.{Task}
-use Rattle.iscsi_tasks.specs.declared.cover.Cover.TheVariants.{All as AllOfThem, Below}
 use Rattle.iscsi_tasks.specs.Sets.{is_covered}
 use Rattle.iscsi_session.specs.declared.outcome.Outcome.{Outcome}
 use Rattle.iscsi_session.specs.declared.outcome.Outcome.TheVariants.{Respond, Abort, AbortAll, Empty as EmptyNumber, Void as VoidNumber}
@@ -21,16 +18,14 @@ use Rattle.iscsi_session.specs.declared.session.waiting.Waiting.{Waiting}
 use Rattle.iscsi_session.specs.declared.verdict.Verdict.{Verdict}
 use Rattle.iscsi_session.specs.declared.verdict.Verdict.TheVariants.{Nothing, Answer, Enter}
 use Rattle.iscsi_session.specs.Execution.{unit_named}
-use Rattle.iscsi_session.specs.Management.{may_wait, refusal_to}
+use Rattle.iscsi_session.specs.Management.{refusal_to}
 use Rattle.iscsi_session.specs.Standing.{Core}
 use Rattle.iscsi_session.specs.Steps.{KeepsPace, set_at, started, is_numbered, verdict_by, executed_as, with_reply}
-use Rattle.iscsi_session.specs.Functions.{is_gone, with_left, abort_by, answer_if, outcome_by, aborted, performed_as}
+use Rattle.iscsi_session.specs.Functions.{is_gone, with_left, outcome_by, aborted, performed_as}
 use Rattle.iscsi_session.specs.Parting.{closing_by, closed_as}
 use Rattle.iscsi_session.proofs.PartedLemmas.{Parts, closed_parts}
-use Rattle.iscsi_session.specs.Turning.{performed, managed, position_by, with_executed, with_advanced, next_arrived, turned_if, next_waiting, without_waiting, next_position, function_if, immediate_as}
+use Rattle.iscsi_session.specs.Turning.{performed, managed, position_by, with_executed, with_advanced, next_arrived, turned_if, without_waiting, next_position, function_if, immediate_as}
 use Rattle.iscsi_session.proofs.CountLemmas.{fewer_counted}
-use Rattle.iscsi_session.proofs.ListLemmas.{find-passes}
-use Rattle.iscsi_session.proofs.ReceiveLemmas.{no_abort_task}
 
 -- no number turns, no event is counted, and so many commands more are unfinished at the most
 pub record Stays (more : ℕ) (s s' : Core) : Type 0 where
@@ -104,36 +99,6 @@ function_stays s (Some w) =
 
 pub pace-function : (s : Core) (x : Option Waiting) → KeepsPace s.window (function_if s x).window
 pace-function s x = let h : Stays 0 s (function_if s x) = function_stays s x in omega (arith, h.unfinished, h.turned)
-
--- it is no ABORT TASK
-performed_places : (s : Core) (r : Request) (number : ℤ) (event : ℕ) → (function r == 1) ≡ false → (performed s r number event).window.places ≡ s.window.places
-performed_places s r number event other = elim (unit_named (length s.sets) r) as (λ x. (let now : Core = elim x [ Some unit ↦ performed_as s r unit (outcome_by s r number event unit) | None ↦ s ] in now.window.places) ≡ s.window.places) [
-  | Some unit ↦ to_unit unit
-  | None ↦ refl
-]
-  where
-    to_unit : (unit : ℕ) → (performed_as s r unit (outcome_by s r number event unit)).window.places ≡ s.window.places
-    to_unit unit =
-        let cover : Outcome = AbortAll (Below number event) in
-        let task : Outcome = answer_if (list_any (λ l. l.unit == unit && l.itt == rtt r) s.live) in
-        let any : Outcome = answer_if (list_any (λ l. l.unit == unit) s.live) in
-        elim (function r == 1) as (λ b. (function r == 1) ≡ b → (performed_as s r unit (cond b (abort_by s r unit) (cond (function r == 5) (AbortAll AllOfThem) (cond (function r == 9) task (cond (function r == 10) any cover))))).window.places ≡ s.window.places) [
-          | true ↦ λ is. absurd (false≢true (sym other ∙ is))
-          | false ↦ λ is. elim (function r == 5) as (λ b. (performed_as s r unit (cond b (AbortAll AllOfThem) (cond (function r == 9) task (cond (function r == 10) any cover)))).window.places ≡ s.window.places) [
-            | true ↦ refl
-            | false ↦ elim (function r == 9) as (λ b. (performed_as s r unit (cond b task (cond (function r == 10) any cover))).window.places ≡ s.window.places) [
-              | true ↦ refl
-              | false ↦ elim (function r == 10) as (λ b. (performed_as s r unit (cond b any cover)).window.places ≡ s.window.places) [
-                | true ↦ refl
-                | false ↦ refl
-              ]
-            ]
-          ]
-        ] refl
-
-pub function_places : (s : Core) (x : Option Waiting) → list_all (λ w. may_wait w.request) s.waiting ≡ true → next_waiting s ≡ x → (function_if s x).window.places ≡ s.window.places
-function_places s None may is = refl
-function_places s (Some w) may is = performed_places (without_waiting s w) w.request (next_position s) w.event (no_abort_task w.request (find-passes (λ (v : Waiting). v.turn == s.window.turned) (λ v. may_wait v.request) s.waiting w may is))
 
 -- ---- a request
 

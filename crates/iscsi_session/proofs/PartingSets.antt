@@ -1,7 +1,6 @@
 -- The live commands and the task sets after the commands of a Logout left, against what happened.
 use Rattle.std.proofs.Common.{◌≡◌, ℕ, ◌+◌, ◌<◌, ◌==◌, ◌&&◌, ◌||◌, not, cond, Bool, true, false, List, [], ◌∷◌, ◌++◌, length, map, filter, Option, Some, None, nat_lt, refl, ap, sym, subst, ◌∙◌, arith, eq-eqb, append_assoc}
 use Rattle.std.specs.List.{list_any, list_all, filter_map, flat_map, range_with_len, cons_option}
-use Rattle.std.proofs.lemmas.Bool.{false≢true}
 use Rattle.std.proofs.lemmas.Bool.Decides.{nat_tests}
 use Rattle.std.proofs.lemmas.List.{length-map, map-append}
 use Rattle.std.proofs.lemmas.List.Elements.{filter-append, filter_map-append}
@@ -11,30 +10,30 @@ use Rattle.iscsi_wire.specs.Fields.{connection_of}
 use Rattle.iscsi_window.specs.Windows.{is_asked}
 use Rattle.iscsi_tasks.specs.declared.task.Task.{Task}
 use Rattle.iscsi_tasks.specs.declared.member.Member.{Member}
-use Rattle.iscsi_tasks.specs.Sets.{Members, opened, after_moment, is_new}
+use Rattle.iscsi_tasks.specs.Sets.{Members, opened, after_moment}
 use Rattle.iscsi_session.specs.declared.effect.Effect.{Effect}
 use Rattle.iscsi_session.specs.declared.effect.Effect.TheVariants.{Enable, Leave}
 use Rattle.iscsi_session.specs.declared.session.live.Live.{Live}
 use Rattle.iscsi_session.specs.Settings.{Setting}
-use Rattle.iscsi_session.specs.Trace.{Arrival, Command, Mark, Empties, Leaves, ClosesConn, ClosesSession, Trace, has, enters, entered, leaves_ticket, live, live_in, is_among, was_free}
+use Rattle.iscsi_session.specs.Trace.{Arrival, Command, Mark, Empties, Leaves, ClosesConn, ClosesSession, Trace, has, enters, entered, leaves_ticket, live, live_in, is_among}
 use Rattle.iscsi_session.specs.Execution.{unfinished}
 use Rattle.iscsi_session.specs.Logout.{live_of_units, all_held, is_last_open, taken_out, parting, end_session, close_conn}
 use Rattle.iscsi_session.specs.Run.{newly_enabled}
 use Rattle.iscsi_session.specs.Enabling.{EnabledSoFar}
-use Rattle.iscsi_session.specs.Standing.{Core, task_of, member_of, set_of, are_apart, CommandsAgree, SetsAgree}
+use Rattle.iscsi_session.specs.Standing.{Core, task_of, member_of, set_of, CommandsAgree, SetsAgree}
 use Rattle.iscsi_session.specs.Steps.{set_at, all_given, as_given, enable_effects}
 use Rattle.iscsi_session.specs.Functions.{is_gone, set_staying, leaving_effects}
 use Rattle.iscsi_session.specs.Parting.{units_of, covers_of, all_leaving_effects, left_to, all_enable_effects}
-use Rattle.iscsi_session.proofs.BoolLemmas.{and_parts, and_both, or_none, or_false, not_true}
+use Rattle.iscsi_session.proofs.BoolLemmas.{and_parts, or_none, or_false}
 use Rattle.iscsi_session.proofs.ListLemmas.{list_any-map, list_all-filter}
-use Rattle.iscsi_session.proofs.TraceLemmas.{filter-same, weaker}
-use Rattle.iscsi_session.proofs.ApartLemmas.{eq_sym, unamong-filter}
-use Rattle.iscsi_session.proofs.EnabledLemmas.{filter_all, both_all, filter-map, new_in, new_in-none, enables, set_of-same, noted_given, noted_effects}
+use Rattle.iscsi_session.proofs.TraceLemmas.{filter-same}
+use Rattle.iscsi_session.proofs.ApartLemmas.{unamong-filter}
+use Rattle.iscsi_session.proofs.EnabledLemmas.{filter_all, filter-map, new_in, new_in-none, enables, set_of-same, noted_given, noted_effects}
 use Rattle.iscsi_session.proofs.CommandParts.{Untouched, live-untouched, LeavesSome, live_in-left, CommandsAgree-left}
 use Rattle.iscsi_session.proofs.EnablingLemmas.{EnabledSoFar-left}
 use Rattle.iscsi_session.proofs.AgreeLemmas.{units_live}
 use Rattle.iscsi_session.proofs.ExecutionLemmas.{Begun}
-use Rattle.iscsi_session.proofs.LeavingLemmas.{numbered_live, gone_tickets, leaving_shown}
+use Rattle.iscsi_session.proofs.LeavingLemmas.{numbered_live, gone_tickets, leaving_shown, alike, alike_same, among_passing, given_already, none_given}
 use Rattle.iscsi_session.proofs.PartedLemmas.{left_keeps}
 use Rattle.iscsi_session.proofs.PartingUnits.{any_in_range, flat_map_in_range, any_at, sets_left, gone_in, live_staying, effects_leaving, unfinished_left}
 
@@ -93,69 +92,6 @@ any_in_units p n (x ∷ cs) inside =
           | true ↦ ap (λ b. b || list_any p rest) is
           | false ↦ refl
         ]
-
--- ---- a command has the ticket of one that passes just where it passes
-
-abbrev alike : Bool → Bool → Bool
-alike a b = cond a b (not b)
-
-alike_same : (a b : Bool) → alike a b ≡ true → a ≡ b
-alike_same true true h = refl
-alike_same true false h = absurd (false≢true h)
-alike_same false true h = absurd (false≢true h)
-alike_same false false h = refl
-
-same_alike : (a b : Bool) → a ≡ b → alike a b ≡ true
-same_alike true true h = refl
-same_alike true false h = absurd (false≢true (sym h))
-same_alike false true h = absurd (false≢true h)
-same_alike false false h = refl
-
-none_passes : {A : Type 0} (p : A → Bool) (xs : List A) → list_any p xs ≡ false → list_all (λ x. not (p x)) xs ≡ true
-none_passes p [] h = refl
-none_passes p (x ∷ xs) h =
-    let parts = or_none (p x) (list_any p xs) h in
-    and_both (not (p x)) (list_all (λ y. not (p y)) xs) (ap not parts.0) (none_passes p xs parts.1)
-
-among_passing : (q : Command → Bool) (cs : List Command) → are_apart cs ≡ true → list_all (λ c. alike (is_among c.ticket (filter q cs)) (q c)) cs ≡ true
-among_passing q [] apart = refl
-among_passing q (x ∷ cs) apart =
-    let parts = and_parts (not (is_among x.ticket cs)) (are_apart cs) apart in
-    let rest : List Command = filter q cs in
-    let gone : is_among x.ticket cs ≡ false = not_true (is_among x.ticket cs) parts.0 in
-    and_both (alike (is_among x.ticket (filter q (x ∷ cs))) (q x)) (list_all (λ c. alike (is_among c.ticket (filter q (x ∷ cs))) (q c)) cs)
-    (elim (q x) as (λ b. alike (is_among x.ticket (cond b (x ∷ rest) rest)) b ≡ true) [
-      | true ↦ same_alike (is_among x.ticket (x ∷ rest)) true (ap (λ b. b || is_among x.ticket rest) (eq-eqb x.ticket x.ticket refl))
-      | false ↦ same_alike (is_among x.ticket rest) false (unamong-filter q x.ticket cs gone)
-    ])
-    (weaker (λ c. not (c.ticket == x.ticket) && alike (is_among c.ticket rest) (q c)) (λ c. alike (is_among c.ticket (filter q (x ∷ cs))) (q c)) cs
-    (λ c h.
-    let both = and_parts (not (c.ticket == x.ticket)) (alike (is_among c.ticket rest) (q c)) h in
-    let apart_here : (x.ticket == c.ticket) ≡ false = eq_sym x.ticket c.ticket ∙ not_true (c.ticket == x.ticket) both.0 in
-    elim (q x) as (λ b. alike (is_among c.ticket (cond b (x ∷ rest) rest)) (q c) ≡ true) [
-      | true ↦ ap (λ b. alike (b || is_among c.ticket rest) (q c)) apart_here ∙ both.1
-      | false ↦ both.1
-    ])
-    (both_all (λ c. not (c.ticket == x.ticket)) (λ c. alike (is_among c.ticket rest) (q c)) cs (none_passes (λ c. c.ticket == x.ticket) cs gone) (among_passing q cs parts.1)))
-
--- ---- a set that nothing leaves: each enabled command was given
-
-given_already : (o : Setting) (t : Trace) (cs : List Command) → map as_given (map (member_of o t) cs) ≡ map (member_of o t) cs
-given_already o t [] = refl
-given_already o t (c ∷ cs) = ap (λ b. let m : Member = record { task = task_of o c; enabled = was_free c t; given = b } in m ∷ map as_given (map (member_of o t) cs)) (twice (was_free c t)) ∙ ap (λ ms. member_of o t c ∷ ms) (given_already o t cs)
-  where
-    twice : (b : Bool) → (b || b) ≡ b
-    twice true = refl
-    twice false = refl
-
-none_given : (o : Setting) (t : Trace) (unit : ℕ) (cs : List Command) → enable_effects unit (map (member_of o t) cs) ≡ []
-none_given o t unit [] = refl
-none_given o t unit (c ∷ cs) =
-    ap (λ b. map (λ (m : Member). Enable m.task.ticket unit) (cond b (member_of o t c ∷ filter is_new (map (member_of o t) cs)) (filter is_new (map (member_of o t) cs)))) (never (was_free c t)) ∙ none_given o t unit cs
-  where
-    never : (b : Bool) → (b && not b) ≡ false
-    never true = refl
-    never false = refl
 
 -- ---- the commands of a Logout
 
