@@ -4,7 +4,11 @@ use super::*;
 
 const NOP_OUT: u8 = 0x00;
 
+const TASK_MANAGEMENT: u8 = 0x02;
+
 const TEXT: u8 = 0x04;
+
+const LOGOUT: u8 = 0x06;
 
 /// The I bit.
 const IMMEDIATE: u8 = 0x40;
@@ -182,5 +186,50 @@ fn an_immediate_command_takes_no_number_and_no_place(rt: HostRuntime) -> Result<
         &mut out,
     )?;
     assert_eq!(rt; numbers, Numbers { exp: 2, max: 1 });
+    Ok(())
+}
+
+#[test]
+fn a_function_that_waits_counts_in_the_bound(rt: HostRuntime) -> Result<(), Fail> {
+    let alloc = rt.alloc();
+    let mut session = Session::open(alloc, options(alloc, &[(1, 1)])?)?;
+    // ABORT TASK SET
+    let mut function = header_of(IMMEDIATE | TASK_MANAGEMENT, 2, 0xb1);
+    function[1] = 0x82;
+    let request = Request::read(1, &function);
+    let effects = arrive(alloc, &mut session, 1, function)?;
+    assert_eq!(rt; effects.as_slice(), [Effect::Wait { request }].as_slice());
+    assert_eq!(rt; session.effect_bound(), 24);
+    // and no more where a Logout of the session dropped it
+    let mut logout = header_of(IMMEDIATE | LOGOUT, 1, 0xc1);
+    logout[1] = 0x80;
+    arrive(alloc, &mut session, 1, logout)?;
+    assert_eq!(rt; session.effect_bound(), 12);
+    Ok(())
+}
+
+#[test]
+fn a_connection_closes_with_its_command(rt: HostRuntime) -> Result<(), Fail> {
+    let alloc = rt.alloc();
+    let mut session = Session::open(alloc, options(alloc, &[(1, 1), (2, 1)])?)?;
+    arrive(alloc, &mut session, 2, command(1, 0xa1))?;
+    // reason 1, of the connection with CID 2
+    let mut logout = header_of(IMMEDIATE | LOGOUT, 2, 0xc1);
+    logout[21] = 2;
+    let reply = Reply::Logout {
+        itt: 0xc1,
+        response: 0,
+    };
+    let closed = [
+        immediate(1, logout),
+        Effect::Leave { ticket: 1, unit: 0 },
+        send(1, 1, reply),
+        Effect::CloseConn { conn: 2 },
+    ];
+    let effects = arrive(alloc, &mut session, 1, logout)?;
+    assert_eq!(rt; effects.as_slice(), closed.as_slice());
+    let ignored = [Effect::Ignore { why: Why::Closed }];
+    let effects = arrive(alloc, &mut session, 2, command(2, 0xa2))?;
+    assert_eq!(rt; effects.as_slice(), ignored.as_slice());
     Ok(())
 }
