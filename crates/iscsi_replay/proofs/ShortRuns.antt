@@ -5,8 +5,8 @@ use Rattle.std.proofs.lemmas.List.Elements.{All-nil, All-cons, All-head, All-tai
 use Rattle.std.proofs.lemmas.Fmt.{length-decimal-le}
 use Rattle.iscsi_wire.specs.declared.reply.Sense.{Sense}
 use Rattle.iscsi_wire.specs.declared.reply.Reply.{Reply}
-use Rattle.iscsi_wire.specs.declared.reply.Reply.TheVariants.{Scsi, Task, Nop, Reject}
-use Rattle.iscsi_wire.specs.Fields.{request_of, connection_of, header_of, is_immediate, opcode, function, itt, rtt, ref_cmd_sn, attr_code}
+use Rattle.iscsi_wire.specs.declared.reply.Reply.TheVariants.{Scsi, Task, Logout, Nop, Reject}
+use Rattle.iscsi_wire.specs.Fields.{request_of, connection_of, header_of, is_immediate, opcode, function, itt, rtt, cid, ref_cmd_sn, attr_code}
 use Rattle.iscsi_wire.specs.Serial.{lift}
 use Rattle.iscsi_session.specs.declared.effect.Effect.TheVariants.{Enable}
 use Rattle.iscsi_session.specs.declared.event.Event.{Event}
@@ -16,9 +16,10 @@ use Rattle.iscsi_session.specs.declared.kind.Kind.TheVariants.{PassedOver, Unkno
 use Rattle.iscsi_session.specs.declared.verdict.Verdict.{Verdict}
 use Rattle.iscsi_session.specs.declared.verdict.Verdict.TheVariants.{Nothing, Answer, Enter}
 use Rattle.iscsi_session.specs.Settings.{Setting}
-use Rattle.iscsi_session.specs.Trace.{Arrival, Command, Mark, Admits, Delivers, Executes, Voids, Empties, Waits, Leaves, Enters, Sends, Ignores, Trace, after_items, shown, first_of, admits_at, is_delivered, is_emptied, is_received, admitted, held, waiting, live_in}
+use Rattle.iscsi_session.specs.Trace.{Arrival, Command, Mark, Admits, Delivers, Executes, Voids, Empties, Waits, Leaves, Enters, Sends, ClosesConn, ClosesSession, Ignores, Trace, after_items, shown, first_of, admits_at, is_delivered, is_emptied, is_received, admitted, held, waiting, live_in, is_closed}
 use Rattle.iscsi_session.specs.Execution.{exp_of, max_of, NO_TAG, unit_named, no_unit, scsi_to, scsi_verdict, request_verdict, verdict_of, is_tag_live, is_crowded, place_named, reply_on, marks_of, sense_of_status, completion}
 use Rattle.iscsi_session.specs.Management.{is_supported, may_wait, refusal_to, refusal_of_function, MOST_WAITING, waiting_on, answer, held_command, live_with_tag, abort_missing, abort_task, is_before, abort_all, query, function_to, function_marks, management_marks}
+use Rattle.iscsi_session.specs.Logout.{is_open, is_last_open, live_of_units, all_held, taken_out, parting, end_session, close_conn, logout_marks}
 use Rattle.iscsi_session.specs.Items.{marks_after, execution, item_of, waiting_item, immediate_item, function_item, is_waiting, functions, functions_at, turn_at, at_number, agenda}
 use Rattle.iscsi_session.specs.Agenda.{with_turns, numbered, kind_of, arrival_as, arrival, arrival_of, command_of, items_of}
 use Rattle.iscsi_session.specs.Run.{after_event, effects_of_mark, newly_enabled, effects_of_item, effects_of, entries_from, entry_of, run_of}
@@ -35,6 +36,9 @@ IsSmall a = (connection_of a.request < 2 ^ 16) × (length (header_of a.request) 
 
 short_task : (conn tag response : ℕ) → IsShortReply conn (Task tag response)
 short_task conn tag response = omega (arith, decimal_length conn)
+
+short_logout : (conn tag response : ℕ) → IsShortReply conn (Logout tag response)
+short_logout conn tag response = omega (arith, decimal_length conn)
 
 short_nop : (conn tag : ℕ) → IsShortReply conn (Nop tag)
 short_nop conn tag = omega (arith, decimal_length conn)
@@ -113,6 +117,8 @@ admits_small n (Waits a) x = tt
 admits_small n (Leaves c) x = tt
 admits_small n (Enters c) x = tt
 admits_small n (Sends conn reply) x = tt
+admits_small n (ClosesConn conn) x = tt
+admits_small n ClosesSession x = tt
 admits_small n (Ignores why) x = tt
 
 item_admits : (n : ℕ) (item : List Mark) → AreShortMarks item → AreSmall (filter_map (admits_at n) item)
@@ -241,12 +247,49 @@ management_short o t a small = by_refusal (refusal_of_function o a.request) (ref
     by_refusal (Some reply) h = (h, tt)
     by_refusal None h = function_short o t a
 
+-- ---- Logout
+
+empties_short : (as' : List Arrival) → AreShortMarks (map Empties as')
+empties_short [] = tt
+empties_short (a ∷ as') = (tt, empties_short as')
+
+taken_short : (o : Setting) (t : Trace) (of_these : ℕ → Bool) → AreShortMarks (taken_out o t of_these)
+taken_short o t of_these =
+    leaves_short (filter (λ (c : Command). of_these (connection_of c.arrival.request)) (live_of_units o t)) _
+    (empties_short (filter (λ (a : Arrival). of_these (connection_of a.request)) (all_held o t)))
+
+parting_short : (a : Arrival) (response : ℕ) → AreShortMarks (parting a response)
+parting_short a response = (short_logout (connection_of a.request) (itt a.request) response, tt)
+
+-- those are taken out, the Logout is answered, and then comes a closing
+closed_short : (o : Setting) (t : Trace) (a : Arrival) (of_these : ℕ → Bool) (last : List Mark) → AreShortMarks last → AreShortMarks (taken_out o t of_these ++ parting a 0 ++ last)
+closed_short o t a of_these last =
+    marks_joined (taken_out o t of_these ++ parting a 0) last
+    (marks_joined (taken_out o t of_these) (parting a 0) (taken_short o t of_these) (parting_short a 0))
+
+end_short : (o : Setting) (t : Trace) (a : Arrival) → AreShortMarks (end_session o t a)
+end_short o t a = closed_short o t a (λ conn. true) (ClosesSession ∷ []) (tt, tt)
+
+close_short : (o : Setting) (t : Trace) (a : Arrival) (closing : ℕ) → AreShortMarks (close_conn o t a closing)
+close_short o t a closing =
+    closed_short o t a (λ conn. conn == closing) (ClosesConn closing ∷ cond (is_last_open o t closing) (ClosesSession ∷ []) [])
+    (tt, either AreShortMarks (is_last_open o t closing) (ClosesSession ∷ []) [] (tt, tt) tt)
+
+logout_short : (o : Setting) (t : Trace) (a : Arrival) → IsSmall a → AreShortMarks (logout_marks o t a)
+logout_short o t a small =
+    either AreShortMarks (itt a.request == NO_TAG) _ _ (short_reject a 9 small, tt)
+    (either AreShortMarks (function a.request == 0) _ _ (end_short o t a)
+    (either AreShortMarks (function a.request == 1) _ _
+    (either AreShortMarks (is_open o t (cid a.request)) _ _ (close_short o t a (cid a.request)) (parting_short a 1))
+    (either AreShortMarks (function a.request == 2) _ _ (parting_short a 2) (short_reject a 9 small, tt))))
+
 -- ---- items
 
 after_mark : (o : Setting) (t : Trace) (a : Arrival) → IsSmall a → AreShortMarks (marks_after o t a)
 after_mark o t a small =
     either AreShortMarks (opcode a.request == 2) _ _ (management_short o t a small)
-    (marks_short t a (verdict_of o t a.request) (verdict_short a (is_tag_live t (itt a.request)) (is_crowded t a.request) (place_named o t a.request) small))
+    (either AreShortMarks (opcode a.request == 6) _ _ (logout_short o t a small)
+    (marks_short t a (verdict_of o t a.request) (verdict_short a (is_tag_live t (itt a.request)) (is_crowded t a.request) (place_named o t a.request) small)))
 
 executes_short : (o : Setting) (t : Trace) (a : Arrival) → IsSmall a → AreShortMarks (execution o t (Executes a) a)
 executes_short o t a small = (tt, after_mark o ((Executes a ∷ []) ∷ t) a small)
@@ -311,7 +354,7 @@ numbered_short o t a x small =
     (either AreShortItems (is_received t a.number) _ _ ((tt, tt), tt) (turns_short o t (Admits a ∷ []) x (small, tt)))
 
 arrival_short : (o : Setting) (t : Trace) (a : Arrival) → AreShortItems t → IsSmall a → AreShortItems (arrival o t a)
-arrival_short o t a x small = by_kind (kind_of a.request)
+arrival_short o t a x small = either AreShortItems (is_closed (connection_of a.request) t) _ _ ((tt, tt), tt) (by_kind (kind_of a.request))
   where
     by_kind : (k : Kind) → AreShortItems (arrival_as o t a k)
     by_kind PassedOver = ((tt, tt), tt)
@@ -338,6 +381,8 @@ mark_effects o t (Waits a) h = All-cons IsShortEffect _ [] tt (All-nil IsShortEf
 mark_effects o t (Leaves c) h = All-cons IsShortEffect _ [] tt (All-nil IsShortEffect)
 mark_effects o t (Enters c) h = All-cons IsShortEffect _ [] tt (All-nil IsShortEffect)
 mark_effects o t (Sends conn reply) h = All-cons IsShortEffect _ [] h (All-nil IsShortEffect)
+mark_effects o t (ClosesConn conn) h = All-cons IsShortEffect _ [] tt (All-nil IsShortEffect)
+mark_effects o t ClosesSession h = All-cons IsShortEffect _ [] tt (All-nil IsShortEffect)
 mark_effects o t (Ignores why) h = All-cons IsShortEffect _ [] tt (All-nil IsShortEffect)
 
 marks_effects : (o : Setting) (t : Trace) (ms : List Mark) → AreShortMarks ms → All IsShortEffect (flat_map (effects_of_mark o t) ms)
