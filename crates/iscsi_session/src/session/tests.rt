@@ -4,9 +4,6 @@ use std::alloc::{AllocError, Global};
 use std::process::Abort;
 use std::test::Fail;
 
-mod commands;
-mod requests;
-
 /// Options within their limits, over these connections.
 fn options(alloc: Global, conns: &[(u16, u32)]) -> Result<Options, AllocError> {
     Ok(Options {
@@ -82,29 +79,27 @@ fn opens_within_the_limits(rt: HostRuntime) -> Result<(), Fail> {
 #[test]
 fn refuses_options_outside_the_limits(rt: HostRuntime) -> Result<(), Fail> {
     let alloc = rt.alloc();
-    for window in [0, 1025] {
-        let mut bad = options(alloc, &[(1, 1)])?;
-        bad.window = window;
-        refuses(&rt, alloc, bad);
-    }
-    for units in [0, 257] {
-        let mut bad = options(alloc, &[(1, 1)])?;
-        bad.units = units;
-        refuses(&rt, alloc, bad);
-    }
-    for depth in [0, 1025] {
-        let mut bad = options(alloc, &[(1, 1)])?;
-        bad.depth = depth;
-        refuses(&rt, alloc, bad);
-    }
-    for level in [0, 3] {
-        let mut bad = options(alloc, &[(1, 1)])?;
-        bad.level = level;
-        refuses(&rt, alloc, bad);
-    }
-    for events in [0, (1 << 48) + 1] {
-        let mut bad = options(alloc, &[(1, 1)])?;
-        bad.events = events;
+    for (window, units, depth, level, events) in [
+        (0, 1, 64, 1, 1000),
+        (1025, 1, 64, 1, 1000),
+        (32, 0, 64, 1, 1000),
+        (32, 257, 64, 1, 1000),
+        (32, 1, 0, 1, 1000),
+        (32, 1, 1025, 1, 1000),
+        (32, 1, 64, 0, 1000),
+        (32, 1, 64, 3, 1000),
+        (32, 1, 64, 1, 0),
+        (32, 1, 64, 1, (1 << 48) + 1),
+    ] {
+        let bad = Options {
+            first: 1,
+            window,
+            units,
+            depth,
+            level,
+            events,
+            conns: [(1, 1)].to_vec(alloc)?,
+        };
         refuses(&rt, alloc, bad);
     }
     Ok(())
@@ -185,92 +180,6 @@ fn a_refused_event_changes_nothing(rt: HostRuntime) -> Result<(), Fail> {
     );
     assert_eq!(rt; session.step(&done, &mut out), Err(SessionFault::Exhausted));
     assert_eq!(rt; out.len(), 1);
-    Ok(())
-}
-
-#[test]
-fn requests_wait_until_no_gap_is_left(rt: HostRuntime) -> Result<(), Fail> {
-    let alloc = rt.alloc();
-    let mut session = Session::open(alloc, options(alloc, &[(1, 1), (2, 1)])?)?;
-    let mut out = Vec::new(alloc);
-    for (conn, cmd_sn, bound) in [(2, 4, 24), (1, 3, 36), (2, 2, 48)] {
-        let numbers = session.step(&arrival(conn, cmd_sn, cmd_sn), &mut out)?;
-        assert_eq!(rt; numbers, Numbers { exp: 1, max: 0x20 });
-        assert_eq!(rt; out.len(), 0);
-        assert_eq!(rt; session.effect_bound(), bound);
-    }
-    let numbers = session.step(&arrival(1, 1, 1), &mut out)?;
-    assert_eq!(rt; numbers, Numbers { exp: 5, max: 0x20 });
-    assert_eq!(rt; session.effect_bound(), 20);
-    assert_eq!(rt; out.len(), 12);
-    let turns = [(1, 1), (2, 2), (1, 3), (2, 4)];
-    for (effects, (conn, cmd_sn)) in out.as_slice().chunks(3).zip(turns) {
-        let turn = turn(conn, cmd_sn, cmd_sn, u64::from(cmd_sn));
-        assert_eq!(rt; effects, turn.as_slice(), "at {cmd_sn}");
-    }
-    Ok(())
-}
-
-#[test]
-fn a_number_counts_once(rt: HostRuntime) -> Result<(), Fail> {
-    let alloc = rt.alloc();
-    let mut narrow = options(alloc, &[(1, 1)])?;
-    narrow.window = 4;
-    narrow.events = 1002;
-    let mut session = Session::open(alloc, narrow)?;
-    let mut out = Vec::new(alloc);
-    session.step(&arrival(1, 2, 0xa2), &mut out)?;
-    assert_eq!(rt; out.len(), 0);
-    assert_eq!(rt; session.effect_bound(), 24);
-    for _ in 0..1000 {
-        out.clear();
-        let numbers = session.step(&arrival(1, 2, 0xb2), &mut out)?;
-        assert_eq!(rt; numbers, Numbers { exp: 1, max: 4 });
-        let duplicate = Effect::Ignore {
-            why: Why::Duplicate,
-        };
-        assert_eq!(rt; out.as_slice(), [duplicate].as_slice());
-        assert_eq!(rt; session.effect_bound(), 24);
-    }
-    // the first of them is the one that is held
-    out.clear();
-    session.step(&arrival(1, 1, 0xa1), &mut out)?;
-    assert_eq!(rt; out.len(), 6);
-    assert_eq!(rt; &out[3..], turn(1, 2, 0xa2, 2).as_slice());
-    Ok(())
-}
-
-#[test]
-fn numbers_outside_are_passed_over(rt: HostRuntime) -> Result<(), Fail> {
-    let alloc = rt.alloc();
-    let mut narrow = options(alloc, &[(1, 1)])?;
-    narrow.first = 0x10;
-    narrow.window = 4;
-    let mut session = Session::open(alloc, narrow)?;
-    let mut out = Vec::new(alloc);
-    for cmd_sn in [
-        0xf,
-        0x14,
-        0x8000_000f,
-        0x8000_0010,
-        0x8000_0011,
-        0xffff_ffff,
-    ] {
-        out.clear();
-        let numbers = session.step(&arrival(1, cmd_sn, 0xa1), &mut out)?;
-        assert_eq!(rt;
-            numbers,
-            Numbers {
-                exp: 0x10,
-                max: 0x13
-            }
-        );
-        let outside = Effect::Ignore { why: Why::Outside };
-        assert_eq!(rt; out.as_slice(), [outside].as_slice(), "at {cmd_sn}");
-    }
-    out.clear();
-    session.step(&arrival(1, 0x13, 0xa1), &mut out)?;
-    assert_eq!(rt; out.len(), 0);
     Ok(())
 }
 
