@@ -1,5 +1,5 @@
 use crate::{Attr, Effect, Event, Numbers, Options, Session, SessionFault, Why};
-use iscsi_wire::{Reply, Request, Sense};
+use iscsi_wire::{Reply, Request};
 use std::alloc::{AllocError, Global};
 use std::process::Abort;
 use std::test::Fail;
