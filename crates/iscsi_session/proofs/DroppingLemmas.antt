@@ -1,14 +1,14 @@
 -- Held requests are taken out one after the other.
-use Rattle.std.proofs.Common.{◌≡◌, ℕ, suc, ◌+◌, ◌<◌, ◌&&◌, cond, Bool, true, false, List, [], ◌∷◌, ◌++◌, length, map, set, count_by, is_some, position, option_map, length-set, Option, Some, None, refl, ap, sym, subst, ◌∙◌, arith}
+use Rattle.std.proofs.Common.{◌≡◌, ℕ, zero, suc, ◌+◌, ◌<◌, ◌&&◌, cond, Bool, true, false, List, [], ◌∷◌, ◌++◌, length, map, set, take, slice_index_or, not, count_by, is_some, position, option_map, length-set, Option, Some, None, refl, ap, sym, subst, ◌∙◌, arith}
 use Rattle.std.specs.List.{list_all}
 use Rattle.std.proofs.lemmas.Bool.{false≢true}
 use Rattle.std.proofs.lemmas.List.Sums.{sum_by-cons}
 use Rattle.iscsi_wire.specs.declared.request.Request.{Request}
 use Rattle.iscsi_wire.specs.Serial.{wire}
-use Rattle.iscsi_window.specs.Windows.{Received, number_expected, is_held_from, first_from, dropped_at}
+use Rattle.iscsi_window.specs.Windows.{Received, number_expected, number_shown, at_place, with_place, is_held_from, dropped_at}
 use Rattle.iscsi_session.specs.declared.effect.Effect.TheVariants.{Empty}
 use Rattle.iscsi_session.specs.Standing.{is_held, is_place_known}
-use Rattle.iscsi_session.specs.Parting.{emptied_place, emptied_from}
+use Rattle.iscsi_session.specs.Parting.{emptied_place, emptied_from, is_clear_below}
 use Rattle.iscsi_session.proofs.FindLemmas.{position-cons}
 use Rattle.iscsi_session.proofs.BoolLemmas.{and_parts}
 
@@ -91,32 +91,67 @@ undropped whose n (p ∷ ps) none = by_test (undropped whose (n + 1) ps) (is_hel
           effects = ap (λ b. cond b (Empty (wire n) ∷ []) [] ++ emptied_from (n + 1) whose ps) is ∙ u.effects;
         }
 
+-- ---- place after place
+
+not_so : (b : Bool) → not b ≡ true → b ≡ false
+not_so true h = absurd (false≢true h)
+not_so false h = refl
+
+-- the request of the first place after those without one
+first_place : (whose : Option ℕ) (k : ℕ) (ps : List (Option (Option Request))) → is_clear_below whose k ps ≡ true → is_held_from whose (slice_index_or ps k None) ≡ true → position (is_held_from whose) ps ≡ Some k
+first_place whose k [] clear held = absurd (false≢true held)
+first_place whose zero (p ∷ ps) clear held = position-cons (is_held_from whose) p ps ∙ ap (λ b. cond b (Some 0) (option_map suc (position (is_held_from whose) ps))) held
+first_place whose (suc k) (p ∷ ps) clear held =
+    let parts = and_parts (not (is_held_from whose p)) (is_clear_below whose k ps) clear in
+    position-cons (is_held_from whose) p ps
+    ∙ ap (λ b. cond b (Some 0) (option_map suc (position (is_held_from whose) ps))) (not_so (is_held_from whose p) parts.0)
+    ∙ ap (option_map suc) (first_place whose k ps parts.1 held)
+
+-- where no place has one, there is none
+no_place : (whose : Option ℕ) (ps : List (Option (Option Request))) → is_clear_below whose (length ps) ps ≡ true → position (is_held_from whose) ps ≡ None
+no_place whose [] clear = refl
+no_place whose (p ∷ ps) clear =
+    let parts = and_parts (not (is_held_from whose p)) (is_clear_below whose (length ps) ps) clear in
+    position-cons (is_held_from whose) p ps
+    ∙ ap (λ b. cond b (Some 0) (option_map suc (position (is_held_from whose) ps))) (not_so (is_held_from whose p) parts.0)
+    ∙ ap (option_map suc) (no_place whose ps parts.1)
+
+-- a place more
+clear_past : (whose : Option ℕ) (k : ℕ) (ps : List (Option (Option Request))) → is_clear_below whose k ps ≡ true → is_held_from whose (slice_index_or ps k None) ≡ false → is_clear_below whose (suc k) ps ≡ true
+clear_past whose k [] clear none = refl
+clear_past whose zero (p ∷ ps) clear none = ap (λ b. not b && true) none
+clear_past whose (suc k) (p ∷ ps) clear none =
+    let parts = and_parts (not (is_held_from whose p)) (is_clear_below whose k ps) clear in
+    ap (λ b. b && is_clear_below whose (suc k) ps) parts.0 ∙ clear_past whose k ps parts.1 none
+
+-- the one that is taken out
+clear_set : (whose : Option ℕ) (k : ℕ) (ps : List (Option (Option Request))) → is_clear_below whose k ps ≡ true → is_clear_below whose (suc k) (set ps k (Some None)) ≡ true
+clear_set whose k [] clear = refl
+clear_set whose zero (p ∷ ps) clear = refl
+clear_set whose (suc k) (p ∷ ps) clear =
+    let parts = and_parts (not (is_held_from whose p)) (is_clear_below whose k ps) clear in
+    ap (λ b. b && is_clear_below whose (suc k) (set ps k (Some None))) parts.0 ∙ clear_set whose k ps parts.1
+
 -- ---- of a window
 
-pub map_none : {A B : Type 0} (f : A → B) (x : Option A) → option_map f x ≡ None → x ≡ None
-map_none f None h = refl
-map_none f (Some a) h = absurd cc
-
-pub map_some : {A B : Type 0} (f : A → B) (x : Option A) (b : B) → option_map f x ≡ Some b → (a : A) × ((x ≡ Some a) × (b ≡ f a))
-map_some f None b h = absurd cc
-map_some f (Some a) b h = (a, (refl, cc))
-
--- a request is taken out of a window, at this place
+-- the request of a place is taken out of a window
 pub record DroppedOne (w w' : Received) (whose : Option ℕ) (k : ℕ) : Type 0 where
   pub first : w'.first ≡ w.first
   pub turned : w'.turned ≡ w.turned
   pub unfinished : w'.unfinished ≡ w.unfinished
   pub long : length w'.places ≡ length w.places
   pub rest : map (emptied_place whose) w'.places ≡ map (emptied_place whose) w.places
-  pub effects : emptied_from (number_expected w) whose w.places ≡ Empty (wire (number_expected w + k)) ∷ emptied_from (number_expected w) whose w'.places
+  pub effects : emptied_from (number_expected w) whose w.places ≡ Empty (number_shown w k) ∷ emptied_from (number_expected w) whose w'.places
   pub held : count_by is_held w'.places + 1 ≡ count_by is_held w.places
   pub counted : count_by is_some w'.places ≡ count_by is_some w.places
   pub known : (conns : List (ℕ × ℕ)) → list_all (is_place_known conns) w.places ≡ true → list_all (is_place_known conns) w'.places ≡ true
+  pub clear : is_clear_below whose (k + 1) w'.places ≡ true
 
-pub dropped_one : (w : Received) (whose : Option ℕ) (k : ℕ) → first_from w whose ≡ Some k → DroppedOne w (dropped_at w (first_from w whose)) whose k
-dropped_one w whose k found =
-    let d : Dropped whose (number_expected w) w.places k = dropped_first whose (number_expected w) w.places k found in
-    subst (λ (x : Option ℕ). DroppedOne w (dropped_at w x) whose k) (sym found) (record {
+pub dropped_one : (w : Received) (whose : Option ℕ) (k : ℕ) → is_clear_below whose k w.places ≡ true → is_held_from whose (at_place w k) ≡ true → DroppedOne w (dropped_at w k whose) whose k
+dropped_one w whose k clear held =
+    let d : Dropped whose (number_expected w) w.places k = dropped_first whose (number_expected w) w.places k (first_place whose k w.places clear held) in
+    let same : with_place w k (Some None) ≡ dropped_at w k whose = sym (ap (λ b. let v : Received = cond b (with_place w k (Some None)) w in v) held) in
+    subst (λ (v : Received). DroppedOne w v whose k) same (record {
       first = refl;
       turned = refl;
       unfinished = refl;
@@ -126,15 +161,41 @@ dropped_one w whose k found =
       held = d.held;
       counted = d.counted;
       known = d.known;
+      clear = ap (λ n. is_clear_below whose n (set w.places k (Some None))) (let z : k + 1 ≡ suc k = omega arith in z) ∙ clear_set whose k w.places clear;
     })
 
--- there is none
-pub record DroppedNone (w w' : Received) (whose : Option ℕ) : Type 0 where
+-- a place without one
+pub record DroppedNone (w w' : Received) (whose : Option ℕ) (k : ℕ) : Type 0 where
   pub same : w' ≡ w
+  pub clear : is_clear_below whose (k + 1) w.places ≡ true
+
+pub dropped_none : (w : Received) (whose : Option ℕ) (k : ℕ) → is_clear_below whose k w.places ≡ true → is_held_from whose (at_place w k) ≡ false → DroppedNone w (dropped_at w k whose) whose k
+dropped_none w whose k clear none = record {
+  same = ap (λ b. let v : Received = cond b (with_place w k (Some None)) w in v) none;
+  clear = ap (λ n. is_clear_below whose n w.places) (let z : k + 1 ≡ suc k = omega arith in z) ∙ clear_past whose k w.places clear none;
+}
+
+-- at the end nothing is to be taken out
+pub record DroppedAll (w : Received) (whose : Option ℕ) : Type 0 where
   pub rest : map (emptied_place whose) w.places ≡ w.places
   pub effects : emptied_from (number_expected w) whose w.places ≡ []
 
-pub dropped_none : (w : Received) (whose : Option ℕ) → first_from w whose ≡ None → DroppedNone w (dropped_at w (first_from w whose)) whose
-dropped_none w whose none =
-    let u : Undropped whose (number_expected w) w.places = undropped whose (number_expected w) w.places none in
-    record { same = ap (dropped_at w) none; rest = u.rest; effects = u.effects }
+pub dropped_all : (w : Received) (whose : Option ℕ) (k : ℕ) → k ≡ length w.places → is_clear_below whose k w.places ≡ true → DroppedAll w whose
+dropped_all w whose k end clear =
+    let u : Undropped whose (number_expected w) w.places = undropped whose (number_expected w) w.places (no_place whose w.places (ap (λ n. is_clear_below whose n w.places) (sym end) ∙ clear)) in
+    record { rest = u.rest; effects = u.effects }
+
+-- what the window answers says whether there was one
+pub answered_some : (w : Received) (whose : Option ℕ) (k sn : ℕ) → cond (is_held_from whose (at_place w k)) (Some (number_shown w k)) None ≡ Some sn → (is_held_from whose (at_place w k) ≡ true) × (sn ≡ number_shown w k)
+answered_some w whose k sn said = by_test (is_held_from whose (at_place w k)) said
+  where
+    by_test : (b : Bool) → cond b (Some (number_shown w k)) None ≡ Some sn → (b ≡ true) × (sn ≡ number_shown w k)
+    by_test true is = (refl, cc)
+    by_test false is = absurd cc
+
+pub answered_none : (w : Received) (whose : Option ℕ) (k : ℕ) → cond (is_held_from whose (at_place w k)) (Some (number_shown w k)) None ≡ None → is_held_from whose (at_place w k) ≡ false
+answered_none w whose k said = by_test (is_held_from whose (at_place w k)) said
+  where
+    by_test : (b : Bool) → cond b (Some (number_shown w k)) None ≡ None → b ≡ false
+    by_test true is = absurd cc
+    by_test false is = refl

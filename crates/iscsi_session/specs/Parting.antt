@@ -1,6 +1,6 @@
 -- What a session keeps when a Logout Request executes, and the effects, by what it keeps before. For private contracts alone.
-use Rattle.std.specs.Prelude.{ℕ, ◌+◌, ◌==◌, not, Bool, List, [], ◌∷◌, ◌++◌, length, map, filter, Option, Some, None, if◌then◌else◌}
-use Rattle.std.specs.List.{list_any, flat_map, range_with_len}
+use Rattle.std.specs.Prelude.{ℕ, ◌+◌, ◌==◌, not, Bool, List, [], ◌∷◌, ◌++◌, length, map, take, filter, Option, Some, None, if◌then◌else◌}
+use Rattle.std.specs.List.{list_any, list_all, flat_map, range_with_len}
 use Rattle.iscsi_wire.specs.declared.reply.Reply.TheVariants.{Logout, Reject}
 use Rattle.iscsi_wire.specs.declared.request.Request.{Request}
 use Rattle.iscsi_wire.specs.Serial.{wire}
@@ -65,6 +65,10 @@ emptied_from n whose (p ∷ ps) = (if is_held_from whose p then Empty (wire n) �
 
 abbrev pub emptying_effects : Core → Option ℕ → List Effect
 emptying_effects s whose = emptied_from (number_expected s.window) whose s.window.places
+
+-- so many places have no request that is to be taken out
+abbrev pub is_clear_below : Option ℕ → ℕ → List (Option (Option Request)) → Bool
+is_clear_below whose k ps = list_all (λ p. not (is_held_from whose p)) (take k ps)
 
 -- the functions that wait are dropped
 abbrev pub with_dropped : Core → Option ℕ → Core

@@ -6,7 +6,7 @@ ghost use Rattle.iscsi_window.specs.Windows.{is_asked};
 ghost use Rattle.iscsi_session.specs.Settings.{is_known as known_in};
 ghost use Rattle.iscsi_session.specs.Standing.{is_held};
 ghost use Rattle.iscsi_session.specs.Functions.{owed};
-ghost use Rattle.iscsi_session.specs.Parting.{is_among_open, closing_by, closed_as, closed_effects, parted, parting_effects, cover_of as cover_named, covers_of, units_of, with_all_left, all_leaving_effects, with_emptied, emptying_effects, with_dropped, ended_if, session_closes, with_closed, close_effects, with_all_given, all_enable_effects};
+ghost use Rattle.iscsi_session.specs.Parting.{is_among_open, closing_by, closed_as, closed_effects, parted, parting_effects, cover_of as cover_named, covers_of, units_of, with_all_left, all_leaving_effects, with_emptied, is_clear_below, emptying_effects, with_dropped, ended_if, session_closes, with_closed, close_effects, with_all_given, all_enable_effects};
 
 use crate::closing::Closing;
 use crate::effect::Effect;
@@ -126,27 +126,28 @@ impl Session {
         ensures spent { vec_len out.new + count_by is_held self.new.window.places ≤ vec_len out.old + count_by is_held self.old.window.places }
         ensures capacity { vec_capacity out.new ≡ vec_capacity out.old }
     {
-        while self.empty_next(whose, out) {}
+        for ahead in 0..self.window.size() {
+            self.empty_at(ahead, whose, out);
+        }
     }
 
-    /// The lowest number of a request that is held of a connection, or of any for None, is emptied. Whether there was one.
-    fn empty_next(&mut self, whose: Option<u16>, out: &mut Vec<Effect>) -> bool
+    /// The request that is held `ahead` numbers after the expected one is taken out, if it is of the connection, or of any
+    /// for None.
+    fn empty_at(&mut self, ahead: u32, whose: Option<u16>, out: &mut Vec<Effect>)
         requires room { vec_len out.old + count_by is_held self.old.window.places ≤ vec_capacity out.old }
+        requires lowest { is_clear_below whose ahead self.old.window.places ≡ true }
         // What is still to be taken out is the rest of what was to be before.
         ensures session { with_emptied self.new whose ≡ with_emptied self.old whose }
         ensures effects { out.new.items ++ emptying_effects self.new whose ≡ out.old.items ++ emptying_effects self.old whose }
-        ensures last { result ≡ false → with_emptied self.new whose ≡ self.new }
-        ensures nothing { result ≡ false → emptying_effects self.new whose ≡ [] }
-        ensures fewer { result ≡ true → count_by is_held self.new.window.places < count_by is_held self.old.window.places }
+        ensures lowest { is_clear_below whose (ahead + 1) self.new.window.places ≡ true }
+        ensures long { length self.new.window.places ≡ length self.old.window.places }
         ensures spent { vec_len out.new + count_by is_held self.new.window.places ≤ vec_len out.old + count_by is_held self.old.window.places }
         ensures capacity { vec_capacity out.new ≡ vec_capacity out.old }
     {
-        let Some(sn) = self.window.drop_first(whose) else {
-            return false;
-        };
-        self.held -= 1;
-        out.push_reserved(Effect::Empty { sn });
-        true
+        if let Some(sn) = self.window.drop_at(ahead, whose) {
+            self.held -= 1;
+            out.push_reserved(Effect::Empty { sn });
+        }
     }
 
     /// The functions of a connection that wait, or of all for None, are dropped.
