@@ -1,6 +1,6 @@
 -- The held requests that a Logout takes out, in the window.
 use Rattle.std.proofs.Common.{◌≡◌, ℕ, zero, suc, ◌+◌, ◌-◌, ◌<◌, ◌≤◌, ◌==◌, ◌&&◌, ◌||◌, ⊎_elim, cond, Bool, true, false, List, [], ◌∷◌, ◌++◌, length, map, filter, get_or, Option, Some, None, option_map, refl, ap, sym, ◌∙◌, arith, append_assoc, eq-eqb}
-use Rattle.std.specs.List.{list_any, filter_map, flat_map, range_with_len, cons_option}
+use Rattle.std.specs.List.{list_any, filter_map, range_with_len, cons_option}
 use Rattle.std.proofs.lemmas.Bool.{cases_lt, cases_eq, false≢true}
 use Rattle.std.proofs.lemmas.Bool.Decides.{nat_tests}
 use Rattle.std.proofs.lemmas.List.{append-nil, length-map}
@@ -13,7 +13,7 @@ use Rattle.iscsi_window.specs.Windows.{Received, number_expected, is_asked, is_h
 use Rattle.iscsi_session.specs.declared.effect.Effect.{Effect}
 use Rattle.iscsi_session.specs.declared.effect.Effect.TheVariants.{Empty}
 use Rattle.iscsi_session.specs.Settings.{Setting}
-use Rattle.iscsi_session.specs.Trace.{Arrival, Command, Mark, Empties, Leaves, Trace, has, shown, first_of, number_received, received, contains, is_received, delivers_number, is_delivered, empties_number, is_emptied, held, admitted, admits_at}
+use Rattle.iscsi_session.specs.Trace.{Arrival, Command, Mark, Empties, Leaves, Trace, has, shown, first_of, number_received, received, contains, is_received, delivers_number, is_delivered, empties_number, is_emptied, held, held_among, admitted, admits_at}
 use Rattle.iscsi_session.specs.Execution.{exp_of}
 use Rattle.iscsi_session.specs.Executed.{delivers, request_at}
 use Rattle.iscsi_session.specs.Logout.{all_held}
@@ -59,7 +59,7 @@ abbrev held_list : Trace → ℕ → List Arrival
 held_list t n = elim (held t n) [ Some a ↦ a ∷ [] | None ↦ [] ]
 
 abbrev held_from : Trace → ℕ → ℕ → List Arrival
-held_from t a count = flat_map (held_list t) (range_with_len a count)
+held_from t a count = held_among t (range_with_len a count)
 
 range-parts : (a m n : ℕ) → range_with_len a (m + n) ≡ range_with_len a m ++ range_with_len (a + m) n
 range-parts a zero n = ap (range_with_len a) (let z : 0 + n ≡ n = omega arith in z) ∙ ap (λ k. range_with_len k n) (let z : a ≡ a + 0 = omega arith in z)
@@ -69,7 +69,7 @@ range-parts a (suc m) n =
 
 module _ (t : Trace) where
   held_from-parts : (a m n : ℕ) → held_from t a (m + n) ≡ held_from t a m ++ held_from t (a + m) n
-  held_from-parts a m n = ap (flat_map (held_list t)) (range-parts a m n) ∙ flat_map-append (held_list t) (range_with_len a m) (range_with_len (a + m) n)
+  held_from-parts a m n = ap (held_among t) (range-parts a m n) ∙ flat_map-append (held_list t) (range_with_len a m) (range_with_len (a + m) n)
 
   held_from-none : (a count : ℕ) → ((n : ℕ) → a ≤ n → n < a + count → held t n ≡ None) → held_from t a count ≡ []
   held_from-none a zero none = refl
