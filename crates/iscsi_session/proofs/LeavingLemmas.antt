@@ -21,7 +21,7 @@ use Rattle.iscsi_session.specs.Standing.{Core, stat_sn_on, kept, task_of, member
 use Rattle.iscsi_session.specs.Steps.{set_at, all_given, as_given, enable_effects, is_numbered}
 use Rattle.iscsi_session.specs.Functions.{covers_ticket, is_gone, staying, set_staying, with_left, aborted, abort_effects}
 use Rattle.iscsi_session.proofs.OpenConns.{ClosesNone, open_of-same, closes-more}
-use Rattle.iscsi_session.proofs.BoolLemmas.{and_parts, and_both, or_none, or_second, not_true}
+use Rattle.iscsi_session.proofs.BoolLemmas.{and_parts, and_both, or_none, or_second, not_true, and_false}
 use Rattle.iscsi_session.proofs.ListLemmas.{list_any-map, count_by-map, list_all-filter}
 use Rattle.iscsi_session.proofs.TraceLemmas.{filter-same, filter-true, weaker}
 use Rattle.iscsi_session.proofs.ApartLemmas.{eq_sym, unamong-filter, apart-filter}
@@ -48,10 +48,6 @@ none_both p q [] h = refl
 none_both p q (x ∷ xs) h =
     let parts = or_none (q x) (list_any q xs) h in
     ap (λ b. (p x && b) || list_any (λ y. p y && q y) xs) parts.0 ∙ ap (λ b. b || list_any (λ y. p y && q y) xs) (and_false (p x)) ∙ none_both p q xs parts.1
-  where
-    and_false : (b : Bool) → (b && false) ≡ false
-    and_false true = refl
-    and_false false = refl
 
 any_of_filter : {A : Type 0} (f p : A → Bool) (xs : List A) → list_any f (filter p xs) ≡ list_any (λ x. f x && p x) xs
 any_of_filter f p [] = refl
@@ -64,10 +60,6 @@ any_of_filter f p (x ∷ xs) =
     and_true : (b : Bool) → (b && true) ≡ b
     and_true true = refl
     and_true false = refl
-
-    and_false : (b : Bool) → (b && false) ≡ false
-    and_false true = refl
-    and_false false = refl
 
 -- ---- a command has the ticket of one that passes just where it passes
 

@@ -7,7 +7,7 @@ use Rattle.std.proofs.lemmas.List.Folds.{list_any_none}
 use Rattle.iscsi_session.specs.declared.session.live.Live.{Live}
 use Rattle.iscsi_session.specs.Standing.{are_ascending}
 use Rattle.iscsi_session.specs.Steps.{find_ticket}
-use Rattle.iscsi_session.proofs.BoolLemmas.{or_none}
+use Rattle.iscsi_session.proofs.BoolLemmas.{or_none, and_false}
 use Rattle.iscsi_session.proofs.SearchLemmas.{later, rest, found_at}
 
 -- each command is found by its tag in f
@@ -102,10 +102,6 @@ none_later q itt (x ∷ lives) none =
     ap (λ b. cond (q x && b) (Some x) (find (λ l. q l && l.itt == itt) lives)) (All-head (λ l. (l.itt == itt) ≡ false) x lives none)
     ∙ ap (λ b. cond b (Some x) (find (λ l. q l && l.itt == itt) lives)) (and_false (q x))
     ∙ none_later q itt lives (All-tail (λ l. (l.itt == itt) ≡ false) x lives none)
-  where
-    and_false : (b : Bool) → (b && false) ≡ false
-    and_false true = refl
-    and_false false = refl
 
 -- a tag is that of one command at the most
 pub find_passing : (f : ℕ → Option ℕ) (q : Live → Bool) (lives : List Live) (itt : ℕ) → Indexed f lives → are_ascending lives ≡ true → find (λ l. q l && l.itt == itt) lives ≡ passing q (find (λ l. l.itt == itt) lives)
