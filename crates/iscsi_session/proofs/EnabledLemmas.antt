@@ -18,7 +18,7 @@ use Rattle.iscsi_session.specs.Steps.{as_given, enable_effects, enable_effect}
 use Rattle.iscsi_session.proofs.BoolLemmas.{and_parts, and_both, or_none, or_first, or_comm, not_true}
 use Rattle.iscsi_session.proofs.ApartLemmas.{unamong-filter}
 use Rattle.iscsi_session.proofs.TraceLemmas.{all_among}
-use Rattle.iscsi_session.proofs.ListLemmas.{list_all-filter}
+use Rattle.iscsi_session.proofs.ListLemmas.{list_all-filter, all_of_filter}
 
 -- ---- lists
 
@@ -58,14 +58,6 @@ filter-map p f (x ∷ xs) =
 pub map-map : {A B C : Type 0} (g : B → C) (f : A → B) (xs : List A) → map g (map f xs) ≡ map (λ x. g (f x)) xs
 map-map g f [] = refl
 map-map g f (x ∷ xs) = ap (λ ys. g (f x) ∷ ys) (map-map g f xs)
-
-all_of_filter : {A : Type 0} (p : A → Bool) (xs : List A) → list_all p (filter p xs) ≡ true
-all_of_filter p [] = refl
-all_of_filter p (x ∷ xs) =
-    elim (p x) as (λ b. p x ≡ b → list_all p (cond b (x ∷ filter p xs) (filter p xs)) ≡ true) [
-      | true ↦ λ is. and_both (p x) (list_all p (filter p xs)) is (all_of_filter p xs)
-      | false ↦ λ is. all_of_filter p xs
-    ] refl
 
 pub both_all : {A : Type 0} (p q : A → Bool) (xs : List A) → list_all p xs ≡ true → list_all q xs ≡ true → list_all (λ x. p x && q x) xs ≡ true
 both_all p q [] h k = refl

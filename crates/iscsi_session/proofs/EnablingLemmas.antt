@@ -14,8 +14,8 @@ use Rattle.iscsi_session.specs.Agenda.{items_of}
 use Rattle.iscsi_session.specs.Run.{after_event, after_events, effects_of_mark, newly_enabled, effects_of_item, effects_of, entries_from}
 use Rattle.iscsi_session.specs.Enabling.{effects_so_far, is_enable, is_leave, is_shown_enabled, is_enabled, FreeMoment, EnabledSoFar, effects_in}
 use Rattle.iscsi_session.specs.Standing.{CommandsAgree}
-use Rattle.iscsi_session.proofs.BoolLemmas.{and_parts, and_both, or_first, or_second, or_comm, or_false, and_false}
-use Rattle.iscsi_session.proofs.ListLemmas.{list_any-map}
+use Rattle.iscsi_session.proofs.BoolLemmas.{and_parts, and_both, or_first, or_second, or_comm, or_false, and_false, and_comm}
+use Rattle.iscsi_session.proofs.ListLemmas.{list_any-map, any_filter, any_flat_map, any_same}
 use Rattle.iscsi_session.proofs.TraceLemmas.{weaker}
 use Rattle.iscsi_session.proofs.EnabledLemmas.{enables, is_here, was_free-stays, new_in, new_in-more, newly-one, filter-twice}
 use Rattle.iscsi_session.proofs.CommandParts.{Untouched, live-untouched, live_in-untouched, EntersOne, live-entered, live_in-entered, live_in-elsewhere, LeavesSome, live-left, none_any}
@@ -213,14 +213,6 @@ any_or f g h (x ∷ xs) same = ap (λ b. b || list_any f xs) (same x) ∙ ap (λ
     swap false false true d = refl
     swap false false false d = refl
 
-any_filter : {A : Type 0} (f p : A → Bool) (xs : List A) → list_any f (filter p xs) ≡ list_any (λ x. p x && f x) xs
-any_filter f p [] = refl
-any_filter f p (x ∷ xs) =
-    elim (p x) as (λ b. list_any f (cond b (x ∷ filter p xs) (filter p xs)) ≡ ((b && f x) || list_any (λ y. p y && f y) xs)) [
-      | true ↦ ap (λ b. f x || b) (any_filter f p xs)
-      | false ↦ any_filter f p xs
-    ]
-
 -- those with other tickets don't matter
 any_without : (w : Command → Bool) (out : ℕ → Bool) (k : ℕ) (cs : List Command) → out k ≡ false → list_any (λ d. d.ticket == k && w d) (filter (λ d. not (out d.ticket)) cs) ≡ list_any (λ d. d.ticket == k && w d) cs
 any_without w out k [] stays = refl
@@ -250,14 +242,6 @@ none_gone out k (x ∷ cs) goes =
     ] refl
 
 -- ---- what an item enables, of all units
-
-any_flat_map : {A B : Type 0} (p : B → Bool) (f : A → List B) (xs : List A) → list_any p (flat_map f xs) ≡ list_any (λ x. list_any p (f x)) xs
-any_flat_map p f [] = refl
-any_flat_map p f (x ∷ xs) = list_any-append p (f x) (flat_map f xs) ∙ ap (λ b. list_any p (f x) || b) (any_flat_map p f xs)
-
-any_same : {A : Type 0} (f g : A → Bool) (xs : List A) → ((x : A) → f x ≡ g x) → list_any f xs ≡ list_any g xs
-any_same f g [] same = refl
-any_same f g (x ∷ xs) same = ap (λ b. b || list_any f xs) (same x) ∙ ap (λ b. g x || b) (any_same f g xs same)
 
 any_never : {A : Type 0} (xs : List A) → list_any (λ x. false) xs ≡ false
 any_never [] = refl
@@ -307,18 +291,12 @@ newly_among o item t k regular =
     ∙ any_same (λ u. is_among k (new_in t item u)) (λ u. list_any (λ d. (d.unit == u) && (d.ticket == k && is_new item t d)) (live (item ∷ t))) (range_with_len 0 o.units) in_unit
     ∙ any_in_units o.units (λ d. d.ticket == k && is_new item t d) (live (item ∷ t)) regular
   where
-    and_comm : (a u v : Bool) → (a && (u && v)) ≡ (a && (v && u))
-    and_comm a true true = refl
-    and_comm a true false = refl
-    and_comm a false true = refl
-    and_comm a false false = refl
-
     in_unit : (u : ℕ) → is_among k (new_in t item u) ≡ list_any (λ d. (d.unit == u) && (d.ticket == k && is_new item t d)) (live (item ∷ t))
     in_unit u =
         ap (is_among k) (filter-twice (λ d. not (was_free d t)) (λ d. was_free d (item ∷ t)) (live_in u (item ∷ t)))
         ∙ any_filter (λ (d : Command). d.ticket == k) (is_new item t) (live_in u (item ∷ t))
         ∙ any_filter (λ d. is_new item t d && (d.ticket == k)) (λ (d : Command). d.unit == u) (live (item ∷ t))
-        ∙ any_same (λ d. (d.unit == u) && (is_new item t d && (d.ticket == k))) (λ d. (d.unit == u) && (d.ticket == k && is_new item t d)) (live (item ∷ t)) (λ d. and_comm (d.unit == u) (is_new item t d) (d.ticket == k))
+        ∙ any_same (λ d. (d.unit == u) && (is_new item t d && (d.ticket == k))) (λ d. (d.unit == u) && (d.ticket == k && is_new item t d)) (live (item ∷ t)) (λ d. ap (λ b. (d.unit == u) && b) (and_comm (is_new item t d) (d.ticket == k)))
 
 exact-left : (o : Setting) (item : List Mark) (t : Trace) (out : ℕ → Bool) → LeavesSome item out → list_all (λ d. nat_lt d.unit o.units) (live (item ∷ t)) ≡ true → Exact o t → Exact o (item ∷ t)
 exact-left o item t out l regular x k =

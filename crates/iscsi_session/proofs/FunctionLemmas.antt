@@ -45,7 +45,7 @@ use Rattle.iscsi_session.proofs.OpenConns.{ClosesNone, open_of-same, closes-more
 use Rattle.iscsi_session.proofs.LogoutItem.{logout-item}
 use Rattle.iscsi_session.proofs.PartedLemmas.{closed_expected}
 use Rattle.iscsi_session.proofs.BoolLemmas.{and_parts}
-use Rattle.iscsi_session.proofs.ListLemmas.{count_by-map, list_any-map, list_all-filter, find-passes}
+use Rattle.iscsi_session.proofs.ListLemmas.{count_by-map, list_any-map, list_all-filter, find-passes, any_filter, any_same}
 use Rattle.iscsi_session.proofs.TraceLemmas.{filter-same}
 use Rattle.iscsi_session.proofs.DeliveryLemmas.{IsQuiet}
 use Rattle.iscsi_session.proofs.HeldLemmas.{held-number, admitted_of_held}
@@ -107,18 +107,6 @@ OutcomeIs o s t m a unit fm (Abort ticket) = fm ≡ map Leaves (covered_in o t u
 OutcomeIs o s t m a unit fm (AbortAll cover) = fm ≡ map Leaves (covered_in o t unit (is_covered cover)) ++ answer a 0
 OutcomeIs o s t m a unit fm (EmptyNumber sn) = (x : EmptiesHeld o s.window ((m ∷ []) ∷ t) a unit sn) × (fm ≡ Empties x.request ∷ answer a 0)
 OutcomeIs o s t m a unit fm (VoidNumber sn) = (x : VoidsMissing o s.window ((m ∷ []) ∷ t) a unit sn) × (fm ≡ cond (is_received ((m ∷ []) ∷ t) (lift (number_expected s.window) sn)) [] (Voids (lift (number_expected s.window) sn) ∷ []) ++ answer a 0)
-
-any_filter : {A : Type 0} (p q : A → Bool) (xs : List A) → list_any p (filter q xs) ≡ list_any (λ x. q x && p x) xs
-any_filter p q [] = refl
-any_filter p q (x ∷ xs) =
-    elim (q x) as (λ b. list_any p (cond b (x ∷ filter q xs) (filter q xs)) ≡ ((b && p x) || list_any (λ y. q y && p y) xs)) [
-      | true ↦ ap (λ b. p x || b) (any_filter p q xs)
-      | false ↦ any_filter p q xs
-    ]
-
-any_same : {A : Type 0} (p q : A → Bool) (xs : List A) → ((x : A) → p x ≡ q x) → list_any p xs ≡ list_any q xs
-any_same p q [] h = refl
-any_same p q (x ∷ xs) h = ap (λ b. b || list_any p xs) (h x) ∙ ap (λ b. q x || b) (any_same p q xs h)
 
 module _ (o : Setting) (s : Core) (t : Trace) (m : Mark) (e : Effect) (a : Arrival) (b : Begun o s t m e a) (unit : ℕ) where
   abbrev t' : Trace

@@ -21,8 +21,8 @@ use Rattle.iscsi_session.specs.Standing.{Core, stat_sn_on, kept, task_of, member
 use Rattle.iscsi_session.specs.Steps.{set_at, all_given, as_given, enable_effects, is_numbered}
 use Rattle.iscsi_session.specs.Functions.{covers_ticket, is_gone, staying, set_staying, with_left, aborted, abort_effects}
 use Rattle.iscsi_session.proofs.OpenConns.{ClosesNone, open_of-same, closes-more}
-use Rattle.iscsi_session.proofs.BoolLemmas.{and_parts, and_both, or_none, or_second, not_true, and_false}
-use Rattle.iscsi_session.proofs.ListLemmas.{list_any-map, count_by-map, list_all-filter}
+use Rattle.iscsi_session.proofs.BoolLemmas.{and_parts, and_both, or_none, or_second, not_true, and_false, and_comm}
+use Rattle.iscsi_session.proofs.ListLemmas.{list_any-map, count_by-map, list_all-filter, any_filter, any_same}
 use Rattle.iscsi_session.proofs.TraceLemmas.{filter-same, filter-true, weaker}
 use Rattle.iscsi_session.proofs.ApartLemmas.{eq_sym, unamong-filter, apart-filter}
 use Rattle.iscsi_session.proofs.DeliveryLemmas.{IsQuiet}
@@ -48,18 +48,6 @@ none_both p q [] h = refl
 none_both p q (x ∷ xs) h =
     let parts = or_none (q x) (list_any q xs) h in
     ap (λ b. (p x && b) || list_any (λ y. p y && q y) xs) parts.0 ∙ ap (λ b. b || list_any (λ y. p y && q y) xs) (and_false (p x)) ∙ none_both p q xs parts.1
-
-any_of_filter : {A : Type 0} (f p : A → Bool) (xs : List A) → list_any f (filter p xs) ≡ list_any (λ x. f x && p x) xs
-any_of_filter f p [] = refl
-any_of_filter f p (x ∷ xs) =
-    elim (p x) as (λ b. list_any f (cond b (x ∷ filter p xs) (filter p xs)) ≡ ((f x && b) || list_any (λ y. f y && p y) xs)) [
-      | true ↦ ap (λ b. f x || b) (any_of_filter f p xs) ∙ ap (λ b. b || list_any (λ y. f y && p y) xs) (sym (and_true (f x)))
-      | false ↦ any_of_filter f p xs ∙ ap (λ b. b || list_any (λ y. f y && p y) xs) (sym (and_false (f x)))
-    ]
-  where
-    and_true : (b : Bool) → (b && true) ≡ b
-    and_true true = refl
-    and_true false = refl
 
 -- ---- a command has the ticket of one that passes just where it passes
 
@@ -163,7 +151,8 @@ module _ (o : Setting) (t : Trace) (old : Members) (unit : ℕ) (list_is : old.l
   gone_tickets k =
       ap (list_any (λ (m : Member). m.task.ticket == k && covers m.task)) list_is
       ∙ list_any-map (λ (m : Member). m.task.ticket == k && covers m.task) (member_of o t) (live_in unit t)
-      ∙ sym (any_of_filter (λ (c : Command). c.ticket == k) (λ c. covers (task_of o c)) (live_in unit t))
+      ∙ any_same (λ (c : Command). c.ticket == k && covers (task_of o c)) (λ c. covers (task_of o c) && c.ticket == k) (live_in unit t) (λ c. and_comm (c.ticket == k) (covers (task_of o c)))
+      ∙ sym (any_filter (λ (c : Command). c.ticket == k) (λ c. covers (task_of o c)) (live_in unit t))
 
   -- they are all of the unit
   pub gone_in_unit : are_apart (live t) ≡ true → are_all_in unit (is_gone covers old) (live t) ≡ true

@@ -1,9 +1,10 @@
 -- Lists of connections and commands.
 use Rattle.std.proofs.Common.{◌≡◌, ℕ, zero, suc, ◌+◌, ◌<◌, ◌==◌, ◌&&◌, ◌||◌, not, cond, Bool, true, false, List, [], ◌∷◌, ◌++◌, length, map, filter, find, get_or, set, count_by, Option, Some, None, refl, ap, sym, ◌∙◌, arith, nat_lt}
-use Rattle.std.specs.List.{list_any, list_all, position, position_or_len}
+use Rattle.std.specs.List.{list_any, list_all, flat_map, position, position_or_len}
 use Rattle.std.proofs.lemmas.Bool.{false≢true}
 use Rattle.std.proofs.lemmas.Bool.Decides.{nat_tests}
 use Rattle.std.specs.Prelude.{IsSome}
+use Rattle.std.proofs.lemmas.List.Folds.{list_any-append}
 use Rattle.std.proofs.lemmas.List.Sums.{sum_by-cons, sum_by-append}
 use Rattle.iscsi_wire.specs.Serial.{wire}
 use Rattle.iscsi_session.specs.declared.session.live.Live.{Live}
@@ -13,13 +14,37 @@ use Rattle.iscsi_wire.specs.declared.request.Request.{Request}
 use Rattle.iscsi_wire.specs.Fields.{connection_of, is_immediate}
 use Rattle.iscsi_session.specs.Standing.{stat_sn_on, are_known, is_place_known}
 use Rattle.iscsi_session.specs.Steps.{count_reply, without_ticket}
-use Rattle.iscsi_session.proofs.BoolLemmas.{and_first, and_second}
+use Rattle.iscsi_session.proofs.BoolLemmas.{and_first, and_second, and_both}
 
 -- ---- tests of lists
 
 pub list_any-map : {A B : Type 0} (p : B → Bool) (f : A → B) (xs : List A) → list_any p (map f xs) ≡ list_any (λ x. p (f x)) xs
 list_any-map p f [] = refl
 list_any-map p f (x ∷ xs) = ap (λ b. p (f x) || b) (list_any-map p f xs)
+
+pub any_same : {A : Type 0} (p q : A → Bool) (xs : List A) → ((x : A) → p x ≡ q x) → list_any p xs ≡ list_any q xs
+any_same p q [] h = refl
+any_same p q (x ∷ xs) h = ap (λ b. b || list_any p xs) (h x) ∙ ap (λ b. q x || b) (any_same p q xs h)
+
+pub any_filter : {A : Type 0} (p q : A → Bool) (xs : List A) → list_any p (filter q xs) ≡ list_any (λ x. q x && p x) xs
+any_filter p q [] = refl
+any_filter p q (x ∷ xs) =
+    elim (q x) as (λ b. list_any p (cond b (x ∷ filter q xs) (filter q xs)) ≡ ((b && p x) || list_any (λ y. q y && p y) xs)) [
+      | true ↦ ap (λ b. p x || b) (any_filter p q xs)
+      | false ↦ any_filter p q xs
+    ]
+
+pub any_flat_map : {A B : Type 0} (p : B → Bool) (f : A → List B) (xs : List A) → list_any p (flat_map f xs) ≡ list_any (λ x. list_any p (f x)) xs
+any_flat_map p f [] = refl
+any_flat_map p f (x ∷ xs) = list_any-append p (f x) (flat_map f xs) ∙ ap (λ b. list_any p (f x) || b) (any_flat_map p f xs)
+
+pub all_of_filter : {A : Type 0} (p : A → Bool) (xs : List A) → list_all p (filter p xs) ≡ true
+all_of_filter p [] = refl
+all_of_filter p (x ∷ xs) =
+    elim (p x) as (λ b. p x ≡ b → list_all p (cond b (x ∷ filter p xs) (filter p xs)) ≡ true) [
+      | true ↦ λ is. and_both (p x) (list_all p (filter p xs)) is (all_of_filter p xs)
+      | false ↦ λ is. all_of_filter p xs
+    ] refl
 
 pub count_by-map : {A B : Type 0} (p : B → Bool) (f : A → B) (xs : List A) → count_by p (map f xs) ≡ count_by (λ x. p (f x)) xs
 count_by-map p f [] = refl
