@@ -22,7 +22,7 @@ use Rattle.iscsi_session.specs.Steps.{set_at, all_given, as_given, enable_effect
 use Rattle.iscsi_session.specs.Functions.{covers_ticket, is_gone, staying, set_staying, with_left, aborted, abort_effects}
 use Rattle.iscsi_session.proofs.OpenConns.{ClosesNone, open_of-same, closes-more}
 use Rattle.iscsi_session.proofs.BoolLemmas.{and_parts, and_both, or_none, or_second, not_true, and_false, and_comm}
-use Rattle.iscsi_session.proofs.ListLemmas.{list_any-map, count_by-map, list_all-filter, any_filter, any_same}
+use Rattle.iscsi_session.proofs.ListLemmas.{list_any-map, count_by-map, list_all-filter, any_filter, any_same, fewer_counted}
 use Rattle.iscsi_session.proofs.TraceLemmas.{filter-same, filter-true, weaker}
 use Rattle.iscsi_session.proofs.ApartLemmas.{eq_sym, unamong-filter, apart-filter}
 use Rattle.iscsi_session.proofs.DeliveryLemmas.{IsQuiet}
@@ -32,7 +32,6 @@ use Rattle.iscsi_session.proofs.CommandParts.{LeavesSome, live_in-left, Commands
 use Rattle.iscsi_session.proofs.EnablingLemmas.{EnabledSoFar-left}
 use Rattle.iscsi_session.proofs.SetParts.{SetLeaving, SetsAgree-left, set-changed}
 use Rattle.iscsi_session.proofs.AgreeLemmas.{units_live}
-use Rattle.iscsi_session.proofs.CountLemmas.{fewer_counted}
 use Rattle.iscsi_session.proofs.ExecutionLemmas.{Begun}
 
 -- ---- lists

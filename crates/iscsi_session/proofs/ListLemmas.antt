@@ -1,5 +1,5 @@
 -- Lists of connections and commands.
-use Rattle.std.proofs.Common.{◌≡◌, ℕ, zero, suc, ◌+◌, ◌<◌, ◌==◌, ◌&&◌, ◌||◌, not, cond, Bool, true, false, List, [], ◌∷◌, ◌++◌, length, map, filter, find, get_or, set, count_by, Option, Some, None, refl, ap, sym, ◌∙◌, arith, nat_lt}
+use Rattle.std.proofs.Common.{◌≡◌, ℕ, zero, suc, ◌+◌, ◌<◌, ◌≤◌, ◌==◌, ◌&&◌, ◌||◌, not, cond, Bool, true, false, List, [], ◌∷◌, ◌++◌, length, map, filter, find, get_or, set, count_by, Option, Some, None, refl, ap, sym, ◌∙◌, arith, nat_lt}
 use Rattle.std.specs.List.{list_any, list_all, flat_map, position, position_or_len}
 use Rattle.std.proofs.lemmas.Bool.{false≢true}
 use Rattle.std.proofs.lemmas.Bool.Decides.{nat_tests}
@@ -55,6 +55,24 @@ count_by-map p f (x ∷ xs) =
 pub count_by-push : {A : Type 0} (p : A → Bool) (xs : List A) (x : A) → count_by p (xs ++ x ∷ []) ≡ count_by p xs + cond (p x) 1 0
 count_by-push p xs x =
     sum_by-append (λ y. cond (p y) 1 0) xs (x ∷ []) ∙ ap (λ n. count_by p xs + n) (sum_by-cons (λ y. cond (p y) 1 0) x [] ∙ (let z : cond (p x) 1 0 + 0 ≡ cond (p x) 1 0 = omega arith in z))
+
+-- fewer are counted of fewer
+pub fewer_counted : {A : Type 0} (p q : A → Bool) (xs : List A) → count_by p (filter q xs) ≤ count_by p xs
+fewer_counted p q [] = omega arith
+fewer_counted p q (x ∷ xs) =
+    let all : count_by p (x ∷ xs) ≡ cond (p x) 1 0 + count_by p xs = sum_by-cons (λ y. cond (p y) 1 0) x xs in
+    let rest : count_by p (filter q xs) ≤ count_by p xs = fewer_counted p q xs in
+    elim (q x) as (λ b. count_by p (cond b (x ∷ filter q xs) (filter q xs)) ≤ count_by p (x ∷ xs)) [
+      | true ↦ omega (arith, all, rest, sum_by-cons (λ y. cond (p y) 1 0) x (filter q xs))
+      | false ↦ omega (arith, all, rest)
+    ]
+
+pub filter-shorter : {A : Type 0} (p : A → Bool) (xs : List A) → length (filter p xs) ≤ length xs
+filter-shorter p [] = omega arith
+filter-shorter p (x ∷ xs) = elim (p x) as (λ b. length (cond b (x ∷ filter p xs) (filter p xs)) ≤ length (x ∷ xs)) [
+  | true ↦ omega (arith, filter-shorter p xs)
+  | false ↦ omega (arith, filter-shorter p xs)
+]
 
 -- where some element passes, there is a first that does
 first_place : {A : Type 0} (p : A → Bool) (xs : List A) → list_any p xs ≡ true → position_or_len p xs < length xs
@@ -112,7 +130,7 @@ is_known-cids cid xs ys h =
 
 -- ---- live commands
 
--- one of some commands that all pass
+-- one of some that all pass
 pub find-passes : {A : Type 0} (p q : A → Bool) (lives : List A) (l : A) → list_all q lives ≡ true → find p lives ≡ Some l → q l ≡ true
 find-passes p q [] l all found = absurd cc
 find-passes p q (x ∷ lives) l all found =
