@@ -18,7 +18,7 @@ use Rattle.iscsi_session.specs.Run.{after_event, after_events, trace_of}
 use Rattle.iscsi_session.proofs.BoolLemmas.{and_parts, or_first}
 use Rattle.iscsi_session.proofs.ListLemmas.{all_of_filter}
 use Rattle.iscsi_session.proofs.ApartLemmas.{unamong-filter}
-use Rattle.iscsi_session.proofs.TraceLemmas.{received-item}
+use Rattle.iscsi_session.proofs.TraceLemmas.{received-item, after_items-append}
 use Rattle.iscsi_session.proofs.Missing.{expected_below, expected_gone, expected_low}
 use Rattle.iscsi_session.proofs.AbortLemmas.{Fits, Fit, Fit-on, Fit-more}
 use Rattle.iscsi_session.proofs.AbortMarks.{first_unlike}
@@ -39,10 +39,6 @@ exp_item o item t =
 pub exp_items : (o : Setting) (items : List (List Mark)) (t : Trace) → exp_of o t ≤ exp_of o (after_items items t)
 exp_items o [] t = omega arith
 exp_items o (item ∷ items) t = omega (arith, exp_item o item t, exp_items o items (item ∷ t))
-
-pub after_items-append : (now later : List (List Mark)) (t : Trace) → after_items (now ++ later) t ≡ after_items later (after_items now t)
-after_items-append [] later t = refl
-after_items-append (item ∷ now) later t = after_items-append now later (item ∷ t)
 
 -- ---- the agenda
 

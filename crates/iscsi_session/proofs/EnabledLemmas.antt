@@ -84,7 +84,7 @@ never_free c (item ∷ t) gone =
     ap (λ b. (b && is_free (queued_of c) (map queued_of (live_in c.unit (item ∷ t)))) || was_free c t) out ∙ never_free c t parts.0
 
 -- one that is in its set and free now was free at some moment so far
-free_now : (c : Command) (t : Trace) → is_free_at c t ≡ true → was_free c t ≡ true
+pub free_now : (c : Command) (t : Trace) → is_free_at c t ≡ true → was_free c t ≡ true
 free_now c [] h = absurd (false≢true h)
 free_now c (item ∷ t) h = or_first (is_free_at c (item ∷ t)) (was_free c t) h
 

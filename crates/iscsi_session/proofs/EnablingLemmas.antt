@@ -17,7 +17,7 @@ use Rattle.iscsi_session.specs.Standing.{CommandsAgree}
 use Rattle.iscsi_session.proofs.BoolLemmas.{and_parts, and_both, or_first, or_second, or_comm, or_false, and_false, and_comm}
 use Rattle.iscsi_session.proofs.ListLemmas.{list_any-map, any_filter, any_flat_map, any_same}
 use Rattle.iscsi_session.proofs.TraceLemmas.{weaker}
-use Rattle.iscsi_session.proofs.EnabledLemmas.{enables, is_here, was_free-stays, new_in, new_in-more, newly-one, filter-twice}
+use Rattle.iscsi_session.proofs.EnabledLemmas.{enables, is_here, was_free-stays, new_in, new_in-more, newly-one, filter-twice, free_now}
 use Rattle.iscsi_session.proofs.CommandParts.{Untouched, live-untouched, live_in-untouched, EntersOne, live-entered, live_in-entered, live_in-elsewhere, LeavesSome, live-left, none_any}
 use Rattle.iscsi_session.proofs.SetParts.{newly-untouched}
 
@@ -389,12 +389,8 @@ moment_of c (item ∷ t) h =
     (λ before. let m : FreeMoment c t = moment_of c t before in record { later = item ∷ m.later; moment = m.moment; split = ap (λ s. item ∷ s) m.split; free = m.free })
     h
 
-free_here : (c : Command) (t : Trace) → is_free_at c t ≡ true → was_free c t ≡ true
-free_here c [] h = absurd (false≢true h)
-free_here c (item ∷ t) h = or_first (is_free_at c (item ∷ t)) (was_free c t) h
-
 free_since : (c : Command) (later moment : Trace) → is_free_at c moment ≡ true → was_free c (later ++ moment) ≡ true
-free_since c [] moment h = free_here c moment h
+free_since c [] moment h = free_now c moment h
 free_since c (item ∷ later) moment h = or_second (is_free_at c (item ∷ later ++ moment)) (was_free c (later ++ moment)) (free_since c later moment h)
 
 pub rule_means : (c : Command) (t : Trace) → (was_free c t ≡ true) ↔ FreeMoment c t

@@ -105,7 +105,7 @@ pace-function s x = let h : Stays 0 s (function_if s x) = function_stays s x in 
 started_first : (w : Received) (r : Request) → (started w r).first ≡ w.first
 started_first w r = elim (is_immediate r) as (λ b. (let v : Received = cond b w (with_unfinished w (w.unfinished + 1)) in v.first) ≡ w.first) [ true ↦ refl | false ↦ refl ]
 
-started_turned : (w : Received) (r : Request) → (started w r).turned ≡ w.turned
+pub started_turned : (w : Received) (r : Request) → (started w r).turned ≡ w.turned
 started_turned w r = elim (is_immediate r) as (λ b. (let v : Received = cond b w (with_unfinished w (w.unfinished + 1)) in v.turned) ≡ w.turned) [ true ↦ refl | false ↦ refl ]
 
 started_more : (w : Received) (r : Request) → (started w r).unfinished ≤ w.unfinished + 1
