@@ -24,6 +24,10 @@ and_comm true false = refl
 and_comm false true = refl
 and_comm false false = refl
 
+pub and_true : (b : Bool) → (b && true) ≡ b
+and_true true = refl
+and_true false = refl
+
 pub and_false : (b : Bool) → (b && false) ≡ false
 and_false true = refl
 and_false false = refl

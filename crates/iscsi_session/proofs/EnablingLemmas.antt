@@ -14,7 +14,7 @@ use Rattle.iscsi_session.specs.Agenda.{items_of}
 use Rattle.iscsi_session.specs.Run.{after_event, after_events, effects_of_mark, newly_enabled, effects_of_item, effects_of, entries_from}
 use Rattle.iscsi_session.specs.Enabling.{effects_so_far, is_enable, is_leave, is_shown_enabled, is_enabled, FreeMoment, EnabledSoFar, effects_in}
 use Rattle.iscsi_session.specs.Standing.{CommandsAgree}
-use Rattle.iscsi_session.proofs.BoolLemmas.{and_parts, and_both, or_first, or_second, or_comm, or_false, and_false, and_comm}
+use Rattle.iscsi_session.proofs.BoolLemmas.{and_parts, and_both, or_first, or_second, or_comm, or_false, and_false, and_comm, and_true}
 use Rattle.iscsi_session.proofs.ListLemmas.{list_any-map, any_filter, any_flat_map, any_same}
 use Rattle.iscsi_session.proofs.TraceLemmas.{weaker}
 use Rattle.iscsi_session.proofs.EnabledLemmas.{enables, is_here, was_free-stays, new_in, new_in-more, newly-one, filter-twice, free_now}
@@ -267,10 +267,6 @@ any_in_units n g (x ∷ cs) all =
     below : (u : ℕ) → nat_lt u n ≡ true → u < 0 + n
     below u test = let lt : u < n = grind (arith, nat_tests) in omega (arith, lt)
 
-    and_true : (b : Bool) → (b && true) ≡ b
-    and_true true = refl
-    and_true false = refl
-
     either : (b : Bool) (us : List ℕ) → list_any (λ u. x.unit == u) us ≡ true → list_any (λ u. (x.unit == u) && b) us ≡ b
     either true us h = any_same (λ u. (x.unit == u) && true) (λ u. x.unit == u) us (λ u. and_true (x.unit == u)) ∙ h
     either false us h = any_same (λ u. (x.unit == u) && false) (λ u. false) us (λ u. and_false (x.unit == u)) ∙ any_never us
@@ -324,12 +320,8 @@ exact-left o item t out l regular x k =
 
     by_ticket : (b : Bool) → out k ≡ b → ((enabled_once o t k || is_among k (newly_enabled o t item)) && not (b || has (leaves_ticket k) t)) ≡ list_any (λ d. d.ticket == k && was_free d (item ∷ t)) rest
     by_ticket true is =
-        and_none (enabled_once o t k || is_among k (newly_enabled o t item))
+        and_false (enabled_once o t k || is_among k (newly_enabled o t item))
         ∙ sym (none_any (λ d. was_free d (item ∷ t)) k rest (none_gone out k (live t) is))
-      where
-        and_none : (u : Bool) → (u && false) ≡ false
-        and_none true = refl
-        and_none false = refl
     by_ticket false is =
         bools (enabled_once o t k) (is_among k (newly_enabled o t item)) (has (leaves_ticket k) t) unnew
         ∙ ap (λ b. b || is_among k (newly_enabled o t item)) (sym (shown-before o t k) ∙ x k ∙ sym (any_without (λ d. was_free d t) out k (live t) is))

@@ -44,7 +44,7 @@ use Rattle.iscsi_session.specs.Parting.{closing_by, closed_as, closed_effects}
 use Rattle.iscsi_session.proofs.OpenConns.{ClosesNone, open_of-same, closes-more}
 use Rattle.iscsi_session.proofs.LogoutItem.{logout-item}
 use Rattle.iscsi_session.proofs.PartedLemmas.{closed_expected}
-use Rattle.iscsi_session.proofs.BoolLemmas.{and_parts}
+use Rattle.iscsi_session.proofs.BoolLemmas.{and_parts, and_true}
 use Rattle.iscsi_session.proofs.ListLemmas.{count_by-map, list_any-map, list_all-filter, find-passes, any_filter, any_same}
 use Rattle.iscsi_session.proofs.TraceLemmas.{filter-same}
 use Rattle.iscsi_session.proofs.DeliveryLemmas.{IsQuiet}
@@ -141,10 +141,6 @@ module _ (o : Setting) (s : Core) (t : Trace) (m : Mark) (e : Effect) (a : Arriv
       ∙ any_same (λ c. (c.unit == unit) && p c) (λ c. q (kept c)) (live t) (λ c. sym (same c))
       ∙ sym (list_any-map q kept (live t)) ∙ ap (list_any q) (sym b.commands.commands)
 
-  and_true : (v : Bool) → v ≡ (v && true)
-  and_true true = refl
-  and_true false = refl
-
   -- the marks of the function
   outcome_is : (position : ℤ) (event : ℕ) → position ≡ pos a.number -ℤ pos (number_of_first o.first) → event ≡ a.event → ((function a.request == 1) ≡ true → AbortsAs o s.window t' a unit (abort_by s a.request unit))
       → OutcomeIs o s t m a unit (function_to o t' a unit) (outcome_by s a.request position event unit)
@@ -163,7 +159,7 @@ module _ (o : Setting) (s : Core) (t : Trace) (m : Mark) (e : Effect) (a : Arriv
           | false ↦ elim (function a.request == 9) as (λ v. is (cond v query_task (cond (function a.request == 10) query_set (abort_all t' a unit (is_before a)))) (cond v tagged (cond (function a.request == 10) there sweep))) [
             | true ↦ ap (query a) (asked (λ c. itt c.arrival.request == rtt a.request) (λ l. l.unit == unit && l.itt == rtt a.request) (λ c. refl))
             | false ↦ elim (function a.request == 10) as (λ v. is (cond v query_set (abort_all t' a unit (is_before a))) (cond v there sweep)) [
-              | true ↦ ap (query a) (asked (λ c. true) (λ l. l.unit == unit) (λ c. and_true (c.unit == unit)))
+              | true ↦ ap (query a) (asked (λ c. true) (λ l. l.unit == unit) (λ c. sym (and_true (c.unit == unit))))
               | false ↦ before_is position event position_is event_is
             ]
           ]

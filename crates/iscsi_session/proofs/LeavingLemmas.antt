@@ -70,7 +70,7 @@ among_passing q [] apart = refl
 among_passing q (x ∷ cs) apart =
     let parts = and_parts (not (is_among x.ticket cs)) (are_apart cs) apart in
     let rest : List Command = filter q cs in
-    let gone : is_among x.ticket cs ≡ false = not_there (is_among x.ticket cs) parts.0 in
+    let gone : is_among x.ticket cs ≡ false = not_true (is_among x.ticket cs) parts.0 in
     and_both (alike (is_among x.ticket (filter q (x ∷ cs))) (q x)) (list_all (λ c. alike (is_among c.ticket (filter q (x ∷ cs))) (q c)) cs)
     (elim (q x) as (λ b. alike (is_among x.ticket (cond b (x ∷ rest) rest)) b ≡ true) [
       | true ↦ same_alike (is_among x.ticket (x ∷ rest)) true (ap (λ b. b || is_among x.ticket rest) (eq-eqb x.ticket x.ticket refl))
@@ -79,16 +79,12 @@ among_passing q (x ∷ cs) apart =
     (weaker (λ c. not (c.ticket == x.ticket) && alike (is_among c.ticket rest) (q c)) (λ c. alike (is_among c.ticket (filter q (x ∷ cs))) (q c)) cs
     (λ c h.
     let both = and_parts (not (c.ticket == x.ticket)) (alike (is_among c.ticket rest) (q c)) h in
-    let apart_here : (x.ticket == c.ticket) ≡ false = eq_sym x.ticket c.ticket ∙ not_there (c.ticket == x.ticket) both.0 in
+    let apart_here : (x.ticket == c.ticket) ≡ false = eq_sym x.ticket c.ticket ∙ not_true (c.ticket == x.ticket) both.0 in
     elim (q x) as (λ b. alike (is_among c.ticket (cond b (x ∷ rest) rest)) (q c) ≡ true) [
       | true ↦ ap (λ b. alike (b || is_among c.ticket rest) (q c)) apart_here ∙ both.1
       | false ↦ both.1
     ])
     (both_all (λ c. not (c.ticket == x.ticket)) (λ c. alike (is_among c.ticket rest) (q c)) cs (none_passes (λ c. c.ticket == x.ticket) cs gone) (among_passing q cs parts.1)))
-  where
-    not_there : (b : Bool) → not b ≡ true → b ≡ false
-    not_there true h = absurd (false≢true h)
-    not_there false h = refl
 
 -- ---- the marks
 

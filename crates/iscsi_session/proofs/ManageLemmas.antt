@@ -39,7 +39,7 @@ use Rattle.iscsi_session.specs.Turning.{waiting_in, wait_by, patience_by, perfor
 use Rattle.iscsi_session.specs.declared.closing.Closing.{Closing}
 use Rattle.iscsi_session.specs.Parting.{closing_by, closed_as}
 use Rattle.iscsi_session.proofs.PartedLemmas.{Parts, closed_parts}
-use Rattle.iscsi_session.proofs.BoolLemmas.{and_first, and_second}
+use Rattle.iscsi_session.proofs.BoolLemmas.{and_first, and_second, and_false}
 use Rattle.iscsi_session.proofs.ListLemmas.{count_by-map, count_by-push, fewer_counted}
 use Rattle.iscsi_session.proofs.FindLemmas.{position-cons}
 use Rattle.iscsi_session.proofs.MissingLemmas.{inside_place}
@@ -344,11 +344,7 @@ module _ (s : Core) (r : Request) (number : ℤ) (event unit sn : ℕ) where
 
 -- ABORT TASK doesn't wait
 pub one_waits_not : (r : Request) → function r ≡ 1 → may_wait r ≡ false
-one_waits_not r is = ap (λ f. is_immediate r && (f == 2 || f == 4 || f == 5)) is ∙ no (is_immediate r)
-  where
-    no : (b : Bool) → (b && false) ≡ false
-    no true = refl
-    no false = refl
+one_waits_not r is = ap (λ f. is_immediate r && (f == 2 || f == 4 || f == 5)) is ∙ and_false (is_immediate r)
 
 taken_at : {A : Type 0} (n : ℕ) (xs : List A) (k : ℕ) (d : A) → k < length (take n xs) → get_or (take n xs) k d ≡ get_or xs k d
 taken_at zero xs k d lt = absurd (omega (arith, lt))
