@@ -12,6 +12,7 @@ use Rattle.iscsi_replay.specs.declared.line.Line.TheVariants as line
 use Rattle.iscsi_replay.specs.Recorded.{Recorded, belongs_to, is_empty, IsSound, take, read_line}
 use Rattle.iscsi_replay.specs.Reading.{IsSoundIn}
 use Rattle.iscsi_replay.specs.declared.fault.ReplayFault.TheVariants.{BadLine, LineTooLong, TooManyLines}
+use Rattle.iscsi_replay.proofs.LineLemmas.{or_false}
 
 both : (a b : Bool) → a ≡ true → b ≡ true → (a && b) ≡ true
 both true b h k = k
@@ -20,10 +21,6 @@ both false b h k = cc
 pub both_parts : (a b : Bool) → (a && b) ≡ true → (a ≡ true) × (b ≡ true)
 both_parts true b h = (refl, h)
 both_parts false b h = cc
-
-or_false : (a b : Bool) → (a || b) ≡ false → (a ≡ false) × (b ≡ false)
-or_false true b h = cc
-or_false false b h = (refl, h)
 
 not_false : (b : Bool) → not b ≡ false → b ≡ true
 not_false true h = refl

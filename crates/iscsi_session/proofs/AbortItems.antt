@@ -15,11 +15,12 @@ use Rattle.iscsi_session.specs.Management.{may_wait, refusal_of_function, MOST_W
 use Rattle.iscsi_session.specs.Logout.{logout_marks}
 use Rattle.iscsi_session.specs.Items.{marks_after, execution, item_of, waiting_item, immediate_item, function_item}
 use Rattle.iscsi_session.specs.Aborts.{is_set_abort, is_abort, executed_in, is_complete, completes, IsCompleted, is_in_unit_of, earlier, is_ticket_covered}
-use Rattle.iscsi_session.proofs.BoolLemmas.{or_first, or_second, or_none, and_parts, and_both}
+use Rattle.iscsi_session.proofs.BoolLemmas.{or_first, or_second, or_none, and_parts, and_both, and_false}
+use Rattle.iscsi_session.proofs.ListLemmas.{any_filter}
 use Rattle.iscsi_session.proofs.TraceLemmas.{received-item, unadmitted, live-quiet, filter-same, filter-true}
 use Rattle.iscsi_session.proofs.HeldLemmas.{held-number}
 use Rattle.iscsi_session.proofs.AbortLemmas.{voids_number, Fits}
-use Rattle.iscsi_session.proofs.AbortMarks.{and_false, Follows, follows_reply, follows_function, follows_after, leaves_are, refused_incomplete, reply_incomplete, Sweeps, sweeps_function, sweeps_after}
+use Rattle.iscsi_session.proofs.AbortMarks.{Follows, follows_reply, follows_function, follows_after, leaves_are, refused_incomplete, reply_incomplete, Sweeps, sweeps_function, sweeps_after}
 
 -- ---- a mark by which a request begins to execute
 
@@ -66,14 +67,6 @@ begins_delivers p t a here =
     }
 
 -- ---- what an abort of a whole set covers, leaves
-
-any_filter : {A : Type 0} (f q : A → Bool) (xs : List A) → list_any f (filter q xs) ≡ list_any (λ x. q x && f x) xs
-any_filter f q [] = refl
-any_filter f q (x ∷ xs) =
-    elim (q x) as (λ b. list_any f (cond b (x ∷ filter q xs) (filter q xs)) ≡ ((b && f x) || list_any (λ y. q y && f y) xs)) [
-      | true ↦ ap (λ b. f x || b) (any_filter f q xs)
-      | false ↦ any_filter f q xs
-    ]
 
 any_weaker : {A : Type 0} (f g : A → Bool) (xs : List A) → ((x : A) → f x ≡ true → g x ≡ true) → list_any f xs ≡ true → list_any g xs ≡ true
 any_weaker f g [] h found = absurd (false≢true found)

@@ -18,7 +18,7 @@ use Rattle.iscsi_session.specs.Management.{is_supported, refusal_of_function, an
 use Rattle.iscsi_session.specs.Logout.{is_open, is_last_open, live_of_units, all_held, taken_out, parting, end_session, close_conn, logout_marks}
 use Rattle.iscsi_session.specs.Items.{marks_after}
 use Rattle.iscsi_session.specs.Aborts.{is_set_abort, is_complete, completes}
-use Rattle.iscsi_session.proofs.BoolLemmas.{or_none, or_false}
+use Rattle.iscsi_session.proofs.BoolLemmas.{or_none, or_false, and_false}
 use Rattle.iscsi_session.proofs.ApartLemmas.{unamong-filter}
 use Rattle.iscsi_session.proofs.ListLemmas.{list_any-map}
 use Rattle.iscsi_session.proofs.AbortLemmas.{voids_number}
@@ -240,10 +240,6 @@ follows_after o t a = by_opcode (opcode a.request == 0x02) (opcode a.request == 
     by_opcode false false = follows_verdict t a (verdict_of o t a.request)
 
 -- ---- replies that refuse a function
-
-pub and_false : (b : Bool) → (b && false) ≡ false
-and_false true = refl
-and_false false = refl
 
 pub refused_incomplete : (o : Setting) (r : Request) (reply : Reply) (tag : ℕ) → refusal_of_function o r ≡ Some reply → is_complete tag reply ≡ false
 refused_incomplete o r reply tag is = by_tests (itt r == NO_TAG) (function r == 8) (not (is_supported o.level (function r))) (unit_named o.units r) is

@@ -1,7 +1,7 @@
 -- What ABORT TASK comes to, by what a session keeps, and by the definitions.
 use Rattle.std.proofs.Common.{◌≡◌, ℕ, ℤ, ◌+◌, ◌-◌, ◌<◌, ◌≤◌, ◌==◌, ◌&&◌, ◌^◌, not, ◌⊎◌, inl, inr, ⊎_elim, cond, Bool, true, false, nat_lt, nat_le, List, [], ◌∷◌, ◌++◌, length, map, filter, take, position, Option, Some, None, option_map, refl, ap, sym, subst, ◌∙◌, arith, eq-eqb}
 use Rattle.std.specs.List.{list_any, flat_map}
-use Rattle.std.proofs.lemmas.Bool.{cases_lt, false≢true, eqb-true}
+use Rattle.std.proofs.lemmas.Bool.{cases_lt, eqb-true}
 use Rattle.std.proofs.lemmas.Bool.Decides.{nat_tests}
 use Rattle.iscsi_wire.specs.declared.request.Request.{Request}
 use Rattle.iscsi_wire.specs.Serial.{wire, lift}
@@ -25,11 +25,10 @@ use Rattle.iscsi_session.specs.Functions.{missing_at, tagged_in, abort_by, answe
 use Rattle.iscsi_session.proofs.OpenConns.{open_of-same}
 use Rattle.iscsi_session.proofs.BoolLemmas.{and_parts, or_none, not_true}
 use Rattle.iscsi_session.proofs.NumberLemmas.{wire-lift}
-use Rattle.iscsi_session.proofs.Missing.{expected_gone, expected_low}
 use Rattle.iscsi_session.proofs.ApartLemmas.{apart-filter}
 use Rattle.iscsi_session.proofs.HeldLemmas.{held-number, admitted_of_held}
 use Rattle.iscsi_session.proofs.DeliveryLemmas.{IsQuiet, received-quiet, held-quiet}
-use Rattle.iscsi_session.proofs.WindowParts.{Next, turned_window, WindowAgrees-quiet, WindowAgrees-turned}
+use Rattle.iscsi_session.proofs.WindowParts.{Next, turned_window, WindowAgrees-quiet, WindowAgrees-turned, expected_past_next}
 use Rattle.iscsi_session.proofs.CommandParts.{Untouched, CommandsAgree-untouched}
 use Rattle.iscsi_session.proofs.ReplyParts.{RepliesAgree-quiet}
 use Rattle.iscsi_session.proofs.ArrivedLemmas.{ArrivalsAgree-quiet}
@@ -298,12 +297,6 @@ AbortsAs-arrived o s index t r unit h at_once inside waits =
 
 -- ---- a numbered function at its turn
 
--- ExpCmdSN isn't below the next number of the window
-pub expected_from : (o : Setting) (w : Received) (t : Trace) → WindowAgrees o w t → number_expected w ≤ exp_of o t
-expected_from o w t h =
-    let e : ℕ = exp_of o t in
-    ⊎_elim (λ lt. absurd (false≢true (sym (expected_gone o.first t) ∙ h.below e (expected_low o.first t) lt))) (λ ge. ge) (cases_lt e (number_expected w))
-
 -- the number of the request that turned last, by what the wire shows
 last_number : (e n sn : ℕ) → 2 ^ 32 ≤ e → n + 1 ≡ e → wire sn ≡ wire n → lift e sn ≡ n
 last_number e n sn big next shows = omega (arith, next, shows)
@@ -351,7 +344,7 @@ module _ (o : Setting) (s : Core) (t : Trace) (a : Arrival) (unit : ℕ) where
       → AbortsAs o s.window t a unit (abort_by s a.request unit)
   AbortsAs-numbered w lives apart later next shows =
       let e : ℕ = number_expected s.window in
-      let exp : e ≤ exp_of o t = expected_from o s.window t w in
+      let exp : e ≤ exp_of o t = expected_past_next o s.window t w in
       let own : lift e (cmd_sn a.request) ≡ a.number = last_number e a.number (cmd_sn a.request) (omega arith) next shows in
       let nowhere : held_command o t (rtt a.request) unit a.number ≡ None = held_command-none o t (rtt a.request) unit a.number (omega (arith, exp, next)) in
       let no_place : find_command s.window (rtt a.request) unit (cmd_sn a.request) ≡ None =

@@ -1,5 +1,5 @@
 -- In the trace of a list of events each item fits in where it stands.
-use Rattle.std.proofs.Common.{◌≡◌, ℕ, zero, suc, ◌+◌, ◌-◌, ◌≤◌, ◌==◌, ◌&&◌, ◌||◌, ⊎_elim, cond, Bool, true, false, List, [], ◌∷◌, ◌++◌, filter, Option, Some, None, refl, ap, sym, subst, ◌∙◌, arith, nat_lt}
+use Rattle.std.proofs.Common.{◌≡◌, ℕ, zero, suc, ◌+◌, ◌-◌, ◌≤◌, ◌==◌, ◌&&◌, ◌||◌, ⊎_elim, cond, Bool, true, false, List, [], ◌∷◌, ◌++◌, filter, Option, Some, None, refl, sym, subst, ◌∙◌, arith, nat_lt}
 use Rattle.std.specs.List.{list_all, filter_map}
 use Rattle.std.proofs.lemmas.Bool.{false≢true, eqb-true, cases_lt}
 use Rattle.iscsi_wire.specs.Fields.{connection_of, is_immediate, itt, request_of}
@@ -16,8 +16,9 @@ use Rattle.iscsi_session.specs.Items.{immediate_item, function_item, item_of, is
 use Rattle.iscsi_session.specs.Agenda.{with_turns, numbered, kind_of, arrival_as, arrival_open, arrival, arrival_of, command_of}
 use Rattle.iscsi_session.specs.Run.{after_event, after_events, trace_of}
 use Rattle.iscsi_session.proofs.BoolLemmas.{and_parts, or_first}
+use Rattle.iscsi_session.proofs.ListLemmas.{all_of_filter}
 use Rattle.iscsi_session.proofs.ApartLemmas.{unamong-filter}
-use Rattle.iscsi_session.proofs.TraceLemmas.{received-item}
+use Rattle.iscsi_session.proofs.TraceLemmas.{received-item, after_items-append}
 use Rattle.iscsi_session.proofs.Missing.{expected_below, expected_gone, expected_low}
 use Rattle.iscsi_session.proofs.AbortLemmas.{Fits, Fit, Fit-on, Fit-more}
 use Rattle.iscsi_session.proofs.AbortMarks.{first_unlike}
@@ -39,19 +40,7 @@ pub exp_items : (o : Setting) (items : List (List Mark)) (t : Trace) → exp_of 
 exp_items o [] t = omega arith
 exp_items o (item ∷ items) t = omega (arith, exp_item o item t, exp_items o items (item ∷ t))
 
-pub after_items-append : (now later : List (List Mark)) (t : Trace) → after_items (now ++ later) t ≡ after_items later (after_items now t)
-after_items-append [] later t = refl
-after_items-append (item ∷ now) later t = after_items-append now later (item ∷ t)
-
 -- ---- the agenda
-
-all_pass : {A : Type 0} (p : A → Bool) (xs : List A) → list_all p (filter p xs) ≡ true
-all_pass p [] = refl
-all_pass p (x ∷ xs) =
-    elim (p x) as (λ b. p x ≡ b → list_all p (cond b (x ∷ filter p xs) (filter p xs)) ≡ true) [
-      | true ↦ λ is. ap (λ b. b && list_all p (filter p xs)) is ∙ all_pass p xs
-      | false ↦ λ is. all_pass p xs
-    ] refl
 
 functions_fit : (o : Setting) (n : ℕ) (as' : List Arrival) (t : Trace) → list_all (λ a. a.number == n) as' ≡ true → Fit o n t → Fit o n (after_items (functions o as' t) t)
 functions_fit o n [] t all x = x
@@ -63,7 +52,7 @@ functions_fit o n (a ∷ as') t all x =
     ]
 
 functions_at_fit : (o : Setting) (n : ℕ) (t : Trace) → Fit o n t → Fit o n (after_items (functions_at o n t) t)
-functions_at_fit o n t x = functions_fit o n (filter (λ a. a.number == n) (waiting t)) t (all_pass (λ (a : Arrival). a.number == n) (waiting t)) x
+functions_at_fit o n t x = functions_fit o n (filter (λ a. a.number == n) (waiting t)) t (all_of_filter (λ (a : Arrival). a.number == n) (waiting t)) x
 
 turn_at_fit : (o : Setting) (n : ℕ) (t : Trace) → Fit o n t → Fit o n (after_items (turn_at o n t) t)
 turn_at_fit o n t x =

@@ -16,6 +16,7 @@ use Rattle.iscsi_session.specs.Items.{item_of, function_item, is_waiting, functi
 use Rattle.iscsi_session.specs.Run.{effects_of_item, effects_of}
 use Rattle.iscsi_session.specs.Standing.{Core, arrival_waiting, Agrees, Settled}
 use Rattle.iscsi_session.specs.Turning.{with_executed, executed_effects, next_arrived, turned_if, turn_effects, next_waiting, function_if, function_effects}
+use Rattle.iscsi_session.proofs.TraceLemmas.{after_items-append}
 use Rattle.iscsi_session.proofs.Missing.{expected_past}
 use Rattle.iscsi_session.proofs.WindowParts.{Next, next_request, Passed, passed_at, WindowAgrees-passed}
 use Rattle.iscsi_session.proofs.ArrivedLemmas.{ArrivalsAgree-passed}
@@ -28,10 +29,6 @@ use Rattle.iscsi_session.proofs.FunctionLemmas.{turned-item, waited-item, execut
 use Rattle.iscsi_session.proofs.AgreeLemmas.{settled_expected}
 
 -- ---- lists of items
-
-pub after_items-append : (now later : List (List Mark)) (t : Trace) → after_items (now ++ later) t ≡ after_items later (after_items now t)
-after_items-append [] later t = refl
-after_items-append (item ∷ now) later t = after_items-append now later (item ∷ t)
 
 pub effects_of-append : (o : Setting) (now later : List (List Mark)) (t : Trace) → effects_of o t (now ++ later) ≡ effects_of o t now ++ effects_of o (after_items now t) later
 effects_of-append o [] later t = refl

@@ -11,6 +11,7 @@ use Rattle.iscsi_session.specs.Logout.{is_open}
 use Rattle.iscsi_session.proofs.BoolLemmas.{and_parts, and_both, or_none, or_first, or_second, not_true}
 use Rattle.iscsi_session.proofs.ApartLemmas.{eq_sym}
 use Rattle.iscsi_session.proofs.TraceLemmas.{live-item}
+use Rattle.iscsi_session.proofs.HeldLemmas.{first_of-append, first_of-cons}
 use Rattle.iscsi_session.proofs.AbortRuns.{exp_item}
 
 -- ---- the elements of lists
@@ -57,14 +58,6 @@ flat_map-in f (m ∷ ns) n x there h =
 pub range-in : (a count n : ℕ) → a ≤ n → n < a + count → In n (range_with_len a count)
 range-in a zero n low high = absurd (omega arith)
 range-in a (suc count) n low high = ⊎_elim (λ same. inl (sym same)) (λ apart. inr (range-in (a + 1) count n (omega arith) (omega arith))) (cases_eq n a)
-
-first-append : {A : Type 0} (xs ys : List A) (x : A) → first_of (xs ++ ys) ≡ Some x → (first_of xs ≡ Some x) ⊎ (first_of ys ≡ Some x)
-first-append [] ys x h = inr h
-first-append (z ∷ xs) ys x h = inl h
-
-first-cons : {A : Type 0} (x : Option A) (xs : List A) (y : A) → first_of (cons_option x xs) ≡ Some y → (x ≡ Some y) ⊎ (first_of xs ≡ Some y)
-first-cons None xs y h = inr h
-first-cons (Some x) xs y h = inl h
 
 in-cons : {A : Type 0} (x : Option A) (xs : List A) (y : A) → In y (cons_option x xs) → (x ≡ Some y) ⊎ In y xs
 in-cons None xs y h = inr h
@@ -132,7 +125,7 @@ entered_brought (m ∷ ms) c h = ⊎_elim (λ here. by_mark m here) (λ later. b
 
 pub admitted_brought : (n : ℕ) (ms : List Mark) (a : Arrival) → first_of (filter_map (admits_at n) ms) ≡ Some a → Brought (connection_of a.request) ms
 admitted_brought n [] a h = absurd cc
-admitted_brought n (m ∷ ms) a h = ⊎_elim (λ here. by_mark m here) (λ later. brought_later (connection_of a.request) m ms (admitted_brought n ms a later)) (first-cons (admits_at n m) (filter_map (admits_at n) ms) a h)
+admitted_brought n (m ∷ ms) a h = ⊎_elim (λ here. by_mark m here) (λ later. brought_later (connection_of a.request) m ms (admitted_brought n ms a later)) (first_of-cons (admits_at n m) (filter_map (admits_at n) ms) a h)
   where
     by_mark : (m : Mark) → admits_at n m ≡ Some a → Brought (connection_of a.request) (m ∷ ms)
     by_mark (Admits b) is =
@@ -190,7 +183,7 @@ held_from item t n a h = by_tests (list_any (delivers_number n) item) (is_delive
     by_tests false true y e k = absurd cc
     by_tests false false true e k = absurd cc
     by_tests false false false true k = absurd cc
-    by_tests false false false false k = ⊎_elim (λ before. inl (before, refl)) (λ now. inr now) (first-append (shown (admits_at n) t) (filter_map (admits_at n) item) a k)
+    by_tests false false false false k = ⊎_elim (λ before. inl (before, refl)) (λ now. inr now) (first_of-append (shown (admits_at n) t) (filter_map (admits_at n) item) a k)
 
 -- ---- what an item must be like
 
@@ -256,7 +249,7 @@ module _ (o : Setting) (item : List Mark) (t : Trace) (s : Sound o t item) where
     units = λ d h. ⊎_elim (λ before. c.units d before) (λ now. s.units d now) (in-append (entered t) (filter_map enters item) d h);
     range = λ n a h.
         let more : exp_of o t ≤ exp_of o (item ∷ t) = exp_item o item t in
-        let r : (number_of_first o.first ≤ n) × (n < exp_of o t + o.window) = ⊎_elim (λ before. c.range n a before) (λ now. s.range n a now) (first-append (shown (admits_at n) t) (filter_map (admits_at n) item) a h) in
+        let r : (number_of_first o.first ≤ n) × (n < exp_of o t + o.window) = ⊎_elim (λ before. c.range n a before) (λ now. s.range n a now) (first_of-append (shown (admits_at n) t) (filter_map (admits_at n) item) a h) in
         (r.0, (let z : n < exp_of o (item ∷ t) + o.window = omega (arith, r.1, more) in z));
     lives = λ d h. ⊎_elim (λ before. lives_on d before) (λ now. brought_open (connection_of d.arrival.request) (entered_brought item d now)) (live_from d h);
     waits = λ a h.

@@ -19,8 +19,8 @@ use Rattle.iscsi_session.specs.Agenda.{with_turns, numbered, kind_of, arrival_as
 use Rattle.iscsi_session.specs.Run.{after_event, after_events, trace_of}
 use Rattle.iscsi_session.specs.Refusals.{belongs}
 use Rattle.iscsi_session.proofs.BoolLemmas.{and_parts, and_both, or_none}
+use Rattle.iscsi_session.proofs.TraceLemmas.{after_items-append}
 use Rattle.iscsi_session.proofs.Missing.{expected_low}
-use Rattle.iscsi_session.proofs.AbortRuns.{after_items-append}
 use Rattle.iscsi_session.proofs.CloseLemmas.{In, in-filter, Sound, Clear, clear-none, clear-item, open-item}
 use Rattle.iscsi_session.proofs.CloseItems.{sound_item, sound_function, function_closes_none, sound_ignored, sound_rejected, sound_admitted, sound_completed, sound_immediate}
 

@@ -16,7 +16,7 @@ use Rattle.iscsi_session.specs.Run.{trace_of, effects_of_mark, newly_enabled, ef
 use Rattle.iscsi_session.specs.Refusals.{belongs, first_refusal}
 use Rattle.iscsi_session.specs.Enabling.{effects_so_far}
 use Rattle.iscsi_session.specs.Closes.{is_session_close, is_close_of, is_ignored, is_on, ClosesHold, ClosesHoldIn}
-use Rattle.iscsi_session.proofs.BoolLemmas.{and_both, or_none, or_second, or_comm, or_false}
+use Rattle.iscsi_session.proofs.BoolLemmas.{and_both, or_none, or_second, or_comm, or_false, and_false}
 use Rattle.iscsi_session.proofs.EnablingLemmas.{log_effects}
 use Rattle.iscsi_session.proofs.CloseLemmas.{In, in-filter, in-append, is_at, ignores, Sound, Clear, clear-item, open-unended}
 use Rattle.iscsi_session.proofs.CloseRuns.{Sounds, clear_of, trace_sounds}
@@ -153,11 +153,7 @@ part o (i ∷ later) before item x = part o later before item x.1
 -- a connection that is closed isn't open
 unopen : (o : Setting) (t : Trace) (conn : ℕ) → has (closes_conn conn) t ≡ true → is_open o t conn ≡ false
 unopen o t conn h =
-    ap (λ b. is_known conn o.conns && not b) (or_second (is_ended t) (has (closes_conn conn) t) h) ∙ none (is_known conn o.conns)
-  where
-    none : (b : Bool) → (b && false) ≡ false
-    none true = refl
-    none false = refl
+    ap (λ b. is_known conn o.conns && not b) (or_second (is_ended t) (has (closes_conn conn) t) h) ∙ and_false (is_known conn o.conns)
 
 sounds_hold : (o : Setting) (t : Trace) → Sounds o t → ClosesHold o t
 sounds_hold o t x = record {

@@ -14,7 +14,7 @@ use Rattle.iscsi_session.specs.Settings.{is_known}
 use Rattle.iscsi_session.specs.Standing.{are_known, are_ascending}
 use Rattle.iscsi_session.specs.Steps.{count_reply, find_ticket, without_ticket, is_immediate_on, immediate_in, counted_on, AreCounted, is_numbered}
 use Rattle.iscsi_session.proofs.BoolLemmas.{and_first, and_second}
-use Rattle.iscsi_session.proofs.ListLemmas.{IsSome-position, count_by-push, cids-count_reply, is_known-cids}
+use Rattle.iscsi_session.proofs.ListLemmas.{IsSome-position, count_by-push, cids-count_reply, is_known-cids, fewer_counted}
 
 -- ---- a count at its place
 
@@ -129,17 +129,6 @@ first_part cid (x ∷ lives) =
     and_false : (b : Bool) → ◌≡◌ {A = ℕ} (cond (b && false) 1 0) 0
     and_false true = refl
     and_false false = refl
-
--- fewer are counted of fewer
-pub fewer_counted : {A : Type 0} (p q : A → Bool) (lives : List A) → count_by p (filter q lives) ≤ count_by p lives
-fewer_counted p q [] = omega arith
-fewer_counted p q (x ∷ lives) =
-    let all : count_by p (x ∷ lives) ≡ cond (p x) 1 0 + count_by p lives = sum_by-cons (λ l. cond (p l) 1 0) x lives in
-    let rest : count_by p (filter q lives) ≤ count_by p lives = fewer_counted p q lives in
-    elim (q x) as (λ b. count_by p (cond b (x ∷ filter q lives) (filter q lives)) ≤ count_by p (x ∷ lives)) [
-      | true ↦ omega (arith, all, rest, sum_by-cons (λ l. cond (p l) 1 0) x (filter q lives))
-      | false ↦ omega (arith, all, rest)
-    ]
 
 -- who isn't of the first connection is of the others
 known_later : (c : ℕ × ℕ) (conns : List (ℕ × ℕ)) (lives : List Live) → are_known lives (c ∷ conns) ≡ true → are_known (filter (λ l. not (l.conn == c.0)) lives) conns ≡ true

@@ -1,7 +1,7 @@
 -- The held requests that a Logout takes out, in the window.
 use Rattle.std.proofs.Common.{◌≡◌, ℕ, zero, suc, ◌+◌, ◌-◌, ◌<◌, ◌≤◌, ◌==◌, ◌&&◌, ◌||◌, ⊎_elim, cond, Bool, true, false, List, [], ◌∷◌, ◌++◌, length, map, filter, get_or, Option, Some, None, option_map, refl, ap, sym, ◌∙◌, arith, append_assoc, eq-eqb}
-use Rattle.std.specs.List.{list_any, filter_map, flat_map, range_with_len, cons_option}
-use Rattle.std.proofs.lemmas.Bool.{cases_lt, cases_eq, false≢true}
+use Rattle.std.specs.List.{list_any, filter_map, range_with_len, cons_option}
+use Rattle.std.proofs.lemmas.Bool.{cases_lt, cases_eq}
 use Rattle.std.proofs.lemmas.Bool.Decides.{nat_tests}
 use Rattle.std.proofs.lemmas.List.{append-nil, length-map}
 use Rattle.std.proofs.lemmas.Grind.{flat_map-append}
@@ -13,17 +13,17 @@ use Rattle.iscsi_window.specs.Windows.{Received, number_expected, is_asked, is_h
 use Rattle.iscsi_session.specs.declared.effect.Effect.{Effect}
 use Rattle.iscsi_session.specs.declared.effect.Effect.TheVariants.{Empty}
 use Rattle.iscsi_session.specs.Settings.{Setting}
-use Rattle.iscsi_session.specs.Trace.{Arrival, Command, Mark, Empties, Leaves, Trace, has, shown, first_of, number_received, received, contains, is_received, delivers_number, is_delivered, empties_number, is_emptied, held, admitted, admits_at}
+use Rattle.iscsi_session.specs.Trace.{Arrival, Command, Mark, Empties, Leaves, Trace, has, shown, first_of, number_received, received, contains, is_received, delivers_number, is_delivered, empties_number, is_emptied, held, held_among, admitted, admits_at}
 use Rattle.iscsi_session.specs.Execution.{exp_of}
 use Rattle.iscsi_session.specs.Executed.{delivers, request_at}
 use Rattle.iscsi_session.specs.Logout.{all_held}
 use Rattle.iscsi_session.specs.Standing.{place_of, WindowAgrees, ArrivalsAgree}
 use Rattle.iscsi_session.specs.Parting.{emptied_place, emptied_from}
 use Rattle.iscsi_session.proofs.BoolLemmas.{or_false}
-use Rattle.iscsi_session.proofs.Missing.{expected_low, expected_gone}
 use Rattle.iscsi_session.proofs.HeldLemmas.{held-number}
 use Rattle.iscsi_session.proofs.MissingLemmas.{unreceived_unheld}
 use Rattle.iscsi_session.proofs.DeliveryLemmas.{IsQuiet, same_range}
+use Rattle.iscsi_session.proofs.WindowParts.{expected_past_next}
 
 -- ---- the items
 
@@ -59,7 +59,7 @@ abbrev held_list : Trace → ℕ → List Arrival
 held_list t n = elim (held t n) [ Some a ↦ a ∷ [] | None ↦ [] ]
 
 abbrev held_from : Trace → ℕ → ℕ → List Arrival
-held_from t a count = flat_map (held_list t) (range_with_len a count)
+held_from t a count = held_among t (range_with_len a count)
 
 range-parts : (a m n : ℕ) → range_with_len a (m + n) ≡ range_with_len a m ++ range_with_len (a + m) n
 range-parts a zero n = ap (range_with_len a) (let z : 0 + n ≡ n = omega arith in z) ∙ ap (λ k. range_with_len k n) (let z : a ≡ a + 0 = omega arith in z)
@@ -69,20 +69,13 @@ range-parts a (suc m) n =
 
 module _ (t : Trace) where
   held_from-parts : (a m n : ℕ) → held_from t a (m + n) ≡ held_from t a m ++ held_from t (a + m) n
-  held_from-parts a m n = ap (flat_map (held_list t)) (range-parts a m n) ∙ flat_map-append (held_list t) (range_with_len a m) (range_with_len (a + m) n)
+  held_from-parts a m n = ap (held_among t) (range-parts a m n) ∙ flat_map-append (held_list t) (range_with_len a m) (range_with_len (a + m) n)
 
   held_from-none : (a count : ℕ) → ((n : ℕ) → a ≤ n → n < a + count → held t n ≡ None) → held_from t a count ≡ []
   held_from-none a zero none = refl
   held_from-none a (suc count) none =
       ap (λ x. (let l : List Arrival = elim x [ Some b ↦ b ∷ [] | None ↦ [] ] in l) ++ held_from t (a + 1) count) (none a (omega arith) (omega arith))
       ∙ held_from-none (a + 1) count (λ n l u. none n (omega arith) (omega arith))
-
--- the numbers before the next are below ExpCmdSN
-expected_past_next : (o : Setting) (w : Received) (t : Trace) → WindowAgrees o w t → number_expected w ≤ exp_of o t
-expected_past_next o w t h = ⊎_elim
-    (λ lt. absurd (false≢true (sym (expected_gone o.first t) ∙ h.below (exp_of o t) (expected_low o.first t) lt)))
-    (λ ge. ge)
-    (cases_lt (exp_of o t) (number_expected w))
 
 -- above the window nothing is held
 above_none : (o : Setting) (w : Received) (t : Trace) → WindowAgrees o w t → (n : ℕ) → number_expected w + length w.places ≤ n → held t n ≡ None

@@ -18,7 +18,7 @@ use Rattle.iscsi_session.specs.Steps.{as_given, enable_effects, enable_effect}
 use Rattle.iscsi_session.proofs.BoolLemmas.{and_parts, and_both, or_none, or_first, or_comm, not_true}
 use Rattle.iscsi_session.proofs.ApartLemmas.{unamong-filter}
 use Rattle.iscsi_session.proofs.TraceLemmas.{all_among}
-use Rattle.iscsi_session.proofs.ListLemmas.{list_all-filter}
+use Rattle.iscsi_session.proofs.ListLemmas.{list_all-filter, all_of_filter}
 
 -- ---- lists
 
@@ -59,14 +59,6 @@ pub map-map : {A B C : Type 0} (g : B → C) (f : A → B) (xs : List A) → map
 map-map g f [] = refl
 map-map g f (x ∷ xs) = ap (λ ys. g (f x) ∷ ys) (map-map g f xs)
 
-all_of_filter : {A : Type 0} (p : A → Bool) (xs : List A) → list_all p (filter p xs) ≡ true
-all_of_filter p [] = refl
-all_of_filter p (x ∷ xs) =
-    elim (p x) as (λ b. p x ≡ b → list_all p (cond b (x ∷ filter p xs) (filter p xs)) ≡ true) [
-      | true ↦ λ is. and_both (p x) (list_all p (filter p xs)) is (all_of_filter p xs)
-      | false ↦ λ is. all_of_filter p xs
-    ] refl
-
 pub both_all : {A : Type 0} (p q : A → Bool) (xs : List A) → list_all p xs ≡ true → list_all q xs ≡ true → list_all (λ x. p x && q x) xs ≡ true
 both_all p q [] h k = refl
 both_all p q (x ∷ xs) h k =
@@ -92,7 +84,7 @@ never_free c (item ∷ t) gone =
     ap (λ b. (b && is_free (queued_of c) (map queued_of (live_in c.unit (item ∷ t)))) || was_free c t) out ∙ never_free c t parts.0
 
 -- one that is in its set and free now was free at some moment so far
-free_now : (c : Command) (t : Trace) → is_free_at c t ≡ true → was_free c t ≡ true
+pub free_now : (c : Command) (t : Trace) → is_free_at c t ≡ true → was_free c t ≡ true
 free_now c [] h = absurd (false≢true h)
 free_now c (item ∷ t) h = or_first (is_free_at c (item ∷ t)) (was_free c t) h
 

@@ -14,10 +14,10 @@ use Rattle.iscsi_session.specs.Agenda.{items_of}
 use Rattle.iscsi_session.specs.Run.{after_event, after_events, effects_of_mark, newly_enabled, effects_of_item, effects_of, entries_from}
 use Rattle.iscsi_session.specs.Enabling.{effects_so_far, is_enable, is_leave, is_shown_enabled, is_enabled, FreeMoment, EnabledSoFar, effects_in}
 use Rattle.iscsi_session.specs.Standing.{CommandsAgree}
-use Rattle.iscsi_session.proofs.BoolLemmas.{and_parts, and_both, or_first, or_second, or_comm, or_false}
-use Rattle.iscsi_session.proofs.ListLemmas.{list_any-map}
+use Rattle.iscsi_session.proofs.BoolLemmas.{and_parts, and_both, or_first, or_second, or_comm, or_false, and_false, and_comm, and_true}
+use Rattle.iscsi_session.proofs.ListLemmas.{list_any-map, any_filter, any_flat_map, any_same}
 use Rattle.iscsi_session.proofs.TraceLemmas.{weaker}
-use Rattle.iscsi_session.proofs.EnabledLemmas.{enables, is_here, was_free-stays, new_in, new_in-more, newly-one, filter-twice}
+use Rattle.iscsi_session.proofs.EnabledLemmas.{enables, is_here, was_free-stays, new_in, new_in-more, newly-one, filter-twice, free_now}
 use Rattle.iscsi_session.proofs.CommandParts.{Untouched, live-untouched, live_in-untouched, EntersOne, live-entered, live_in-entered, live_in-elsewhere, LeavesSome, live-left, none_any}
 use Rattle.iscsi_session.proofs.SetParts.{newly-untouched}
 
@@ -213,14 +213,6 @@ any_or f g h (x ∷ xs) same = ap (λ b. b || list_any f xs) (same x) ∙ ap (λ
     swap false false true d = refl
     swap false false false d = refl
 
-any_filter : {A : Type 0} (f p : A → Bool) (xs : List A) → list_any f (filter p xs) ≡ list_any (λ x. p x && f x) xs
-any_filter f p [] = refl
-any_filter f p (x ∷ xs) =
-    elim (p x) as (λ b. list_any f (cond b (x ∷ filter p xs) (filter p xs)) ≡ ((b && f x) || list_any (λ y. p y && f y) xs)) [
-      | true ↦ ap (λ b. f x || b) (any_filter f p xs)
-      | false ↦ any_filter f p xs
-    ]
-
 -- those with other tickets don't matter
 any_without : (w : Command → Bool) (out : ℕ → Bool) (k : ℕ) (cs : List Command) → out k ≡ false → list_any (λ d. d.ticket == k && w d) (filter (λ d. not (out d.ticket)) cs) ≡ list_any (λ d. d.ticket == k && w d) cs
 any_without w out k [] stays = refl
@@ -251,14 +243,6 @@ none_gone out k (x ∷ cs) goes =
 
 -- ---- what an item enables, of all units
 
-any_flat_map : {A B : Type 0} (p : B → Bool) (f : A → List B) (xs : List A) → list_any p (flat_map f xs) ≡ list_any (λ x. list_any p (f x)) xs
-any_flat_map p f [] = refl
-any_flat_map p f (x ∷ xs) = list_any-append p (f x) (flat_map f xs) ∙ ap (λ b. list_any p (f x) || b) (any_flat_map p f xs)
-
-any_same : {A : Type 0} (f g : A → Bool) (xs : List A) → ((x : A) → f x ≡ g x) → list_any f xs ≡ list_any g xs
-any_same f g [] same = refl
-any_same f g (x ∷ xs) same = ap (λ b. b || list_any f xs) (same x) ∙ ap (λ b. g x || b) (any_same f g xs same)
-
 any_never : {A : Type 0} (xs : List A) → list_any (λ x. false) xs ≡ false
 any_never [] = refl
 any_never (x ∷ xs) = any_never xs
@@ -283,14 +267,6 @@ any_in_units n g (x ∷ cs) all =
     below : (u : ℕ) → nat_lt u n ≡ true → u < 0 + n
     below u test = let lt : u < n = grind (arith, nat_tests) in omega (arith, lt)
 
-    and_true : (b : Bool) → (b && true) ≡ b
-    and_true true = refl
-    and_true false = refl
-
-    and_false : (b : Bool) → (b && false) ≡ false
-    and_false true = refl
-    and_false false = refl
-
     either : (b : Bool) (us : List ℕ) → list_any (λ u. x.unit == u) us ≡ true → list_any (λ u. (x.unit == u) && b) us ≡ b
     either true us h = any_same (λ u. (x.unit == u) && true) (λ u. x.unit == u) us (λ u. and_true (x.unit == u)) ∙ h
     either false us h = any_same (λ u. (x.unit == u) && false) (λ u. false) us (λ u. and_false (x.unit == u)) ∙ any_never us
@@ -311,18 +287,12 @@ newly_among o item t k regular =
     ∙ any_same (λ u. is_among k (new_in t item u)) (λ u. list_any (λ d. (d.unit == u) && (d.ticket == k && is_new item t d)) (live (item ∷ t))) (range_with_len 0 o.units) in_unit
     ∙ any_in_units o.units (λ d. d.ticket == k && is_new item t d) (live (item ∷ t)) regular
   where
-    and_comm : (a u v : Bool) → (a && (u && v)) ≡ (a && (v && u))
-    and_comm a true true = refl
-    and_comm a true false = refl
-    and_comm a false true = refl
-    and_comm a false false = refl
-
     in_unit : (u : ℕ) → is_among k (new_in t item u) ≡ list_any (λ d. (d.unit == u) && (d.ticket == k && is_new item t d)) (live (item ∷ t))
     in_unit u =
         ap (is_among k) (filter-twice (λ d. not (was_free d t)) (λ d. was_free d (item ∷ t)) (live_in u (item ∷ t)))
         ∙ any_filter (λ (d : Command). d.ticket == k) (is_new item t) (live_in u (item ∷ t))
         ∙ any_filter (λ d. is_new item t d && (d.ticket == k)) (λ (d : Command). d.unit == u) (live (item ∷ t))
-        ∙ any_same (λ d. (d.unit == u) && (is_new item t d && (d.ticket == k))) (λ d. (d.unit == u) && (d.ticket == k && is_new item t d)) (live (item ∷ t)) (λ d. and_comm (d.unit == u) (is_new item t d) (d.ticket == k))
+        ∙ any_same (λ d. (d.unit == u) && (is_new item t d && (d.ticket == k))) (λ d. (d.unit == u) && (d.ticket == k && is_new item t d)) (live (item ∷ t)) (λ d. ap (λ b. (d.unit == u) && b) (and_comm (is_new item t d) (d.ticket == k)))
 
 exact-left : (o : Setting) (item : List Mark) (t : Trace) (out : ℕ → Bool) → LeavesSome item out → list_all (λ d. nat_lt d.unit o.units) (live (item ∷ t)) ≡ true → Exact o t → Exact o (item ∷ t)
 exact-left o item t out l regular x k =
@@ -350,12 +320,8 @@ exact-left o item t out l regular x k =
 
     by_ticket : (b : Bool) → out k ≡ b → ((enabled_once o t k || is_among k (newly_enabled o t item)) && not (b || has (leaves_ticket k) t)) ≡ list_any (λ d. d.ticket == k && was_free d (item ∷ t)) rest
     by_ticket true is =
-        and_none (enabled_once o t k || is_among k (newly_enabled o t item))
+        and_false (enabled_once o t k || is_among k (newly_enabled o t item))
         ∙ sym (none_any (λ d. was_free d (item ∷ t)) k rest (none_gone out k (live t) is))
-      where
-        and_none : (u : Bool) → (u && false) ≡ false
-        and_none true = refl
-        and_none false = refl
     by_ticket false is =
         bools (enabled_once o t k) (is_among k (newly_enabled o t item)) (has (leaves_ticket k) t) unnew
         ∙ ap (λ b. b || is_among k (newly_enabled o t item)) (sym (shown-before o t k) ∙ x k ∙ sym (any_without (λ d. was_free d t) out k (live t) is))
@@ -407,10 +373,6 @@ or_cases : (a b : Bool) (P : Type 0) → (a ≡ true → P) → (b ≡ true → 
 or_cases true b P f g h = f refl
 or_cases false b P f g h = g h
 
-or_later : (a b : Bool) → b ≡ true → (a || b) ≡ true
-or_later true b h = refl
-or_later false b h = h
-
 moment_of : (c : Command) (t : Trace) → was_free c t ≡ true → FreeMoment c t
 moment_of c [] h = absurd (false≢true h)
 moment_of c (item ∷ t) h =
@@ -419,13 +381,9 @@ moment_of c (item ∷ t) h =
     (λ before. let m : FreeMoment c t = moment_of c t before in record { later = item ∷ m.later; moment = m.moment; split = ap (λ s. item ∷ s) m.split; free = m.free })
     h
 
-free_here : (c : Command) (t : Trace) → is_free_at c t ≡ true → was_free c t ≡ true
-free_here c [] h = absurd (false≢true h)
-free_here c (item ∷ t) h = or_first (is_free_at c (item ∷ t)) (was_free c t) h
-
 free_since : (c : Command) (later moment : Trace) → is_free_at c moment ≡ true → was_free c (later ++ moment) ≡ true
-free_since c [] moment h = free_here c moment h
-free_since c (item ∷ later) moment h = or_later (is_free_at c (item ∷ later ++ moment)) (was_free c (later ++ moment)) (free_since c later moment h)
+free_since c [] moment h = free_now c moment h
+free_since c (item ∷ later) moment h = or_second (is_free_at c (item ∷ later ++ moment)) (was_free c (later ++ moment)) (free_since c later moment h)
 
 pub rule_means : (c : Command) (t : Trace) → (was_free c t ≡ true) ↔ FreeMoment c t
 rule_means c t = (moment_of c t, λ m. ap (was_free c) (sym m.split) ∙ free_since c m.later m.moment m.free)

@@ -1,7 +1,6 @@
 -- A request executes.
 use Rattle.std.proofs.Common.{◌≡◌, ℕ, pos, ◌-ℤ◌, ◌+◌, ◌<◌, ◌==◌, ◌&&◌, ◌||◌, not, cond, Bool, true, false, nat_lt, nat_le, List, [], ◌∷◌, ◌++◌, length, map, filter, count_by, get_or, Option, Some, None, option_map, refl, ap, sym, subst, ◌∙◌, arith}
 use Rattle.std.specs.List.{list_any, list_all, filter_map, cons_option}
-use Rattle.std.proofs.lemmas.Bool.{false≢true}
 use Rattle.std.proofs.lemmas.Bool.Decides.{nat_tests}
 use Rattle.std.proofs.lemmas.List.{append-nil, length-map}
 use Rattle.iscsi_wire.specs.declared.request.Request.{Request}
@@ -27,6 +26,7 @@ use Rattle.iscsi_session.specs.Standing.{open_of, Core, kept, is_regular, task_o
 use Rattle.iscsi_session.specs.Enabling.{EnabledSoFar}
 use Rattle.iscsi_session.specs.Steps.{new_live, new_task, number_by, event_by, started, is_tag_kept, is_immediate_on, is_crowded_by, is_set_full, place_in, verdict_by, executed_as, execution_effects}
 use Rattle.iscsi_session.specs.Logout.{logout_marks}
+use Rattle.iscsi_session.proofs.BoolLemmas.{and_both}
 use Rattle.iscsi_session.proofs.OpenConns.{ClosesNone, open_of-same, closes-more}
 use Rattle.iscsi_session.proofs.ListLemmas.{list_any-map, count_by-map, count_by-push}
 use Rattle.iscsi_session.proofs.DeliveryLemmas.{IsQuiet}
@@ -275,7 +275,7 @@ module _ (o : Setting) (s : Core) (t : Trace) (m : Mark) (e : Effect) (a : Arriv
       ∙ ap (task_with (length (entered ((m ∷ []) ∷ t))) a.number o.first) event_is in
       let live_is : new_live s a.request unit ≡ kept c = ap live_with count in
       let entry : SetEntry o s.sets t item c (new_task s a.request) = SetsAgree-entered o s.live s.entered s.sets t item c (new_task s a.request) b.commands b.sets en inside task_is in
-      let regular : is_regular o c ≡ true = both (nat_lt unit o.units) (is_known (connection_of a.request) o.conns) (let test : nat_lt unit o.units ≡ true = grind (arith, nat_tests) in test) b.known in
+      let regular : is_regular o c ≡ true = and_both (nat_lt unit o.units) (is_known (connection_of a.request) o.conns) (let test : nat_lt unit o.units ≡ true = grind (arith, nat_tests) in test) b.known in
       let numbered : Command → Bool = λ d. not (is_immediate d.arrival.request) in
       let lives : unfinished (item ∷ t) ≡ unfinished t + cond (numbered c) 1 0 = ap (count_by numbered) (live-entered o s.live s.entered item t c b.commands en) ∙ count_by-push numbered (live t) c in
       record {
@@ -302,10 +302,6 @@ module _ (o : Setting) (s : Core) (t : Trace) (m : Mark) (e : Effect) (a : Arriv
 
       live_with : ℕ → Live
       live_with n = record { ticket = n + 1; unit = unit; conn = connection_of a.request; itt = itt a.request; immediate = is_immediate a.request }
-
-      both : (p q : Bool) → p ≡ true → q ≡ true → (p && q) ≡ true
-      both true q h k = k
-      both false q h k = absurd (false≢true h)
 
   executed-by : number_by s a.request ≡ a.number → event_by s a.request ≡ cond (is_immediate a.request) a.event 0 → (v : Verdict) → verdict_by s a.request ≡ v → Executed o s t m e a v
   executed-by number_is event_is Nothing is = nothing_more

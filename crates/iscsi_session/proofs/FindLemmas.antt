@@ -1,6 +1,6 @@
 -- What ABORT TASK finds: a session's lookups against those of the definitions.
 use Rattle.std.proofs.Common.{◌≡◌, ℕ, zero, suc, ◌+◌, ◌-◌, ◌<◌, ◌≤◌, ◌==◌, ◌&&◌, not, ⊎_elim, cond, Bool, true, false, List, [], ◌∷◌, ◌++◌, length, map, filter, find, take, get_or, position, Option, Some, None, option_map, nat_lt, refl, ap, sym, subst, ◌∙◌, arith}
-use Rattle.std.specs.List.{flat_map, range_with_len, position_or_len}
+use Rattle.std.specs.List.{range_with_len, position_or_len}
 use Rattle.std.proofs.lemmas.Bool.{cases_lt, lt-ltb, le-ltb}
 use Rattle.std.proofs.lemmas.Bool.Decides.{nat_tests}
 use Rattle.iscsi_wire.specs.declared.request.Request.{Request}
@@ -9,7 +9,7 @@ use Rattle.iscsi_wire.specs.Fields.{opcode, itt, lun, unit_of}
 use Rattle.iscsi_window.specs.Windows.{Received, number_expected, is_unit, is_command, find_command}
 use Rattle.iscsi_session.specs.declared.session.live.Live.{Live}
 use Rattle.iscsi_session.specs.Settings.{Setting}
-use Rattle.iscsi_session.specs.Trace.{Arrival, Command, Trace, first_of, is_received, held, live}
+use Rattle.iscsi_session.specs.Trace.{Arrival, Command, Trace, first_of, is_received, held, held_among, live}
 use Rattle.iscsi_session.specs.Execution.{exp_of}
 use Rattle.iscsi_session.specs.Management.{is_to, held_requests, held_command, live_with_tag}
 use Rattle.iscsi_session.proofs.BoolLemmas.{and_first}
@@ -60,22 +60,18 @@ is_to-unit o unit r inside = by_lun (unit_of (lun r))
         (λ ge. ap (λ b. elim (let y : Option ℕ = cond b (Some v) None in y) [ Some u ↦ u == unit | None ↦ false ]) (le-ltb v o.units ge) ∙ (let no : (v == unit) ≡ false = grind (arith, nat_tests) in sym no))
         (cases_lt v o.units)
 
--- the request that is held at a number, or none
-abbrev held_list : Trace → ℕ → List Arrival
-held_list t n = elim (held t n) [ Some a ↦ a ∷ [] | None ↦ [] ]
-
 -- a SCSI Command with this tag and unit, of a number below
 abbrev pub is_sought : Setting → ℕ → ℕ → ℕ → Arrival → Bool
 is_sought o tag unit below h = nat_lt h.number below && opcode h.request == 0x01 && itt h.request == tag && is_to o unit h.request
 
 module _ (o : Setting) (t : Trace) (tag unit below : ℕ) where
   -- none from the number below on
-  pub none_below : (count e : ℕ) → below ≤ e → filter (is_sought o tag unit below) (flat_map (held_list t) (range_with_len e count)) ≡ []
+  pub none_below : (count e : ℕ) → below ≤ e → filter (is_sought o tag unit below) (held_among t (range_with_len e count)) ≡ []
   none_below zero e past = refl
   none_below (suc count) e past = by_held (none_below count (e + 1) (omega arith)) (held t e) refl
     where
       rest : List Arrival
-      rest = flat_map (held_list t) (range_with_len (e + 1) count)
+      rest = held_among t (range_with_len (e + 1) count)
 
       by_held : filter (is_sought o tag unit below) rest ≡ [] → (x : Option Arrival) → held t e ≡ x → filter (is_sought o tag unit below) (elim (held t e) [ Some a ↦ a ∷ [] | None ↦ [] ] ++ rest) ≡ []
       by_held none None is = ap (λ y. filter (is_sought o tag unit below) ((let l : List Arrival = elim y [ Some a ↦ a ∷ [] | None ↦ [] ] in l) ++ rest)) is ∙ none
@@ -87,14 +83,14 @@ module _ (o : Setting) (t : Trace) (tag unit below : ℕ) where
           ∙ none
 
   -- the one that is found is held, at a number of the range
-  pub found_held : (count e : ℕ) (h : Arrival) → first_of (filter (is_sought o tag unit below) (flat_map (held_list t) (range_with_len e count))) ≡ Some h
+  pub found_held : (count e : ℕ) (h : Arrival) → first_of (filter (is_sought o tag unit below) (held_among t (range_with_len e count))) ≡ Some h
       → (held t h.number ≡ Some h) × ((e ≤ h.number) × (h.number < e + count))
   found_held zero e h found = absurd cc
   found_held (suc count) e h found =
       by_held (λ f. let p = found_held count (e + 1) h f in (p.0, (omega (arith, p.1.0), omega (arith, p.1.1)))) (held t e) refl found
     where
       rest : List Arrival
-      rest = flat_map (held_list t) (range_with_len (e + 1) count)
+      rest = held_among t (range_with_len (e + 1) count)
 
       by_held : (first_of (filter (is_sought o tag unit below) rest) ≡ Some h → (held t h.number ≡ Some h) × ((e ≤ h.number) × (h.number < e + suc count))) → (x : Option Arrival) → held t e ≡ x
           → first_of (filter (is_sought o tag unit below) ((let l : List Arrival = elim x [ Some a ↦ a ∷ [] | None ↦ [] ] in l) ++ rest)) ≡ Some h
@@ -121,19 +117,19 @@ module _ (o : Setting) (t : Trace) (tag unit below : ℕ) where
 
   -- the number that is found is that of the place that is found
   pub found_numbers : (ps : List (Option (Option Request))) (e : ℕ) → unit < o.units → ((k : ℕ) → k < length ps → get_or ps k None ≡ place_of t (e + k))
-      → option_map (λ (h : Arrival). h.number) (first_of (filter (is_sought o tag unit below) (flat_map (held_list t) (range_with_len e (length ps))))) ≡ option_map (λ k. e + k) (position (is_command tag unit) (take (below - e) ps))
+      → option_map (λ (h : Arrival). h.number) (first_of (filter (is_sought o tag unit below) (held_among t (range_with_len e (length ps))))) ≡ option_map (λ k. e + k) (position (is_command tag unit) (take (below - e) ps))
   found_numbers [] e inside same = sym (ap (λ (qs : List (Option (Option Request))). option_map (λ k. e + k) (position (is_command tag unit) qs)) (take-none (below - e)))
   found_numbers (p ∷ ps) e inside same =
       ⊎_elim (λ lt. before (found_numbers ps (e + 1) inside (λ k l. same (suc k) (omega arith) ∙ ap (place_of t) (let z : e + suc k ≡ e + 1 + k = omega arith in z))) lt) (λ ge. past ge) (cases_lt e below)
     where
       rest : List Arrival
-      rest = flat_map (held_list t) (range_with_len (e + 1) (length ps))
+      rest = held_among t (range_with_len (e + 1) (length ps))
 
       found : Option ℕ
       found = position (is_command tag unit) (take (below - (e + 1)) ps)
 
       goal : Type 0
-      goal = option_map (λ (h : Arrival). h.number) (first_of (filter (is_sought o tag unit below) (flat_map (held_list t) (range_with_len e (suc (length ps)))))) ≡ option_map (λ k. e + k) (position (is_command tag unit) (take (below - e) (p ∷ ps)))
+      goal = option_map (λ (h : Arrival). h.number) (first_of (filter (is_sought o tag unit below) (held_among t (range_with_len e (suc (length ps)))))) ≡ option_map (λ k. e + k) (position (is_command tag unit) (take (below - e) (p ∷ ps)))
 
       past : below ≤ e → goal
       past ge =
@@ -176,8 +172,8 @@ pub held_command-is : (o : Setting) (w : Received) (t : Trace) (tag unit sn : �
     → option_map (λ (h : Arrival). h.number) (held_command o t tag unit (lift (exp_of o t) sn)) ≡ option_map (λ k. number_expected w + k) (find_command w tag unit sn)
 held_command-is o w t tag unit sn h exp inside =
     let e : ℕ = number_expected w in
-    ap (λ n. option_map (λ (x : Arrival). x.number) (first_of (filter (is_sought o tag unit (lift n sn)) (flat_map (held_list t) (range_with_len n o.window))))) exp
-    ∙ ap (λ n. option_map (λ (x : Arrival). x.number) (first_of (filter (is_sought o tag unit (lift e sn)) (flat_map (held_list t) (range_with_len e n))))) (sym h.size)
+    ap (λ n. option_map (λ (x : Arrival). x.number) (first_of (filter (is_sought o tag unit (lift n sn)) (held_among t (range_with_len n o.window))))) exp
+    ∙ ap (λ n. option_map (λ (x : Arrival). x.number) (first_of (filter (is_sought o tag unit (lift e sn)) (held_among t (range_with_len e n))))) (sym h.size)
     ∙ found_numbers o t tag unit (lift e sn) w.places e inside h.inside
 
 -- and is held at a place of the window

@@ -44,8 +44,8 @@ use Rattle.iscsi_session.specs.Parting.{closing_by, closed_as, closed_effects}
 use Rattle.iscsi_session.proofs.OpenConns.{ClosesNone, open_of-same, closes-more}
 use Rattle.iscsi_session.proofs.LogoutItem.{logout-item}
 use Rattle.iscsi_session.proofs.PartedLemmas.{closed_expected}
-use Rattle.iscsi_session.proofs.BoolLemmas.{and_parts}
-use Rattle.iscsi_session.proofs.ListLemmas.{count_by-map, list_any-map, list_all-filter, find-passes}
+use Rattle.iscsi_session.proofs.BoolLemmas.{and_parts, and_true}
+use Rattle.iscsi_session.proofs.ListLemmas.{count_by-map, list_any-map, list_all-filter, find-passes, any_filter, any_same}
 use Rattle.iscsi_session.proofs.TraceLemmas.{filter-same}
 use Rattle.iscsi_session.proofs.DeliveryLemmas.{IsQuiet}
 use Rattle.iscsi_session.proofs.HeldLemmas.{held-number, admitted_of_held}
@@ -108,18 +108,6 @@ OutcomeIs o s t m a unit fm (AbortAll cover) = fm ≡ map Leaves (covered_in o t
 OutcomeIs o s t m a unit fm (EmptyNumber sn) = (x : EmptiesHeld o s.window ((m ∷ []) ∷ t) a unit sn) × (fm ≡ Empties x.request ∷ answer a 0)
 OutcomeIs o s t m a unit fm (VoidNumber sn) = (x : VoidsMissing o s.window ((m ∷ []) ∷ t) a unit sn) × (fm ≡ cond (is_received ((m ∷ []) ∷ t) (lift (number_expected s.window) sn)) [] (Voids (lift (number_expected s.window) sn) ∷ []) ++ answer a 0)
 
-any_filter : {A : Type 0} (p q : A → Bool) (xs : List A) → list_any p (filter q xs) ≡ list_any (λ x. q x && p x) xs
-any_filter p q [] = refl
-any_filter p q (x ∷ xs) =
-    elim (q x) as (λ b. list_any p (cond b (x ∷ filter q xs) (filter q xs)) ≡ ((b && p x) || list_any (λ y. q y && p y) xs)) [
-      | true ↦ ap (λ b. p x || b) (any_filter p q xs)
-      | false ↦ any_filter p q xs
-    ]
-
-any_same : {A : Type 0} (p q : A → Bool) (xs : List A) → ((x : A) → p x ≡ q x) → list_any p xs ≡ list_any q xs
-any_same p q [] h = refl
-any_same p q (x ∷ xs) h = ap (λ b. b || list_any p xs) (h x) ∙ ap (λ b. q x || b) (any_same p q xs h)
-
 module _ (o : Setting) (s : Core) (t : Trace) (m : Mark) (e : Effect) (a : Arrival) (b : Begun o s t m e a) (unit : ℕ) where
   abbrev t' : Trace
   t' = (m ∷ []) ∷ t
@@ -153,10 +141,6 @@ module _ (o : Setting) (s : Core) (t : Trace) (m : Mark) (e : Effect) (a : Arriv
       ∙ any_same (λ c. (c.unit == unit) && p c) (λ c. q (kept c)) (live t) (λ c. sym (same c))
       ∙ sym (list_any-map q kept (live t)) ∙ ap (list_any q) (sym b.commands.commands)
 
-  and_true : (v : Bool) → v ≡ (v && true)
-  and_true true = refl
-  and_true false = refl
-
   -- the marks of the function
   outcome_is : (position : ℤ) (event : ℕ) → position ≡ pos a.number -ℤ pos (number_of_first o.first) → event ≡ a.event → ((function a.request == 1) ≡ true → AbortsAs o s.window t' a unit (abort_by s a.request unit))
       → OutcomeIs o s t m a unit (function_to o t' a unit) (outcome_by s a.request position event unit)
@@ -175,7 +159,7 @@ module _ (o : Setting) (s : Core) (t : Trace) (m : Mark) (e : Effect) (a : Arriv
           | false ↦ elim (function a.request == 9) as (λ v. is (cond v query_task (cond (function a.request == 10) query_set (abort_all t' a unit (is_before a)))) (cond v tagged (cond (function a.request == 10) there sweep))) [
             | true ↦ ap (query a) (asked (λ c. itt c.arrival.request == rtt a.request) (λ l. l.unit == unit && l.itt == rtt a.request) (λ c. refl))
             | false ↦ elim (function a.request == 10) as (λ v. is (cond v query_set (abort_all t' a unit (is_before a))) (cond v there sweep)) [
-              | true ↦ ap (query a) (asked (λ c. true) (λ l. l.unit == unit) (λ c. and_true (c.unit == unit)))
+              | true ↦ ap (query a) (asked (λ c. true) (λ l. l.unit == unit) (λ c. sym (and_true (c.unit == unit))))
               | false ↦ before_is position event position_is event_is
             ]
           ]

@@ -6,7 +6,7 @@ use Rattle.iscsi_tasks.specs.Sets.{is_new, next_in, given_in}
 use Rattle.iscsi_session.specs.declared.effect.Effect.{Effect}
 use Rattle.iscsi_session.specs.declared.effect.Effect.TheVariants.{Enable}
 use Rattle.iscsi_session.specs.Steps.{as_given, enable_effects}
-use Rattle.iscsi_session.proofs.BoolLemmas.{and_parts}
+use Rattle.iscsi_session.proofs.BoolLemmas.{and_parts, or_second}
 
 -- a command is given
 pub record Given (unit ticket : ℕ) (ms : List Member) : Type 0 where
@@ -25,10 +25,6 @@ given_one unit ticket (m ∷ ms) h = by_new (is_new m) refl (given_one unit tick
     gone true = refl
     gone false = refl
 
-    or_true : (g e : Bool) → e ≡ true → (g || e) ≡ true
-    or_true true e k = refl
-    or_true false e k = k
-
     now : Member
     now = record { task = m.task; enabled = m.enabled; given = true }
 
@@ -41,7 +37,7 @@ given_one unit ticket (m ∷ ms) h = by_new (is_new m) refl (given_one unit tick
         let given_is : given_in (m ∷ ms) ≡ now ∷ ms = ap (λ b. cond b (now ∷ ms) (m ∷ given_in ms)) is in
         let never : is_new now ≡ false = gone m.enabled in
         record {
-          same = ap (map as_given) given_is ∙ ap (λ b. let x : Member = record { task = m.task; enabled = m.enabled; given = b } in x ∷ map as_given ms) (sym (or_true m.given m.enabled (and_parts m.enabled (not m.given) is).0));
+          same = ap (map as_given) given_is ∙ ap (λ b. let x : Member = record { task = m.task; enabled = m.enabled; given = b } in x ∷ map as_given ms) (sym (or_second m.given m.enabled (and_parts m.enabled (not m.given) is).0));
           effects = ap (λ b. shown_by unit b m ms) is ∙ ap (λ k. Enable k unit ∷ enable_effects unit ms) same ∙ sym (ap (λ xs. Enable ticket unit ∷ enable_effects unit xs) given_is ∙ ap (λ b. Enable ticket unit ∷ shown_by unit b now ms) never);
           fewer = omega (arith, counts true m ms is, counts false now ms never, ap (count_by is_new) given_is);
         }

@@ -10,7 +10,7 @@ use Rattle.iscsi_session.proofs.DeliveryLemmas.{IsQuiet}
 
 -- ---- who was admitted at a number
 
-first_of-append : {A : Type 0} (xs ys : List A) (x : A) → first_of (xs ++ ys) ≡ Some x → (first_of xs ≡ Some x) ⊎ (first_of ys ≡ Some x)
+pub first_of-append : {A : Type 0} (xs ys : List A) (x : A) → first_of (xs ++ ys) ≡ Some x → (first_of xs ≡ Some x) ⊎ (first_of ys ≡ Some x)
 first_of-append [] ys x h = inr h
 first_of-append (z ∷ xs) ys x h = inl h
 
@@ -32,13 +32,13 @@ mark_number n (ClosesConn conn) a h = absurd cc
 mark_number n ClosesSession a h = absurd cc
 mark_number n (Ignores why) a h = absurd cc
 
-cons_first : {A : Type 0} (x : Option A) (xs : List A) (y : A) → first_of (cons_option x xs) ≡ Some y → (x ≡ Some y) ⊎ (first_of xs ≡ Some y)
-cons_first None xs y h = inr h
-cons_first (Some x) xs y h = inl h
+pub first_of-cons : {A : Type 0} (x : Option A) (xs : List A) (y : A) → first_of (cons_option x xs) ≡ Some y → (x ≡ Some y) ⊎ (first_of xs ≡ Some y)
+first_of-cons None xs y h = inr h
+first_of-cons (Some x) xs y h = inl h
 
 item_number : (n : ℕ) (item : List Mark) (a : Arrival) → first_of (filter_map (admits_at n) item) ≡ Some a → a.number ≡ n
 item_number n [] a h = absurd cc
-item_number n (m ∷ ms) a h = ⊎_elim (λ here. mark_number n m a here) (λ later. item_number n ms a later) (cons_first (admits_at n m) (filter_map (admits_at n) ms) a h)
+item_number n (m ∷ ms) a h = ⊎_elim (λ here. mark_number n m a here) (λ later. item_number n ms a later) (first_of-cons (admits_at n m) (filter_map (admits_at n) ms) a h)
 
 pub admitted-number : (t : Trace) (n : ℕ) (a : Arrival) → admitted t n ≡ Some a → a.number ≡ n
 admitted-number [] n a h = absurd cc

@@ -15,7 +15,7 @@ use Rattle.iscsi_session.specs.Steps.{set_at, enabled_of, find_ticket, without_t
 use Rattle.iscsi_session.proofs.BoolLemmas.{and_parts, and_both}
 use Rattle.iscsi_session.proofs.EnabledLemmas.{filter-map, map-map}
 use Rattle.iscsi_session.proofs.CommandParts.{filter-swap}
-use Rattle.iscsi_session.proofs.ListLemmas.{list_all-filter}
+use Rattle.iscsi_session.proofs.ListLemmas.{list_all-filter, filter-shorter}
 use Rattle.iscsi_session.proofs.WindowLemmas.{find-found}
 
 abbrev tickets : List Member → List ℕ
@@ -208,12 +208,6 @@ ascending-left k (x ∷ lives) up =
 pub within-left : (k n units : ℕ) (lives : List Live) → are_within n units lives ≡ true → are_within n units (without_ticket k lives) ≡ true
 within-left k n units lives h = list_all-filter (λ (x : Live). not (x.ticket == k)) (λ (x : Live). nat_le x.ticket n && nat_lt x.unit units) lives h
 
-pub shorter : {A : Type 0} (p : A → Bool) (xs : List A) → length (filter p xs) ≤ length xs
-shorter p [] = omega arith
-shorter p (x ∷ xs) =
-    let rest : length (filter p xs) ≤ length xs = shorter p xs in
-    elim (p x) as (λ b. length (cond b (x ∷ filter p xs) (filter p xs)) ≤ suc (length xs)) [ true ↦ omega (arith, rest) | false ↦ omega (arith, rest) ]
-
 -- what a set has left is no more than the commands that are left
 pub few_left : (sets : List Members) (lives : List Live) (l : Live) → Match sets lives → l.unit < length sets → length (set_without l sets).list ≤ length (without_ticket l.ticket lives)
 few_left sets lives l m inside =
@@ -221,7 +215,7 @@ few_left sets lives l m inside =
     let same : tickets left ≡ tickets_in l.unit (without_ticket l.ticket lives) = tickets-left (get_or sets l.unit (opened 0)) l.ticket ∙ ap (filter (λ t. not (t == l.ticket))) (m l.unit inside) ∙ sym (tickets_in-left l.ticket l.unit lives) in
     let here : List Live = filter (λ (x : Live). x.unit == l.unit) (without_ticket l.ticket lives) in
     let counts : length left ≡ length here = sym (length-map left (λ (m : Member). m.task.ticket)) ∙ ap length same ∙ length-map here (λ (x : Live). x.ticket) in
-    omega (arith, counts, shorter (λ (x : Live). x.unit == l.unit) (without_ticket l.ticket lives))
+    omega (arith, counts, filter-shorter (λ (x : Live). x.unit == l.unit) (without_ticket l.ticket lives))
 
 -- the command that is enabled was found by its ticket
 pub enabled_found : (s : Core) (k : ℕ) (x : Option Live) (l : Live) → enabled_of s k x ≡ Some l → x ≡ Some l

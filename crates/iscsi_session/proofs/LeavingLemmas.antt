@@ -21,8 +21,8 @@ use Rattle.iscsi_session.specs.Standing.{Core, stat_sn_on, kept, task_of, member
 use Rattle.iscsi_session.specs.Steps.{set_at, all_given, as_given, enable_effects, is_numbered}
 use Rattle.iscsi_session.specs.Functions.{covers_ticket, is_gone, staying, set_staying, with_left, aborted, abort_effects}
 use Rattle.iscsi_session.proofs.OpenConns.{ClosesNone, open_of-same, closes-more}
-use Rattle.iscsi_session.proofs.BoolLemmas.{and_parts, and_both, or_none, or_second, not_true}
-use Rattle.iscsi_session.proofs.ListLemmas.{list_any-map, count_by-map, list_all-filter}
+use Rattle.iscsi_session.proofs.BoolLemmas.{and_parts, and_both, or_none, or_second, not_true, and_false, and_comm}
+use Rattle.iscsi_session.proofs.ListLemmas.{list_any-map, count_by-map, list_all-filter, any_filter, any_same, fewer_counted}
 use Rattle.iscsi_session.proofs.TraceLemmas.{filter-same, filter-true, weaker}
 use Rattle.iscsi_session.proofs.ApartLemmas.{eq_sym, unamong-filter, apart-filter}
 use Rattle.iscsi_session.proofs.DeliveryLemmas.{IsQuiet}
@@ -32,7 +32,6 @@ use Rattle.iscsi_session.proofs.CommandParts.{LeavesSome, live_in-left, Commands
 use Rattle.iscsi_session.proofs.EnablingLemmas.{EnabledSoFar-left}
 use Rattle.iscsi_session.proofs.SetParts.{SetLeaving, SetsAgree-left, set-changed}
 use Rattle.iscsi_session.proofs.AgreeLemmas.{units_live}
-use Rattle.iscsi_session.proofs.CountLemmas.{fewer_counted}
 use Rattle.iscsi_session.proofs.ExecutionLemmas.{Begun}
 
 -- ---- lists
@@ -48,26 +47,6 @@ none_both p q [] h = refl
 none_both p q (x ∷ xs) h =
     let parts = or_none (q x) (list_any q xs) h in
     ap (λ b. (p x && b) || list_any (λ y. p y && q y) xs) parts.0 ∙ ap (λ b. b || list_any (λ y. p y && q y) xs) (and_false (p x)) ∙ none_both p q xs parts.1
-  where
-    and_false : (b : Bool) → (b && false) ≡ false
-    and_false true = refl
-    and_false false = refl
-
-any_of_filter : {A : Type 0} (f p : A → Bool) (xs : List A) → list_any f (filter p xs) ≡ list_any (λ x. f x && p x) xs
-any_of_filter f p [] = refl
-any_of_filter f p (x ∷ xs) =
-    elim (p x) as (λ b. list_any f (cond b (x ∷ filter p xs) (filter p xs)) ≡ ((f x && b) || list_any (λ y. f y && p y) xs)) [
-      | true ↦ ap (λ b. f x || b) (any_of_filter f p xs) ∙ ap (λ b. b || list_any (λ y. f y && p y) xs) (sym (and_true (f x)))
-      | false ↦ any_of_filter f p xs ∙ ap (λ b. b || list_any (λ y. f y && p y) xs) (sym (and_false (f x)))
-    ]
-  where
-    and_true : (b : Bool) → (b && true) ≡ b
-    and_true true = refl
-    and_true false = refl
-
-    and_false : (b : Bool) → (b && false) ≡ false
-    and_false true = refl
-    and_false false = refl
 
 -- ---- a command has the ticket of one that passes just where it passes
 
@@ -91,7 +70,7 @@ among_passing q [] apart = refl
 among_passing q (x ∷ cs) apart =
     let parts = and_parts (not (is_among x.ticket cs)) (are_apart cs) apart in
     let rest : List Command = filter q cs in
-    let gone : is_among x.ticket cs ≡ false = not_there (is_among x.ticket cs) parts.0 in
+    let gone : is_among x.ticket cs ≡ false = not_true (is_among x.ticket cs) parts.0 in
     and_both (alike (is_among x.ticket (filter q (x ∷ cs))) (q x)) (list_all (λ c. alike (is_among c.ticket (filter q (x ∷ cs))) (q c)) cs)
     (elim (q x) as (λ b. alike (is_among x.ticket (cond b (x ∷ rest) rest)) b ≡ true) [
       | true ↦ same_alike (is_among x.ticket (x ∷ rest)) true (ap (λ b. b || is_among x.ticket rest) (eq-eqb x.ticket x.ticket refl))
@@ -100,16 +79,12 @@ among_passing q (x ∷ cs) apart =
     (weaker (λ c. not (c.ticket == x.ticket) && alike (is_among c.ticket rest) (q c)) (λ c. alike (is_among c.ticket (filter q (x ∷ cs))) (q c)) cs
     (λ c h.
     let both = and_parts (not (c.ticket == x.ticket)) (alike (is_among c.ticket rest) (q c)) h in
-    let apart_here : (x.ticket == c.ticket) ≡ false = eq_sym x.ticket c.ticket ∙ not_there (c.ticket == x.ticket) both.0 in
+    let apart_here : (x.ticket == c.ticket) ≡ false = eq_sym x.ticket c.ticket ∙ not_true (c.ticket == x.ticket) both.0 in
     elim (q x) as (λ b. alike (is_among c.ticket (cond b (x ∷ rest) rest)) (q c) ≡ true) [
       | true ↦ ap (λ b. alike (b || is_among c.ticket rest) (q c)) apart_here ∙ both.1
       | false ↦ both.1
     ])
     (both_all (λ c. not (c.ticket == x.ticket)) (λ c. alike (is_among c.ticket rest) (q c)) cs (none_passes (λ c. c.ticket == x.ticket) cs gone) (among_passing q cs parts.1)))
-  where
-    not_there : (b : Bool) → not b ≡ true → b ≡ false
-    not_there true h = absurd (false≢true h)
-    not_there false h = refl
 
 -- ---- the marks
 
@@ -171,7 +146,8 @@ module _ (o : Setting) (t : Trace) (old : Members) (unit : ℕ) (list_is : old.l
   gone_tickets k =
       ap (list_any (λ (m : Member). m.task.ticket == k && covers m.task)) list_is
       ∙ list_any-map (λ (m : Member). m.task.ticket == k && covers m.task) (member_of o t) (live_in unit t)
-      ∙ sym (any_of_filter (λ (c : Command). c.ticket == k) (λ c. covers (task_of o c)) (live_in unit t))
+      ∙ any_same (λ (c : Command). c.ticket == k && covers (task_of o c)) (λ c. covers (task_of o c) && c.ticket == k) (live_in unit t) (λ c. and_comm (c.ticket == k) (covers (task_of o c)))
+      ∙ sym (any_filter (λ (c : Command). c.ticket == k) (λ c. covers (task_of o c)) (live_in unit t))
 
   -- they are all of the unit
   pub gone_in_unit : are_apart (live t) ≡ true → are_all_in unit (is_gone covers old) (live t) ≡ true

@@ -15,14 +15,13 @@ use Rattle.iscsi_session.specs.declared.session.live.Live.{Live}
 use Rattle.iscsi_session.specs.Standing.{Core, Match, are_ascending, tickets_of, tickets_in}
 use Rattle.iscsi_session.specs.Steps.{set_at, all_given, as_given, is_numbered, find_ticket, without_ticket}
 use Rattle.iscsi_session.specs.Functions.{is_gone, staying, set_staying, finished_by, with_left, leaving_effects, has_covered, covers_ticket, ungiven, ungiven_in, owed}
-use Rattle.iscsi_session.proofs.BoolLemmas.{and_parts, and_both, or_none, or_first, or_second}
-use Rattle.iscsi_session.proofs.ListLemmas.{list_any-map, count_by-map}
+use Rattle.iscsi_session.proofs.BoolLemmas.{and_parts, and_both, or_none, or_first, or_second, and_false}
+use Rattle.iscsi_session.proofs.ListLemmas.{list_any-map, count_by-map, fewer_counted, filter-shorter}
 use Rattle.iscsi_session.proofs.TraceLemmas.{filter-same, filter-true}
 use Rattle.iscsi_session.proofs.ApartLemmas.{eq_sym}
 use Rattle.iscsi_session.proofs.EnabledLemmas.{filter-map, filter-twice, map-map}
 use Rattle.iscsi_session.proofs.WindowLemmas.{fewer as fewer_all}
-use Rattle.iscsi_session.proofs.CountLemmas.{fewer_counted}
-use Rattle.iscsi_session.proofs.KeptLemmas.{shorter, tickets_in-left, other_kept}
+use Rattle.iscsi_session.proofs.KeptLemmas.{tickets_in-left, other_kept}
 use Rattle.iscsi_session.proofs.GroupLemmas.{passing_after}
 
 -- ---- nothing is left to leave
@@ -32,10 +31,6 @@ none_left p q [] h = refl
 none_left p q (x ∷ ms) h =
     let parts = or_none (q x) (list_any q ms) h in
     ap (λ b. (p x && b) || list_any (λ m. p m && q m) ms) parts.0 ∙ ap (λ b. b || list_any (λ m. p m && q m) ms) (and_false (p x)) ∙ none_left p q ms parts.1
-  where
-    and_false : (b : Bool) → (b && false) ≡ false
-    and_false true = refl
-    and_false false = refl
 
 none_filtered : (q : Member → Bool) (ms : List Member) → list_any q ms ≡ false → filter q ms ≡ []
 none_filtered q [] h = refl
@@ -287,7 +282,7 @@ without_shorter : (k : ℕ) (ms : List Member) → list_any (λ t. t == k) (tick
 without_shorter k [] h = absurd (false≢true h)
 without_shorter k (x ∷ ms) h =
     elim (x.task.ticket == k) as (λ b. (b || list_any (λ t. t == k) (tickets ms)) ≡ true → length (cond (not b) (x ∷ without k ms) (without k ms)) + 1 ≤ suc (length ms)) [
-      | true ↦ λ here. omega (arith, shorter (λ (m : Member). not (m.task.ticket == k)) ms)
+      | true ↦ λ here. omega (arith, filter-shorter (λ (m : Member). not (m.task.ticket == k)) ms)
       | false ↦ λ later. omega (arith, without_shorter k ms later)
     ] h
 

@@ -26,7 +26,7 @@ use Rattle.iscsi_session.specs.Parting.{is_among_open, closing_by, units_of, cov
 use Rattle.iscsi_session.proofs.EnabledLemmas.{enables, filter-map}
 use Rattle.iscsi_session.proofs.ReplyParts.{RepliesAgree-sent}
 use Rattle.iscsi_session.proofs.ListLemmas.{list_all-filter, list_any-map}
-use Rattle.iscsi_session.proofs.BoolLemmas.{or_false, or_second}
+use Rattle.iscsi_session.proofs.BoolLemmas.{or_false, or_second, and_false}
 use Rattle.iscsi_session.proofs.TraceLemmas.{filter-same}
 use Rattle.iscsi_session.proofs.OpenConns.{closed-same, filtered_among}
 use Rattle.iscsi_session.proofs.PartedLemmas.{Keeps, left_keeps}
@@ -88,10 +88,6 @@ closes_is (c ∷ cs) = refl
 then_is : (cs : List ℕ) (ws : List Waiting) → waiting_then cs ws ≡ cond (is_nil cs) [] ws
 then_is [] ws = refl
 then_is (c ∷ cs) ws = refl
-
-and_false : (b : Bool) → (b && false) ≡ false
-and_false true = refl
-and_false false = refl
 
 none_stay : (cids : List ℕ) → still_open None cids ≡ []
 none_stay [] = refl

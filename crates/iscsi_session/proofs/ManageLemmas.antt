@@ -39,8 +39,8 @@ use Rattle.iscsi_session.specs.Turning.{waiting_in, wait_by, patience_by, perfor
 use Rattle.iscsi_session.specs.declared.closing.Closing.{Closing}
 use Rattle.iscsi_session.specs.Parting.{closing_by, closed_as}
 use Rattle.iscsi_session.proofs.PartedLemmas.{Parts, closed_parts}
-use Rattle.iscsi_session.proofs.BoolLemmas.{and_first, and_second}
-use Rattle.iscsi_session.proofs.ListLemmas.{count_by-map, count_by-push}
+use Rattle.iscsi_session.proofs.BoolLemmas.{and_first, and_second, and_false}
+use Rattle.iscsi_session.proofs.ListLemmas.{count_by-map, count_by-push, fewer_counted}
 use Rattle.iscsi_session.proofs.FindLemmas.{position-cons}
 use Rattle.iscsi_session.proofs.MissingLemmas.{inside_place}
 use Rattle.iscsi_session.proofs.WindowLemmas.{at_most, Changed, emptied_changes, voided_changes}
@@ -70,15 +70,6 @@ found_nowhere p (x ∷ xs) h =
     later : (y : Option ℕ) → (y ≡ None → find p xs ≡ None) → option_map suc y ≡ None → find p xs ≡ None
     later None found said = found refl
     later (Some j) found said = absurd cc
-
--- one of some that all pass
-pub found_passes : {A : Type 0} (p q : A → Bool) (xs : List A) (x : A) → list_all q xs ≡ true → find p xs ≡ Some x → q x ≡ true
-found_passes p q [] x all found = absurd cc
-found_passes p q (y ∷ xs) x all found =
-    elim (p y) as (λ b. cond b (Some y) (find p xs) ≡ Some x → q x ≡ true) [
-      | true ↦ λ here. let same : y ≡ x = cc in ap q (sym same) ∙ and_first (q y) (list_all q xs) all
-      | false ↦ λ there. found_passes p q xs x (and_second (q y) (list_all q xs) all) there
-    ] found
 
 -- at least the one that is found is left out
 pub fewer_left : {A : Type 0} (p q : A → Bool) (xs : List A) (x : A) → find p xs ≡ Some x → q x ≡ true → length (filter (λ y. not (q y)) xs) + 1 ≤ length xs
@@ -126,17 +117,6 @@ parted p (x ∷ xs) =
       | false ↦ λ is. omega (arith, all, rest, ap {B = ℕ} (λ b. cond b 1 0) is)
     ] refl
 
--- fewer are counted of fewer
-pub fewer_of : {A : Type 0} (p q : A → Bool) (xs : List A) → count_by p (filter q xs) ≤ count_by p xs
-fewer_of p q [] = omega arith
-fewer_of p q (x ∷ xs) =
-    let all : count_by p (x ∷ xs) ≡ cond (p x) 1 0 + count_by p xs = sum_by-cons (λ y. cond (p y) 1 0) x xs in
-    let rest : count_by p (filter q xs) ≤ count_by p xs = fewer_of p q xs in
-    elim (q x) as (λ b. count_by p (cond b (x ∷ filter q xs) (filter q xs)) ≤ count_by p (x ∷ xs)) [
-      | true ↦ omega (arith, all, rest, sum_by-cons (λ y. cond (p y) 1 0) x (filter q xs))
-      | false ↦ omega (arith, all, rest)
-    ]
-
 -- who isn't of the first connection is of the others
 others_known : (c : ℕ × ℕ) (conns : List (ℕ × ℕ)) (waits : List Waiting) → list_all (λ w. is_known (connection_of w.request) (c ∷ conns)) waits ≡ true
     → list_all (λ w. is_known (connection_of w.request) conns) (filter (λ w. not (connection_of w.request == c.0)) waits) ≡ true
@@ -168,7 +148,7 @@ few_waiting [] (x ∷ waits) few known = absurd (false≢true known)
 few_waiting (c ∷ conns) waits few known =
     let away : List Waiting = filter (λ w. not (connection_of w.request == c.0)) waits in
     let rest : length away ≤ 4 * length conns =
-    few_waiting conns away (λ cid. let less : waiting_in away cid ≤ waiting_in waits cid = fewer_of (λ w. connection_of w.request == cid) (λ w. not (connection_of w.request == c.0)) waits in omega (arith, less, few cid)) (others_known c conns waits known) in
+    few_waiting conns away (λ cid. let less : waiting_in away cid ≤ waiting_in waits cid = fewer_counted (λ w. connection_of w.request == cid) (λ w. not (connection_of w.request == c.0)) waits in omega (arith, less, few cid)) (others_known c conns waits known) in
     omega (arith, parted (λ w. connection_of w.request == c.0) waits, few c.0, rest)
 
 more_waiting : (waits : List Waiting) (w : Waiting) → ((cid : ℕ) → waiting_in waits cid ≤ 4) → waiting_in waits (connection_of w.request) < 4 → (cid : ℕ) → waiting_in (waits ++ w ∷ []) cid ≤ 4
@@ -279,7 +259,7 @@ calm_finished : (s : Core) (rest : List Live) → count_by is_numbered rest ≤ 
 calm_finished s rest fewer = record { eased = record { held = omega arith; pace = omega (arith, fewer) }; counted = refl }
 
 calm_aborted : (s : Core) (r : Request) (unit : ℕ) (covers : Task → Bool) → Calm s.window (aborted s r unit covers).window
-calm_aborted s r unit covers = calm_finished s (staying covers (set_at s unit) s.live) (fewer_of is_numbered _ s.live)
+calm_aborted s r unit covers = calm_finished s (staying covers (set_at s unit) s.live) (fewer_counted is_numbered _ s.live)
 
 -- ---- what ABORT TASK comes to
 
@@ -364,11 +344,7 @@ module _ (s : Core) (r : Request) (number : ℤ) (event unit sn : ℕ) where
 
 -- ABORT TASK doesn't wait
 pub one_waits_not : (r : Request) → function r ≡ 1 → may_wait r ≡ false
-one_waits_not r is = ap (λ f. is_immediate r && (f == 2 || f == 4 || f == 5)) is ∙ no (is_immediate r)
-  where
-    no : (b : Bool) → (b && false) ≡ false
-    no true = refl
-    no false = refl
+one_waits_not r is = ap (λ f. is_immediate r && (f == 2 || f == 4 || f == 5)) is ∙ and_false (is_immediate r)
 
 taken_at : {A : Type 0} (n : ℕ) (xs : List A) (k : ℕ) (d : A) → k < length (take n xs) → get_or (take n xs) k d ≡ get_or xs k d
 taken_at zero xs k d lt = absurd (omega (arith, lt))

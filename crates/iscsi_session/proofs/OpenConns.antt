@@ -6,7 +6,7 @@ use Rattle.iscsi_session.specs.Settings.{Setting, is_known}
 use Rattle.iscsi_session.specs.Trace.{Mark, Trace, has, closes_conn, closes_session, is_ended, is_closed}
 use Rattle.iscsi_session.specs.Logout.{is_open}
 use Rattle.iscsi_session.specs.Standing.{open_of}
-use Rattle.iscsi_session.proofs.BoolLemmas.{or_false}
+use Rattle.iscsi_session.proofs.BoolLemmas.{or_false, and_false}
 use Rattle.iscsi_session.proofs.TraceLemmas.{filter-same}
 
 pub record ClosesNone (item : List Mark) : Type 0 where
@@ -40,10 +40,6 @@ filtered_among p c (k ∷ cs) = by_test (p k) refl (filtered_among p c cs)
 
     shown : Bool
     shown = list_any (λ j. j == c) (filter p cs)
-
-    and_false : (b : Bool) → (b && false) ≡ false
-    and_false true = refl
-    and_false false = refl
 
     by_test : (v : Bool) → p k ≡ v → shown ≡ (rest && p c) → list_any (λ j. j == c) (cond v (k ∷ filter p cs) (filter p cs)) ≡ (((k == c) || rest) && p c)
     by_test true is later =

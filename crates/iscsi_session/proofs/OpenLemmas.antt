@@ -9,14 +9,14 @@ use Rattle.iscsi_tasks.specs.Sets.{Members, opened as opened_set}
 use Rattle.iscsi_session.specs.declared.event.Event.{Event}
 use Rattle.iscsi_wire.specs.Fields.{connection_of}
 use Rattle.iscsi_session.specs.Settings.{Setting, is_known}
-use Rattle.iscsi_session.specs.Trace.{Arrival, Trace, first_of, is_received, is_delivered, is_emptied, held, admitted, live, waiting}
+use Rattle.iscsi_session.specs.Trace.{Arrival, Trace, first_of, is_received, held, live, waiting}
 use Rattle.iscsi_session.specs.Run.{trace_of}
 use Rattle.iscsi_session.specs.Executed.{request_at}
 use Rattle.iscsi_session.specs.Standing.{Core, Settled, StandsFor, place_of, is_held, stat_sn_on, held_count, effect_bound_of, kept, arrival_waiting}
 use Rattle.iscsi_session.specs.Logout.{is_open}
 use Rattle.iscsi_session.proofs.BoolLemmas.{or_second}
 use Rattle.iscsi_session.proofs.EnablingLemmas.{EnabledSoFar-none}
-use Rattle.iscsi_session.proofs.TraceLemmas.{unadmitted}
+use Rattle.iscsi_session.proofs.MissingLemmas.{unreceived_unheld}
 use Rattle.iscsi_session.proofs.AgreeLemmas.{settled_expected}
 use Rattle.iscsi_session.specs.Management.{may_wait}
 use Rattle.iscsi_session.specs.declared.session.waiting.Waiting.{Waiting}
@@ -124,14 +124,6 @@ count_places p q (x ∷ ps) e h =
     ∙ ap (λ n. cond (q e) 1 0 + n) (count_places p q ps (e + 1) (λ k lt. h (suc k) (omega arith) ∙ ap q (let z : e + suc k ≡ e + 1 + k = omega arith in z)))
     ∙ sym (sum_by-cons (λ n. cond (q n) 1 0) e (range_with_len (e + 1) (length ps)))
 
-unheld : (t : Trace) (n : ℕ) → is_received t n ≡ false → held t n ≡ None
-unheld t n gone =
-    let none : admitted t n ≡ None = ap first_of (unadmitted n t gone) in
-    elim (is_delivered t n || is_emptied t n) as (λ b. cond b None (admitted t n) ≡ None) [
-      | true ↦ refl
-      | false ↦ none
-    ]
-
 held_shown : (x : Option Arrival) → is_held (Some (option_map (λ (a : Arrival). a.request) x)) ≡ is_some x
 held_shown None = refl
 held_shown (Some a) = refl
@@ -140,7 +132,7 @@ held_place : (t : Trace) (n : ℕ) → is_held (place_of t n) ≡ is_some (held 
 held_place t n =
     elim (is_received t n) as (λ b. is_received t n ≡ b → is_held (cond b (Some (option_map (λ (a : Arrival). a.request) (held t n))) None) ≡ is_some (held t n)) [
       | true ↦ λ is. held_shown (held t n)
-      | false ↦ λ is. sym (ap is_some (unheld t n is))
+      | false ↦ λ is. sym (ap is_some (unreceived_unheld t n is))
     ] refl
 
 pub bound_is : (o : Setting) (s : Core) (h : List Event) → StandsFor o s h → 12 * (count_by is_held s.window.places + length s.waiting + 1) + 2 * length s.live ≡ effect_bound_of o (trace_of o h)

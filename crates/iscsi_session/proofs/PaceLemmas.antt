@@ -23,9 +23,9 @@ use Rattle.iscsi_session.specs.Standing.{Core}
 use Rattle.iscsi_session.specs.Steps.{KeepsPace, set_at, started, is_numbered, verdict_by, executed_as, with_reply}
 use Rattle.iscsi_session.specs.Functions.{is_gone, with_left, outcome_by, aborted, performed_as}
 use Rattle.iscsi_session.specs.Parting.{closing_by, closed_as}
+use Rattle.iscsi_session.proofs.ListLemmas.{fewer_counted}
 use Rattle.iscsi_session.proofs.PartedLemmas.{Parts, closed_parts}
 use Rattle.iscsi_session.specs.Turning.{performed, managed, position_by, with_executed, with_advanced, next_arrived, turned_if, without_waiting, next_position, function_if, immediate_as}
-use Rattle.iscsi_session.proofs.CountLemmas.{fewer_counted}
 
 -- no number turns, no event is counted, and so many commands more are unfinished at the most
 pub record Stays (more : ℕ) (s s' : Core) : Type 0 where
@@ -105,7 +105,7 @@ pace-function s x = let h : Stays 0 s (function_if s x) = function_stays s x in 
 started_first : (w : Received) (r : Request) → (started w r).first ≡ w.first
 started_first w r = elim (is_immediate r) as (λ b. (let v : Received = cond b w (with_unfinished w (w.unfinished + 1)) in v.first) ≡ w.first) [ true ↦ refl | false ↦ refl ]
 
-started_turned : (w : Received) (r : Request) → (started w r).turned ≡ w.turned
+pub started_turned : (w : Received) (r : Request) → (started w r).turned ≡ w.turned
 started_turned w r = elim (is_immediate r) as (λ b. (let v : Received = cond b w (with_unfinished w (w.unfinished + 1)) in v.turned) ≡ w.turned) [ true ↦ refl | false ↦ refl ]
 
 started_more : (w : Received) (r : Request) → (started w r).unfinished ≤ w.unfinished + 1

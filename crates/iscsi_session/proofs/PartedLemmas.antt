@@ -18,14 +18,7 @@ use Rattle.iscsi_session.specs.Standing.{Core, is_held, stat_sn_on}
 use Rattle.iscsi_session.specs.Steps.{set_at, is_numbered, reply_effects}
 use Rattle.iscsi_session.specs.Functions.{is_gone, set_staying, with_left}
 use Rattle.iscsi_session.specs.Parting.{units_of, covers_of, with_all_left, all_leaving_effects, left_to, emptied_place, emptied_from, emptying_effects, still_open, session_closes, waiting_then, close_effects, all_enable_effects, parted, parting_effects, closed_as}
-use Rattle.iscsi_session.proofs.CountLemmas.{fewer_counted}
-
-filter-shorter : {A : Type 0} (p : A → Bool) (xs : List A) → length (filter p xs) ≤ length xs
-filter-shorter p [] = omega arith
-filter-shorter p (x ∷ xs) = elim (p x) as (λ b. length (cond b (x ∷ filter p xs) (filter p xs)) ≤ length (x ∷ xs)) [
-  | true ↦ omega (arith, filter-shorter p xs)
-  | false ↦ omega (arith, filter-shorter p xs)
-]
+use Rattle.iscsi_session.proofs.ListLemmas.{fewer_counted, filter-shorter}
 
 -- ---- commands of several units leave
 

@@ -25,7 +25,7 @@ use Rattle.iscsi_session.specs.Steps.{set_at, all_given, as_given, enable_effect
 use Rattle.iscsi_session.specs.Functions.{is_gone, set_staying, leaving_effects}
 use Rattle.iscsi_session.specs.Parting.{units_of, covers_of, all_leaving_effects, left_to, all_enable_effects}
 use Rattle.iscsi_session.proofs.BoolLemmas.{and_parts, or_none, or_false}
-use Rattle.iscsi_session.proofs.ListLemmas.{list_any-map, list_all-filter}
+use Rattle.iscsi_session.proofs.ListLemmas.{list_any-map, list_all-filter, any_filter, any_flat_map}
 use Rattle.iscsi_session.proofs.TraceLemmas.{filter-same}
 use Rattle.iscsi_session.proofs.ApartLemmas.{unamong-filter}
 use Rattle.iscsi_session.proofs.EnabledLemmas.{filter_all, filter-map, new_in, new_in-none, enables, set_of-same, noted_given, noted_effects}
@@ -38,18 +38,6 @@ use Rattle.iscsi_session.proofs.PartedLemmas.{left_keeps}
 use Rattle.iscsi_session.proofs.PartingUnits.{any_in_range, flat_map_in_range, any_at, sets_left, gone_in, live_staying, effects_leaving, unfinished_left}
 
 -- ---- lists
-
-any_of_filter : {A : Type 0} (f p : A → Bool) (xs : List A) → list_any f (filter p xs) ≡ list_any (λ x. p x && f x) xs
-any_of_filter f p [] = refl
-any_of_filter f p (x ∷ xs) =
-    elim (p x) as (λ b. list_any f (cond b (x ∷ filter p xs) (filter p xs)) ≡ ((b && f x) || list_any (λ y. p y && f y) xs)) [
-      | true ↦ ap (λ b. f x || b) (any_of_filter f p xs)
-      | false ↦ any_of_filter f p xs
-    ]
-
-any_of_flat_map : {A B : Type 0} (p : B → Bool) (f : A → List B) (xs : List A) → list_any p (flat_map f xs) ≡ list_any (λ x. list_any p (f x)) xs
-any_of_flat_map p f [] = refl
-any_of_flat_map p f (x ∷ xs) = list_any-append p (f x) (flat_map f xs) ∙ ap (λ b. list_any p (f x) || b) (any_of_flat_map p f xs)
 
 filter-flat_map : {A B : Type 0} (p : B → Bool) (f : A → List B) (xs : List A) → filter p (flat_map f xs) ≡ flat_map (λ x. filter p (f x)) xs
 filter-flat_map p f [] = refl
@@ -166,7 +154,7 @@ module _ (o : Setting) (s : Core) (t : Trace) (m : Mark) (es rest : List Mark) (
   regular = units_live o s.live s.entered t p.commands
 
   out_is : (k : ℕ) → out k ≡ list_any (goes k) (live t)
-  out_is k = any_of_filter (λ (c : Command). c.ticket == k) asked (live t)
+  out_is k = any_filter (λ (c : Command). c.ticket == k) asked (live t)
 
   -- the commands are those of before the mark
   units_are : live_of_units o ((m ∷ []) ∷ t) ≡ live_of_units o t
@@ -175,8 +163,8 @@ module _ (o : Setting) (s : Core) (t : Trace) (m : Mark) (es rest : List Mark) (
   cs_out : (k : ℕ) → is_among k cs ≡ out k
   cs_out k =
       ap (λ (ds : List Command). is_among k (filter asked ds)) units_are
-      ∙ any_of_filter (λ (c : Command). c.ticket == k) asked (live_of_units o t)
-      ∙ any_of_flat_map (goes k) (λ unit. live_in unit t) (range_with_len 0 o.units)
+      ∙ any_filter (λ (c : Command). c.ticket == k) asked (live_of_units o t)
+      ∙ any_flat_map (goes k) (λ unit. live_in unit t) (range_with_len 0 o.units)
       ∙ any_in_units (goes k) o.units (live t) regular
       ∙ sym (out_is k)
 
@@ -206,7 +194,7 @@ module _ (o : Setting) (s : Core) (t : Trace) (m : Mark) (es rest : List Mark) (
       (λ unit low high.
       gone_tickets o t (set_at s unit) unit (p.sets.lists unit (omega arith)) covers k
       ∙ ap (is_among k) (filter-same (λ c. covers (task_of o c)) asked (live_in unit t) (covers_asked o whose))
-      ∙ any_of_filter (λ (c : Command). c.ticket == k) asked (live_in unit t))
+      ∙ any_filter (λ (c : Command). c.ticket == k) asked (live_in unit t))
       ∙ any_in_units (goes k) o.units (live t) regular
       ∙ sym (out_is k)
 

@@ -15,6 +15,7 @@ use Rattle.iscsi_session.specs.Execution.{exp_of, max_of, NO_TAG, unit_named, ma
 use Rattle.iscsi_session.specs.Management.{may_wait, refusal_of_function, waiting_on, answer, held_command, live_with_tag, abort_missing, abort_task, is_before, abort_all, function_to, function_marks, management_marks}
 use Rattle.iscsi_session.specs.Logout.{is_open, is_last_open, taken_out, parting, end_session, close_conn, logout_marks}
 use Rattle.iscsi_session.specs.Items.{marks_after, execution, waiting_item, immediate_item, function_item, item_of}
+use Rattle.iscsi_session.proofs.BoolLemmas.{and_false}
 use Rattle.iscsi_session.proofs.AbortMarks.{view_taken}
 
 abbrev received_by : List Mark → List ℕ
@@ -125,10 +126,6 @@ no_abort_task r may = elim (function r == 1) as (λ b. (function r == 1) ≡ b �
   | false ↦ λ is. refl
 ] refl
   where
-    and_false : (b : Bool) → (b && false) ≡ false
-    and_false true = refl
-    and_false false = refl
-
     none : function r ≡ 1 → may_wait r ≡ false
     none is = ap (λ f. is_immediate r && (f == 2 || f == 4 || f == 5)) is ∙ and_false (is_immediate r)
 

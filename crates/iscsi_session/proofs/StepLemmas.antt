@@ -32,7 +32,7 @@ use Rattle.iscsi_session.specs.Refusals.{belongs, refusal_of}
 use Rattle.iscsi_session.specs.Standing.{Core, CommandsAgree, place_of, kept, is_regular, is_regular_request, member_of, WindowAgrees, Agrees, Settled, StandsFor, ArrivalsAgree}
 use Rattle.iscsi_session.specs.Steps.{set_at, set_left, enable_effects, finished, with_offered, comes_on, refusal_by, find_ticket, without_ticket, enabled_of, find_enabled, without_command, leave_effects, after_completion, completion_effects, counted, noted_at}
 use Rattle.iscsi_session.proofs.OpenConns.{open_of-same}
-use Rattle.iscsi_session.proofs.BoolLemmas.{and_parts, and_both, or_false}
+use Rattle.iscsi_session.proofs.BoolLemmas.{and_parts, and_both, or_false, and_true}
 use Rattle.iscsi_session.proofs.NumberLemmas.{wire-lift}
 use Rattle.iscsi_session.proofs.ListLemmas.{list_any-map, is_known-cids}
 use Rattle.iscsi_session.proofs.ApartLemmas.{eq_sym, count-without, one_unit}
@@ -77,10 +77,6 @@ quiet-completion c status = record { receives = refl; admits = λ n. refl; deliv
 among_unit : (k : ℕ) (cs : List Command) → list_any (λ (d : Command). d.ticket == k && true) cs ≡ is_among k cs
 among_unit k [] = refl
 among_unit k (c ∷ cs) = ap (λ b. b || list_any (λ (d : Command). d.ticket == k && true) cs) (and_true (c.ticket == k)) ∙ ap (λ b. (c.ticket == k) || b) (among_unit k cs)
-  where
-    and_true : (b : Bool) → (b && true) ≡ b
-    and_true true = refl
-    and_true false = refl
 
 -- a numbered command gives its place back
 window-finished : (o : Setting) (w : Received) (t : Trace) (c : Command) → WindowAgrees o w t → WindowAgrees o (finished w (kept c)) t

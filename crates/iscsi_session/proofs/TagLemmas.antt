@@ -7,7 +7,7 @@ use Rattle.std.proofs.lemmas.List.Folds.{list_any_none}
 use Rattle.iscsi_session.specs.declared.session.live.Live.{Live}
 use Rattle.iscsi_session.specs.Standing.{are_ascending}
 use Rattle.iscsi_session.specs.Steps.{find_ticket}
-use Rattle.iscsi_session.proofs.BoolLemmas.{or_none}
+use Rattle.iscsi_session.proofs.BoolLemmas.{or_none, and_false, or_second}
 use Rattle.iscsi_session.proofs.SearchLemmas.{later, rest, found_at}
 
 -- each command is found by its tag in f
@@ -44,12 +44,8 @@ found_any [] itt t c found is = absurd cc
 found_any (x ∷ lives) itt t c found is =
     elim (x.ticket == t) as (λ b. cond b (Some x) (find_ticket t lives) ≡ Some c → (x.itt == itt || list_any (λ l. l.itt == itt) lives) ≡ true) [
       | true ↦ λ here. let same : x ≡ c = cc in ap (λ (l : Live). l.itt == itt || list_any (λ m. m.itt == itt) lives) same ∙ ap (λ b. b || list_any (λ l. l.itt == itt) lives) is
-      | false ↦ λ later. or_true (x.itt == itt) (list_any (λ l. l.itt == itt) lives) (found_any lives itt t c later is)
+      | false ↦ λ later. or_second (x.itt == itt) (list_any (λ l. l.itt == itt) lives) (found_any lives itt t c later is)
     ] found
-  where
-    or_true : (a b : Bool) → b ≡ true → (a || b) ≡ true
-    or_true true b h = refl
-    or_true false b h = h
 
 -- the command of the ticket alone may have the tag
 pub found_tag : (f : ℕ → Option ℕ) (lives : List Live) (itt t : ℕ) (c : Live) → Indexed f lives → are_ascending lives ≡ true → f itt ≡ Some t → find_ticket t lives ≡ Some c
@@ -102,10 +98,6 @@ none_later q itt (x ∷ lives) none =
     ap (λ b. cond (q x && b) (Some x) (find (λ l. q l && l.itt == itt) lives)) (All-head (λ l. (l.itt == itt) ≡ false) x lives none)
     ∙ ap (λ b. cond b (Some x) (find (λ l. q l && l.itt == itt) lives)) (and_false (q x))
     ∙ none_later q itt lives (All-tail (λ l. (l.itt == itt) ≡ false) x lives none)
-  where
-    and_false : (b : Bool) → (b && false) ≡ false
-    and_false true = refl
-    and_false false = refl
 
 -- a tag is that of one command at the most
 pub find_passing : (f : ℕ → Option ℕ) (q : Live → Bool) (lives : List Live) (itt : ℕ) → Indexed f lives → are_ascending lives ≡ true → find (λ l. q l && l.itt == itt) lives ≡ passing q (find (λ l. l.itt == itt) lives)

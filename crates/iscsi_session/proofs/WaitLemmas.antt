@@ -12,7 +12,7 @@ use Rattle.iscsi_session.specs.Execution.{exp_of, max_of, unit_named}
 use Rattle.iscsi_session.specs.Management.{answer, live_with_tag, held_command, abort_missing, abort_task, abort_all, is_before, function_to, function_marks}
 use Rattle.iscsi_session.specs.Items.{function_item, is_waiting, functions, functions_at}
 use Rattle.iscsi_session.specs.Standing.{arrival_waiting}
-use Rattle.iscsi_session.proofs.BoolLemmas.{or_first}
+use Rattle.iscsi_session.proofs.BoolLemmas.{or_first, or_second}
 use Rattle.iscsi_session.proofs.EnabledLemmas.{filter-map}
 use Rattle.iscsi_session.proofs.CommandParts.{filter-swap}
 use Rattle.iscsi_session.proofs.ReceiveLemmas.{abort_as}
@@ -79,14 +79,10 @@ waits_still : (event : ℕ) (b : Arrival) (ws : List Arrival) → list_any (λ x
 waits_still event b [] h = h
 waits_still event b (x ∷ ws) h =
     elim (x.event == event) as (λ v. list_any (λ (y : Arrival). y.event == b.event) (cond (not v) (x ∷ without_event event ws) (without_event event ws)) ≡ true → ((x.event == b.event) || list_any (λ (y : Arrival). y.event == b.event) ws) ≡ true) [
-      | true ↦ λ k. or_later (x.event == b.event) (waits_still event b ws k)
+      | true ↦ λ k. or_second (x.event == b.event) (list_any (λ (y : Arrival). y.event == b.event) ws) (waits_still event b ws k)
       | false ↦ λ k. by_first (x.event == b.event) (waits_still event b ws) k
     ] h
   where
-    or_later : (u : Bool) → list_any (λ (y : Arrival). y.event == b.event) ws ≡ true → (u || list_any (λ (y : Arrival). y.event == b.event) ws) ≡ true
-    or_later true k = refl
-    or_later false k = k
-
     by_first : (u : Bool) → (list_any (λ (y : Arrival). y.event == b.event) (without_event event ws) ≡ true → list_any (λ (y : Arrival). y.event == b.event) ws ≡ true) → (u || list_any (λ (y : Arrival). y.event == b.event) (without_event event ws)) ≡ true
         → (u || list_any (λ (y : Arrival). y.event == b.event) ws) ≡ true
     by_first true later k = refl
@@ -149,12 +145,8 @@ waits_itself p [] a as' h = absurd cc
 waits_itself p (x ∷ ws) a as' h =
     elim (p x) as (λ b. cond b (x ∷ filter p ws) (filter p ws) ≡ a ∷ as' → ((x.event == a.event) || list_any (λ (y : Arrival). y.event == a.event) ws) ≡ true) [
       | true ↦ λ k. let same : x ≡ a = cc in or_first (x.event == a.event) (list_any (λ (y : Arrival). y.event == a.event) ws) (ap (λ (y : Arrival). y.event == a.event) same ∙ eq-eqb a.event a.event refl)
-      | false ↦ λ k. or_later (x.event == a.event) (waits_itself p ws a as' k)
+      | false ↦ λ k. or_second (x.event == a.event) (list_any (λ (y : Arrival). y.event == a.event) ws) (waits_itself p ws a as' k)
     ] h
-  where
-    or_later : (u : Bool) → list_any (λ (y : Arrival). y.event == a.event) ws ≡ true → (u || list_any (λ (y : Arrival). y.event == a.event) ws) ≡ true
-    or_later true k = refl
-    or_later false k = k
 
 -- ---- as a session keeps them
 

@@ -1,7 +1,7 @@
 -- A window that agrees with what has happened agrees after one item more.
 use Rattle.std.proofs.Common.{◌≡◌, ℕ, zero, suc, ◌+◌, ◌-◌, ◌<◌, ◌≤◌, ◌==◌, ◌||◌, ⊎_elim, cond, Bool, true, false, List, [], ◌∷◌, ◌++◌, length, drop, get_or, set, Option, Some, None, option_map, refl, ap, sym, ◌∙◌, arith, eq-eqb, length-set, length-drop}
 use Rattle.std.specs.List.{list_any, cons_option}
-use Rattle.std.proofs.lemmas.Bool.{cases_lt, cases_eq}
+use Rattle.std.proofs.lemmas.Bool.{cases_lt, cases_eq, false≢true}
 use Rattle.std.proofs.lemmas.Bool.Decides.{nat_tests}
 use Rattle.std.proofs.lemmas.List.{append-nil, length_push, get_or_append_left, get_or-drop, get_or-set_same, get_or-set_other}
 use Rattle.std.proofs.lemmas.List.Folds.{list_any-append}
@@ -15,7 +15,7 @@ use Rattle.iscsi_session.specs.Execution.{exp_of}
 use Rattle.iscsi_session.specs.Executed.{delivers, request_at, executed_below}
 use Rattle.iscsi_session.specs.Standing.{place_of, is_regular_request, WindowAgrees}
 use Rattle.iscsi_session.proofs.BoolLemmas.{or_none, or_second, or_false}
-use Rattle.iscsi_session.proofs.Missing.{expected_is}
+use Rattle.iscsi_session.proofs.Missing.{expected_is, expected_low, expected_gone}
 use Rattle.iscsi_session.proofs.HeldLemmas.{held-delivered, admitted-number, admitted-cases, admitted-admits, held-admits, held-here, held-number, held-turned, request_at-turned, admitted_of_held, held_unemptied}
 use Rattle.iscsi_session.proofs.DeliveryLemmas.{held-quiet, IsQuiet, same_range, received-quiet, place_of-quiet, executed_below-quiet, delivered-quiet, admitted-quiet, executed_below-more}
 
@@ -38,6 +38,13 @@ pub next_expected : (o : Setting) (w : Received) (t : Trace) → WindowAgrees o 
 next_expected o w t a none =
     let low : number_of_first o.first ≤ number_expected w = omega (arith, a.first) in
     expected_is o.first (number_expected w) t low a.below (next_gone o w t a none)
+
+-- ExpCmdSN isn't below the next number of the window
+pub expected_past_next : (o : Setting) (w : Received) (t : Trace) → WindowAgrees o w t → number_expected w ≤ exp_of o t
+expected_past_next o w t h = ⊎_elim
+    (λ lt. absurd (false≢true (sym (expected_gone o.first t) ∙ h.below (exp_of o t) (expected_low o.first t) lt)))
+    (λ ge. ge)
+    (cases_lt (exp_of o t) (number_expected w))
 
 -- ---- an item that receives, admits and delivers nothing
 

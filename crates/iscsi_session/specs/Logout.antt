@@ -1,11 +1,11 @@
 -- Logout, and the closing of connections and of the session (RFC 7143 sections 11.14 and 11.15).
-use Rattle.std.specs.Prelude.{ℕ, ◌+◌, ◌-◌, ◌==◌, ◌&&◌, ◌||◌, not, Bool, true, List, [], ◌∷◌, ◌++◌, map, Some, None, if◌then◌else◌, filter}
+use Rattle.std.specs.Prelude.{ℕ, ◌+◌, ◌-◌, ◌==◌, ◌&&◌, ◌||◌, not, Bool, true, List, [], ◌∷◌, ◌++◌, map, if◌then◌else◌, filter}
 use Rattle.std.specs.List.{list_all, flat_map, range_with_len}
 use Rattle.iscsi_wire.specs.declared.reply.Reply.TheVariants.{Logout, Reject}
 use Rattle.iscsi_wire.specs.Serial.{number_of_first}
 use Rattle.iscsi_wire.specs.Fields.{connection_of, header_of, itt, function, cid}
 use Rattle.iscsi_session.specs.Settings.{Setting, is_known}
-use Rattle.iscsi_session.specs.Trace.{Arrival, Command, Mark, Empties, Leaves, ClosesConn, ClosesSession, Trace, held, live_in, is_closed}
+use Rattle.iscsi_session.specs.Trace.{Arrival, Command, Mark, Empties, Leaves, ClosesConn, ClosesSession, Trace, held_among, live_in, is_closed}
 use Rattle.iscsi_session.specs.Execution.{exp_of, NO_TAG, reply_on}
 
 -- a connection of the session that isn't closed
@@ -22,7 +22,7 @@ live_of_units o t = flat_map (λ unit. live_in unit t) (range_with_len 0 o.units
 
 -- the requests that are held, in the order of their numbers. In the agenda those are held too whose turn is still to come
 abbrev pub all_held : Setting → Trace → List Arrival
-all_held o t = flat_map (λ n. elim (held t n) [ Some a ↦ a ∷ [] | None ↦ [] ]) (range_with_len (number_of_first o.first) (exp_of o t + o.window - number_of_first o.first))
+all_held o t = held_among t (range_with_len (number_of_first o.first) (exp_of o t + o.window - number_of_first o.first))
 
 -- the commands and the held requests of these connections are taken out. The functions of a connection that wait are dropped
 -- when it is closed

@@ -1,13 +1,13 @@
 -- Task management (RFC 7143 sections 4.2.3 and 11.5, RFC 7144, SAM-5 section 7).
 use Rattle.std.specs.Prelude.{ℕ, ◌==◌, ◌&&◌, ◌||◌, nat_lt, nat_le, not, Bool, true, false, List, [], ◌∷◌, ◌++◌, map, Option, Some, None, if◌then◌else◌, filter, count_by}
-use Rattle.std.specs.List.{list_any, flat_map, range_with_len}
+use Rattle.std.specs.List.{list_any, range_with_len}
 use Rattle.iscsi_wire.specs.declared.reply.Reply.{Reply}
 use Rattle.iscsi_wire.specs.declared.reply.Reply.TheVariants.{Task, Reject}
 use Rattle.iscsi_wire.specs.declared.request.Request.{Request}
 use Rattle.iscsi_wire.specs.Serial.{lift}
 use Rattle.iscsi_wire.specs.Fields.{connection_of, header_of, is_immediate, opcode, function, itt, rtt, ref_cmd_sn}
 use Rattle.iscsi_session.specs.Settings.{Setting}
-use Rattle.iscsi_session.specs.Trace.{Arrival, Command, Mark, Voids, Empties, Leaves, Trace, first_of, is_received, held, waiting, live_in}
+use Rattle.iscsi_session.specs.Trace.{Arrival, Command, Mark, Voids, Empties, Leaves, Trace, first_of, is_received, held_among, waiting, live_in}
 use Rattle.iscsi_session.specs.Execution.{exp_of, max_of, NO_TAG, unit_named, reply_on}
 
 -- ---- which functions there are
@@ -44,9 +44,9 @@ waiting_on conn t = count_by (λ a. connection_of a.request == conn) (waiting t)
 abbrev pub answer : Arrival → ℕ → List Mark
 answer a response = reply_on a (Task (itt a.request) response)
 
--- the requests that are held, in the order of their numbers
+-- the requests that are held in the window, in the order of their numbers
 abbrev pub held_requests : Setting → Trace → List Arrival
-held_requests o t = flat_map (λ n. elim (held t n) [ Some a ↦ a ∷ [] | None ↦ [] ]) (range_with_len (exp_of o t) o.window)
+held_requests o t = held_among t (range_with_len (exp_of o t) o.window)
 
 -- the request's LUN names the unit
 abbrev pub is_to : Setting → ℕ → Request → Bool

@@ -1,7 +1,7 @@
 -- What has happened in a session, and what follows from it. A number of the session stands 2 ^ 32 above its
 -- first wire form, so that no number near one of the session is below 0.
 use Rattle.std.specs.Prelude.{ℕ, zero, suc, ◌+◌, ◌==◌, ◌&&◌, ◌||◌, not, Bool, true, false, List, [], ◌∷◌, ◌++◌, length, map, Option, Some, None, if◌then◌else◌, filter, filter_map}
-use Rattle.std.specs.List.{list_any}
+use Rattle.std.specs.List.{list_any, flat_map}
 use Rattle.iscsi_wire.specs.declared.request.Request.{Request}
 use Rattle.iscsi_wire.specs.declared.reply.Reply.{Reply}
 use Rattle.iscsi_wire.specs.Serial.{number_of_first}
@@ -113,6 +113,10 @@ is_emptied t n = has (empties_number n) t
 -- the request that is held at n: admitted, and neither executed nor taken out since
 abbrev pub held : Trace → ℕ → Option Arrival
 held t n = if is_delivered t n || is_emptied t n then None else admitted t n
+
+-- the requests that are held at these numbers, in their order
+abbrev pub held_among : Trace → List ℕ → List Arrival
+held_among t numbers = flat_map (λ n. elim (held t n) [ Some a ↦ a ∷ [] | None ↦ [] ]) numbers
 
 -- ---- functions that wait
 

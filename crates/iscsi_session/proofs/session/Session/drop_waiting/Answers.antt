@@ -9,8 +9,7 @@ use Rattle.iscsi_session.specs.Management.{may_wait}
 use Rattle.iscsi_session.specs.Standing.{Core}
 use Rattle.iscsi_session.specs.Turning.{waiting_in}
 use Rattle.iscsi_session.specs.Parting.{with_dropped}
-use Rattle.iscsi_session.proofs.ListLemmas.{list_all-filter}
-use Rattle.iscsi_session.proofs.CountLemmas.{fewer_counted}
+use Rattle.iscsi_session.proofs.ListLemmas.{list_all-filter, fewer_counted}
 use Rattle.iscsi_session.proofs.session.Session.drop_waiting.Goals as goal
 
 pub invariant_of-self : goal.invariant_of-self

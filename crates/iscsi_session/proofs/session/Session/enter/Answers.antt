@@ -22,6 +22,7 @@ use Rattle.iscsi_session.specs.Steps.{AreIndexed, AreCounted, is_numbered, immed
 use Rattle.iscsi_session.proofs.ListLemmas.{count_by-push}
 use Rattle.iscsi_session.proofs.CountLemmas.{AreCounted-entered, room_for_one}
 use Rattle.iscsi_session.proofs.KeptLemmas.{newest_in, Match-entered, ascending-push, within-push, written}
+use Rattle.iscsi_session.proofs.PaceLemmas.{started_turned}
 use Rattle.iscsi_session.proofs.session.Session.enter.Goals as goal
 
 started_unfinished : (w : Received) (r : Request) → (started w r).unfinished ≡ w.unfinished + cond (not (is_immediate r)) 1 0
@@ -30,9 +31,6 @@ started_unfinished w r =
       | true ↦ omega arith
       | false ↦ refl
     ]
-
-started_turned : (w : Received) (r : Request) → (started w r).turned ≡ w.turned
-started_turned w r = elim (is_immediate r) as (λ b. (let v : Received = cond b w (with_unfinished w (w.unfinished + 1)) in v.turned) ≡ w.turned) [ true ↦ refl | false ↦ refl ]
 
 started_places : (w : Received) (r : Request) → (started w r).places ≡ w.places
 started_places w r = elim (is_immediate r) as (λ b. (let v : Received = cond b w (with_unfinished w (w.unfinished + 1)) in v.places) ≡ w.places) [ true ↦ refl | false ↦ refl ]

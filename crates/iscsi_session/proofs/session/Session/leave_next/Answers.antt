@@ -15,9 +15,8 @@ use Rattle.iscsi_session.specs.declared.session.live.Live.{Live}
 use Rattle.iscsi_session.specs.Standing.{Core, are_known, is_held, is_place_known, Match, are_ascending, are_within}
 use Rattle.iscsi_session.specs.Steps.{AreIndexed, AreCounted, is_numbered, set_at, without_ticket}
 use Rattle.iscsi_session.specs.Functions.{finished_by, with_left, leaving_effects, has_covered, chosen, covers_ticket, owed}
-use Rattle.iscsi_session.proofs.ListLemmas.{are_known-left}
+use Rattle.iscsi_session.proofs.ListLemmas.{are_known-left, fewer_counted}
 use Rattle.iscsi_session.proofs.WindowLemmas.{find-found}
-use Rattle.iscsi_session.proofs.CountLemmas.{fewer_counted}
 use Rattle.iscsi_session.proofs.KeptLemmas.{ascending-left, within-left, written}
 use Rattle.iscsi_session.proofs.LeavingParts.{none_found, less, one_less, stepped, Leaving, leaving_one}
 use Rattle.iscsi_session.proofs.session.Session.leave_next.Goals as goal

@@ -13,8 +13,8 @@ use Rattle.iscsi_session.specs.Management.{may_wait}
 use Rattle.iscsi_session.specs.Standing.{Core}
 use Rattle.iscsi_session.specs.Functions.{owed}
 use Rattle.iscsi_session.specs.Turning.{waiting_in, performed, performed_effects, next_waiting, next_position, without_waiting, function_if, function_effects}
-use Rattle.iscsi_session.proofs.ListLemmas.{list_all-filter}
-use Rattle.iscsi_session.proofs.ManageLemmas.{found_passes, fewer_left, fewer_of, waiting_performed}
+use Rattle.iscsi_session.proofs.ListLemmas.{list_all-filter, find-passes, fewer_counted}
+use Rattle.iscsi_session.proofs.ManageLemmas.{fewer_left, waiting_performed}
 use Rattle.iscsi_session.proofs.FunctionLemmas.{waited_places}
 use Rattle.iscsi_session.proofs.session.Session.take_function.Goals as goal
 
@@ -70,7 +70,7 @@ invariant_of-self c =
       ap (list_all (λ (v : Waiting). nat_lt v.event s.taken)) waits ∙ list_all-filter stays (λ (v : Waiting). nat_lt v.event s.taken) s.waiting inv.20,
       ap (list_all (λ (v : Waiting). is_known (connection_of v.request) s.conns)) waits ∙ list_all-filter stays (λ (v : Waiting). is_known (connection_of v.request) s.conns) s.waiting inv.21,
       ap (list_all (λ (v : Waiting). may_wait v.request)) waits ∙ list_all-filter stays (λ (v : Waiting). may_wait v.request) s.waiting inv.22,
-      λ cid. omega (arith, inv.23 cid, fewer_of (λ (v : Waiting). connection_of v.request == cid) stays s.waiting, ap (λ ws. waiting_in ws cid) waits),
+      λ cid. omega (arith, inv.23 cid, fewer_counted (λ (v : Waiting). connection_of v.request == cid) stays s.waiting, ap (λ ws. waiting_in ws cid) waits),
       omega (arith, inv.24, c.take_out.ensures.capacity),
       inv.25,
     )
@@ -81,7 +81,7 @@ perform-requires-clause-known c =
     let s : Core = record { window = c.self.inside.window; events = c.self.inside.events; conns = c.self.inside.conns.items; entered = c.self.inside.entered; taken = c.self.inside.taken; live = c.self.inside.live.items; sets = c.self.inside.sets.items; level = c.self.inside.level; arrived = c.self.inside.arrived.items; waiting = c.self.inside.waiting.items; open_conns = c.self.inside.open_conns.items } in
     let f : Waiting = c.in-Some.function in
     let found : find (λ w. w.turn == s.window.turned) s.waiting ≡ Some f = ap (λ n. find (λ w. w.turn == n) s.waiting) (sym c.turned-number.ensures) ∙ ap (find (λ w. w.turn == c.turned-number.result)) (sym c.deref.ensures.value) ∙ sym c.first_at.ensures ∙ c.in-Some.is in
-    found_passes (λ w. w.turn == s.window.turned) (λ w. is_known (connection_of w.request) s.conns) s.waiting f inv.21 found
+    find-passes (λ w. w.turn == s.window.turned) (λ w. is_known (connection_of w.request) s.conns) s.waiting f inv.21 found
 
 pub perform-requires-clause-voids : goal.perform-requires-clause-voids
 perform-requires-clause-voids c = λ waits_not immediate.
@@ -89,7 +89,7 @@ perform-requires-clause-voids c = λ waits_not immediate.
     let s : Core = record { window = c.self.inside.window; events = c.self.inside.events; conns = c.self.inside.conns.items; entered = c.self.inside.entered; taken = c.self.inside.taken; live = c.self.inside.live.items; sets = c.self.inside.sets.items; level = c.self.inside.level; arrived = c.self.inside.arrived.items; waiting = c.self.inside.waiting.items; open_conns = c.self.inside.open_conns.items } in
     let f : Waiting = c.in-Some.function in
     let found : find (λ w. w.turn == s.window.turned) s.waiting ≡ Some f = ap (λ n. find (λ w. w.turn == n) s.waiting) (sym c.turned-number.ensures) ∙ ap (find (λ w. w.turn == c.turned-number.result)) (sym c.deref.ensures.value) ∙ sym c.first_at.ensures ∙ c.in-Some.is in
-    absurd (false≢true (sym waits_not ∙ found_passes (λ w. w.turn == s.window.turned) (λ w. may_wait w.request) s.waiting f inv.22 found))
+    absurd (false≢true (sym waits_not ∙ find-passes (λ w. w.turn == s.window.turned) (λ w. may_wait w.request) s.waiting f inv.22 found))
 
 pub returns-clause-session : goal.returns-clause-session
 returns-clause-session c =
@@ -143,5 +143,5 @@ returns-clause-places c =
     let s : Core = record { window = c.self.inside.window; events = c.self.inside.events; conns = c.self.inside.conns.items; entered = c.self.inside.entered; taken = c.self.inside.taken; live = c.self.inside.live.items; sets = c.self.inside.sets.items; level = c.self.inside.level; arrived = c.self.inside.arrived.items; waiting = c.self.inside.waiting.items; open_conns = c.self.inside.open_conns.items } in
     let f : Waiting = c.in-Some.function in
     let found : find (λ w. w.turn == s.window.turned) s.waiting ≡ Some f = ap (λ n. find (λ w. w.turn == n) s.waiting) (sym c.turned-number.ensures) ∙ ap (find (λ w. w.turn == c.turned-number.result)) (sym c.deref.ensures.value) ∙ sym c.first_at.ensures ∙ c.in-Some.is in
-    let may : may_wait f.request ≡ true = found_passes (λ w. w.turn == s.window.turned) (λ w. may_wait w.request) s.waiting f inv.22 found in
+    let may : may_wait f.request ≡ true = find-passes (λ w. w.turn == s.window.turned) (λ w. may_wait w.request) s.waiting f inv.22 found in
     ap (λ (u : Core). u.window.places) c.perform.ensures.session ∙ waited_places _ f.request _ f.event may ∙ ap (λ (u : Core). u.window.places) c.self.view_is
