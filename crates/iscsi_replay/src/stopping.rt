@@ -71,13 +71,25 @@ impl Stop {
 }
 
 impl From<ReplayFault> for Stop {
-    fn from(fault: ReplayFault) -> Stop {
+    ghost use Rattle.iscsi_replay.specs.declared.stopping.Stop.{Stop};
+
+    ghost from_gives = { λ fault stop. stop ≡ Stop.Fault fault };
+
+    fn from(fault: ReplayFault) -> Stop
+        ensures value { result ≡ Stop.Fault fault }
+    {
         Stop::Fault(fault)
     }
 }
 
 impl From<clap::Error> for Stop {
-    fn from(error: clap::Error) -> Stop {
+    ghost use Rattle.iscsi_replay.specs.declared.stopping.Stop.{Stop};
+
+    ghost from_gives = { λ error stop. stop ≡ Stop.CommandLine error };
+
+    fn from(error: clap::Error) -> Stop
+        ensures value { result ≡ Stop.CommandLine error }
+    {
         Stop::CommandLine(error)
     }
 }
