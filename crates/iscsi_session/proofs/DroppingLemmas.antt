@@ -5,7 +5,7 @@ use Rattle.std.proofs.lemmas.Bool.{false≢true}
 use Rattle.std.proofs.lemmas.List.Sums.{sum_by-cons}
 use Rattle.iscsi_wire.specs.declared.request.Request.{Request}
 use Rattle.iscsi_wire.specs.Serial.{wire}
-use Rattle.iscsi_window.specs.Windows.{Received, number_expected, number_shown, at_place, with_place, is_held_from, dropped_at}
+use Rattle.iscsi_window.specs.Windows.{Received, number_expected, number_shown, at_place, with_place, is_held_from, taken_at}
 use Rattle.iscsi_session.specs.declared.effect.Effect.TheVariants.{Empty}
 use Rattle.iscsi_session.specs.Standing.{is_held, is_place_known}
 use Rattle.iscsi_session.specs.Parting.{emptied_place, emptied_from, is_clear_below}
@@ -147,10 +147,10 @@ pub record DroppedOne (w w' : Received) (whose : Option ℕ) (k : ℕ) : Type 0 
   pub known : (conns : List (ℕ × ℕ)) → list_all (is_place_known conns) w.places ≡ true → list_all (is_place_known conns) w'.places ≡ true
   pub clear : is_clear_below whose (k + 1) w'.places ≡ true
 
-pub dropped_one : (w : Received) (whose : Option ℕ) (k : ℕ) → is_clear_below whose k w.places ≡ true → is_held_from whose (at_place w k) ≡ true → DroppedOne w (dropped_at w k whose) whose k
+pub dropped_one : (w : Received) (whose : Option ℕ) (k : ℕ) → is_clear_below whose k w.places ≡ true → is_held_from whose (at_place w k) ≡ true → DroppedOne w (taken_at w k whose) whose k
 dropped_one w whose k clear held =
     let d : Dropped whose (number_expected w) w.places k = dropped_first whose (number_expected w) w.places k (first_place whose k w.places clear held) in
-    let same : with_place w k (Some None) ≡ dropped_at w k whose = sym (ap (λ b. let v : Received = cond b (with_place w k (Some None)) w in v) held) in
+    let same : with_place w k (Some None) ≡ taken_at w k whose = sym (ap (λ b. let v : Received = cond b (with_place w k (Some None)) w in v) held) in
     subst (λ (v : Received). DroppedOne w v whose k) same (record {
       first = refl;
       turned = refl;
@@ -169,7 +169,7 @@ pub record DroppedNone (w w' : Received) (whose : Option ℕ) (k : ℕ) : Type 0
   pub same : w' ≡ w
   pub clear : is_clear_below whose (k + 1) w.places ≡ true
 
-pub dropped_none : (w : Received) (whose : Option ℕ) (k : ℕ) → is_clear_below whose k w.places ≡ true → is_held_from whose (at_place w k) ≡ false → DroppedNone w (dropped_at w k whose) whose k
+pub dropped_none : (w : Received) (whose : Option ℕ) (k : ℕ) → is_clear_below whose k w.places ≡ true → is_held_from whose (at_place w k) ≡ false → DroppedNone w (taken_at w k whose) whose k
 dropped_none w whose k clear none = record {
   same = ap (λ b. let v : Received = cond b (with_place w k (Some None)) w in v) none;
   clear = ap (λ n. is_clear_below whose n w.places) (let z : k + 1 ≡ suc k = omega arith in z) ∙ clear_past whose k w.places clear none;

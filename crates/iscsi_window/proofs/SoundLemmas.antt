@@ -1,14 +1,27 @@
 -- Every call keeps what holds of every window.
-use Rattle.std.proofs.Common.{◌≡◌, ◌∙◌, ℕ, ◌-◌, ◌<◌, ◌≤◌, ◌≢◌, length, set, Option, Some, None, arith, sym, refl, subst, ⊎_elim, length-set, get_or-set_other}
+use Rattle.std.proofs.Common.{◌≡◌, ◌∙◌, ℕ, ◌-◌, ◌<◌, ◌≤◌, ◌≢◌, length, set, Option, Some, None, arith, sym, refl, subst, ⊎_elim, true, length-set, get_or-set_other}
 use Rattle.iscsi_wire.specs.declared.request.Request.{Request}
 use Rattle.std.proofs.lemmas.Bool.{cases_lt}
+use Rattle.std.proofs.lemmas.List.Quantifiers.{position-Some}
 use Rattle.circular_buffer.specs.Buffer.{Buffer, buffer}
+use Rattle.iscsi_window.specs.Windows.{is_held_from, first_from}
 use Rattle.iscsi_window.specs.Received.{Received, room_of, at_place, IsSound}
+
+-- a place with a held request is received
+is_received : (conn : Option ℕ) (place : Option (Option Request)) → is_held_from conn place ≡ true → (r : Option Request) × (place ≡ Some r)
+is_received conn None held = cc
+is_received conn (Some r) held = (r, refl)
 
 -- a received number has a place below the room
 pub received_within : (s : Received) (k : ℕ) (r : Option Request) → IsSound s → at_place s k ≡ Some r → k < room_of s
 received_within s k r sound received =
     ⊎_elim (λ within. within) (λ above. let none : at_place s k ≡ None = sound.none_above k above in cc) (cases_lt k (room_of s))
+
+-- so has one whose request is held
+pub held_within : (s : Received) (conn : Option ℕ) (k : ℕ) → IsSound s → first_from s conn ≡ Some k → k < room_of s
+held_within s conn k sound found =
+    let held : is_held_from conn (at_place s k) ≡ true = (position-Some (is_held_from conn) s.places k None found).1 in
+    let received = is_received conn (at_place s k) held in received_within s k received.0 sound received.1
 
 pub sound_set : (s : Received) (k : ℕ) (v : Option (Option Request)) → IsSound s → k < room_of s → IsSound (record s { places = set s.places k v })
 sound_set s k v sound within = record {

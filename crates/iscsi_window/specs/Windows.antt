@@ -108,9 +108,17 @@ emptied_if s (Inside k) (Some r) = with_place s k (Some None)
 abbrev pub emptied : Received → ℕ → Received
 emptied s w = emptied_if s (place_in s w) (held_at s (place_in s w))
 
--- the request of that place is taken out, if it is one of that connection
-abbrev pub dropped_at : Received → ℕ → Option ℕ → Received
-dropped_at s k conn = if is_held_from conn (at_place s k) then with_place s k (Some None) else s
+-- the first place where a request of that connection is held
+abbrev pub first_from : Received → Option ℕ → Option ℕ
+first_from s conn = position (is_held_from conn) s.places
+
+abbrev pub dropped_at : Received → Option ℕ → Received
+dropped_at s None = s
+dropped_at s (Some k) = with_place s k (Some None)
+
+-- the request of a place is taken out, if it is one of that connection
+abbrev pub taken_at : Received → ℕ → Option ℕ → Received
+taken_at s k conn = if is_held_from conn (at_place s k) then with_place s k (Some None) else s
 
 -- ---- the expected number turns
 

@@ -4,7 +4,7 @@ ghost use Rattle.std.specs.Prelude.{Err, ◌≡◌, ℕ, ◌+◌, ◌-◌, ◌^�
 ghost use Rattle.circular_buffer.specs.Buffer.{buffer};
 ghost use Rattle.iscsi_wire.specs.Serial.{wire, lift};
 ghost use Rattle.iscsi_window.specs.Received.{number_expected, at_place, IsSound, HasRoom};
-ghost use Rattle.iscsi_window.specs.Windows.{opened, number_last, place_in, IsInside, held_at, offer_to, offered_to, is_received_at, voided, is_command, is_asked, is_held_from, number_shown, find_command, emptied, dropped_at, turned_by, advanced, with_unfinished};
+ghost use Rattle.iscsi_window.specs.Windows.{opened, number_last, place_in, IsInside, held_at, offer_to, offered_to, is_received_at, voided, is_command, is_asked, is_held_from, number_shown, find_command, emptied, first_from, dropped_at, taken_at, turned_by, advanced, with_unfinished};
 
 use crate::answer::{Offer, Place, Turned};
 use crate::fault::WindowFault;
@@ -184,11 +184,23 @@ impl Window {
         Some(request)
     }
 
+    /// Takes out the request with the lowest number of those that are held and came on connection `conn`, or
+    /// on any for None, and answers its number, which stays received. Where none is held, nothing changes.
+    pub fn drop_first(&mut self, conn: Option<u16>) -> Option<u32>
+        ensures answer { result ≡ option_map (number_shown self.old) (first_from self.old conn) }
+        ensures state { self.new ≡ dropped_at self.old (first_from self.old conn) }
+    {
+        let k = first_held(&self.places, conn)?;
+        let sn = self.exp().wrapping_add(k);
+        put(&mut self.places, k, Some(None));
+        Some(sn)
+    }
+
     /// Takes out the request that is held `ahead` numbers after the expected one, if it came on connection
     /// `conn`, or on any for None, and answers its number, which stays received. Otherwise nothing changes.
     pub fn drop_at(&mut self, ahead: u32, conn: Option<u16>) -> Option<u32>
         ensures answer { result ≡ (if is_held_from conn (at_place self.old ahead) then Some (number_shown self.old ahead) else None) }
-        ensures state { self.new ≡ dropped_at self.old ahead conn }
+        ensures state { self.new ≡ taken_at self.old ahead conn }
     {
         if !holds_from(&at(&self.places, ahead), conn) {
             return None;
@@ -302,5 +314,16 @@ fn first_command(places: &Places, end: u32, itt: u32, unit: u16) -> Option<u32>
         .iter()
         .take(end as usize)
         .position(|received| holds_command(received, itt, unit))?;
+    Some(k as u32)
+}
+
+/// The first place where a request is held that came on connection `conn`, or on any for None.
+fn first_held(places: &Places, conn: Option<u16>) -> Option<u32>
+    requires { length places.now.items ≤ 1024 }
+    ensures { result ≡ position (is_held_from conn) places.now.items }
+{
+    let k = places
+        .iter()
+        .position(|received| holds_from(received, conn))?;
     Some(k as u32)
 }

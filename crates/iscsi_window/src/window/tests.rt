@@ -122,10 +122,12 @@ fn held_requests_are_found_and_taken_out(rt: HostRuntime) -> Result<(), Fail> {
     assert_eq!(rt; window.drop_at(2, Some(2)), Some(0));
     assert_eq!(rt; window.drop_at(2, None), None);
     assert_eq!(rt; window.find_held(0xa1, 0, 5), Some(1));
-    assert_eq!(rt; window.drop_at(1, None), Some(0xffff_ffff));
+    assert_eq!(rt; window.drop_first(Some(2)), None);
+    assert_eq!(rt; window.drop_first(None), Some(0xffff_ffff));
     assert_eq!(rt; window.empty(1), Some(fourth));
     assert_eq!(rt; window.empty(1), None);
     assert_eq!(rt; window.empty(0x100), None);
+    assert_eq!(rt; window.drop_first(None), None);
     assert_eq!(rt; window.drop_at(3, None), None);
     assert_eq!(rt; window.drop_at(8, None), None);
     // The numbers stay received.

@@ -2,7 +2,7 @@ use Rattle.std.proofs.Common.{◌≡◌, ℕ, true, ◌∙◌, ◌++◌, ◌+◌
 use Rattle.std.specs.List.{list_all}
 use Rattle.iscsi_wire.specs.declared.request.Request.{Request}
 use Rattle.iscsi_wire.specs.Serial.{number_of_first}
-use Rattle.iscsi_window.specs.Windows.{Received, number_expected, dropped_at}
+use Rattle.iscsi_window.specs.Windows.{Received, number_expected, taken_at}
 use Rattle.iscsi_session.specs.declared.effect.Effect.{Effect}
 use Rattle.iscsi_session.specs.declared.effect.Effect.TheVariants.{Empty}
 use Rattle.iscsi_session.specs.Standing.{Core, is_held, is_place_known}
@@ -98,7 +98,7 @@ invariant_of-self-in_default c =
     let w : Received = c.self.inside.window in
     let clear : is_clear_below c.args.whose c.args.ahead w.places ≡ true = ap (λ (u : Core). is_clear_below c.args.whose c.args.ahead u.window.places) c.self.view_is ∙ c.requires.lowest in
     let none = answered_none w c.args.whose c.args.ahead (sym c.drop_at.ensures.answer ∙ c.in_default.is) in
-    let d : DroppedNone w (dropped_at w c.args.ahead c.args.whose) c.args.whose c.args.ahead = dropped_none w c.args.whose c.args.ahead clear none in
+    let d : DroppedNone w (taken_at w c.args.ahead c.args.whose) c.args.whose c.args.ahead = dropped_none w c.args.whose c.args.ahead clear none in
     let same : c.drop_at.new.self ≡ w = c.drop_at.ensures.state ∙ d.same in
     let unfinished : c.drop_at.new.self.unfinished ≡ w.unfinished = ap (λ (v : Received). v.unfinished) same in
     let long : length c.drop_at.new.self.places ≡ length w.places = ap (λ (v : Received). length v.places) same in
@@ -138,6 +138,6 @@ returns-in_default-clause-lowest c =
     let w : Received = c.self.inside.window in
     let clear : is_clear_below c.args.whose c.args.ahead w.places ≡ true = ap (λ (u : Core). is_clear_below c.args.whose c.args.ahead u.window.places) c.self.view_is ∙ c.requires.lowest in
     let none = answered_none w c.args.whose c.args.ahead (sym c.drop_at.ensures.answer ∙ c.in_default.is) in
-    let d : DroppedNone w (dropped_at w c.args.ahead c.args.whose) c.args.whose c.args.ahead = dropped_none w c.args.whose c.args.ahead clear none in
+    let d : DroppedNone w (taken_at w c.args.ahead c.args.whose) c.args.whose c.args.ahead = dropped_none w c.args.whose c.args.ahead clear none in
     let same : c.drop_at.new.self ≡ w = c.drop_at.ensures.state ∙ d.same in
     ap (λ (v : Received). is_clear_below c.args.whose (c.args.ahead + 1) v.places) same ∙ d.clear
