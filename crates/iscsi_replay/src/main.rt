@@ -9,6 +9,8 @@ mod parse;
 mod reading;
 mod recording;
 mod replaying;
+#[cfg(test)]
+mod session_tests;
 mod settings;
 mod sink;
 mod source;

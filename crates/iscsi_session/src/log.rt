@@ -18,9 +18,6 @@ use crate::session::Session;
 use std::alloc::Global;
 use std::marker::Model;
 
-#[cfg(test)]
-mod tests;
-
 /// The effects of an event, in order.
 #[derive(Drop)]
 pub struct Effects {

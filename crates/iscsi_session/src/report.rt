@@ -12,9 +12,6 @@ use iscsi_tasks::Attr;
 use iscsi_wire::{Pdu, Reply, Request};
 use itoa::Buffer;
 
-#[cfg(test)]
-mod tests;
-
 /// Room for a line with its end. The longest line, that of a Reject, takes 206 bytes of it.
 pub const LONGEST_LINE: usize = 256;
 

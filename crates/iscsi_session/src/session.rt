@@ -38,8 +38,6 @@ mod logout;
 mod management;
 mod sets;
 mod tags;
-#[cfg(test)]
-mod tests;
 mod waiting;
 
 /// The most effects of one item.

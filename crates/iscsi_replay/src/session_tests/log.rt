@@ -1,4 +1,6 @@
-use crate::{Effect, Effects, Event, Numbers, Options, SessionFault, Why, run};
+//! The log of a list of events.
+
+use iscsi_session::{Effect, Effects, Event, Numbers, Options, SessionFault, Why, run};
 use std::test::Fail;
 
 #[test]

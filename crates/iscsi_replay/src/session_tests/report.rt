@@ -1,5 +1,7 @@
-use super::*;
-use iscsi_wire::Sense;
+//! The lines of a report.
+
+use iscsi_session::{Attr, Effect, Event, Numbers, Why, put_effect, put_event};
+use iscsi_wire::{Reply, Request, Sense};
 use std::alloc::Global;
 use std::process::Abort;
 use std::test::Fail;
