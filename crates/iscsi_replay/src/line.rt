@@ -3,7 +3,7 @@
 use iscsi_session::Event;
 
 /// What one line of a recording says.
-#[derive(Clone, Copy, Debug, PartialEq, Eq)]
+#[derive(Clone, Copy)]
 pub enum Line {
     /// An empty line, a note or an effect.
     Passed,

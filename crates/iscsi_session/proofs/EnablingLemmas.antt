@@ -15,7 +15,7 @@ use Rattle.iscsi_session.specs.Run.{after_event, after_events, effects_of_mark, 
 use Rattle.iscsi_session.specs.Enabling.{effects_so_far, is_enable, is_leave, is_shown_enabled, is_enabled, FreeMoment, EnabledSoFar, effects_in}
 use Rattle.iscsi_session.specs.Standing.{CommandsAgree}
 use Rattle.iscsi_session.proofs.BoolLemmas.{and_parts, and_both, or_first, or_second, or_comm, or_false, and_false, and_comm, and_true}
-use Rattle.iscsi_session.proofs.ListLemmas.{list_any-map, any_filter, any_flat_map, any_same}
+use Rattle.iscsi_session.proofs.ListLemmas.{list_any-map, any_all, any_filter, any_flat_map, any_same}
 use Rattle.iscsi_session.proofs.TraceLemmas.{weaker}
 use Rattle.iscsi_session.proofs.EnabledLemmas.{enables, is_here, was_free-stays, new_in, new_in-more, newly-one, filter-twice, free_now}
 use Rattle.iscsi_session.proofs.CommandParts.{Untouched, live-untouched, live_in-untouched, EntersOne, live-entered, live_in-entered, live_in-elsewhere, LeavesSome, live-left, none_any}
@@ -91,12 +91,6 @@ shown-before : (o : Setting) (t : Trace) (k : ℕ) → is_shown_enabled k (effec
 shown-before o t k = ap (λ b. enabled_once o t k && not b) (left_so_far o t k)
 
 -- ---- the live commands
-
-any_all : {A : Type 0} (f g p : A → Bool) (xs : List A) → list_all p xs ≡ true → ((x : A) → p x ≡ true → f x ≡ g x) → list_any f xs ≡ list_any g xs
-any_all f g p [] all same = refl
-any_all f g p (x ∷ xs) all same =
-    let parts = and_parts (p x) (list_all p xs) all in
-    ap (λ b. b || list_any f xs) (same x parts.0) ∙ ap (λ b. g x || b) (any_all f g p xs parts.1 same)
 
 -- each is among those of its unit
 all_in_unit : (cs : List Command) → list_all (λ (c : Command). is_here c.unit (filter (λ (d : Command). d.unit == c.unit) cs) c) cs ≡ true

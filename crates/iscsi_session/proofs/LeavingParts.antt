@@ -5,6 +5,7 @@ use Rattle.std.proofs.lemmas.Bool.{cases_eq, eqb-true, false≢true}
 use Rattle.std.proofs.lemmas.Bool.Decides.{nat_tests}
 use Rattle.std.proofs.lemmas.List.{get_or-set_same, get_or-set_other, set-get_or, set-set, length-map}
 use Rattle.std.proofs.lemmas.List.Sums.{sum_by-cons}
+use Rattle.std.proofs.lemmas.List.Folds.{list_all-map}
 use Rattle.iscsi_window.specs.Windows.{Received, with_unfinished}
 use Rattle.iscsi_tasks.specs.declared.task.Task.{Task}
 use Rattle.iscsi_tasks.specs.declared.member.Member.{Member}
@@ -105,6 +106,9 @@ without_above k (x ∷ ms) h =
     let parts = and_parts (nat_lt k x.task.ticket) (list_all (λ u. nat_lt k u) (tickets ms)) h in
     ap (λ b. cond (not b) (x ∷ without k ms) (without k ms)) (later_apart k x.task.ticket parts.0) ∙ ap (λ ns. x ∷ ns) (without_above k ms parts.1)
 
+without_first : (x : Member) (ms : List Member) → list_all (λ u. nat_lt x.task.ticket u) (tickets ms) ≡ true → without x.task.ticket (x ∷ ms) ≡ ms
+without_first x ms above = ap (λ b. cond (not b) (x ∷ without x.task.ticket ms) (without x.task.ticket ms)) (eq-eqb x.task.ticket x.task.ticket refl) ∙ without_above x.task.ticket ms above
+
 -- ---- the command that leaves first
 
 found_passes : (covers : Task → Bool) (p : ℕ → Bool) (ms : List Member) (task : Task) → list_all p (tickets ms) ≡ true → find covers (map (λ (m : Member). m.task) ms) ≡ Some task → p task.ticket ≡ true
@@ -190,14 +194,38 @@ first_effect covers unit (x ∷ ms) task up found =
     elim (covers x.task) as (λ b. covers x.task ≡ b → cond b (Some x.task) (find covers (map (λ (m : Member). m.task) ms)) ≡ Some task → shown (cond b (x ∷ c ms) (c ms)) ≡ Leave task.ticket unit ∷ shown (c (without task.ticket (x ∷ ms)))) [
       | true ↦ λ is here.
           let same : x.task ≡ task = cc in
-          let gone : without x.task.ticket (x ∷ ms) ≡ ms = ap (λ b. cond (not b) (x ∷ without x.task.ticket ms) (without x.task.ticket ms)) (eq-eqb x.task.ticket x.task.ticket refl) ∙ without_above x.task.ticket ms parts.0 in
-          ap (λ ns. Leave x.task.ticket unit ∷ shown (c ns)) (sym gone) ∙ ap (λ (y : Task). Leave y.ticket unit ∷ shown (c (without y.ticket (x ∷ ms)))) same
+          ap (λ ns. Leave x.task.ticket unit ∷ shown (c ns)) (sym (without_first x ms parts.0)) ∙ ap (λ (y : Task). Leave y.ticket unit ∷ shown (c (without y.ticket (x ∷ ms)))) same
       | false ↦ λ is later.
           first_effect covers unit ms task parts.1 later
           ∙ ap (λ es. Leave task.ticket unit ∷ es) (elim (x.task.ticket == task.ticket) as (λ b. shown (c (without task.ticket ms)) ≡ shown (c (cond (not b) (x ∷ without task.ticket ms) (without task.ticket ms)))) [
             | true ↦ refl
             | false ↦ ap (λ b. shown (cond b (x ∷ c (without task.ticket ms)) (c (without task.ticket ms)))) (sym is)
           ])
+    ] refl found
+
+above_fits : (covers : Task → Bool) (k : ℕ) (ms : List Member) → list_all (λ u. nat_lt k u) (tickets ms) ≡ true → list_all (λ m. nat_lt k m.task.ticket || not (covers m.task)) ms ≡ true
+above_fits covers k [] h = refl
+above_fits covers k (x ∷ ms) h =
+    let parts = and_parts (nat_lt k x.task.ticket) (list_all (λ u. nat_lt k u) (tickets ms)) h in
+    and_both (nat_lt k x.task.ticket || not (covers x.task)) (list_all (λ m. nat_lt k m.task.ticket || not (covers m.task)) ms)
+    (or_first (nat_lt k x.task.ticket) (not (covers x.task)) parts.0) (above_fits covers k ms parts.1)
+
+-- the covered ones that are left have greater tickets
+rest_later : (covers : Task → Bool) (ms : List Member) (task : Task) → rising (tickets ms) ≡ true → find covers (map (λ (m : Member). m.task) ms) ≡ Some task
+    → list_all (λ m. nat_lt task.ticket m.task.ticket || not (covers m.task)) (without task.ticket ms) ≡ true
+rest_later covers [] task up found = refl
+rest_later covers (x ∷ ms) task up found =
+    let parts = and_parts (list_all (λ u. nat_lt x.task.ticket u) (tickets ms)) (rising (tickets ms)) up in
+    let fits : ℕ → Member → Bool = λ n m. nat_lt n m.task.ticket || not (covers m.task) in
+    let rest : List Member = without task.ticket ms in
+    elim (covers x.task) as (λ b. covers x.task ≡ b → cond b (Some x.task) (find covers (map (λ (m : Member). m.task) ms)) ≡ Some task → list_all (fits task.ticket) (without task.ticket (x ∷ ms)) ≡ true) [
+      | true ↦ λ is here.
+          let same : x.task ≡ task = cc in
+          ap (λ (y : Task). list_all (fits y.ticket) (without y.ticket (x ∷ ms))) (sym same) ∙ ap (list_all (fits x.task.ticket)) (without_first x ms parts.0) ∙ above_fits covers x.task.ticket ms parts.0
+      | false ↦ λ is later. elim (x.task.ticket == task.ticket) as (λ b. list_all (fits task.ticket) (cond (not b) (x ∷ rest) rest) ≡ true) [
+        | true ↦ rest_later covers ms task parts.1 later
+        | false ↦ and_both (fits task.ticket x) (list_all (fits task.ticket) rest) (or_second (nat_lt task.ticket x.task.ticket) (not (covers x.task)) (ap not is)) (rest_later covers ms task parts.1 later)
+      ]
     ] refl found
 
 -- ---- the set that it leaves
@@ -323,6 +351,7 @@ pub record Leaving (s : Core) (unit : ℕ) (covers : Task → Bool) (k : ℕ) : 
   pub found : find_ticket k s.live ≡ Some live
   pub matches : Match (set s.sets unit (less (set_at s unit) k)) (without_ticket k s.live)
   pub fewer : length (set_at (stepped s unit k) unit).list < length (set_at s unit).list
+  pub later : list_all (λ m. nat_lt k m.task.ticket || not (covers m.task)) (set_at (stepped s unit k) unit).list ≡ true
   pub owes : owed (without_ticket k s.live) (set s.sets unit (less (set_at s unit) k)) + 1 ≤ owed s.live s.sets
 
 module _ (s : Core) (unit : ℕ) (covers : Task → Bool) (task : Task) (found : find covers (tasks_in (set_at s unit)) ≡ Some task) (inside : unit < length s.sets) (m : Match s.sets s.live) (up : are_ascending s.live ≡ true) (few : count_by is_numbered s.live ≤ s.window.unfinished) where
@@ -402,6 +431,9 @@ module _ (s : Core) (unit : ℕ) (covers : Task → Bool) (task : Task) (found :
     found = live_is.1.0;
     matches = matches_are;
     fewer = omega (arith, ap (λ (x : Members). length x.list) at_unit, length-map (without k now.list) (looked_at (without k now.list)), without_shorter k now.list there);
+    later =
+        ap (λ (x : Members). list_all (λ (y : Member). nat_lt k y.task.ticket || not (covers y.task)) x.list) at_unit
+        ∙ list_all-map (λ (y : Member). nat_lt k y.task.ticket || not (covers y.task)) (looked_at (without k now.list)) (without k now.list) ∙ rest_later covers now.list task rises found;
     owes = omega (arith, fewer_all (λ (l : Live). l.ticket == k) s.live live_is.0 live_is.1.0, ungiven_in-set s.sets unit (less now k) inside, ungiven-less now k);
   }
 

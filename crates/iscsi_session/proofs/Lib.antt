@@ -46,6 +46,7 @@ pub mod CloseRuns
 pub mod CloseTheorem
 pub mod LeavingLemmas
 pub mod LeavingParts
+pub mod LaterParts
 pub mod AbortParts
 pub mod DroppingLemmas
 pub mod TellingLemmas

@@ -14,7 +14,7 @@ use Rattle.iscsi_wire.specs.declared.request.Request.{Request}
 use Rattle.iscsi_wire.specs.Fields.{connection_of, is_immediate}
 use Rattle.iscsi_session.specs.Standing.{stat_sn_on, are_known, is_place_known}
 use Rattle.iscsi_session.specs.Steps.{count_reply, without_ticket}
-use Rattle.iscsi_session.proofs.BoolLemmas.{and_first, and_second, and_both}
+use Rattle.iscsi_session.proofs.BoolLemmas.{and_first, and_second, and_parts, and_both}
 
 -- ---- tests of lists
 
@@ -25,6 +25,12 @@ list_any-map p f (x ∷ xs) = ap (λ b. p (f x) || b) (list_any-map p f xs)
 pub any_same : {A : Type 0} (p q : A → Bool) (xs : List A) → ((x : A) → p x ≡ q x) → list_any p xs ≡ list_any q xs
 any_same p q [] h = refl
 any_same p q (x ∷ xs) h = ap (λ b. b || list_any p xs) (h x) ∙ ap (λ b. q x || b) (any_same p q xs h)
+
+pub any_all : {A : Type 0} (f g p : A → Bool) (xs : List A) → list_all p xs ≡ true → ((x : A) → p x ≡ true → f x ≡ g x) → list_any f xs ≡ list_any g xs
+any_all f g p [] all same = refl
+any_all f g p (x ∷ xs) all same =
+    let parts = and_parts (p x) (list_all p xs) all in
+    ap (λ b. b || list_any f xs) (same x parts.0) ∙ ap (λ b. g x || b) (any_all f g p xs parts.1 same)
 
 pub any_filter : {A : Type 0} (p q : A → Bool) (xs : List A) → list_any p (filter q xs) ≡ list_any (λ x. q x && p x) xs
 any_filter p q [] = refl

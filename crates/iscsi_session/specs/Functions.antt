@@ -17,7 +17,7 @@ use Rattle.iscsi_session.specs.declared.effect.Effect.TheVariants.{Void, Empty, 
 use Rattle.iscsi_session.specs.declared.outcome.Outcome.{Outcome}
 use Rattle.iscsi_session.specs.declared.outcome.Outcome.TheVariants.{Respond, Abort, AbortAll, Empty as EmptyNumber, Void as VoidNumber}
 use Rattle.iscsi_session.specs.declared.session.leaving.Choice.{Choice}
-use Rattle.iscsi_session.specs.declared.session.leaving.Choice.TheVariants.{Covered, Ticket}
+use Rattle.iscsi_session.specs.declared.session.leaving.Choice.TheVariants.{Covered, After, Ticket}
 use Rattle.iscsi_session.specs.declared.session.live.Live.{Live}
 use Rattle.iscsi_session.specs.Standing.{Core}
 use Rattle.iscsi_session.specs.Steps.{set_at, with_set, all_given, enable_effects, is_numbered, with_reply, reply_effects}
@@ -101,7 +101,16 @@ covers_ticket ticket t = t.ticket == ticket
 -- what a choice covers
 abbrev pub chosen : Choice → Task → Bool
 chosen (Covered cover) = is_covered cover
+chosen (After cover ticket) = λ t. nat_lt ticket t.ticket && is_covered cover t
 chosen (Ticket ticket) = covers_ticket ticket
+
+-- what is to leave, once the oldest of the chosen commands left, if there was one
+abbrev pub later : Choice → Option ℕ → Choice
+later (Covered cover) (Some ticket) = After cover ticket
+later (Covered cover) None = Covered cover
+later (After cover k) (Some ticket) = After cover ticket
+later (After cover k) None = After cover k
+later (Ticket k) left = Ticket k
 
 -- some command of the set is covered
 abbrev pub has_covered : (Task → Bool) → Members → Bool

@@ -3,7 +3,7 @@
 use iscsi_wire::Reply;
 
 /// What a Logout Request comes to (RFC 7143 section 11.14).
-#[derive(Clone, Copy, Debug, PartialEq, Eq)]
+#[derive(Clone, Copy)]
 pub enum Closing {
     /// Nothing is closed, and this reply goes out.
     Refused(Reply),

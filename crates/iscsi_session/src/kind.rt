@@ -6,7 +6,7 @@ ghost use Rattle.iscsi_session.specs.Agenda.{kind_of as kind_named};
 use iscsi_wire::Request;
 
 /// What becomes of a request by its opcode (RFC 7143 section 11.2.1.2).
-#[derive(Clone, Copy, Debug, PartialEq, Eq)]
+#[derive(Clone, Copy)]
 pub enum Kind {
     /// It is passed over.
     PassedOver,

@@ -3,7 +3,7 @@
 use iscsi_tasks::Cover;
 
 /// What a task management function that isn't refused comes to (RFC 7143 section 11.5, SAM-5 section 7).
-#[derive(Clone, Copy, Debug, PartialEq, Eq)]
+#[derive(Clone, Copy)]
 pub enum Outcome {
     /// This response, and nothing else.
     Respond(u8),

@@ -2,7 +2,7 @@
 
 /// Whether an immediate request executes at its arrival. A task management function over a whole set waits until the
 /// numbers below its own have had their turn (RFC 7143 section 4.2.3).
-#[derive(Clone, Copy, Debug, PartialEq, Eq)]
+#[derive(Clone, Copy)]
 pub enum Patience {
     /// It executes at once.
     Now,

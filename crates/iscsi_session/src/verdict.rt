@@ -3,7 +3,7 @@
 use iscsi_wire::Reply;
 
 /// What the execution of a request comes to, by the first case of its table that fits.
-#[derive(Clone, Copy, Debug, PartialEq, Eq)]
+#[derive(Clone, Copy)]
 pub enum Verdict {
     /// Nothing more happens.
     Nothing,

@@ -8,3 +8,4 @@ pub mod SearchLemmas
 pub mod CountLemmas
 pub mod RuleLemmas
 pub mod EnterLemmas
+pub mod CoverLemmas

@@ -79,6 +79,10 @@ is_covered (Below pos event) t = int_lt t.pos pos || (t.immediate && int_eq t.po
 abbrev pub first_covered : Cover → List Task → Option Task
 first_covered cover tasks = find (is_covered cover) tasks
 
+-- the oldest one that is covered, of those with a greater ticket
+abbrev pub next_covered : Cover → ℕ → List Task → Option Task
+next_covered cover ticket tasks = find (λ t. nat_lt ticket t.ticket && is_covered cover t) tasks
+
 -- ---- enabled commands
 
 abbrev pub is_enabled_in : ℕ → List Member → Bool

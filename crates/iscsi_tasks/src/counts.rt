@@ -7,7 +7,7 @@ ghost use Rattle.iscsi_tasks.specs.Counted.{is_free_behind, free_to, plus_one_if
 use crate::task::Attr;
 
 /// Counts of a set, and places in it from 0 on.
-#[derive(Clone, Copy, Debug)]
+#[derive(Clone, Copy)]
 pub struct Counts {
     /// How many commands are HEAD OF QUEUE.
     pub(crate) heads: usize,

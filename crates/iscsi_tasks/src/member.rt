@@ -3,7 +3,7 @@
 use crate::task::Task;
 
 /// A command of a set.
-#[derive(Clone, Copy, Debug)]
+#[derive(Clone, Copy)]
 pub struct Member {
     pub(crate) task: Task,
     /// Whether it was free at some moment since it entered.

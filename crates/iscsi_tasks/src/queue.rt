@@ -1,6 +1,6 @@
 //! The commands of a set in the order in which they entered.
 
-ghost use Rattle.std.specs.Prelude.{◌≡◌, ℕ, ◌+◌, ◌<◌, ◌≤◌, ◌==◌, [], ◌∷◌, ◌++◌, map, take, drop, length, position, slice_index_or, find, option_map, All, true, false};
+ghost use Rattle.std.specs.Prelude.{◌≡◌, ℕ, ◌+◌, ◌<◌, ◌≤◌, ◌==◌, ◌&&◌, nat_lt, [], ◌∷◌, ◌++◌, map, take, drop, length, position, slice_index_or, find, option_map, All, true, false};
 ghost use Rattle.std.specs.List.{position_or_len, remove};
 ghost use Rattle.std.specs.VecDeque.{deque_len, deque_capacity};
 ghost use Rattle.iscsi_tasks.specs.Sets.{InOrder, after_moment, is_head_of, is_covered, is_new, next_in, given_in};
@@ -38,6 +38,39 @@ pub(crate) fn first_covered(members: &Queue, cover: &Cover) -> Option<usize>
     ensures { result ≡ position (λ m. is_covered cover.now m.task) members.now.items }
 {
     members.iter().position(|m| cover.covers(&m.task))
+}
+
+/// The place of the oldest covered command whose ticket is above this one. It looks along the set from there on.
+pub(crate) fn next_covered(members: &Queue, cover: &Cover, ticket: u64) -> Option<usize>
+    requires { InOrder members.now.items }
+    ensures { result ≡ position (λ m. nat_lt ticket m.task.ticket && is_covered cover.now m.task) members.now.items }
+{
+    for k in place_after(members, ticket)..members.len() {
+        if cover.covers(&members[k].task) {
+            return Some(k);
+        }
+    }
+    None
+}
+
+/// How many commands have a ticket that isn't above this one.
+fn place_after(members: &Queue, ticket: u64) -> usize
+    requires { InOrder members.now.items }
+    ensures within { result ≤ length members.now.items }
+    ensures before { (k : ℕ) (d : Member) → k < result → (slice_index_or members.now.items k d).task.ticket ≤ ticket }
+    ensures after { (k : ℕ) (d : Member) → result ≤ k → k < length members.now.items → ticket < (slice_index_or members.now.items k d).task.ticket }
+{
+    // All up to the ticket have left where an abort takes out the oldest ones, so it would be sought in vain.
+    let Some(oldest) = members.front() else {
+        return 0;
+    };
+    if ticket < oldest.task.ticket {
+        return 0;
+    }
+    match members.binary_search_by_key(&ticket, |m| m.task.ticket) {
+        Ok(at) => at + 1,
+        Err(at) => at,
+    }
 }
 
 /// The command enters behind all others.

@@ -1,7 +1,7 @@
 //! The task set: its commands in the order in which they entered.
 
 ghost use Rattle.std.specs.Prelude.{Err, ◌≡◌, ◌+◌, ◌<◌, ◌≤◌, ◌⊎◌, ◌↔◌, List, [], ◌∷◌, length, slice_index_or, Option, Some, IsTrue, IfOk, IfErr, OnOk, OnErr};
-ghost use Rattle.iscsi_tasks.specs.Sets.{tasks_in, opened, InOrder, IsNewest, entered_to, refused_by, left_by, with_ticket, with_tag, first_covered, is_enabled_in, next_in, given_by, StaysFree};
+ghost use Rattle.iscsi_tasks.specs.Sets.{tasks_in, opened, InOrder, IsNewest, entered_to, refused_by, left_by, with_ticket, with_tag, first_covered, next_covered, is_enabled_in, next_in, given_by, StaysFree};
 ghost use Rattle.iscsi_tasks.specs.Changes.{Change, Entered, AllBelow, StandsFor, live, IsEnabled, next_after, after_giving, after_leaving};
 ghost use Rattle.iscsi_tasks.specs.Counted.{is_free_behind};
 
@@ -10,7 +10,7 @@ use crate::cover::Cover;
 use crate::fault::TaskFault;
 use crate::member::Member;
 use crate::queue::{
-    Queue, enable_free, first_covered, give_next, place_of, push, remove, with_tag,
+    Queue, enable_free, first_covered, give_next, next_covered, place_of, push, remove, with_tag,
 };
 use crate::task::{Attr, Task};
 use std::alloc::Global;
@@ -143,6 +143,19 @@ impl TaskSet {
         ensures stands { (h : List Change) → StandsFor self.old h → (result ≡ first_covered cover.now (live h)) × StandsFor self.new (after_leaving result h) }
     {
         let at = first_covered(&self.members, cover)?;
+        Some(self.take_out(at))
+    }
+
+    /// The oldest of the covered commands with a greater ticket leaves. Where there is none, nothing changes.
+    ///
+    /// It finds the ticket by halving, and looks along the set from there on. So a caller who takes out one covered command
+    /// after another looks at each command once.
+    pub fn leave_next(&mut self, cover: &Cover, ticket: u64) -> Option<Task>
+        ensures answer { result ≡ next_covered cover.now ticket (tasks_in self.old) }
+        ensures state { self.new ≡ left_by self.old (next_covered cover.now ticket (tasks_in self.old)) }
+        ensures stands { (h : List Change) → StandsFor self.old h → (result ≡ next_covered cover.now ticket (live h)) × StandsFor self.new (after_leaving result h) }
+    {
+        let at = next_covered(&self.members, cover, ticket)?;
         Some(self.take_out(at))
     }
 

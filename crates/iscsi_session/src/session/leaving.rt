@@ -1,11 +1,11 @@
 //! Commands of a unit that leave before they are completed.
 
-ghost use Rattle.std.specs.Prelude.{ℕ, ◌≡◌, ◌+◌, ◌<◌, ◌≤◌, ◌++◌, true, false, find, length, count_by, option_map, slice_index_or, slice_set, IsSome, vec_len, vec_capacity};
+ghost use Rattle.std.specs.Prelude.{ℕ, ◌≡◌, ◌+◌, ◌<◌, ◌≤◌, ◌++◌, None, true, false, find, length, count_by, option_map, slice_index_or, slice_set, IsSome, vec_len, vec_capacity};
 ghost use Rattle.std.specs.VecDeque.{deque_capacity};
 ghost use Rattle.iscsi_tasks.specs.Sets.{tasks_in, opened, left_by, is_covered};
 ghost use Rattle.iscsi_session.specs.Standing.{are_ascending, are_known};
 ghost use Rattle.iscsi_session.specs.Steps.{AreCounted, is_numbered, find_ticket, without_ticket, enable_effects, set_at};
-ghost use Rattle.iscsi_session.specs.Functions.{finished_by, with_left, leaving_effects, with_given, covers_ticket, chosen, has_covered, owed};
+ghost use Rattle.iscsi_session.specs.Functions.{finished_by, with_left, leaving_effects, with_given, covers_ticket, chosen, later, has_covered, owed};
 
 use crate::effect::Effect;
 use crate::session::completion::finish;
@@ -20,6 +20,8 @@ use std::collections::VecDeque;
 pub(crate) enum Choice {
     /// Those that are covered.
     Covered(Cover),
+    /// Those that are covered, of those with a greater ticket.
+    After(Cover, u64),
     /// The one with this ticket.
     Ticket(u64),
 }
@@ -34,8 +36,10 @@ impl Session {
         ensures spent { vec_len out.new + owed self.new.live self.new.sets ≤ vec_len out.old + owed self.old.live self.old.sets }
         ensures capacity { vec_capacity out.new ≡ vec_capacity out.old }
     {
-        let choice = Choice::Covered(*cover);
-        while self.leave_next(unit, &choice, out) {}
+        let mut choice = Choice::Covered(*cover);
+        while let Some(ticket) = self.leave_next(unit, &choice, out) {
+            choice = Choice::After(*cover, ticket);
+        }
     }
 
     /// The command of a unit with this ticket leaves.
@@ -62,23 +66,21 @@ impl Session {
         sets::tell(&mut self.sets, unit, out);
     }
 
-    /// The oldest of the chosen commands of a unit leaves, if there is one. Whether there was.
-    fn leave_next(&mut self, unit: u16, choice: &Choice, out: &mut Vec<Effect>) -> bool
+    /// The oldest of the chosen commands of a unit leaves, if there is one: its ticket.
+    fn leave_next(&mut self, unit: u16, choice: &Choice, out: &mut Vec<Effect>) -> Option<u64>
         requires unit { unit < length self.old.sets }
         requires room { vec_len out.old + owed self.old.live self.old.sets ≤ vec_capacity out.old }
-        // What is still to leave is the rest of what was to leave before.
-        ensures session { with_left self.new unit (chosen choice.now) ≡ with_left self.old unit (chosen choice.now) }
-        ensures effects { out.new.items ++ leaving_effects self.new unit (chosen choice.now) ≡ out.old.items ++ leaving_effects self.old unit (chosen choice.now) }
-        ensures last { result ≡ false → has_covered (chosen choice.now) (set_at self.new unit) ≡ false }
+        // What is still to leave is the rest of what was to leave before, and has greater tickets than what left.
+        ensures session { with_left self.new unit (chosen (later choice.now result)) ≡ with_left self.old unit (chosen choice.now) }
+        ensures effects { out.new.items ++ leaving_effects self.new unit (chosen (later choice.now result)) ≡ out.old.items ++ leaving_effects self.old unit (chosen choice.now) }
+        ensures last { result ≡ None → has_covered (chosen choice.now) (set_at self.new unit) ≡ false }
         ensures one { (ticket : ℕ) → choice.now ≡ Choice.Ticket ticket → has_covered (chosen choice.now) (set_at self.new unit) ≡ false }
-        ensures fewer { result ≡ true → length (set_at self.new unit).list < length (set_at self.old unit).list }
+        ensures fewer { IsSome result → length (set_at self.new unit).list < length (set_at self.old unit).list }
         ensures units { length self.new.sets ≡ length self.old.sets }
         ensures spent { vec_len out.new + owed self.new.live self.new.sets ≤ vec_len out.old + owed self.old.live self.old.sets }
         ensures capacity { vec_capacity out.new ≡ vec_capacity out.old }
     {
-        let Some(ticket) = take(&mut self.sets, unit, choice) else {
-            return false;
-        };
+        let ticket = take(&mut self.sets, unit, choice)?;
         end(
             &mut self.window,
             &mut self.immediate,
@@ -87,7 +89,7 @@ impl Session {
             ticket,
         );
         out.push_reserved(Effect::Leave { ticket, unit });
-        true
+        Some(ticket)
     }
 }
 
@@ -100,6 +102,7 @@ fn take(sets: &mut [TaskSet], unit: u16, choice: &Choice) -> Option<u64>
     let set = &mut sets[usize::from(unit)];
     let task = match choice {
         Choice::Covered(cover) => set.leave_first(cover)?,
+        Choice::After(cover, ticket) => set.leave_next(cover, *ticket)?,
         Choice::Ticket(ticket) => set.leave(*ticket)?,
     };
     Some(task.ticket)

@@ -8,7 +8,7 @@ ghost use Rattle.iscsi_session.specs.Steps.{find_ticket, IsTicketPlace, without_
 use std::collections::VecDeque;
 
 /// What is kept of a live command.
-#[derive(Clone, Copy, Debug, PartialEq, Eq)]
+#[derive(Clone, Copy)]
 pub(crate) struct Live {
     pub(crate) ticket: u64,
     pub(crate) unit: u16,

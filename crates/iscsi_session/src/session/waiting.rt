@@ -10,7 +10,7 @@ use std::alloc::Global;
 pub(crate) const MOST: usize = 4;
 
 /// A function that waits: its number less the first CmdSN, and the event in which it arrived.
-#[derive(Clone, Copy, Debug, PartialEq, Eq)]
+#[derive(Clone, Copy)]
 pub(crate) struct Waiting {
     pub(crate) request: Request,
     pub(crate) turn: u64,

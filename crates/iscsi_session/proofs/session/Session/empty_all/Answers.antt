@@ -1,4 +1,4 @@
-use Rattle.std.proofs.Common.{◌≡◌, ◌∙◌, ◌++◌, ℕ, Option, ap, sym, refl, arith, List, length}
+use Rattle.std.proofs.Common.{◌≡◌, ◌∙◌, ◌++◌, Option, ap, sym, refl, arith, List, length}
 use Rattle.std.proofs.lemmas.List.{append-nil}
 use Rattle.iscsi_wire.specs.declared.request.Request.{Request}
 use Rattle.iscsi_window.specs.Windows.{Received}

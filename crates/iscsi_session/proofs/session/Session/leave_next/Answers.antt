@@ -1,4 +1,4 @@
-use Rattle.std.proofs.Common.{◌≡◌, ◌∙◌, ◌+◌, ◌-◌, ◌<◌, ◌≤◌, ◌==◌, ◌++◌, ◌∷◌, [], ℕ, Bool, not, true, false, nat_eq, List, Option, Some, None, option_map, find, length, count_by, is_some, take, drop, get_or, set, append_assoc, length-set, refl, ap, sym, subst, arith}
+use Rattle.std.proofs.Common.{◌≡◌, ◌∙◌, ◌+◌, ◌-◌, ◌<◌, ◌≤◌, ◌==◌, ◌++◌, ◌∷◌, ◌||◌, [], ℕ, Bool, not, true, false, nat_eq, nat_lt, List, Option, Some, None, option_map, find, length, count_by, is_some, take, drop, get_or, set, append_assoc, length-set, refl, ap, sym, subst, arith}
 use Rattle.std.specs.Prelude.{IsSome}
 use Rattle.std.specs.List.{list_all}
 use Rattle.std.specs.HashMap.{get}
@@ -14,11 +14,12 @@ use Rattle.iscsi_session.specs.declared.session.leaving.Choice.{Choice}
 use Rattle.iscsi_session.specs.declared.session.live.Live.{Live}
 use Rattle.iscsi_session.specs.Standing.{Core, are_known, is_held, is_place_known, Match, are_ascending, are_within}
 use Rattle.iscsi_session.specs.Steps.{AreIndexed, AreCounted, is_numbered, set_at, without_ticket}
-use Rattle.iscsi_session.specs.Functions.{finished_by, with_left, leaving_effects, has_covered, chosen, covers_ticket, owed}
+use Rattle.iscsi_session.specs.Functions.{finished_by, with_left, leaving_effects, has_covered, chosen, later, covers_ticket, owed}
 use Rattle.iscsi_session.proofs.ListLemmas.{are_known-left, fewer_counted}
 use Rattle.iscsi_session.proofs.WindowLemmas.{find-found}
 use Rattle.iscsi_session.proofs.KeptLemmas.{ascending-left, within-left, written}
 use Rattle.iscsi_session.proofs.LeavingParts.{none_found, less, one_less, stepped, Leaving, leaving_one}
+use Rattle.iscsi_session.proofs.LaterParts.{left_alike, effects_alike, later_agrees}
 use Rattle.iscsi_session.proofs.session.Session.leave_next.Goals as goal
 
 some_task : (x : Option Task) (k : ℕ) → option_map (λ (t : Task). t.ticket) x ≡ Some k → (task : Task) × ((x ≡ Some task) × (task.ticket ≡ k))
@@ -59,6 +60,11 @@ taken s unit covers k lent sets r value answer is left inside m up few =
       ticket_is = x.1.1;
     }
 
+-- of the commands that are left the same are chosen
+same_chosen : (s : Core) (unit : ℕ) (choice : Choice) (k : ℕ) (sets : List Members) → Taken s unit (chosen choice) k sets → (x : Task) → (nat_lt k x.ticket || not (chosen choice x)) ≡ true → chosen (later choice (Some k)) x ≡ chosen choice x
+same_chosen s unit choice k sets t =
+    subst (λ n. (x : Task) → (nat_lt n x.ticket || not (chosen choice x)) ≡ true → chosen (later choice (Some n)) x ≡ chosen choice x) t.ticket_is (later_agrees choice t.task t.covered)
+
 core_is : (s : Core) (unit k : ℕ) (w : Received) (lives : List Live) (sets : List Members) → w ≡ finished_by s.window s.live (without_ticket k s.live) → lives ≡ without_ticket k s.live → sets ≡ set s.sets unit (less (set_at s unit) k)
     → record s { window = w; live = lives; sets = sets } ≡ stepped s unit k
 core_is s unit k w lives sets window_is live_is sets_are =
@@ -77,50 +83,55 @@ none_taken unit covers n old lent sets r len value answer is left =
     ap (λ (ms : List Members). has_covered covers (get_or ms unit (opened 0))) (written n sets old (ap length same) len ∙ same ∙ sym value)
     ∙ none_found covers (get_or lent unit (opened 0)).list none
 
-pub returns-in_default-clause-last : goal.returns-in_default-clause-last
-returns-in_default-clause-last c = λ no.
-    none_taken c.args.unit (chosen c.args.choice.now) c.self.inside.sets.len c.self.inside.sets.items c.deref_mut.result.now c.take.new.sets c.take.result c.self.inside.sets.ok.0 c.deref_mut.ensures.value c.take.ensures.ticket c.in_default.is c.take.ensures.sets
+pub returns-in_err-ticket-clause-last : goal.returns-in_err-ticket-clause-last
+returns-in_err-ticket-clause-last c = λ no.
+    none_taken c.args.unit (chosen c.args.choice.now) c.self.inside.sets.len c.self.inside.sets.items c.deref_mut.result.now c.take.new.sets c.take.result c.self.inside.sets.ok.0 c.deref_mut.ensures.value c.take.ensures.ticket c.in_err-ticket.was c.take.ensures.sets
 
-pub returns-in_default-clause-one : goal.returns-in_default-clause-one
-returns-in_default-clause-one c = λ k is.
-    none_taken c.args.unit (chosen c.args.choice.now) c.self.inside.sets.len c.self.inside.sets.items c.deref_mut.result.now c.take.new.sets c.take.result c.self.inside.sets.ok.0 c.deref_mut.ensures.value c.take.ensures.ticket c.in_default.is c.take.ensures.sets
+pub returns-in_err-ticket-clause-one : goal.returns-in_err-ticket-clause-one
+returns-in_err-ticket-clause-one c = λ k is.
+    none_taken c.args.unit (chosen c.args.choice.now) c.self.inside.sets.len c.self.inside.sets.items c.deref_mut.result.now c.take.new.sets c.take.result c.self.inside.sets.ok.0 c.deref_mut.ensures.value c.take.ensures.ticket c.in_err-ticket.was c.take.ensures.sets
 
 pub end-requires-clause-there : goal.end-requires-clause-there
 end-requires-clause-there c =
     let s : Core = record { window = c.self.inside.window; events = c.self.inside.events; conns = c.self.inside.conns.items; entered = c.self.inside.entered; taken = c.self.inside.taken; live = c.self.inside.live.items; sets = c.self.inside.sets.items; level = c.self.inside.level; arrived = c.self.inside.arrived.items; waiting = c.self.inside.waiting.items; open_conns = c.self.inside.open_conns.items } in
     let u : ℕ = c.args.unit in
-    let k : ℕ = c.in-Some.ticket in
+    let k : ℕ = c.in_ok-ticket.ticket in
     let covers : Task → Bool = chosen c.args.choice.now in
     let view : s ≡ c.args.self.now = c.self.view_is in
     let inside : u < length s.sets = omega (arith, c.requires.unit, ap (λ (x : Core). length x.sets) view) in
-    let t : Taken s u covers k c.take.new.sets = taken s u covers k c.deref_mut.result.now c.take.new.sets c.take.result c.deref_mut.ensures.value c.take.ensures.ticket c.in-Some.is c.take.ensures.sets inside c.self.invariant.11 c.self.invariant.12 c.self.invariant.0 in
+    let t : Taken s u covers k c.take.new.sets = taken s u covers k c.deref_mut.result.now c.take.new.sets c.take.result c.deref_mut.ensures.value c.take.ensures.ticket c.in_ok-ticket.was c.take.ensures.sets inside c.self.invariant.11 c.self.invariant.12 c.self.invariant.0 in
     subst IsSome (sym t.leaving.found) refl
 
 pub returns-clause-session : goal.returns-clause-session
 returns-clause-session c =
     let s : Core = record { window = c.self.inside.window; events = c.self.inside.events; conns = c.self.inside.conns.items; entered = c.self.inside.entered; taken = c.self.inside.taken; live = c.self.inside.live.items; sets = c.self.inside.sets.items; level = c.self.inside.level; arrived = c.self.inside.arrived.items; waiting = c.self.inside.waiting.items; open_conns = c.self.inside.open_conns.items } in
     let u : ℕ = c.args.unit in
-    let k : ℕ = c.in-Some.ticket in
+    let k : ℕ = c.in_ok-ticket.ticket in
     let covers : Task → Bool = chosen c.args.choice.now in
     let view : s ≡ c.args.self.now = c.self.view_is in
     let inside : u < length s.sets = omega (arith, c.requires.unit, ap (λ (x : Core). length x.sets) view) in
-    let t : Taken s u covers k c.take.new.sets = taken s u covers k c.deref_mut.result.now c.take.new.sets c.take.result c.deref_mut.ensures.value c.take.ensures.ticket c.in-Some.is c.take.ensures.sets inside c.self.invariant.11 c.self.invariant.12 c.self.invariant.0 in
+    let t : Taken s u covers k c.take.new.sets = taken s u covers k c.deref_mut.result.now c.take.new.sets c.take.result c.deref_mut.ensures.value c.take.ensures.ticket c.in_ok-ticket.was c.take.ensures.sets inside c.self.invariant.11 c.self.invariant.12 c.self.invariant.0 in
     let now : take c.self.inside.sets.len (c.take.new.sets ++ drop (length c.take.new.sets) c.self.inside.sets.items) ≡ set s.sets u (less (set_at s u) k) = written c.self.inside.sets.len c.take.new.sets c.self.inside.sets.items t.same_length c.self.inside.sets.ok.0 ∙ t.sets_are in
     let is = core_is s u k c.end.new.window c.end.new.live.items (take c.self.inside.sets.len (c.take.new.sets ++ drop (length c.take.new.sets) c.self.inside.sets.items)) c.end.ensures.window c.end.ensures.live now in
-    ap (λ (x : Core). with_left x u covers) is ∙ t.leaving.whole ∙ ap (λ (x : Core). with_left x u covers) view
+    let rest : Task → Bool = chosen (later c.args.choice.now (Some k)) in
+    ap (λ (x : Core). with_left x u rest) is
+    ∙ left_alike (stepped s u k) u rest covers (λ x. nat_lt k x.ticket || not (covers x)) t.leaving.later (same_chosen s u c.args.choice.now k c.take.new.sets t)
+    ∙ t.leaving.whole ∙ ap (λ (x : Core). with_left x u covers) view
 
 pub returns-clause-effects : goal.returns-clause-effects
 returns-clause-effects c =
     let s : Core = record { window = c.self.inside.window; events = c.self.inside.events; conns = c.self.inside.conns.items; entered = c.self.inside.entered; taken = c.self.inside.taken; live = c.self.inside.live.items; sets = c.self.inside.sets.items; level = c.self.inside.level; arrived = c.self.inside.arrived.items; waiting = c.self.inside.waiting.items; open_conns = c.self.inside.open_conns.items } in
     let u : ℕ = c.args.unit in
-    let k : ℕ = c.in-Some.ticket in
+    let k : ℕ = c.in_ok-ticket.ticket in
     let covers : Task → Bool = chosen c.args.choice.now in
     let view : s ≡ c.args.self.now = c.self.view_is in
     let inside : u < length s.sets = omega (arith, c.requires.unit, ap (λ (x : Core). length x.sets) view) in
-    let t : Taken s u covers k c.take.new.sets = taken s u covers k c.deref_mut.result.now c.take.new.sets c.take.result c.deref_mut.ensures.value c.take.ensures.ticket c.in-Some.is c.take.ensures.sets inside c.self.invariant.11 c.self.invariant.12 c.self.invariant.0 in
+    let t : Taken s u covers k c.take.new.sets = taken s u covers k c.deref_mut.result.now c.take.new.sets c.take.result c.deref_mut.ensures.value c.take.ensures.ticket c.in_ok-ticket.was c.take.ensures.sets inside c.self.invariant.11 c.self.invariant.12 c.self.invariant.0 in
     let now : take c.self.inside.sets.len (c.take.new.sets ++ drop (length c.take.new.sets) c.self.inside.sets.items) ≡ set s.sets u (less (set_at s u) k) = written c.self.inside.sets.len c.take.new.sets c.self.inside.sets.items t.same_length c.self.inside.sets.ok.0 ∙ t.sets_are in
     let is = core_is s u k c.end.new.window c.end.new.live.items (take c.self.inside.sets.len (c.take.new.sets ++ drop (length c.take.new.sets) c.self.inside.sets.items)) c.end.ensures.window c.end.ensures.live now in
-    ap (λ (x : Core). c.push_reserved.new.self.items ++ leaving_effects x u covers) is
+    let rest : Task → Bool = chosen (later c.args.choice.now (Some k)) in
+    ap (λ (x : Core). c.push_reserved.new.self.items ++ leaving_effects x u rest) is
+    ∙ ap (λ (es : List Effect). c.push_reserved.new.self.items ++ es) (effects_alike (stepped s u k) u rest covers (λ x. nat_lt k x.ticket || not (covers x)) t.leaving.later (same_chosen s u c.args.choice.now k c.take.new.sets t))
     ∙ ap (λ (es : List Effect). es ++ leaving_effects (stepped s u k) u covers) c.push_reserved.ensures.items
     ∙ append_assoc c.args.out.now.items (Leave k u ∷ []) (leaving_effects (stepped s u k) u covers)
     ∙ ap (λ (es : List Effect). c.args.out.now.items ++ es) (sym t.leaving.effects)
@@ -130,11 +141,11 @@ pub returns-clause-one : goal.returns-clause-one
 returns-clause-one c = λ ticket chose.
     let s : Core = record { window = c.self.inside.window; events = c.self.inside.events; conns = c.self.inside.conns.items; entered = c.self.inside.entered; taken = c.self.inside.taken; live = c.self.inside.live.items; sets = c.self.inside.sets.items; level = c.self.inside.level; arrived = c.self.inside.arrived.items; waiting = c.self.inside.waiting.items; open_conns = c.self.inside.open_conns.items } in
     let u : ℕ = c.args.unit in
-    let k : ℕ = c.in-Some.ticket in
+    let k : ℕ = c.in_ok-ticket.ticket in
     let covers : Task → Bool = chosen c.args.choice.now in
     let view : s ≡ c.args.self.now = c.self.view_is in
     let inside : u < length s.sets = omega (arith, c.requires.unit, ap (λ (x : Core). length x.sets) view) in
-    let t : Taken s u covers k c.take.new.sets = taken s u covers k c.deref_mut.result.now c.take.new.sets c.take.result c.deref_mut.ensures.value c.take.ensures.ticket c.in-Some.is c.take.ensures.sets inside c.self.invariant.11 c.self.invariant.12 c.self.invariant.0 in
+    let t : Taken s u covers k c.take.new.sets = taken s u covers k c.deref_mut.result.now c.take.new.sets c.take.result c.deref_mut.ensures.value c.take.ensures.ticket c.in_ok-ticket.was c.take.ensures.sets inside c.self.invariant.11 c.self.invariant.12 c.self.invariant.0 in
     let now : take c.self.inside.sets.len (c.take.new.sets ++ drop (length c.take.new.sets) c.self.inside.sets.items) ≡ set s.sets u (less (set_at s u) k) = written c.self.inside.sets.len c.take.new.sets c.self.inside.sets.items t.same_length c.self.inside.sets.ok.0 ∙ t.sets_are in
     let is = core_is s u k c.end.new.window c.end.new.live.items (take c.self.inside.sets.len (c.take.new.sets ++ drop (length c.take.new.sets) c.self.inside.sets.items)) c.end.ensures.window c.end.ensures.live now in
     let same : k ≡ ticket = sym t.ticket_is ∙ eqb-true t.task.ticket ticket (ap (λ (x : Choice). chosen x t.task) (sym chose) ∙ t.covered) in
@@ -148,11 +159,11 @@ pub returns-clause-fewer : goal.returns-clause-fewer
 returns-clause-fewer c = λ yes.
     let s : Core = record { window = c.self.inside.window; events = c.self.inside.events; conns = c.self.inside.conns.items; entered = c.self.inside.entered; taken = c.self.inside.taken; live = c.self.inside.live.items; sets = c.self.inside.sets.items; level = c.self.inside.level; arrived = c.self.inside.arrived.items; waiting = c.self.inside.waiting.items; open_conns = c.self.inside.open_conns.items } in
     let u : ℕ = c.args.unit in
-    let k : ℕ = c.in-Some.ticket in
+    let k : ℕ = c.in_ok-ticket.ticket in
     let covers : Task → Bool = chosen c.args.choice.now in
     let view : s ≡ c.args.self.now = c.self.view_is in
     let inside : u < length s.sets = omega (arith, c.requires.unit, ap (λ (x : Core). length x.sets) view) in
-    let t : Taken s u covers k c.take.new.sets = taken s u covers k c.deref_mut.result.now c.take.new.sets c.take.result c.deref_mut.ensures.value c.take.ensures.ticket c.in-Some.is c.take.ensures.sets inside c.self.invariant.11 c.self.invariant.12 c.self.invariant.0 in
+    let t : Taken s u covers k c.take.new.sets = taken s u covers k c.deref_mut.result.now c.take.new.sets c.take.result c.deref_mut.ensures.value c.take.ensures.ticket c.in_ok-ticket.was c.take.ensures.sets inside c.self.invariant.11 c.self.invariant.12 c.self.invariant.0 in
     let now : take c.self.inside.sets.len (c.take.new.sets ++ drop (length c.take.new.sets) c.self.inside.sets.items) ≡ set s.sets u (less (set_at s u) k) = written c.self.inside.sets.len c.take.new.sets c.self.inside.sets.items t.same_length c.self.inside.sets.ok.0 ∙ t.sets_are in
     let is = core_is s u k c.end.new.window c.end.new.live.items (take c.self.inside.sets.len (c.take.new.sets ++ drop (length c.take.new.sets) c.self.inside.sets.items)) c.end.ensures.window c.end.ensures.live now in
     omega (arith, t.leaving.fewer, ap (λ (x : Core). length (set_at x u).list) is, ap (λ (x : Core). length (set_at x u).list) view)
@@ -161,11 +172,11 @@ pub returns-clause-spent : goal.returns-clause-spent
 returns-clause-spent c =
     let s : Core = record { window = c.self.inside.window; events = c.self.inside.events; conns = c.self.inside.conns.items; entered = c.self.inside.entered; taken = c.self.inside.taken; live = c.self.inside.live.items; sets = c.self.inside.sets.items; level = c.self.inside.level; arrived = c.self.inside.arrived.items; waiting = c.self.inside.waiting.items; open_conns = c.self.inside.open_conns.items } in
     let u : ℕ = c.args.unit in
-    let k : ℕ = c.in-Some.ticket in
+    let k : ℕ = c.in_ok-ticket.ticket in
     let covers : Task → Bool = chosen c.args.choice.now in
     let view : s ≡ c.args.self.now = c.self.view_is in
     let inside : u < length s.sets = omega (arith, c.requires.unit, ap (λ (x : Core). length x.sets) view) in
-    let t : Taken s u covers k c.take.new.sets = taken s u covers k c.deref_mut.result.now c.take.new.sets c.take.result c.deref_mut.ensures.value c.take.ensures.ticket c.in-Some.is c.take.ensures.sets inside c.self.invariant.11 c.self.invariant.12 c.self.invariant.0 in
+    let t : Taken s u covers k c.take.new.sets = taken s u covers k c.deref_mut.result.now c.take.new.sets c.take.result c.deref_mut.ensures.value c.take.ensures.ticket c.in_ok-ticket.was c.take.ensures.sets inside c.self.invariant.11 c.self.invariant.12 c.self.invariant.0 in
     let now : take c.self.inside.sets.len (c.take.new.sets ++ drop (length c.take.new.sets) c.self.inside.sets.items) ≡ set s.sets u (less (set_at s u) k) = written c.self.inside.sets.len c.take.new.sets c.self.inside.sets.items t.same_length c.self.inside.sets.ok.0 ∙ t.sets_are in
     omega (arith, t.leaving.owes, ap (λ (ls : List Live). owed ls (take c.self.inside.sets.len (c.take.new.sets ++ drop (length c.take.new.sets) c.self.inside.sets.items))) c.end.ensures.live, ap (λ (ms : List Members). owed (without_ticket k s.live) ms) now, ap (λ (x : Core). owed x.live x.sets) view, c.push_reserved.ensures.len)
 
@@ -173,11 +184,11 @@ pub invariant_of-self-2 : goal.invariant_of-self-2
 invariant_of-self-2 c =
     let s : Core = record { window = c.self.inside.window; events = c.self.inside.events; conns = c.self.inside.conns.items; entered = c.self.inside.entered; taken = c.self.inside.taken; live = c.self.inside.live.items; sets = c.self.inside.sets.items; level = c.self.inside.level; arrived = c.self.inside.arrived.items; waiting = c.self.inside.waiting.items; open_conns = c.self.inside.open_conns.items } in
     let u : ℕ = c.args.unit in
-    let k : ℕ = c.in-Some.ticket in
+    let k : ℕ = c.in_ok-ticket.ticket in
     let covers : Task → Bool = chosen c.args.choice.now in
     let view : s ≡ c.args.self.now = c.self.view_is in
     let inside : u < length s.sets = omega (arith, c.requires.unit, ap (λ (x : Core). length x.sets) view) in
-    let t : Taken s u covers k c.take.new.sets = taken s u covers k c.deref_mut.result.now c.take.new.sets c.take.result c.deref_mut.ensures.value c.take.ensures.ticket c.in-Some.is c.take.ensures.sets inside c.self.invariant.11 c.self.invariant.12 c.self.invariant.0 in
+    let t : Taken s u covers k c.take.new.sets = taken s u covers k c.deref_mut.result.now c.take.new.sets c.take.result c.deref_mut.ensures.value c.take.ensures.ticket c.in_ok-ticket.was c.take.ensures.sets inside c.self.invariant.11 c.self.invariant.12 c.self.invariant.0 in
     let now : take c.self.inside.sets.len (c.take.new.sets ++ drop (length c.take.new.sets) c.self.inside.sets.items) ≡ set s.sets u (less (set_at s u) k) = written c.self.inside.sets.len c.take.new.sets c.self.inside.sets.items t.same_length c.self.inside.sets.ok.0 ∙ t.sets_are in
     let inv = c.self.invariant in
     let w : Received = c.self.inside.window in
