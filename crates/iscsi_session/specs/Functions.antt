@@ -11,7 +11,7 @@ use Rattle.iscsi_window.specs.declared.answer.Place.TheVariants.{Inside, Outside
 use Rattle.iscsi_window.specs.Windows.{Received, number_expected, place_in, is_received_at, voided, find_command, number_shown, emptied, with_unfinished}
 use Rattle.iscsi_tasks.specs.declared.task.Task.{Task}
 use Rattle.iscsi_tasks.specs.declared.cover.Cover.TheVariants.{All as AllOfThem, Below}
-use Rattle.iscsi_tasks.specs.Sets.{Members, after_moment, is_covered}
+use Rattle.iscsi_tasks.specs.Sets.{Members, after_moment, is_covered, is_covered_after}
 use Rattle.iscsi_session.specs.declared.effect.Effect.{Effect}
 use Rattle.iscsi_session.specs.declared.effect.Effect.TheVariants.{Void, Empty, Leave}
 use Rattle.iscsi_session.specs.declared.outcome.Outcome.{Outcome}
@@ -101,7 +101,7 @@ covers_ticket ticket t = t.ticket == ticket
 -- what a choice covers
 abbrev pub chosen : Choice → Task → Bool
 chosen (Covered cover) = is_covered cover
-chosen (After cover ticket) = λ t. nat_lt ticket t.ticket && is_covered cover t
+chosen (After cover ticket) = is_covered_after cover ticket
 chosen (Ticket ticket) = covers_ticket ticket
 
 -- what is to leave, once the oldest of the chosen commands left, if there was one

@@ -79,9 +79,13 @@ is_covered (Below pos event) t = int_lt t.pos pos || (t.immediate && int_eq t.po
 abbrev pub first_covered : Cover → List Task → Option Task
 first_covered cover tasks = find (is_covered cover) tasks
 
--- the oldest one that is covered, of those with a greater ticket
+-- it is covered, and has a greater ticket
+abbrev pub is_covered_after : Cover → ℕ → Task → Bool
+is_covered_after cover ticket t = nat_lt ticket t.ticket && is_covered cover t
+
+-- the oldest one of these
 abbrev pub next_covered : Cover → ℕ → List Task → Option Task
-next_covered cover ticket tasks = find (λ t. nat_lt ticket t.ticket && is_covered cover t) tasks
+next_covered cover ticket tasks = find (is_covered_after cover ticket) tasks
 
 -- ---- enabled commands
 

@@ -1,9 +1,9 @@
 //! The commands of a set in the order in which they entered.
 
-ghost use Rattle.std.specs.Prelude.{◌≡◌, ℕ, ◌+◌, ◌<◌, ◌≤◌, ◌==◌, ◌&&◌, nat_lt, [], ◌∷◌, ◌++◌, map, take, drop, length, position, slice_index_or, find, option_map, All, true, false};
+ghost use Rattle.std.specs.Prelude.{◌≡◌, ℕ, ◌+◌, ◌<◌, ◌≤◌, ◌==◌, [], ◌∷◌, ◌++◌, map, take, drop, length, position, slice_index_or, find, option_map, All, true, false};
 ghost use Rattle.std.specs.List.{position_or_len, remove};
 ghost use Rattle.std.specs.VecDeque.{deque_len, deque_capacity};
-ghost use Rattle.iscsi_tasks.specs.Sets.{InOrder, after_moment, is_head_of, is_covered, is_new, next_in, given_in};
+ghost use Rattle.iscsi_tasks.specs.Sets.{InOrder, after_moment, is_head_of, is_covered, is_covered_after, is_new, next_in, given_in};
 ghost use Rattle.iscsi_tasks.specs.Counted.{IsPlaceOf, IsCounted, is_ordered_in, free_to, enabled_now};
 
 use crate::counts::{Counts, shifted_by};
@@ -43,7 +43,7 @@ pub(crate) fn first_covered(members: &Queue, cover: &Cover) -> Option<usize>
 /// The place of the oldest covered command whose ticket is above this one. It looks along the set from there on.
 pub(crate) fn next_covered(members: &Queue, cover: &Cover, ticket: u64) -> Option<usize>
     requires { InOrder members.now.items }
-    ensures { result ≡ position (λ m. nat_lt ticket m.task.ticket && is_covered cover.now m.task) members.now.items }
+    ensures { result ≡ position (λ m. is_covered_after cover.now ticket m.task) members.now.items }
 {
     for k in place_after(members, ticket)..members.len() {
         if cover.covers(&members[k].task) {
