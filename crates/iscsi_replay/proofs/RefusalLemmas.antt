@@ -3,12 +3,13 @@ use Rattle.std.proofs.Common.{◌≡◌, ℕ, ◌<◌, ◌≤◌, Bool, true, fa
 use Rattle.std.specs.Prelude.{Result, Err}
 use Rattle.std.specs.List.{list_all}
 use Rattle.std.proofs.lemmas.List.Folds.{list_all_at}
-use Rattle.iscsi_session.specs.declared.event.Event.{Event}
-use Rattle.iscsi_session.specs.declared.event.Event.TheVariants.{Arrive, Done}
+use Rattle.iscsi_history.specs.declared.event.Event.{Event}
+use Rattle.iscsi_history.specs.declared.event.Event.TheVariants.{Arrive, Done}
 use Rattle.iscsi_session.specs.declared.fault.SessionFault.{SessionFault}
 use Rattle.iscsi_session.specs.declared.fault.SessionFault.TheVariants.{NoMemory}
-use Rattle.iscsi_session.specs.Settings.{Setting, is_valid}
-use Rattle.iscsi_session.specs.Refusals.{RefusesAs, belongs, refusal_of, refusal_of_options}
+use Rattle.iscsi_history.specs.Settings.{Setting, is_valid}
+use Rattle.iscsi_session.specs.Refusals.{RefusesAs, refusal_of, refusal_of_options}
+use Rattle.iscsi_history.specs.Agenda.{belongs}
 use Rattle.iscsi_replay.specs.declared.settings.Settings.{Settings}
 use Rattle.iscsi_replay.specs.Recorded.{Recorded, IsSound, belongs_to}
 use Rattle.iscsi_replay.specs.Replayed.{setting_for}

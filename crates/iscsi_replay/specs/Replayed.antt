@@ -1,8 +1,8 @@
 -- What a replay answers, and what it writes.
 use Rattle.std.specs.Prelude.{◌≡◌, ℕ, List, Option, Result, Ok, Err, ⊤}
 use Rattle.std.specs.Io.KnownBytes.{Appends, Keeps}
-use Rattle.iscsi_session.specs.Settings.{Setting}
-use Rattle.iscsi_session.specs.Run.{run_of}
+use Rattle.iscsi_history.specs.Settings.{Setting}
+use Rattle.iscsi_history.specs.Run.{run_of}
 use Rattle.iscsi_session.specs.Lines.{report_from}
 use Rattle.iscsi_replay.specs.Recorded.{Recorded}
 use Rattle.iscsi_replay.specs.Writing.{AppendsFront}

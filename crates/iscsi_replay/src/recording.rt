@@ -1,7 +1,7 @@
 //! The connections and events of a recording.
 
 ghost use Rattle.std.specs.Prelude.{◌≡◌, ok_or, [], OnErr};
-ghost use Rattle.iscsi_session.specs.Settings.{is_known};
+ghost use Rattle.iscsi_history.specs.Settings.{is_known};
 ghost use Rattle.iscsi_replay.specs.Recorded.{view, take, read_line, Steps};
 ghost use Rattle.iscsi_replay.specs.declared.fault.ReplayFault.TheVariants.{BadLine};
 

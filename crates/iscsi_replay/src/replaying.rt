@@ -3,7 +3,7 @@
 ghost use Rattle.std.specs.Prelude.{◌≡◌, ◌≢◌, ◌↔◌, ◌++◌, ◌<◌, true, false, [], vec_len, IfSome, OnOk, IfOk, IfErr, IsErrOf, MatchResult, Ok};
 ghost use Rattle.std.specs.List.{list_all};
 ghost use Rattle.std.specs.Io.KnownBytes.{Appends};
-ghost use Rattle.iscsi_session.specs.Settings.{is_valid};
+ghost use Rattle.iscsi_history.specs.Settings.{is_valid};
 ghost use Rattle.iscsi_session.specs.Standing.{StandsFor};
 ghost use Rattle.iscsi_session.specs.Lines.{event_line, entry_lines};
 ghost use Rattle.iscsi_replay.specs.Limits.{are_valid};

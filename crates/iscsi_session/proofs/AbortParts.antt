@@ -10,24 +10,25 @@ use Rattle.iscsi_window.specs.declared.answer.Place.{Place}
 use Rattle.iscsi_window.specs.declared.answer.Place.TheVariants.{Inside, Outside as NoPlace}
 use Rattle.iscsi_window.specs.Windows.{Received, number_expected, room_of, at_place, with_place, place_in, IsInside, is_command, voided, find_command, number_shown, emptied}
 use Rattle.iscsi_tasks.specs.declared.cover.Cover.TheVariants.{All as AllOfThem, Below}
-use Rattle.iscsi_session.specs.declared.effect.Effect.TheVariants.{Void}
+use Rattle.iscsi_history.specs.declared.effect.Effect.TheVariants.{Void}
 use Rattle.iscsi_session.specs.declared.outcome.Outcome.{Outcome}
 use Rattle.iscsi_session.specs.declared.outcome.Outcome.TheVariants.{Respond, Abort, AbortAll, Empty as EmptyNumber, Void as VoidNumber}
 use Rattle.iscsi_session.specs.declared.session.live.Live.{Live}
-use Rattle.iscsi_session.specs.Settings.{Setting, is_known}
-use Rattle.iscsi_session.specs.Trace.{Arrival, Command, Mark, Delivers, Executes, Voids, Empties, Leaves, Trace, first_of, contains, waiting, is_received, is_among, held, live, live_in}
-use Rattle.iscsi_session.specs.Execution.{exp_of, max_of, unfinished}
-use Rattle.iscsi_session.specs.Management.{answer, live_with_tag, held_command, abort_missing, abort_task}
-use Rattle.iscsi_session.specs.Agenda.{arrival_of}
-use Rattle.iscsi_session.specs.Standing.{Core, task_of, kept, are_apart, arrival_waiting, WindowAgrees, Agrees, Settled}
-use Rattle.iscsi_session.specs.Run.{effects_of_mark}
+use Rattle.iscsi_history.specs.Settings.{Setting, is_known}
+use Rattle.iscsi_history.specs.Trace.{Arrival, Command, Mark, Delivers, Executes, Voids, Empties, Leaves, Trace, first_of, contains, waiting, is_received, is_among, held, live, live_in}
+use Rattle.iscsi_history.specs.Execution.{exp_of, max_of, unfinished}
+use Rattle.iscsi_history.specs.Management.{answer, live_with_tag, held_command, abort_missing, abort_task}
+use Rattle.iscsi_history.specs.Agenda.{arrival_of}
+use Rattle.iscsi_session.specs.Standing.{Core, task_of, kept, arrival_waiting, WindowAgrees, Agrees, Settled}
+use Rattle.iscsi_history.specs.Trace.{are_apart}
+use Rattle.iscsi_history.specs.Run.{effects_of_mark}
 use Rattle.iscsi_session.specs.Functions.{missing_at, tagged_in, abort_by, answer_if, outcome_by, covers_ticket, void_effects}
 use Rattle.iscsi_session.proofs.OpenConns.{open_of-same}
-use Rattle.iscsi_session.proofs.BoolLemmas.{and_parts, or_none, not_true}
+use Rattle.iscsi_history.proofs.BoolLemmas.{and_parts, or_none, not_true}
 use Rattle.iscsi_session.proofs.NumberLemmas.{wire-lift}
-use Rattle.iscsi_session.proofs.ApartLemmas.{apart-filter}
-use Rattle.iscsi_session.proofs.HeldLemmas.{held-number, admitted_of_held}
-use Rattle.iscsi_session.proofs.DeliveryLemmas.{IsQuiet, received-quiet, held-quiet}
+use Rattle.iscsi_history.proofs.ApartLemmas.{apart-filter}
+use Rattle.iscsi_history.proofs.HeldLemmas.{held-number, admitted_of_held}
+use Rattle.iscsi_history.proofs.DeliveryLemmas.{IsQuiet, received-quiet, held-quiet}
 use Rattle.iscsi_session.proofs.WindowParts.{Next, turned_window, WindowAgrees-quiet, WindowAgrees-turned, expected_past_next}
 use Rattle.iscsi_session.proofs.CommandParts.{Untouched, CommandsAgree-untouched}
 use Rattle.iscsi_session.proofs.ReplyParts.{RepliesAgree-quiet}

@@ -5,23 +5,23 @@ use Rattle.std.proofs.lemmas.List.{append-nil}
 use Rattle.iscsi_wire.specs.declared.request.Request.{Request}
 use Rattle.iscsi_wire.specs.Serial.{number_of_first}
 use Rattle.iscsi_window.specs.Windows.{number_expected, at_place, advanced_if}
-use Rattle.iscsi_session.specs.declared.effect.Effect.{Effect}
-use Rattle.iscsi_session.specs.declared.effect.Effect.TheVariants.{Deliver}
+use Rattle.iscsi_history.specs.declared.effect.Effect.{Effect}
+use Rattle.iscsi_history.specs.declared.effect.Effect.TheVariants.{Deliver}
 use Rattle.iscsi_session.specs.declared.session.waiting.Waiting.{Waiting}
-use Rattle.iscsi_session.specs.Settings.{Setting}
-use Rattle.iscsi_session.specs.Trace.{Arrival, Mark, Trace, after_items, waiting, received, least_missing}
-use Rattle.iscsi_session.specs.Execution.{exp_of}
-use Rattle.iscsi_session.specs.Management.{may_wait}
-use Rattle.iscsi_session.specs.Items.{item_of, function_item, is_waiting, functions, functions_at, turn_at, agenda}
-use Rattle.iscsi_session.specs.Run.{effects_of_item, effects_of}
+use Rattle.iscsi_history.specs.Settings.{Setting}
+use Rattle.iscsi_history.specs.Trace.{Arrival, Mark, Trace, after_items, waiting, received, least_missing}
+use Rattle.iscsi_history.specs.Execution.{exp_of}
+use Rattle.iscsi_history.specs.Management.{may_wait}
+use Rattle.iscsi_history.specs.Items.{item_of, function_item, is_waiting, functions, functions_at, turn_at, agenda}
+use Rattle.iscsi_history.specs.Run.{effects_of_item, effects_of}
 use Rattle.iscsi_session.specs.Standing.{Core, arrival_waiting, Agrees, Settled}
 use Rattle.iscsi_session.specs.Turning.{with_executed, executed_effects, next_arrived, turned_if, turn_effects, next_waiting, function_if, function_effects}
-use Rattle.iscsi_session.proofs.TraceLemmas.{after_items-append}
-use Rattle.iscsi_session.proofs.Missing.{expected_past}
+use Rattle.iscsi_history.proofs.TraceLemmas.{after_items-append}
+use Rattle.iscsi_history.proofs.Missing.{expected_past}
 use Rattle.iscsi_session.proofs.WindowParts.{Next, next_request, Passed, passed_at, WindowAgrees-passed}
 use Rattle.iscsi_session.proofs.ArrivedLemmas.{ArrivalsAgree-passed}
-use Rattle.iscsi_session.proofs.BoolLemmas.{and_parts}
-use Rattle.iscsi_session.proofs.ListLemmas.{list_all-filter, find-passes}
+use Rattle.iscsi_history.proofs.BoolLemmas.{and_parts}
+use Rattle.iscsi_history.proofs.ListLemmas.{list_all-filter, find-passes}
 use Rattle.iscsi_session.proofs.WaitLemmas.{next_function, no_function}
 use Rattle.iscsi_session.proofs.ReceiveLemmas.{turn_receives_none, function_receives_none}
 use Rattle.iscsi_session.proofs.TurnLemmas.{turned_core, turned_is, turn_effects-are, numbered_held}

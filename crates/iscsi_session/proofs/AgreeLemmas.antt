@@ -5,27 +5,27 @@ use Rattle.std.proofs.lemmas.Bool.Decides.{nat_tests}
 use Rattle.iscsi_wire.specs.Serial.{wire}
 use Rattle.iscsi_wire.specs.Fields.{connection_of, is_immediate, cmd_sn}
 use Rattle.iscsi_window.specs.Windows.{number_expected, room_of}
-use Rattle.iscsi_session.specs.declared.effect.Effect.{Effect}
-use Rattle.iscsi_session.specs.declared.effect.Effect.TheVariants.{Ignore}
-use Rattle.iscsi_session.specs.declared.effect.Numbers.{Numbers}
-use Rattle.iscsi_session.specs.declared.effect.Why.{Why}
+use Rattle.iscsi_history.specs.declared.effect.Effect.{Effect}
+use Rattle.iscsi_history.specs.declared.effect.Effect.TheVariants.{Ignore}
+use Rattle.iscsi_history.specs.declared.effect.Numbers.{Numbers}
+use Rattle.iscsi_history.specs.declared.effect.Why.{Why}
 use Rattle.iscsi_session.specs.declared.session.live.Live.{Live}
-use Rattle.iscsi_session.specs.Settings.{Setting, is_known}
-use Rattle.iscsi_session.specs.Trace.{Arrival, Command, Mark, Admits, Ignores, Trace, after_items, has, entered, leaves_ticket, live, is_received}
-use Rattle.iscsi_session.specs.Execution.{exp_of, max_of, unfinished, ignored}
-use Rattle.iscsi_session.specs.Run.{effects_of, numbers_of}
+use Rattle.iscsi_history.specs.Settings.{Setting, is_known}
+use Rattle.iscsi_history.specs.Trace.{Arrival, Command, Mark, Admits, Ignores, Trace, after_items, has, entered, leaves_ticket, live, is_received}
+use Rattle.iscsi_history.specs.Execution.{exp_of, max_of, unfinished, ignored}
+use Rattle.iscsi_history.specs.Run.{effects_of, numbers_of}
 use Rattle.iscsi_session.specs.Standing.{Core, CommandsAgree, is_regular, is_regular_request, Agrees, Settled}
 use Rattle.iscsi_session.specs.Steps.{numbers_by}
-use Rattle.iscsi_session.proofs.BoolLemmas.{and_parts}
-use Rattle.iscsi_session.proofs.ListLemmas.{list_all-filter}
+use Rattle.iscsi_history.proofs.BoolLemmas.{and_parts}
+use Rattle.iscsi_history.proofs.ListLemmas.{list_all-filter}
 use Rattle.iscsi_session.proofs.OpenConns.{open_of-same}
-use Rattle.iscsi_session.proofs.TraceLemmas.{weaker}
-use Rattle.iscsi_session.proofs.DeliveryLemmas.{quiet-ignored}
+use Rattle.iscsi_history.proofs.TraceLemmas.{weaker}
+use Rattle.iscsi_history.proofs.DeliveryLemmas.{quiet-ignored}
 use Rattle.iscsi_session.proofs.WindowParts.{next_expected, WindowAgrees-quiet, with_held, WindowAgrees-admitted}
 use Rattle.iscsi_session.proofs.ArrivedLemmas.{ArrivalsAgree-quiet, ArrivalsAgree-admitted}
-use Rattle.iscsi_session.proofs.HeldLemmas.{held-here}
+use Rattle.iscsi_history.proofs.HeldLemmas.{held-here}
 use Rattle.iscsi_session.proofs.ReplyParts.{RepliesAgree-quiet}
-use Rattle.iscsi_session.proofs.EnabledLemmas.{enables}
+use Rattle.iscsi_history.proofs.MomentLemmas.{enables}
 use Rattle.iscsi_session.proofs.CommandParts.{Untouched, live-untouched, CommandsAgree-untouched}
 use Rattle.iscsi_session.proofs.EnablingLemmas.{EnabledSoFar-untouched}
 use Rattle.iscsi_session.proofs.SetParts.{SetsAgree-untouched, newly-untouched}

@@ -8,32 +8,32 @@ use Rattle.iscsi_wire.specs.declared.reply.Reply.TheVariants.{Reject}
 use Rattle.iscsi_wire.specs.Fields.{connection_of, header_of, is_immediate}
 use Rattle.iscsi_window.specs.declared.answer.Offer.TheVariants.{Held}
 use Rattle.iscsi_window.specs.Windows.{at_place, offer_to, number_expected}
-use Rattle.iscsi_session.specs.declared.effect.Effect.{Effect}
-use Rattle.iscsi_session.specs.declared.effect.Effect.TheVariants.{Send, Ignore}
-use Rattle.iscsi_session.specs.declared.effect.Why.{Why}
-use Rattle.iscsi_session.specs.declared.effect.Why.TheVariants.{Closed, Data}
-use Rattle.iscsi_session.specs.declared.kind.Kind.TheVariants.{PassedOver, Unknown, Executes as ExecutesKind}
-use Rattle.iscsi_session.specs.Settings.{Setting, is_known}
-use Rattle.iscsi_session.specs.Trace.{Arrival, Mark, Admits, Trace, after_items, received, is_closed}
-use Rattle.iscsi_session.specs.Flow.{HasOneMore}
-use Rattle.iscsi_session.specs.Execution.{exp_of, rejected, ignored}
-use Rattle.iscsi_session.specs.Agenda.{with_turns, numbered, kind_of, arrival_as, arrival_open, arrival, arrival_of}
-use Rattle.iscsi_session.specs.Items.{immediate_item, functions_at, agenda}
-use Rattle.iscsi_session.specs.Run.{effects_of, effects_of_item, stat_sn_of}
+use Rattle.iscsi_history.specs.declared.effect.Effect.{Effect}
+use Rattle.iscsi_history.specs.declared.effect.Effect.TheVariants.{Send, Ignore}
+use Rattle.iscsi_history.specs.declared.effect.Why.{Why}
+use Rattle.iscsi_history.specs.declared.effect.Why.TheVariants.{Closed, Data}
+use Rattle.iscsi_history.specs.declared.kind.Kind.TheVariants.{PassedOver, Unknown, Executes as ExecutesKind}
+use Rattle.iscsi_history.specs.Settings.{Setting, is_known}
+use Rattle.iscsi_history.specs.Trace.{Arrival, Mark, Admits, Trace, after_items, received, is_closed}
+use Rattle.iscsi_history.specs.Flow.{HasOneMore}
+use Rattle.iscsi_history.specs.Execution.{exp_of, rejected, ignored}
+use Rattle.iscsi_history.specs.Agenda.{with_turns, numbered, kind_of, arrival_as, arrival_open, arrival, arrival_of}
+use Rattle.iscsi_history.specs.Items.{immediate_item, functions_at, agenda}
+use Rattle.iscsi_history.specs.Run.{effects_of, effects_of_item, stat_sn_of}
 use Rattle.iscsi_session.specs.Standing.{Core, Agrees, Settled}
 use Rattle.iscsi_session.specs.Steps.{with_reply, reply_effects, with_offered}
 use Rattle.iscsi_session.specs.Turning.{turned_if, turn_effects, patience_by, immediate_as, immediate_effects}
-use Rattle.iscsi_session.specs.Logout.{is_open}
+use Rattle.iscsi_history.specs.Logout.{is_open}
 use Rattle.iscsi_session.specs.Parting.{is_among_open}
 use Rattle.iscsi_session.proofs.OpenConns.{open_of-same, filtered_among}
-use Rattle.iscsi_session.proofs.ListLemmas.{list_any-map}
-use Rattle.iscsi_session.proofs.DeliveryLemmas.{IsQuiet}
+use Rattle.iscsi_history.proofs.ListLemmas.{list_any-map}
+use Rattle.iscsi_history.proofs.DeliveryLemmas.{IsQuiet}
 use Rattle.iscsi_session.proofs.WindowParts.{WindowAgrees-quiet}
 use Rattle.iscsi_session.proofs.ArrivedLemmas.{ArrivalsAgree-quiet}
 use Rattle.iscsi_session.proofs.ReplyParts.{RepliesAgree-sent}
 use Rattle.iscsi_session.proofs.CommandParts.{Untouched, CommandsAgree-untouched}
 use Rattle.iscsi_session.proofs.SetParts.{SetsAgree-untouched, newly-untouched}
-use Rattle.iscsi_session.proofs.EnabledLemmas.{enables}
+use Rattle.iscsi_history.proofs.MomentLemmas.{enables}
 use Rattle.iscsi_session.proofs.EnablingLemmas.{EnabledSoFar-untouched}
 use Rattle.iscsi_session.proofs.AgreeLemmas.{settled_expected, unfinished-untouched, Stepped, Stepped-ignored}
 use Rattle.iscsi_session.proofs.StepLemmas.{Offered}

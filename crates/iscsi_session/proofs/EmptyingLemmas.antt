@@ -10,19 +10,19 @@ use Rattle.iscsi_wire.specs.declared.request.Request.{Request}
 use Rattle.iscsi_wire.specs.Serial.{wire, number_of_first}
 use Rattle.iscsi_wire.specs.Fields.{connection_of}
 use Rattle.iscsi_window.specs.Windows.{Received, number_expected, is_asked, is_held_from}
-use Rattle.iscsi_session.specs.declared.effect.Effect.{Effect}
-use Rattle.iscsi_session.specs.declared.effect.Effect.TheVariants.{Empty}
-use Rattle.iscsi_session.specs.Settings.{Setting}
-use Rattle.iscsi_session.specs.Trace.{Arrival, Command, Mark, Empties, Leaves, Trace, has, shown, first_of, number_received, received, contains, is_received, delivers_number, is_delivered, empties_number, is_emptied, held, held_among, admitted, admits_at}
-use Rattle.iscsi_session.specs.Execution.{exp_of}
-use Rattle.iscsi_session.specs.Executed.{delivers, request_at}
-use Rattle.iscsi_session.specs.Logout.{all_held}
+use Rattle.iscsi_history.specs.declared.effect.Effect.{Effect}
+use Rattle.iscsi_history.specs.declared.effect.Effect.TheVariants.{Empty}
+use Rattle.iscsi_history.specs.Settings.{Setting}
+use Rattle.iscsi_history.specs.Trace.{Arrival, Command, Mark, Empties, Leaves, Trace, has, shown, first_of, number_received, received, contains, is_received, delivers_number, is_delivered, empties_number, is_emptied, held, held_among, admitted, admits_at}
+use Rattle.iscsi_history.specs.Execution.{exp_of}
+use Rattle.iscsi_history.specs.Executed.{delivers, request_at}
+use Rattle.iscsi_history.specs.Logout.{all_held}
 use Rattle.iscsi_session.specs.Standing.{place_of, WindowAgrees, ArrivalsAgree}
 use Rattle.iscsi_session.specs.Parting.{emptied_place, emptied_from}
-use Rattle.iscsi_session.proofs.BoolLemmas.{or_false}
-use Rattle.iscsi_session.proofs.HeldLemmas.{held-number}
+use Rattle.iscsi_history.proofs.BoolLemmas.{or_false}
+use Rattle.iscsi_history.proofs.HeldLemmas.{held-number}
 use Rattle.iscsi_session.proofs.MissingLemmas.{unreceived_unheld}
-use Rattle.iscsi_session.proofs.DeliveryLemmas.{IsQuiet, same_range}
+use Rattle.iscsi_history.proofs.DeliveryLemmas.{IsQuiet, same_range}
 use Rattle.iscsi_session.proofs.WindowParts.{expected_past_next}
 
 -- ---- the items

@@ -1,24 +1,24 @@
 -- Which commands were free at some moment, after one item more.
 use Rattle.std.proofs.Common.{◌≡◌, ℕ, zero, suc, ◌+◌, ◌<◌, ◌≤◌, ◌==◌, ◌&&◌, ◌||◌, not, ⊎_elim, cond, Bool, true, false, List, [], ◌∷◌, ◌++◌, map, filter, find, Some, option_map, refl, ap, sym, ◌∙◌, arith}
 use Rattle.std.specs.List.{list_any, list_all, filter_map, flat_map, range_with_len}
-use Rattle.std.proofs.lemmas.Bool.{cases_eq, false≢true, eqb-true}
+use Rattle.std.proofs.lemmas.Bool.{cases_eq, eqb-true}
 use Rattle.std.proofs.lemmas.Bool.Decides.{nat_tests}
 use Rattle.std.proofs.lemmas.List.{append-nil, map-append}
 use Rattle.std.proofs.lemmas.List.Elements.{filter-append}
 use Rattle.std.proofs.lemmas.List.Folds.{list_any-append}
 use Rattle.iscsi_tasks.specs.declared.member.Member.{Member}
 use Rattle.iscsi_tasks.specs.Sets.{Queued, bars, is_free, queued, is_free_among, looked_at, after_moment, is_new, next_in, given_in}
-use Rattle.iscsi_session.specs.declared.effect.Effect.{Effect}
-use Rattle.iscsi_session.specs.declared.effect.Effect.TheVariants.{Enable}
-use Rattle.iscsi_session.specs.Settings.{Setting}
-use Rattle.iscsi_session.specs.Trace.{Command, Mark, Trace, has, enters, entered, leaves_ticket, live, live_in, is_among, queued_of, is_free_at, was_free, enabled_in}
-use Rattle.iscsi_session.specs.Run.{newly_enabled}
+use Rattle.iscsi_history.specs.declared.effect.Effect.TheVariants.{Enable}
+use Rattle.iscsi_history.specs.Settings.{Setting}
+use Rattle.iscsi_history.specs.Trace.{Command, Mark, Trace, has, enters, entered, leaves_ticket, live, live_in, is_among, queued_of, is_free_at, was_free, enabled_in}
+use Rattle.iscsi_history.specs.Run.{newly_enabled}
 use Rattle.iscsi_session.specs.Standing.{task_of, member_of, set_of}
 use Rattle.iscsi_session.specs.Steps.{as_given, enable_effects, enable_effect}
-use Rattle.iscsi_session.proofs.BoolLemmas.{and_parts, and_both, or_none, or_first, or_comm, not_true}
-use Rattle.iscsi_session.proofs.ApartLemmas.{unamong-filter}
-use Rattle.iscsi_session.proofs.TraceLemmas.{all_among}
-use Rattle.iscsi_session.proofs.ListLemmas.{list_all-filter, all_of_filter}
+use Rattle.iscsi_history.proofs.BoolLemmas.{and_parts, and_both, or_none, or_comm, not_true}
+use Rattle.iscsi_history.proofs.ApartLemmas.{unamong-filter}
+use Rattle.iscsi_history.proofs.TraceLemmas.{all_among}
+use Rattle.iscsi_history.proofs.ListLemmas.{list_all-filter, all_of_filter}
+use Rattle.iscsi_history.proofs.MomentLemmas.{free_now, enables}
 
 -- ---- lists
 
@@ -82,11 +82,6 @@ never_free c (item ∷ t) gone =
     let parts = or_none (is_among c.ticket (entered t)) (is_among c.ticket (filter_map enters item)) (sym (list_any-append (λ (d : Command). d.ticket == c.ticket) (entered t) (filter_map enters item)) ∙ gone) in
     let out : is_among c.ticket (live_in c.unit (item ∷ t)) ≡ false = unamong-filter (λ (d : Command). d.unit == c.unit) c.ticket (live (item ∷ t)) (unamong-filter (λ (d : Command). not (has (leaves_ticket d.ticket) (item ∷ t))) c.ticket (entered (item ∷ t)) gone) in
     ap (λ b. (b && is_free (queued_of c) (map queued_of (live_in c.unit (item ∷ t)))) || was_free c t) out ∙ never_free c t parts.0
-
--- one that is in its set and free now was free at some moment so far
-pub free_now : (c : Command) (t : Trace) → is_free_at c t ≡ true → was_free c t ≡ true
-free_now c [] h = absurd (false≢true h)
-free_now c (item ∷ t) h = or_first (is_free_at c (item ∷ t)) (was_free c t) h
 
 -- who is free among more is free among fewer
 free_among_fewer : (q : Queued) (xs ys : List Queued) → is_free q (xs ++ ys) ≡ true → is_free q xs ≡ true
@@ -154,9 +149,6 @@ noted_given o t item unit =
 -- the commands of a unit that an item enables
 abbrev pub new_in : Trace → List Mark → ℕ → List Command
 new_in t item unit = filter (λ c. not (was_free c t)) (enabled_in unit (item ∷ t))
-
-abbrev pub enables : List Command → List Effect
-enables cs = map (λ (c : Command). Enable c.ticket c.unit) cs
 
 -- the effects of the set are those of the definitions
 pub noted_effects : (o : Setting) (t : Trace) (item : List Mark) (unit : ℕ) → enable_effects unit (after_moment (map (member_of o t) (live_in unit (item ∷ t)))) ≡ enables (new_in t item unit)

@@ -1,42 +1,23 @@
 -- The commands that the effects show as enabled are those that the rule enables, after one item more.
-use Rattle.std.proofs.Common.{◌≡◌, ◌↔◌, ℕ, zero, suc, ◌+◌, ◌<◌, ◌≤◌, nat_lt, ⊎_elim, ◌==◌, ◌&&◌, ◌||◌, not, cond, Bool, true, false, List, [], ◌∷◌, ◌++◌, filter, refl, ap, sym, ◌∙◌, arith, eq-eqb, append_assoc}
+use Rattle.std.proofs.Common.{◌≡◌, ℕ, zero, suc, ◌+◌, ◌<◌, ◌≤◌, nat_lt, ⊎_elim, ◌==◌, ◌&&◌, ◌||◌, not, cond, Bool, true, false, List, [], ◌∷◌, ◌++◌, filter, refl, ap, sym, ◌∙◌, arith, eq-eqb}
 use Rattle.std.specs.List.{list_any, list_all, flat_map, range_with_len}
 use Rattle.std.proofs.lemmas.Bool.{cases_eq, false≢true, eqb-true}
 use Rattle.std.proofs.lemmas.Bool.Decides.{nat_tests}
 use Rattle.std.proofs.lemmas.List.{append-nil}
 use Rattle.std.proofs.lemmas.List.Folds.{list_any-append}
-use Rattle.iscsi_session.specs.declared.effect.Effect.TheVariants.{Enable}
-use Rattle.iscsi_session.specs.declared.event.Event.{Event}
 use Rattle.iscsi_session.specs.declared.session.live.Live.{Live}
-use Rattle.iscsi_session.specs.Settings.{Setting}
-use Rattle.iscsi_session.specs.Trace.{Command, Mark, Admits, Delivers, Executes, Voids, Empties, Waits, Leaves, Enters, Sends, ClosesConn, ClosesSession, Ignores, Trace, after_items, has, entered, leaves_ticket, live, live_in, is_among, is_free_at, was_free}
-use Rattle.iscsi_session.specs.Agenda.{items_of}
-use Rattle.iscsi_session.specs.Run.{after_event, after_events, effects_of_mark, newly_enabled, effects_of_item, effects_of, entries_from}
-use Rattle.iscsi_session.specs.Enabling.{effects_so_far, is_enable, is_leave, is_shown_enabled, is_enabled, FreeMoment, EnabledSoFar, effects_in}
+use Rattle.iscsi_history.specs.Settings.{Setting}
+use Rattle.iscsi_history.specs.Trace.{Command, Mark, Admits, Delivers, Executes, Voids, Empties, Waits, Leaves, Enters, Sends, ClosesConn, ClosesSession, Ignores, Trace, has, leaves_ticket, live, live_in, is_among, is_free_at, was_free}
+use Rattle.iscsi_history.specs.Run.{effects_of_mark, newly_enabled, effects_of_item}
+use Rattle.iscsi_history.specs.Enabling.{effects_so_far, is_enable, is_leave, is_shown_enabled, is_enabled, EnabledSoFar}
 use Rattle.iscsi_session.specs.Standing.{CommandsAgree}
-use Rattle.iscsi_session.proofs.BoolLemmas.{and_parts, and_both, or_first, or_second, or_comm, or_false, and_false, and_comm, and_true}
-use Rattle.iscsi_session.proofs.ListLemmas.{list_any-map, any_all, any_filter, any_flat_map, any_same}
-use Rattle.iscsi_session.proofs.TraceLemmas.{weaker}
-use Rattle.iscsi_session.proofs.EnabledLemmas.{enables, is_here, was_free-stays, new_in, new_in-more, newly-one, filter-twice, free_now}
+use Rattle.iscsi_history.proofs.BoolLemmas.{and_parts, and_both, or_first, or_second, or_comm, or_false, and_false, and_comm, and_true}
+use Rattle.iscsi_history.proofs.ListLemmas.{any_all, any_filter, any_flat_map, any_same}
+use Rattle.iscsi_history.proofs.TraceLemmas.{weaker}
+use Rattle.iscsi_history.proofs.MomentLemmas.{enables, item_enables, left_unlive}
+use Rattle.iscsi_session.proofs.EnabledLemmas.{is_here, was_free-stays, new_in, new_in-more, newly-one, filter-twice}
 use Rattle.iscsi_session.proofs.CommandParts.{Untouched, live-untouched, live_in-untouched, EntersOne, live-entered, live_in-entered, live_in-elsewhere, LeavesSome, live-left, none_any}
 use Rattle.iscsi_session.proofs.SetParts.{newly-untouched}
-
--- ---- what an item shows
-
-enabled_marks : (o : Setting) (t : Trace) (k : ℕ) (item : List Mark) → list_any (is_enable k) (flat_map (effects_of_mark o t) item) ≡ false
-enabled_marks o t k [] = refl
-enabled_marks o t k (Admits a ∷ ms) = enabled_marks o t k ms
-enabled_marks o t k (Delivers a ∷ ms) = enabled_marks o t k ms
-enabled_marks o t k (Executes a ∷ ms) = enabled_marks o t k ms
-enabled_marks o t k (Voids n ∷ ms) = enabled_marks o t k ms
-enabled_marks o t k (Empties a ∷ ms) = enabled_marks o t k ms
-enabled_marks o t k (Waits a ∷ ms) = enabled_marks o t k ms
-enabled_marks o t k (Leaves c ∷ ms) = enabled_marks o t k ms
-enabled_marks o t k (Enters c ∷ ms) = enabled_marks o t k ms
-enabled_marks o t k (Sends conn reply ∷ ms) = enabled_marks o t k ms
-enabled_marks o t k (ClosesConn conn ∷ ms) = enabled_marks o t k ms
-enabled_marks o t k (ClosesSession ∷ ms) = enabled_marks o t k ms
-enabled_marks o t k (Ignores why ∷ ms) = enabled_marks o t k ms
 
 left_marks : (o : Setting) (t : Trace) (k : ℕ) (item : List Mark) → list_any (is_leave k) (flat_map (effects_of_mark o t) item) ≡ list_any (leaves_ticket k) item
 left_marks o t k [] = refl
@@ -56,12 +37,6 @@ left_marks o t k (Ignores why ∷ ms) = left_marks o t k ms
 no_leave : (k : ℕ) (cs : List Command) → list_any (is_leave k) (enables cs) ≡ false
 no_leave k [] = refl
 no_leave k (c ∷ cs) = no_leave k cs
-
-pub item_enables : (o : Setting) (t : Trace) (item : List Mark) (k : ℕ) → list_any (is_enable k) (effects_of_item o t item) ≡ is_among k (newly_enabled o t item)
-item_enables o t item k =
-    list_any-append (is_enable k) (flat_map (effects_of_mark o t) item) (enables (newly_enabled o t item))
-    ∙ ap (λ b. b || list_any (is_enable k) (enables (newly_enabled o t item))) (enabled_marks o t k item)
-    ∙ list_any-map (is_enable k) (λ (c : Command). Enable c.ticket c.unit) (newly_enabled o t item)
 
 item_leaves : (o : Setting) (t : Trace) (item : List Mark) (k : ℕ) → list_any (is_leave k) (effects_of_item o t item) ≡ list_any (leaves_ticket k) item
 item_leaves o t item k =
@@ -110,21 +85,6 @@ all_in_unit (x ∷ cs) =
         more : (a b e : Bool) → (a && e) ≡ true → (a && (b || e)) ≡ true
         more true b e k = or_second b e k
         more false b e k = absurd (false≢true k)
-
--- nothing that left is live
-pub left_unlive : (t : Trace) (k : ℕ) → has (leaves_ticket k) t ≡ true → is_among k (live t) ≡ false
-left_unlive t k left = none (entered t)
-  where
-    none : (cs : List Command) → is_among k (filter (λ (c : Command). not (has (leaves_ticket c.ticket) t)) cs) ≡ false
-    none [] = refl
-    none (c ∷ cs) =
-        elim (c.ticket == k) as (λ b. (c.ticket == k) ≡ b → is_among k (filter (λ (d : Command). not (has (leaves_ticket d.ticket) t)) (c ∷ cs)) ≡ false) [
-          | true ↦ λ is. ap (λ b. is_among k (cond (not b) (c ∷ filter (λ (d : Command). not (has (leaves_ticket d.ticket) t)) cs) (filter (λ (d : Command). not (has (leaves_ticket d.ticket) t)) cs))) (ap (λ n. has (leaves_ticket n) t) (eqb-true c.ticket k is) ∙ left) ∙ none cs
-          | false ↦ λ is. elim (has (leaves_ticket c.ticket) t) as (λ b. is_among k (cond (not b) (c ∷ filter (λ (d : Command). not (has (leaves_ticket d.ticket) t)) cs) (filter (λ (d : Command). not (has (leaves_ticket d.ticket) t)) cs)) ≡ false) [
-            | true ↦ none cs
-            | false ↦ ap (λ b. b || is_among k (filter (λ (d : Command). not (has (leaves_ticket d.ticket) t)) cs)) is ∙ none cs
-          ]
-        ] refl
 
 -- ---- an item that nothing enters or leaves by
 
@@ -347,37 +307,3 @@ EnabledSoFar-entered o lives n item t c a e inside new x = EnabledSoFar-more o i
 
 pub EnabledSoFar-left : (o : Setting) (item : List Mark) (t : Trace) (out : ℕ → Bool) → LeavesSome item out → list_all (λ d. nat_lt d.unit o.units) (live (item ∷ t)) ≡ true → EnabledSoFar o t → EnabledSoFar o (item ∷ t)
 EnabledSoFar-left o item t out l regular x = EnabledSoFar-more o item t x (exact-left o item t out l regular (exact_now o t x))
-
--- ---- the log
-
-items_effects : (o : Setting) (t : Trace) (items : List (List Mark)) → effects_so_far o (after_items items t) ≡ effects_so_far o t ++ effects_of o t items
-items_effects o t [] = sym (append-nil (effects_so_far o t))
-items_effects o t (item ∷ items) = items_effects o (item ∷ t) items ∙ append_assoc (effects_so_far o t) (effects_of_item o t item) (effects_of o (item ∷ t) items)
-
-pub log_effects : (o : Setting) (event : ℕ) (t : Trace) (h : List Event) → effects_so_far o (after_events o event t h) ≡ effects_so_far o t ++ effects_in (entries_from o event t h)
-log_effects o event t [] = sym (append-nil (effects_so_far o t))
-log_effects o event t (e ∷ h) =
-    log_effects o (event + 1) (after_event o event t e) h
-    ∙ ap (λ es. es ++ effects_in (entries_from o (event + 1) (after_event o event t e) h)) (items_effects o t (items_of o event t e))
-    ∙ append_assoc (effects_so_far o t) (effects_of o t (items_of o event t e)) (effects_in (entries_from o (event + 1) (after_event o event t e) h))
-
--- ---- the rule
-
-or_cases : (a b : Bool) (P : Type 0) → (a ≡ true → P) → (b ≡ true → P) → (a || b) ≡ true → P
-or_cases true b P f g h = f refl
-or_cases false b P f g h = g h
-
-moment_of : (c : Command) (t : Trace) → was_free c t ≡ true → FreeMoment c t
-moment_of c [] h = absurd (false≢true h)
-moment_of c (item ∷ t) h =
-    or_cases (is_free_at c (item ∷ t)) (was_free c t) (FreeMoment c (item ∷ t))
-    (λ now. record { later = []; moment = item ∷ t; split = refl; free = now })
-    (λ before. let m : FreeMoment c t = moment_of c t before in record { later = item ∷ m.later; moment = m.moment; split = ap (λ s. item ∷ s) m.split; free = m.free })
-    h
-
-free_since : (c : Command) (later moment : Trace) → is_free_at c moment ≡ true → was_free c (later ++ moment) ≡ true
-free_since c [] moment h = free_now c moment h
-free_since c (item ∷ later) moment h = or_second (is_free_at c (item ∷ later ++ moment)) (was_free c (later ++ moment)) (free_since c later moment h)
-
-pub rule_means : (c : Command) (t : Trace) → (was_free c t ≡ true) ↔ FreeMoment c t
-rule_means c t = (moment_of c t, λ m. ap (was_free c) (sym m.split) ∙ free_since c m.later m.moment m.free)

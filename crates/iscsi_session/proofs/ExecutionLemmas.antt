@@ -5,82 +5,40 @@ use Rattle.std.proofs.lemmas.Bool.Decides.{nat_tests}
 use Rattle.std.proofs.lemmas.List.{append-nil, length-map}
 use Rattle.iscsi_wire.specs.declared.request.Request.{Request}
 use Rattle.iscsi_wire.specs.declared.reply.Reply.{Reply}
-use Rattle.iscsi_wire.specs.declared.reply.Reply.TheVariants.{Scsi, Nop, Reject}
+use Rattle.iscsi_wire.specs.declared.reply.Reply.TheVariants.{Reject}
 use Rattle.iscsi_wire.specs.Serial.{number_of_first}
-use Rattle.iscsi_wire.specs.Fields.{connection_of, is_immediate, opcode, attr_code, itt, lun, unit_of}
+use Rattle.iscsi_wire.specs.Fields.{connection_of, is_immediate, opcode, attr_code, itt}
 use Rattle.iscsi_window.specs.Windows.{Received, with_unfinished}
 use Rattle.iscsi_tasks.specs.declared.task.Task.{Task}
 use Rattle.iscsi_tasks.specs.Sets.{Members, opened}
-use Rattle.iscsi_session.specs.declared.effect.Effect.{Effect}
-use Rattle.iscsi_session.specs.declared.effect.Effect.TheVariants.{Enter, Send}
+use Rattle.iscsi_history.specs.declared.effect.Effect.{Effect}
+use Rattle.iscsi_history.specs.declared.effect.Effect.TheVariants.{Enter, Send}
 use Rattle.iscsi_session.specs.declared.session.live.Live.{Live}
-use Rattle.iscsi_session.specs.declared.verdict.Verdict.{Verdict}
-use Rattle.iscsi_session.specs.declared.verdict.Verdict.TheVariants.{Nothing, Answer, Enter as EnterUnit}
-use Rattle.iscsi_session.specs.Settings.{Setting, is_known}
-use Rattle.iscsi_session.specs.Trace.{Arrival, Command, Mark, Enters, Sends, Trace, waiting, waiting_by, waiting_through, enters, leaves_ticket, sent_on, entered, live, live_in}
-use Rattle.iscsi_session.specs.Execution.{unfinished, unit_named, attr_of, scsi_to, scsi_verdict, nop_verdict, request_verdict, is_tag_live, is_crowded, is_full, place_named, verdict_of, next_command, marks_of}
-use Rattle.iscsi_session.specs.Management.{may_wait, management_marks}
-use Rattle.iscsi_session.specs.Items.{execution}
-use Rattle.iscsi_session.specs.Run.{effects_of_mark, effects_of_item, newly_enabled, stat_sn_of}
+use Rattle.iscsi_history.specs.declared.verdict.Verdict.{Verdict}
+use Rattle.iscsi_history.specs.declared.verdict.Verdict.TheVariants.{Nothing, Answer, Enter as EnterUnit}
+use Rattle.iscsi_history.specs.Settings.{Setting, is_known}
+use Rattle.iscsi_history.specs.Trace.{Arrival, Command, Mark, Enters, Sends, Trace, waiting, waiting_by, waiting_through, enters, leaves_ticket, sent_on, entered, live, live_in}
+use Rattle.iscsi_history.specs.Execution.{unfinished, unit_named, attr_of, scsi_to, scsi_verdict, request_verdict, is_tag_live, is_crowded, is_full, place_named, verdict_of, next_command, marks_of}
+use Rattle.iscsi_history.specs.Management.{may_wait, management_marks}
+use Rattle.iscsi_history.specs.Items.{execution}
+use Rattle.iscsi_history.specs.Run.{effects_of_mark, effects_of_item, newly_enabled, stat_sn_of}
 use Rattle.iscsi_session.specs.Standing.{open_of, Core, kept, is_regular, task_of, member_of, WindowAgrees, RepliesAgree, CommandsAgree, SetsAgree, ArrivalsAgree, arrival_waiting, Agrees}
-use Rattle.iscsi_session.specs.Enabling.{EnabledSoFar}
+use Rattle.iscsi_history.specs.Enabling.{EnabledSoFar}
 use Rattle.iscsi_session.specs.Steps.{new_live, new_task, number_by, event_by, started, is_tag_kept, is_immediate_on, is_crowded_by, is_set_full, place_in, verdict_by, executed_as, execution_effects}
-use Rattle.iscsi_session.specs.Logout.{logout_marks}
-use Rattle.iscsi_session.proofs.BoolLemmas.{and_both}
+use Rattle.iscsi_history.specs.Logout.{logout_marks}
+use Rattle.iscsi_history.proofs.BoolLemmas.{and_both}
 use Rattle.iscsi_session.proofs.OpenConns.{ClosesNone, open_of-same, closes-more}
-use Rattle.iscsi_session.proofs.ListLemmas.{list_any-map, count_by-map, count_by-push}
-use Rattle.iscsi_session.proofs.DeliveryLemmas.{IsQuiet}
+use Rattle.iscsi_history.proofs.ListLemmas.{list_any-map, count_by-map, count_by-push}
+use Rattle.iscsi_history.proofs.DeliveryLemmas.{IsQuiet}
 use Rattle.iscsi_session.proofs.WindowParts.{Turned, WindowAgrees-started}
 use Rattle.iscsi_session.proofs.ReplyParts.{RepliesAgree-quiet, RepliesAgree-sent}
-use Rattle.iscsi_session.proofs.EnabledLemmas.{enables, never_free}
+use Rattle.iscsi_history.proofs.MomentLemmas.{enables}
+use Rattle.iscsi_session.proofs.EnabledLemmas.{never_free}
 use Rattle.iscsi_session.proofs.EnablingLemmas.{EnabledSoFar-untouched, EnabledSoFar-entered}
 use Rattle.iscsi_session.proofs.CommandParts.{Untouched, live-untouched, CommandsAgree-untouched, EntersOne, live-entered, CommandsAgree-entered}
 use Rattle.iscsi_session.proofs.SetParts.{SetsAgree-untouched, newly-untouched, SetEntry, SetsAgree-entered}
 use Rattle.iscsi_session.proofs.AgreeLemmas.{unfinished-untouched}
-
--- ---- the verdict
-
--- the unit that a request names is one of the session's
-pub named_below : (units : ℕ) (r : Request) (u : ℕ) → unit_named units r ≡ Some u → u < units
-named_below units r u h = by_lun (unit_of (lun r)) h
-  where
-    by_lun : (x : Option ℕ) → elim x [ Some v ↦ cond (nat_lt v units) (Some v) None | None ↦ None ] ≡ Some u → u < units
-    by_lun None h = absurd cc
-    by_lun (Some v) h =
-        elim (nat_lt v units) as (λ b. nat_lt v units ≡ b → cond b (Some v) None ≡ Some u → u < units) [
-          | true ↦ λ is found. let same : v ≡ u = cc in let lt : v < units = grind (arith, nat_tests) in subst (λ w. w < units) same lt
-          | false ↦ λ is found. absurd cc
-        ] refl h
-
--- a test that fails
-cond_other : {A : Type 0} (b : Bool) (x y z : A) → cond b x y ≡ z → (x ≡ z → ⊥) → (b ≡ false) × (y ≡ z)
-cond_other true x y z h apart = absurd (apart h)
-cond_other false x y z h apart = (refl, h)
-
--- a command that enters has a unit, whose set isn't full, a tag that isn't used, and a connection that isn't crowded
-pub record Entering (used crowded : Bool) (place : Option (ℕ × Bool)) (u : ℕ) : Type 0 where
-  pub place_is : place ≡ Some (u, false)
-  pub unused : used ≡ false
-  pub uncrowded : crowded ≡ false
-
-pub entering : (r : Request) (used crowded : Bool) (place : Option (ℕ × Bool)) (u : ℕ) → scsi_verdict r used crowded place ≡ EnterUnit u → Entering used crowded place u
-entering r used crowded place u h =
-    let to : Verdict = scsi_to r crowded place in
-    let by_use : Verdict = cond used (Answer (Reject 7 r.bytes)) to in
-    let by_attr : Verdict = cond (nat_lt 3 (attr_code r)) (Answer (Reject 9 r.bytes)) by_use in
-    let a = cond_other (itt r == 0xffff_ffff) (Answer (Reject 9 r.bytes)) by_attr (EnterUnit u) h (λ e. cc) in
-    let b = cond_other (nat_lt 3 (attr_code r)) (Answer (Reject 9 r.bytes)) by_use (EnterUnit u) a.1 (λ e. cc) in
-    let c = cond_other used (Answer (Reject 7 r.bytes)) to (EnterUnit u) b.1 (λ e. cc) in
-    let d = to_place place c.1 in
-    record { place_is = d.0; unused = c.0; uncrowded = d.1 }
-  where
-    to_place : (place : Option (ℕ × Bool)) → scsi_to r crowded place ≡ EnterUnit u → (place ≡ Some (u, false)) × (crowded ≡ false)
-    to_place None h = absurd cc
-    to_place (Some (v, full)) h =
-        let a = cond_other crowded (Answer (Reject 6 r.bytes)) (cond full (Answer (Scsi (itt r) 0x28 None)) (EnterUnit v)) (EnterUnit u) h (λ e. cc) in
-        let b = cond_other full (Answer (Scsi (itt r) 0x28 None)) (EnterUnit v) (EnterUnit u) a.1 (λ e. cc) in
-        let same : v ≡ u = let z : EnterUnit v ≡ EnterUnit u = b.1 in cc in
-        (ap (λ w. let p : Option (ℕ × Bool) = Some (w, full) in p) same ∙ ap (λ f. let p : Option (ℕ × Bool) = Some (u, f) in p) b.0, a.0)
+use Rattle.iscsi_history.proofs.VerdictLemmas.{named_below, Entering, entering_by}
 
 -- where neither tag nor ATTR is wrong, the unit's table decides
 pub by_place : (r : Request) (used crowded : Bool) (place : Option (ℕ × Bool)) → (itt r == 0xffff_ffff) ≡ false → nat_lt 3 (attr_code r) ≡ false → used ≡ false → scsi_verdict r used crowded place ≡ scsi_to r crowded place
@@ -88,17 +46,6 @@ by_place r used crowded place tag attr unused =
     ap (λ b. cond b (Answer (Reject 9 r.bytes)) (cond (nat_lt 3 (attr_code r)) (Answer (Reject 9 r.bytes)) (cond used (Answer (Reject 7 r.bytes)) (scsi_to r crowded place)))) tag
     ∙ ap (λ b. cond b (Answer (Reject 9 r.bytes)) (cond used (Answer (Reject 7 r.bytes)) (scsi_to r crowded place))) attr
     ∙ ap (λ b. cond b (Answer (Reject 7 r.bytes)) (scsi_to r crowded place)) unused
-
-pub entering_by : (r : Request) (used crowded : Bool) (place : Option (ℕ × Bool)) (u : ℕ) → request_verdict r used crowded place ≡ EnterUnit u → Entering used crowded place u
-entering_by r used crowded place u h =
-    let text : Verdict = cond (opcode r == 4) (Answer (Reject 5 r.bytes)) (scsi_verdict r used crowded place) in
-    let a = cond_other (opcode r == 0) (nop_verdict r) text (EnterUnit u) h (λ e. no_nop (itt r == 0xffff_ffff) e) in
-    let b = cond_other (opcode r == 4) (Answer (Reject 5 r.bytes)) (scsi_verdict r used crowded place) (EnterUnit u) a.1 (λ e. cc) in
-    entering r used crowded place u b.1
-  where
-    no_nop : (b : Bool) → cond b Nothing (Answer (Nop (itt r))) ≡ EnterUnit u → ⊥
-    no_nop true e = cc
-    no_nop false e = cc
 
 pub placed : (sets : List Members) (r : Request) (u : ℕ) (full : Bool) → place_in sets r ≡ Some (u, full) → (u < length sets) × (is_set_full (get_or sets u (opened 0)) ≡ full)
 placed sets r u full h = by_unit (unit_named (length sets) r) refl h

@@ -7,17 +7,17 @@ use Rattle.iscsi_wire.specs.Fields.{cmd_sn}
 use Rattle.iscsi_window.specs.declared.answer.Place.{Place}
 use Rattle.iscsi_window.specs.declared.answer.Place.TheVariants.{Inside, Outside as NoPlace}
 use Rattle.iscsi_window.specs.Windows.{Received, number_expected, at_place, place_in, received_at, offered_to, with_place, with_unfinished}
-use Rattle.iscsi_session.specs.declared.event.Event.{Event}
+use Rattle.iscsi_history.specs.declared.event.Event.{Event}
 use Rattle.iscsi_session.specs.declared.session.live.Live.{Live}
-use Rattle.iscsi_session.specs.Settings.{Setting}
-use Rattle.iscsi_session.specs.Trace.{Arrival, Trace, received, contains, is_received, held}
-use Rattle.iscsi_session.specs.Execution.{exp_of, max_of}
-use Rattle.iscsi_session.specs.Run.{after_event, trace_of}
+use Rattle.iscsi_history.specs.Settings.{Setting}
+use Rattle.iscsi_history.specs.Trace.{Arrival, Trace, received, contains, is_received, held}
+use Rattle.iscsi_history.specs.Execution.{exp_of, max_of}
+use Rattle.iscsi_history.specs.Run.{after_event, trace_of}
 use Rattle.iscsi_session.specs.Standing.{Core, place_of, Settled}
 use Rattle.iscsi_session.specs.Steps.{KeepsPace, find_enabled, after_completion, without_command}
-use Rattle.iscsi_session.specs.Flow.{HasOneMore, Flows, FlowsThrough}
-use Rattle.iscsi_session.proofs.BoolLemmas.{or_first}
-use Rattle.iscsi_session.proofs.Missing.{expected_below, expected_gone, expected_low}
+use Rattle.iscsi_history.specs.Flow.{HasOneMore, Flows, FlowsThrough}
+use Rattle.iscsi_history.proofs.BoolLemmas.{or_first}
+use Rattle.iscsi_history.proofs.Missing.{expected_below, expected_gone, expected_low}
 use Rattle.iscsi_session.proofs.AgreeLemmas.{agrees_unfinished, settled_expected, settled_max}
 
 -- ---- ExpCmdSN doesn't go back

@@ -18,37 +18,37 @@ use Rattle.iscsi_window.specs.Windows.{Received, number_expected, room_of, at_pl
 use Rattle.iscsi_tasks.specs.declared.cover.Cover.TheVariants.{All as AllOfThem, Below}
 use Rattle.iscsi_tasks.specs.declared.task.Task.{Task}
 use Rattle.iscsi_tasks.specs.Sets.{is_covered}
-use Rattle.iscsi_session.specs.declared.effect.Effect.{Effect}
-use Rattle.iscsi_session.specs.declared.effect.Effect.TheVariants.{Deliver, Immediate, Wait, Send, Empty}
+use Rattle.iscsi_history.specs.declared.effect.Effect.{Effect}
+use Rattle.iscsi_history.specs.declared.effect.Effect.TheVariants.{Deliver, Immediate, Wait, Send, Empty}
 use Rattle.iscsi_session.specs.declared.outcome.Outcome.{Outcome}
 use Rattle.iscsi_session.specs.declared.outcome.Outcome.TheVariants.{Respond, Abort, AbortAll, Empty as EmptyNumber, Void as VoidNumber}
 use Rattle.iscsi_session.specs.declared.session.live.Live.{Live}
 use Rattle.iscsi_session.specs.declared.session.waiting.Waiting.{Waiting}
 use Rattle.iscsi_session.specs.declared.patience.Patience.{Patience}
 use Rattle.iscsi_session.specs.declared.patience.Patience.TheVariants.{Now, Later, TooFar, TooMany}
-use Rattle.iscsi_session.specs.declared.verdict.Verdict.{Verdict}
-use Rattle.iscsi_session.specs.declared.verdict.Verdict.TheVariants.{Nothing, Answer, Enter as EnterUnit}
-use Rattle.iscsi_session.specs.Settings.{Setting, is_known}
-use Rattle.iscsi_session.specs.Trace.{Arrival, Command, Mark, Executes, Delivers, Voids, Empties, Waits, Leaves, Trace, admits_at, delivers_number, empties_number, shown, first_of, is_received, is_delivered, is_emptied, held, admitted, waiting, waiting_by, waiting_through, live, live_in, enters, leaves_ticket, sent_on}
-use Rattle.iscsi_session.specs.Execution.{exp_of, max_of, unit_named, reply_on, marks_of, verdict_of}
-use Rattle.iscsi_session.specs.Management.{may_wait, waiting_on, refusal_to, refusal_of_function, answer, is_before, abort_all, abort_task, query, function_to, function_marks, management_marks}
-use Rattle.iscsi_session.specs.Agenda.{arrival_of}
-use Rattle.iscsi_session.specs.Items.{execution, waiting_item, immediate_item, item_of, function_item}
-use Rattle.iscsi_session.specs.Run.{effects_of_mark, effects_of_item, newly_enabled, stat_sn_of}
+use Rattle.iscsi_history.specs.declared.verdict.Verdict.{Verdict}
+use Rattle.iscsi_history.specs.declared.verdict.Verdict.TheVariants.{Nothing, Answer, Enter as EnterUnit}
+use Rattle.iscsi_history.specs.Settings.{Setting, is_known}
+use Rattle.iscsi_history.specs.Trace.{Arrival, Command, Mark, Executes, Delivers, Voids, Empties, Waits, Leaves, Trace, admits_at, delivers_number, empties_number, shown, first_of, is_received, is_delivered, is_emptied, held, admitted, waiting, waiting_by, waiting_through, live, live_in, enters, leaves_ticket, sent_on}
+use Rattle.iscsi_history.specs.Execution.{exp_of, max_of, unit_named, reply_on, marks_of, verdict_of}
+use Rattle.iscsi_history.specs.Management.{may_wait, waiting_on, refusal_to, refusal_of_function, answer, is_before, abort_all, abort_task, query, function_to, function_marks, management_marks}
+use Rattle.iscsi_history.specs.Agenda.{arrival_of}
+use Rattle.iscsi_history.specs.Items.{execution, waiting_item, immediate_item, item_of, function_item}
+use Rattle.iscsi_history.specs.Run.{effects_of_mark, effects_of_item, newly_enabled, stat_sn_of}
 use Rattle.iscsi_session.specs.Standing.{Core, kept, task_of, WindowAgrees, ArrivalsAgree, arrival_waiting, Agrees, Settled}
 use Rattle.iscsi_session.specs.Functions.{aborted, abort_effects, answer_if, outcome_by, abort_by, performed_as, performance_effects, covers_ticket, response_effects}
 use Rattle.iscsi_session.specs.Steps.{count_reply, with_reply, reply_effects, number_by, event_by, verdict_by, executed_as, execution_effects}
 use Rattle.iscsi_session.specs.Turning.{position_by, next_position, without_waiting, performed, performed_effects, managed, managed_effects, with_executed, executed_effects, next_arrived, next_waiting, waiting_in, wait_by, function_if, function_effects, patience_by, immediate_as, immediate_effects}
-use Rattle.iscsi_session.specs.Logout.{logout_marks}
+use Rattle.iscsi_history.specs.Logout.{logout_marks}
 use Rattle.iscsi_session.specs.Parting.{closing_by, closed_as, closed_effects}
 use Rattle.iscsi_session.proofs.OpenConns.{ClosesNone, open_of-same, closes-more}
 use Rattle.iscsi_session.proofs.LogoutItem.{logout-item}
 use Rattle.iscsi_session.proofs.PartedLemmas.{closed_expected}
-use Rattle.iscsi_session.proofs.BoolLemmas.{and_parts, and_true}
-use Rattle.iscsi_session.proofs.ListLemmas.{count_by-map, list_any-map, list_all-filter, find-passes, any_filter, any_same}
-use Rattle.iscsi_session.proofs.TraceLemmas.{filter-same}
-use Rattle.iscsi_session.proofs.DeliveryLemmas.{IsQuiet}
-use Rattle.iscsi_session.proofs.HeldLemmas.{held-number, admitted_of_held}
+use Rattle.iscsi_history.proofs.BoolLemmas.{and_parts, and_true}
+use Rattle.iscsi_history.proofs.ListLemmas.{count_by-map, list_any-map, list_all-filter, find-passes, any_filter, any_same}
+use Rattle.iscsi_history.proofs.TraceLemmas.{filter-same}
+use Rattle.iscsi_history.proofs.DeliveryLemmas.{IsQuiet}
+use Rattle.iscsi_history.proofs.HeldLemmas.{held-number, admitted_of_held}
 use Rattle.iscsi_session.proofs.WindowLemmas.{find-found}
 use Rattle.iscsi_session.proofs.WindowParts.{Next, turned_window, WindowAgrees-quiet}
 use Rattle.iscsi_session.proofs.ArrivedLemmas.{ArrivalsAgree-quiet}
@@ -56,11 +56,12 @@ use Rattle.iscsi_session.proofs.ReceiveLemmas.{no_abort_task}
 use Rattle.iscsi_session.proofs.WaitLemmas.{kept_waiting}
 use Rattle.iscsi_session.proofs.CommandParts.{Untouched, live_in-untouched, CommandsAgree-untouched}
 use Rattle.iscsi_session.proofs.ReplyParts.{RepliesAgree-quiet, RepliesAgree-sent}
-use Rattle.iscsi_session.proofs.EnabledLemmas.{enables}
+use Rattle.iscsi_history.proofs.MomentLemmas.{enables}
 use Rattle.iscsi_session.proofs.EnablingLemmas.{EnabledSoFar-untouched}
 use Rattle.iscsi_session.proofs.SetParts.{SetsAgree-untouched, newly-untouched}
 use Rattle.iscsi_session.proofs.AgreeLemmas.{unfinished-untouched, settled_expected, settled_max}
-use Rattle.iscsi_session.proofs.ExecutionLemmas.{named_below, Begun, Executed, nothing_more, answered, executed-item, untouched-begun}
+use Rattle.iscsi_history.proofs.VerdictLemmas.{named_below}
+use Rattle.iscsi_session.proofs.ExecutionLemmas.{Begun, Executed, nothing_more, answered, executed-item, untouched-begun}
 use Rattle.iscsi_session.proofs.LeavingLemmas.{covered_in, leaving_item, leaving-item}
 use Rattle.iscsi_session.proofs.AbortParts.{numbered_outcome, EmptiesHeld, VoidsMissing, AbortsAs, AbortsAs-arrived, AbortsAs-turned, WindowAgrees-emptying, WindowAgrees-voiding, void_effects-are}
 use Rattle.iscsi_session.proofs.TurnLemmas.{turned_core, numbered_held, turn-begun, arrived_next, number_next, event_next}

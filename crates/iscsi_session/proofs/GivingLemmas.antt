@@ -3,10 +3,10 @@ use Rattle.std.proofs.Common.{◌≡◌, ℕ, zero, suc, ◌+◌, ◌&&◌, ◌|
 use Rattle.std.proofs.lemmas.List.Sums.{sum_by-cons}
 use Rattle.iscsi_tasks.specs.declared.member.Member.{Member}
 use Rattle.iscsi_tasks.specs.Sets.{is_new, next_in, given_in}
-use Rattle.iscsi_session.specs.declared.effect.Effect.{Effect}
-use Rattle.iscsi_session.specs.declared.effect.Effect.TheVariants.{Enable}
+use Rattle.iscsi_history.specs.declared.effect.Effect.{Effect}
+use Rattle.iscsi_history.specs.declared.effect.Effect.TheVariants.{Enable}
 use Rattle.iscsi_session.specs.Steps.{as_given, enable_effects}
-use Rattle.iscsi_session.proofs.BoolLemmas.{and_parts, or_second}
+use Rattle.iscsi_history.proofs.BoolLemmas.{and_parts, or_second}
 
 -- a command is given
 pub record Given (unit ticket : ℕ) (ms : List Member) : Type 0 where

@@ -5,7 +5,7 @@ use Rattle.std.proofs.lemmas.Bool.{false≢true}
 use Rattle.iscsi_tasks.specs.declared.task.Task.{Task}
 use Rattle.iscsi_tasks.specs.declared.member.Member.{Member}
 use Rattle.iscsi_tasks.specs.Sets.{Queued, bars, is_free, queued, is_free_among, looked_at, after_moment, without}
-use Rattle.iscsi_session.proofs.BoolLemmas.{or_none, not_true}
+use Rattle.iscsi_history.proofs.BoolLemmas.{or_none, not_true}
 use Rattle.iscsi_session.proofs.EnabledLemmas.{filter-map, map-map}
 
 -- ---- who is free among more is free among fewer

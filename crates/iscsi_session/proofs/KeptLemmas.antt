@@ -12,10 +12,10 @@ use Rattle.iscsi_tasks.specs.Sets.{Members, opened, tasks_in, entered_to, left_b
 use Rattle.iscsi_session.specs.declared.session.live.Live.{Live}
 use Rattle.iscsi_session.specs.Standing.{Core, Match, are_ascending, are_within, tickets_of, tickets_in}
 use Rattle.iscsi_session.specs.Steps.{set_at, enabled_of, find_ticket, without_ticket, all_given, as_given, set_without}
-use Rattle.iscsi_session.proofs.BoolLemmas.{and_parts, and_both}
+use Rattle.iscsi_history.proofs.BoolLemmas.{and_parts, and_both}
 use Rattle.iscsi_session.proofs.EnabledLemmas.{filter-map, map-map}
 use Rattle.iscsi_session.proofs.CommandParts.{filter-swap}
-use Rattle.iscsi_session.proofs.ListLemmas.{list_all-filter, filter-shorter}
+use Rattle.iscsi_history.proofs.ListLemmas.{list_all-filter, filter-shorter}
 use Rattle.iscsi_session.proofs.WindowLemmas.{find-found}
 
 abbrev tickets : List Member → List ℕ

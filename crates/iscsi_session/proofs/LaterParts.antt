@@ -7,16 +7,16 @@ use Rattle.std.proofs.lemmas.Bool.Decides.{nat_tests}
 use Rattle.iscsi_tasks.specs.declared.task.Task.{Task}
 use Rattle.iscsi_tasks.specs.declared.member.Member.{Member}
 use Rattle.iscsi_tasks.specs.Sets.{Members, after_moment, is_covered}
-use Rattle.iscsi_session.specs.declared.effect.Effect.TheVariants.{Leave}
+use Rattle.iscsi_history.specs.declared.effect.Effect.TheVariants.{Leave}
 use Rattle.iscsi_session.specs.declared.session.leaving.Choice.{Choice}
 use Rattle.iscsi_session.specs.declared.session.leaving.Choice.TheVariants.{Covered, After, Ticket}
 use Rattle.iscsi_session.specs.declared.session.live.Live.{Live}
 use Rattle.iscsi_session.specs.Standing.{Core}
 use Rattle.iscsi_session.specs.Steps.{set_at}
 use Rattle.iscsi_session.specs.Functions.{is_gone, staying, set_staying, finished_by, with_left, leaving_effects, has_covered, chosen, later}
-use Rattle.iscsi_session.proofs.BoolLemmas.{and_parts, not_true}
-use Rattle.iscsi_session.proofs.ListLemmas.{any_all}
-use Rattle.iscsi_session.proofs.TraceLemmas.{filter-same}
+use Rattle.iscsi_history.proofs.BoolLemmas.{and_parts, not_true}
+use Rattle.iscsi_history.proofs.ListLemmas.{any_all}
+use Rattle.iscsi_history.proofs.TraceLemmas.{filter-same}
 use Rattle.iscsi_session.proofs.EnabledLemmas.{filter_all}
 
 -- ---- tests that agree

@@ -10,16 +10,16 @@ use Rattle.iscsi_window.specs.Windows.{Received, with_unfinished}
 use Rattle.iscsi_tasks.specs.declared.task.Task.{Task}
 use Rattle.iscsi_tasks.specs.declared.member.Member.{Member}
 use Rattle.iscsi_tasks.specs.Sets.{Members, opened, tasks_in, without, looked_at, after_moment, is_new}
-use Rattle.iscsi_session.specs.declared.effect.Effect.{Effect}
-use Rattle.iscsi_session.specs.declared.effect.Effect.TheVariants.{Leave}
+use Rattle.iscsi_history.specs.declared.effect.Effect.{Effect}
+use Rattle.iscsi_history.specs.declared.effect.Effect.TheVariants.{Leave}
 use Rattle.iscsi_session.specs.declared.session.live.Live.{Live}
 use Rattle.iscsi_session.specs.Standing.{Core, Match, are_ascending, tickets_of, tickets_in}
 use Rattle.iscsi_session.specs.Steps.{set_at, all_given, as_given, is_numbered, find_ticket, without_ticket}
 use Rattle.iscsi_session.specs.Functions.{is_gone, staying, set_staying, finished_by, with_left, leaving_effects, has_covered, covers_ticket, ungiven, ungiven_in, owed}
-use Rattle.iscsi_session.proofs.BoolLemmas.{and_parts, and_both, or_none, or_first, or_second, and_false}
-use Rattle.iscsi_session.proofs.ListLemmas.{list_any-map, count_by-map, fewer_counted, filter-shorter}
-use Rattle.iscsi_session.proofs.TraceLemmas.{filter-same, filter-true}
-use Rattle.iscsi_session.proofs.ApartLemmas.{eq_sym}
+use Rattle.iscsi_history.proofs.BoolLemmas.{and_parts, and_both, or_none, or_first, or_second, and_false}
+use Rattle.iscsi_history.proofs.ListLemmas.{list_any-map, count_by-map, fewer_counted, filter-shorter}
+use Rattle.iscsi_history.proofs.TraceLemmas.{filter-same, filter-true}
+use Rattle.iscsi_history.proofs.ApartLemmas.{eq_sym}
 use Rattle.iscsi_session.proofs.EnabledLemmas.{filter-map, filter-twice, map-map}
 use Rattle.iscsi_session.proofs.WindowLemmas.{fewer as fewer_all}
 use Rattle.iscsi_session.proofs.KeptLemmas.{tickets_in-left, other_kept}

@@ -10,29 +10,30 @@ use Rattle.iscsi_wire.specs.Fields.{connection_of, header_of, itt, function, cid
 use Rattle.iscsi_window.specs.Windows.{is_asked}
 use Rattle.iscsi_session.specs.declared.closing.Closing.{Closing}
 use Rattle.iscsi_session.specs.declared.closing.Closing.TheVariants.{Refused, Session, Conn}
-use Rattle.iscsi_session.specs.declared.effect.Effect.{Effect}
-use Rattle.iscsi_session.specs.declared.effect.Effect.TheVariants.{Leave, Empty, Send, CloseConn, CloseSession}
+use Rattle.iscsi_history.specs.declared.effect.Effect.{Effect}
+use Rattle.iscsi_history.specs.declared.effect.Effect.TheVariants.{Leave, Empty, Send, CloseConn, CloseSession}
 use Rattle.iscsi_session.specs.declared.session.waiting.Waiting.{Waiting}
-use Rattle.iscsi_session.specs.declared.verdict.Verdict.TheVariants.{Answer}
-use Rattle.iscsi_session.specs.Settings.{Setting, is_known}
-use Rattle.iscsi_session.specs.Trace.{Arrival, Command, Mark, Leaves, Empties, ClosesConn, ClosesSession, Trace, waiting, waiting_by, waiting_through, sent_on, closes_conn, closes_session, has, is_ended, is_closed}
-use Rattle.iscsi_session.specs.Execution.{NO_TAG, reply_on}
-use Rattle.iscsi_session.specs.Logout.{is_open, is_last_open, parting, end_session, close_conn, logout_marks}
-use Rattle.iscsi_session.specs.Management.{may_wait}
-use Rattle.iscsi_session.specs.Run.{effects_of_mark, effects_of_item, newly_enabled, stat_sn_of}
+use Rattle.iscsi_history.specs.declared.verdict.Verdict.TheVariants.{Answer}
+use Rattle.iscsi_history.specs.Settings.{Setting, is_known}
+use Rattle.iscsi_history.specs.Trace.{Arrival, Command, Mark, Leaves, Empties, ClosesConn, ClosesSession, Trace, waiting, waiting_by, waiting_through, sent_on, closes_conn, closes_session, has, is_ended, is_closed}
+use Rattle.iscsi_history.specs.Execution.{NO_TAG, reply_on}
+use Rattle.iscsi_history.specs.Logout.{is_open, is_last_open, parting, end_session, close_conn, logout_marks}
+use Rattle.iscsi_history.specs.Management.{may_wait}
+use Rattle.iscsi_history.specs.Run.{effects_of_mark, effects_of_item, newly_enabled, stat_sn_of}
 use Rattle.iscsi_session.specs.Standing.{Core, Agrees, WindowAgrees, RepliesAgree, CommandsAgree, arrival_waiting, open_of}
 use Rattle.iscsi_session.specs.Steps.{count_reply, reply_effects}
 use Rattle.iscsi_session.specs.Parting.{is_among_open, closing_by, units_of, covers_of, left_to, emptying_effects, still_open, session_closes, waiting_then, close_effects, all_enable_effects, parted, parting_effects, closed_as, closed_effects}
-use Rattle.iscsi_session.proofs.EnabledLemmas.{enables, filter-map}
+use Rattle.iscsi_history.proofs.MomentLemmas.{enables}
+use Rattle.iscsi_session.proofs.EnabledLemmas.{filter-map}
 use Rattle.iscsi_session.proofs.ReplyParts.{RepliesAgree-sent}
-use Rattle.iscsi_session.proofs.ListLemmas.{list_all-filter, list_any-map}
-use Rattle.iscsi_session.proofs.BoolLemmas.{or_false, or_second, and_false}
-use Rattle.iscsi_session.proofs.TraceLemmas.{filter-same}
+use Rattle.iscsi_history.proofs.ListLemmas.{list_all-filter, list_any-map}
+use Rattle.iscsi_history.proofs.BoolLemmas.{or_false, or_second, and_false}
+use Rattle.iscsi_history.proofs.TraceLemmas.{filter-same}
 use Rattle.iscsi_session.proofs.OpenConns.{closed-same, filtered_among}
 use Rattle.iscsi_session.proofs.PartedLemmas.{Keeps, left_keeps}
 use Rattle.iscsi_session.proofs.ExecutionLemmas.{Begun, Executed, answered}
-use Rattle.iscsi_session.proofs.DeliveryLemmas.{IsQuiet}
-use Rattle.iscsi_session.proofs.ApartLemmas.{eq_sym}
+use Rattle.iscsi_history.proofs.DeliveryLemmas.{IsQuiet}
+use Rattle.iscsi_history.proofs.ApartLemmas.{eq_sym}
 use Rattle.iscsi_session.proofs.EmptyingLemmas.{taken_requests, emptied_from-is}
 use Rattle.iscsi_session.proofs.PartingSets.{parting_commands, emptied_marks, closing_marks, PartsAt, PartsAt-begun, commands-parted, sets-parted, unfinished-parted, enabled-parted, leaving-parted, enabling-parted, end_session-is, close_conn-is}
 use Rattle.iscsi_session.proofs.PartedWindow.{quiet-closing, parted_window, parted_arrivals}

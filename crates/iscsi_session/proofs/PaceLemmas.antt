@@ -15,15 +15,15 @@ use Rattle.iscsi_session.specs.declared.patience.Patience.{Patience}
 use Rattle.iscsi_session.specs.declared.patience.Patience.TheVariants.{Now, Later, TooFar, TooMany}
 use Rattle.iscsi_session.specs.declared.session.live.Live.{Live}
 use Rattle.iscsi_session.specs.declared.session.waiting.Waiting.{Waiting}
-use Rattle.iscsi_session.specs.declared.verdict.Verdict.{Verdict}
-use Rattle.iscsi_session.specs.declared.verdict.Verdict.TheVariants.{Nothing, Answer, Enter}
-use Rattle.iscsi_session.specs.Execution.{unit_named}
-use Rattle.iscsi_session.specs.Management.{refusal_to}
+use Rattle.iscsi_history.specs.declared.verdict.Verdict.{Verdict}
+use Rattle.iscsi_history.specs.declared.verdict.Verdict.TheVariants.{Nothing, Answer, Enter}
+use Rattle.iscsi_history.specs.Execution.{unit_named}
+use Rattle.iscsi_history.specs.Management.{refusal_to}
 use Rattle.iscsi_session.specs.Standing.{Core}
 use Rattle.iscsi_session.specs.Steps.{KeepsPace, set_at, started, is_numbered, verdict_by, executed_as, with_reply}
 use Rattle.iscsi_session.specs.Functions.{is_gone, with_left, outcome_by, aborted, performed_as}
 use Rattle.iscsi_session.specs.Parting.{closing_by, closed_as}
-use Rattle.iscsi_session.proofs.ListLemmas.{fewer_counted}
+use Rattle.iscsi_history.proofs.ListLemmas.{fewer_counted}
 use Rattle.iscsi_session.proofs.PartedLemmas.{Parts, closed_parts}
 use Rattle.iscsi_session.specs.Turning.{performed, managed, position_by, with_executed, with_advanced, next_arrived, turned_if, without_waiting, next_position, function_if, immediate_as}
 

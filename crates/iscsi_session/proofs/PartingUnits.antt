@@ -6,14 +6,14 @@ use Rattle.std.proofs.lemmas.List.{get_or-set_same, get_or-set_other}
 use Rattle.iscsi_tasks.specs.declared.task.Task.{Task}
 use Rattle.iscsi_tasks.specs.declared.member.Member.{Member}
 use Rattle.iscsi_tasks.specs.Sets.{Members, opened}
-use Rattle.iscsi_session.specs.declared.effect.Effect.TheVariants.{Leave}
+use Rattle.iscsi_history.specs.declared.effect.Effect.TheVariants.{Leave}
 use Rattle.iscsi_session.specs.declared.session.live.Live.{Live}
 use Rattle.iscsi_session.specs.Standing.{Core}
 use Rattle.iscsi_session.specs.Steps.{set_at, is_numbered}
 use Rattle.iscsi_session.specs.Functions.{is_gone, set_staying, with_left, leaving_effects}
 use Rattle.iscsi_session.specs.Parting.{with_all_left, all_leaving_effects}
-use Rattle.iscsi_session.proofs.BoolLemmas.{or_first, or_second}
-use Rattle.iscsi_session.proofs.TraceLemmas.{filter-same, filter-true}
+use Rattle.iscsi_history.proofs.BoolLemmas.{or_first, or_second}
+use Rattle.iscsi_history.proofs.TraceLemmas.{filter-same, filter-true}
 use Rattle.iscsi_session.proofs.EnabledLemmas.{filter-twice}
 
 -- ---- functions over a range of numbers

@@ -1,11 +1,30 @@
 -- The first event of a run that is refused.
-use Rattle.std.proofs.Common.{◌≡◌, ℕ, ◌+◌, ◌<◌, ◌⊎◌, inl, inr, List, length, take, drop, get_or, Option, Some, None, Ok, Err, refl, ap, sym, ◌∙◌, arith, length-take}
-use Rattle.std.proofs.lemmas.List.{drop_more}
-use Rattle.iscsi_session.specs.declared.event.Event.{Event}
+use Rattle.std.proofs.Common.{◌≡◌, ℕ, ◌+◌, ◌&&◌, inl, not, cond, Bool, true, false, List, [], ◌∷◌, Option, Some, None, refl, ap, sym, ◌∙◌, nat_lt, ◌<◌, ◌⊎◌, inr, length, take, drop, get_or, Ok, Err, arith, length-take}
+use Rattle.std.specs.List.{list_all}
+use Rattle.iscsi_history.specs.declared.event.Event.{Event}
 use Rattle.iscsi_session.specs.declared.fault.SessionFault.{SessionFault}
-use Rattle.iscsi_session.specs.declared.fault.SessionFault.TheVariants.{NoMemory}
-use Rattle.iscsi_session.specs.Settings.{Setting}
-use Rattle.iscsi_session.specs.Refusals.{refusal_after, refusal_of, first_refusal, RefusesAs, RunRefusesAs}
+use Rattle.iscsi_session.specs.declared.fault.SessionFault.TheVariants.{UnknownConnection, Exhausted, NoMemory}
+use Rattle.iscsi_history.specs.Settings.{Setting}
+use Rattle.iscsi_history.specs.Run.{run_of}
+use Rattle.iscsi_history.specs.Agenda.{belongs}
+use Rattle.iscsi_session.specs.Refusals.{first_refusal, refusal_after, refusal_of, RefusesAs, RunRefusesAs}
+use Rattle.iscsi_history.specs.Closes.{ClosesHoldIn}
+use Rattle.std.proofs.lemmas.List.{drop_more}
+use Rattle.iscsi_history.proofs.CloseTheorem.{closes_hold_in}
+
+-- events of which none is refused come on the session's connections
+belongs_all : (o : Setting) (taken : ℕ) (h : List Event) → first_refusal o taken h ≡ None → list_all (belongs o) h ≡ true
+belongs_all o taken [] none = refl
+belongs_all o taken (e ∷ h) none = by_tests (λ rest. belongs_all o (taken + 1) h rest) (belongs o e) (nat_lt taken o.events) none
+  where
+    by_tests : (first_refusal o (taken + 1) h ≡ None → list_all (belongs o) h ≡ true) → (b c : Bool) → (let x : Option SessionFault = elim (cond (not b) (Some UnknownConnection) (cond c None (Some Exhausted))) [ Some fault ↦ Some fault | None ↦ first_refusal o (taken + 1) h ] in x) ≡ None → (b && list_all (belongs o) h) ≡ true
+    by_tests later true true k = later k
+    by_tests later true false k = absurd cc
+    by_tests later false c k = absurd cc
+
+-- for every list of events that a session takes, and for its log
+pub closes_hold_run : (o : Setting) (h : List Event) → first_refusal o 0 h ≡ None → ClosesHoldIn o h (run_of o h)
+closes_hold_run o h none = closes_hold_in o h (belongs_all o 0 h none)
 
 abbrev first_of_two : Option SessionFault → Option SessionFault → Option SessionFault
 first_of_two x y = elim x [ Some fault ↦ Some fault | None ↦ y ]

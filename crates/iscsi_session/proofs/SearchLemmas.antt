@@ -11,7 +11,7 @@ use Rattle.std.proofs.lemmas.List.Elements.{All-head, All-tail}
 use Rattle.iscsi_session.specs.declared.session.live.Live.{Live}
 use Rattle.iscsi_session.specs.Standing.{are_ascending}
 use Rattle.iscsi_session.specs.Steps.{IsTicketPlace, find_ticket, without_ticket}
-use Rattle.iscsi_session.proofs.BoolLemmas.{and_first, and_second}
+use Rattle.iscsi_history.proofs.BoolLemmas.{and_first, and_second}
 
 above_at : (ticket : ℕ) (lives : List Live) → list_all (λ m. nat_lt ticket m.ticket) lives ≡ true → All (λ l. ticket < l.ticket) lives
 above_at ticket [] h k d within = absurd (omega arith)

@@ -7,12 +7,13 @@ use Rattle.iscsi_tasks.specs.declared.task.Task.{Task}
 use Rattle.iscsi_tasks.specs.declared.member.Member.{Member}
 use Rattle.iscsi_tasks.specs.Sets.{Members, opened, tasks_in, entered_to, left_by, with_ticket, without, after_moment, next_in, given_by}
 use Rattle.iscsi_session.specs.declared.session.live.Live.{Live}
-use Rattle.iscsi_session.specs.Settings.{Setting}
-use Rattle.iscsi_session.specs.Trace.{Command, Mark, Trace, live, live_in, is_among}
-use Rattle.iscsi_session.specs.Run.{newly_enabled}
+use Rattle.iscsi_history.specs.Settings.{Setting}
+use Rattle.iscsi_history.specs.Trace.{Command, Mark, Trace, live, live_in, is_among}
+use Rattle.iscsi_history.specs.Run.{newly_enabled}
 use Rattle.iscsi_session.specs.Standing.{task_of, member_of, set_of, SetsAgree, CommandsAgree}
 use Rattle.iscsi_session.specs.Steps.{all_given, as_given, enable_effects, enable_effect}
-use Rattle.iscsi_session.proofs.EnabledLemmas.{filter-map, noted_given, noted_effects, enables, newly-none, newly-one, set_of-same, never_free, EnteredSet, set-entered}
+use Rattle.iscsi_session.proofs.EnabledLemmas.{filter-map, noted_given, noted_effects, newly-none, newly-one, set_of-same, never_free, EnteredSet, set-entered}
+use Rattle.iscsi_history.proofs.MomentLemmas.{enables}
 use Rattle.iscsi_session.proofs.CommandParts.{Untouched, live_in-untouched, EntersOne, live_in-entered, live_in-elsewhere, LeavesSome, live_in-left, live_in-left_elsewhere, are_all_in}
 
 pub SetsAgree-untouched : (o : Setting) (sets : List Members) (t : Trace) (item : List Mark) → Untouched item → SetsAgree o sets t → SetsAgree o sets (item ∷ t)

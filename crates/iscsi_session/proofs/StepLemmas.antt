@@ -15,32 +15,33 @@ use Rattle.iscsi_window.specs.declared.answer.Place.TheVariants.{Inside, Outside
 use Rattle.iscsi_tasks.specs.declared.member.Member.{Member}
 use Rattle.iscsi_tasks.specs.Sets.{Members, is_enabled_in}
 use Rattle.iscsi_window.specs.Windows.{Received, with_unfinished, number_expected, room_of, at_place, place_at, offer_at, offer_to, received_at, offered_to, with_place, place_in}
-use Rattle.iscsi_session.specs.declared.effect.Effect.{Effect}
-use Rattle.iscsi_session.specs.declared.effect.Effect.TheVariants.{Leave, Send, Ignore}
-use Rattle.iscsi_session.specs.declared.effect.Why.TheVariants.{Outside, Duplicate, Stale}
-use Rattle.iscsi_session.specs.declared.event.Event.{Event}
-use Rattle.iscsi_session.specs.declared.event.Event.TheVariants.{Arrive, Done}
+use Rattle.iscsi_history.specs.declared.effect.Effect.{Effect}
+use Rattle.iscsi_history.specs.declared.effect.Effect.TheVariants.{Leave, Send, Ignore}
+use Rattle.iscsi_history.specs.declared.effect.Why.TheVariants.{Outside, Duplicate, Stale}
+use Rattle.iscsi_history.specs.declared.event.Event.{Event}
+use Rattle.iscsi_history.specs.declared.event.Event.TheVariants.{Arrive, Done}
 use Rattle.iscsi_session.specs.declared.session.live.Live.{Live}
 use Rattle.iscsi_session.specs.declared.fault.SessionFault.TheVariants.{UnknownConnection, Exhausted}
-use Rattle.iscsi_session.specs.Settings.{Setting, is_known}
-use Rattle.iscsi_session.specs.Trace.{Arrival, Command, Mark, Admits, Leaves, Trace, first_of, is_received, held, live, live_in, was_free, is_among}
-use Rattle.iscsi_session.specs.Execution.{exp_of, max_of, unfinished, ignored, completion, sense_of_status, reply_on}
-use Rattle.iscsi_session.specs.Agenda.{with_turns, numbered, arrival_of, command_of, items_of}
-use Rattle.iscsi_session.specs.Items.{agenda}
-use Rattle.iscsi_session.specs.Run.{stat_sn_of, newly_enabled, effects_of, trace_of}
-use Rattle.iscsi_session.specs.Refusals.{belongs, refusal_of}
+use Rattle.iscsi_history.specs.Settings.{Setting, is_known}
+use Rattle.iscsi_history.specs.Trace.{Arrival, Command, Mark, Admits, Leaves, Trace, first_of, is_received, held, live, live_in, was_free, is_among}
+use Rattle.iscsi_history.specs.Execution.{exp_of, max_of, unfinished, ignored, completion, sense_of_status, reply_on}
+use Rattle.iscsi_history.specs.Agenda.{with_turns, numbered, arrival_of, command_of, items_of}
+use Rattle.iscsi_history.specs.Items.{agenda}
+use Rattle.iscsi_history.specs.Run.{stat_sn_of, newly_enabled, effects_of, trace_of}
+use Rattle.iscsi_history.specs.Agenda.{belongs}
+use Rattle.iscsi_session.specs.Refusals.{refusal_of}
 use Rattle.iscsi_session.specs.Standing.{Core, CommandsAgree, place_of, kept, is_regular, is_regular_request, member_of, WindowAgrees, Agrees, Settled, StandsFor, ArrivalsAgree}
 use Rattle.iscsi_session.specs.Steps.{set_at, set_left, enable_effects, finished, with_offered, comes_on, refusal_by, find_ticket, without_ticket, enabled_of, find_enabled, without_command, leave_effects, after_completion, completion_effects, counted, noted_at}
 use Rattle.iscsi_session.proofs.OpenConns.{open_of-same}
-use Rattle.iscsi_session.proofs.BoolLemmas.{and_parts, and_both, or_false, and_true}
+use Rattle.iscsi_history.proofs.BoolLemmas.{and_parts, and_both, or_false, and_true}
 use Rattle.iscsi_session.proofs.NumberLemmas.{wire-lift}
-use Rattle.iscsi_session.proofs.ListLemmas.{list_any-map, is_known-cids}
-use Rattle.iscsi_session.proofs.ApartLemmas.{eq_sym, count-without, one_unit}
-use Rattle.iscsi_session.proofs.TraceLemmas.{all_among}
-use Rattle.iscsi_session.proofs.DeliveryLemmas.{IsQuiet}
+use Rattle.iscsi_history.proofs.ListLemmas.{list_any-map, is_known-cids}
+use Rattle.iscsi_history.proofs.ApartLemmas.{eq_sym, count-without, one_unit}
+use Rattle.iscsi_history.proofs.TraceLemmas.{all_among}
+use Rattle.iscsi_history.proofs.DeliveryLemmas.{IsQuiet}
 use Rattle.iscsi_session.proofs.WindowParts.{WindowAgrees-quiet, WindowAgrees-finished, with_held}
 use Rattle.iscsi_session.proofs.ReplyParts.{RepliesAgree-sent}
-use Rattle.iscsi_session.proofs.EnabledLemmas.{enables}
+use Rattle.iscsi_history.proofs.MomentLemmas.{enables}
 use Rattle.iscsi_session.proofs.CommandParts.{LeavesSome, live-left, CommandsAgree-left, live_early, find_kept, first_passing, none_passing}
 use Rattle.iscsi_session.proofs.EnablingLemmas.{EnabledSoFar-left}
 use Rattle.iscsi_session.proofs.SetParts.{SetLeaving, SetsAgree-left, left_by-one, newly-untouched}

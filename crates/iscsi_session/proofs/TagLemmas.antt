@@ -7,7 +7,7 @@ use Rattle.std.proofs.lemmas.List.Folds.{list_any_none}
 use Rattle.iscsi_session.specs.declared.session.live.Live.{Live}
 use Rattle.iscsi_session.specs.Standing.{are_ascending}
 use Rattle.iscsi_session.specs.Steps.{find_ticket}
-use Rattle.iscsi_session.proofs.BoolLemmas.{or_none, and_false, or_second}
+use Rattle.iscsi_history.proofs.BoolLemmas.{or_none, and_false, or_second}
 use Rattle.iscsi_session.proofs.SearchLemmas.{later, rest, found_at}
 
 -- each command is found by its tag in f

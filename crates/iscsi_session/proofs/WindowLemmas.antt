@@ -15,7 +15,7 @@ use Rattle.iscsi_window.specs.declared.answer.Offer.TheVariants.{Held, Duplicate
 use Rattle.iscsi_window.specs.declared.answer.Place.{Place}
 use Rattle.iscsi_window.specs.declared.answer.Place.TheVariants.{Inside, Outside as NoPlace}
 use Rattle.iscsi_window.specs.Windows.{Received, number_expected, room_of, at_place, advanced, advanced_if, turned_by, offer_at, offer_to, place_in, IsInside, held_at, is_received_at, received_at, offered_to, voided, emptied, emptied_if, with_place}
-use Rattle.iscsi_session.proofs.BoolLemmas.{and_parts, and_both}
+use Rattle.iscsi_history.proofs.BoolLemmas.{and_parts, and_both}
 
 -- ---- counts
 

@@ -1,23 +1,30 @@
 -- A window that agrees with what has happened agrees after one item more.
-use Rattle.std.proofs.Common.{◌≡◌, ℕ, zero, suc, ◌+◌, ◌-◌, ◌<◌, ◌≤◌, ◌==◌, ◌||◌, ⊎_elim, cond, Bool, true, false, List, [], ◌∷◌, ◌++◌, length, drop, get_or, set, Option, Some, None, option_map, refl, ap, sym, ◌∙◌, arith, eq-eqb, length-set, length-drop}
+use Rattle.std.proofs.Common.{◌≡◌, ℕ, zero, suc, ◌+◌, ◌-◌, ◌<◌, ◌≤◌, ◌||◌, cond, false, List, [], ◌∷◌, ◌++◌, Some, None, option_map, refl, ap, sym, ◌∙◌, arith, ◌==◌, ⊎_elim, Bool, true, length, drop, get_or, set, Option, eq-eqb, length-set, length-drop}
 use Rattle.std.specs.List.{list_any, cons_option}
+use Rattle.std.proofs.lemmas.List.{append-nil, length_push, get_or_append_left, get_or-drop, get_or-set_same, get_or-set_other}
+use Rattle.iscsi_wire.specs.declared.request.Request.{Request}
+use Rattle.iscsi_wire.specs.Serial.{number_of_first, wire}
+use Rattle.iscsi_history.specs.Settings.{Setting}
+use Rattle.iscsi_history.specs.Trace.{Arrival, Mark, Admits, Delivers, Trace, shown, first_of, received, contains, is_received, delivers_number, is_delivered, is_emptied, held, admits_at, admitted}
+use Rattle.iscsi_history.specs.Executed.{request_at, executed_below, delivers}
+use Rattle.iscsi_session.specs.Standing.{place_of, is_regular_request, WindowAgrees}
 use Rattle.std.proofs.lemmas.Bool.{cases_lt, cases_eq, false≢true}
 use Rattle.std.proofs.lemmas.Bool.Decides.{nat_tests}
-use Rattle.std.proofs.lemmas.List.{append-nil, length_push, get_or_append_left, get_or-drop, get_or-set_same, get_or-set_other}
 use Rattle.std.proofs.lemmas.List.Folds.{list_any-append}
-use Rattle.iscsi_wire.specs.declared.request.Request.{Request}
-use Rattle.iscsi_wire.specs.Serial.{wire, number_of_first}
 use Rattle.iscsi_wire.specs.Fields.{cmd_sn}
 use Rattle.iscsi_window.specs.Windows.{Received, number_expected, room_of, at_place, with_place, with_unfinished}
-use Rattle.iscsi_session.specs.Settings.{Setting}
-use Rattle.iscsi_session.specs.Trace.{Arrival, Mark, Admits, Delivers, Trace, shown, first_of, received, contains, is_received, delivers_number, is_delivered, is_emptied, held, admitted, admits_at}
-use Rattle.iscsi_session.specs.Execution.{exp_of}
-use Rattle.iscsi_session.specs.Executed.{delivers, request_at, executed_below}
-use Rattle.iscsi_session.specs.Standing.{place_of, is_regular_request, WindowAgrees}
-use Rattle.iscsi_session.proofs.BoolLemmas.{or_none, or_second, or_false}
-use Rattle.iscsi_session.proofs.Missing.{expected_is, expected_low, expected_gone}
-use Rattle.iscsi_session.proofs.HeldLemmas.{held-delivered, admitted-number, admitted-cases, admitted-admits, held-admits, held-here, held-number, held-turned, request_at-turned, admitted_of_held, held_unemptied}
-use Rattle.iscsi_session.proofs.DeliveryLemmas.{held-quiet, IsQuiet, same_range, received-quiet, place_of-quiet, executed_below-quiet, delivered-quiet, admitted-quiet, executed_below-more}
+use Rattle.iscsi_history.specs.Execution.{exp_of}
+use Rattle.iscsi_history.proofs.BoolLemmas.{or_none, or_second, or_false}
+use Rattle.iscsi_history.proofs.Missing.{expected_is, expected_low, expected_gone}
+use Rattle.iscsi_history.proofs.HeldLemmas.{held-delivered, admitted-number, admitted-cases, admitted-admits, held-admits, held-here, held-number, held-turned, request_at-turned, admitted_of_held, held_unemptied}
+use Rattle.iscsi_history.proofs.DeliveryLemmas.{held-quiet, IsQuiet, same_range, received-quiet, executed_below-quiet, delivered-quiet, admitted-quiet, executed_below-more}
+
+-- the window keeps the same of each number
+pub place_of-quiet : (item : List Mark) (t : Trace) (n : ℕ) → IsQuiet item → place_of (item ∷ t) n ≡ place_of t n
+place_of-quiet item t n q =
+    ap (λ ns. cond (contains ns n) (Some (option_map (λ (a : Arrival). a.request) (held (item ∷ t) n))) None) (received-quiet item t q)
+    ∙ ap (λ x. cond (is_received t n) (Some (option_map (λ (a : Arrival). a.request) x)) None)
+    (held-quiet item t n q)
 
 -- ---- the next number
 

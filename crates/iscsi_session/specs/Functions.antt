@@ -12,8 +12,8 @@ use Rattle.iscsi_window.specs.Windows.{Received, number_expected, place_in, is_r
 use Rattle.iscsi_tasks.specs.declared.task.Task.{Task}
 use Rattle.iscsi_tasks.specs.declared.cover.Cover.TheVariants.{All as AllOfThem, Below}
 use Rattle.iscsi_tasks.specs.Sets.{Members, after_moment, is_covered, is_covered_after}
-use Rattle.iscsi_session.specs.declared.effect.Effect.{Effect}
-use Rattle.iscsi_session.specs.declared.effect.Effect.TheVariants.{Void, Empty, Leave}
+use Rattle.iscsi_history.specs.declared.effect.Effect.{Effect}
+use Rattle.iscsi_history.specs.declared.effect.Effect.TheVariants.{Void, Empty, Leave}
 use Rattle.iscsi_session.specs.declared.outcome.Outcome.{Outcome}
 use Rattle.iscsi_session.specs.declared.outcome.Outcome.TheVariants.{Respond, Abort, AbortAll, Empty as EmptyNumber, Void as VoidNumber}
 use Rattle.iscsi_session.specs.declared.session.leaving.Choice.{Choice}

@@ -1,16 +1,4 @@
 pub mod Settings
-pub mod Trace
-pub mod Execution
-pub mod Management
-pub mod Logout
-pub mod Items
-pub mod Agenda
-pub mod Run
-pub mod Executed
-pub mod Flow
-pub mod Enabling
-pub mod Aborts
-pub mod Closes
 pub mod Refusals
 pub mod Lines
 pub mod Standing
@@ -18,4 +6,3 @@ pub mod Steps
 pub mod Functions
 pub mod Parting
 pub mod Turning
-pub mod Rows

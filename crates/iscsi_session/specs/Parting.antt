@@ -10,12 +10,12 @@ use Rattle.iscsi_tasks.specs.declared.task.Task.{Task}
 use Rattle.iscsi_tasks.specs.declared.cover.Cover.{Cover}
 use Rattle.iscsi_tasks.specs.declared.cover.Cover.TheVariants.{All as AllOfThem, Conn as OfConn}
 use Rattle.iscsi_tasks.specs.Sets.{is_covered}
-use Rattle.iscsi_session.specs.declared.effect.Effect.{Effect}
-use Rattle.iscsi_session.specs.declared.effect.Effect.TheVariants.{Empty, CloseConn, CloseSession}
+use Rattle.iscsi_history.specs.declared.effect.Effect.{Effect}
+use Rattle.iscsi_history.specs.declared.effect.Effect.TheVariants.{Empty, CloseConn, CloseSession}
 use Rattle.iscsi_session.specs.declared.closing.Closing.{Closing}
 use Rattle.iscsi_session.specs.declared.closing.Closing.TheVariants.{Refused, Session, Conn}
 use Rattle.iscsi_session.specs.declared.session.waiting.Waiting.{Waiting}
-use Rattle.iscsi_session.specs.Execution.{NO_TAG}
+use Rattle.iscsi_history.specs.Execution.{NO_TAG}
 use Rattle.iscsi_session.specs.Standing.{Core}
 use Rattle.iscsi_session.specs.Steps.{set_at, all_given, enable_effects, with_reply, reply_effects}
 use Rattle.iscsi_session.specs.Functions.{with_left, leaving_effects}

@@ -1,15 +1,10 @@
 -- Which events and options a session refuses, and why.
-use Rattle.std.specs.Prelude.{◌≡◌, ℕ, ◌+◌, not, nat_lt, Bool, true, List, [], ◌∷◌, length, Option, Some, None, Result, Ok, Err, ⊤, ◌⊎◌, if◌then◌else◌}
-use Rattle.iscsi_session.specs.declared.event.Event.{Event}
-use Rattle.iscsi_session.specs.declared.event.Event.TheVariants.{Arrive, Done}
+use Rattle.std.specs.Prelude.{◌≡◌, ℕ, ◌+◌, not, nat_lt, List, [], ◌∷◌, length, Option, Some, None, Result, Ok, Err, ⊤, ◌⊎◌, if◌then◌else◌}
+use Rattle.iscsi_history.specs.declared.event.Event.{Event}
 use Rattle.iscsi_session.specs.declared.fault.SessionFault.{SessionFault}
 use Rattle.iscsi_session.specs.declared.fault.SessionFault.TheVariants.{BadOptions, NoMemory, UnknownConnection, Exhausted}
-use Rattle.iscsi_session.specs.Settings.{Setting, is_known, is_valid}
-
--- an arrival comes on a connection of the session
-abbrev pub belongs : Setting → Event → Bool
-belongs o (Arrive conn header) = is_known conn o.conns
-belongs o (Done ticket status) = true
+use Rattle.iscsi_history.specs.Settings.{Setting, is_valid}
+use Rattle.iscsi_history.specs.Agenda.{belongs}
 
 -- why the event is refused after so many events
 abbrev pub refusal_after : Setting → ℕ → Event → Option SessionFault

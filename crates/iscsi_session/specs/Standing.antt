@@ -8,17 +8,17 @@ use Rattle.iscsi_window.specs.Received.{Received, number_expected}
 use Rattle.iscsi_tasks.specs.declared.task.Task.{Task}
 use Rattle.iscsi_tasks.specs.declared.member.Member.{Member}
 use Rattle.iscsi_tasks.specs.Sets.{Members, opened}
-use Rattle.iscsi_session.specs.declared.event.Event.{Event}
+use Rattle.iscsi_history.specs.declared.event.Event.{Event}
 use Rattle.iscsi_session.specs.declared.session.live.Live.{Live}
 use Rattle.iscsi_session.specs.declared.session.waiting.Waiting.{Waiting}
-use Rattle.iscsi_session.specs.Settings.{Setting, is_known}
-use Rattle.iscsi_session.specs.Trace.{Arrival, Command, Trace, has, shown, waiting, held, admitted, is_received, is_delivered, is_emptied, entered, live, live_in, was_free, is_among, leaves_ticket}
-use Rattle.iscsi_session.specs.Execution.{exp_of, unfinished}
-use Rattle.iscsi_session.specs.Management.{may_wait}
-use Rattle.iscsi_session.specs.Logout.{is_open}
-use Rattle.iscsi_session.specs.Run.{trace_of, stat_sn_of}
-use Rattle.iscsi_session.specs.Executed.{executed_below, delivers}
-use Rattle.iscsi_session.specs.Enabling.{EnabledSoFar}
+use Rattle.iscsi_history.specs.Settings.{Setting, is_known}
+use Rattle.iscsi_history.specs.Trace.{Arrival, Command, Trace, has, shown, waiting, held, admitted, is_received, is_delivered, is_emptied, entered, live, live_in, was_free, is_among, leaves_ticket, are_apart}
+use Rattle.iscsi_history.specs.Execution.{exp_of, unfinished}
+use Rattle.iscsi_history.specs.Management.{may_wait}
+use Rattle.iscsi_history.specs.Logout.{is_open}
+use Rattle.iscsi_history.specs.Run.{trace_of, stat_sn_of}
+use Rattle.iscsi_history.specs.Executed.{executed_below, delivers}
+use Rattle.iscsi_history.specs.Enabling.{EnabledSoFar}
 
 -- what a session keeps
 pub record Core : Type 0 where
@@ -108,11 +108,6 @@ are_ascending (l ∷ ls) = list_all (λ m. nat_lt l.ticket m.ticket) ls && are_a
 
 abbrev pub are_within : ℕ → ℕ → List Live → Bool
 are_within entered units live = list_all (λ l. nat_le l.ticket entered && nat_lt l.unit units) live
-
--- no two of the commands have one ticket
-abbrev pub are_apart : List Command → Bool
-are_apart [] = true
-are_apart (c ∷ cs) = not (is_among c.ticket cs) && are_apart cs
 
 -- ---- a session agrees with what has happened, where some turns may be due yet
 

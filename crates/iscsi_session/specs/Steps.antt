@@ -14,19 +14,19 @@ use Rattle.iscsi_window.specs.Windows.{Received, number_expected, number_last, p
 use Rattle.iscsi_tasks.specs.declared.task.Task.{Task}
 use Rattle.iscsi_tasks.specs.declared.member.Member.{Member}
 use Rattle.iscsi_tasks.specs.Sets.{Members, tasks_in, opened as opened_set, entered_to, left_by, with_ticket, is_enabled_in, is_new, next_in, given_by}
-use Rattle.iscsi_session.specs.declared.effect.Why.TheVariants.{Stale}
-use Rattle.iscsi_session.specs.declared.effect.Effect.{Effect}
-use Rattle.iscsi_session.specs.declared.effect.Effect.TheVariants.{Enter, Enable, Leave, Send, Ignore}
-use Rattle.iscsi_session.specs.declared.effect.Numbers.{Numbers}
-use Rattle.iscsi_session.specs.declared.event.Event.{Event}
-use Rattle.iscsi_session.specs.declared.event.Event.TheVariants.{Arrive, Done}
+use Rattle.iscsi_history.specs.declared.effect.Why.TheVariants.{Stale}
+use Rattle.iscsi_history.specs.declared.effect.Effect.{Effect}
+use Rattle.iscsi_history.specs.declared.effect.Effect.TheVariants.{Enter, Enable, Leave, Send, Ignore}
+use Rattle.iscsi_history.specs.declared.effect.Numbers.{Numbers}
+use Rattle.iscsi_history.specs.declared.event.Event.{Event}
+use Rattle.iscsi_history.specs.declared.event.Event.TheVariants.{Arrive, Done}
 use Rattle.iscsi_session.specs.declared.fault.SessionFault.{SessionFault}
 use Rattle.iscsi_session.specs.declared.fault.SessionFault.TheVariants.{UnknownConnection, Exhausted}
 use Rattle.iscsi_session.specs.declared.session.live.Live.{Live}
-use Rattle.iscsi_session.specs.declared.verdict.Verdict.{Verdict}
-use Rattle.iscsi_session.specs.declared.verdict.Verdict.TheVariants.{Nothing, Answer, Enter as EnterUnit}
-use Rattle.iscsi_session.specs.Settings.{is_known}
-use Rattle.iscsi_session.specs.Execution.{sense_of_status, unit_named, attr_of, MOST_IMMEDIATE, request_verdict}
+use Rattle.iscsi_history.specs.declared.verdict.Verdict.{Verdict}
+use Rattle.iscsi_history.specs.declared.verdict.Verdict.TheVariants.{Nothing, Answer, Enter as EnterUnit}
+use Rattle.iscsi_history.specs.Settings.{is_known}
+use Rattle.iscsi_history.specs.Execution.{sense_of_status, unit_named, attr_of, MOST_IMMEDIATE, request_verdict}
 use Rattle.iscsi_session.specs.Standing.{Core, stat_sn_on}
 
 -- ---- refusals

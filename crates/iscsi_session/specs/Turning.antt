@@ -6,13 +6,13 @@ use Rattle.iscsi_wire.specs.declared.request.Request.{Request}
 use Rattle.iscsi_wire.specs.Serial.{lift, number_of_first}
 use Rattle.iscsi_wire.specs.Fields.{connection_of, header_of, opcode, itt, cmd_sn}
 use Rattle.iscsi_window.specs.Windows.{number_expected, room_of, advanced}
-use Rattle.iscsi_session.specs.declared.effect.Effect.{Effect}
-use Rattle.iscsi_session.specs.declared.effect.Effect.TheVariants.{Deliver, Immediate, Wait}
+use Rattle.iscsi_history.specs.declared.effect.Effect.{Effect}
+use Rattle.iscsi_history.specs.declared.effect.Effect.TheVariants.{Deliver, Immediate, Wait}
 use Rattle.iscsi_session.specs.declared.patience.Patience.{Patience}
 use Rattle.iscsi_session.specs.declared.patience.Patience.TheVariants.{Now, Later, TooFar, TooMany}
 use Rattle.iscsi_session.specs.declared.session.waiting.Waiting.{Waiting}
-use Rattle.iscsi_session.specs.Execution.{unit_named}
-use Rattle.iscsi_session.specs.Management.{may_wait, refusal_to, MOST_WAITING}
+use Rattle.iscsi_history.specs.Execution.{unit_named}
+use Rattle.iscsi_history.specs.Management.{may_wait, refusal_to, MOST_WAITING}
 use Rattle.iscsi_session.specs.Standing.{Core}
 use Rattle.iscsi_session.specs.Steps.{with_reply, reply_effects, verdict_by, number_by, executed_as, execution_effects}
 use Rattle.iscsi_session.specs.Functions.{outcome_by, performed_as, performance_effects}

@@ -1,20 +1,10 @@
-//! What becomes of a request by its opcode.
+//! The opcodes, and what becomes of a request by its own.
 
 ghost use Rattle.std.specs.Prelude.{◌≡◌};
-ghost use Rattle.iscsi_session.specs.Agenda.{kind_of as kind_named};
+ghost use Rattle.iscsi_history.specs.Agenda.{kind_of as kind_named};
 
+use iscsi_history::Kind;
 use iscsi_wire::Request;
-
-/// What becomes of a request by its opcode (RFC 7143 section 11.2.1.2).
-#[derive(Clone, Copy)]
-pub enum Kind {
-    /// It is passed over.
-    PassedOver,
-    /// It is rejected, and no number is looked at.
-    Unknown,
-    /// It executes: an immediate one at once, a numbered one when its turn comes.
-    Executes,
-}
 
 /// NOP-Out.
 pub(crate) const NOP_OUT: u8 = 0x00;

@@ -3,8 +3,6 @@
 #![tactic(auto)]
 
 mod closing;
-mod effect;
-mod event;
 mod fault;
 mod kind;
 mod log;
@@ -13,13 +11,11 @@ mod outcome;
 mod patience;
 mod report;
 mod session;
-mod verdict;
 
-pub use effect::{Effect, Numbers, Why};
-pub use event::Event;
 pub use fault::SessionFault;
+pub use iscsi_history::{Effect, Effects, Entry, Event, Log, Numbers, Why};
 pub use iscsi_tasks::Attr;
-pub use log::{Effects, Entry, Log, run};
+pub use log::run;
 pub use options::Options;
 pub use report::{LONGEST_LINE, put_effect, put_event};
 pub use session::Session;

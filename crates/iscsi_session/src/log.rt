@@ -2,71 +2,19 @@
 
 ghost use Rattle.std.specs.Prelude.{◌≡◌, IfOk};
 ghost use Rattle.iscsi_session.specs.Settings.{setting_of};
-ghost use Rattle.iscsi_session.specs.Run.{run_of};
-ghost use Rattle.iscsi_session.specs.Executed.{executed, delivered};
-ghost use Rattle.iscsi_session.specs.Flow.{FlowsThrough};
-ghost use Rattle.iscsi_session.specs.Enabling.{EnablesByTheRule};
-ghost use Rattle.iscsi_session.specs.Aborts.{AbortsHoldIn};
-ghost use Rattle.iscsi_session.specs.Closes.{ClosesHoldIn};
+ghost use Rattle.iscsi_history.specs.Run.{run_of};
+ghost use Rattle.iscsi_history.specs.Executed.{executed, delivered};
+ghost use Rattle.iscsi_history.specs.Flow.{FlowsThrough};
+ghost use Rattle.iscsi_history.specs.Enabling.{EnablesByTheRule};
+ghost use Rattle.iscsi_history.specs.Aborts.{AbortsHoldIn};
+ghost use Rattle.iscsi_history.specs.Closes.{ClosesHoldIn};
 ghost use Rattle.iscsi_session.specs.Refusals.{RunRefusesAs, refusal_of_options, first_refusal};
 
-use crate::effect::{Effect, Numbers};
-use crate::event::Event;
 use crate::fault::SessionFault;
 use crate::options::Options;
 use crate::session::Session;
+use iscsi_history::{Effects, Entry, Event, Log};
 use std::alloc::Global;
-use std::marker::Model;
-
-/// The effects of an event, in order.
-#[derive(Drop)]
-pub struct Effects {
-    list: Vec<Effect>,
-}
-
-impl Model for Effects {
-    ghost use Rattle.std.specs.Prelude.{List};
-    ghost use Rattle.iscsi_session.specs.declared.effect.Effect.{Effect};
-
-    ghost Value = { List Effect };
-
-    ghost view = { λ e. e.list.items };
-}
-
-impl Effects {
-    /// The effects of a list, without memory.
-    pub fn from_vec(list: Vec<Effect>) -> Effects
-        ensures { result ≡ list.items }
-    {
-        Effects { list }
-    }
-
-    /// The list of the effects, without memory.
-    pub fn into_vec(self) -> Vec<Effect>
-        ensures { result.items ≡ self }
-    {
-        let Self { list } = self;
-        list
-    }
-
-    /// The effects, in order.
-    pub fn as_slice(&self) -> &[Effect]
-        ensures { result.now ≡ self.now }
-    {
-        self.list.as_slice()
-    }
-}
-
-/// What one event came to.
-#[derive(Drop)]
-pub struct Entry {
-    /// ExpCmdSN and MaxCmdSN at its end.
-    pub numbers: Numbers,
-    pub effects: Effects,
-}
-
-/// One entry for each event.
-pub type Log = Vec<Entry>;
 
 /// Opens a session and takes the events, one after the other.
 ///

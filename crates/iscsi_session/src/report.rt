@@ -5,9 +5,8 @@ ghost use Rattle.hex.specs.Hex.{encode_lower};
 ghost use Rattle.iscsi_wire.specs.Pdus.{pdu_header, pdu_tail};
 ghost use Rattle.iscsi_session.specs.Lines.{eight_digits, event_line, request_fields, enter_fields, attr_word, why_word, effect_text, effect_line};
 
-use crate::effect::{Effect, Numbers, Why};
-use crate::event::Event;
 use crate::fault::SessionFault;
+use iscsi_history::{Effect, Event, Numbers, Why};
 use iscsi_tasks::Attr;
 use iscsi_wire::{Pdu, Reply, Request};
 use itoa::Buffer;

@@ -2,24 +2,24 @@
 
 ghost use Rattle.std.specs.Prelude.{IfSome, Err, ◌*◌, ◌≡◌, ◌≢◌, ℕ, ◌+◌, ◌≤◌, ◌<◌, true, List, [], ◌∷◌, ◌++◌, OnOk, OnErr, IfOk, length, nat_lt, count_by, is_some, vec_len, vec_capacity};
 ghost use Rattle.std.specs.List.{list_all};
-ghost use Rattle.iscsi_session.specs.Settings.{Setting, setting_of, is_valid};
-ghost use Rattle.iscsi_session.specs.Trace.{Trace, after_items, received};
+ghost use Rattle.iscsi_history.specs.Settings.{Setting, is_valid};
+ghost use Rattle.iscsi_session.specs.Settings.{setting_of};
+ghost use Rattle.iscsi_history.specs.Trace.{Trace, after_items, received};
 ghost use Rattle.std.specs.VecDeque.{deque_capacity};
-ghost use Rattle.iscsi_session.specs.Agenda.{arrival, items_of};
-ghost use Rattle.iscsi_session.specs.Run.{trace_of, next_entry, effects_of};
-ghost use Rattle.iscsi_session.specs.Flow.{Flows, HasOneMore};
+ghost use Rattle.iscsi_history.specs.Agenda.{arrival, items_of};
+ghost use Rattle.iscsi_history.specs.Run.{trace_of, next_entry, effects_of};
+ghost use Rattle.iscsi_history.specs.Flow.{Flows, HasOneMore};
 ghost use Rattle.iscsi_session.specs.Refusals.{RefusesAs, refusal_of, refusal_of_options};
 ghost use Rattle.iscsi_session.specs.Standing.{Settled, StandsFor, effect_bound_of, is_held, are_ascending};
 ghost use Rattle.iscsi_session.specs.Steps.{refusal_by, comes_on, KeepsPace, counted, numbers_by};
 ghost use Rattle.iscsi_session.specs.Functions.{owed};
 
-use crate::effect::{Effect, Numbers};
-use crate::event::Event;
 use crate::fault::SessionFault;
 use crate::options::{Options, is_known};
 use crate::session::live::Live;
 use crate::session::tags::Tags;
 use crate::session::waiting::Waiting;
+use iscsi_history::{Effect, Event, Numbers};
 use iscsi_tasks::TaskSet;
 use iscsi_window::Window;
 use iscsi_wire::Request;
@@ -68,8 +68,8 @@ impl Model for Session {
     ghost use Rattle.std.specs.VecDeque.{deque_capacity};
     ghost use Rattle.iscsi_session.specs.Standing.{Core, are_known, is_held, is_place_known, Match, are_ascending, are_within};
     ghost use Rattle.iscsi_session.specs.Steps.{is_numbered, AreIndexed, AreCounted, tag_room};
-    ghost use Rattle.iscsi_session.specs.Settings.{is_known};
-    ghost use Rattle.iscsi_session.specs.Management.{may_wait};
+    ghost use Rattle.iscsi_history.specs.Settings.{is_known};
+    ghost use Rattle.iscsi_history.specs.Management.{may_wait};
     ghost use Rattle.iscsi_session.specs.Turning.{waiting_in};
     ghost use Rattle.iscsi_wire.specs.Fields.{connection_of};
 

@@ -6,7 +6,6 @@ ghost use Rattle.iscsi_window.specs.Windows.{place_in, IsInside, held_at, voided
 ghost use Rattle.iscsi_session.specs.Standing.{is_held};
 ghost use Rattle.iscsi_session.specs.Functions.{tagged_in, abort_by, missing_at, answer_if as answer_of, outcome_by, void_effects};
 
-use crate::effect::Effect;
 use crate::outcome::Outcome;
 use crate::session::Session;
 use crate::session::live::Live;
@@ -14,6 +13,7 @@ use crate::session::management::{
     ABORT_TASK, COMPLETE, LOGICAL_UNIT_RESET, QUERY_TASK, QUERY_TASK_SET,
 };
 use crate::session::tags::find_tagged;
+use iscsi_history::Effect;
 use iscsi_tasks::Cover;
 use iscsi_window::Place;
 use iscsi_wire::{Request, distance};

@@ -1,8 +1,8 @@
 //! How many immediate commands of each connection are live.
 
 ghost use Rattle.std.specs.Prelude.{◌≡◌, ◌==◌, ◌+◌, ◌<◌, ℕ, true, length, replicate, nat_le, if◌then◌else◌, IfSome};
-ghost use Rattle.iscsi_session.specs.Settings.{is_known as known_in};
-ghost use Rattle.iscsi_session.specs.Execution.{MOST_IMMEDIATE};
+ghost use Rattle.iscsi_history.specs.Settings.{is_known as known_in};
+ghost use Rattle.iscsi_history.specs.Execution.{MOST_IMMEDIATE};
 ghost use Rattle.iscsi_session.specs.Steps.{counted_on};
 
 use crate::session::execution::place_of;

@@ -7,10 +7,10 @@ ghost use Rattle.iscsi_session.specs.Standing.{are_ascending, are_known};
 ghost use Rattle.iscsi_session.specs.Steps.{AreCounted, is_numbered, find_ticket, without_ticket, enable_effects, set_at};
 ghost use Rattle.iscsi_session.specs.Functions.{finished_by, with_left, leaving_effects, with_given, covers_ticket, chosen, later, has_covered, owed};
 
-use crate::effect::Effect;
 use crate::session::completion::finish;
 use crate::session::live::{Live, find as find_live, remove};
 use crate::session::{Session, sets};
+use iscsi_history::Effect;
 use iscsi_tasks::{Cover, TaskSet};
 use iscsi_window::Window;
 use std::collections::VecDeque;

@@ -3,26 +3,27 @@ use Rattle.std.proofs.lemmas.Grind.{common_steps}
 use Rattle.iscsi_session.specs.declared.session.Session.{Session}
 use Rattle.std.proofs.lemmas.List.{take_more, take_all}
 use Rattle.std.proofs.lemmas.Result.{err_from_is_err_and}
-use Rattle.iscsi_session.specs.declared.effect.Effect.{Effect}
-use Rattle.iscsi_session.specs.declared.effect.Numbers.{Numbers}
-use Rattle.iscsi_session.specs.declared.event.Event.{Event}
+use Rattle.iscsi_history.specs.declared.effect.Effect.{Effect}
+use Rattle.iscsi_history.specs.declared.effect.Numbers.{Numbers}
+use Rattle.iscsi_history.specs.declared.event.Event.{Event}
 use Rattle.iscsi_session.specs.declared.fault.SessionFault.TheVariants.{NoMemory}
-use Rattle.iscsi_session.specs.declared.log.Entry.{Entry}
-use Rattle.iscsi_session.specs.Settings.{Setting, setting_of}
-use Rattle.iscsi_session.specs.Run.{run_of, trace_of, next_entry}
-use Rattle.iscsi_session.specs.Executed.{delivered, executed, executed_below}
-use Rattle.iscsi_session.specs.Flow.{FlowsThrough}
-use Rattle.iscsi_session.specs.Enabling.{effects_in}
-use Rattle.iscsi_session.specs.Aborts.{AbortsHoldIn}
-use Rattle.iscsi_session.specs.Closes.{ClosesHoldIn}
-use Rattle.iscsi_session.proofs.CloseTheorem.{closes_hold_run}
-use Rattle.iscsi_session.proofs.AbortTheorem.{aborts_hold_in}
-use Rattle.iscsi_session.proofs.EnablingLemmas.{log_effects, rule_means}
+use Rattle.iscsi_history.specs.declared.entry.Entry.{Entry}
+use Rattle.iscsi_history.specs.Settings.{Setting}
+use Rattle.iscsi_session.specs.Settings.{setting_of}
+use Rattle.iscsi_history.specs.Run.{run_of, trace_of, next_entry}
+use Rattle.iscsi_history.specs.Executed.{delivered, executed, executed_below}
+use Rattle.iscsi_history.specs.Flow.{FlowsThrough}
+use Rattle.iscsi_history.specs.Enabling.{effects_in}
+use Rattle.iscsi_history.specs.Aborts.{AbortsHoldIn}
+use Rattle.iscsi_history.specs.Closes.{ClosesHoldIn}
+use Rattle.iscsi_session.proofs.RefusalLemmas.{closes_hold_run}
+use Rattle.iscsi_history.proofs.AbortTheorem.{aborts_hold_in}
+use Rattle.iscsi_history.proofs.MomentLemmas.{log_effects, rule_means}
 use Rattle.iscsi_session.proofs.FlowLemmas.{FlowsThrough-push}
 use Rattle.iscsi_session.specs.Refusals.{refusal_of, refusal_of_options, first_refusal}
 use Rattle.iscsi_session.specs.Standing.{Core, StandsFor}
-use Rattle.iscsi_session.proofs.RunLemmas.{run_of-push}
-use Rattle.iscsi_session.proofs.DeliveryLemmas.{log_delivers}
+use Rattle.iscsi_history.proofs.RunLemmas.{run_of-push}
+use Rattle.iscsi_history.proofs.DeliveryLemmas.{log_delivers}
 use Rattle.iscsi_session.proofs.AgreeLemmas.{settled_expected}
 use Rattle.iscsi_session.proofs.RefusalLemmas.{taken_none, refused_cases, refusal_more, refusal_here, options_refused, event_refused, run_taken}
 use Rattle.iscsi_session.proofs.log.run.Goals as goal

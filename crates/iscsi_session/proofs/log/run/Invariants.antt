@@ -1,7 +1,8 @@
 use Rattle.std.proofs.Common.{◌≡◌, take, drop}
-use Rattle.iscsi_session.specs.Settings.{Setting, setting_of}
-use Rattle.iscsi_session.specs.Run.{run_of}
-use Rattle.iscsi_session.specs.Flow.{FlowsThrough}
+use Rattle.iscsi_history.specs.Settings.{Setting}
+use Rattle.iscsi_session.specs.Settings.{setting_of}
+use Rattle.iscsi_history.specs.Run.{run_of}
+use Rattle.iscsi_history.specs.Flow.{FlowsThrough}
 use Rattle.iscsi_session.specs.Refusals.{first_refusal}
 use Rattle.iscsi_session.specs.Standing.{StandsFor}
 use Rattle.iscsi_session.proofs.log.run.Given as goal

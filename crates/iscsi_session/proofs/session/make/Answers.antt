@@ -7,8 +7,8 @@ use Rattle.iscsi_session.specs.Standing.{are_known, is_held, is_place_known, tic
 use Rattle.iscsi_session.specs.declared.session.live.Live.{Live}
 use Rattle.iscsi_wire.specs.Fields.{connection_of}
 use Rattle.iscsi_session.specs.declared.session.waiting.Waiting.{Waiting}
-use Rattle.iscsi_session.specs.Settings.{is_known}
-use Rattle.iscsi_session.specs.Management.{may_wait}
+use Rattle.iscsi_history.specs.Settings.{is_known}
+use Rattle.iscsi_history.specs.Management.{may_wait}
 use Rattle.iscsi_session.specs.Turning.{waiting_in}
 use Rattle.iscsi_session.specs.Steps.{is_numbered, AreCounted}
 use Rattle.iscsi_session.proofs.CountLemmas.{AreCounted-opened}

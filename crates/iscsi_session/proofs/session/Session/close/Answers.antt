@@ -1,8 +1,8 @@
 use Rattle.std.proofs.Common.{sym, rules, ◌≡◌, ℕ, ◌∙◌, ◌++◌, ap, refl, append_assoc, List, [], ◌∷◌, Option, Some, None}
 use Rattle.std.proofs.lemmas.Fn.{filter_same}
 use Rattle.std.proofs.lemmas.List.{append-nil}
-use Rattle.iscsi_session.specs.declared.effect.Effect.{Effect}
-use Rattle.iscsi_session.specs.declared.effect.Effect.TheVariants.{CloseConn}
+use Rattle.iscsi_history.specs.declared.effect.Effect.{Effect}
+use Rattle.iscsi_history.specs.declared.effect.Effect.TheVariants.{CloseConn}
 use Rattle.iscsi_session.specs.Standing.{Core}
 use Rattle.iscsi_session.specs.Parting.{still_open, session_closes, ended_if, with_closed, close_effects}
 use Rattle.iscsi_session.proofs.session.Session.close.Goals.{in-Some, in_default}

@@ -9,10 +9,11 @@ use Rattle.iscsi_tasks.specs.Sets.{Members}
 use Rattle.iscsi_session.specs.declared.session.live.Live.{Live}
 use Rattle.iscsi_session.specs.Standing.{Core, are_known, is_held, is_place_known, Match, are_ascending, are_within}
 use Rattle.iscsi_session.specs.Steps.{AreIndexed, AreCounted, is_numbered, counted_on, finished, find_ticket, without_ticket, set_without, all_given}
-use Rattle.iscsi_session.proofs.BoolLemmas.{and_second}
-use Rattle.iscsi_session.proofs.ListLemmas.{find-passes, are_known-left}
+use Rattle.iscsi_history.proofs.BoolLemmas.{and_second}
+use Rattle.iscsi_history.proofs.ListLemmas.{find-passes}
+use Rattle.iscsi_session.proofs.ListLemmas.{are_known-left}
 use Rattle.iscsi_session.proofs.WindowLemmas.{fewer, find-found}
-use Rattle.iscsi_session.specs.Settings.{is_known}
+use Rattle.iscsi_history.specs.Settings.{is_known}
 use Rattle.iscsi_session.proofs.CountLemmas.{count-left, some_counted, AreCounted-left}
 use Rattle.iscsi_session.proofs.KeptLemmas.{enabled_found, Match-left, ascending-left, within-left, few_left, written}
 use Rattle.iscsi_session.proofs.session.Session.complete.Goals as goal

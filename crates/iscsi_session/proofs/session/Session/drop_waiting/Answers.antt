@@ -4,12 +4,12 @@ use Rattle.std.proofs.lemmas.Fn.{filter_same}
 use Rattle.iscsi_wire.specs.Fields.{connection_of}
 use Rattle.iscsi_window.specs.Windows.{is_asked}
 use Rattle.iscsi_session.specs.declared.session.waiting.Waiting.{Waiting}
-use Rattle.iscsi_session.specs.Settings.{is_known}
-use Rattle.iscsi_session.specs.Management.{may_wait}
+use Rattle.iscsi_history.specs.Settings.{is_known}
+use Rattle.iscsi_history.specs.Management.{may_wait}
 use Rattle.iscsi_session.specs.Standing.{Core}
 use Rattle.iscsi_session.specs.Turning.{waiting_in}
 use Rattle.iscsi_session.specs.Parting.{with_dropped}
-use Rattle.iscsi_session.proofs.ListLemmas.{list_all-filter, fewer_counted}
+use Rattle.iscsi_history.proofs.ListLemmas.{list_all-filter, fewer_counted}
 use Rattle.iscsi_session.proofs.session.Session.drop_waiting.Goals as goal
 
 pub invariant_of-self : goal.invariant_of-self

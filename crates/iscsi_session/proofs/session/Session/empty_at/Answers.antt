@@ -3,8 +3,8 @@ use Rattle.std.specs.List.{list_all}
 use Rattle.iscsi_wire.specs.declared.request.Request.{Request}
 use Rattle.iscsi_wire.specs.Serial.{number_of_first}
 use Rattle.iscsi_window.specs.Windows.{Received, number_expected, taken_at}
-use Rattle.iscsi_session.specs.declared.effect.Effect.{Effect}
-use Rattle.iscsi_session.specs.declared.effect.Effect.TheVariants.{Empty}
+use Rattle.iscsi_history.specs.declared.effect.Effect.{Effect}
+use Rattle.iscsi_history.specs.declared.effect.Effect.TheVariants.{Empty}
 use Rattle.iscsi_session.specs.Standing.{Core, is_held, is_place_known}
 use Rattle.iscsi_session.specs.Parting.{emptied_place, emptied_from, is_clear_below, with_emptied, emptying_effects}
 use Rattle.iscsi_session.proofs.DroppingLemmas.{DroppedOne, dropped_one, DroppedNone, dropped_none, answered_some, answered_none}

@@ -3,11 +3,11 @@ use Rattle.std.proofs.lemmas.Bool.Decides.{nat_tests}
 use Rattle.iscsi_tasks.specs.Sets.{Members, opened, is_enabled_in}
 use Rattle.iscsi_session.specs.declared.session.live.Live.{Live}
 use Rattle.iscsi_session.specs.Standing.{Core}
-use Rattle.iscsi_session.specs.Settings.{is_known}
+use Rattle.iscsi_history.specs.Settings.{is_known}
 use Rattle.std.proofs.lemmas.List.{get_or_default}
 use Rattle.iscsi_session.specs.Steps.{find_ticket, find_enabled, enabled_of}
-use Rattle.iscsi_session.proofs.BoolLemmas.{and_second}
-use Rattle.iscsi_session.proofs.ListLemmas.{find-passes}
+use Rattle.iscsi_history.proofs.BoolLemmas.{and_second}
+use Rattle.iscsi_history.proofs.ListLemmas.{find-passes}
 use Rattle.iscsi_session.proofs.session.Session.find_enabled.Goals as goal
 
 pub index-requires : goal.index-requires

@@ -1,7 +1,7 @@
 use Rattle.std.proofs.Common.{◌∙◌, ◌++◌, ap, sym, refl, Bool, List}
 use Rattle.std.proofs.lemmas.List.{append-nil}
 use Rattle.iscsi_tasks.specs.declared.task.Task.{Task}
-use Rattle.iscsi_session.specs.declared.effect.Effect.{Effect}
+use Rattle.iscsi_history.specs.declared.effect.Effect.{Effect}
 use Rattle.iscsi_session.specs.declared.session.leaving.Choice.{Choice}
 use Rattle.iscsi_session.specs.Functions.{with_left, leaving_effects, chosen}
 use Rattle.iscsi_session.proofs.LeavingParts.{left_none, effects_none}

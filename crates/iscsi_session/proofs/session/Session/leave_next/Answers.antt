@@ -8,14 +8,15 @@ use Rattle.std.proofs.lemmas.List.Elements.{All-filter}
 use Rattle.iscsi_window.specs.Windows.{Received}
 use Rattle.iscsi_tasks.specs.declared.task.Task.{Task}
 use Rattle.iscsi_tasks.specs.Sets.{Members, opened, tasks_in, left_by}
-use Rattle.iscsi_session.specs.declared.effect.Effect.{Effect}
-use Rattle.iscsi_session.specs.declared.effect.Effect.TheVariants.{Leave}
+use Rattle.iscsi_history.specs.declared.effect.Effect.{Effect}
+use Rattle.iscsi_history.specs.declared.effect.Effect.TheVariants.{Leave}
 use Rattle.iscsi_session.specs.declared.session.leaving.Choice.{Choice}
 use Rattle.iscsi_session.specs.declared.session.live.Live.{Live}
 use Rattle.iscsi_session.specs.Standing.{Core, are_known, is_held, is_place_known, Match, are_ascending, are_within}
 use Rattle.iscsi_session.specs.Steps.{AreIndexed, AreCounted, is_numbered, set_at, without_ticket}
 use Rattle.iscsi_session.specs.Functions.{finished_by, with_left, leaving_effects, has_covered, chosen, later, covers_ticket, owed}
-use Rattle.iscsi_session.proofs.ListLemmas.{are_known-left, fewer_counted}
+use Rattle.iscsi_session.proofs.ListLemmas.{are_known-left}
+use Rattle.iscsi_history.proofs.ListLemmas.{fewer_counted}
 use Rattle.iscsi_session.proofs.WindowLemmas.{find-found}
 use Rattle.iscsi_session.proofs.KeptLemmas.{ascending-left, within-left, written}
 use Rattle.iscsi_session.proofs.LeavingParts.{none_found, less, one_less, stepped, Leaving, leaving_one}

@@ -1,6 +1,6 @@
 use Rattle.std.proofs.Common.{◌∙◌, ◌++◌, ap, sym, refl, List}
 use Rattle.std.proofs.lemmas.List.{append-nil}
-use Rattle.iscsi_session.specs.declared.effect.Effect.{Effect}
+use Rattle.iscsi_history.specs.declared.effect.Effect.{Effect}
 use Rattle.iscsi_session.specs.Functions.{covers_ticket}
 use Rattle.iscsi_session.proofs.LeavingParts.{left_none, effects_none}
 use Rattle.iscsi_session.proofs.session.Session.leave_one.Goals as goal

@@ -5,10 +5,11 @@ use Rattle.std.proofs.lemmas.List.Quantifiers.{position-Some}
 use Rattle.iscsi_wire.specs.Serial.{wire}
 use Rattle.iscsi_wire.specs.Fields.{connection_of}
 use Rattle.iscsi_session.specs.declared.session.waiting.Waiting.{Waiting}
-use Rattle.iscsi_session.specs.Settings.{is_known}
+use Rattle.iscsi_history.specs.Settings.{is_known}
 use Rattle.iscsi_session.specs.Standing.{Core, stat_sn_on, are_known, is_place_known}
 use Rattle.iscsi_session.specs.Steps.{count_reply, AreCounted}
-use Rattle.iscsi_session.proofs.ListLemmas.{IsSome-position, count_reply-at, stat_sn_on-at, are_known-replied, are_places_known-replied, are_waiting_known-replied}
+use Rattle.iscsi_history.proofs.ListLemmas.{IsSome-position}
+use Rattle.iscsi_session.proofs.ListLemmas.{count_reply-at, stat_sn_on-at, are_known-replied, are_places_known-replied, are_waiting_known-replied}
 use Rattle.iscsi_session.proofs.CountLemmas.{length-replied, AreCounted-replied}
 use Rattle.iscsi_session.proofs.session.Session.next_stat_sn.Goals as goal
 

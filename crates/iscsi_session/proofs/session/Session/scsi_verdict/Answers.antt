@@ -2,7 +2,7 @@ use Rattle.std.proofs.Common.{rules, ◌≡◌, ◌==◌, ◌∙◌, List, Bool,
 use Rattle.iscsi_wire.specs.declared.request.Request.{Request}
 use Rattle.iscsi_wire.specs.Fields.{attr_code, itt}
 use Rattle.iscsi_tasks.specs.Sets.{Members}
-use Rattle.iscsi_session.specs.Execution.{scsi_to}
+use Rattle.iscsi_history.specs.Execution.{scsi_to}
 use Rattle.iscsi_session.specs.Standing.{Core}
 use Rattle.iscsi_session.specs.Steps.{is_tag_kept, is_crowded_by, place_in}
 use Rattle.iscsi_session.proofs.ExecutionLemmas.{by_place}

@@ -3,20 +3,20 @@ use Rattle.std.specs.List.{list_all}
 use Rattle.std.proofs.lemmas.Bool.Decides.{nat_tests}
 use Rattle.std.proofs.lemmas.List.{length_push}
 use Rattle.iscsi_session.specs.declared.session.waiting.Waiting.{Waiting}
-use Rattle.iscsi_session.specs.declared.effect.Numbers.{Numbers}
-use Rattle.iscsi_session.specs.declared.effect.Effect.{Effect}
-use Rattle.iscsi_session.specs.declared.event.Event.{Event}
+use Rattle.iscsi_history.specs.declared.effect.Numbers.{Numbers}
+use Rattle.iscsi_history.specs.declared.effect.Effect.{Effect}
+use Rattle.iscsi_history.specs.declared.event.Event.{Event}
 use Rattle.iscsi_session.specs.declared.fault.SessionFault.{SessionFault}
 use Rattle.iscsi_session.specs.declared.fault.SessionFault.TheVariants.{NoMemory}
-use Rattle.iscsi_session.specs.Run.{trace_of, next_entry, after_event}
+use Rattle.iscsi_history.specs.Run.{trace_of, next_entry, after_event}
 use Rattle.iscsi_session.specs.Refusals.{RefusesAs, refusal_of}
 use Rattle.iscsi_session.specs.Standing.{Core, Settled, is_held}
 use Rattle.iscsi_session.specs.Steps.{KeepsPace, counted}
-use Rattle.iscsi_session.specs.Trace.{received}
-use Rattle.iscsi_session.specs.Flow.{Flows, HasOneMore}
+use Rattle.iscsi_history.specs.Trace.{received}
+use Rattle.iscsi_history.specs.Flow.{Flows, HasOneMore}
 use Rattle.iscsi_session.proofs.FlowLemmas.{Flows-step}
-use Rattle.iscsi_session.proofs.RunLemmas.{trace_of-push}
-use Rattle.iscsi_session.proofs.TraceLemmas.{weaker}
+use Rattle.iscsi_history.proofs.RunLemmas.{trace_of-push}
+use Rattle.iscsi_history.proofs.TraceLemmas.{weaker}
 use Rattle.iscsi_session.proofs.OwedLemmas.{owed_few}
 use Rattle.iscsi_session.proofs.AgreeLemmas.{settled_numbers}
 use Rattle.iscsi_session.proofs.StepLemmas.{Settled-counted, taken_by, refusal_is}

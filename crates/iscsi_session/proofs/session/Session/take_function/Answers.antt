@@ -5,15 +5,15 @@ use Rattle.std.proofs.lemmas.Int.{ints, to_z_pos}
 use Rattle.iscsi_wire.specs.Serial.{number_of_first}
 use Rattle.iscsi_wire.specs.Fields.{connection_of}
 use Rattle.iscsi_window.specs.Windows.{number_expected}
-use Rattle.iscsi_session.specs.declared.effect.Effect.{Effect}
-use Rattle.iscsi_session.specs.declared.effect.Effect.TheVariants.{Immediate}
+use Rattle.iscsi_history.specs.declared.effect.Effect.{Effect}
+use Rattle.iscsi_history.specs.declared.effect.Effect.TheVariants.{Immediate}
 use Rattle.iscsi_session.specs.declared.session.waiting.Waiting.{Waiting}
-use Rattle.iscsi_session.specs.Settings.{is_known}
-use Rattle.iscsi_session.specs.Management.{may_wait}
+use Rattle.iscsi_history.specs.Settings.{is_known}
+use Rattle.iscsi_history.specs.Management.{may_wait}
 use Rattle.iscsi_session.specs.Standing.{Core}
 use Rattle.iscsi_session.specs.Functions.{owed}
 use Rattle.iscsi_session.specs.Turning.{waiting_in, performed, performed_effects, next_waiting, next_position, without_waiting, function_if, function_effects}
-use Rattle.iscsi_session.proofs.ListLemmas.{list_all-filter, find-passes, fewer_counted}
+use Rattle.iscsi_history.proofs.ListLemmas.{list_all-filter, find-passes, fewer_counted}
 use Rattle.iscsi_session.proofs.ManageLemmas.{fewer_left, waiting_performed}
 use Rattle.iscsi_session.proofs.FunctionLemmas.{waited_places}
 use Rattle.iscsi_session.proofs.session.Session.take_function.Goals as goal

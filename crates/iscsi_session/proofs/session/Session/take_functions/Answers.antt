@@ -1,10 +1,10 @@
 use Rattle.std.proofs.Common.{◌≡◌, ◌∙◌, ◌++◌, ap, sym, subst, refl, arith, List, None, Option}
 use Rattle.std.proofs.lemmas.List.{append-nil}
 use Rattle.iscsi_window.specs.Windows.{number_expected}
-use Rattle.iscsi_session.specs.declared.effect.Effect.{Effect}
+use Rattle.iscsi_history.specs.declared.effect.Effect.{Effect}
 use Rattle.iscsi_session.specs.declared.session.waiting.Waiting.{Waiting}
-use Rattle.iscsi_session.specs.Trace.{after_items}
-use Rattle.iscsi_session.specs.Items.{functions_at}
+use Rattle.iscsi_history.specs.Trace.{after_items}
+use Rattle.iscsi_history.specs.Items.{functions_at}
 use Rattle.iscsi_session.specs.Standing.{Core, Agrees}
 use Rattle.iscsi_session.specs.Steps.{KeepsPace}
 use Rattle.iscsi_session.specs.Turning.{next_waiting, function_if, function_effects}

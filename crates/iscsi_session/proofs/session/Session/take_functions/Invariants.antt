@@ -1,8 +1,8 @@
 use Rattle.std.proofs.Common.{◌≡◌, ◌≤◌, ◌+◌, ◌*◌, length, vec_len, vec_capacity}
 use Rattle.iscsi_window.specs.Windows.{number_expected}
-use Rattle.iscsi_session.specs.Settings.{Setting}
-use Rattle.iscsi_session.specs.Trace.{Trace}
-use Rattle.iscsi_session.specs.Items.{functions_at}
+use Rattle.iscsi_history.specs.Settings.{Setting}
+use Rattle.iscsi_history.specs.Trace.{Trace}
+use Rattle.iscsi_history.specs.Items.{functions_at}
 use Rattle.iscsi_session.specs.Standing.{Agrees}
 use Rattle.iscsi_session.specs.Steps.{KeepsPace}
 use Rattle.iscsi_session.specs.Functions.{owed}

@@ -1,6 +1,6 @@
 use Rattle.std.proofs.Common.{◌∙◌, ap, sym, subst, refl, arith, List, count_by}
 use Rattle.iscsi_window.specs.Windows.{at_place}
-use Rattle.iscsi_session.specs.declared.effect.Effect.{Effect}
+use Rattle.iscsi_history.specs.declared.effect.Effect.{Effect}
 use Rattle.iscsi_session.specs.Standing.{Core, is_held}
 use Rattle.iscsi_session.specs.Steps.{KeepsPace}
 use Rattle.iscsi_session.specs.Turning.{turned_if}

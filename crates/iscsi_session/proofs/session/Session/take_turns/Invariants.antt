@@ -1,7 +1,7 @@
 use Rattle.std.proofs.Common.{◌≤◌, ◌≡◌, ◌+◌, ◌*◌, List, length, count_by, is_some, vec_len, vec_capacity}
-use Rattle.iscsi_session.specs.declared.effect.Effect.{Effect}
-use Rattle.iscsi_session.specs.Settings.{Setting}
-use Rattle.iscsi_session.specs.Trace.{Trace, Mark}
+use Rattle.iscsi_history.specs.declared.effect.Effect.{Effect}
+use Rattle.iscsi_history.specs.Settings.{Setting}
+use Rattle.iscsi_history.specs.Trace.{Trace, Mark}
 use Rattle.iscsi_session.specs.Standing.{is_held}
 use Rattle.iscsi_session.specs.Steps.{KeepsPace}
 use Rattle.iscsi_session.specs.Functions.{owed}

@@ -1,6 +1,6 @@
 use Rattle.std.proofs.Common.{◌≡◌, ◌==◌, ◌∙◌, ℕ, position, Some, get_or, arith, subst, sym}
 use Rattle.std.specs.Prelude.{IsSome}
-use Rattle.iscsi_session.proofs.ListLemmas.{IsSome-position}
+use Rattle.iscsi_history.proofs.ListLemmas.{IsSome-position}
 use Rattle.iscsi_session.proofs.CountLemmas.{counted_place, counted_up}
 use Rattle.iscsi_session.proofs.session.immediate.count_up.Goals as goal
 

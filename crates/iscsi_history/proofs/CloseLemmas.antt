@@ -1,0 +1,278 @@
+-- What is still going on is on connections that are open: one item more.
+use Rattle.std.proofs.Common.{◌≡◌, ℕ, zero, suc, ◌+◌, ◌<◌, ◌≤◌, ◌==◌, ◌||◌, ◌⊎◌, inl, inr, ⊎_elim, not, cond, Bool, true, false, List, [], ◌∷◌, ◌++◌, filter, Option, Some, None, refl, ap, sym, subst, ◌∙◌, arith, eq-eqb}
+use Rattle.std.specs.List.{list_any, list_all, filter_map, flat_map, range_with_len, cons_option}
+use Rattle.std.proofs.lemmas.Bool.{false≢true, cases_eq}
+use Rattle.iscsi_wire.specs.Serial.{number_of_first}
+use Rattle.iscsi_wire.specs.Fields.{connection_of}
+use Rattle.iscsi_history.specs.Settings.{Setting, is_known}
+use Rattle.iscsi_history.specs.Trace.{Arrival, Command, Mark, Admits, Delivers, Executes, Voids, Empties, Waits, Leaves, Enters, Sends, ClosesConn, ClosesSession, Ignores, Trace, has, shown, first_of, admits_at, admitted, delivers_number, is_delivered, empties_number, is_emptied, held, waiting_by, waiting_through, waiting, enters, entered, leaves_ticket, live, closes_conn, closes_session, is_ended, is_closed}
+use Rattle.iscsi_history.specs.Execution.{exp_of}
+use Rattle.iscsi_history.specs.Logout.{is_open}
+use Rattle.iscsi_history.proofs.BoolLemmas.{and_parts, and_both, or_none, or_first, or_second, not_true}
+use Rattle.iscsi_history.proofs.ApartLemmas.{eq_sym}
+use Rattle.iscsi_history.proofs.TraceLemmas.{live-item}
+use Rattle.iscsi_history.proofs.HeldLemmas.{first_of-append, first_of-cons}
+use Rattle.iscsi_history.proofs.AbortRuns.{exp_item}
+
+-- ---- the elements of lists
+
+-- x is an element
+abbrev pub In : {A : Type 0} → A → List A → Type 0
+In x [] = ⊥
+In x (y ∷ ys) = (y ≡ x) ⊎ In x ys
+
+pub in-filter : {A : Type 0} (p : A → Bool) (xs : List A) (x : A) → In x (filter p xs) → In x xs × (p x ≡ true)
+in-filter p [] x h = absurd h
+in-filter p (y ∷ ys) x h =
+    elim (p y) as (λ b. p y ≡ b → In x (cond b (y ∷ filter p ys) (filter p ys)) → In x (y ∷ ys) × (p x ≡ true)) [
+      | true ↦ λ is k. ⊎_elim (λ same. (inl same, ap p (sym same) ∙ is)) (λ later. let r = in-filter p ys x later in (inr r.0, r.1)) k
+      | false ↦ λ is k. let r = in-filter p ys x k in (inr r.0, r.1)
+    ] refl h
+
+pub filter-in : {A : Type 0} (p : A → Bool) (xs : List A) (x : A) → In x xs → p x ≡ true → In x (filter p xs)
+filter-in p [] x h passes = absurd h
+filter-in p (y ∷ ys) x h passes =
+    elim (p y) as (λ b. p y ≡ b → In x (cond b (y ∷ filter p ys) (filter p ys))) [
+      | true ↦ λ is. ⊎_elim (λ same. inl same) (λ later. inr (filter-in p ys x later passes)) h
+      | false ↦ λ is. ⊎_elim (λ same. absurd (false≢true (sym is ∙ ap p same ∙ passes))) (λ later. filter-in p ys x later passes) h
+    ] refl
+
+pub in-append : {A : Type 0} (xs ys : List A) (x : A) → In x (xs ++ ys) → In x xs ⊎ In x ys
+in-append [] ys x h = inr h
+in-append (z ∷ xs) ys x h = ⊎_elim (λ same. inl (inl same)) (λ later. ⊎_elim (λ here. inl (inr here)) (λ there. inr there) (in-append xs ys x later)) h
+
+pub append-in_first : {A : Type 0} (xs ys : List A) (x : A) → In x xs → In x (xs ++ ys)
+append-in_first [] ys x h = absurd h
+append-in_first (z ∷ xs) ys x h = ⊎_elim (λ same. inl same) (λ later. inr (append-in_first xs ys x later)) h
+
+pub append-in_second : {A : Type 0} (xs ys : List A) (x : A) → In x ys → In x (xs ++ ys)
+append-in_second [] ys x h = h
+append-in_second (z ∷ xs) ys x h = inr (append-in_second xs ys x h)
+
+pub flat_map-in : {A : Type 0} (f : ℕ → List A) (ns : List ℕ) (n : ℕ) (x : A) → In n ns → In x (f n) → In x (flat_map f ns)
+flat_map-in f [] n x there h = absurd there
+flat_map-in f (m ∷ ns) n x there h =
+    ⊎_elim (λ same. append-in_first (f m) (flat_map f ns) x (subst (λ k. In x (f k)) (sym same) h))
+    (λ later. append-in_second (f m) (flat_map f ns) x (flat_map-in f ns n x later h)) there
+
+pub range-in : (a count n : ℕ) → a ≤ n → n < a + count → In n (range_with_len a count)
+range-in a zero n low high = absurd (omega arith)
+range-in a (suc count) n low high = ⊎_elim (λ same. inl (sym same)) (λ apart. inr (range-in (a + 1) count n (omega arith) (omega arith))) (cases_eq n a)
+
+in-cons : {A : Type 0} (x : Option A) (xs : List A) (y : A) → In y (cons_option x xs) → (x ≡ Some y) ⊎ In y xs
+in-cons None xs y h = inr h
+in-cons (Some x) xs y h = ⊎_elim (λ same. inl (ap Some same)) (λ later. inr later) h
+
+-- ---- marks
+
+-- something is done on the connection, or comes to be held, to wait or to be live on it
+abbrev pub is_at : ℕ → Mark → Bool
+is_at conn (Admits a) = connection_of a.request == conn
+is_at conn (Delivers a) = connection_of a.request == conn
+is_at conn (Executes a) = connection_of a.request == conn
+is_at conn (Waits a) = connection_of a.request == conn
+is_at conn (Enters c) = connection_of c.arrival.request == conn
+is_at conn (Sends k reply) = k == conn
+is_at conn _ = false
+
+-- something comes to be held, to wait or to be live
+abbrev pub brings : Mark → Bool
+brings (Admits a) = true
+brings (Waits a) = true
+brings (Enters c) = true
+brings _ = false
+
+abbrev pub ignores : Mark → Bool
+ignores (Ignores why) = true
+ignores _ = false
+
+-- the item closes the connection, alone or with the session
+abbrev pub closed_by : List Mark → ℕ → Bool
+closed_by item conn = list_any closes_session item || list_any (closes_conn conn) item
+
+-- it brings something on the connection
+abbrev Brought : ℕ → List Mark → Type 0
+Brought conn ms = (list_any (is_at conn) ms ≡ true) × (list_any brings ms ≡ true)
+
+brought_later : (conn : ℕ) (m : Mark) (ms : List Mark) → Brought conn ms → Brought conn (m ∷ ms)
+brought_later conn m ms b = (or_second (is_at conn m) (list_any (is_at conn) ms) b.0, or_second (brings m) (list_any brings ms) b.1)
+
+brought_here : (conn : ℕ) (m : Mark) (ms : List Mark) → is_at conn m ≡ true → brings m ≡ true → Brought conn (m ∷ ms)
+brought_here conn m ms at by = (or_first (is_at conn m) (list_any (is_at conn) ms) at, or_first (brings m) (list_any brings ms) by)
+
+pub entered_brought : (ms : List Mark) (c : Command) → In c (filter_map enters ms) → Brought (connection_of c.arrival.request) ms
+entered_brought [] c h = absurd h
+entered_brought (m ∷ ms) c h = ⊎_elim (λ here. by_mark m here) (λ later. brought_later (connection_of c.arrival.request) m ms (entered_brought ms c later)) (in-cons (enters m) (filter_map enters ms) c h)
+  where
+    conn : ℕ
+    conn = connection_of c.arrival.request
+
+    by_mark : (m : Mark) → enters m ≡ Some c → Brought (connection_of c.arrival.request) (m ∷ ms)
+    by_mark (Admits a) is = absurd cc
+    by_mark (Delivers a) is = absurd cc
+    by_mark (Executes a) is = absurd cc
+    by_mark (Voids n) is = absurd cc
+    by_mark (Empties a) is = absurd cc
+    by_mark (Waits a) is = absurd cc
+    by_mark (Leaves d) is = absurd cc
+    by_mark (Enters d) is =
+        let same : d ≡ c = cc in
+        brought_here (connection_of c.arrival.request) (Enters d) ms (eq-eqb (connection_of d.arrival.request) (connection_of c.arrival.request) (ap (λ (x : Command). connection_of x.arrival.request) same)) refl
+    by_mark (Sends k reply) is = absurd cc
+    by_mark (ClosesConn k) is = absurd cc
+    by_mark ClosesSession is = absurd cc
+    by_mark (Ignores why) is = absurd cc
+
+pub admitted_brought : (n : ℕ) (ms : List Mark) (a : Arrival) → first_of (filter_map (admits_at n) ms) ≡ Some a → Brought (connection_of a.request) ms
+admitted_brought n [] a h = absurd cc
+admitted_brought n (m ∷ ms) a h = ⊎_elim (λ here. by_mark m here) (λ later. brought_later (connection_of a.request) m ms (admitted_brought n ms a later)) (first_of-cons (admits_at n m) (filter_map (admits_at n) ms) a h)
+  where
+    by_mark : (m : Mark) → admits_at n m ≡ Some a → Brought (connection_of a.request) (m ∷ ms)
+    by_mark (Admits b) is =
+        elim (b.number == n) as (λ v. cond v (Some b) None ≡ Some a → Brought (connection_of a.request) (Admits b ∷ ms)) [
+          | true ↦ λ found.
+              let same : b ≡ a = cc in
+              brought_here (connection_of a.request) (Admits b) ms (eq-eqb (connection_of b.request) (connection_of a.request) (ap (λ (x : Arrival). connection_of x.request) same)) refl
+          | false ↦ λ found. absurd cc
+        ] is
+    by_mark (Delivers b) is = absurd cc
+    by_mark (Executes b) is = absurd cc
+    by_mark (Voids k) is = absurd cc
+    by_mark (Empties b) is = absurd cc
+    by_mark (Waits b) is = absurd cc
+    by_mark (Leaves c) is = absurd cc
+    by_mark (Enters c) is = absurd cc
+    by_mark (Sends k reply) is = absurd cc
+    by_mark (ClosesConn k) is = absurd cc
+    by_mark ClosesSession is = absurd cc
+    by_mark (Ignores why) is = absurd cc
+
+-- a function that waits at an item's end waited before, and its connection isn't closed in the item, or the item brought it
+waits_from : (ms : List Mark) (ws : List Arrival) (a : Arrival) → In a (waiting_through ms ws) → (In a ws × (closed_by ms (connection_of a.request) ≡ false)) ⊎ Brought (connection_of a.request) ms
+waits_from [] ws a h = inl (h, refl)
+waits_from (m ∷ ms) ws a h =
+    ⊎_elim (λ before. by_mark m before.0 before.1) (λ later. inr (brought_later (connection_of a.request) m ms later)) (waits_from ms (waiting_by m ws) a h)
+  where
+    by_mark : (m : Mark) → In a (waiting_by m ws) → closed_by ms (connection_of a.request) ≡ false → (In a ws × (closed_by (m ∷ ms) (connection_of a.request) ≡ false)) ⊎ Brought (connection_of a.request) (m ∷ ms)
+    by_mark (Admits b) there stays = inl (there, stays)
+    by_mark (Delivers b) there stays = inl (there, stays)
+    by_mark (Executes b) there stays = inl ((in-filter (λ (x : Arrival). not (x.event == b.event)) ws a there).0, stays)
+    by_mark (Voids k) there stays = inl (there, stays)
+    by_mark (Empties b) there stays = inl (there, stays)
+    by_mark (Waits b) there stays =
+        ⊎_elim (λ before. inl (before, stays))
+        (λ last. ⊎_elim (λ same. inr (brought_here (connection_of a.request) (Waits b) ms (eq-eqb (connection_of b.request) (connection_of a.request) (ap (λ (x : Arrival). connection_of x.request) same)) refl)) (λ none. absurd none) last)
+        (in-append ws (b ∷ []) a there)
+    by_mark (Leaves c) there stays = inl (there, stays)
+    by_mark (Enters c) there stays = inl (there, stays)
+    by_mark (Sends k reply) there stays = inl (there, stays)
+    by_mark (ClosesConn k) there stays =
+        let r = in-filter (λ (x : Arrival). not (connection_of x.request == k)) ws a there in
+        let apart : (k == connection_of a.request) ≡ false = eq_sym k (connection_of a.request) ∙ not_true (connection_of a.request == k) r.1 in
+        inl (r.0, ap (λ b. list_any closes_session ms || (b || list_any (closes_conn (connection_of a.request)) ms)) apart ∙ stays)
+    by_mark ClosesSession there stays = absurd there
+    by_mark (Ignores why) there stays = inl (there, stays)
+
+-- a request that is held at an item's end was held before, and isn't taken in it, or the item admits it
+held_from : (item : List Mark) (t : Trace) (n : ℕ) (a : Arrival) → held (item ∷ t) n ≡ Some a
+    → ((held t n ≡ Some a) × ((list_any (delivers_number n) item || list_any (empties_number n) item) ≡ false)) ⊎ (first_of (filter_map (admits_at n) item) ≡ Some a)
+held_from item t n a h = by_tests (list_any (delivers_number n) item) (is_delivered t n) (list_any (empties_number n) item) (is_emptied t n) h
+  where
+    by_tests : (x d y e : Bool) → cond ((x || d) || (y || e)) None (admitted (item ∷ t) n) ≡ Some a → ((cond (d || e) None (admitted t n) ≡ Some a) × ((x || y) ≡ false)) ⊎ (first_of (filter_map (admits_at n) item) ≡ Some a)
+    by_tests true d y e k = absurd cc
+    by_tests false true y e k = absurd cc
+    by_tests false false true e k = absurd cc
+    by_tests false false false true k = absurd cc
+    by_tests false false false false k = ⊎_elim (λ before. inl (before, refl)) (λ now. inr now) (first_of-append (shown (admits_at n) t) (filter_map (admits_at n) item) a k)
+
+-- ---- what an item must be like
+
+pub record Sound (o : Setting) (t : Trace) (item : List Mark) : Type 0 where
+  -- what is done in it, and what it brings, is on open connections
+  pub on_open : (conn : ℕ) → is_open o t conn ≡ false → list_any (is_at conn) item ≡ false
+  pub units : (c : Command) → In c (filter_map enters item) → c.unit < o.units
+  pub range : (n : ℕ) (a : Arrival) → first_of (filter_map (admits_at n) item) ≡ Some a → (number_of_first o.first ≤ n) × (n < exp_of o t + o.window)
+  -- where it closes a connection it brings nothing, and takes out what was going on there
+  pub closes : (conn : ℕ) → closed_by item conn ≡ true → list_any brings item ≡ false
+  pub live_out : (c : Command) → In c (live t) → closed_by item (connection_of c.arrival.request) ≡ true → list_any (leaves_ticket c.ticket) item ≡ true
+  pub held_out : (n : ℕ) (a : Arrival) → held t n ≡ Some a → closed_by item (connection_of a.request) ≡ true → (list_any (delivers_number n) item || list_any (empties_number n) item) ≡ true
+  -- after the end of the session an event is passed over
+  pub ended : is_ended t ≡ true → list_all ignores item ≡ true
+
+-- ---- what is still going on
+
+pub record Clear (o : Setting) (t : Trace) : Type 0 where
+  pub units : (c : Command) → In c (entered t) → c.unit < o.units
+  pub range : (n : ℕ) (a : Arrival) → admitted t n ≡ Some a → (number_of_first o.first ≤ n) × (n < exp_of o t + o.window)
+  pub lives : (c : Command) → In c (live t) → is_open o t (connection_of c.arrival.request) ≡ true
+  pub waits : (a : Arrival) → In a (waiting t) → is_open o t (connection_of a.request) ≡ true
+  pub holds : (n : ℕ) (a : Arrival) → held t n ≡ Some a → is_open o t (connection_of a.request) ≡ true
+
+pub clear-none : (o : Setting) → Clear o []
+clear-none o = record {
+  units = λ c h. absurd h;
+  range = λ n a h. absurd cc;
+  lives = λ c h. absurd h;
+  waits = λ a h. absurd h;
+  holds = λ n a h. absurd cc;
+}
+
+-- a connection that the item doesn't close stays open
+pub open-item : (o : Setting) (item : List Mark) (t : Trace) (conn : ℕ) → is_open o t conn ≡ true → closed_by item conn ≡ false → is_open o (item ∷ t) conn ≡ true
+open-item o item t conn here stays =
+    let parts = and_parts (is_known conn o.conns) (not (is_closed conn t)) here in
+    let none = or_none (list_any closes_session item) (list_any (closes_conn conn) item) stays in
+    let same : is_closed conn (item ∷ t) ≡ is_closed conn t =
+    ap (λ b. (b || is_ended t) || (list_any (closes_conn conn) item || has (closes_conn conn) t)) none.0 ∙ ap (λ b. is_ended t || (b || has (closes_conn conn) t)) none.1 in
+    and_both (is_known conn o.conns) (not (is_closed conn (item ∷ t))) parts.0 (ap not same ∙ parts.1)
+
+-- where a connection is open the session hasn't ended
+pub open-unended : (o : Setting) (t : Trace) (conn : ℕ) → is_open o t conn ≡ true → is_ended t ≡ false
+open-unended o t conn here =
+    let parts = and_parts (is_known conn o.conns) (not (is_closed conn t)) here in
+    (or_none (is_ended t) (has (closes_conn conn) t) (not_true (is_closed conn t) parts.1)).0
+
+pub by_bool : (A : Type 0) (b : Bool) → (b ≡ true → A) → (b ≡ false → A) → A
+by_bool A true on off = on refl
+by_bool A false on off = off refl
+
+module _ (o : Setting) (item : List Mark) (t : Trace) (s : Sound o t item) where
+  -- what the item brings is on a connection that is open after it
+  brought_open : (conn : ℕ) → Brought conn item → is_open o (item ∷ t) conn ≡ true
+  brought_open conn b =
+      open-item o item t conn
+      (by_bool (is_open o t conn ≡ true) (is_open o t conn) (λ on. on) (λ off. absurd (false≢true (sym (s.on_open conn off) ∙ b.0))))
+      (by_bool (closed_by item conn ≡ false) (closed_by item conn) (λ on. absurd (false≢true (sym (s.closes conn on) ∙ b.1))) (λ off. off))
+
+  pub clear-item : Clear o t → Clear o (item ∷ t)
+  clear-item c = record {
+    units = λ d h. ⊎_elim (λ before. c.units d before) (λ now. s.units d now) (in-append (entered t) (filter_map enters item) d h);
+    range = λ n a h.
+        let more : exp_of o t ≤ exp_of o (item ∷ t) = exp_item o item t in
+        let r : (number_of_first o.first ≤ n) × (n < exp_of o t + o.window) = ⊎_elim (λ before. c.range n a before) (λ now. s.range n a now) (first_of-append (shown (admits_at n) t) (filter_map (admits_at n) item) a h) in
+        (r.0, (let z : n < exp_of o (item ∷ t) + o.window = omega (arith, r.1, more) in z));
+    lives = λ d h. ⊎_elim (λ before. lives_on d before) (λ now. brought_open (connection_of d.arrival.request) (entered_brought item d now)) (live_from d h);
+    waits = λ a h.
+        ⊎_elim (λ before. open-item o item t (connection_of a.request) (c.waits a before.0) before.1)
+        (λ now. brought_open (connection_of a.request) now)
+        (waits_from item (waiting t) a h);
+    holds = λ n a h.
+        ⊎_elim
+        (λ before. open-item o item t (connection_of a.request) (c.holds n a before.0)
+        (by_bool (closed_by item (connection_of a.request) ≡ false) (closed_by item (connection_of a.request)) (λ on. absurd (false≢true (sym before.1 ∙ s.held_out n a before.0 on))) (λ off. off)))
+        (λ now. brought_open (connection_of a.request) (admitted_brought n item a now))
+        (held_from item t n a h);
+  }
+    where
+      live_from : (d : Command) → In d (live (item ∷ t)) → (In d (live t) × (list_any (leaves_ticket d.ticket) item ≡ false)) ⊎ In d (filter_map enters item)
+      live_from d h =
+          ⊎_elim
+          (λ before. let r = in-filter (λ (x : Command). not (list_any (leaves_ticket x.ticket) item)) (live t) d before in inl (r.0, not_true (list_any (leaves_ticket d.ticket) item) r.1))
+          (λ now. inr (in-filter (λ (x : Command). not (has (leaves_ticket x.ticket) (item ∷ t))) (filter_map enters item) d now).0)
+          (in-append (filter (λ (x : Command). not (list_any (leaves_ticket x.ticket) item)) (live t)) (filter (λ (x : Command). not (has (leaves_ticket x.ticket) (item ∷ t))) (filter_map enters item)) d (subst (In d) (live-item item t) h))
+
+      lives_on : (d : Command) → In d (live t) × (list_any (leaves_ticket d.ticket) item ≡ false) → is_open o (item ∷ t) (connection_of d.arrival.request) ≡ true
+      lives_on d before =
+          let conn : ℕ = connection_of d.arrival.request in
+          open-item o item t conn (c.lives d before.0)
+          (by_bool (closed_by item conn ≡ false) (closed_by item conn) (λ on. absurd (false≢true (sym before.1 ∙ s.live_out d before.0 on))) (λ off. off))

@@ -1,0 +1,174 @@
+-- Nothing goes on in a session that is closed, nor on a connection that is, in the trace of each list of events that come on
+-- the session's connections. A request on another one would go on after the last of them is closed, and the session with it.
+use Rattle.std.proofs.Common.{◌≡◌, ℕ, ◌==◌, ◌&&◌, ◌||◌, inl, ⊎_elim, not, Bool, true, false, List, [], ◌∷◌, ◌++◌, map, filter, refl, ap, sym, subst, ◌∙◌}
+use Rattle.std.specs.List.{list_all, list_any, flat_map, range_with_len}
+use Rattle.std.proofs.lemmas.Bool.{false≢true}
+use Rattle.std.proofs.lemmas.List.Folds.{list_any-append, list_all-append}
+use Rattle.iscsi_history.specs.declared.effect.Effect.{Effect}
+use Rattle.iscsi_history.specs.declared.effect.Effect.TheVariants.{Enable}
+use Rattle.iscsi_history.specs.declared.event.Event.{Event}
+use Rattle.iscsi_history.specs.Settings.{Setting, is_known}
+use Rattle.iscsi_history.specs.Trace.{Command, Mark, Admits, Delivers, Executes, Voids, Empties, Waits, Leaves, Enters, Sends, ClosesConn, ClosesSession, Ignores, Trace, has, live, live_in, was_free, enabled_in, closes_conn, closes_session, is_ended}
+use Rattle.iscsi_history.specs.Logout.{is_open}
+use Rattle.iscsi_history.specs.Run.{trace_of, effects_of_mark, newly_enabled, effects_of_item, run_of}
+use Rattle.iscsi_history.specs.Agenda.{belongs}
+use Rattle.iscsi_history.specs.Enabling.{effects_so_far}
+use Rattle.iscsi_history.specs.Closes.{is_session_close, is_close_of, is_ignored, is_on, ClosesHold, ClosesHoldIn}
+use Rattle.iscsi_history.proofs.BoolLemmas.{and_both, or_none, or_second, or_comm, or_false, and_false}
+use Rattle.iscsi_history.proofs.MomentLemmas.{log_effects}
+use Rattle.iscsi_history.proofs.CloseLemmas.{In, in-filter, in-append, is_at, ignores, Sound, Clear, clear-item, open-unended}
+use Rattle.iscsi_history.proofs.CloseRuns.{Sounds, clear_of, trace_sounds}
+
+-- ---- what the effects show of closing
+
+enables_none : (p : Effect → Bool) → ((ticket unit : ℕ) → p (Enable ticket unit) ≡ false) → (cs : List Command) → list_any p (map (λ (c : Command). Enable c.ticket c.unit) cs) ≡ false
+enables_none p none [] = refl
+enables_none p none (c ∷ cs) = ap (λ b. b || list_any p (map (λ (d : Command). Enable d.ticket d.unit) cs)) (none c.ticket c.unit) ∙ enables_none p none cs
+
+module _ (o : Setting) (p : Effect → Bool) (q : Mark → Bool) (none : (ticket unit : ℕ) → p (Enable ticket unit) ≡ false) (same : (t : Trace) (m : Mark) → list_any p (effects_of_mark o t m) ≡ q m) where
+  shown_marks : (t : Trace) (ms : List Mark) → list_any p (flat_map (effects_of_mark o t) ms) ≡ list_any q ms
+  shown_marks t [] = refl
+  shown_marks t (m ∷ ms) =
+      list_any-append p (effects_of_mark o t m) (flat_map (effects_of_mark o t) ms)
+      ∙ ap (λ b. b || list_any p (flat_map (effects_of_mark o t) ms)) (same t m) ∙ ap (λ b. q m || b) (shown_marks t ms)
+
+  shown_item : (t : Trace) (item : List Mark) → list_any p (effects_of_item o t item) ≡ list_any q item
+  shown_item t item =
+      list_any-append p (flat_map (effects_of_mark o t) item) (map (λ (c : Command). Enable c.ticket c.unit) (newly_enabled o t item))
+      ∙ ap (λ b. list_any p (flat_map (effects_of_mark o t) item) || b) (enables_none p none (newly_enabled o t item))
+      ∙ or_false (list_any p (flat_map (effects_of_mark o t) item)) ∙ shown_marks t item
+
+  shown_so_far : (t : Trace) → list_any p (effects_so_far o t) ≡ has q t
+  shown_so_far [] = refl
+  shown_so_far (item ∷ t) =
+      list_any-append p (effects_so_far o t) (effects_of_item o t item)
+      ∙ ap (λ b. b || list_any p (effects_of_item o t item)) (shown_so_far t)
+      ∙ ap (λ b. has q t || b) (shown_item t item)
+      ∙ or_comm (has q t) (list_any q item)
+
+session_mark : (o : Setting) (t : Trace) (m : Mark) → list_any is_session_close (effects_of_mark o t m) ≡ closes_session m
+session_mark o t (Admits a) = refl
+session_mark o t (Delivers a) = refl
+session_mark o t (Executes a) = refl
+session_mark o t (Voids n) = refl
+session_mark o t (Empties a) = refl
+session_mark o t (Waits a) = refl
+session_mark o t (Leaves c) = refl
+session_mark o t (Enters c) = refl
+session_mark o t (Sends conn reply) = refl
+session_mark o t (ClosesConn conn) = refl
+session_mark o t ClosesSession = refl
+session_mark o t (Ignores why) = refl
+
+conn_mark : (o : Setting) (k : ℕ) (t : Trace) (m : Mark) → list_any (is_close_of k) (effects_of_mark o t m) ≡ closes_conn k m
+conn_mark o k t (Admits a) = refl
+conn_mark o k t (Delivers a) = refl
+conn_mark o k t (Executes a) = refl
+conn_mark o k t (Voids n) = refl
+conn_mark o k t (Empties a) = refl
+conn_mark o k t (Waits a) = refl
+conn_mark o k t (Leaves c) = refl
+conn_mark o k t (Enters c) = refl
+conn_mark o k t (Sends conn reply) = refl
+conn_mark o k t (ClosesConn conn) = or_false (conn == k)
+conn_mark o k t ClosesSession = refl
+conn_mark o k t (Ignores why) = refl
+
+-- ---- what an item shows on a connection
+
+on_mark : (o : Setting) (k : ℕ) (t : Trace) (m : Mark) → is_at k m ≡ false → list_any (is_on k) (effects_of_mark o t m) ≡ false
+on_mark o k t (Admits a) h = refl
+on_mark o k t (Delivers a) h = ap (λ b. b || false) h
+on_mark o k t (Executes a) h = ap (λ b. b || false) h
+on_mark o k t (Voids n) h = refl
+on_mark o k t (Empties a) h = refl
+on_mark o k t (Waits a) h = ap (λ b. b || false) h
+on_mark o k t (Leaves c) h = refl
+on_mark o k t (Enters c) h = refl
+on_mark o k t (Sends conn reply) h = ap (λ b. b || false) h
+on_mark o k t (ClosesConn conn) h = refl
+on_mark o k t ClosesSession h = refl
+on_mark o k t (Ignores why) h = refl
+
+on_marks : (o : Setting) (k : ℕ) (t : Trace) (ms : List Mark) → list_any (is_at k) ms ≡ false → list_any (is_on k) (flat_map (effects_of_mark o t) ms) ≡ false
+on_marks o k t [] h = refl
+on_marks o k t (m ∷ ms) h =
+    let parts = or_none (is_at k m) (list_any (is_at k) ms) h in
+    list_any-append (is_on k) (effects_of_mark o t m) (flat_map (effects_of_mark o t) ms)
+    ∙ ap (λ b. b || list_any (is_on k) (flat_map (effects_of_mark o t) ms)) (on_mark o k t m parts.0) ∙ on_marks o k t ms parts.1
+
+on_item : (o : Setting) (k : ℕ) (t : Trace) (item : List Mark) → list_any (is_at k) item ≡ false → list_any (is_on k) (effects_of_item o t item) ≡ false
+on_item o k t item h =
+    list_any-append (is_on k) (flat_map (effects_of_mark o t) item) (map (λ (c : Command). Enable c.ticket c.unit) (newly_enabled o t item))
+    ∙ ap (λ b. b || list_any (is_on k) (map (λ (c : Command). Enable c.ticket c.unit) (newly_enabled o t item))) (on_marks o k t item h)
+    ∙ enables_none (is_on k) (λ ticket unit. refl) (newly_enabled o t item)
+
+-- ---- an item that passes its event over, where nothing is live
+
+ignored_marks : (o : Setting) (t : Trace) (ms : List Mark) → list_all ignores ms ≡ true → list_all is_ignored (flat_map (effects_of_mark o t) ms) ≡ true
+ignored_marks o t [] h = refl
+ignored_marks o t (Admits a ∷ ms) h = absurd (false≢true h)
+ignored_marks o t (Delivers a ∷ ms) h = absurd (false≢true h)
+ignored_marks o t (Executes a ∷ ms) h = absurd (false≢true h)
+ignored_marks o t (Voids n ∷ ms) h = absurd (false≢true h)
+ignored_marks o t (Empties a ∷ ms) h = absurd (false≢true h)
+ignored_marks o t (Waits a ∷ ms) h = absurd (false≢true h)
+ignored_marks o t (Leaves c ∷ ms) h = absurd (false≢true h)
+ignored_marks o t (Enters c ∷ ms) h = absurd (false≢true h)
+ignored_marks o t (Sends conn reply ∷ ms) h = absurd (false≢true h)
+ignored_marks o t (ClosesConn conn ∷ ms) h = absurd (false≢true h)
+ignored_marks o t (ClosesSession ∷ ms) h = absurd (false≢true h)
+ignored_marks o t (Ignores why ∷ ms) h = ignored_marks o t ms h
+
+none_in : {A : Type 0} (xs : List A) → ((x : A) → In x xs → ⊥) → xs ≡ []
+none_in [] none = refl
+none_in (x ∷ xs) none = absurd (none x (inl refl))
+
+none_mapped : {A : Type 0} (f : ℕ → List A) (ns : List ℕ) → ((n : ℕ) (x : A) → In x (f n) → ⊥) → (x : A) → In x (flat_map f ns) → ⊥
+none_mapped f [] none x h = h
+none_mapped f (n ∷ ns) none x h = ⊎_elim (λ here. none n x here) (λ later. none_mapped f ns none x later) (in-append (f n) (flat_map f ns) x h)
+
+ignored_item : (o : Setting) (t : Trace) (item : List Mark) → list_all ignores item ≡ true → ((c : Command) → In c (live (item ∷ t)) → ⊥) → list_all is_ignored (effects_of_item o t item) ≡ true
+ignored_item o t item all none =
+    let newly : newly_enabled o t item ≡ [] = none_in (newly_enabled o t item) (none_mapped (λ unit. filter (λ c. not (was_free c t)) (enabled_in unit (item ∷ t))) (range_with_len 0 o.units) unlive) in
+    list_all-append is_ignored (flat_map (effects_of_mark o t) item) (map (λ (c : Command). Enable c.ticket c.unit) (newly_enabled o t item))
+    ∙ ap (λ cs. list_all is_ignored (flat_map (effects_of_mark o t) item) && list_all is_ignored (map (λ (c : Command). Enable c.ticket c.unit) cs)) newly
+    ∙ and_both (list_all is_ignored (flat_map (effects_of_mark o t) item)) true (ignored_marks o t item all) refl
+  where
+    unlive : (unit : ℕ) (c : Command) → In c (filter (λ d. not (was_free d t)) (enabled_in unit (item ∷ t))) → ⊥
+    unlive unit c h =
+        none c (in-filter (λ (d : Command). d.unit == unit) (live (item ∷ t)) c
+        (in-filter (λ (d : Command). was_free d (item ∷ t)) (live_in unit (item ∷ t)) c
+        (in-filter (λ (d : Command). not (was_free d t)) (enabled_in unit (item ∷ t)) c h).0).0).0
+
+-- ---- the clause
+
+-- an item of the trace, and those before it
+part : (o : Setting) (later before : Trace) (item : List Mark) → Sounds o (later ++ item ∷ before) → Sound o before item × Sounds o before
+part o [] before item x = x
+part o (i ∷ later) before item x = part o later before item x.1
+
+-- a connection that is closed isn't open
+unopen : (o : Setting) (t : Trace) (conn : ℕ) → has (closes_conn conn) t ≡ true → is_open o t conn ≡ false
+unopen o t conn h =
+    ap (λ b. is_known conn o.conns && not b) (or_second (is_ended t) (has (closes_conn conn) t) h) ∙ and_false (is_known conn o.conns)
+
+sounds_hold : (o : Setting) (t : Trace) → Sounds o t → ClosesHold o t
+sounds_hold o t x = record {
+  session = λ later before item split closed.
+      let here = part o later before item (subst (Sounds o) (sym split) x) in
+      let sound : Sound o before item = here.0 in
+      let over : is_ended before ≡ true = sym (shown_so_far o is_session_close closes_session (λ ticket unit. refl) (session_mark o) before) ∙ closed in
+      let clear : Clear o (item ∷ before) = clear-item o item before sound (clear_of o before here.1) in
+      ignored_item o before item (sound.ended over)
+      (λ c there. false≢true (sym (open-unended o (item ∷ before) _ (clear.lives c there)) ∙ or_second (list_any closes_session item) (is_ended before) over));
+  conns = λ conn later before item split closed.
+      let here = part o later before item (subst (Sounds o) (sym split) x) in
+      let sound : Sound o before item = here.0 in
+      let over : has (closes_conn conn) before ≡ true = sym (shown_so_far o (is_close_of conn) (closes_conn conn) (λ ticket unit. refl) (conn_mark o conn) before) ∙ closed in
+      on_item o conn before item (sound.on_open conn (unopen o before conn over));
+}
+
+-- for every list of events that come on the session's connections, and for its log
+pub closes_hold_in : (o : Setting) (h : List Event) → list_all (belongs o) h ≡ true → ClosesHoldIn o h (run_of o h)
+closes_hold_in o h known = record { whole = sym (log_effects o 0 [] h); hold = sounds_hold o (trace_of o h) (trace_sounds o h known) }

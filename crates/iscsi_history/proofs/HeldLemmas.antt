@@ -1,0 +1,114 @@
+-- Which requests are held, and which are due.
+use Rattle.std.proofs.Common.{◌≡◌, ℕ, ◌==◌, ◌||◌, ◌⊎◌, inl, inr, ⊎_elim, cond, Bool, true, false, List, [], ◌∷◌, ◌++◌, Option, Some, None, option_map, refl, ap, sym, ◌∙◌, eq-eqb}
+use Rattle.std.specs.List.{list_any, filter_map, cons_option}
+use Rattle.std.proofs.lemmas.Bool.{eqb-true}
+use Rattle.std.proofs.lemmas.List.{append-nil}
+use Rattle.iscsi_history.specs.Trace.{Arrival, Mark, Admits, Delivers, Executes, Voids, Empties, Waits, Leaves, Enters, Sends, ClosesConn, ClosesSession, Ignores, Trace, shown, first_of, is_received, is_delivered, is_emptied, held, admitted, admits_at, delivers_number}
+use Rattle.iscsi_history.specs.Executed.{request_at}
+use Rattle.iscsi_history.proofs.TraceLemmas.{unadmitted}
+use Rattle.iscsi_history.proofs.DeliveryLemmas.{IsQuiet}
+
+-- ---- who was admitted at a number
+
+pub first_of-append : {A : Type 0} (xs ys : List A) (x : A) → first_of (xs ++ ys) ≡ Some x → (first_of xs ≡ Some x) ⊎ (first_of ys ≡ Some x)
+first_of-append [] ys x h = inr h
+first_of-append (z ∷ xs) ys x h = inl h
+
+mark_number : (n : ℕ) (m : Mark) (a : Arrival) → admits_at n m ≡ Some a → a.number ≡ n
+mark_number n (Admits b) a h =
+    elim (b.number == n) as (λ v. (b.number == n) ≡ v → cond v (Some b) None ≡ Some a → a.number ≡ n) [
+      | true ↦ λ is found. let same : b ≡ a = cc in ap (λ (x : Arrival). x.number) (sym same) ∙ eqb-true b.number n is
+      | false ↦ λ is found. absurd cc
+    ] refl h
+mark_number n (Delivers b) a h = absurd cc
+mark_number n (Executes b) a h = absurd cc
+mark_number n (Voids k) a h = absurd cc
+mark_number n (Empties b) a h = absurd cc
+mark_number n (Waits b) a h = absurd cc
+mark_number n (Leaves c) a h = absurd cc
+mark_number n (Enters c) a h = absurd cc
+mark_number n (Sends conn reply) a h = absurd cc
+mark_number n (ClosesConn conn) a h = absurd cc
+mark_number n ClosesSession a h = absurd cc
+mark_number n (Ignores why) a h = absurd cc
+
+pub first_of-cons : {A : Type 0} (x : Option A) (xs : List A) (y : A) → first_of (cons_option x xs) ≡ Some y → (x ≡ Some y) ⊎ (first_of xs ≡ Some y)
+first_of-cons None xs y h = inr h
+first_of-cons (Some x) xs y h = inl h
+
+item_number : (n : ℕ) (item : List Mark) (a : Arrival) → first_of (filter_map (admits_at n) item) ≡ Some a → a.number ≡ n
+item_number n [] a h = absurd cc
+item_number n (m ∷ ms) a h = ⊎_elim (λ here. mark_number n m a here) (λ later. item_number n ms a later) (first_of-cons (admits_at n m) (filter_map (admits_at n) ms) a h)
+
+pub admitted-number : (t : Trace) (n : ℕ) (a : Arrival) → admitted t n ≡ Some a → a.number ≡ n
+admitted-number [] n a h = absurd cc
+admitted-number (item ∷ t) n a h = ⊎_elim (λ before. admitted-number t n a before) (λ now. item_number n item a now) (first_of-append (shown (admits_at n) t) (filter_map (admits_at n) item) a h)
+
+-- a request that is held was admitted at its number
+pub held-number : (t : Trace) (n : ℕ) (a : Arrival) → held t n ≡ Some a → a.number ≡ n
+held-number t n a h =
+    elim (is_delivered t n || is_emptied t n) as (λ b. cond b None (admitted t n) ≡ Some a → a.number ≡ n) [
+      | true ↦ λ found. absurd cc
+      | false ↦ λ found. admitted-number t n a found
+    ] h
+
+-- and was admitted
+pub admitted_of_held : (t : Trace) (n : ℕ) (a : Arrival) → held t n ≡ Some a → admitted t n ≡ Some a
+admitted_of_held t n a h =
+    elim (is_delivered t n || is_emptied t n) as (λ b. cond b None (admitted t n) ≡ Some a → admitted t n ≡ Some a) [
+      | true ↦ λ found. absurd cc
+      | false ↦ λ found. found
+    ] h
+
+-- and isn't taken out
+pub held_unemptied : (t : Trace) (n : ℕ) (a : Arrival) → held t n ≡ Some a → is_emptied t n ≡ false
+held_unemptied t n a h = by_tests (is_delivered t n) (is_emptied t n) h
+  where
+    by_tests : (d e : Bool) → cond (d || e) None (admitted t n) ≡ Some a → e ≡ false
+    by_tests true e found = absurd cc
+    by_tests false true found = absurd cc
+    by_tests false false found = refl
+
+-- ---- one item more
+
+pub admitted-admits : (t : Trace) (a : Arrival) (n : ℕ) → (a.number == n) ≡ false → admitted ((Admits a ∷ []) ∷ t) n ≡ admitted t n
+admitted-admits t a n apart = ap (λ b. first_of (shown (admits_at n) t ++ cons_option (cond b (Some a) None) [])) apart ∙ ap first_of (append-nil (shown (admits_at n) t))
+
+pub held-admits : (t : Trace) (a : Arrival) (n : ℕ) → (a.number == n) ≡ false → held ((Admits a ∷ []) ∷ t) n ≡ held t n
+held-admits t a n apart = ap (λ x. cond (is_delivered t n || is_emptied t n) None x) (admitted-admits t a n apart)
+
+pub held-here : (t : Trace) (a : Arrival) → is_received t a.number ≡ false → is_delivered t a.number ≡ false → is_emptied t a.number ≡ false → held ((Admits a ∷ []) ∷ t) a.number ≡ Some a
+held-here t a new undelivered unemptied =
+    ap (λ b. cond (b || is_emptied t a.number) None (admitted ((Admits a ∷ []) ∷ t) a.number)) undelivered
+    ∙ ap (λ b. cond b None (admitted ((Admits a ∷ []) ∷ t) a.number)) unemptied
+    ∙ ap (λ xs. first_of (xs ++ cons_option (cond (a.number == a.number) (Some a) None) [])) (unadmitted a.number t new)
+    ∙ ap (λ b. first_of (cons_option (cond b (Some a) None) [])) (eq-eqb a.number a.number refl)
+
+-- a request's turn: others are held as before
+pub held-turned : (t : Trace) (a : Arrival) (ms : List Mark) (n : ℕ) → IsQuiet ms → (a.number == n) ≡ false → held ((Delivers a ∷ ms) ∷ t) n ≡ held t n
+held-turned t a ms n q apart =
+    ap (λ b. cond (((b || list_any (delivers_number n) ms) || is_delivered t n) || is_emptied ((Delivers a ∷ ms) ∷ t) n) None (admitted ((Delivers a ∷ ms) ∷ t) n)) apart
+    ∙ ap (λ b. cond ((b || is_delivered t n) || is_emptied ((Delivers a ∷ ms) ∷ t) n) None (admitted ((Delivers a ∷ ms) ∷ t) n)) (q.delivers_no n)
+    ∙ ap (λ b. cond (is_delivered t n || (b || is_emptied t n)) None (admitted ((Delivers a ∷ ms) ∷ t) n)) (q.empties_no n)
+    ∙ ap (λ xs. cond (is_delivered t n || is_emptied t n) None (first_of (shown (admits_at n) t ++ xs))) (q.admits n)
+    ∙ ap (λ xs. cond (is_delivered t n || is_emptied t n) None (first_of xs)) (append-nil (shown (admits_at n) t))
+
+-- the request itself isn't held any more
+pub held-delivered : (t : Trace) (a : Arrival) (ms : List Mark) (n : ℕ) → a.number ≡ n → held ((Delivers a ∷ ms) ∷ t) n ≡ None
+held-delivered t a ms n here =
+    ap (λ b. cond (((b || list_any (delivers_number n) ms) || is_delivered t n) || is_emptied ((Delivers a ∷ ms) ∷ t) n) None (admitted ((Delivers a ∷ ms) ∷ t) n)) (eq-eqb a.number n here)
+
+pub request_at-turned : (t : Trace) (a : Arrival) (ms : List Mark) (n : ℕ) → IsQuiet ms → request_at ((Delivers a ∷ ms) ∷ t) n ≡ request_at t n
+request_at-turned t a ms n q =
+    ap (λ b. cond (b || is_emptied t n) None (option_map (λ (b : Arrival). b.request) (admitted ((Delivers a ∷ ms) ∷ t) n))) (q.empties_no n)
+    ∙ ap (λ xs. cond (is_emptied t n) None (option_map (λ (b : Arrival). b.request) (first_of (shown (admits_at n) t ++ xs)))) (q.admits n)
+    ∙ ap (λ xs. cond (is_emptied t n) None (option_map (λ (b : Arrival). b.request) (first_of xs))) (append-nil (shown (admits_at n) t))
+
+-- who is admitted after an admission
+pub admitted-cases : (t : Trace) (a : Arrival) (n : ℕ) (b : Arrival) → admitted ((Admits a ∷ []) ∷ t) n ≡ Some b → (admitted t n ≡ Some b) ⊎ (a ≡ b)
+admitted-cases t a n b h =
+    ⊎_elim (λ before. inl before) (λ now. inr (this (a.number == n) now)) (first_of-append (shown (admits_at n) t) (filter_map (admits_at n) (Admits a ∷ [])) b h)
+  where
+    this : (v : Bool) → first_of (cons_option (cond v (Some a) None) []) ≡ Some b → a ≡ b
+    this true h = cc
+    this false h = absurd cc

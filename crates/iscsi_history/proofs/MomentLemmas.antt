@@ -1,0 +1,96 @@
+-- Moments: what the log shows of enabled commands, and the rule as a law.
+use Rattle.std.proofs.Common.{◌≡◌, ℕ, ◌+◌, ◌==◌, ◌||◌, not, cond, Bool, true, false, List, [], ◌∷◌, ◌++◌, map, filter, refl, ap, sym, ◌∙◌, ◌↔◌, append_assoc}
+use Rattle.std.specs.List.{list_any, flat_map}
+use Rattle.std.proofs.lemmas.Bool.{false≢true, eqb-true}
+use Rattle.std.proofs.lemmas.List.{append-nil}
+use Rattle.std.proofs.lemmas.List.Folds.{list_any-append}
+use Rattle.iscsi_history.specs.declared.effect.Effect.{Effect}
+use Rattle.iscsi_history.specs.declared.effect.Effect.TheVariants.{Enable}
+use Rattle.iscsi_history.specs.Settings.{Setting}
+use Rattle.iscsi_history.specs.Trace.{Command, Mark, Trace, has, entered, leaves_ticket, live, is_among, is_free_at, was_free, Admits, Delivers, Executes, Voids, Empties, Waits, Leaves, Enters, Sends, ClosesConn, ClosesSession, Ignores, after_items}
+use Rattle.iscsi_history.specs.Run.{newly_enabled, after_event, after_events, effects_of_mark, effects_of_item, effects_of, entries_from}
+use Rattle.iscsi_history.proofs.BoolLemmas.{or_first, or_second}
+use Rattle.iscsi_history.specs.declared.event.Event.{Event}
+use Rattle.iscsi_history.specs.Agenda.{items_of}
+use Rattle.iscsi_history.specs.Enabling.{effects_so_far, is_enable, FreeMoment, effects_in}
+use Rattle.iscsi_history.proofs.ListLemmas.{list_any-map}
+
+-- one that is in its set and free now was free at some moment so far
+pub free_now : (c : Command) (t : Trace) → is_free_at c t ≡ true → was_free c t ≡ true
+free_now c [] h = absurd (false≢true h)
+free_now c (item ∷ t) h = or_first (is_free_at c (item ∷ t)) (was_free c t) h
+
+abbrev pub enables : List Command → List Effect
+enables cs = map (λ (c : Command). Enable c.ticket c.unit) cs
+
+-- ---- what an item shows
+
+enabled_marks : (o : Setting) (t : Trace) (k : ℕ) (item : List Mark) → list_any (is_enable k) (flat_map (effects_of_mark o t) item) ≡ false
+enabled_marks o t k [] = refl
+enabled_marks o t k (Admits a ∷ ms) = enabled_marks o t k ms
+enabled_marks o t k (Delivers a ∷ ms) = enabled_marks o t k ms
+enabled_marks o t k (Executes a ∷ ms) = enabled_marks o t k ms
+enabled_marks o t k (Voids n ∷ ms) = enabled_marks o t k ms
+enabled_marks o t k (Empties a ∷ ms) = enabled_marks o t k ms
+enabled_marks o t k (Waits a ∷ ms) = enabled_marks o t k ms
+enabled_marks o t k (Leaves c ∷ ms) = enabled_marks o t k ms
+enabled_marks o t k (Enters c ∷ ms) = enabled_marks o t k ms
+enabled_marks o t k (Sends conn reply ∷ ms) = enabled_marks o t k ms
+enabled_marks o t k (ClosesConn conn ∷ ms) = enabled_marks o t k ms
+enabled_marks o t k (ClosesSession ∷ ms) = enabled_marks o t k ms
+enabled_marks o t k (Ignores why ∷ ms) = enabled_marks o t k ms
+
+pub item_enables : (o : Setting) (t : Trace) (item : List Mark) (k : ℕ) → list_any (is_enable k) (effects_of_item o t item) ≡ is_among k (newly_enabled o t item)
+item_enables o t item k =
+    list_any-append (is_enable k) (flat_map (effects_of_mark o t) item) (enables (newly_enabled o t item))
+    ∙ ap (λ b. b || list_any (is_enable k) (enables (newly_enabled o t item))) (enabled_marks o t k item)
+    ∙ list_any-map (is_enable k) (λ (c : Command). Enable c.ticket c.unit) (newly_enabled o t item)
+
+-- nothing that left is live
+pub left_unlive : (t : Trace) (k : ℕ) → has (leaves_ticket k) t ≡ true → is_among k (live t) ≡ false
+left_unlive t k left = none (entered t)
+  where
+    none : (cs : List Command) → is_among k (filter (λ (c : Command). not (has (leaves_ticket c.ticket) t)) cs) ≡ false
+    none [] = refl
+    none (c ∷ cs) =
+        elim (c.ticket == k) as (λ b. (c.ticket == k) ≡ b → is_among k (filter (λ (d : Command). not (has (leaves_ticket d.ticket) t)) (c ∷ cs)) ≡ false) [
+          | true ↦ λ is. ap (λ b. is_among k (cond (not b) (c ∷ filter (λ (d : Command). not (has (leaves_ticket d.ticket) t)) cs) (filter (λ (d : Command). not (has (leaves_ticket d.ticket) t)) cs))) (ap (λ n. has (leaves_ticket n) t) (eqb-true c.ticket k is) ∙ left) ∙ none cs
+          | false ↦ λ is. elim (has (leaves_ticket c.ticket) t) as (λ b. is_among k (cond (not b) (c ∷ filter (λ (d : Command). not (has (leaves_ticket d.ticket) t)) cs) (filter (λ (d : Command). not (has (leaves_ticket d.ticket) t)) cs)) ≡ false) [
+            | true ↦ none cs
+            | false ↦ ap (λ b. b || is_among k (filter (λ (d : Command). not (has (leaves_ticket d.ticket) t)) cs)) is ∙ none cs
+          ]
+        ] refl
+
+-- ---- the log
+
+items_effects : (o : Setting) (t : Trace) (items : List (List Mark)) → effects_so_far o (after_items items t) ≡ effects_so_far o t ++ effects_of o t items
+items_effects o t [] = sym (append-nil (effects_so_far o t))
+items_effects o t (item ∷ items) = items_effects o (item ∷ t) items ∙ append_assoc (effects_so_far o t) (effects_of_item o t item) (effects_of o (item ∷ t) items)
+
+pub log_effects : (o : Setting) (event : ℕ) (t : Trace) (h : List Event) → effects_so_far o (after_events o event t h) ≡ effects_so_far o t ++ effects_in (entries_from o event t h)
+log_effects o event t [] = sym (append-nil (effects_so_far o t))
+log_effects o event t (e ∷ h) =
+    log_effects o (event + 1) (after_event o event t e) h
+    ∙ ap (λ es. es ++ effects_in (entries_from o (event + 1) (after_event o event t e) h)) (items_effects o t (items_of o event t e))
+    ∙ append_assoc (effects_so_far o t) (effects_of o t (items_of o event t e)) (effects_in (entries_from o (event + 1) (after_event o event t e) h))
+
+-- ---- the rule
+
+or_cases : (a b : Bool) (P : Type 0) → (a ≡ true → P) → (b ≡ true → P) → (a || b) ≡ true → P
+or_cases true b P f g h = f refl
+or_cases false b P f g h = g h
+
+moment_of : (c : Command) (t : Trace) → was_free c t ≡ true → FreeMoment c t
+moment_of c [] h = absurd (false≢true h)
+moment_of c (item ∷ t) h =
+    or_cases (is_free_at c (item ∷ t)) (was_free c t) (FreeMoment c (item ∷ t))
+    (λ now. record { later = []; moment = item ∷ t; split = refl; free = now })
+    (λ before. let m : FreeMoment c t = moment_of c t before in record { later = item ∷ m.later; moment = m.moment; split = ap (λ s. item ∷ s) m.split; free = m.free })
+    h
+
+free_since : (c : Command) (later moment : Trace) → is_free_at c moment ≡ true → was_free c (later ++ moment) ≡ true
+free_since c [] moment h = free_now c moment h
+free_since c (item ∷ later) moment h = or_second (is_free_at c (item ∷ later ++ moment)) (was_free c (later ++ moment)) (free_since c later moment h)
+
+pub rule_means : (c : Command) (t : Trace) → (was_free c t ≡ true) ↔ FreeMoment c t
+rule_means c t = (moment_of c t, λ m. ap (was_free c) (sym m.split) ∙ free_since c m.later m.moment m.free)

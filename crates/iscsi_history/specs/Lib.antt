@@ -1,0 +1,14 @@
+pub mod Settings
+pub mod Trace
+pub mod Execution
+pub mod Management
+pub mod Logout
+pub mod Items
+pub mod Agenda
+pub mod Run
+pub mod Executed
+pub mod Flow
+pub mod Enabling
+pub mod Aborts
+pub mod Closes
+pub mod Rows
