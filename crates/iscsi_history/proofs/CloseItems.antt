@@ -23,8 +23,9 @@ use Rattle.iscsi_history.proofs.TraceLemmas.{live-quiet}
 use Rattle.iscsi_history.proofs.HeldLemmas.{held-number, admitted_of_held}
 use Rattle.iscsi_history.proofs.AbortMarks.{any_taken}
 use Rattle.iscsi_history.proofs.AbortRuns.{exp_item}
-use Rattle.iscsi_history.proofs.VerdictLemmas.{named_below, Entering, entering_by}
-use Rattle.iscsi_history.proofs.CloseLemmas.{In, in-filter, filter-in, flat_map-in, range-in, is_at, brings, ignores, closed_by, entered_brought, admitted_brought, Sound, Clear, open-item, open-unended, by_bool}
+use Rattle.iscsi_history.proofs.VerdictLemmas.{verdict_below, named_below, Entering, entering_by}
+use Rattle.iscsi_history.proofs.ElementLemmas.{In, in-filter, filter-in, flat_map-in, range-in}
+use Rattle.iscsi_history.proofs.CloseLemmas.{is_at, brings, ignores, closed_by, entered_brought, admitted_brought, Sound, Clear, open-item, open-unended, by_bool}
 
 -- ---- items on one open connection
 
@@ -141,19 +142,6 @@ sound_plain o t conn item here p =
   where
     stays : (k : ℕ) → closed_by item k ≡ false
     stays k = ap (λ b. b || list_any (closes_conn k) item) p.session ∙ p.conns k
-
--- ---- a command that enters
-
-verdict_below : (o : Setting) (t : Trace) (a : Arrival) (unit : ℕ) → verdict_of o t a.request ≡ Enter unit → unit < o.units
-verdict_below o t a unit h =
-    let e : Entering (is_tag_live t (itt a.request)) (is_crowded t a.request) (place_named o t a.request) unit = entering_by a.request (is_tag_live t (itt a.request)) (is_crowded t a.request) (place_named o t a.request) unit h in
-    by_unit (unit_named o.units a.request) refl e.place_is
-  where
-    by_unit : (x : Option ℕ) → unit_named o.units a.request ≡ x → option_map {U = ℕ × Bool} (λ u. (u, is_full o t u)) x ≡ Some (unit, false) → unit < o.units
-    by_unit None is k = absurd cc
-    by_unit (Some v) is k =
-        let same : v ≡ unit = ap (λ (y : Option (ℕ × Bool)). elim y [ Some p ↦ p.0 | None ↦ v ]) k in
-        subst (λ w. w < o.units) same (named_below o.units a.request v is)
 
 -- ---- what a Logout takes out
 

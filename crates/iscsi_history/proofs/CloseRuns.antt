@@ -20,7 +20,8 @@ use Rattle.iscsi_history.specs.Run.{after_event, after_events, trace_of}
 use Rattle.iscsi_history.proofs.BoolLemmas.{and_parts, and_both, or_none}
 use Rattle.iscsi_history.proofs.TraceLemmas.{after_items-append}
 use Rattle.iscsi_history.proofs.Missing.{expected_low}
-use Rattle.iscsi_history.proofs.CloseLemmas.{In, in-filter, Sound, Clear, clear-none, clear-item, open-item}
+use Rattle.iscsi_history.proofs.ElementLemmas.{In, in-filter}
+use Rattle.iscsi_history.proofs.CloseLemmas.{Sound, Clear, clear-none, clear-item, open-item}
 use Rattle.iscsi_history.proofs.CloseItems.{sound_item, sound_function, function_closes_none, sound_ignored, sound_rejected, sound_admitted, sound_completed, sound_immediate}
 
 -- each item is sound where it stands

@@ -16,7 +16,8 @@ use Rattle.iscsi_history.specs.Enabling.{effects_so_far}
 use Rattle.iscsi_history.specs.Closes.{is_session_close, is_close_of, is_ignored, is_on, ClosesHold, ClosesHoldIn}
 use Rattle.iscsi_history.proofs.BoolLemmas.{and_both, or_none, or_second, or_comm, or_false, and_false}
 use Rattle.iscsi_history.proofs.MomentLemmas.{log_effects}
-use Rattle.iscsi_history.proofs.CloseLemmas.{In, in-filter, in-append, is_at, ignores, Sound, Clear, clear-item, open-unended}
+use Rattle.iscsi_history.proofs.ElementLemmas.{In, in-filter, in-append}
+use Rattle.iscsi_history.proofs.CloseLemmas.{is_at, ignores, Sound, Clear, clear-item, open-unended}
 use Rattle.iscsi_history.proofs.CloseRuns.{Sounds, clear_of, trace_sounds}
 
 -- ---- what the effects show of closing

@@ -1,6 +1,7 @@
 pub mod RunLemmas
 pub mod BoolLemmas
 pub mod ListLemmas
+pub mod ElementLemmas
 pub mod Missing
 pub mod TraceLemmas
 pub mod HeldLemmas
@@ -17,3 +18,6 @@ pub mod CloseRuns
 pub mod CloseTheorem
 pub mod MomentLemmas
 pub mod VerdictLemmas
+pub mod Forms
+pub mod FormItems
+pub mod FormRuns

@@ -1,12 +1,17 @@
--- What a verdict by which a command enters says.
-use Rattle.std.proofs.Common.{◌≡◌, ℕ, ◌<◌, ◌==◌, cond, Bool, true, false, nat_lt, Option, Some, None, refl, ap, subst, ◌∙◌, arith}
+-- What verdicts say: one by which a command enters, and one that is a reply.
+use Rattle.std.proofs.Common.{◌≡◌, ℕ, ◌<◌, ◌==◌, ◌&&◌, ◌||◌, not, cond, Bool, true, false, nat_lt, Option, Some, None, option_map, refl, ap, subst, ◌∙◌, arith}
 use Rattle.std.proofs.lemmas.Bool.Decides.{nat_tests}
 use Rattle.iscsi_wire.specs.declared.request.Request.{Request}
-use Rattle.iscsi_wire.specs.declared.reply.Reply.TheVariants.{Scsi, Nop, Reject}
-use Rattle.iscsi_wire.specs.Fields.{opcode, attr_code, itt, lun, unit_of}
+use Rattle.iscsi_wire.specs.declared.reply.Reply.{Reply}
+use Rattle.iscsi_wire.specs.declared.reply.Reply.TheVariants.{Scsi, Task, Nop, Reject}
+use Rattle.iscsi_wire.specs.Fields.{header_of, opcode, attr_code, function, itt, lun, unit_of}
 use Rattle.iscsi_history.specs.declared.verdict.Verdict.{Verdict}
 use Rattle.iscsi_history.specs.declared.verdict.Verdict.TheVariants.{Nothing, Answer, Enter as EnterUnit}
-use Rattle.iscsi_history.specs.Execution.{unit_named, scsi_to, scsi_verdict, nop_verdict, request_verdict}
+use Rattle.iscsi_history.specs.Settings.{Setting}
+use Rattle.iscsi_history.specs.Trace.{Arrival, Trace}
+use Rattle.iscsi_history.specs.Execution.{is_tag_live, is_full, is_crowded, place_named, verdict_of, no_unit, unit_named, scsi_to, scsi_verdict, nop_verdict, request_verdict}
+use Rattle.iscsi_history.specs.Management.{is_supported, refusal_to}
+use Rattle.iscsi_history.specs.Answers.{Answers}
 
 -- ---- the verdict
 
@@ -62,3 +67,53 @@ entering_by r used crowded place u h =
     no_nop : (b : Bool) → cond b Nothing (Answer (Nop (itt r))) ≡ EnterUnit u → ⊥
     no_nop true e = cc
     no_nop false e = cc
+
+-- the unit that a command enters is one of the session's
+pub verdict_below : (o : Setting) (t : Trace) (a : Arrival) (unit : ℕ) → verdict_of o t a.request ≡ EnterUnit unit → unit < o.units
+verdict_below o t a unit h =
+    let e : Entering (is_tag_live t (itt a.request)) (is_crowded t a.request) (place_named o t a.request) unit = entering_by a.request (is_tag_live t (itt a.request)) (is_crowded t a.request) (place_named o t a.request) unit h in
+    by_unit (unit_named o.units a.request) refl e.place_is
+  where
+    by_unit : (x : Option ℕ) → unit_named o.units a.request ≡ x → option_map {U = ℕ × Bool} (λ u. (u, is_full o t u)) x ≡ Some (unit, false) → unit < o.units
+    by_unit None is k = absurd cc
+    by_unit (Some v) is k =
+        let same : v ≡ unit = ap (λ (y : Option (ℕ × Bool)). elim y [ Some p ↦ p.0 | None ↦ v ]) k in
+        subst (λ w. w < o.units) same (named_below o.units a.request v is)
+
+-- a reply by which a request is answered has its tag, or its header
+pub verdict_answers : (r : Request) (used crowded : Bool) (place : Option (ℕ × Bool)) (reply : Reply) → request_verdict r used crowded place ≡ Answer reply → Answers r reply
+verdict_answers r used crowded place reply h = by_tests (opcode r == 0) (itt r == 0xffff_ffff) (opcode r == 4) (itt r == 0xffff_ffff) (nat_lt 3 (attr_code r)) used crowded place h
+  where
+    fits : (x : Reply) → Answers r x → Answer x ≡ Answer reply → Answers r reply
+    fits x answers is = let same : x ≡ reply = cc in subst (Answers r) same answers
+
+    by_place : (place : Option (ℕ × Bool)) (e : Bool) → scsi_to r e place ≡ Answer reply → Answers r reply
+    by_place None e h = fits (Scsi (itt r) 0x02 (Some no_unit)) refl h
+    by_place (Some (u, full)) true h = fits (Reject 6 (header_of r)) refl h
+    by_place (Some (u, true)) false h = fits (Scsi (itt r) 0x28 None) refl h
+    by_place (Some (u, false)) false h = absurd cc
+
+    by_tests : (nop untagged text tagless attr d e : Bool) (place : Option (ℕ × Bool))
+        → cond nop (cond untagged Nothing (Answer (Nop (itt r)))) (cond text (Answer (Reject 5 (header_of r))) (cond tagless (Answer (Reject 9 (header_of r))) (cond attr (Answer (Reject 9 (header_of r))) (cond d (Answer (Reject 7 (header_of r))) (scsi_to r e place))))) ≡ Answer reply
+        → Answers r reply
+    by_tests true true text tagless attr d e place h = absurd cc
+    by_tests true false text tagless attr d e place h = fits (Nop (itt r)) refl h
+    by_tests false untagged true tagless attr d e place h = fits (Reject 5 (header_of r)) refl h
+    by_tests false untagged false true attr d e place h = fits (Reject 9 (header_of r)) refl h
+    by_tests false untagged false false true d e place h = fits (Reject 9 (header_of r)) refl h
+    by_tests false untagged false false false true e place h = fits (Reject 7 (header_of r)) refl h
+    by_tests false untagged false false false false e place h = by_place place e h
+
+-- so has one by which a function is refused
+pub refusal_answers : (level units : ℕ) (r : Request) (reply : Reply) → refusal_to level units r ≡ Some reply → Answers r reply
+refusal_answers level units r reply h = by_tests (itt r == 0xffff_ffff) (function r == 8) (not (is_supported level (function r))) (unit_named units r) h
+  where
+    fits : (x : Reply) → Answers r x → Some x ≡ Some reply → Answers r reply
+    fits x answers is = let same : x ≡ reply = cc in subst (Answers r) same answers
+
+    by_tests : (b c d : Bool) (u : Option ℕ) → cond b (Some (Reject 9 (header_of r))) (cond c (Some (Task (itt r) 4)) (cond d (Some (Task (itt r) 5)) (elim u [ Some v ↦ None | None ↦ Some (Task (itt r) 2) ]))) ≡ Some reply → Answers r reply
+    by_tests true c d u h = fits (Reject 9 (header_of r)) refl h
+    by_tests false true d u h = fits (Task (itt r) 4) refl h
+    by_tests false false true u h = fits (Task (itt r) 5) refl h
+    by_tests false false false (Some v) h = absurd cc
+    by_tests false false false None h = fits (Task (itt r) 2) refl h

@@ -12,3 +12,8 @@ pub mod Enabling
 pub mod Aborts
 pub mod Closes
 pub mod Rows
+pub mod Lives
+pub mod Order
+pub mod Numbering
+pub mod Answers
+pub mod Meaning
