@@ -148,11 +148,11 @@ none_among k f (unit ∷ units) none =
     list_any-append (λ (c : Command). c.ticket == k) (f unit) (flat_map f units)
     ∙ ap (λ b. b || is_among k (flat_map f units)) (none unit) ∙ none_among k f units none
 
-none_mapped : {A : Type 0} (p : Mark → Bool) (f : A → Mark) (xs : List A) → ((x : A) → p (f x) ≡ false) → list_any p (map f xs) ≡ false
+pub none_mapped : {A : Type 0} (p : Mark → Bool) (f : A → Mark) (xs : List A) → ((x : A) → p (f x) ≡ false) → list_any p (map f xs) ≡ false
 none_mapped p f [] none = refl
 none_mapped p f (x ∷ xs) none = ap (λ b. b || list_any p (map f xs)) (none x) ∙ none_mapped p f xs none
 
-none_viewed : {A B : Type 0} (view : Mark → Option B) (f : A → Mark) (xs : List A) → ((x : A) → view (f x) ≡ None) → filter_map view (map f xs) ≡ []
+pub none_viewed : {A B : Type 0} (view : Mark → Option B) (f : A → Mark) (xs : List A) → ((x : A) → view (f x) ≡ None) → filter_map view (map f xs) ≡ []
 none_viewed view f [] none = refl
 none_viewed view f (x ∷ xs) none = ap (λ y. cons_option y (filter_map view (map f xs))) (none x) ∙ none_viewed view f xs none
 

@@ -161,7 +161,7 @@ completion_going o now t ticket status x = by_command (command_of t ticket) refl
     by_command (Some c) is =
         HaveForms-first o now t _ x (record { form = Completed c status; is = refl; formed = (in-filter (λ (d : Command). d.ticket == ticket && was_free d t) (live t) c (first-in _ c is)).0 })
 
-event_going : (o : Setting) (now : ℕ) (t : Trace) (e : Event) → HaveForms o now t → Going o now (after_event o now t e)
+pub event_going : (o : Setting) (now : ℕ) (t : Trace) (e : Event) → HaveForms o now t → Going o now (after_event o now t e)
 event_going o now t (Arrive conn header) x = arrival_going o now t (arrival_of o now t (request_of conn header)) refl x
 event_going o now t (Done ticket status) x = completion_going o now t ticket status x
 

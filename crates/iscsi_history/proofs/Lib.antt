@@ -21,3 +21,7 @@ pub mod VerdictLemmas
 pub mod Forms
 pub mod FormItems
 pub mod FormRuns
+pub mod NewlyLemmas
+pub mod OrderLemmas
+pub mod OrderRuns
+pub mod NumberingLemmas

@@ -30,7 +30,8 @@ use Rattle.iscsi_history.proofs.ApartLemmas.{apart-filter}
 use Rattle.iscsi_history.proofs.HeldLemmas.{held-number, admitted_of_held}
 use Rattle.iscsi_history.proofs.DeliveryLemmas.{IsQuiet, received-quiet, held-quiet}
 use Rattle.iscsi_session.proofs.WindowParts.{Next, turned_window, WindowAgrees-quiet, WindowAgrees-turned, expected_past_next}
-use Rattle.iscsi_session.proofs.CommandParts.{Untouched, CommandsAgree-untouched}
+use Rattle.iscsi_history.proofs.NewlyLemmas.{Untouched}
+use Rattle.iscsi_session.proofs.CommandParts.{CommandsAgree-untouched}
 use Rattle.iscsi_session.proofs.ReplyParts.{RepliesAgree-quiet}
 use Rattle.iscsi_session.proofs.ArrivedLemmas.{ArrivalsAgree-quiet}
 use Rattle.iscsi_session.proofs.SetParts.{SetsAgree-untouched}

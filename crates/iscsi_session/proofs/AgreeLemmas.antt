@@ -26,9 +26,11 @@ use Rattle.iscsi_session.proofs.ArrivedLemmas.{ArrivalsAgree-quiet, ArrivalsAgre
 use Rattle.iscsi_history.proofs.HeldLemmas.{held-here}
 use Rattle.iscsi_session.proofs.ReplyParts.{RepliesAgree-quiet}
 use Rattle.iscsi_history.proofs.MomentLemmas.{enables}
-use Rattle.iscsi_session.proofs.CommandParts.{Untouched, live-untouched, CommandsAgree-untouched}
+use Rattle.iscsi_history.proofs.NewlyLemmas.{Untouched, live-untouched}
+use Rattle.iscsi_session.proofs.CommandParts.{CommandsAgree-untouched}
 use Rattle.iscsi_session.proofs.EnablingLemmas.{EnabledSoFar-untouched}
-use Rattle.iscsi_session.proofs.SetParts.{SetsAgree-untouched, newly-untouched}
+use Rattle.iscsi_history.proofs.NewlyLemmas.{newly-untouched}
+use Rattle.iscsi_session.proofs.SetParts.{SetsAgree-untouched}
 
 -- ---- numbers
 

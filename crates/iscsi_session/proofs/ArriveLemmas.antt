@@ -31,8 +31,10 @@ use Rattle.iscsi_history.proofs.DeliveryLemmas.{IsQuiet}
 use Rattle.iscsi_session.proofs.WindowParts.{WindowAgrees-quiet}
 use Rattle.iscsi_session.proofs.ArrivedLemmas.{ArrivalsAgree-quiet}
 use Rattle.iscsi_session.proofs.ReplyParts.{RepliesAgree-sent}
-use Rattle.iscsi_session.proofs.CommandParts.{Untouched, CommandsAgree-untouched}
-use Rattle.iscsi_session.proofs.SetParts.{SetsAgree-untouched, newly-untouched}
+use Rattle.iscsi_history.proofs.NewlyLemmas.{Untouched}
+use Rattle.iscsi_session.proofs.CommandParts.{CommandsAgree-untouched}
+use Rattle.iscsi_history.proofs.NewlyLemmas.{newly-untouched}
+use Rattle.iscsi_session.proofs.SetParts.{SetsAgree-untouched}
 use Rattle.iscsi_history.proofs.MomentLemmas.{enables}
 use Rattle.iscsi_session.proofs.EnablingLemmas.{EnabledSoFar-untouched}
 use Rattle.iscsi_session.proofs.AgreeLemmas.{settled_expected, unfinished-untouched, Stepped, Stepped-ignored}

@@ -16,18 +16,7 @@ use Rattle.iscsi_history.proofs.BoolLemmas.{and_parts, or_none, or_false, not_tr
 use Rattle.iscsi_history.proofs.ApartLemmas.{eq_sym, unamong-filter, apart-push, apart-filter}
 use Rattle.iscsi_session.proofs.EnabledLemmas.{filter-map}
 use Rattle.iscsi_history.proofs.TraceLemmas.{live-quiet, live-enters, live-leaves}
-
--- ---- an item that nothing enters or leaves by
-
-pub record Untouched (item : List Mark) : Type 0 where
-  pub enters_none : filter_map enters item ≡ []
-  pub leaves_no : (k : ℕ) → list_any (leaves_ticket k) item ≡ false
-
-pub live-untouched : (item : List Mark) (t : Trace) → Untouched item → live (item ∷ t) ≡ live t
-live-untouched item t u = live-quiet item t u.enters_none u.leaves_no
-
-pub live_in-untouched : (item : List Mark) (t : Trace) → Untouched item → (unit : ℕ) → live_in unit (item ∷ t) ≡ live_in unit t
-live_in-untouched item t u unit = ap (filter (λ (c : Command). c.unit == unit)) (live-untouched item t u)
+use Rattle.iscsi_history.proofs.NewlyLemmas.{Untouched, live-untouched}
 
 entered-untouched : (item : List Mark) (t : Trace) → Untouched item → entered (item ∷ t) ≡ entered t
 entered-untouched item t u = ap (λ cs. entered t ++ cs) u.enters_none ∙ append-nil (entered t)

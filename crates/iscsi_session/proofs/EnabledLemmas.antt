@@ -19,6 +19,7 @@ use Rattle.iscsi_history.proofs.ApartLemmas.{unamong-filter}
 use Rattle.iscsi_history.proofs.TraceLemmas.{all_among}
 use Rattle.iscsi_history.proofs.ListLemmas.{list_all-filter, all_of_filter}
 use Rattle.iscsi_history.proofs.MomentLemmas.{free_now, enables}
+use Rattle.iscsi_history.proofs.NewlyLemmas.{all_here, filter-twice, flat_map-none, is_here, new_in, new_in-more, new_in-none, was_free-stays}
 
 -- ---- lists
 
@@ -28,24 +29,6 @@ map_all f g p [] all same = refl
 map_all f g p (x ∷ xs) all same =
     let parts = and_parts (p x) (list_all p xs) all in
     ap (λ y. y ∷ map f xs) (same x parts.0) ∙ ap (λ ys. g x ∷ ys) (map_all f g p xs parts.1 same)
-
-pub filter_all : {A : Type 0} (f g : A → Bool) (p : A → Bool) (xs : List A) → list_all p xs ≡ true → ((x : A) → p x ≡ true → f x ≡ g x) → filter f xs ≡ filter g xs
-filter_all f g p [] all same = refl
-filter_all f g p (x ∷ xs) all same =
-    let parts = and_parts (p x) (list_all p xs) all in
-    ap (λ b. cond b (x ∷ filter f xs) (filter f xs)) (same x parts.0) ∙ ap (λ ys. cond (g x) (x ∷ ys) ys) (filter_all f g p xs parts.1 same)
-
-pub filter-none : {A : Type 0} (f : A → Bool) (xs : List A) → ((x : A) → f x ≡ false) → filter f xs ≡ []
-filter-none f [] none = refl
-filter-none f (x ∷ xs) none = ap (λ b. cond b (x ∷ filter f xs) (filter f xs)) (none x) ∙ filter-none f xs none
-
-pub filter-twice : {A : Type 0} (f g : A → Bool) (xs : List A) → filter f (filter g xs) ≡ filter (λ x. g x && f x) xs
-filter-twice f g [] = refl
-filter-twice f g (x ∷ xs) =
-    elim (g x) as (λ b. filter f (cond b (x ∷ filter g xs) (filter g xs)) ≡ cond (b && f x) (x ∷ filter (λ y. g y && f y) xs) (filter (λ y. g y && f y) xs)) [
-      | true ↦ ap (λ ys. cond (f x) (x ∷ ys) ys) (filter-twice f g xs)
-      | false ↦ filter-twice f g xs
-    ]
 
 pub filter-map : {A B : Type 0} (p : B → Bool) (f : A → B) (xs : List A) → filter p (map f xs) ≡ map f (filter (λ x. p (f x)) xs)
 filter-map p f [] = refl
@@ -58,49 +41,6 @@ filter-map p f (x ∷ xs) =
 pub map-map : {A B C : Type 0} (g : B → C) (f : A → B) (xs : List A) → map g (map f xs) ≡ map (λ x. g (f x)) xs
 map-map g f [] = refl
 map-map g f (x ∷ xs) = ap (λ ys. g (f x) ∷ ys) (map-map g f xs)
-
-pub both_all : {A : Type 0} (p q : A → Bool) (xs : List A) → list_all p xs ≡ true → list_all q xs ≡ true → list_all (λ x. p x && q x) xs ≡ true
-both_all p q [] h k = refl
-both_all p q (x ∷ xs) h k =
-    let a = and_parts (p x) (list_all p xs) h in
-    let b = and_parts (q x) (list_all q xs) k in
-    and_both (p x && q x) (list_all (λ y. p y && q y) xs) (and_both (p x) (q x) a.0 b.0) (both_all p q xs a.1 b.1)
-
--- ---- the live commands of a unit
-
-abbrev pub is_here : ℕ → List Command → Command → Bool
-is_here unit here c = (c.unit == unit) && is_among c.ticket here
-
--- each of them is in the unit and among them
-pub all_here : (unit : ℕ) (t : Trace) → list_all (is_here unit (live_in unit t)) (live_in unit t) ≡ true
-all_here unit t = both_all (λ c. c.unit == unit) (λ c. is_among c.ticket (live_in unit t)) (live_in unit t) (all_of_filter (λ (c : Command). c.unit == unit) (live t)) (all_among (live_in unit t))
-
--- a command that never entered was never free
-pub never_free : (c : Command) (t : Trace) → is_among c.ticket (entered t) ≡ false → was_free c t ≡ false
-never_free c [] gone = refl
-never_free c (item ∷ t) gone =
-    let parts = or_none (is_among c.ticket (entered t)) (is_among c.ticket (filter_map enters item)) (sym (list_any-append (λ (d : Command). d.ticket == c.ticket) (entered t) (filter_map enters item)) ∙ gone) in
-    let out : is_among c.ticket (live_in c.unit (item ∷ t)) ≡ false = unamong-filter (λ (d : Command). d.unit == c.unit) c.ticket (live (item ∷ t)) (unamong-filter (λ (d : Command). not (has (leaves_ticket d.ticket) (item ∷ t))) c.ticket (entered (item ∷ t)) gone) in
-    ap (λ b. (b && is_free (queued_of c) (map queued_of (live_in c.unit (item ∷ t)))) || was_free c t) out ∙ never_free c t parts.0
-
--- who is free among more is free among fewer
-free_among_fewer : (q : Queued) (xs ys : List Queued) → is_free q (xs ++ ys) ≡ true → is_free q xs ≡ true
-free_among_fewer q xs ys h = ap not (or_none (list_any (bars q) xs) (list_any (bars q) ys) (sym (list_any-append (bars q) xs ys) ∙ not_true (list_any (bars q) (xs ++ ys)) h)).0
-
--- nothing changes for a command of a unit that others enter, or that nothing enters or leaves
-pub was_free-stays : (item : List Mark) (t : Trace) (unit : ℕ) (more : List Command) (c : Command) → live_in unit (item ∷ t) ≡ live_in unit t ++ more → is_here unit (live_in unit t) c ≡ true → was_free c (item ∷ t) ≡ was_free c t
-was_free-stays item t unit more c now here =
-    let parts = and_parts (c.unit == unit) (is_among c.ticket (live_in unit t)) here in
-    let at : live_in c.unit (item ∷ t) ≡ live_in unit t ++ more = ap (λ u. live_in u (item ∷ t)) (eqb-true c.unit unit parts.0) ∙ now in
-    let before : live_in c.unit t ≡ live_in unit t = ap (λ u. live_in u t) (eqb-true c.unit unit parts.0) in
-    elim (is_free_at c (item ∷ t)) as (λ b. is_free_at c (item ∷ t) ≡ b → (b || was_free c t) ≡ was_free c t) [
-      | false ↦ λ is. refl
-      | true ↦ λ is.
-          let free : is_free (queued_of c) (map queued_of (live_in unit t ++ more)) ≡ true = ap (λ cs. is_free (queued_of c) (map queued_of cs)) (sym at) ∙ (and_parts (is_among c.ticket (live_in c.unit (item ∷ t))) (is_free (queued_of c) (map queued_of (live_in c.unit (item ∷ t)))) is).1 in
-          let fewer : is_free (queued_of c) (map queued_of (live_in unit t)) ≡ true = free_among_fewer (queued_of c) (map queued_of (live_in unit t)) (map queued_of more) (ap (is_free (queued_of c)) (sym (map-append queued_of (live_in unit t) more)) ∙ free) in
-          let then : is_free_at c t ≡ true = and_both (is_among c.ticket (live_in c.unit t)) (is_free (queued_of c) (map queued_of (live_in c.unit t))) (ap (is_among c.ticket) before ∙ parts.1) (ap (λ cs. is_free (queued_of c) (map queued_of cs)) before ∙ fewer) in
-          sym (free_now c t then)
-    ] refl
 
 -- ---- a set, after a moment
 
@@ -146,10 +86,6 @@ noted_given o t item unit =
     every [] = refl
     every (x ∷ xs) = every xs
 
--- the commands of a unit that an item enables
-abbrev pub new_in : Trace → List Mark → ℕ → List Command
-new_in t item unit = filter (λ c. not (was_free c t)) (enabled_in unit (item ∷ t))
-
 -- the effects of the set are those of the definitions
 pub noted_effects : (o : Setting) (t : Trace) (item : List Mark) (unit : ℕ) → enable_effects unit (after_moment (map (member_of o t) (live_in unit (item ∷ t)))) ≡ enables (new_in t item unit)
 noted_effects o t item unit =
@@ -172,36 +108,8 @@ set_of-stays o item t unit more now =
     map_all (member_of o (item ∷ t)) (member_of o t) (is_here unit (live_in unit t)) (live_in unit t) (all_here unit t)
     (λ c here. ap (λ b. let m : Member = record { task = task_of o c; enabled = b; given = b } in m) (was_free-stays item t unit more c now here))
 
--- none of them is newly enabled
-none_of_before : (item : List Mark) (t : Trace) (unit : ℕ) (more : List Command) → live_in unit (item ∷ t) ≡ live_in unit t ++ more → filter (λ c. was_free c (item ∷ t) && not (was_free c t)) (live_in unit t) ≡ []
-none_of_before item t unit more now =
-    filter_all (λ c. was_free c (item ∷ t) && not (was_free c t)) (λ c. false) (is_here unit (live_in unit t)) (live_in unit t) (all_here unit t)
-    (λ c here. ap (λ b. b && not (was_free c t)) (was_free-stays item t unit more c now here) ∙ never (was_free c t))
-    ∙ filter-none (λ (c : Command). false) (live_in unit t) (λ c. refl)
-  where
-    never : (b : Bool) → (b && not b) ≡ false
-    never true = refl
-    never false = refl
-
-pub new_in-more : (item : List Mark) (t : Trace) (unit : ℕ) (more : List Command) → live_in unit (item ∷ t) ≡ live_in unit t ++ more → new_in t item unit ≡ filter (λ c. was_free c (item ∷ t) && not (was_free c t)) more
-new_in-more item t unit more now =
-    let new : Command → Bool = λ c. was_free c (item ∷ t) && not (was_free c t) in
-    filter-twice (λ c. not (was_free c t)) (λ c. was_free c (item ∷ t)) (live_in unit (item ∷ t))
-    ∙ ap (filter new) now
-    ∙ filter-append new (live_in unit t) more
-    ∙ ap (λ cs. cs ++ filter new more) (none_of_before item t unit more now)
-
-pub new_in-none : (item : List Mark) (t : Trace) (unit : ℕ) → live_in unit (item ∷ t) ≡ live_in unit t → new_in t item unit ≡ []
-new_in-none item t unit now = new_in-more item t unit [] (now ∙ sym (append-nil (live_in unit t)))
-
 pub set_of-same : (o : Setting) (item : List Mark) (t : Trace) (unit : ℕ) → live_in unit (item ∷ t) ≡ live_in unit t → set_of o (item ∷ t) unit ≡ set_of o t unit
 set_of-same o item t unit now = ap (map (member_of o (item ∷ t))) now ∙ set_of-stays o item t unit [] (now ∙ sym (append-nil (live_in unit t)))
-
--- ---- all units
-
-flat_map-none : {A : Type 0} (f : ℕ → List A) (from n : ℕ) → ((j : ℕ) → from ≤ j → f j ≡ []) → flat_map f (range_with_len from n) ≡ []
-flat_map-none f from zero none = refl
-flat_map-none f from (suc n) none = ap (λ ys. ys ++ flat_map f (range_with_len (from + 1) n)) (none from (omega arith)) ∙ flat_map-none f (from + 1) n (λ j le. none j (omega arith))
 
 flat_map-one : {A : Type 0} (f : ℕ → List A) (from n k : ℕ) → from ≤ k → k < from + n → ((j : ℕ) → (j == k) ≡ false → f j ≡ []) → flat_map f (range_with_len from n) ≡ f k
 flat_map-one f from zero k low high none = absurd (omega arith)
@@ -212,10 +120,6 @@ flat_map-one f from (suc n) k low high none =
     ∙ append-nil (f from) ∙ ap f here)
     (λ apart. ap (λ ys. ys ++ flat_map f (range_with_len (from + 1) n)) (none from (let no : (from == k) ≡ false = grind (arith, nat_tests) in no)) ∙ flat_map-one f (from + 1) n k (omega arith) (omega arith) none)
     (cases_eq from k)
-
--- an item that touches no unit enables nothing
-pub newly-none : (o : Setting) (item : List Mark) (t : Trace) → ((unit : ℕ) → live_in unit (item ∷ t) ≡ live_in unit t) → newly_enabled o t item ≡ []
-newly-none o item t same = flat_map-none (new_in t item) 0 o.units (λ unit le. new_in-none item t unit (same unit))
 
 -- one that touches a single unit enables commands of that one
 pub newly-one : (o : Setting) (item : List Mark) (t : Trace) (unit : ℕ) → unit < o.units → ((other : ℕ) → (other == unit) ≡ false → live_in other (item ∷ t) ≡ live_in other t) → newly_enabled o t item ≡ new_in t item unit

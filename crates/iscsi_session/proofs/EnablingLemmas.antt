@@ -15,9 +15,12 @@ use Rattle.iscsi_history.proofs.BoolLemmas.{and_parts, and_both, or_first, or_se
 use Rattle.iscsi_history.proofs.ListLemmas.{any_all, any_filter, any_flat_map, any_same}
 use Rattle.iscsi_history.proofs.TraceLemmas.{weaker}
 use Rattle.iscsi_history.proofs.MomentLemmas.{enables, item_enables, left_unlive}
-use Rattle.iscsi_session.proofs.EnabledLemmas.{is_here, was_free-stays, new_in, new_in-more, newly-one, filter-twice}
-use Rattle.iscsi_session.proofs.CommandParts.{Untouched, live-untouched, live_in-untouched, EntersOne, live-entered, live_in-entered, live_in-elsewhere, LeavesSome, live-left, none_any}
-use Rattle.iscsi_session.proofs.SetParts.{newly-untouched}
+use Rattle.iscsi_history.proofs.NewlyLemmas.{is_here, was_free-stays, new_in, new_in-more, filter-twice}
+use Rattle.iscsi_session.proofs.EnabledLemmas.{newly-one}
+use Rattle.iscsi_history.proofs.NewlyLemmas.{Untouched, live-untouched, live_in-untouched}
+use Rattle.iscsi_session.proofs.CommandParts.{EntersOne, live-entered, live_in-entered, live_in-elsewhere, LeavesSome, live-left, none_any}
+use Rattle.iscsi_history.proofs.NewlyLemmas.{newly-untouched}
+use Rattle.iscsi_history.proofs.NewlyLemmas.{any_or, is_new, newly_among, was_or_new}
 
 left_marks : (o : Setting) (t : Trace) (k : ℕ) (item : List Mark) → list_any (is_leave k) (flat_map (effects_of_mark o t) item) ≡ list_any (leaves_ticket k) item
 left_marks o t k [] = refl
@@ -151,22 +154,6 @@ exact-entered o lives n item t c a e inside new x k =
         ap (λ v. (was || v) && not (has (leaves_ticket k) t)) (among_one free)
         ∙ bools (c.ticket == k) was (has (leaves_ticket k) t) free (λ same. ap (λ m. has (leaves_ticket m) t) (sym (eqb-true c.ticket k same)) ∙ a.unleft c.ticket (omega (arith, e.ticket)))
 
--- ---- a command leaves
-
-abbrev is_new : List Mark → Trace → Command → Bool
-is_new item t c = was_free c (item ∷ t) && not (was_free c t)
-
-any_or : {A : Type 0} (f g h : A → Bool) (xs : List A) → ((x : A) → f x ≡ (g x || h x)) → list_any f xs ≡ (list_any g xs || list_any h xs)
-any_or f g h [] same = refl
-any_or f g h (x ∷ xs) same = ap (λ b. b || list_any f xs) (same x) ∙ ap (λ b. (g x || h x) || b) (any_or f g h xs same) ∙ swap (g x) (h x) (list_any g xs) (list_any h xs)
-  where
-    swap : (a b c d : Bool) → ((a || b) || (c || d)) ≡ ((a || c) || (b || d))
-    swap true b c d = refl
-    swap false true true d = refl
-    swap false true false d = refl
-    swap false false true d = refl
-    swap false false false d = refl
-
 -- those with other tickets don't matter
 any_without : (w : Command → Bool) (out : ℕ → Bool) (k : ℕ) (cs : List Command) → out k ≡ false → list_any (λ d. d.ticket == k && w d) (filter (λ d. not (out d.ticket)) cs) ≡ list_any (λ d. d.ticket == k && w d) cs
 any_without w out k [] stays = refl
@@ -194,59 +181,6 @@ none_gone out k (x ∷ cs) goes =
         | false ↦ ap (λ b. b || is_among k away) is ∙ none_gone out k cs goes
       ]
     ] refl
-
--- ---- what an item enables, of all units
-
-any_never : {A : Type 0} (xs : List A) → list_any (λ x. false) xs ≡ false
-any_never [] = refl
-any_never (x ∷ xs) = any_never xs
-
--- some unit is that of the command, where it is one of the session's
-unit_among : (n from unit : ℕ) → from ≤ unit → unit < from + n → list_any (λ u. unit == u) (range_with_len from n) ≡ true
-unit_among zero from unit low high = absurd (omega arith)
-unit_among (suc n) from unit low high =
-    ⊎_elim (λ here. or_first (unit == from) (list_any (λ u. unit == u) (range_with_len (from + 1) n)) (eq-eqb unit from here))
-    (λ apart. or_second (unit == from) (list_any (λ u. unit == u) (range_with_len (from + 1) n)) (unit_among n (from + 1) unit (omega arith) (omega arith)))
-    (cases_eq unit from)
-
-any_in_units : (n : ℕ) (g : Command → Bool) (cs : List Command) → list_all (λ d. nat_lt d.unit n) cs ≡ true → list_any (λ u. list_any (λ d. (d.unit == u) && g d) cs) (range_with_len 0 n) ≡ list_any g cs
-any_in_units n g [] all = any_never (range_with_len 0 n)
-any_in_units n g (x ∷ cs) all =
-    let parts = and_parts (nat_lt x.unit n) (list_all (λ d. nat_lt d.unit n) cs) all in
-    let inside : x.unit < 0 + n = below x.unit parts.0 in
-    any_or (λ u. ((x.unit == u) && g x) || list_any (λ d. (d.unit == u) && g d) cs) (λ u. (x.unit == u) && g x) (λ u. list_any (λ d. (d.unit == u) && g d) cs) (range_with_len 0 n) (λ u. refl)
-    ∙ ap (λ b. b || list_any (λ u. list_any (λ d. (d.unit == u) && g d) cs) (range_with_len 0 n)) (either (g x) (range_with_len 0 n) (unit_among n 0 x.unit (omega arith) inside))
-    ∙ ap (λ b. g x || b) (any_in_units n g cs parts.1)
-  where
-    below : (u : ℕ) → nat_lt u n ≡ true → u < 0 + n
-    below u test = let lt : u < n = grind (arith, nat_tests) in omega (arith, lt)
-
-    either : (b : Bool) (us : List ℕ) → list_any (λ u. x.unit == u) us ≡ true → list_any (λ u. (x.unit == u) && b) us ≡ b
-    either true us h = any_same (λ u. (x.unit == u) && true) (λ u. x.unit == u) us (λ u. and_true (x.unit == u)) ∙ h
-    either false us h = any_same (λ u. (x.unit == u) && false) (λ u. false) us (λ u. and_false (x.unit == u)) ∙ any_never us
-
-was_or_new : (item : List Mark) (t : Trace) (d : Command) → was_free d (item ∷ t) ≡ (was_free d t || is_new item t d)
-was_or_new item t d = bools (is_free_at d (item ∷ t)) (was_free d t)
-  where
-    bools : (f g : Bool) → (f || g) ≡ (g || ((f || g) && not g))
-    bools true true = refl
-    bools true false = refl
-    bools false true = refl
-    bools false false = refl
-
--- the live commands that an item enables
-newly_among : (o : Setting) (item : List Mark) (t : Trace) (k : ℕ) → list_all (λ d. nat_lt d.unit o.units) (live (item ∷ t)) ≡ true → is_among k (newly_enabled o t item) ≡ list_any (λ d. d.ticket == k && is_new item t d) (live (item ∷ t))
-newly_among o item t k regular =
-    any_flat_map (λ (d : Command). d.ticket == k) (new_in t item) (range_with_len 0 o.units)
-    ∙ any_same (λ u. is_among k (new_in t item u)) (λ u. list_any (λ d. (d.unit == u) && (d.ticket == k && is_new item t d)) (live (item ∷ t))) (range_with_len 0 o.units) in_unit
-    ∙ any_in_units o.units (λ d. d.ticket == k && is_new item t d) (live (item ∷ t)) regular
-  where
-    in_unit : (u : ℕ) → is_among k (new_in t item u) ≡ list_any (λ d. (d.unit == u) && (d.ticket == k && is_new item t d)) (live (item ∷ t))
-    in_unit u =
-        ap (is_among k) (filter-twice (λ d. not (was_free d t)) (λ d. was_free d (item ∷ t)) (live_in u (item ∷ t)))
-        ∙ any_filter (λ (d : Command). d.ticket == k) (is_new item t) (live_in u (item ∷ t))
-        ∙ any_filter (λ d. is_new item t d && (d.ticket == k)) (λ (d : Command). d.unit == u) (live (item ∷ t))
-        ∙ any_same (λ d. (d.unit == u) && (is_new item t d && (d.ticket == k))) (λ d. (d.unit == u) && (d.ticket == k && is_new item t d)) (live (item ∷ t)) (λ d. ap (λ b. (d.unit == u) && b) (and_comm (is_new item t d) (d.ticket == k)))
 
 exact-left : (o : Setting) (item : List Mark) (t : Trace) (out : ℕ → Bool) → LeavesSome item out → list_all (λ d. nat_lt d.unit o.units) (live (item ∷ t)) ≡ true → Exact o t → Exact o (item ∷ t)
 exact-left o item t out l regular x k =

@@ -33,10 +33,12 @@ use Rattle.iscsi_history.proofs.DeliveryLemmas.{IsQuiet}
 use Rattle.iscsi_session.proofs.WindowParts.{Turned, WindowAgrees-started}
 use Rattle.iscsi_session.proofs.ReplyParts.{RepliesAgree-quiet, RepliesAgree-sent}
 use Rattle.iscsi_history.proofs.MomentLemmas.{enables}
-use Rattle.iscsi_session.proofs.EnabledLemmas.{never_free}
+use Rattle.iscsi_history.proofs.NewlyLemmas.{never_free}
 use Rattle.iscsi_session.proofs.EnablingLemmas.{EnabledSoFar-untouched, EnabledSoFar-entered}
-use Rattle.iscsi_session.proofs.CommandParts.{Untouched, live-untouched, CommandsAgree-untouched, EntersOne, live-entered, CommandsAgree-entered}
-use Rattle.iscsi_session.proofs.SetParts.{SetsAgree-untouched, newly-untouched, SetEntry, SetsAgree-entered}
+use Rattle.iscsi_history.proofs.NewlyLemmas.{Untouched, live-untouched}
+use Rattle.iscsi_session.proofs.CommandParts.{CommandsAgree-untouched, EntersOne, live-entered, CommandsAgree-entered}
+use Rattle.iscsi_history.proofs.NewlyLemmas.{newly-untouched}
+use Rattle.iscsi_session.proofs.SetParts.{SetsAgree-untouched, SetEntry, SetsAgree-entered}
 use Rattle.iscsi_session.proofs.AgreeLemmas.{unfinished-untouched}
 use Rattle.iscsi_history.proofs.VerdictLemmas.{named_below, Entering, entering_by}
 

@@ -54,11 +54,13 @@ use Rattle.iscsi_session.proofs.WindowParts.{Next, turned_window, WindowAgrees-q
 use Rattle.iscsi_session.proofs.ArrivedLemmas.{ArrivalsAgree-quiet}
 use Rattle.iscsi_session.proofs.ReceiveLemmas.{no_abort_task}
 use Rattle.iscsi_session.proofs.WaitLemmas.{kept_waiting}
-use Rattle.iscsi_session.proofs.CommandParts.{Untouched, live_in-untouched, CommandsAgree-untouched}
+use Rattle.iscsi_history.proofs.NewlyLemmas.{Untouched, live_in-untouched}
+use Rattle.iscsi_session.proofs.CommandParts.{CommandsAgree-untouched}
 use Rattle.iscsi_session.proofs.ReplyParts.{RepliesAgree-quiet, RepliesAgree-sent}
 use Rattle.iscsi_history.proofs.MomentLemmas.{enables}
 use Rattle.iscsi_session.proofs.EnablingLemmas.{EnabledSoFar-untouched}
-use Rattle.iscsi_session.proofs.SetParts.{SetsAgree-untouched, newly-untouched}
+use Rattle.iscsi_history.proofs.NewlyLemmas.{newly-untouched}
+use Rattle.iscsi_session.proofs.SetParts.{SetsAgree-untouched}
 use Rattle.iscsi_session.proofs.AgreeLemmas.{unfinished-untouched, settled_expected, settled_max}
 use Rattle.iscsi_history.proofs.VerdictLemmas.{named_below}
 use Rattle.iscsi_session.proofs.ExecutionLemmas.{Begun, Executed, nothing_more, answered, executed-item, untouched-begun}

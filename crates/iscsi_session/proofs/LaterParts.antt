@@ -17,7 +17,7 @@ use Rattle.iscsi_session.specs.Functions.{is_gone, staying, set_staying, finishe
 use Rattle.iscsi_history.proofs.BoolLemmas.{and_parts, not_true}
 use Rattle.iscsi_history.proofs.ListLemmas.{any_all}
 use Rattle.iscsi_history.proofs.TraceLemmas.{filter-same}
-use Rattle.iscsi_session.proofs.EnabledLemmas.{filter_all}
+use Rattle.iscsi_history.proofs.NewlyLemmas.{filter_all}
 
 -- ---- tests that agree
 

@@ -28,7 +28,8 @@ use Rattle.iscsi_history.proofs.TraceLemmas.{filter-same, filter-true, weaker}
 use Rattle.iscsi_history.proofs.ApartLemmas.{eq_sym, unamong-filter, apart-filter}
 use Rattle.iscsi_history.proofs.DeliveryLemmas.{IsQuiet}
 use Rattle.iscsi_session.proofs.ReplyParts.{RepliesAgree-sent}
-use Rattle.iscsi_session.proofs.EnabledLemmas.{filter_all, both_all, map_all, filter-map, filter-twice, map-map, is_here, all_here, set_of-same, newly-none}
+use Rattle.iscsi_history.proofs.NewlyLemmas.{filter_all, both_all, filter-twice, is_here, all_here, newly-none}
+use Rattle.iscsi_session.proofs.EnabledLemmas.{map_all, filter-map, map-map, set_of-same}
 use Rattle.iscsi_history.proofs.MomentLemmas.{enables}
 use Rattle.iscsi_session.proofs.CommandParts.{LeavesSome, live_in-left, CommandsAgree-left, are_all_in}
 use Rattle.iscsi_session.proofs.EnablingLemmas.{EnabledSoFar-left}

@@ -20,7 +20,8 @@ use Rattle.iscsi_history.proofs.BoolLemmas.{and_parts, and_both, or_none, or_fir
 use Rattle.iscsi_history.proofs.ListLemmas.{list_any-map, count_by-map, fewer_counted, filter-shorter}
 use Rattle.iscsi_history.proofs.TraceLemmas.{filter-same, filter-true}
 use Rattle.iscsi_history.proofs.ApartLemmas.{eq_sym}
-use Rattle.iscsi_session.proofs.EnabledLemmas.{filter-map, filter-twice, map-map}
+use Rattle.iscsi_history.proofs.NewlyLemmas.{filter-twice}
+use Rattle.iscsi_session.proofs.EnabledLemmas.{filter-map, map-map}
 use Rattle.iscsi_session.proofs.WindowLemmas.{fewer as fewer_all}
 use Rattle.iscsi_session.proofs.KeptLemmas.{tickets_in-left, other_kept}
 use Rattle.iscsi_session.proofs.GroupLemmas.{passing_after}

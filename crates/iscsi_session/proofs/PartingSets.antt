@@ -28,9 +28,11 @@ use Rattle.iscsi_history.proofs.BoolLemmas.{and_parts, or_none, or_false}
 use Rattle.iscsi_history.proofs.ListLemmas.{list_any-map, list_all-filter, any_filter, any_flat_map}
 use Rattle.iscsi_history.proofs.TraceLemmas.{filter-same}
 use Rattle.iscsi_history.proofs.ApartLemmas.{unamong-filter}
-use Rattle.iscsi_session.proofs.EnabledLemmas.{filter_all, filter-map, new_in, new_in-none, set_of-same, noted_given, noted_effects}
+use Rattle.iscsi_history.proofs.NewlyLemmas.{filter_all, new_in, new_in-none}
+use Rattle.iscsi_session.proofs.EnabledLemmas.{filter-map, set_of-same, noted_given, noted_effects}
 use Rattle.iscsi_history.proofs.MomentLemmas.{enables}
-use Rattle.iscsi_session.proofs.CommandParts.{Untouched, live-untouched, LeavesSome, live_in-left, CommandsAgree-left}
+use Rattle.iscsi_history.proofs.NewlyLemmas.{Untouched, live-untouched}
+use Rattle.iscsi_session.proofs.CommandParts.{LeavesSome, live_in-left, CommandsAgree-left}
 use Rattle.iscsi_session.proofs.EnablingLemmas.{EnabledSoFar-left}
 use Rattle.iscsi_session.proofs.AgreeLemmas.{units_live}
 use Rattle.iscsi_session.proofs.ExecutionLemmas.{Begun}

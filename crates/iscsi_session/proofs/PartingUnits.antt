@@ -14,7 +14,7 @@ use Rattle.iscsi_session.specs.Functions.{is_gone, set_staying, with_left, leavi
 use Rattle.iscsi_session.specs.Parting.{with_all_left, all_leaving_effects}
 use Rattle.iscsi_history.proofs.BoolLemmas.{or_first, or_second}
 use Rattle.iscsi_history.proofs.TraceLemmas.{filter-same, filter-true}
-use Rattle.iscsi_session.proofs.EnabledLemmas.{filter-twice}
+use Rattle.iscsi_history.proofs.NewlyLemmas.{filter-twice}
 
 -- ---- functions over a range of numbers
 

@@ -12,9 +12,11 @@ use Rattle.iscsi_history.specs.Trace.{Command, Mark, Trace, live, live_in, is_am
 use Rattle.iscsi_history.specs.Run.{newly_enabled}
 use Rattle.iscsi_session.specs.Standing.{task_of, member_of, set_of, SetsAgree, CommandsAgree}
 use Rattle.iscsi_session.specs.Steps.{all_given, as_given, enable_effects, enable_effect}
-use Rattle.iscsi_session.proofs.EnabledLemmas.{filter-map, noted_given, noted_effects, newly-none, newly-one, set_of-same, never_free, EnteredSet, set-entered}
+use Rattle.iscsi_history.proofs.NewlyLemmas.{newly-none, never_free}
+use Rattle.iscsi_session.proofs.EnabledLemmas.{filter-map, noted_given, noted_effects, newly-one, set_of-same, EnteredSet, set-entered}
 use Rattle.iscsi_history.proofs.MomentLemmas.{enables}
-use Rattle.iscsi_session.proofs.CommandParts.{Untouched, live_in-untouched, EntersOne, live_in-entered, live_in-elsewhere, LeavesSome, live_in-left, live_in-left_elsewhere, are_all_in}
+use Rattle.iscsi_history.proofs.NewlyLemmas.{Untouched, live_in-untouched}
+use Rattle.iscsi_session.proofs.CommandParts.{EntersOne, live_in-entered, live_in-elsewhere, LeavesSome, live_in-left, live_in-left_elsewhere, are_all_in}
 
 pub SetsAgree-untouched : (o : Setting) (sets : List Members) (t : Trace) (item : List Mark) → Untouched item → SetsAgree o sets t → SetsAgree o sets (item ∷ t)
 SetsAgree-untouched o sets t item u a = record {
@@ -22,9 +24,6 @@ SetsAgree-untouched o sets t item u a = record {
   depths = a.depths;
   lists = λ unit lt. a.lists unit lt ∙ sym (set_of-same o item t unit (live_in-untouched item t u unit));
 }
-
-pub newly-untouched : (o : Setting) (t : Trace) (item : List Mark) → Untouched item → newly_enabled o t item ≡ []
-newly-untouched o t item u = newly-none o item t (live_in-untouched item t u)
 
 -- one set is another now, and the other units are as they were
 pub set-changed : (o : Setting) (sets : List Members) (t : Trace) (item : List Mark) (unit : ℕ) (new : Members) → SetsAgree o sets t → unit < o.units → new.depth ≡ o.depth → new.list ≡ set_of o (item ∷ t) unit

@@ -44,7 +44,8 @@ use Rattle.iscsi_session.proofs.ReplyParts.{RepliesAgree-sent}
 use Rattle.iscsi_history.proofs.MomentLemmas.{enables}
 use Rattle.iscsi_session.proofs.CommandParts.{LeavesSome, live-left, CommandsAgree-left, live_early, find_kept, first_passing, none_passing}
 use Rattle.iscsi_session.proofs.EnablingLemmas.{EnabledSoFar-left}
-use Rattle.iscsi_session.proofs.SetParts.{SetLeaving, SetsAgree-left, left_by-one, newly-untouched}
+use Rattle.iscsi_history.proofs.NewlyLemmas.{newly-untouched}
+use Rattle.iscsi_session.proofs.SetParts.{SetLeaving, SetsAgree-left, left_by-one}
 use Rattle.iscsi_session.proofs.AgreeLemmas.{Regular, regular_parts, regular_live, units_live, settled_expected, settled_max, Stepped, Stepped-ignored, untouched-admits, Agrees-admitted}
 use Rattle.iscsi_session.proofs.ArrivedLemmas.{ArrivalsAgree-quiet}
 
