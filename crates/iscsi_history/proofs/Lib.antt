@@ -25,3 +25,4 @@ pub mod NewlyLemmas
 pub mod OrderLemmas
 pub mod OrderRuns
 pub mod NumberingLemmas
+pub mod TouchLemmas

@@ -79,11 +79,11 @@ record SeesReplies {B : Type 0} (view : Mark → Option B) : Type 0 where
   closes : (conn : ℕ) → view (ClosesConn conn) ≡ None
   ends : view ClosesSession ≡ None
 
-unseen : {A B : Type 0} (view : Mark → Option B) (f : A → Mark) (x : Option A) → ((y : A) → view (f y) ≡ None) → filter_map view (if_some f x) ≡ []
+pub unseen : {A B : Type 0} (view : Mark → Option B) (f : A → Mark) (x : Option A) → ((y : A) → view (f y) ≡ None) → filter_map view (if_some f x) ≡ []
 unseen view f None none = refl
 unseen view f (Some y) none = ap (λ z. cons_option z []) (none y)
 
-abbrev to_list : {B : Type 0} → Option B → List B
+abbrev pub to_list : {B : Type 0} → Option B → List B
 to_list x = cons_option x []
 
 abbrev seen_by : {B : Type 0} → (ℕ → Option B) → Option ℕ → List B
@@ -91,7 +91,7 @@ seen_by on (Some conn) = to_list (on conn)
 seen_by on None = []
 
 -- marks that show nothing
-passed : {B : Type 0} (view : Mark → Option B) (xs ys : List Mark) → filter_map view xs ≡ [] → filter_map view (xs ++ ys) ≡ filter_map view ys
+pub passed : {B : Type 0} (view : Mark → Option B) (xs ys : List Mark) → filter_map view xs ≡ [] → filter_map view (xs ++ ys) ≡ filter_map view ys
 passed view xs ys none = filter_map-append view xs ys ∙ ap (λ zs. zs ++ filter_map view ys) none
 
 seen_reply : {B : Type 0} (view : Mark → Option B) (s : SeesReplies view) (conn : ℕ) (x : Option Reply) (rest : List Mark) → filter_map view rest ≡ []
