@@ -18,6 +18,7 @@ pub mod ApartLemmas
 pub mod StepLemmas
 pub mod OpenLemmas
 pub mod WindowLemmas
+pub mod SoundLemmas
 pub mod ArriveLemmas
 pub mod FlowLemmas
 pub mod WindowParts

@@ -18,4 +18,5 @@ pub mod Steps
 pub mod Functions
 pub mod Parting
 pub mod Turning
+pub mod Invariant
 pub mod Rows

@@ -20,6 +20,7 @@ use Rattle.iscsi_session.proofs.WindowLemmas.{find-found}
 use Rattle.iscsi_session.proofs.KeptLemmas.{ascending-left, within-left, written}
 use Rattle.iscsi_session.proofs.LeavingParts.{none_found, less, one_less, stepped, Leaving, leaving_one}
 use Rattle.iscsi_session.proofs.LaterParts.{left_alike, effects_alike, later_agrees}
+use Rattle.iscsi_session.proofs.SoundLemmas.{places_sound}
 use Rattle.iscsi_session.proofs.session.Session.leave_next.Goals as goal
 
 some_task : (x : Option Task) (k : ℕ) → option_map (λ (t : Task). t.ticket) x ≡ Some k → (task : Task) × ((x ≡ Some task) × (task.ticket ≡ k))
@@ -99,7 +100,7 @@ end-requires-clause-there c =
     let covers : Task → Bool = chosen c.args.choice.now in
     let view : s ≡ c.args.self.now = c.self.view_is in
     let inside : u < length s.sets = omega (arith, c.requires.unit, ap (λ (x : Core). length x.sets) view) in
-    let t : Taken s u covers k c.take.new.sets = taken s u covers k c.deref_mut.result.now c.take.new.sets c.take.result c.deref_mut.ensures.value c.take.ensures.ticket c.in_ok-ticket.was c.take.ensures.sets inside c.self.invariant.11 c.self.invariant.12 c.self.invariant.0 in
+    let t : Taken s u covers k c.take.new.sets = taken s u covers k c.deref_mut.result.now c.take.new.sets c.take.result c.deref_mut.ensures.value c.take.ensures.ticket c.in_ok-ticket.was c.take.ensures.sets inside c.self.invariant.commands.in_sets c.self.invariant.commands.ascending c.self.invariant.commands.numbered in
     subst IsSome (sym t.leaving.found) refl
 
 pub returns-clause-session : goal.returns-clause-session
@@ -110,7 +111,7 @@ returns-clause-session c =
     let covers : Task → Bool = chosen c.args.choice.now in
     let view : s ≡ c.args.self.now = c.self.view_is in
     let inside : u < length s.sets = omega (arith, c.requires.unit, ap (λ (x : Core). length x.sets) view) in
-    let t : Taken s u covers k c.take.new.sets = taken s u covers k c.deref_mut.result.now c.take.new.sets c.take.result c.deref_mut.ensures.value c.take.ensures.ticket c.in_ok-ticket.was c.take.ensures.sets inside c.self.invariant.11 c.self.invariant.12 c.self.invariant.0 in
+    let t : Taken s u covers k c.take.new.sets = taken s u covers k c.deref_mut.result.now c.take.new.sets c.take.result c.deref_mut.ensures.value c.take.ensures.ticket c.in_ok-ticket.was c.take.ensures.sets inside c.self.invariant.commands.in_sets c.self.invariant.commands.ascending c.self.invariant.commands.numbered in
     let now : take c.self.inside.sets.len (c.take.new.sets ++ drop (length c.take.new.sets) c.self.inside.sets.items) ≡ set s.sets u (less (set_at s u) k) = written c.self.inside.sets.len c.take.new.sets c.self.inside.sets.items t.same_length c.self.inside.sets.ok.0 ∙ t.sets_are in
     let is = core_is s u k c.end.new.window c.end.new.live.items (take c.self.inside.sets.len (c.take.new.sets ++ drop (length c.take.new.sets) c.self.inside.sets.items)) c.end.ensures.window c.end.ensures.live now in
     let rest : Task → Bool = chosen (later c.args.choice.now (Some k)) in
@@ -126,7 +127,7 @@ returns-clause-effects c =
     let covers : Task → Bool = chosen c.args.choice.now in
     let view : s ≡ c.args.self.now = c.self.view_is in
     let inside : u < length s.sets = omega (arith, c.requires.unit, ap (λ (x : Core). length x.sets) view) in
-    let t : Taken s u covers k c.take.new.sets = taken s u covers k c.deref_mut.result.now c.take.new.sets c.take.result c.deref_mut.ensures.value c.take.ensures.ticket c.in_ok-ticket.was c.take.ensures.sets inside c.self.invariant.11 c.self.invariant.12 c.self.invariant.0 in
+    let t : Taken s u covers k c.take.new.sets = taken s u covers k c.deref_mut.result.now c.take.new.sets c.take.result c.deref_mut.ensures.value c.take.ensures.ticket c.in_ok-ticket.was c.take.ensures.sets inside c.self.invariant.commands.in_sets c.self.invariant.commands.ascending c.self.invariant.commands.numbered in
     let now : take c.self.inside.sets.len (c.take.new.sets ++ drop (length c.take.new.sets) c.self.inside.sets.items) ≡ set s.sets u (less (set_at s u) k) = written c.self.inside.sets.len c.take.new.sets c.self.inside.sets.items t.same_length c.self.inside.sets.ok.0 ∙ t.sets_are in
     let is = core_is s u k c.end.new.window c.end.new.live.items (take c.self.inside.sets.len (c.take.new.sets ++ drop (length c.take.new.sets) c.self.inside.sets.items)) c.end.ensures.window c.end.ensures.live now in
     let rest : Task → Bool = chosen (later c.args.choice.now (Some k)) in
@@ -145,7 +146,7 @@ returns-clause-one c = λ ticket chose.
     let covers : Task → Bool = chosen c.args.choice.now in
     let view : s ≡ c.args.self.now = c.self.view_is in
     let inside : u < length s.sets = omega (arith, c.requires.unit, ap (λ (x : Core). length x.sets) view) in
-    let t : Taken s u covers k c.take.new.sets = taken s u covers k c.deref_mut.result.now c.take.new.sets c.take.result c.deref_mut.ensures.value c.take.ensures.ticket c.in_ok-ticket.was c.take.ensures.sets inside c.self.invariant.11 c.self.invariant.12 c.self.invariant.0 in
+    let t : Taken s u covers k c.take.new.sets = taken s u covers k c.deref_mut.result.now c.take.new.sets c.take.result c.deref_mut.ensures.value c.take.ensures.ticket c.in_ok-ticket.was c.take.ensures.sets inside c.self.invariant.commands.in_sets c.self.invariant.commands.ascending c.self.invariant.commands.numbered in
     let now : take c.self.inside.sets.len (c.take.new.sets ++ drop (length c.take.new.sets) c.self.inside.sets.items) ≡ set s.sets u (less (set_at s u) k) = written c.self.inside.sets.len c.take.new.sets c.self.inside.sets.items t.same_length c.self.inside.sets.ok.0 ∙ t.sets_are in
     let is = core_is s u k c.end.new.window c.end.new.live.items (take c.self.inside.sets.len (c.take.new.sets ++ drop (length c.take.new.sets) c.self.inside.sets.items)) c.end.ensures.window c.end.ensures.live now in
     let same : k ≡ ticket = sym t.ticket_is ∙ eqb-true t.task.ticket ticket (ap (λ (x : Choice). chosen x t.task) (sym chose) ∙ t.covered) in
@@ -163,7 +164,7 @@ returns-clause-fewer c = λ yes.
     let covers : Task → Bool = chosen c.args.choice.now in
     let view : s ≡ c.args.self.now = c.self.view_is in
     let inside : u < length s.sets = omega (arith, c.requires.unit, ap (λ (x : Core). length x.sets) view) in
-    let t : Taken s u covers k c.take.new.sets = taken s u covers k c.deref_mut.result.now c.take.new.sets c.take.result c.deref_mut.ensures.value c.take.ensures.ticket c.in_ok-ticket.was c.take.ensures.sets inside c.self.invariant.11 c.self.invariant.12 c.self.invariant.0 in
+    let t : Taken s u covers k c.take.new.sets = taken s u covers k c.deref_mut.result.now c.take.new.sets c.take.result c.deref_mut.ensures.value c.take.ensures.ticket c.in_ok-ticket.was c.take.ensures.sets inside c.self.invariant.commands.in_sets c.self.invariant.commands.ascending c.self.invariant.commands.numbered in
     let now : take c.self.inside.sets.len (c.take.new.sets ++ drop (length c.take.new.sets) c.self.inside.sets.items) ≡ set s.sets u (less (set_at s u) k) = written c.self.inside.sets.len c.take.new.sets c.self.inside.sets.items t.same_length c.self.inside.sets.ok.0 ∙ t.sets_are in
     let is = core_is s u k c.end.new.window c.end.new.live.items (take c.self.inside.sets.len (c.take.new.sets ++ drop (length c.take.new.sets) c.self.inside.sets.items)) c.end.ensures.window c.end.ensures.live now in
     omega (arith, t.leaving.fewer, ap (λ (x : Core). length (set_at x u).list) is, ap (λ (x : Core). length (set_at x u).list) view)
@@ -176,7 +177,7 @@ returns-clause-spent c =
     let covers : Task → Bool = chosen c.args.choice.now in
     let view : s ≡ c.args.self.now = c.self.view_is in
     let inside : u < length s.sets = omega (arith, c.requires.unit, ap (λ (x : Core). length x.sets) view) in
-    let t : Taken s u covers k c.take.new.sets = taken s u covers k c.deref_mut.result.now c.take.new.sets c.take.result c.deref_mut.ensures.value c.take.ensures.ticket c.in_ok-ticket.was c.take.ensures.sets inside c.self.invariant.11 c.self.invariant.12 c.self.invariant.0 in
+    let t : Taken s u covers k c.take.new.sets = taken s u covers k c.deref_mut.result.now c.take.new.sets c.take.result c.deref_mut.ensures.value c.take.ensures.ticket c.in_ok-ticket.was c.take.ensures.sets inside c.self.invariant.commands.in_sets c.self.invariant.commands.ascending c.self.invariant.commands.numbered in
     let now : take c.self.inside.sets.len (c.take.new.sets ++ drop (length c.take.new.sets) c.self.inside.sets.items) ≡ set s.sets u (less (set_at s u) k) = written c.self.inside.sets.len c.take.new.sets c.self.inside.sets.items t.same_length c.self.inside.sets.ok.0 ∙ t.sets_are in
     omega (arith, t.leaving.owes, ap (λ (ls : List Live). owed ls (take c.self.inside.sets.len (c.take.new.sets ++ drop (length c.take.new.sets) c.self.inside.sets.items))) c.end.ensures.live, ap (λ (ms : List Members). owed (without_ticket k s.live) ms) now, ap (λ (x : Core). owed x.live x.sets) view, c.push_reserved.ensures.len)
 
@@ -188,7 +189,7 @@ invariant_of-self-2 c =
     let covers : Task → Bool = chosen c.args.choice.now in
     let view : s ≡ c.args.self.now = c.self.view_is in
     let inside : u < length s.sets = omega (arith, c.requires.unit, ap (λ (x : Core). length x.sets) view) in
-    let t : Taken s u covers k c.take.new.sets = taken s u covers k c.deref_mut.result.now c.take.new.sets c.take.result c.deref_mut.ensures.value c.take.ensures.ticket c.in_ok-ticket.was c.take.ensures.sets inside c.self.invariant.11 c.self.invariant.12 c.self.invariant.0 in
+    let t : Taken s u covers k c.take.new.sets = taken s u covers k c.deref_mut.result.now c.take.new.sets c.take.result c.deref_mut.ensures.value c.take.ensures.ticket c.in_ok-ticket.was c.take.ensures.sets inside c.self.invariant.commands.in_sets c.self.invariant.commands.ascending c.self.invariant.commands.numbered in
     let now : take c.self.inside.sets.len (c.take.new.sets ++ drop (length c.take.new.sets) c.self.inside.sets.items) ≡ set s.sets u (less (set_at s u) k) = written c.self.inside.sets.len c.take.new.sets c.self.inside.sets.items t.same_length c.self.inside.sets.ok.0 ∙ t.sets_are in
     let inv = c.self.invariant in
     let w : Received = c.self.inside.window in
@@ -199,34 +200,26 @@ invariant_of-self-2 c =
     let numbered : count_by is_numbered c.end.new.live.items ≡ count_by is_numbered (without_ticket k lives) = ap (count_by is_numbered) c.end.ensures.live in
     let less_numbered : count_by is_numbered (without_ticket k lives) ≤ count_by is_numbered lives = fewer_counted is_numbered (λ l. not (l.ticket == k)) lives in
     let new : List Members = set s.sets u (less (set_at s u) k) in
-    let long : length new ≡ length c.self.inside.sets.items = length-set s.sets u (less (set_at s u) k) in (
-      omega (arith, numbered, unfinished, inv.0),
-      omega (arith, inv.1, unfinished, less_numbered, ap length places),
-      omega (arith, inv.2, ap length places),
-      omega (arith, inv.3, ap length places, c.end.ensures.capacity),
-      inv.4 ∙ ap (count_by is_held) (sym places),
-      omega (arith, inv.5, turned, ap (count_by is_some) places),
-      omega (arith, inv.6, ap (count_by is_some) places),
-      inv.7,
-      inv.8,
-      ap (λ ls. are_known ls c.self.inside.conns.items) c.end.ensures.live ∙ are_known-left k lives c.self.inside.conns.items inv.9,
-      ap (list_all (is_place_known c.self.inside.conns.items)) places ∙ inv.10,
-      subst (λ (ms : List Members). Match ms c.end.new.live.items) (sym now) (subst (λ (ls : List Live). Match new ls) (sym c.end.ensures.live) t.leaving.matches),
-      ap are_ascending c.end.ensures.live ∙ ascending-left k lives inv.12,
-      ap (λ (ms : List Members). are_within c.self.inside.entered (length ms) c.end.new.live.items) now
-          ∙ ap (λ n. are_within c.self.inside.entered n c.end.new.live.items) long
-          ∙ ap (are_within c.self.inside.entered (length c.self.inside.sets.items)) c.end.ensures.live
-          ∙ within-left k c.self.inside.entered (length c.self.inside.sets.items) lives inv.13,
-      subst (AreIndexed c.self.inside.tags) (sym c.end.ensures.live) (All-filter (λ (l : Live). not (l.ticket == k)) (λ (l : Live). get nat_eq c.self.inside.tags l.itt ≡ Some l.ticket) lives inv.14),
-      omega (arith, inv.15, ap length places),
-      subst (λ (cs : List (ℕ × ℕ)). AreCounted c.end.new.immediate.items cs c.end.new.live.items) c.deref.ensures.value c.end.ensures.counted,
-      inv.17,
-      omega (arith, inv.18, ap length places),
-      omega (arith, inv.19, ap length places),
-      inv.20,
-      inv.21,
-      inv.22,
-      inv.23,
-      inv.24,
-      omega (arith, inv.25, ap length now, long),
-    )
+    let long : length new ≡ length c.self.inside.sets.items = length-set s.sets u (less (set_at s u) k) in
+    record {
+      window = places_sound inv.window _ _ places turned (omega (arith, inv.window.fits, unfinished, less_numbered)) inv.window.entered;
+      commands = record {
+        numbered = omega (arith, numbered, unfinished, inv.commands.numbered);
+        known = ap (λ ls. are_known ls c.self.inside.conns.items) c.end.ensures.live ∙ are_known-left k lives c.self.inside.conns.items inv.commands.known;
+        in_sets = subst (λ (ms : List Members). Match ms c.end.new.live.items) (sym now) (subst (λ (ls : List Live). Match new ls) (sym c.end.ensures.live) t.leaving.matches);
+        ascending = ap are_ascending c.end.ensures.live ∙ ascending-left k lives inv.commands.ascending;
+        within = ap (λ (ms : List Members). are_within c.self.inside.entered (length ms) c.end.new.live.items) now
+            ∙ ap (λ n. are_within c.self.inside.entered n c.end.new.live.items) long
+            ∙ ap (are_within c.self.inside.entered (length c.self.inside.sets.items)) c.end.ensures.live
+            ∙ within-left k c.self.inside.entered (length c.self.inside.sets.items) lives inv.commands.within;
+        indexed = subst (AreIndexed c.self.inside.tags) (sym c.end.ensures.live) (All-filter (λ (l : Live). not (l.ticket == k)) (λ (l : Live). get nat_eq c.self.inside.tags l.itt ≡ Some l.ticket) lives inv.commands.indexed);
+        counted = subst (λ (cs : List (ℕ × ℕ)). AreCounted c.end.new.immediate.items cs c.end.new.live.items) c.deref.ensures.value c.end.ensures.counted;
+      };
+      functions = inv.functions;
+      rooms = record { live = omega (arith, inv.rooms.live, ap length places, c.end.ensures.capacity); tags = omega (arith, inv.rooms.tags, ap length places); arrived = omega (arith, inv.rooms.arrived, ap length places); waiting = inv.rooms.waiting };
+      arrivals = omega (arith, inv.arrivals, ap length places);
+      taken = inv.taken;
+      events = inv.events;
+      conns = inv.conns;
+      units = omega (arith, inv.units, ap length now, long);
+    }

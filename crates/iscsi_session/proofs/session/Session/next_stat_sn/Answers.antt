@@ -51,31 +51,36 @@ invariant_of-self c =
     let found : position (has_cid c.args.cid) c.self.inside.conns.items ≡ Some c.unwrap-place.result = ap (position (has_cid c.args.cid)) (sym c.deref.ensures.value) ∙ sym c.place_of.ensures ∙ c.unwrap-place.ensures in
     let next = (read_at c.args.cid c.unwrap-place.result c.self.inside.conns.items c.index.result.now found c.index.ensures).next in
     let inv = c.self.invariant in
-    let long : length (count_reply c.args.cid c.self.inside.conns.items) ≡ length c.self.inside.conns.items = length-replied c.args.cid c.self.inside.conns.items in (
-      inv.0,
-      inv.1,
-      inv.2,
-      omega (arith, inv.3, ap length next, long),
-      inv.4,
-      inv.5,
-      inv.6,
-      inv.7,
-      inv.8,
-      ap (are_known c.self.inside.live.items) next ∙ are_known-replied c.args.cid c.self.inside.live.items c.self.inside.conns.items inv.9,
-      ap (λ (cs : List (ℕ × ℕ)). list_all (is_place_known cs) c.self.inside.window.places) next ∙ are_places_known-replied c.args.cid c.self.inside.window.places c.self.inside.conns.items inv.10,
-      inv.11,
-      inv.12,
-      inv.13,
-      inv.14,
-      omega (arith, inv.15, ap length next, long),
-      subst (λ (cs : List (ℕ × ℕ)). AreCounted c.self.inside.immediate.items cs c.self.inside.live.items) (sym next) (AreCounted-replied c.args.cid c.self.inside.immediate.items c.self.inside.conns.items c.self.inside.live.items inv.16),
-      omega (arith, inv.17, ap length next, long),
-      inv.18,
-      inv.19,
-      inv.20,
-      ap (λ (cs : List (ℕ × ℕ)). list_all (λ (w : Waiting). is_known (connection_of w.request) cs) c.self.inside.waiting.items) next ∙ are_waiting_known-replied c.args.cid c.self.inside.waiting.items c.self.inside.conns.items inv.21,
-      inv.22,
-      inv.23,
-      omega (arith, inv.24, ap length next, long),
-      inv.25,
-    )
+    let long : length (count_reply c.args.cid c.self.inside.conns.items) ≡ length c.self.inside.conns.items = length-replied c.args.cid c.self.inside.conns.items in
+    let many : length _ ≡ length c.self.inside.conns.items = ap length next ∙ long in
+    record {
+      window = record {
+        fits = inv.window.fits;
+        most = inv.window.most;
+        held_is = inv.window.held_is;
+        turned = inv.window.turned;
+        entered = inv.window.entered;
+        known = ap (λ (cs : List (ℕ × ℕ)). list_all (is_place_known cs) c.self.inside.window.places) next ∙ are_places_known-replied c.args.cid c.self.inside.window.places c.self.inside.conns.items inv.window.known;
+      };
+      commands = record {
+        numbered = inv.commands.numbered;
+        known = ap (are_known c.self.inside.live.items) next ∙ are_known-replied c.args.cid c.self.inside.live.items c.self.inside.conns.items inv.commands.known;
+        in_sets = inv.commands.in_sets;
+        ascending = inv.commands.ascending;
+        within = inv.commands.within;
+        indexed = inv.commands.indexed;
+        counted = subst (λ (cs : List (ℕ × ℕ)). AreCounted c.self.inside.immediate.items cs c.self.inside.live.items) (sym next) (AreCounted-replied c.args.cid c.self.inside.immediate.items c.self.inside.conns.items c.self.inside.live.items inv.commands.counted);
+      };
+      functions = record {
+        before = inv.functions.before;
+        known = ap (λ (cs : List (ℕ × ℕ)). list_all (λ (w : Waiting). is_known (connection_of w.request) cs) c.self.inside.waiting.items) next ∙ are_waiting_known-replied c.args.cid c.self.inside.waiting.items c.self.inside.conns.items inv.functions.known;
+        may = inv.functions.may;
+        few = inv.functions.few;
+      };
+      rooms = record { live = omega (arith, inv.rooms.live, many); tags = omega (arith, inv.rooms.tags, many); arrived = inv.rooms.arrived; waiting = omega (arith, inv.rooms.waiting, many) };
+      arrivals = inv.arrivals;
+      taken = inv.taken;
+      events = inv.events;
+      conns = omega (arith, inv.conns, many);
+      units = inv.units;
+    }

@@ -49,37 +49,21 @@ invariant_of-self c =
     let inv = c.self.invariant in
     let taken : c.args.self.now.taken < c.args.self.now.events = (taken_by c.args.self.now c.args.event.now (sym c.refusal.ensures ∙ c.in_default.is)).1 in
     let same : c.self.inside.taken ≡ c.args.self.now.taken = ap (λ (s : Core). s.taken) c.self.view_is in
-    let most : c.self.inside.events ≡ c.args.self.now.events = ap (λ (s : Core). s.events) c.self.view_is in (
-      inv.0,
-      inv.1,
-      inv.2,
-      inv.3,
-      inv.4,
-      omega (arith, inv.5),
-      omega (arith, inv.6),
-      omega (arith, taken, same, most),
-      inv.8,
-      inv.9,
-      inv.10,
-      inv.11,
-      inv.12,
-      inv.13,
-      inv.14,
-      inv.15,
-      inv.16,
-      inv.17,
-      inv.18,
-      inv.19,
-      waited_before c.self.inside.taken c.self.inside.waiting.items inv.20,
-      inv.21,
-      inv.22,
-      inv.23,
-      inv.24,
-      inv.25,
-    )
+    let most : c.self.inside.events ≡ c.args.self.now.events = ap (λ (s : Core). s.events) c.self.view_is in
+    record {
+      window = record { fits = inv.window.fits; most = inv.window.most; held_is = inv.window.held_is; turned = omega (arith, inv.window.turned); entered = omega (arith, inv.window.entered); known = inv.window.known };
+      commands = inv.commands;
+      functions = record { before = waited_before c.self.inside.taken c.self.inside.waiting.items inv.functions.before; known = inv.functions.known; may = inv.functions.may; few = inv.functions.few };
+      rooms = inv.rooms;
+      arrivals = inv.arrivals;
+      taken = omega (arith, taken, same, most);
+      events = inv.events;
+      conns = inv.conns;
+      units = inv.units;
+    }
 
 pub apply-requires-clause-owed : goal.apply-requires-clause-owed
-apply-requires-clause-owed c = owed_few c.self.inside.sets.items c.self.inside.live.items c.self.invariant.11
+apply-requires-clause-owed c = owed_few c.self.inside.sets.items c.self.inside.live.items c.self.invariant.commands.in_sets
 
 -- the event that is taken is the next one of the history
 index_is : (s : Core) (taken : ℕ) (h : List Event) → taken ≡ s.taken → s.taken ≡ length h → taken + 1 ≡ length h + 1
