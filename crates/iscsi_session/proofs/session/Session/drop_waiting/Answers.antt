@@ -1,15 +1,10 @@
-use Rattle.std.proofs.Common.{rules, ◌≡◌, ◌∙◌, ◌==◌, nat_lt, ap, filter, not, arith, List}
-use Rattle.std.specs.List.{list_all}
+use Rattle.std.proofs.Common.{rules, ◌≡◌, ◌∙◌, ap, filter, not, arith, List}
 use Rattle.std.proofs.lemmas.Fn.{filter_same}
 use Rattle.iscsi_wire.specs.Fields.{connection_of}
 use Rattle.iscsi_window.specs.Windows.{is_asked}
 use Rattle.iscsi_session.specs.declared.session.waiting.Waiting.{Waiting}
-use Rattle.iscsi_session.specs.Settings.{is_known}
-use Rattle.iscsi_session.specs.Management.{may_wait}
 use Rattle.iscsi_session.specs.Standing.{Core}
-use Rattle.iscsi_session.specs.Turning.{waiting_in}
 use Rattle.iscsi_session.specs.Parting.{with_dropped}
-use Rattle.iscsi_session.proofs.ListLemmas.{list_all-filter, fewer_counted}
 use Rattle.iscsi_session.proofs.SoundLemmas.{fewer_sound}
 use Rattle.iscsi_session.proofs.session.Session.drop_waiting.Goals as goal
 
@@ -18,7 +13,7 @@ invariant_of-self c =
     let inv = c.self.invariant in
     let stays = λ (w : Waiting). not (is_asked c.args.whose (connection_of w.request)) in
     let rest : c.retain.new.self.items ≡ filter stays c.self.inside.waiting.items = filter_same _ _ _ (λ x b f' k. search rules) _ _ c.retain.ensures.filtered in
-    fewer_sound inv stays _ _ rest (omega (arith, c.retain.ensures.capacity))
+    fewer_sound inv stays rest (omega (arith, c.retain.ensures.capacity))
 
 pub returns : goal.returns
 returns c =

@@ -1,11 +1,10 @@
-use Rattle.std.proofs.Common.{◌≡◌, ℕ, true, ◌∙◌, ◌++◌, ◌+◌, ◌-◌, ap, sym, subst, arith, map, count_by, is_some, length, Option, List, append_assoc, [], ◌∷◌}
-use Rattle.std.specs.List.{list_all}
+use Rattle.std.proofs.Common.{◌≡◌, ℕ, true, ◌∙◌, ◌++◌, ◌+◌, ap, sym, subst, arith, map, count_by, Option, List, append_assoc, [], ◌∷◌}
 use Rattle.iscsi_wire.specs.declared.request.Request.{Request}
 use Rattle.iscsi_wire.specs.Serial.{number_of_first}
 use Rattle.iscsi_window.specs.Windows.{Received, number_expected, taken_at}
 use Rattle.iscsi_session.specs.declared.effect.Effect.{Effect}
 use Rattle.iscsi_session.specs.declared.effect.Effect.TheVariants.{Empty}
-use Rattle.iscsi_session.specs.Standing.{Core, is_held, is_place_known}
+use Rattle.iscsi_session.specs.Standing.{Core, is_held}
 use Rattle.iscsi_session.specs.Parting.{emptied_place, emptied_from, is_clear_below, with_emptied, emptying_effects}
 use Rattle.iscsi_session.proofs.DroppingLemmas.{DroppedOne, dropped_one, DroppedNone, dropped_none, answered_some, answered_none}
 use Rattle.iscsi_session.proofs.WindowLemmas.{Changed}
@@ -20,7 +19,7 @@ invariant_of-self c =
     let clear : is_clear_below c.args.whose c.args.ahead w.places ≡ true = ap (λ (u : Core). is_clear_below c.args.whose c.args.ahead u.window.places) c.self.view_is ∙ c.requires.lowest in
     let d : DroppedOne w c.drop_at.new.self c.args.whose c.args.ahead = subst (λ (v : Received). DroppedOne w v c.args.whose c.args.ahead) (sym c.drop_at.ensures.state) (dropped_one w c.args.whose c.args.ahead clear found.0) in
     let g : Changed w c.drop_at.new.self 1 0 = record { long = d.long; turned = d.turned; unfinished = d.unfinished; held_is = d.held; counted = omega (arith, d.counted); known = d.known } in
-    window_sound inv _ _ g.unfinished g.long (changed_sound inv.window g (c.self.inside.held - 1) (omega (arith, inv.window.held_is, d.held)) (omega (arith, inv.window.turned)) (omega (arith, inv.window.entered)))
+    window_sound inv g.unfinished g.long (changed_sound inv.window g (omega (arith, inv.window.held_is, d.held)) (omega (arith, inv.window.turned)) (omega (arith, inv.window.entered)))
 
 pub returns-in-Some-clause-session : goal.returns-in-Some-clause-session
 returns-in-Some-clause-session c =
@@ -77,7 +76,7 @@ invariant_of-self-in_default c =
     let none = answered_none w c.args.whose c.args.ahead (sym c.drop_at.ensures.answer ∙ c.in_default.is) in
     let d : DroppedNone w (taken_at w c.args.ahead c.args.whose) c.args.whose c.args.ahead = dropped_none w c.args.whose c.args.ahead clear none in
     let same : c.drop_at.new.self ≡ w = c.drop_at.ensures.state ∙ d.same in
-    same_sound inv c.drop_at.new.self same
+    same_sound inv same
 
 pub returns-in_default-clause-lowest : goal.returns-in_default-clause-lowest
 returns-in_default-clause-lowest c =

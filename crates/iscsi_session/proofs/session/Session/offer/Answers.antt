@@ -1,4 +1,4 @@
-use Rattle.std.proofs.Common.{rules, ◌≡◌, ◌<◌, ◌≤◌, ◌-◌, ◌&&◌, not, ◌+◌, ◌∙◌, ap, sym, subst, arith, length, length-set, count_by, is_some, List, Some, None, refl, true, ℕ}
+use Rattle.std.proofs.Common.{rules, ◌≡◌, ◌<◌, ◌-◌, ◌&&◌, not, ◌+◌, ◌∙◌, ap, sym, subst, arith, length, length-set, count_by, is_some, List, Some, None, refl, true, ℕ}
 use Rattle.std.specs.List.{list_all}
 use Rattle.iscsi_wire.specs.declared.request.Request.{Request}
 use Rattle.iscsi_wire.specs.Fields.{connection_of}
@@ -7,10 +7,9 @@ use Rattle.iscsi_window.specs.Windows.{Received, offer_to, offered_to, with_plac
 use Rattle.iscsi_session.specs.Settings.{is_known}
 use Rattle.iscsi_session.specs.Standing.{Core, is_held, is_place_known}
 use Rattle.iscsi_session.proofs.WindowLemmas.{few_counted, count_set, all_set, Taken, taken}
-use Rattle.iscsi_session.specs.Steps.{is_numbered}
 use Rattle.iscsi_session.proofs.ManageLemmas.{length-noted, unheld_same}
 use Rattle.iscsi_session.specs.Invariant.{IsWindowSound}
-use Rattle.iscsi_session.proofs.SoundLemmas.{window_sound, same_sound, arrived_sound}
+use Rattle.iscsi_session.proofs.SoundLemmas.{window_sound, same_sound, arrivals_sound}
 use Rattle.iscsi_session.proofs.session.Session.offer.Goals as goal
 
 pub overflow_add-self : goal.overflow_add-self
@@ -54,14 +53,14 @@ invariant_of-self c =
       entered = omega (arith, entered, g.counted);
       known = g.known c.self.inside.conns.items inv.window.known (ap (λ b. not b && is_known (connection_of c.args.request.now) c.self.inside.conns.items) c.requires.regular ∙ known);
     } in
-    arrived_sound (window_sound inv _ _ g.unfinished g.long window) _ _ (ap length c.note.ensures.events ∙ length-noted c.place-place.result c.self.inside.arrived.items (c.self.inside.taken - 1)) (omega (arith, c.note.ensures.capacity))
+    arrivals_sound (window_sound inv g.unfinished g.long window) (ap length c.note.ensures.events ∙ length-noted c.place-place.result c.self.inside.arrived.items (c.self.inside.taken - 1)) (omega (arith, c.note.ensures.capacity))
 
 pub invariant_of-self-else-eq : goal.invariant_of-self-else-eq
 invariant_of-self-else-eq c =
     let inv = c.self.invariant in
     let unheld : offer_to c.self.inside.window c.args.request.now ≡ Held → ⊥ = λ is. let said : c.offer-offer.result ≡ Held = c.offer-offer.ensures.answer ∙ is in search rules in
     let same : c.offer-offer.new.self ≡ c.self.inside.window = c.offer-offer.ensures.state ∙ unheld_same c.self.inside.window c.args.request.now unheld in
-    same_sound inv c.offer-offer.new.self same
+    same_sound inv same
 
 pub returns-then-eq-clause-held : goal.returns-then-eq-clause-held
 returns-then-eq-clause-held c =

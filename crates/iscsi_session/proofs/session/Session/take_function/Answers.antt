@@ -1,5 +1,4 @@
-use Rattle.std.proofs.Common.{w64, to_z, ◌^◌, ◌≡◌, ◌==◌, ◌<◌, ◌≤◌, ◌+◌, ◌∙◌, ◌++◌, ◌∷◌, [], not, Bool, true, nat_lt, find, filter, List, Some, length, pos, ◌-ℤ◌, ℤ, refl, ap, sym, arith, append_assoc, eq-eqb, ℕ}
-use Rattle.std.specs.List.{list_all}
+use Rattle.std.proofs.Common.{w64, to_z, ◌^◌, ◌≡◌, ◌==◌, ◌<◌, ◌≤◌, ◌+◌, ◌∙◌, ◌++◌, ◌∷◌, [], not, true, find, filter, List, Some, length, pos, ◌-ℤ◌, ℤ, refl, ap, sym, arith, append_assoc, eq-eqb, ℕ}
 use Rattle.std.proofs.lemmas.Bool.{false≢true}
 use Rattle.std.proofs.lemmas.Int.{ints, to_z_pos}
 use Rattle.iscsi_wire.specs.Serial.{number_of_first}
@@ -12,8 +11,8 @@ use Rattle.iscsi_session.specs.Settings.{is_known}
 use Rattle.iscsi_session.specs.Management.{may_wait}
 use Rattle.iscsi_session.specs.Standing.{Core}
 use Rattle.iscsi_session.specs.Functions.{owed}
-use Rattle.iscsi_session.specs.Turning.{waiting_in, performed, performed_effects, next_waiting, next_position, without_waiting, function_if, function_effects}
-use Rattle.iscsi_session.proofs.ListLemmas.{list_all-filter, find-passes, fewer_counted}
+use Rattle.iscsi_session.specs.Turning.{performed, performed_effects, next_waiting, next_position, without_waiting, function_if, function_effects}
+use Rattle.iscsi_session.proofs.ListLemmas.{find-passes}
 use Rattle.iscsi_session.proofs.ManageLemmas.{fewer_left, waiting_performed}
 use Rattle.iscsi_session.proofs.FunctionLemmas.{waited_places}
 use Rattle.iscsi_session.proofs.SoundLemmas.{fewer_sound}
@@ -44,7 +43,7 @@ pub invariant_of-self : goal.invariant_of-self
 invariant_of-self c =
     let inv = c.self.invariant in
     let f : Waiting = c.in-Some.function in
-    fewer_sound inv (λ v. not (v.event == f.event)) _ _ c.take_out.ensures.items (omega (arith, c.take_out.ensures.capacity))
+    fewer_sound inv (λ v. not (v.event == f.event)) c.take_out.ensures.items (omega (arith, c.take_out.ensures.capacity))
 
 pub perform-requires-clause-known : goal.perform-requires-clause-known
 perform-requires-clause-known c =

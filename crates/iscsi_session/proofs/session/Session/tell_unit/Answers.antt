@@ -1,10 +1,11 @@
-use Rattle.std.proofs.Common.{◌≡◌, ◌∙◌, ◌<◌, ◌++◌, ℕ, List, length, count_by, take, drop, get_or, set, length-set, ap, sym, subst, arith}
+use Rattle.std.proofs.Common.{◌≡◌, ◌∙◌, ◌<◌, ◌++◌, ℕ, List, length, count_by, take, drop, get_or, set, length-set, ap, arith}
 use Rattle.iscsi_tasks.specs.Sets.{Members, opened, is_new}
-use Rattle.iscsi_session.specs.Standing.{Core, Match, are_within}
+use Rattle.iscsi_session.specs.Standing.{Core}
 use Rattle.iscsi_session.specs.Steps.{all_given}
 use Rattle.iscsi_session.specs.Functions.{ungiven_in, owed}
 use Rattle.iscsi_session.proofs.KeptLemmas.{written}
 use Rattle.iscsi_session.proofs.LeavingParts.{owed-given, Match-given}
+use Rattle.iscsi_session.proofs.SoundLemmas.{sets_sound}
 use Rattle.iscsi_session.proofs.session.Session.tell_unit.Goals as goal
 
 -- what a unit was told of
@@ -34,22 +35,4 @@ invariant_of-self c =
     let inv = c.self.invariant in
     let inside : c.args.unit < length c.self.inside.sets.items = omega (arith, c.requires.unit, ap (λ (x : Core). length x.sets) c.self.view_is) in
     let t : Told c.args.unit c.self.inside.sets.len c.self.inside.sets.items c.deref_mut.result.now c.tell.new.sets = told c.args.unit c.self.inside.sets.len c.self.inside.sets.items c.deref_mut.result.now c.tell.new.sets c.self.inside.sets.ok.0 c.deref_mut.ensures.value c.tell.ensures.sets in
-    record {
-      window = inv.window;
-      commands = record {
-        numbered = inv.commands.numbered;
-        known = inv.commands.known;
-        in_sets = subst (λ (ms : List Members). Match ms c.self.inside.live.items) (sym t.now) (Match-given c.self.inside.sets.items c.self.inside.live.items c.args.unit inv.commands.in_sets inside);
-        ascending = inv.commands.ascending;
-        within = ap (λ (ms : List Members). are_within c.self.inside.entered (length ms) c.self.inside.live.items) t.now ∙ ap (λ n. are_within c.self.inside.entered n c.self.inside.live.items) t.long ∙ inv.commands.within;
-        indexed = inv.commands.indexed;
-        counted = inv.commands.counted;
-      };
-      functions = inv.functions;
-      rooms = inv.rooms;
-      arrivals = inv.arrivals;
-      taken = inv.taken;
-      events = inv.events;
-      conns = inv.conns;
-      units = omega (arith, inv.units, ap length t.now, t.long);
-    }
+    sets_sound inv t.now t.long (Match-given c.self.inside.sets.items c.self.inside.live.items c.args.unit inv.commands.in_sets inside)

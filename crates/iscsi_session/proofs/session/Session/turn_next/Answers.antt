@@ -14,7 +14,7 @@ use Rattle.iscsi_session.proofs.BoolLemmas.{and_first, not_true}
 use Rattle.iscsi_session.proofs.WindowLemmas.{few_counted, Advanced, advanced_at}
 use Rattle.iscsi_session.proofs.ManageLemmas.{Placed, placed_executed, waiting_executed}
 use Rattle.iscsi_session.specs.Invariant.{IsWindowSound}
-use Rattle.iscsi_session.proofs.SoundLemmas.{window_sound, arrived_sound}
+use Rattle.iscsi_session.proofs.SoundLemmas.{window_sound, arrivals_sound}
 use Rattle.iscsi_session.proofs.session.Session.turn_next.Goals as goal
 
 length-passed : (arrived : List ℕ) → 0 < length arrived → length (drop 1 arrived ++ 0 ∷ []) ≡ length arrived
@@ -45,7 +45,7 @@ invariant_of-self-in-Some-request c =
       entered = omega (arith, inv.window.entered, counted);
       known = ap (λ (w : Received). list_all (is_place_known c.self.inside.conns.items) w.places) is ∙ (a.known c.self.inside.conns.items inv.window.known).1;
     } in
-    arrived_sound (window_sound inv _ _ unfinished long window) _ _ passed (omega (arith, c.pass-event.ensures.capacity))
+    arrivals_sound (window_sound inv unfinished long window) passed (omega (arith, c.pass-event.ensures.capacity))
 
 pub invariant_of-self-in_default-request : goal.invariant_of-self-in_default-request
 invariant_of-self-in_default-request c =
@@ -68,7 +68,7 @@ invariant_of-self-in_default-request c =
       entered = omega (arith, inv.window.entered, counted);
       known = ap (λ (w : Received). list_all (is_place_known c.self.inside.conns.items) w.places) is ∙ (a.known c.self.inside.conns.items inv.window.known).1;
     } in
-    arrived_sound (window_sound inv _ _ unfinished long window) _ _ passed (omega (arith, c.pass-event.ensures.capacity))
+    arrivals_sound (window_sound inv unfinished long window) passed (omega (arith, c.pass-event.ensures.capacity))
 
 pub deliver-requires-clause-numbered : goal.deliver-requires-clause-numbered
 deliver-requires-clause-numbered c =

@@ -20,7 +20,7 @@ invariant_of-self c =
     let g : Changed w c.void.new.self 0 more = subst (λ (v : Received). Changed w v 0 more) (sym c.void.ensures.state) (voided_changes w c.args.sn inside) in
     let room : w.turned + count_by is_some w.places < c.self.inside.taken = subst (λ (s : Core). s.window.turned + count_by is_some s.window.places < s.taken) (sym c.self.view_is) c.requires.counted in
     let entered : c.self.inside.entered + count_by is_some w.places < c.self.inside.taken = subst (λ (s : Core). s.entered + count_by is_some s.window.places < s.taken) (sym c.self.view_is) c.requires.entered in
-    window_sound inv _ _ g.unfinished g.long (changed_sound inv.window g c.self.inside.held (omega arith) (omega (arith, room, few)) (omega (arith, entered, few)))
+    window_sound inv g.unfinished g.long (changed_sound inv.window g (omega arith) (omega (arith, room, few)) (omega (arith, entered, few)))
 
 pub returns-clause-held : goal.returns-clause-held
 returns-clause-held c =

@@ -40,7 +40,7 @@ invariant_of-self c =
     let items : c.push_reserved-2.new.self.items ≡ s.waiting ++ f ∷ [] = c.push_reserved-2.ensures.items in
     let some : 0 < c.self.inside.taken = omega (arith, c.requires.taken, ap (λ (t : Core). t.taken) c.self.view_is) in
     let before : nat_lt (c.self.inside.taken - 1) c.self.inside.taken ≡ true = let lt : c.self.inside.taken - 1 < c.self.inside.taken = omega (arith, some) in grind (arith, nat_tests) in
-    functions_sound inv _ _ (record {
+    functions_sound inv (record {
       before = ap (list_all (λ (v : Waiting). nat_lt v.event s.taken)) items ∙ list_all-append (λ (v : Waiting). nat_lt v.event s.taken) s.waiting (f ∷ []) ∙ ap (λ b. b && (nat_lt f.event s.taken && true)) inv.functions.before ∙ ap (λ b. b && true) before;
       known = ap (list_all (λ (v : Waiting). is_known (connection_of v.request) s.conns)) items ∙ w.known;
       may = ap (list_all (λ (v : Waiting). may_wait v.request)) items ∙ list_all-append (λ (v : Waiting). may_wait v.request) s.waiting (f ∷ []) ∙ ap (λ b. b && (may_wait r && true)) inv.functions.may ∙ ap (λ b. b && true) l.may;
