@@ -1,8 +1,9 @@
 -- What holds of every session holds on, where only some of its fields change.
-use Rattle.std.proofs.Common.{◌≡◌, ◌∙◌, ◌+◌, ◌<◌, ◌≤◌, ◌==◌, not, ap, sym, subst, arith, nat_lt, length, filter, count_by, is_some, Bool, true, List, Option, Some, ℕ}
+use Rattle.std.proofs.Common.{◌≡◌, ◌∙◌, ◌+◌, ◌<◌, ◌≤◌, ◌==◌, not, ap, sym, subst, arith, nat_lt, length, filter, count_by, is_some, Bool, true, List, Option, Some, ℕ, All, cond, ◌&&◌, ◌++◌, [], ◌∷◌}
 use Rattle.std.specs.List.{list_all}
 use Rattle.std.proofs.lemmas.Bool.Decides.{nat_tests}
-use Rattle.std.proofs.lemmas.List.Elements.{All-filter}
+use Rattle.std.proofs.lemmas.List.Elements.{All-append, All-cons, All-filter}
+use Rattle.std.proofs.lemmas.List.Folds.{list_all-append}
 use Rattle.iscsi_wire.specs.Fields.{connection_of}
 use Rattle.iscsi_window.specs.Windows.{Received}
 use Rattle.iscsi_tasks.specs.Sets.{Members}
@@ -13,11 +14,11 @@ use Rattle.iscsi_session.specs.Management.{may_wait}
 use Rattle.iscsi_session.specs.Standing.{is_held, is_place_known, Match, are_within}
 use Rattle.iscsi_session.specs.Steps.{AreCounted, is_numbered, count_reply, without_ticket}
 use Rattle.iscsi_session.specs.Invariant.{Inner, IsWindowSound, AreCommandsSound, AreFunctionsSound, HasRooms, IsSessionSound}
-use Rattle.iscsi_session.proofs.ListLemmas.{list_all-filter, fewer_counted, are_known-left, are_known-replied, are_places_known-replied, are_waiting_known-replied}
+use Rattle.iscsi_session.proofs.ListLemmas.{count_by-push, list_all-filter, fewer_counted, are_known-left, are_known-replied, are_places_known-replied, are_waiting_known-replied}
 use Rattle.iscsi_session.proofs.TraceLemmas.{weaker}
 use Rattle.iscsi_session.proofs.WindowLemmas.{Changed}
 use Rattle.iscsi_session.proofs.CountLemmas.{length-replied, AreCounted-replied}
-use Rattle.iscsi_session.proofs.KeptLemmas.{ascending-left, within-left}
+use Rattle.iscsi_session.proofs.KeptLemmas.{ascending-push, within-push, ascending-left, within-left}
 
 -- ---- the window
 
@@ -124,6 +125,21 @@ sets_sound {s} inv {sets} {new} is long match =
       conns = inv.conns;
       units = omega (arith, inv.units, units);
     }
+
+-- one more, of the next ticket, has entered
+pub entered_sound : {unfinished now count : ℕ} {conns : List (ℕ × ℕ)} {tickets : ℕ → Option ℕ} {immediate counts : List ℕ} {sets new : List Members} {live entered : List Live} → AreCommandsSound unfinished count conns tickets immediate sets live
+    → (index : ℕ → Option ℕ) (l : Live) → entered ≡ live ++ l ∷ [] → l.ticket ≡ count + 1 → l.unit < length sets → is_known l.conn conns ≡ true → count_by is_numbered live + cond (not l.immediate) 1 0 ≤ now
+    → length new ≡ length sets → Match new (live ++ l ∷ []) → All (λ x. index x.itt ≡ Some x.ticket) live → index l.itt ≡ Some l.ticket → AreCounted counts conns (live ++ l ∷ []) → AreCommandsSound now (count + 1) conns index counts new entered
+entered_sound {unfinished} {now} {count} {conns} {tickets} {immediate} {counts} {sets} {new} {live} c index l is next inside known numbered long match others this counted =
+    subst (AreCommandsSound now (count + 1) conns index counts new) (sym is) (record {
+      numbered = omega (arith, numbered, count_by-push is_numbered live l);
+      known = list_all-append (λ (x : Live). is_known x.conn conns) live (l ∷ []) ∙ ap (λ b. b && (is_known l.conn conns && true)) c.known ∙ ap (λ b. b && true) known;
+      in_sets = match;
+      ascending = ascending-push count (length sets) live l c.ascending c.within (omega (arith, next));
+      within = ap (λ n. are_within (count + 1) n (live ++ l ∷ [])) long ∙ within-push count (length sets) live l c.within next inside;
+      indexed = All-append (λ (x : Live). index x.itt ≡ Some x.ticket) live (l ∷ []) others (All-cons (λ (x : Live). index x.itt ≡ Some x.ticket) l [] this (λ k d within. absurd (omega arith)));
+      counted = counted;
+    })
 
 -- those that are left once the command of a ticket has left
 pub left_sound : {unfinished now count : ℕ} {conns : List (ℕ × ℕ)} {tickets : ℕ → Option ℕ} {immediate counts : List ℕ} {sets new : List Members} {live left : List Live} → AreCommandsSound unfinished count conns tickets immediate sets live

@@ -1,8 +1,6 @@
-use Rattle.std.proofs.Common.{rules, w64, of_z, to_z, Some, nat_eq, refl, pos, ◌-ℤ◌, ◌≡◌, ◌==◌, ◌∙◌, ◌<◌, ◌≤◌, ◌&&◌, not, cond, ap, sym, subst, Bool, true, false, arith, length, count_by, is_some, ◌+◌, ◌*◌, ℕ, ℤ, List, [], ◌∷◌, get_or, set, take, drop, ◌++◌, length-set, append_assoc}
+use Rattle.std.proofs.Common.{rules, w64, of_z, to_z, nat_eq, refl, pos, ◌-ℤ◌, ◌≡◌, ◌==◌, ◌∙◌, ◌<◌, ◌≤◌, ◌&&◌, not, cond, ap, sym, subst, Bool, true, false, arith, length, count_by, is_some, ◌+◌, ◌*◌, ℕ, ℤ, List, [], ◌∷◌, get_or, set, take, drop, ◌++◌, length-set, append_assoc}
 use Rattle.std.specs.HashMap.{get}
 use Rattle.std.proofs.lemmas.Int.{to_z-of_z}
-use Rattle.std.proofs.lemmas.List.Elements.{All-append, All-cons}
-use Rattle.std.proofs.lemmas.List.Folds.{list_all-append}
 use Rattle.iscsi_wire.specs.declared.request.Request.{Request}
 use Rattle.iscsi_wire.specs.Serial.{number_of_first}
 use Rattle.iscsi_wire.specs.Fields.{connection_of, is_immediate, attr_code, itt}
@@ -16,14 +14,12 @@ use Rattle.iscsi_session.specs.declared.effect.Effect.TheVariants.{Enter}
 use Rattle.iscsi_session.specs.declared.session.live.Live.{Live}
 use Rattle.iscsi_session.specs.Settings.{is_known}
 use Rattle.iscsi_session.specs.Execution.{attr_of}
-use Rattle.iscsi_session.specs.Standing.{Core, are_known, Match, are_ascending, are_within}
-use Rattle.iscsi_session.specs.Steps.{AreIndexed, AreCounted, is_numbered, immediate_in, counted_on, started, number_by, event_by, new_live, new_task, with_command, enable_effect, entry_effects}
-use Rattle.iscsi_session.specs.Invariant.{AreCommandsSound}
-use Rattle.iscsi_session.proofs.ListLemmas.{count_by-push}
+use Rattle.iscsi_session.specs.Standing.{Core, are_known, Match}
+use Rattle.iscsi_session.specs.Steps.{is_numbered, immediate_in, counted_on, started, number_by, event_by, new_live, new_task, with_command, enable_effect, entry_effects}
 use Rattle.iscsi_session.proofs.CountLemmas.{AreCounted-entered, room_for_one}
-use Rattle.iscsi_session.proofs.KeptLemmas.{newest_in, Match-entered, ascending-push, within-push, written}
+use Rattle.iscsi_session.proofs.KeptLemmas.{newest_in, Match-entered, written}
 use Rattle.iscsi_session.proofs.PaceLemmas.{started_turned}
-use Rattle.iscsi_session.proofs.SoundLemmas.{places_sound, commands_sound}
+use Rattle.iscsi_session.proofs.SoundLemmas.{places_sound, commands_sound, entered_sound}
 use Rattle.iscsi_session.proofs.session.Session.enter.Goals as goal
 
 started_unfinished : (w : Received) (r : Request) → (started w r).unfinished ≡ w.unfinished + cond (not (is_immediate r)) 1 0
@@ -113,8 +109,6 @@ invariant_of-self c =
     let now : take c.self.inside.sets.len (c.enter.new.sets ++ drop (length c.enter.new.sets) old) ≡ new = written c.self.inside.sets.len c.enter.new.sets old (ap length returned ∙ long) c.self.inside.sets.ok.0 ∙ returned in
     let lives : c.push_back_reserved.new.self.items ≡ c.self.inside.live.items ++ l ∷ [] = c.push_back_reserved.ensures.items in
     let immediate_is : c.immediate.result ≡ is_immediate r = c.immediate.ensures in
-    let numbered : count_by is_numbered c.push_back_reserved.new.self.items ≡ count_by is_numbered c.self.inside.live.items + cond (not (is_immediate r)) 1 0 =
-    ap (λ ls. count_by is_numbered ls) lives ∙ count_by-push is_numbered c.self.inside.live.items l ∙ ap (λ b. count_by is_numbered c.self.inside.live.items + cond (not b) 1 0) immediate_is in
     let value : c.deref.result.now ≡ c.self.inside.conns.items = c.deref.ensures.value in
     let counts : (cid : ℕ) → counted_on cid c.self.inside.conns.items c.begin.new.immediate.items ≡ counted_on cid c.self.inside.conns.items c.self.inside.immediate.items + cond (l.immediate && l.conn == cid) 1 0 = λ cid.
     subst (λ (cs : List (ℕ × ℕ)). counted_on cid cs c.begin.new.immediate.items ≡ counted_on cid cs c.self.inside.immediate.items + cond (is_immediate r && connection_of r == cid) 1 0) value (c.begin.ensures.counted cid)
@@ -123,20 +117,10 @@ invariant_of-self c =
     let room : c.immediate.result ≡ true → immediate_in c.self.inside.live.items c.conn.result < 8 = λ yes.
     subst (λ k. immediate_in c.self.inside.live.items k < 8) (sym c.conn.ensures) (subst (λ (s : Core). immediate_in s.live (connection_of r) < 8) (sym c.self.view_is) (c.requires.few (sym immediate_is ∙ yes))) in
     let known : is_known c.conn.result c.self.inside.conns.items ≡ true = ap (λ n. is_known n c.self.inside.conns.items) c.conn.ensures ∙ ap (λ (s : Core). is_known (connection_of r) s.conns) c.self.view_is ∙ c.requires.known in
-    let commands : AreCommandsSound c.begin.new.window.unfinished (c.self.inside.entered + 1) c.self.inside.conns.items (get nat_eq c.take_up.new.tags) c.begin.new.immediate.items (take c.self.inside.sets.len (c.enter.new.sets ++ drop (length c.enter.new.sets) old)) c.push_back_reserved.new.self.items = record {
-      numbered = omega (arith, inv.commands.numbered, unfinished, numbered);
-      known = ap (λ ls. are_known ls c.self.inside.conns.items) lives ∙ list_all-append (λ (x : Live). is_known x.conn c.self.inside.conns.items) c.self.inside.live.items (l ∷ []) ∙ ap (λ b. b && (is_known c.conn.result c.self.inside.conns.items && true)) inv.commands.known ∙ ap (λ b. b && true) known;
-      in_sets = subst (λ (ms : List Members). Match ms c.push_back_reserved.new.self.items) (sym now)
-          (subst (λ (ls : List Live). Match new ls) (sym lives) (Match-entered old c.self.inside.live.items l task inv.commands.in_sets inside refl));
-      ascending = ap are_ascending lives ∙ ascending-push c.self.inside.entered (length old) c.self.inside.live.items l inv.commands.ascending inv.commands.within (omega arith);
-      within = ap (λ (ms : List Members). are_within (c.self.inside.entered + 1) (length ms) c.push_back_reserved.new.self.items) now
-          ∙ ap (λ n. are_within (c.self.inside.entered + 1) n c.push_back_reserved.new.self.items) long
-          ∙ ap (are_within (c.self.inside.entered + 1) (length old)) lives
-          ∙ within-push c.self.inside.entered (length old) c.self.inside.live.items l inv.commands.within refl inside;
-      indexed = subst (AreIndexed c.take_up.new.tags) (sym lives) (All-append (λ (x : Live). get nat_eq c.take_up.new.tags x.itt ≡ Some x.ticket) c.self.inside.live.items (l ∷ []) c.take_up.ensures.indexed
-          (All-cons (λ (x : Live). get nat_eq c.take_up.new.tags x.itt ≡ Some x.ticket) l [] (ap (get nat_eq c.take_up.new.tags) (c.itt-2.ensures ∙ sym c.itt.ensures) ∙ c.take_up.ensures.taken) (λ k d within. absurd (omega arith))));
-      counted = subst (λ (ls : List Live). AreCounted c.begin.new.immediate.items c.self.inside.conns.items ls) (sym lives) (AreCounted-entered c.self.inside.immediate.items c.begin.new.immediate.items c.self.inside.conns.items c.self.inside.live.items l inv.commands.counted c.begin.ensures.long counts room);
-    } in
+    let commands = entered_sound inv.commands (get nat_eq c.take_up.new.tags) l lives refl inside known (omega (arith, inv.commands.numbered, unfinished, ap {B = ℕ} (λ b. cond (not b) 1 0) immediate_is)) (ap length now ∙ long)
+    (subst (λ (ms : List Members). Match ms (c.self.inside.live.items ++ l ∷ [])) (sym now) (Match-entered old c.self.inside.live.items l task inv.commands.in_sets inside refl))
+    c.take_up.ensures.indexed (ap (get nat_eq c.take_up.new.tags) (c.itt-2.ensures ∙ sym c.itt.ensures) ∙ c.take_up.ensures.taken)
+    (AreCounted-entered c.self.inside.immediate.items c.begin.new.immediate.items c.self.inside.conns.items c.self.inside.live.items l inv.commands.counted c.begin.ensures.long counts room) in
     commands_sound inv (places_sound inv.window places turned fits (omega (arith, counted))) commands places (ap length now ∙ long) (omega (arith, c.push_back_reserved.ensures.capacity)) (omega (arith, c.take_up.ensures.room))
 
 pub returns-clause-session : goal.returns-clause-session
