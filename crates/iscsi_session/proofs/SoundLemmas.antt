@@ -5,7 +5,8 @@ use Rattle.std.proofs.lemmas.Bool.Decides.{nat_tests}
 use Rattle.std.proofs.lemmas.List.Elements.{All-append, All-cons, All-filter}
 use Rattle.std.proofs.lemmas.List.Folds.{list_all-append}
 use Rattle.iscsi_wire.specs.Fields.{connection_of}
-use Rattle.iscsi_window.specs.Windows.{Received}
+use Rattle.iscsi_wire.specs.declared.request.Request.{Request}
+use Rattle.iscsi_window.specs.Windows.{Received, advanced}
 use Rattle.iscsi_tasks.specs.Sets.{Members}
 use Rattle.iscsi_session.specs.declared.session.live.Live.{Live}
 use Rattle.iscsi_session.specs.declared.session.waiting.Waiting.{Waiting}
@@ -16,7 +17,7 @@ use Rattle.iscsi_session.specs.Steps.{AreCounted, is_numbered, count_reply, with
 use Rattle.iscsi_session.specs.Invariant.{Inner, IsWindowSound, AreCommandsSound, AreFunctionsSound, HasRooms, IsSessionSound}
 use Rattle.iscsi_session.proofs.ListLemmas.{count_by-push, list_all-filter, fewer_counted, are_known-left, are_known-replied, are_places_known-replied, are_waiting_known-replied}
 use Rattle.iscsi_session.proofs.TraceLemmas.{weaker}
-use Rattle.iscsi_session.proofs.WindowLemmas.{Changed}
+use Rattle.iscsi_session.proofs.WindowLemmas.{Changed, Advanced}
 use Rattle.iscsi_session.proofs.CountLemmas.{length-replied, AreCounted-replied}
 use Rattle.iscsi_session.proofs.KeptLemmas.{ascending-push, within-push, ascending-left, within-left}
 
@@ -64,6 +65,18 @@ places_sound {old} {new} {held} {count} {now} {taken} {conns} w places turned fi
   entered = omega (arith, entered, ap (count_by is_some) places);
   known = ap (list_all (is_place_known conns)) places ∙ w.known;
 }
+
+-- the next number has turned: it isn't received any more, and its request is held no longer
+pub advanced_sound : {w new : Received} {q : Option Request} {held now count taken : ℕ} {conns : List (ℕ × ℕ)} → IsWindowSound w held count taken conns → Advanced w q → new ≡ advanced w → now + cond (is_held (Some q)) 1 0 ≡ held
+    → IsWindowSound new now count taken conns
+advanced_sound {w} {new} {q} {held} {now} {count} {taken} {conns} sound a is less = subst (λ (v : Received). IsWindowSound v now count taken conns) (sym is) (record {
+  fits = omega (arith, sound.fits, a.unfinished, a.long);
+  most = omega (arith, sound.most, a.long);
+  held_is = omega (arith, sound.held_is, a.held, less);
+  turned = omega (arith, sound.turned, a.turned, a.counted);
+  entered = omega (arith, sound.entered, a.counted);
+  known = (a.known conns sound.known).1;
+})
 
 -- the events of arrival have become others, as many
 pub arrivals_sound : {s : Inner} → IsSessionSound s → {arrived : List ℕ} {room : ℕ} → length arrived ≡ length s.arrived → s.arrived_room ≤ room → IsSessionSound (record s { arrived = arrived; arrived_room = room })
