@@ -11,6 +11,7 @@ pub mod TurnLemmas
 pub mod StepLemmas
 pub mod OpenLemmas
 pub mod WindowLemmas
+pub mod SoundLemmas
 pub mod ArriveLemmas
 pub mod FlowLemmas
 pub mod WindowParts

@@ -6,3 +6,4 @@ pub mod Steps
 pub mod Functions
 pub mod Parting
 pub mod Turning
+pub mod Invariant

@@ -63,26 +63,18 @@ pub struct Session {
 }
 
 impl Model for Session {
-    ghost use Rattle.std.specs.Prelude.{ℕ, ◌≡◌, ◌≤◌, ◌+◌, ◌*◌, ◌^◌, true, length, nat_lt, is_some, count_by, vec_capacity};
-    ghost use Rattle.std.specs.List.{list_all};
+    ghost use Rattle.std.specs.Prelude.{nat_eq, vec_capacity};
     ghost use Rattle.std.specs.VecDeque.{deque_capacity};
-    ghost use Rattle.iscsi_session.specs.Standing.{Core, are_known, is_held, is_place_known, Match, are_ascending, are_within};
-    ghost use Rattle.iscsi_session.specs.Steps.{is_numbered, AreIndexed, AreCounted, tag_room};
-    ghost use Rattle.iscsi_history.specs.Settings.{is_known};
-    ghost use Rattle.iscsi_history.specs.Management.{may_wait};
-    ghost use Rattle.iscsi_session.specs.Turning.{waiting_in};
-    ghost use Rattle.iscsi_wire.specs.Fields.{connection_of};
+    ghost use Rattle.std.specs.HashMap.{get};
+    ghost use Rattle.iscsi_session.specs.Standing.{Core};
+    ghost use Rattle.iscsi_session.specs.Steps.{tag_room};
+    ghost use Rattle.iscsi_session.specs.Invariant.{IsSessionSound};
 
     ghost Value = { Core };
 
     ghost view = { λ s. record { window = s.window; events = s.events; conns = s.conns.items; entered = s.entered; taken = s.taken; live = s.live.items; sets = s.sets.items; level = s.level; arrived = s.arrived.items; waiting = s.waiting.items; open_conns = s.open_conns.items } };
 
-    // Room for as many commands as the window has places and the connections immediate ones, the held requests counted,
-    // nothing counted more often than there were events, each request and command on a connection of the session, the
-    // requests that are held numbered, the live commands in the task sets, their tags in the index, and the immediate
-    // ones counted. The events of arrival stand beside the places; the functions that wait arrived before, may wait,
-    // and are few, with room for them. No session has more than 256 units.
-    ghost invariant = { λ s. (count_by is_numbered s.live.items ≤ s.window.unfinished) × (s.window.unfinished ≤ length s.window.places) × (length s.window.places ≤ 1024) × (length s.window.places + 8 * length s.conns.items ≤ deque_capacity s.live) × (s.held ≡ count_by is_held s.window.places) × (s.window.turned + count_by is_some s.window.places ≤ s.taken) × (s.entered + count_by is_some s.window.places ≤ s.taken) × (s.taken ≤ s.events) × (s.events ≤ 2 ^ 48) × (are_known s.live.items s.conns.items ≡ true) × (list_all (is_place_known s.conns.items) s.window.places ≡ true) × (Match s.sets.items s.live.items) × (are_ascending s.live.items ≡ true) × (are_within s.entered (length s.sets.items) s.live.items ≡ true) × AreIndexed s.tags s.live.items × (length s.window.places + 8 * length s.conns.items ≤ tag_room s.tags) × AreCounted s.immediate.items s.conns.items s.live.items × (length s.conns.items ≤ 64) × (length s.arrived.items ≡ length s.window.places) × (length s.window.places ≤ deque_capacity s.arrived) × (list_all (λ w. nat_lt w.event s.taken) s.waiting.items ≡ true) × (list_all (λ w. is_known (connection_of w.request) s.conns.items) s.waiting.items ≡ true) × (list_all (λ w. may_wait w.request) s.waiting.items ≡ true) × ((cid : ℕ) → waiting_in s.waiting.items cid ≤ 4) × (4 * length s.conns.items ≤ vec_capacity s.waiting) × (length s.sets.items ≤ 256) };
+    ghost invariant = { λ s. IsSessionSound (record { window = s.window; held = s.held; events = s.events; conns = s.conns.items; entered = s.entered; taken = s.taken; live = s.live.items; tickets = get nat_eq s.tags; immediate = s.immediate.items; sets = s.sets.items; arrived = s.arrived.items; waiting = s.waiting.items; live_room = deque_capacity s.live; tag_room = tag_room s.tags; arrived_room = deque_capacity s.arrived; waiting_room = vec_capacity s.waiting }) };
 }
 
 impl Session {

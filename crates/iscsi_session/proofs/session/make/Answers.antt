@@ -32,35 +32,44 @@ invariant_of-result c =
     let size : length window.places ≡ c.args.options.window = ap length places ∙ so_many c.args.options.window None in
     let top : c.args.options.window ≤ 1024 = search rules in
     let few_units : c.args.options.units ≤ 256 = search rules in
-    let counted : count_by is_some window.places ≡ 0 = ap (count_by is_some) places ∙ none_counted is_some c.args.options.window refl in (
-      omega (arith, ap (count_by is_numbered) none, unfinished),
-      omega (arith, unfinished),
-      omega (arith, size, top),
-      omega (arith, size, live_room, c.len.ensures, c.args.options.conns.ok.0, ap (λ n. n * c.len.result) c.from.ensures),
-      sym (ap (count_by is_held) places ∙ none_counted is_held c.args.options.window refl),
-      omega (arith, turned, counted),
-      omega (arith, counted),
-      omega arith,
-      search rules,
-      ap (λ ls. are_known ls c.args.options.conns.items) none,
-      ap (list_all (is_place_known c.args.options.conns.items)) places ∙ all_none (is_place_known c.args.options.conns.items) c.args.options.window refl,
-      λ u lt. ap (λ (ms : List Members). tickets_of (get_or ms u (opened_set 0))) sets ∙ ap tickets_of (set_opened c.args.options.units u c.args.options.depth (omega (arith, ap length sets, so_many c.args.options.units (opened_set c.args.options.depth), lt))) ∙ sym (ap (tickets_in u) none),
-      ap are_ascending none,
-      ap (are_within 0 (length c.in_ok-open-3.field-0.items)) none,
-      λ k d within. absurd (omega (arith, ap length none, within)),
-      omega (arith, size, tag_space, c.len.ensures, c.args.options.conns.ok.0, ap (λ n. n * c.len.result) c.from.ensures),
-      subst (λ (counts : List ℕ). AreCounted counts c.args.options.conns.items c.in_ok-ok-2.field-0.items) (sym counts)
-          (subst (λ (ls : List Live). AreCounted (replicate c.len-2.result 0) c.args.options.conns.items ls) (sym none) (AreCounted-opened c.len-2.result c.args.options.conns.items (c.len-2.ensures ∙ c.args.options.conns.ok.0))),
-      search rules,
-      ap length c.in_ok-open-4.ensures.events ∙ so_many c.args.options.window 0 ∙ sym size,
-      omega (arith, size, c.in_ok-open-4.ensures.capacity),
-      ap (list_all (λ (w : Waiting). nat_lt w.event 0)) waits,
-      ap (list_all (λ (w : Waiting). is_known (connection_of w.request) c.args.options.conns.items)) waits,
-      ap (list_all (λ (w : Waiting). may_wait w.request)) waits,
-      λ cid. omega (arith, ap (λ ws. waiting_in ws cid) waits),
-      omega (arith, waits_room, c.len-3.ensures, c.args.options.conns.ok.0),
-      omega (arith, ap length sets, so_many c.args.options.units (opened_set c.args.options.depth), few_units),
-    )
+    let counted : count_by is_some window.places ≡ 0 = ap (count_by is_some) places ∙ none_counted is_some c.args.options.window refl in
+    record {
+      window = record {
+        fits = omega (arith, unfinished);
+        most = omega (arith, size, top);
+        held_is = sym (ap (count_by is_held) places ∙ none_counted is_held c.args.options.window refl);
+        turned = omega (arith, turned, counted);
+        entered = omega (arith, counted);
+        known = ap (list_all (is_place_known c.args.options.conns.items)) places ∙ all_none (is_place_known c.args.options.conns.items) c.args.options.window refl;
+      };
+      commands = record {
+        numbered = omega (arith, ap (count_by is_numbered) none, unfinished);
+        known = ap (λ ls. are_known ls c.args.options.conns.items) none;
+        in_sets = λ u lt. ap (λ (ms : List Members). tickets_of (get_or ms u (opened_set 0))) sets ∙ ap tickets_of (set_opened c.args.options.units u c.args.options.depth (omega (arith, ap length sets, so_many c.args.options.units (opened_set c.args.options.depth), lt))) ∙ sym (ap (tickets_in u) none);
+        ascending = ap are_ascending none;
+        within = ap (are_within 0 (length c.in_ok-open-3.field-0.items)) none;
+        indexed = λ k d within. absurd (omega (arith, ap length none, within));
+        counted = subst (λ (counts : List ℕ). AreCounted counts c.args.options.conns.items c.in_ok-ok-2.field-0.items) (sym counts)
+            (subst (λ (ls : List Live). AreCounted (replicate c.len-2.result 0) c.args.options.conns.items ls) (sym none) (AreCounted-opened c.len-2.result c.args.options.conns.items (c.len-2.ensures ∙ c.args.options.conns.ok.0)));
+      };
+      functions = record {
+        before = ap (list_all (λ (w : Waiting). nat_lt w.event 0)) waits;
+        known = ap (list_all (λ (w : Waiting). is_known (connection_of w.request) c.args.options.conns.items)) waits;
+        may = ap (list_all (λ (w : Waiting). may_wait w.request)) waits;
+        few = λ cid. omega (arith, ap (λ ws. waiting_in ws cid) waits);
+      };
+      rooms = record {
+        live = omega (arith, size, live_room, c.len.ensures, c.args.options.conns.ok.0, ap (λ n. n * c.len.result) c.from.ensures);
+        tags = omega (arith, size, tag_space, c.len.ensures, c.args.options.conns.ok.0, ap (λ n. n * c.len.result) c.from.ensures);
+        arrived = omega (arith, size, c.in_ok-open-4.ensures.capacity);
+        waiting = omega (arith, waits_room, c.len-3.ensures, c.args.options.conns.ok.0);
+      };
+      arrivals = ap length c.in_ok-open-4.ensures.events ∙ so_many c.args.options.window 0 ∙ sym size;
+      taken = omega arith;
+      events = search rules;
+      conns = search rules;
+      units = omega (arith, ap length sets, so_many c.args.options.units (opened_set c.args.options.depth), few_units);
+    }
 
 pub returns : goal.returns
 returns c = record {

@@ -1,21 +1,18 @@
-use Rattle.std.proofs.Common.{not, cond, refl, false, nat_eq, ◌≡◌, ◌==◌, ◌&&◌, ◌∙◌, ◌≤◌, ◌<◌, ap, sym, subst, Some, true, arith, length, count_by, is_some, ◌+◌, ◌-◌, ℕ, List, nat_le, nat_lt, set, take, drop, ◌++◌, length-set}
-use Rattle.std.specs.List.{list_all}
-use Rattle.std.specs.HashMap.{get}
-use Rattle.std.proofs.lemmas.List.Elements.{All-filter}
+use Rattle.std.proofs.Common.{not, cond, refl, false, ◌≡◌, ◌==◌, ◌&&◌, ◌∙◌, ◌≤◌, ◌<◌, ap, sym, subst, Some, true, arith, length, count_by, ◌+◌, ◌-◌, ℕ, List, nat_le, nat_lt, set, take, drop, ◌++◌, length-set}
 use Rattle.std.proofs.lemmas.Bool.{eqb-true}
 use Rattle.std.proofs.lemmas.Bool.Decides.{nat_tests}
 use Rattle.iscsi_window.specs.Windows.{Received, with_unfinished}
 use Rattle.iscsi_tasks.specs.Sets.{Members}
 use Rattle.iscsi_session.specs.declared.session.live.Live.{Live}
-use Rattle.iscsi_session.specs.Standing.{Core, are_known, is_held, is_place_known, Match, are_ascending, are_within}
+use Rattle.iscsi_session.specs.Standing.{Core, Match, are_within}
 use Rattle.iscsi_session.specs.Steps.{AreIndexed, AreCounted, is_numbered, counted_on, finished, find_ticket, without_ticket, set_without, all_given}
 use Rattle.iscsi_history.proofs.BoolLemmas.{and_second}
 use Rattle.iscsi_history.proofs.ListLemmas.{find-passes}
-use Rattle.iscsi_session.proofs.ListLemmas.{are_known-left}
 use Rattle.iscsi_session.proofs.WindowLemmas.{fewer, find-found}
 use Rattle.iscsi_history.specs.Settings.{is_known}
 use Rattle.iscsi_session.proofs.CountLemmas.{count-left, some_counted, AreCounted-left}
-use Rattle.iscsi_session.proofs.KeptLemmas.{enabled_found, Match-left, ascending-left, within-left, few_left, written}
+use Rattle.iscsi_session.proofs.KeptLemmas.{enabled_found, Match-left, few_left, written}
+use Rattle.iscsi_session.proofs.SoundLemmas.{places_sound, left_sound, commands_sound}
 use Rattle.iscsi_session.proofs.session.Session.complete.Goals as goal
 
 -- the command that is completed, as the session keeps it
@@ -52,99 +49,69 @@ finished_numbered w l left all counted few =
 pub finish-requires-clause-numbered : goal.finish-requires-clause-numbered
 finish-requires-clause-numbered c = λ no.
     let lives : c.self.inside.live.items ≡ c.args.self.now.live = ap (λ (s : Core). s.live) c.self.view_is ∙ ap (λ (s : Core). s.live) c.next_stat_sn-stat_sn.ensures.session in
-    let f = found_command c.self.inside.entered c.args.self.now c.self.inside.sets.items c.self.inside.live.items c.args.ticket c.in-Some.command (sym c.find_enabled.ensures.command ∙ c.in-Some.is) lives c.self.invariant.13 in
+    let f = found_command c.self.inside.entered c.args.self.now c.self.inside.sets.items c.self.inside.live.items c.args.ticket c.in-Some.command (sym c.find_enabled.ensures.command ∙ c.in-Some.is) lives c.self.invariant.commands.within in
     let l : Live = c.in-Some.command in
-    omega (arith, c.self.invariant.0, count-left is_numbered l.ticket c.self.inside.live.items l c.self.invariant.12 f.found, ap {B = ℕ} (λ b. cond (not b) 1 0) no)
+    omega (arith, c.self.invariant.commands.numbered, count-left is_numbered l.ticket c.self.inside.live.items l c.self.invariant.commands.ascending f.found, ap {B = ℕ} (λ b. cond (not b) 1 0) no)
 
 pub finish-requires-clause-some : goal.finish-requires-clause-some
 finish-requires-clause-some c = λ yes.
     let lives : c.self.inside.live.items ≡ c.args.self.now.live = ap (λ (s : Core). s.live) c.self.view_is ∙ ap (λ (s : Core). s.live) c.next_stat_sn-stat_sn.ensures.session in
-    let f = found_command c.self.inside.entered c.args.self.now c.self.inside.sets.items c.self.inside.live.items c.args.ticket c.in-Some.command (sym c.find_enabled.ensures.command ∙ c.in-Some.is) lives c.self.invariant.13 in
+    let f = found_command c.self.inside.entered c.args.self.now c.self.inside.sets.items c.self.inside.live.items c.args.ticket c.in-Some.command (sym c.find_enabled.ensures.command ∙ c.in-Some.is) lives c.self.invariant.commands.within in
     let l : Live = c.in-Some.command in
-    let known : is_known l.conn c.self.inside.conns.items ≡ true = find-passes (λ (x : Live). x.ticket == l.ticket) (λ (x : Live). is_known x.conn c.self.inside.conns.items) c.self.inside.live.items l c.self.invariant.9 f.found in
-    subst (λ (cs : List (ℕ × ℕ)). 0 < counted_on l.conn cs c.self.inside.immediate.items) (sym c.deref.ensures.value) (some_counted c.self.inside.immediate.items c.self.inside.conns.items c.self.inside.live.items l c.self.invariant.16 c.self.invariant.12 f.found known yes)
+    let known : is_known l.conn c.self.inside.conns.items ≡ true = find-passes (λ (x : Live). x.ticket == l.ticket) (λ (x : Live). is_known x.conn c.self.inside.conns.items) c.self.inside.live.items l c.self.invariant.commands.known f.found in
+    subst (λ (cs : List (ℕ × ℕ)). 0 < counted_on l.conn cs c.self.inside.immediate.items) (sym c.deref.ensures.value) (some_counted c.self.inside.immediate.items c.self.inside.conns.items c.self.inside.live.items l c.self.invariant.commands.counted c.self.invariant.commands.ascending f.found known yes)
 
 pub finish-requires-clause-known : goal.finish-requires-clause-known
 finish-requires-clause-known c =
     let lives : c.self.inside.live.items ≡ c.args.self.now.live = ap (λ (s : Core). s.live) c.self.view_is ∙ ap (λ (s : Core). s.live) c.next_stat_sn-stat_sn.ensures.session in
-    let f = found_command c.self.inside.entered c.args.self.now c.self.inside.sets.items c.self.inside.live.items c.args.ticket c.in-Some.command (sym c.find_enabled.ensures.command ∙ c.in-Some.is) lives c.self.invariant.13 in
+    let f = found_command c.self.inside.entered c.args.self.now c.self.inside.sets.items c.self.inside.live.items c.args.ticket c.in-Some.command (sym c.find_enabled.ensures.command ∙ c.in-Some.is) lives c.self.invariant.commands.within in
     let l : Live = c.in-Some.command in
-    let known : is_known l.conn c.self.inside.conns.items ≡ true = find-passes (λ (x : Live). x.ticket == l.ticket) (λ (x : Live). is_known x.conn c.self.inside.conns.items) c.self.inside.live.items l c.self.invariant.9 f.found in
+    let known : is_known l.conn c.self.inside.conns.items ≡ true = find-passes (λ (x : Live). x.ticket == l.ticket) (λ (x : Live). is_known x.conn c.self.inside.conns.items) c.self.inside.live.items l c.self.invariant.commands.known f.found in
     ap (is_known l.conn) c.deref.ensures.value ∙ known
 
 pub leave-requires-clause-unit : goal.leave-requires-clause-unit
 leave-requires-clause-unit c =
     let lives : c.self.inside.live.items ≡ c.args.self.now.live = ap (λ (s : Core). s.live) c.self.view_is ∙ ap (λ (s : Core). s.live) c.next_stat_sn-stat_sn.ensures.session in
-    let f = found_command c.self.inside.entered c.args.self.now c.self.inside.sets.items c.self.inside.live.items c.args.ticket c.in-Some.command (sym c.find_enabled.ensures.command ∙ c.in-Some.is) lives c.self.invariant.13 in
+    let f = found_command c.self.inside.entered c.args.self.now c.self.inside.sets.items c.self.inside.live.items c.args.ticket c.in-Some.command (sym c.find_enabled.ensures.command ∙ c.in-Some.is) lives c.self.invariant.commands.within in
     omega (arith, f.inside, ap length c.deref_mut.ensures.value)
 
 pub leave-requires-clause-room : goal.leave-requires-clause-room
 leave-requires-clause-room c =
     let lives : c.self.inside.live.items ≡ c.args.self.now.live = ap (λ (s : Core). s.live) c.self.view_is ∙ ap (λ (s : Core). s.live) c.next_stat_sn-stat_sn.ensures.session in
-    let f = found_command c.self.inside.entered c.args.self.now c.self.inside.sets.items c.self.inside.live.items c.args.ticket c.in-Some.command (sym c.find_enabled.ensures.command ∙ c.in-Some.is) lives c.self.invariant.13 in
+    let f = found_command c.self.inside.entered c.args.self.now c.self.inside.sets.items c.self.inside.live.items c.args.ticket c.in-Some.command (sym c.find_enabled.ensures.command ∙ c.in-Some.is) lives c.self.invariant.commands.within in
     let few : length (set_without c.in-Some.command c.deref_mut.result.now).list ≤ length (without_ticket c.in-Some.command.ticket c.self.inside.live.items) =
-    subst (λ (sets : List Members). length (set_without c.in-Some.command sets).list ≤ length (without_ticket c.in-Some.command.ticket c.self.inside.live.items)) (sym c.deref_mut.ensures.value) (few_left c.self.inside.sets.items c.self.inside.live.items c.in-Some.command c.self.invariant.11 f.inside) in
+    subst (λ (sets : List Members). length (set_without c.in-Some.command sets).list ≤ length (without_ticket c.in-Some.command.ticket c.self.inside.live.items)) (sym c.deref_mut.ensures.value) (few_left c.self.inside.sets.items c.self.inside.live.items c.in-Some.command c.self.invariant.commands.in_sets f.inside) in
     omega (arith, few, f.left, ap length lives, c.requires.room, c.push_reserved-2.ensures.len, c.push_reserved-3.ensures.len, c.push_reserved-2.ensures.capacity, c.push_reserved-3.ensures.capacity)
 
 pub returns-clause-spent : goal.returns-clause-spent
 returns-clause-spent c =
     let lives : c.self.inside.live.items ≡ c.args.self.now.live = ap (λ (s : Core). s.live) c.self.view_is ∙ ap (λ (s : Core). s.live) c.next_stat_sn-stat_sn.ensures.session in
-    let f = found_command c.self.inside.entered c.args.self.now c.self.inside.sets.items c.self.inside.live.items c.args.ticket c.in-Some.command (sym c.find_enabled.ensures.command ∙ c.in-Some.is) lives c.self.invariant.13 in
+    let f = found_command c.self.inside.entered c.args.self.now c.self.inside.sets.items c.self.inside.live.items c.args.ticket c.in-Some.command (sym c.find_enabled.ensures.command ∙ c.in-Some.is) lives c.self.invariant.commands.within in
     let few : length (set_without c.in-Some.command c.deref_mut.result.now).list ≤ length (without_ticket c.in-Some.command.ticket c.self.inside.live.items) =
-    subst (λ (sets : List Members). length (set_without c.in-Some.command sets).list ≤ length (without_ticket c.in-Some.command.ticket c.self.inside.live.items)) (sym c.deref_mut.ensures.value) (few_left c.self.inside.sets.items c.self.inside.live.items c.in-Some.command c.self.invariant.11 f.inside) in
+    subst (λ (sets : List Members). length (set_without c.in-Some.command sets).list ≤ length (without_ticket c.in-Some.command.ticket c.self.inside.live.items)) (sym c.deref_mut.ensures.value) (few_left c.self.inside.sets.items c.self.inside.live.items c.in-Some.command c.self.invariant.commands.in_sets f.inside) in
     omega (arith, few, f.left, ap length lives, c.leave.ensures.spent, c.push_reserved-2.ensures.len, c.push_reserved-3.ensures.len)
 
 pub invariant_of-self : goal.invariant_of-self
 invariant_of-self c =
     let inv = c.self.invariant in
     let lives₀ : c.self.inside.live.items ≡ c.args.self.now.live = ap (λ (s : Core). s.live) c.self.view_is ∙ ap (λ (s : Core). s.live) c.next_stat_sn-stat_sn.ensures.session in
-    let f = found_command c.self.inside.entered c.args.self.now c.self.inside.sets.items c.self.inside.live.items c.args.ticket c.in-Some.command (sym c.find_enabled.ensures.command ∙ c.in-Some.is) lives₀ inv.13 in
+    let f = found_command c.self.inside.entered c.args.self.now c.self.inside.sets.items c.self.inside.live.items c.args.ticket c.in-Some.command (sym c.find_enabled.ensures.command ∙ c.in-Some.is) lives₀ inv.commands.within in
     let l : Live = c.in-Some.command in
     let w : Received = c.self.inside.window in
     let is : c.finish.new.window ≡ finished w l = c.finish.ensures.window in
-    let unfinished : c.finish.new.window.unfinished ≡ (finished w l).unfinished = ap (λ (x : Received). x.unfinished) is in
     let turned : c.finish.new.window.turned ≡ w.turned = ap (λ (x : Received). x.turned) is ∙ finished_turned w l in
     let places : c.finish.new.window.places ≡ w.places = ap (λ (x : Received). x.places) is ∙ finished_places w l in
-    let counted : count_by is_numbered (without_ticket l.ticket c.self.inside.live.items) + cond (not l.immediate) 1 0 ≡ count_by is_numbered c.self.inside.live.items = count-left is_numbered l.ticket c.self.inside.live.items l inv.12 f.found in
-    let numbered : count_by is_numbered c.remove.new.live.items ≡ count_by is_numbered (without_ticket l.ticket c.self.inside.live.items) = ap (count_by is_numbered) c.remove.ensures.items in
+    let counted : count_by is_numbered (without_ticket l.ticket c.self.inside.live.items) + cond (not l.immediate) 1 0 ≡ count_by is_numbered c.self.inside.live.items = count-left is_numbered l.ticket c.self.inside.live.items l inv.commands.ascending f.found in
     let value : c.deref.result.now ≡ c.self.inside.conns.items = c.deref.ensures.value in
     let counts : (cid : ℕ) → counted_on cid c.self.inside.conns.items c.finish.new.immediate.items + cond (l.immediate && l.conn == cid) 1 0 ≡ counted_on cid c.self.inside.conns.items c.self.inside.immediate.items = λ cid.
     subst (λ (cs : List (ℕ × ℕ)). counted_on cid cs c.finish.new.immediate.items + cond (l.immediate && l.conn == cid) 1 0 ≡ counted_on cid cs c.self.inside.immediate.items) value (c.finish.ensures.counted cid) in
-    let lives : length c.remove.new.live.items ≡ length (without_ticket c.in-Some.command.ticket c.self.inside.live.items) = ap length c.remove.ensures.items in
     let lent : List Members = c.deref_mut.result.now in
     let new : List Members = set c.self.inside.sets.items c.in-Some.command.unit (all_given (set_without c.in-Some.command c.self.inside.sets.items)) in
     let value : lent ≡ c.self.inside.sets.items = c.deref_mut.ensures.value in
     let returned : c.leave.new.sets ≡ new = c.leave.ensures.sets ∙ ap (λ (ms : List Members). set ms c.in-Some.command.unit (all_given (set_without c.in-Some.command ms))) value in
     let long : length new ≡ length c.self.inside.sets.items = length-set c.self.inside.sets.items c.in-Some.command.unit _ in
-    let now : take c.self.inside.sets.len (c.leave.new.sets ++ drop (length c.leave.new.sets) c.self.inside.sets.items) ≡ new = written c.self.inside.sets.len c.leave.new.sets c.self.inside.sets.items (ap length returned ∙ long) c.self.inside.sets.ok.0 ∙ returned in (
-      omega (arith, numbered, unfinished, finished_numbered w l (count_by is_numbered (without_ticket l.ticket c.self.inside.live.items)) (count_by is_numbered c.self.inside.live.items) counted inv.0),
-      omega (arith, inv.1, unfinished, finished_fewer w l, ap length places),
-      omega (arith, inv.2, ap length places),
-      omega (arith, inv.3, ap length places, c.remove.ensures.capacity),
-      inv.4 ∙ ap (count_by is_held) (sym places),
-      omega (arith, inv.5, turned, ap (count_by is_some) places),
-      omega (arith, inv.6, ap (count_by is_some) places),
-      inv.7,
-      inv.8,
-      ap (λ ls. are_known ls c.self.inside.conns.items) c.remove.ensures.items ∙ are_known-left c.in-Some.command.ticket c.self.inside.live.items c.self.inside.conns.items inv.9,
-      ap (list_all (is_place_known c.self.inside.conns.items)) places ∙ inv.10,
-      subst (λ (ms : List Members). Match ms c.remove.new.live.items) (sym now)
-          (subst (λ (ls : List Live). Match new ls) (sym c.remove.ensures.items) (Match-left c.self.inside.sets.items c.self.inside.live.items c.in-Some.command inv.11 inv.12 f.found f.inside)),
-      ap are_ascending c.remove.ensures.items ∙ ascending-left c.in-Some.command.ticket c.self.inside.live.items inv.12,
-      ap (λ (ms : List Members). are_within c.self.inside.entered (length ms) c.remove.new.live.items) now
-          ∙ ap (λ n. are_within c.self.inside.entered n c.remove.new.live.items) long
-          ∙ ap (are_within c.self.inside.entered (length c.self.inside.sets.items)) c.remove.ensures.items
-          ∙ within-left c.in-Some.command.ticket c.self.inside.entered (length c.self.inside.sets.items) c.self.inside.live.items inv.13,
-      subst (AreIndexed c.self.inside.tags) (sym c.remove.ensures.items) (All-filter (λ (l : Live). not (l.ticket == c.in-Some.command.ticket)) (λ (l : Live). get nat_eq c.self.inside.tags l.itt ≡ Some l.ticket) c.self.inside.live.items inv.14),
-      omega (arith, inv.15, ap length places),
-      subst (λ (ls : List Live). AreCounted c.finish.new.immediate.items c.self.inside.conns.items ls) (sym c.remove.ensures.items) (AreCounted-left c.self.inside.immediate.items c.finish.new.immediate.items c.self.inside.conns.items c.self.inside.live.items l inv.16 c.finish.ensures.long counts inv.12 f.found),
-      inv.17,
-      omega (arith, inv.18, ap length places),
-      omega (arith, inv.19, ap length places),
-      inv.20,
-      inv.21,
-      inv.22,
-      inv.23,
-      inv.24,
-      omega (arith, inv.25, ap length now, long),
-    )
+    let now : take c.self.inside.sets.len (c.leave.new.sets ++ drop (length c.leave.new.sets) c.self.inside.sets.items) ≡ new = written c.self.inside.sets.len c.leave.new.sets c.self.inside.sets.items (ap length returned ∙ long) c.self.inside.sets.ok.0 ∙ returned in
+    let commands = left_sound inv.commands l.ticket c.remove.ensures.items (omega (arith, ap (λ (x : Received). x.unfinished) is, finished_numbered w l (count_by is_numbered (without_ticket l.ticket c.self.inside.live.items)) (count_by is_numbered c.self.inside.live.items) counted inv.commands.numbered)) (ap length now ∙ long)
+    (subst (λ (ms : List Members). Match ms (without_ticket l.ticket c.self.inside.live.items)) (sym now) (Match-left c.self.inside.sets.items c.self.inside.live.items l inv.commands.in_sets inv.commands.ascending f.found f.inside))
+    (AreCounted-left c.self.inside.immediate.items c.finish.new.immediate.items c.self.inside.conns.items c.self.inside.live.items l inv.commands.counted c.finish.ensures.long counts inv.commands.ascending f.found) in
+    commands_sound inv (places_sound inv.window places turned (omega (arith, inv.window.fits, ap (λ (x : Received). x.unfinished) is, finished_fewer w l)) inv.window.entered) commands places (ap length now ∙ long) (omega (arith, c.remove.ensures.capacity)) (omega arith)

@@ -1,9 +1,6 @@
-use Rattle.std.proofs.Common.{rules, w64, of_z, to_z, Some, nat_eq, refl, pos, ◌-ℤ◌, ◌≡◌, ◌==◌, ◌∙◌, ◌<◌, ◌≤◌, ◌&&◌, not, cond, ap, sym, subst, Bool, true, false, arith, length, count_by, is_some, ◌+◌, ◌*◌, ℕ, ℤ, List, [], ◌∷◌, get_or, set, take, drop, ◌++◌, length-set, append_assoc}
-use Rattle.std.specs.List.{list_all}
+use Rattle.std.proofs.Common.{rules, w64, of_z, to_z, nat_eq, refl, pos, ◌-ℤ◌, ◌≡◌, ◌==◌, ◌∙◌, ◌<◌, ◌≤◌, ◌&&◌, not, cond, ap, sym, subst, Bool, true, false, arith, length, count_by, is_some, ◌+◌, ◌*◌, ℕ, ℤ, List, [], ◌∷◌, get_or, set, take, drop, ◌++◌, length-set, append_assoc}
 use Rattle.std.specs.HashMap.{get}
 use Rattle.std.proofs.lemmas.Int.{to_z-of_z}
-use Rattle.std.proofs.lemmas.List.Elements.{All-append, All-cons}
-use Rattle.std.proofs.lemmas.List.Folds.{list_all-append}
 use Rattle.iscsi_wire.specs.declared.request.Request.{Request}
 use Rattle.iscsi_wire.specs.Serial.{number_of_first}
 use Rattle.iscsi_wire.specs.Fields.{connection_of, is_immediate, attr_code, itt}
@@ -17,12 +14,12 @@ use Rattle.iscsi_history.specs.declared.effect.Effect.TheVariants.{Enter}
 use Rattle.iscsi_session.specs.declared.session.live.Live.{Live}
 use Rattle.iscsi_history.specs.Settings.{is_known}
 use Rattle.iscsi_history.specs.Execution.{attr_of}
-use Rattle.iscsi_session.specs.Standing.{Core, are_known, is_held, is_place_known, Match, are_ascending, are_within}
-use Rattle.iscsi_session.specs.Steps.{AreIndexed, AreCounted, is_numbered, immediate_in, counted_on, started, number_by, event_by, new_live, new_task, with_command, enable_effect, entry_effects}
-use Rattle.iscsi_history.proofs.ListLemmas.{count_by-push}
+use Rattle.iscsi_session.specs.Standing.{Core, are_known, Match}
+use Rattle.iscsi_session.specs.Steps.{is_numbered, immediate_in, counted_on, started, number_by, event_by, new_live, new_task, with_command, enable_effect, entry_effects}
 use Rattle.iscsi_session.proofs.CountLemmas.{AreCounted-entered, room_for_one}
-use Rattle.iscsi_session.proofs.KeptLemmas.{newest_in, Match-entered, ascending-push, within-push, written}
+use Rattle.iscsi_session.proofs.KeptLemmas.{newest_in, Match-entered, written}
 use Rattle.iscsi_session.proofs.PaceLemmas.{started_turned}
+use Rattle.iscsi_session.proofs.SoundLemmas.{places_sound, commands_sound, entered_sound}
 use Rattle.iscsi_session.proofs.session.Session.enter.Goals as goal
 
 started_unfinished : (w : Received) (r : Request) → (started w r).unfinished ≡ w.unfinished + cond (not (is_immediate r)) 1 0
@@ -69,7 +66,7 @@ pub enter-requires-clause-newest : goal.enter-requires-clause-newest
 enter-requires-clause-newest c =
     let inside : c.args.unit < length c.self.inside.sets.items = omega (arith, c.requires.unit, ap (λ (s : Core). length s.sets) c.self.view_is) in
     subst (λ (ms : List Members). (k : ℕ) (d : Member) → k < length (get_or ms c.args.unit (opened 0)).list → (get_or (get_or ms c.args.unit (opened 0)).list k d).task.ticket < c.self.inside.entered + 1) (sym c.deref_mut.ensures.value)
-    (newest_in c.self.inside.sets.items c.self.inside.live.items c.self.inside.entered (length c.self.inside.sets.items) c.args.unit c.self.invariant.11 c.self.invariant.13 inside)
+    (newest_in c.self.inside.sets.items c.self.inside.live.items c.self.inside.entered (length c.self.inside.sets.items) c.args.unit c.self.invariant.commands.in_sets c.self.invariant.commands.within inside)
 
 room_in : (s : Core) (r : Request) (unit : ℕ) → count_by is_numbered s.live ≤ s.window.unfinished → s.window.unfinished ≤ length s.window.places → ((cid : ℕ) → immediate_in s.live cid ≤ 8) → are_known s.live s.conns ≡ true → is_known (connection_of r) s.conns ≡ true
     → (is_immediate r ≡ false → s.window.unfinished < length s.window.places) → (is_immediate r ≡ true → immediate_in s.live (connection_of r) < 8) → length s.live < length s.window.places + 8 * length s.conns
@@ -79,17 +76,17 @@ pub take_up-requires-clause-room : goal.take_up-requires-clause-room
 take_up-requires-clause-room c =
     let inv = c.self.invariant in
     let s : Core = record { window = c.self.inside.window; events = c.self.inside.events; conns = c.self.inside.conns.items; entered = c.self.inside.entered; taken = c.self.inside.taken; live = c.self.inside.live.items; sets = c.self.inside.sets.items; level = c.self.inside.level; arrived = c.self.inside.arrived.items; waiting = c.self.inside.waiting.items; open_conns = c.self.inside.open_conns.items } in
-    let room = room_in s c.args.request.now c.args.unit inv.0 inv.1 inv.16.few inv.9 (ap (λ (t : Core). is_known (connection_of c.args.request.now) t.conns) c.self.view_is ∙ c.requires.known)
+    let room = room_in s c.args.request.now c.args.unit inv.commands.numbered inv.window.fits inv.commands.counted.few inv.commands.known (ap (λ (t : Core). is_known (connection_of c.args.request.now) t.conns) c.self.view_is ∙ c.requires.known)
     (λ is. subst (λ (t : Core). t.window.unfinished < length t.window.places) (sym c.self.view_is) (c.requires.space is).not_full) (λ is. subst (λ (t : Core). immediate_in t.live (connection_of c.args.request.now) < 8) (sym c.self.view_is) (c.requires.few is)) in
-    omega (arith, room, inv.15)
+    omega (arith, room, inv.rooms.tags)
 
 pub push_back_reserved-requires : goal.push_back_reserved-requires
 push_back_reserved-requires c =
     let inv = c.self.invariant in
     let s : Core = record { window = c.self.inside.window; events = c.self.inside.events; conns = c.self.inside.conns.items; entered = c.self.inside.entered; taken = c.self.inside.taken; live = c.self.inside.live.items; sets = c.self.inside.sets.items; level = c.self.inside.level; arrived = c.self.inside.arrived.items; waiting = c.self.inside.waiting.items; open_conns = c.self.inside.open_conns.items } in
-    let room = room_in s c.args.request.now c.args.unit inv.0 inv.1 inv.16.few inv.9 (ap (λ (t : Core). is_known (connection_of c.args.request.now) t.conns) c.self.view_is ∙ c.requires.known)
+    let room = room_in s c.args.request.now c.args.unit inv.commands.numbered inv.window.fits inv.commands.counted.few inv.commands.known (ap (λ (t : Core). is_known (connection_of c.args.request.now) t.conns) c.self.view_is ∙ c.requires.known)
     (λ is. subst (λ (t : Core). t.window.unfinished < length t.window.places) (sym c.self.view_is) (c.requires.space is).not_full) (λ is. subst (λ (t : Core). immediate_in t.live (connection_of c.args.request.now) < 8) (sym c.self.view_is) (c.requires.few is)) in
-    omega (arith, room, inv.3, c.self.inside.live.ok.0)
+    omega (arith, room, inv.rooms.live, c.self.inside.live.ok.0)
 
 pub invariant_of-self : goal.invariant_of-self
 invariant_of-self c =
@@ -100,7 +97,7 @@ invariant_of-self c =
     let unfinished : c.begin.new.window.unfinished ≡ w.unfinished + cond (not (is_immediate r)) 1 0 = ap (λ (x : Received). x.unfinished) is ∙ started_unfinished w r in
     let turned : c.begin.new.window.turned ≡ w.turned = ap (λ (x : Received). x.turned) is ∙ started_turned w r in
     let places : c.begin.new.window.places ≡ w.places = ap (λ (x : Received). x.places) is ∙ started_places w r in
-    let fits : c.begin.new.window.unfinished ≤ length w.places = subst (λ (x : Received). x.unfinished ≤ length w.places) (sym is) (started_fits w r inv.1 (λ no. subst (λ (s : Core). s.window.unfinished < length s.window.places) (sym c.self.view_is) (c.requires.space no).not_full)) in
+    let fits : c.begin.new.window.unfinished ≤ length w.places = subst (λ (x : Received). x.unfinished ≤ length w.places) (sym is) (started_fits w r inv.window.fits (λ no. subst (λ (s : Core). s.window.unfinished < length s.window.places) (sym c.self.view_is) (c.requires.space no).not_full)) in
     let counted : c.self.inside.entered + count_by is_some w.places < c.self.inside.taken = subst (λ (s : Core). s.entered + count_by is_some s.window.places < s.taken) (sym c.self.view_is) c.requires.counted in
     let old : List Members = c.self.inside.sets.items in
     let inside : c.args.unit < length old = omega (arith, c.requires.unit, ap (λ (s : Core). length s.sets) c.self.view_is) in
@@ -112,8 +109,6 @@ invariant_of-self c =
     let now : take c.self.inside.sets.len (c.enter.new.sets ++ drop (length c.enter.new.sets) old) ≡ new = written c.self.inside.sets.len c.enter.new.sets old (ap length returned ∙ long) c.self.inside.sets.ok.0 ∙ returned in
     let lives : c.push_back_reserved.new.self.items ≡ c.self.inside.live.items ++ l ∷ [] = c.push_back_reserved.ensures.items in
     let immediate_is : c.immediate.result ≡ is_immediate r = c.immediate.ensures in
-    let numbered : count_by is_numbered c.push_back_reserved.new.self.items ≡ count_by is_numbered c.self.inside.live.items + cond (not (is_immediate r)) 1 0 =
-    ap (λ ls. count_by is_numbered ls) lives ∙ count_by-push is_numbered c.self.inside.live.items l ∙ ap (λ b. count_by is_numbered c.self.inside.live.items + cond (not b) 1 0) immediate_is in
     let value : c.deref.result.now ≡ c.self.inside.conns.items = c.deref.ensures.value in
     let counts : (cid : ℕ) → counted_on cid c.self.inside.conns.items c.begin.new.immediate.items ≡ counted_on cid c.self.inside.conns.items c.self.inside.immediate.items + cond (l.immediate && l.conn == cid) 1 0 = λ cid.
     subst (λ (cs : List (ℕ × ℕ)). counted_on cid cs c.begin.new.immediate.items ≡ counted_on cid cs c.self.inside.immediate.items + cond (is_immediate r && connection_of r == cid) 1 0) value (c.begin.ensures.counted cid)
@@ -121,39 +116,12 @@ invariant_of-self c =
     ∙ ap (λ k. counted_on cid c.self.inside.conns.items c.self.inside.immediate.items + cond (c.immediate.result && k == cid) 1 0) (sym c.conn.ensures) in
     let room : c.immediate.result ≡ true → immediate_in c.self.inside.live.items c.conn.result < 8 = λ yes.
     subst (λ k. immediate_in c.self.inside.live.items k < 8) (sym c.conn.ensures) (subst (λ (s : Core). immediate_in s.live (connection_of r) < 8) (sym c.self.view_is) (c.requires.few (sym immediate_is ∙ yes))) in
-    let known : is_known c.conn.result c.self.inside.conns.items ≡ true = ap (λ n. is_known n c.self.inside.conns.items) c.conn.ensures ∙ ap (λ (s : Core). is_known (connection_of r) s.conns) c.self.view_is ∙ c.requires.known in (
-      omega (arith, inv.0, unfinished, numbered),
-      omega (arith, fits, ap length places),
-      omega (arith, inv.2, ap length places),
-      omega (arith, inv.3, ap length places, c.push_back_reserved.ensures.capacity),
-      inv.4 ∙ ap (count_by is_held) (sym places),
-      omega (arith, inv.5, turned, ap (count_by is_some) places),
-      omega (arith, counted, ap (count_by is_some) places),
-      inv.7,
-      inv.8,
-      ap (λ ls. are_known ls c.self.inside.conns.items) lives ∙ list_all-append (λ (x : Live). is_known x.conn c.self.inside.conns.items) c.self.inside.live.items (l ∷ []) ∙ ap (λ b. b && (is_known c.conn.result c.self.inside.conns.items && true)) inv.9 ∙ ap (λ b. b && true) known,
-      ap (list_all (is_place_known c.self.inside.conns.items)) places ∙ inv.10,
-      subst (λ (ms : List Members). Match ms c.push_back_reserved.new.self.items) (sym now)
-          (subst (λ (ls : List Live). Match new ls) (sym lives) (Match-entered old c.self.inside.live.items l task inv.11 inside refl)),
-      ap are_ascending lives ∙ ascending-push c.self.inside.entered (length old) c.self.inside.live.items l inv.12 inv.13 (omega arith),
-      ap (λ (ms : List Members). are_within (c.self.inside.entered + 1) (length ms) c.push_back_reserved.new.self.items) now
-          ∙ ap (λ n. are_within (c.self.inside.entered + 1) n c.push_back_reserved.new.self.items) long
-          ∙ ap (are_within (c.self.inside.entered + 1) (length old)) lives
-          ∙ within-push c.self.inside.entered (length old) c.self.inside.live.items l inv.13 refl inside,
-      subst (AreIndexed c.take_up.new.tags) (sym lives) (All-append (λ (x : Live). get nat_eq c.take_up.new.tags x.itt ≡ Some x.ticket) c.self.inside.live.items (l ∷ []) c.take_up.ensures.indexed
-          (All-cons (λ (x : Live). get nat_eq c.take_up.new.tags x.itt ≡ Some x.ticket) l [] (ap (get nat_eq c.take_up.new.tags) (c.itt-2.ensures ∙ sym c.itt.ensures) ∙ c.take_up.ensures.taken) (λ k d within. absurd (omega arith)))),
-      omega (arith, inv.15, c.take_up.ensures.room, ap length places),
-      subst (λ (ls : List Live). AreCounted c.begin.new.immediate.items c.self.inside.conns.items ls) (sym lives) (AreCounted-entered c.self.inside.immediate.items c.begin.new.immediate.items c.self.inside.conns.items c.self.inside.live.items l inv.16 c.begin.ensures.long counts room),
-      inv.17,
-      omega (arith, inv.18, ap length places),
-      omega (arith, inv.19, ap length places),
-      inv.20,
-      inv.21,
-      inv.22,
-      inv.23,
-      inv.24,
-      omega (arith, inv.25, ap length now, long),
-    )
+    let known : is_known c.conn.result c.self.inside.conns.items ≡ true = ap (λ n. is_known n c.self.inside.conns.items) c.conn.ensures ∙ ap (λ (s : Core). is_known (connection_of r) s.conns) c.self.view_is ∙ c.requires.known in
+    let commands = entered_sound inv.commands (get nat_eq c.take_up.new.tags) l lives refl inside known (omega (arith, inv.commands.numbered, unfinished, ap {B = ℕ} (λ b. cond (not b) 1 0) immediate_is)) (ap length now ∙ long)
+    (subst (λ (ms : List Members). Match ms (c.self.inside.live.items ++ l ∷ [])) (sym now) (Match-entered old c.self.inside.live.items l task inv.commands.in_sets inside refl))
+    c.take_up.ensures.indexed (ap (get nat_eq c.take_up.new.tags) (c.itt-2.ensures ∙ sym c.itt.ensures) ∙ c.take_up.ensures.taken)
+    (AreCounted-entered c.self.inside.immediate.items c.begin.new.immediate.items c.self.inside.conns.items c.self.inside.live.items l inv.commands.counted c.begin.ensures.long counts room) in
+    commands_sound inv (places_sound inv.window places turned fits (omega (arith, counted))) commands places (ap length now ∙ long) (omega (arith, c.push_back_reserved.ensures.capacity)) (omega (arith, c.take_up.ensures.room))
 
 pub returns-clause-session : goal.returns-clause-session
 returns-clause-session c =

@@ -1,10 +1,7 @@
-use Rattle.std.proofs.Common.{◌≡◌, ◌∙◌, ◌+◌, ◌-◌, ◌<◌, ◌≤◌, ◌==◌, ◌++◌, ◌∷◌, ◌||◌, [], ℕ, Bool, not, true, false, nat_eq, nat_lt, List, Option, Some, None, option_map, find, length, count_by, is_some, take, drop, get_or, set, append_assoc, length-set, refl, ap, sym, subst, arith}
+use Rattle.std.proofs.Common.{◌≡◌, ◌∙◌, ◌<◌, ◌≤◌, ◌==◌, ◌++◌, ◌∷◌, ◌||◌, [], ℕ, Bool, not, true, false, nat_lt, List, Option, Some, None, option_map, find, length, count_by, take, drop, get_or, set, append_assoc, length-set, refl, ap, sym, subst, arith}
 use Rattle.std.specs.Prelude.{IsSome}
-use Rattle.std.specs.List.{list_all}
-use Rattle.std.specs.HashMap.{get}
 use Rattle.std.proofs.lemmas.Bool.{eqb-true}
 use Rattle.std.proofs.lemmas.List.{set-get_or, get_or-set_same}
-use Rattle.std.proofs.lemmas.List.Elements.{All-filter}
 use Rattle.iscsi_window.specs.Windows.{Received}
 use Rattle.iscsi_tasks.specs.declared.task.Task.{Task}
 use Rattle.iscsi_tasks.specs.Sets.{Members, opened, tasks_in, left_by}
@@ -12,15 +9,15 @@ use Rattle.iscsi_history.specs.declared.effect.Effect.{Effect}
 use Rattle.iscsi_history.specs.declared.effect.Effect.TheVariants.{Leave}
 use Rattle.iscsi_session.specs.declared.session.leaving.Choice.{Choice}
 use Rattle.iscsi_session.specs.declared.session.live.Live.{Live}
-use Rattle.iscsi_session.specs.Standing.{Core, are_known, is_held, is_place_known, Match, are_ascending, are_within}
-use Rattle.iscsi_session.specs.Steps.{AreIndexed, AreCounted, is_numbered, set_at, without_ticket}
+use Rattle.iscsi_session.specs.Standing.{Core, Match, are_ascending}
+use Rattle.iscsi_session.specs.Steps.{AreCounted, is_numbered, set_at, without_ticket}
 use Rattle.iscsi_session.specs.Functions.{finished_by, with_left, leaving_effects, has_covered, chosen, later, covers_ticket, owed}
-use Rattle.iscsi_session.proofs.ListLemmas.{are_known-left}
 use Rattle.iscsi_history.proofs.ListLemmas.{fewer_counted}
 use Rattle.iscsi_session.proofs.WindowLemmas.{find-found}
-use Rattle.iscsi_session.proofs.KeptLemmas.{ascending-left, within-left, written}
+use Rattle.iscsi_session.proofs.KeptLemmas.{written}
 use Rattle.iscsi_session.proofs.LeavingParts.{none_found, less, one_less, stepped, Leaving, leaving_one}
 use Rattle.iscsi_session.proofs.LaterParts.{left_alike, effects_alike, later_agrees}
+use Rattle.iscsi_session.proofs.SoundLemmas.{places_sound, left_sound, commands_sound}
 use Rattle.iscsi_session.proofs.session.Session.leave_next.Goals as goal
 
 some_task : (x : Option Task) (k : ℕ) → option_map (λ (t : Task). t.ticket) x ≡ Some k → (task : Task) × ((x ≡ Some task) × (task.ticket ≡ k))
@@ -100,7 +97,7 @@ end-requires-clause-there c =
     let covers : Task → Bool = chosen c.args.choice.now in
     let view : s ≡ c.args.self.now = c.self.view_is in
     let inside : u < length s.sets = omega (arith, c.requires.unit, ap (λ (x : Core). length x.sets) view) in
-    let t : Taken s u covers k c.take.new.sets = taken s u covers k c.deref_mut.result.now c.take.new.sets c.take.result c.deref_mut.ensures.value c.take.ensures.ticket c.in_ok-ticket.was c.take.ensures.sets inside c.self.invariant.11 c.self.invariant.12 c.self.invariant.0 in
+    let t : Taken s u covers k c.take.new.sets = taken s u covers k c.deref_mut.result.now c.take.new.sets c.take.result c.deref_mut.ensures.value c.take.ensures.ticket c.in_ok-ticket.was c.take.ensures.sets inside c.self.invariant.commands.in_sets c.self.invariant.commands.ascending c.self.invariant.commands.numbered in
     subst IsSome (sym t.leaving.found) refl
 
 pub returns-clause-session : goal.returns-clause-session
@@ -111,7 +108,7 @@ returns-clause-session c =
     let covers : Task → Bool = chosen c.args.choice.now in
     let view : s ≡ c.args.self.now = c.self.view_is in
     let inside : u < length s.sets = omega (arith, c.requires.unit, ap (λ (x : Core). length x.sets) view) in
-    let t : Taken s u covers k c.take.new.sets = taken s u covers k c.deref_mut.result.now c.take.new.sets c.take.result c.deref_mut.ensures.value c.take.ensures.ticket c.in_ok-ticket.was c.take.ensures.sets inside c.self.invariant.11 c.self.invariant.12 c.self.invariant.0 in
+    let t : Taken s u covers k c.take.new.sets = taken s u covers k c.deref_mut.result.now c.take.new.sets c.take.result c.deref_mut.ensures.value c.take.ensures.ticket c.in_ok-ticket.was c.take.ensures.sets inside c.self.invariant.commands.in_sets c.self.invariant.commands.ascending c.self.invariant.commands.numbered in
     let now : take c.self.inside.sets.len (c.take.new.sets ++ drop (length c.take.new.sets) c.self.inside.sets.items) ≡ set s.sets u (less (set_at s u) k) = written c.self.inside.sets.len c.take.new.sets c.self.inside.sets.items t.same_length c.self.inside.sets.ok.0 ∙ t.sets_are in
     let is = core_is s u k c.end.new.window c.end.new.live.items (take c.self.inside.sets.len (c.take.new.sets ++ drop (length c.take.new.sets) c.self.inside.sets.items)) c.end.ensures.window c.end.ensures.live now in
     let rest : Task → Bool = chosen (later c.args.choice.now (Some k)) in
@@ -127,7 +124,7 @@ returns-clause-effects c =
     let covers : Task → Bool = chosen c.args.choice.now in
     let view : s ≡ c.args.self.now = c.self.view_is in
     let inside : u < length s.sets = omega (arith, c.requires.unit, ap (λ (x : Core). length x.sets) view) in
-    let t : Taken s u covers k c.take.new.sets = taken s u covers k c.deref_mut.result.now c.take.new.sets c.take.result c.deref_mut.ensures.value c.take.ensures.ticket c.in_ok-ticket.was c.take.ensures.sets inside c.self.invariant.11 c.self.invariant.12 c.self.invariant.0 in
+    let t : Taken s u covers k c.take.new.sets = taken s u covers k c.deref_mut.result.now c.take.new.sets c.take.result c.deref_mut.ensures.value c.take.ensures.ticket c.in_ok-ticket.was c.take.ensures.sets inside c.self.invariant.commands.in_sets c.self.invariant.commands.ascending c.self.invariant.commands.numbered in
     let now : take c.self.inside.sets.len (c.take.new.sets ++ drop (length c.take.new.sets) c.self.inside.sets.items) ≡ set s.sets u (less (set_at s u) k) = written c.self.inside.sets.len c.take.new.sets c.self.inside.sets.items t.same_length c.self.inside.sets.ok.0 ∙ t.sets_are in
     let is = core_is s u k c.end.new.window c.end.new.live.items (take c.self.inside.sets.len (c.take.new.sets ++ drop (length c.take.new.sets) c.self.inside.sets.items)) c.end.ensures.window c.end.ensures.live now in
     let rest : Task → Bool = chosen (later c.args.choice.now (Some k)) in
@@ -146,7 +143,7 @@ returns-clause-one c = λ ticket chose.
     let covers : Task → Bool = chosen c.args.choice.now in
     let view : s ≡ c.args.self.now = c.self.view_is in
     let inside : u < length s.sets = omega (arith, c.requires.unit, ap (λ (x : Core). length x.sets) view) in
-    let t : Taken s u covers k c.take.new.sets = taken s u covers k c.deref_mut.result.now c.take.new.sets c.take.result c.deref_mut.ensures.value c.take.ensures.ticket c.in_ok-ticket.was c.take.ensures.sets inside c.self.invariant.11 c.self.invariant.12 c.self.invariant.0 in
+    let t : Taken s u covers k c.take.new.sets = taken s u covers k c.deref_mut.result.now c.take.new.sets c.take.result c.deref_mut.ensures.value c.take.ensures.ticket c.in_ok-ticket.was c.take.ensures.sets inside c.self.invariant.commands.in_sets c.self.invariant.commands.ascending c.self.invariant.commands.numbered in
     let now : take c.self.inside.sets.len (c.take.new.sets ++ drop (length c.take.new.sets) c.self.inside.sets.items) ≡ set s.sets u (less (set_at s u) k) = written c.self.inside.sets.len c.take.new.sets c.self.inside.sets.items t.same_length c.self.inside.sets.ok.0 ∙ t.sets_are in
     let is = core_is s u k c.end.new.window c.end.new.live.items (take c.self.inside.sets.len (c.take.new.sets ++ drop (length c.take.new.sets) c.self.inside.sets.items)) c.end.ensures.window c.end.ensures.live now in
     let same : k ≡ ticket = sym t.ticket_is ∙ eqb-true t.task.ticket ticket (ap (λ (x : Choice). chosen x t.task) (sym chose) ∙ t.covered) in
@@ -164,7 +161,7 @@ returns-clause-fewer c = λ yes.
     let covers : Task → Bool = chosen c.args.choice.now in
     let view : s ≡ c.args.self.now = c.self.view_is in
     let inside : u < length s.sets = omega (arith, c.requires.unit, ap (λ (x : Core). length x.sets) view) in
-    let t : Taken s u covers k c.take.new.sets = taken s u covers k c.deref_mut.result.now c.take.new.sets c.take.result c.deref_mut.ensures.value c.take.ensures.ticket c.in_ok-ticket.was c.take.ensures.sets inside c.self.invariant.11 c.self.invariant.12 c.self.invariant.0 in
+    let t : Taken s u covers k c.take.new.sets = taken s u covers k c.deref_mut.result.now c.take.new.sets c.take.result c.deref_mut.ensures.value c.take.ensures.ticket c.in_ok-ticket.was c.take.ensures.sets inside c.self.invariant.commands.in_sets c.self.invariant.commands.ascending c.self.invariant.commands.numbered in
     let now : take c.self.inside.sets.len (c.take.new.sets ++ drop (length c.take.new.sets) c.self.inside.sets.items) ≡ set s.sets u (less (set_at s u) k) = written c.self.inside.sets.len c.take.new.sets c.self.inside.sets.items t.same_length c.self.inside.sets.ok.0 ∙ t.sets_are in
     let is = core_is s u k c.end.new.window c.end.new.live.items (take c.self.inside.sets.len (c.take.new.sets ++ drop (length c.take.new.sets) c.self.inside.sets.items)) c.end.ensures.window c.end.ensures.live now in
     omega (arith, t.leaving.fewer, ap (λ (x : Core). length (set_at x u).list) is, ap (λ (x : Core). length (set_at x u).list) view)
@@ -177,7 +174,7 @@ returns-clause-spent c =
     let covers : Task → Bool = chosen c.args.choice.now in
     let view : s ≡ c.args.self.now = c.self.view_is in
     let inside : u < length s.sets = omega (arith, c.requires.unit, ap (λ (x : Core). length x.sets) view) in
-    let t : Taken s u covers k c.take.new.sets = taken s u covers k c.deref_mut.result.now c.take.new.sets c.take.result c.deref_mut.ensures.value c.take.ensures.ticket c.in_ok-ticket.was c.take.ensures.sets inside c.self.invariant.11 c.self.invariant.12 c.self.invariant.0 in
+    let t : Taken s u covers k c.take.new.sets = taken s u covers k c.deref_mut.result.now c.take.new.sets c.take.result c.deref_mut.ensures.value c.take.ensures.ticket c.in_ok-ticket.was c.take.ensures.sets inside c.self.invariant.commands.in_sets c.self.invariant.commands.ascending c.self.invariant.commands.numbered in
     let now : take c.self.inside.sets.len (c.take.new.sets ++ drop (length c.take.new.sets) c.self.inside.sets.items) ≡ set s.sets u (less (set_at s u) k) = written c.self.inside.sets.len c.take.new.sets c.self.inside.sets.items t.same_length c.self.inside.sets.ok.0 ∙ t.sets_are in
     omega (arith, t.leaving.owes, ap (λ (ls : List Live). owed ls (take c.self.inside.sets.len (c.take.new.sets ++ drop (length c.take.new.sets) c.self.inside.sets.items))) c.end.ensures.live, ap (λ (ms : List Members). owed (without_ticket k s.live) ms) now, ap (λ (x : Core). owed x.live x.sets) view, c.push_reserved.ensures.len)
 
@@ -189,45 +186,16 @@ invariant_of-self-2 c =
     let covers : Task → Bool = chosen c.args.choice.now in
     let view : s ≡ c.args.self.now = c.self.view_is in
     let inside : u < length s.sets = omega (arith, c.requires.unit, ap (λ (x : Core). length x.sets) view) in
-    let t : Taken s u covers k c.take.new.sets = taken s u covers k c.deref_mut.result.now c.take.new.sets c.take.result c.deref_mut.ensures.value c.take.ensures.ticket c.in_ok-ticket.was c.take.ensures.sets inside c.self.invariant.11 c.self.invariant.12 c.self.invariant.0 in
+    let t : Taken s u covers k c.take.new.sets = taken s u covers k c.deref_mut.result.now c.take.new.sets c.take.result c.deref_mut.ensures.value c.take.ensures.ticket c.in_ok-ticket.was c.take.ensures.sets inside c.self.invariant.commands.in_sets c.self.invariant.commands.ascending c.self.invariant.commands.numbered in
     let now : take c.self.inside.sets.len (c.take.new.sets ++ drop (length c.take.new.sets) c.self.inside.sets.items) ≡ set s.sets u (less (set_at s u) k) = written c.self.inside.sets.len c.take.new.sets c.self.inside.sets.items t.same_length c.self.inside.sets.ok.0 ∙ t.sets_are in
     let inv = c.self.invariant in
     let w : Received = c.self.inside.window in
     let lives : List Live = c.self.inside.live.items in
-    let unfinished : c.end.new.window.unfinished ≡ w.unfinished + count_by is_numbered (without_ticket k lives) - count_by is_numbered lives = ap (λ (x : Received). x.unfinished) c.end.ensures.window in
     let turned : c.end.new.window.turned ≡ w.turned = ap (λ (x : Received). x.turned) c.end.ensures.window in
     let places : c.end.new.window.places ≡ w.places = ap (λ (x : Received). x.places) c.end.ensures.window in
-    let numbered : count_by is_numbered c.end.new.live.items ≡ count_by is_numbered (without_ticket k lives) = ap (count_by is_numbered) c.end.ensures.live in
     let less_numbered : count_by is_numbered (without_ticket k lives) ≤ count_by is_numbered lives = fewer_counted is_numbered (λ l. not (l.ticket == k)) lives in
     let new : List Members = set s.sets u (less (set_at s u) k) in
-    let long : length new ≡ length c.self.inside.sets.items = length-set s.sets u (less (set_at s u) k) in (
-      omega (arith, numbered, unfinished, inv.0),
-      omega (arith, inv.1, unfinished, less_numbered, ap length places),
-      omega (arith, inv.2, ap length places),
-      omega (arith, inv.3, ap length places, c.end.ensures.capacity),
-      inv.4 ∙ ap (count_by is_held) (sym places),
-      omega (arith, inv.5, turned, ap (count_by is_some) places),
-      omega (arith, inv.6, ap (count_by is_some) places),
-      inv.7,
-      inv.8,
-      ap (λ ls. are_known ls c.self.inside.conns.items) c.end.ensures.live ∙ are_known-left k lives c.self.inside.conns.items inv.9,
-      ap (list_all (is_place_known c.self.inside.conns.items)) places ∙ inv.10,
-      subst (λ (ms : List Members). Match ms c.end.new.live.items) (sym now) (subst (λ (ls : List Live). Match new ls) (sym c.end.ensures.live) t.leaving.matches),
-      ap are_ascending c.end.ensures.live ∙ ascending-left k lives inv.12,
-      ap (λ (ms : List Members). are_within c.self.inside.entered (length ms) c.end.new.live.items) now
-          ∙ ap (λ n. are_within c.self.inside.entered n c.end.new.live.items) long
-          ∙ ap (are_within c.self.inside.entered (length c.self.inside.sets.items)) c.end.ensures.live
-          ∙ within-left k c.self.inside.entered (length c.self.inside.sets.items) lives inv.13,
-      subst (AreIndexed c.self.inside.tags) (sym c.end.ensures.live) (All-filter (λ (l : Live). not (l.ticket == k)) (λ (l : Live). get nat_eq c.self.inside.tags l.itt ≡ Some l.ticket) lives inv.14),
-      omega (arith, inv.15, ap length places),
-      subst (λ (cs : List (ℕ × ℕ)). AreCounted c.end.new.immediate.items cs c.end.new.live.items) c.deref.ensures.value c.end.ensures.counted,
-      inv.17,
-      omega (arith, inv.18, ap length places),
-      omega (arith, inv.19, ap length places),
-      inv.20,
-      inv.21,
-      inv.22,
-      inv.23,
-      inv.24,
-      omega (arith, inv.25, ap length now, long),
-    )
+    let long : length new ≡ length c.self.inside.sets.items = length-set s.sets u (less (set_at s u) k) in
+    let commands = left_sound inv.commands k c.end.ensures.live (omega (arith, ap (λ (x : Received). x.unfinished) c.end.ensures.window, inv.commands.numbered)) (ap length now ∙ long) (subst (λ (ms : List Members). Match ms (without_ticket k lives)) (sym now) t.leaving.matches)
+    (subst (λ (ls : List Live). AreCounted c.end.new.immediate.items c.self.inside.conns.items ls) c.end.ensures.live (subst (λ (cs : List (ℕ × ℕ)). AreCounted c.end.new.immediate.items cs c.end.new.live.items) c.deref.ensures.value c.end.ensures.counted)) in
+    commands_sound inv (places_sound inv.window places turned (omega (arith, inv.window.fits, ap (λ (x : Received). x.unfinished) c.end.ensures.window, less_numbered)) inv.window.entered) commands places (ap length now ∙ long) (omega (arith, c.end.ensures.capacity)) (omega arith)

@@ -1,16 +1,13 @@
-use Rattle.std.proofs.Common.{rules, ◌≡◌, ◌==◌, ◌∙◌, ◌+◌, ◌%◌, ◌<◌, ◌^◌, ap, sym, ℕ, List, Some, Bool, true, subst, arith, length, position, get_or, set}
+use Rattle.std.proofs.Common.{rules, ◌≡◌, ◌==◌, ◌∙◌, ◌+◌, ◌%◌, ◌<◌, ◌^◌, ap, sym, ℕ, List, Some, Bool, true, subst, arith, position, get_or, set}
 use Rattle.std.specs.Prelude.{IsSome}
-use Rattle.std.specs.List.{list_all}
 use Rattle.std.proofs.lemmas.List.Quantifiers.{position-Some}
 use Rattle.iscsi_wire.specs.Serial.{wire}
-use Rattle.iscsi_wire.specs.Fields.{connection_of}
-use Rattle.iscsi_session.specs.declared.session.waiting.Waiting.{Waiting}
 use Rattle.iscsi_history.specs.Settings.{is_known}
-use Rattle.iscsi_session.specs.Standing.{Core, stat_sn_on, are_known, is_place_known}
-use Rattle.iscsi_session.specs.Steps.{count_reply, AreCounted}
+use Rattle.iscsi_session.specs.Standing.{Core, stat_sn_on}
+use Rattle.iscsi_session.specs.Steps.{count_reply}
 use Rattle.iscsi_history.proofs.ListLemmas.{IsSome-position}
-use Rattle.iscsi_session.proofs.ListLemmas.{count_reply-at, stat_sn_on-at, are_known-replied, are_places_known-replied, are_waiting_known-replied}
-use Rattle.iscsi_session.proofs.CountLemmas.{length-replied, AreCounted-replied}
+use Rattle.iscsi_session.proofs.ListLemmas.{count_reply-at, stat_sn_on-at}
+use Rattle.iscsi_session.proofs.SoundLemmas.{replied_sound}
 use Rattle.iscsi_session.proofs.session.Session.next_stat_sn.Goals as goal
 
 abbrev has_cid : ℕ → ℕ × ℕ → Bool
@@ -51,32 +48,4 @@ pub invariant_of-self : goal.invariant_of-self
 invariant_of-self c =
     let found : position (has_cid c.args.cid) c.self.inside.conns.items ≡ Some c.unwrap-place.result = ap (position (has_cid c.args.cid)) (sym c.deref.ensures.value) ∙ sym c.place_of.ensures ∙ c.unwrap-place.ensures in
     let next = (read_at c.args.cid c.unwrap-place.result c.self.inside.conns.items c.index.result.now found c.index.ensures).next in
-    let inv = c.self.invariant in
-    let long : length (count_reply c.args.cid c.self.inside.conns.items) ≡ length c.self.inside.conns.items = length-replied c.args.cid c.self.inside.conns.items in (
-      inv.0,
-      inv.1,
-      inv.2,
-      omega (arith, inv.3, ap length next, long),
-      inv.4,
-      inv.5,
-      inv.6,
-      inv.7,
-      inv.8,
-      ap (are_known c.self.inside.live.items) next ∙ are_known-replied c.args.cid c.self.inside.live.items c.self.inside.conns.items inv.9,
-      ap (λ (cs : List (ℕ × ℕ)). list_all (is_place_known cs) c.self.inside.window.places) next ∙ are_places_known-replied c.args.cid c.self.inside.window.places c.self.inside.conns.items inv.10,
-      inv.11,
-      inv.12,
-      inv.13,
-      inv.14,
-      omega (arith, inv.15, ap length next, long),
-      subst (λ (cs : List (ℕ × ℕ)). AreCounted c.self.inside.immediate.items cs c.self.inside.live.items) (sym next) (AreCounted-replied c.args.cid c.self.inside.immediate.items c.self.inside.conns.items c.self.inside.live.items inv.16),
-      omega (arith, inv.17, ap length next, long),
-      inv.18,
-      inv.19,
-      inv.20,
-      ap (λ (cs : List (ℕ × ℕ)). list_all (λ (w : Waiting). is_known (connection_of w.request) cs) c.self.inside.waiting.items) next ∙ are_waiting_known-replied c.args.cid c.self.inside.waiting.items c.self.inside.conns.items inv.21,
-      inv.22,
-      inv.23,
-      omega (arith, inv.24, ap length next, long),
-      inv.25,
-    )
+    replied_sound c.self.invariant c.args.cid next

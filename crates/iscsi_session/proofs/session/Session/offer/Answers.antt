@@ -1,4 +1,4 @@
-use Rattle.std.proofs.Common.{rules, ◌≡◌, ◌<◌, ◌≤◌, ◌-◌, ◌&&◌, not, ◌+◌, ◌∙◌, ap, sym, subst, arith, length, length-set, count_by, is_some, List, Some, None, refl, true, ℕ}
+use Rattle.std.proofs.Common.{rules, ◌≡◌, ◌<◌, ◌-◌, ◌&&◌, not, ◌+◌, ◌∙◌, ap, sym, subst, arith, length, length-set, count_by, is_some, List, Some, None, refl, true, ℕ}
 use Rattle.std.specs.List.{list_all}
 use Rattle.iscsi_wire.specs.declared.request.Request.{Request}
 use Rattle.iscsi_wire.specs.Fields.{connection_of}
@@ -7,12 +7,13 @@ use Rattle.iscsi_window.specs.Windows.{Received, offer_to, offered_to, with_plac
 use Rattle.iscsi_history.specs.Settings.{is_known}
 use Rattle.iscsi_session.specs.Standing.{Core, is_held, is_place_known}
 use Rattle.iscsi_session.proofs.WindowLemmas.{few_counted, count_set, all_set, Taken, taken}
-use Rattle.iscsi_session.specs.Steps.{is_numbered}
 use Rattle.iscsi_session.proofs.ManageLemmas.{length-noted, unheld_same}
+use Rattle.iscsi_session.specs.Invariant.{IsWindowSound}
+use Rattle.iscsi_session.proofs.SoundLemmas.{window_sound, same_sound, arrivals_sound}
 use Rattle.iscsi_session.proofs.session.Session.offer.Goals as goal
 
 pub overflow_add-self : goal.overflow_add-self
-overflow_add-self c = let inv = c.self.invariant in omega (arith, inv.2, inv.4, few_counted is_held c.self.inside.window.places)
+overflow_add-self c = let inv = c.self.invariant in omega (arith, inv.window.most, inv.window.held_is, few_counted is_held c.self.inside.window.places)
 
 -- what the window has become, and what is counted in it
 record Grown (old new : Received) (r : Request) : Type 0 where
@@ -43,67 +44,23 @@ invariant_of-self c =
     let inv = c.self.invariant in
     let room : c.self.inside.window.turned + count_by is_some c.self.inside.window.places < c.self.inside.taken = subst (λ (s : Core). s.window.turned + count_by is_some s.window.places < s.taken) (sym c.self.view_is) c.requires.counted in
     let entered : c.self.inside.entered + count_by is_some c.self.inside.window.places < c.self.inside.taken = subst (λ (s : Core). s.entered + count_by is_some s.window.places < s.taken) (sym c.self.view_is) c.requires.entered in
-    let known : is_known (connection_of c.args.request.now) c.self.inside.conns.items ≡ true = ap (λ (s : Core). is_known (connection_of c.args.request.now) s.conns) c.self.view_is ∙ c.requires.known in (
-      omega (arith, inv.0, g.unfinished),
-      omega (arith, inv.1, g.unfinished, g.long),
-      omega (arith, inv.2, g.long),
-      omega (arith, inv.3, g.long),
-      omega (arith, inv.4, g.held),
-      omega (arith, room, g.turned, g.counted),
-      omega (arith, entered, g.counted),
-      inv.7,
-      inv.8,
-      inv.9,
-      g.known c.self.inside.conns.items inv.10 (ap (λ b. not b && is_known (connection_of c.args.request.now) c.self.inside.conns.items) c.requires.regular ∙ known),
-      inv.11,
-      inv.12,
-      inv.13,
-      inv.14,
-      omega (arith, inv.15, g.long),
-      inv.16,
-      inv.17,
-      omega (arith, inv.18, g.long, ap length c.note.ensures.events, length-noted c.place-place.result c.self.inside.arrived.items (c.self.inside.taken - 1)),
-      omega (arith, inv.19, g.long, c.note.ensures.capacity),
-      inv.20,
-      inv.21,
-      inv.22,
-      inv.23,
-      inv.24,
-      inv.25,
-    )
+    let known : is_known (connection_of c.args.request.now) c.self.inside.conns.items ≡ true = ap (λ (s : Core). is_known (connection_of c.args.request.now) s.conns) c.self.view_is ∙ c.requires.known in
+    let window : IsWindowSound c.offer-offer.new.self (c.self.inside.held + 1) c.self.inside.entered c.self.inside.taken c.self.inside.conns.items = record {
+      fits = omega (arith, inv.window.fits, g.unfinished, g.long);
+      most = omega (arith, inv.window.most, g.long);
+      held_is = omega (arith, inv.window.held_is, g.held);
+      turned = omega (arith, room, g.turned, g.counted);
+      entered = omega (arith, entered, g.counted);
+      known = g.known c.self.inside.conns.items inv.window.known (ap (λ b. not b && is_known (connection_of c.args.request.now) c.self.inside.conns.items) c.requires.regular ∙ known);
+    } in
+    arrivals_sound (window_sound inv g.unfinished g.long window) (ap length c.note.ensures.events ∙ length-noted c.place-place.result c.self.inside.arrived.items (c.self.inside.taken - 1)) (omega (arith, c.note.ensures.capacity))
 
 pub invariant_of-self-else-eq : goal.invariant_of-self-else-eq
 invariant_of-self-else-eq c =
     let inv = c.self.invariant in
     let unheld : offer_to c.self.inside.window c.args.request.now ≡ Held → ⊥ = λ is. let said : c.offer-offer.result ≡ Held = c.offer-offer.ensures.answer ∙ is in search rules in
-    let same : c.offer-offer.new.self ≡ c.self.inside.window = c.offer-offer.ensures.state ∙ unheld_same c.self.inside.window c.args.request.now unheld in (
-      subst (λ (w : Received). count_by is_numbered c.self.inside.live.items ≤ w.unfinished) (sym same) inv.0,
-      subst (λ (w : Received). w.unfinished ≤ length w.places) (sym same) inv.1,
-      omega (arith, inv.2, ap (λ (w : Received). length w.places) same),
-      omega (arith, inv.3, ap (λ (w : Received). length w.places) same),
-      inv.4 ∙ ap (λ (w : Received). count_by is_held w.places) (sym same),
-      omega (arith, inv.5, ap (λ (w : Received). w.turned) same, ap (λ (w : Received). count_by is_some w.places) same),
-      omega (arith, inv.6, ap (λ (w : Received). count_by is_some w.places) same),
-      inv.7,
-      inv.8,
-      inv.9,
-      ap (λ (w : Received). list_all (is_place_known c.self.inside.conns.items) w.places) same ∙ inv.10,
-      inv.11,
-      inv.12,
-      inv.13,
-      inv.14,
-      omega (arith, inv.15, ap (λ (w : Received). length w.places) same),
-      inv.16,
-      inv.17,
-      inv.18 ∙ ap (λ (w : Received). length w.places) (sym same),
-      omega (arith, inv.19, ap (λ (w : Received). length w.places) same),
-      inv.20,
-      inv.21,
-      inv.22,
-      inv.23,
-      inv.24,
-      inv.25,
-    )
+    let same : c.offer-offer.new.self ≡ c.self.inside.window = c.offer-offer.ensures.state ∙ unheld_same c.self.inside.window c.args.request.now unheld in
+    same_sound inv same
 
 pub returns-then-eq-clause-held : goal.returns-then-eq-clause-held
 returns-then-eq-clause-held c =

@@ -56,5 +56,5 @@ returns-in-10 c =
     let kept : Core = record { window = c.self.inside.window; events = c.self.inside.events; conns = c.self.inside.conns.items; entered = c.self.inside.entered; taken = c.self.inside.taken; live = c.self.inside.live.items; sets = c.self.inside.sets.items; level = c.self.inside.level; arrived = c.self.inside.arrived.items; waiting = c.self.inside.waiting.items; open_conns = c.self.inside.open_conns.items } in
     let inside : c.args.unit < length kept.sets = omega (arith, c.requires.unit, ap (λ (x : Core). length x.sets) c.self.view_is) in
     let there : nat_lt 0 c.len.result ≡ list_any (λ l. l.unit == c.args.unit) s.live =
-    ap (nat_lt 0) c.len.ensures.len ∙ any_in_set kept c.args.unit c.from.result c.index.result.now c.self.invariant.11 c.from.ensures c.index.ensures inside ∙ ap (λ (x : Core). list_any (λ l. l.unit == c.args.unit) x.live) c.self.view_is in
+    ap (nat_lt 0) c.len.ensures.len ∙ any_in_set kept c.args.unit c.from.result c.index.result.now c.self.invariant.commands.in_sets c.from.ensures c.index.ensures inside ∙ ap (λ (x : Core). list_any (λ l. l.unit == c.args.unit) x.live) c.self.view_is in
     c.answer_if-in-10.ensures ∙ ap answer_if there ∙ sym (ap (outcome_of s r c.args.number c.args.event c.args.unit) f)

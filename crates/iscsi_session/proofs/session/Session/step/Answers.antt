@@ -1,8 +1,5 @@
-use Rattle.std.proofs.Common.{◌≡◌, ℕ, true, ◌∙◌, ◌+◌, ◌<◌, nat_lt, ◌++◌, ap, sym, subst, refl, arith, List, [], ◌∷◌, length, length-append, count_by, Option, Some, None, Err, Ok}
-use Rattle.std.specs.List.{list_all}
-use Rattle.std.proofs.lemmas.Bool.Decides.{nat_tests}
+use Rattle.std.proofs.Common.{◌≡◌, ℕ, ◌∙◌, ◌+◌, ◌<◌, ◌++◌, ap, sym, subst, refl, arith, List, [], ◌∷◌, length, length-append, count_by, Option, Some, None, Err, Ok}
 use Rattle.std.proofs.lemmas.List.{length_push}
-use Rattle.iscsi_session.specs.declared.session.waiting.Waiting.{Waiting}
 use Rattle.iscsi_history.specs.declared.effect.Numbers.{Numbers}
 use Rattle.iscsi_history.specs.declared.effect.Effect.{Effect}
 use Rattle.iscsi_history.specs.declared.event.Event.{Event}
@@ -16,11 +13,11 @@ use Rattle.iscsi_history.specs.Trace.{received}
 use Rattle.iscsi_history.specs.Flow.{Flows, HasOneMore}
 use Rattle.iscsi_session.proofs.FlowLemmas.{Flows-step}
 use Rattle.iscsi_history.proofs.RunLemmas.{trace_of-push}
-use Rattle.iscsi_history.proofs.TraceLemmas.{weaker}
 use Rattle.iscsi_session.proofs.OwedLemmas.{owed_few}
 use Rattle.iscsi_session.proofs.AgreeLemmas.{settled_numbers}
 use Rattle.iscsi_session.proofs.StepLemmas.{Settled-counted, taken_by, refusal_is}
 use Rattle.iscsi_session.proofs.OpenLemmas.{bound_is}
+use Rattle.iscsi_session.proofs.SoundLemmas.{taken_sound}
 use Rattle.iscsi_session.proofs.session.Session.step.Goals as goal
 
 pub returns-in-Some-clause-refused : goal.returns-in-Some-clause-refused
@@ -35,51 +32,13 @@ returns-then-is_err-clause-refused c = λ o h stands.
     let P : Option SessionFault → Type 0 = λ x. RefusesAs {A = Numbers} x (Err NoMemory) in
     subst P (sym refused) refl
 
--- a function that waits arrived before
-waited_before : (taken : ℕ) (waits : List Waiting) → list_all (λ w. nat_lt w.event taken) waits ≡ true → list_all (λ w. nat_lt w.event (taken + 1)) waits ≡ true
-waited_before taken waits h = weaker (λ (w : Waiting). nat_lt w.event taken) (λ w. nat_lt w.event (taken + 1)) waits (λ w before. later w.event before) h
-  where
-    later : (event : ℕ) → nat_lt event taken ≡ true → nat_lt event (taken + 1) ≡ true
-    later event before =
-        let lt : event < taken = grind (arith, nat_tests) in
-        grind (arith, nat_tests)
-
 pub invariant_of-self : goal.invariant_of-self
 invariant_of-self c =
-    let inv = c.self.invariant in
     let taken : c.args.self.now.taken < c.args.self.now.events = (taken_by c.args.self.now c.args.event.now (sym c.refusal.ensures ∙ c.in_default.is)).1 in
-    let same : c.self.inside.taken ≡ c.args.self.now.taken = ap (λ (s : Core). s.taken) c.self.view_is in
-    let most : c.self.inside.events ≡ c.args.self.now.events = ap (λ (s : Core). s.events) c.self.view_is in (
-      inv.0,
-      inv.1,
-      inv.2,
-      inv.3,
-      inv.4,
-      omega (arith, inv.5),
-      omega (arith, inv.6),
-      omega (arith, taken, same, most),
-      inv.8,
-      inv.9,
-      inv.10,
-      inv.11,
-      inv.12,
-      inv.13,
-      inv.14,
-      inv.15,
-      inv.16,
-      inv.17,
-      inv.18,
-      inv.19,
-      waited_before c.self.inside.taken c.self.inside.waiting.items inv.20,
-      inv.21,
-      inv.22,
-      inv.23,
-      inv.24,
-      inv.25,
-    )
+    taken_sound c.self.invariant (subst (λ (s : Core). s.taken < s.events) (sym c.self.view_is) taken)
 
 pub apply-requires-clause-owed : goal.apply-requires-clause-owed
-apply-requires-clause-owed c = owed_few c.self.inside.sets.items c.self.inside.live.items c.self.invariant.11
+apply-requires-clause-owed c = owed_few c.self.inside.sets.items c.self.inside.live.items c.self.invariant.commands.in_sets
 
 -- the event that is taken is the next one of the history
 index_is : (s : Core) (taken : ℕ) (h : List Event) → taken ≡ s.taken → s.taken ≡ length h → taken + 1 ≡ length h + 1

@@ -1,5 +1,4 @@
-use Rattle.std.proofs.Common.{w64, to_z, ◌^◌, ◌≡◌, ◌==◌, ◌<◌, ◌≤◌, ◌+◌, ◌∙◌, ◌++◌, ◌∷◌, [], not, Bool, true, nat_lt, find, filter, List, Some, length, pos, ◌-ℤ◌, ℤ, refl, ap, sym, arith, append_assoc, eq-eqb, ℕ}
-use Rattle.std.specs.List.{list_all}
+use Rattle.std.proofs.Common.{w64, to_z, ◌^◌, ◌≡◌, ◌==◌, ◌<◌, ◌≤◌, ◌+◌, ◌∙◌, ◌++◌, ◌∷◌, [], not, true, find, filter, List, Some, length, pos, ◌-ℤ◌, ℤ, refl, ap, sym, arith, append_assoc, eq-eqb, ℕ}
 use Rattle.std.proofs.lemmas.Bool.{false≢true}
 use Rattle.std.proofs.lemmas.Int.{ints, to_z_pos}
 use Rattle.iscsi_wire.specs.Serial.{number_of_first}
@@ -12,10 +11,11 @@ use Rattle.iscsi_history.specs.Settings.{is_known}
 use Rattle.iscsi_history.specs.Management.{may_wait}
 use Rattle.iscsi_session.specs.Standing.{Core}
 use Rattle.iscsi_session.specs.Functions.{owed}
-use Rattle.iscsi_session.specs.Turning.{waiting_in, performed, performed_effects, next_waiting, next_position, without_waiting, function_if, function_effects}
-use Rattle.iscsi_history.proofs.ListLemmas.{list_all-filter, find-passes, fewer_counted}
+use Rattle.iscsi_session.specs.Turning.{performed, performed_effects, next_waiting, next_position, without_waiting, function_if, function_effects}
+use Rattle.iscsi_history.proofs.ListLemmas.{find-passes}
 use Rattle.iscsi_session.proofs.ManageLemmas.{fewer_left, waiting_performed}
 use Rattle.iscsi_session.proofs.FunctionLemmas.{waited_places}
+use Rattle.iscsi_session.proofs.SoundLemmas.{fewer_sound}
 use Rattle.iscsi_session.proofs.session.Session.take_function.Goals as goal
 
 -- the number of the next turn, as a cast reads it
@@ -42,38 +42,8 @@ effects_are s f ws n found waits number =
 pub invariant_of-self : goal.invariant_of-self
 invariant_of-self c =
     let inv = c.self.invariant in
-    let s : Core = record { window = c.self.inside.window; events = c.self.inside.events; conns = c.self.inside.conns.items; entered = c.self.inside.entered; taken = c.self.inside.taken; live = c.self.inside.live.items; sets = c.self.inside.sets.items; level = c.self.inside.level; arrived = c.self.inside.arrived.items; waiting = c.self.inside.waiting.items; open_conns = c.self.inside.open_conns.items } in
     let f : Waiting = c.in-Some.function in
-    let found : find (λ w. w.turn == s.window.turned) s.waiting ≡ Some f = ap (λ n. find (λ w. w.turn == n) s.waiting) (sym c.turned-number.ensures) ∙ ap (find (λ w. w.turn == c.turned-number.result)) (sym c.deref.ensures.value) ∙ sym c.first_at.ensures ∙ c.in-Some.is in
-    let waits : c.take_out.new.waiting.items ≡ filter (λ v. not (v.event == f.event)) s.waiting = c.take_out.ensures.items in
-    let stays : Waiting → Bool = λ v. not (v.event == f.event) in (
-      inv.0,
-      inv.1,
-      inv.2,
-      inv.3,
-      inv.4,
-      inv.5,
-      inv.6,
-      inv.7,
-      inv.8,
-      inv.9,
-      inv.10,
-      inv.11,
-      inv.12,
-      inv.13,
-      inv.14,
-      inv.15,
-      inv.16,
-      inv.17,
-      inv.18,
-      inv.19,
-      ap (list_all (λ (v : Waiting). nat_lt v.event s.taken)) waits ∙ list_all-filter stays (λ (v : Waiting). nat_lt v.event s.taken) s.waiting inv.20,
-      ap (list_all (λ (v : Waiting). is_known (connection_of v.request) s.conns)) waits ∙ list_all-filter stays (λ (v : Waiting). is_known (connection_of v.request) s.conns) s.waiting inv.21,
-      ap (list_all (λ (v : Waiting). may_wait v.request)) waits ∙ list_all-filter stays (λ (v : Waiting). may_wait v.request) s.waiting inv.22,
-      λ cid. omega (arith, inv.23 cid, fewer_counted (λ (v : Waiting). connection_of v.request == cid) stays s.waiting, ap (λ ws. waiting_in ws cid) waits),
-      omega (arith, inv.24, c.take_out.ensures.capacity),
-      inv.25,
-    )
+    fewer_sound inv (λ v. not (v.event == f.event)) c.take_out.ensures.items (omega (arith, c.take_out.ensures.capacity))
 
 pub perform-requires-clause-known : goal.perform-requires-clause-known
 perform-requires-clause-known c =
@@ -81,7 +51,7 @@ perform-requires-clause-known c =
     let s : Core = record { window = c.self.inside.window; events = c.self.inside.events; conns = c.self.inside.conns.items; entered = c.self.inside.entered; taken = c.self.inside.taken; live = c.self.inside.live.items; sets = c.self.inside.sets.items; level = c.self.inside.level; arrived = c.self.inside.arrived.items; waiting = c.self.inside.waiting.items; open_conns = c.self.inside.open_conns.items } in
     let f : Waiting = c.in-Some.function in
     let found : find (λ w. w.turn == s.window.turned) s.waiting ≡ Some f = ap (λ n. find (λ w. w.turn == n) s.waiting) (sym c.turned-number.ensures) ∙ ap (find (λ w. w.turn == c.turned-number.result)) (sym c.deref.ensures.value) ∙ sym c.first_at.ensures ∙ c.in-Some.is in
-    find-passes (λ w. w.turn == s.window.turned) (λ w. is_known (connection_of w.request) s.conns) s.waiting f inv.21 found
+    find-passes (λ w. w.turn == s.window.turned) (λ w. is_known (connection_of w.request) s.conns) s.waiting f inv.functions.known found
 
 pub perform-requires-clause-voids : goal.perform-requires-clause-voids
 perform-requires-clause-voids c = λ waits_not immediate.
@@ -89,7 +59,7 @@ perform-requires-clause-voids c = λ waits_not immediate.
     let s : Core = record { window = c.self.inside.window; events = c.self.inside.events; conns = c.self.inside.conns.items; entered = c.self.inside.entered; taken = c.self.inside.taken; live = c.self.inside.live.items; sets = c.self.inside.sets.items; level = c.self.inside.level; arrived = c.self.inside.arrived.items; waiting = c.self.inside.waiting.items; open_conns = c.self.inside.open_conns.items } in
     let f : Waiting = c.in-Some.function in
     let found : find (λ w. w.turn == s.window.turned) s.waiting ≡ Some f = ap (λ n. find (λ w. w.turn == n) s.waiting) (sym c.turned-number.ensures) ∙ ap (find (λ w. w.turn == c.turned-number.result)) (sym c.deref.ensures.value) ∙ sym c.first_at.ensures ∙ c.in-Some.is in
-    absurd (false≢true (sym waits_not ∙ find-passes (λ w. w.turn == s.window.turned) (λ w. may_wait w.request) s.waiting f inv.22 found))
+    absurd (false≢true (sym waits_not ∙ find-passes (λ w. w.turn == s.window.turned) (λ w. may_wait w.request) s.waiting f inv.functions.may found))
 
 pub returns-clause-session : goal.returns-clause-session
 returns-clause-session c =
@@ -98,7 +68,7 @@ returns-clause-session c =
     let f : Waiting = c.in-Some.function in
     let found : find (λ w. w.turn == s.window.turned) s.waiting ≡ Some f = ap (λ n. find (λ w. w.turn == n) s.waiting) (sym c.turned-number.ensures) ∙ ap (find (λ w. w.turn == c.turned-number.result)) (sym c.deref.ensures.value) ∙ sym c.first_at.ensures ∙ c.in-Some.is in
     let waits : c.take_out.new.waiting.items ≡ filter (λ v. not (v.event == f.event)) s.waiting = c.take_out.ensures.items in
-    let number : to_z w64 c.turned-number.result ≡ next_position s = next_is s c.turned-number.result c.turned-number.ensures (omega (arith, inv.5, inv.7, inv.8)) in
+    let number : to_z w64 c.turned-number.result ≡ next_position s = next_is s c.turned-number.result c.turned-number.ensures (omega (arith, inv.window.turned, inv.taken, inv.events)) in
     c.perform.ensures.session ∙ function_is s f c.take_out.new.waiting.items _ found waits number ∙ ap (λ (u : Core). function_if u (next_waiting u)) c.self.view_is
 
 pub returns-clause-effects : goal.returns-clause-effects
@@ -108,7 +78,7 @@ returns-clause-effects c =
     let f : Waiting = c.in-Some.function in
     let found : find (λ w. w.turn == s.window.turned) s.waiting ≡ Some f = ap (λ n. find (λ w. w.turn == n) s.waiting) (sym c.turned-number.ensures) ∙ ap (find (λ w. w.turn == c.turned-number.result)) (sym c.deref.ensures.value) ∙ sym c.first_at.ensures ∙ c.in-Some.is in
     let waits : c.take_out.new.waiting.items ≡ filter (λ v. not (v.event == f.event)) s.waiting = c.take_out.ensures.items in
-    let number : to_z w64 c.turned-number.result ≡ next_position s = next_is s c.turned-number.result c.turned-number.ensures (omega (arith, inv.5, inv.7, inv.8)) in
+    let number : to_z w64 c.turned-number.result ≡ next_position s = next_is s c.turned-number.result c.turned-number.ensures (omega (arith, inv.window.turned, inv.taken, inv.events)) in
     c.perform.ensures.effects
     ∙ ap (λ (es : List Effect). es ++ performed_effects (let u : Core = record s { waiting = c.take_out.new.waiting.items; open_conns = c.self.inside.open_conns.items } in u) f.request (to_z w64 c.turned-number.result) f.event) c.push_reserved.ensures.items
     ∙ append_assoc c.args.out.now.items (Immediate f.request ∷ []) (performed_effects (let u : Core = record s { waiting = c.take_out.new.waiting.items; open_conns = c.self.inside.open_conns.items } in u) f.request (to_z w64 c.turned-number.result) f.event)
@@ -143,5 +113,5 @@ returns-clause-places c =
     let s : Core = record { window = c.self.inside.window; events = c.self.inside.events; conns = c.self.inside.conns.items; entered = c.self.inside.entered; taken = c.self.inside.taken; live = c.self.inside.live.items; sets = c.self.inside.sets.items; level = c.self.inside.level; arrived = c.self.inside.arrived.items; waiting = c.self.inside.waiting.items; open_conns = c.self.inside.open_conns.items } in
     let f : Waiting = c.in-Some.function in
     let found : find (λ w. w.turn == s.window.turned) s.waiting ≡ Some f = ap (λ n. find (λ w. w.turn == n) s.waiting) (sym c.turned-number.ensures) ∙ ap (find (λ w. w.turn == c.turned-number.result)) (sym c.deref.ensures.value) ∙ sym c.first_at.ensures ∙ c.in-Some.is in
-    let may : may_wait f.request ≡ true = find-passes (λ w. w.turn == s.window.turned) (λ w. may_wait w.request) s.waiting f inv.22 found in
+    let may : may_wait f.request ≡ true = find-passes (λ w. w.turn == s.window.turned) (λ w. may_wait w.request) s.waiting f inv.functions.may found in
     ap (λ (u : Core). u.window.places) c.perform.ensures.session ∙ waited_places _ f.request _ f.event may ∙ ap (λ (u : Core). u.window.places) c.self.view_is

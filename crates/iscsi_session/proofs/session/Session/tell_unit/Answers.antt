@@ -1,10 +1,11 @@
-use Rattle.std.proofs.Common.{◌≡◌, ◌∙◌, ◌<◌, ◌++◌, ℕ, List, length, count_by, take, drop, get_or, set, length-set, ap, sym, subst, arith}
+use Rattle.std.proofs.Common.{◌≡◌, ◌∙◌, ◌<◌, ◌++◌, ℕ, List, length, count_by, take, drop, get_or, set, length-set, ap, arith}
 use Rattle.iscsi_tasks.specs.Sets.{Members, opened, is_new}
-use Rattle.iscsi_session.specs.Standing.{Core, Match, are_within}
+use Rattle.iscsi_session.specs.Standing.{Core}
 use Rattle.iscsi_session.specs.Steps.{all_given}
 use Rattle.iscsi_session.specs.Functions.{ungiven_in, owed}
 use Rattle.iscsi_session.proofs.KeptLemmas.{written}
 use Rattle.iscsi_session.proofs.LeavingParts.{owed-given, Match-given}
+use Rattle.iscsi_session.proofs.SoundLemmas.{sets_sound}
 use Rattle.iscsi_session.proofs.session.Session.tell_unit.Goals as goal
 
 -- what a unit was told of
@@ -33,31 +34,5 @@ pub invariant_of-self : goal.invariant_of-self
 invariant_of-self c =
     let inv = c.self.invariant in
     let inside : c.args.unit < length c.self.inside.sets.items = omega (arith, c.requires.unit, ap (λ (x : Core). length x.sets) c.self.view_is) in
-    let t : Told c.args.unit c.self.inside.sets.len c.self.inside.sets.items c.deref_mut.result.now c.tell.new.sets = told c.args.unit c.self.inside.sets.len c.self.inside.sets.items c.deref_mut.result.now c.tell.new.sets c.self.inside.sets.ok.0 c.deref_mut.ensures.value c.tell.ensures.sets in (
-      inv.0,
-      inv.1,
-      inv.2,
-      inv.3,
-      inv.4,
-      inv.5,
-      inv.6,
-      inv.7,
-      inv.8,
-      inv.9,
-      inv.10,
-      subst (λ (ms : List Members). Match ms c.self.inside.live.items) (sym t.now) (Match-given c.self.inside.sets.items c.self.inside.live.items c.args.unit inv.11 inside),
-      inv.12,
-      ap (λ (ms : List Members). are_within c.self.inside.entered (length ms) c.self.inside.live.items) t.now ∙ ap (λ n. are_within c.self.inside.entered n c.self.inside.live.items) t.long ∙ inv.13,
-      inv.14,
-      inv.15,
-      inv.16,
-      inv.17,
-      inv.18,
-      inv.19,
-      inv.20,
-      inv.21,
-      inv.22,
-      inv.23,
-      inv.24,
-      omega (arith, inv.25, ap length t.now, t.long),
-    )
+    let t : Told c.args.unit c.self.inside.sets.len c.self.inside.sets.items c.deref_mut.result.now c.tell.new.sets = told c.args.unit c.self.inside.sets.len c.self.inside.sets.items c.deref_mut.result.now c.tell.new.sets c.self.inside.sets.ok.0 c.deref_mut.ensures.value c.tell.ensures.sets in
+    sets_sound inv t.now t.long (Match-given c.self.inside.sets.items c.self.inside.live.items c.args.unit inv.commands.in_sets inside)

@@ -1,5 +1,4 @@
 use Rattle.std.proofs.Common.{rules, ◌≡◌, ◌<◌, ◌≤◌, ◌+◌, ◌∙◌, ◌++◌, ◌∷◌, [], not, cond, false, List, Option, Some, None, drop, length, length-drop, subst, ap, sym, arith, is_some, count_by, ℕ}
-use Rattle.std.specs.List.{list_all}
 use Rattle.std.proofs.lemmas.List.{length_push}
 use Rattle.iscsi_wire.specs.declared.request.Request.{Request}
 use Rattle.iscsi_wire.specs.Fields.{connection_of, is_immediate}
@@ -7,12 +6,13 @@ use Rattle.iscsi_window.specs.Windows.{Received, at_place, advanced}
 use Rattle.iscsi_history.specs.declared.effect.Effect.{Effect}
 use Rattle.iscsi_history.specs.declared.effect.Effect.TheVariants.{Deliver}
 use Rattle.iscsi_history.specs.Settings.{is_known}
-use Rattle.iscsi_session.specs.Standing.{Core, is_held, is_place_known}
+use Rattle.iscsi_session.specs.Standing.{Core, is_held}
 use Rattle.iscsi_session.specs.Functions.{owed}
 use Rattle.iscsi_session.specs.Turning.{with_executed, executed_effects, with_advanced, turned_if, turn_effects}
 use Rattle.iscsi_history.proofs.BoolLemmas.{and_first, not_true}
 use Rattle.iscsi_session.proofs.WindowLemmas.{few_counted, Advanced, advanced_at}
 use Rattle.iscsi_session.proofs.ManageLemmas.{Placed, placed_executed, waiting_executed}
+use Rattle.iscsi_session.proofs.SoundLemmas.{window_sound, advanced_sound, arrivals_sound}
 use Rattle.iscsi_session.proofs.session.Session.turn_next.Goals as goal
 
 length-passed : (arrived : List ℕ) → 0 < length arrived → length (drop 1 arrived ++ 0 ∷ []) ≡ length arrived
@@ -25,90 +25,28 @@ advanced_core s w arrived is events = ap (λ (v : Received). let t : Core = reco
 pub invariant_of-self-in-Some-request : goal.invariant_of-self-in-Some-request
 invariant_of-self-in-Some-request c =
     let inv = c.self.invariant in
-    let a : Advanced c.self.inside.window c.in-Some.turned.request = advanced_at c.self.inside.window c.in-Some.turned (sym c.advance.ensures.answer ∙ c.in-Some.is) in
-    let is : c.advance.new.self ≡ advanced c.self.inside.window = c.advance.ensures.state in
+    let w : Received = c.self.inside.window in
+    let a : Advanced w c.in-Some.turned.request = advanced_at w c.in-Some.turned (sym c.advance.ensures.answer ∙ c.in-Some.is) in
+    let is : c.advance.new.self ≡ advanced w = c.advance.ensures.state in
     let request : c.in-Some.turned.request ≡ Some c.in-Some-request.request = search rules in
-    let unfinished : c.advance.new.self.unfinished ≡ c.self.inside.window.unfinished = ap (λ (w : Received). w.unfinished) is ∙ a.unfinished in
-    let turned : c.advance.new.self.turned ≡ c.self.inside.window.turned + 1 = ap (λ (w : Received). w.turned) is ∙ a.turned in
-    let long : length c.advance.new.self.places ≡ length c.self.inside.window.places = ap (λ (w : Received). length w.places) is ∙ a.long in
-    let counted : count_by is_some c.advance.new.self.places + 1 ≡ count_by is_some c.self.inside.window.places = ap (λ (w : Received). count_by is_some w.places + 1) is ∙ a.counted in
-    let held : count_by is_held c.advance.new.self.places + 1 ≡ count_by is_held c.self.inside.window.places =
-    ap (λ (w : Received). count_by is_held w.places + 1) is ∙ ap (λ (q : Option Request). count_by is_held (advanced c.self.inside.window).places + cond (is_held (Some q)) 1 0) (sym request) ∙ a.held in
-    let passed : length c.pass-event.new.arrived.items ≡ length c.self.inside.arrived.items = ap length c.pass-event.ensures.events ∙ length-passed c.self.inside.arrived.items (omega (arith, inv.18, counted, few_counted is_some c.self.inside.window.places)) in (
-      omega (arith, inv.0, unfinished),
-      omega (arith, inv.1, unfinished, long),
-      omega (arith, inv.2, long),
-      omega (arith, inv.3, long),
-      omega (arith, inv.4, held),
-      omega (arith, inv.5, turned, counted),
-      omega (arith, inv.6, counted),
-      inv.7,
-      inv.8,
-      inv.9,
-      ap (λ (w : Received). list_all (is_place_known c.self.inside.conns.items) w.places) is ∙ (a.known c.self.inside.conns.items inv.10).1,
-      inv.11,
-      inv.12,
-      inv.13,
-      inv.14,
-      omega (arith, inv.15, long),
-      inv.16,
-      inv.17,
-      omega (arith, inv.18, long, passed),
-      omega (arith, inv.19, long, c.pass-event.ensures.capacity),
-      inv.20,
-      inv.21,
-      inv.22,
-      inv.23,
-      inv.24,
-      inv.25,
-    )
+    let passed : length c.pass-event.new.arrived.items ≡ length c.self.inside.arrived.items = ap length c.pass-event.ensures.events ∙ length-passed c.self.inside.arrived.items (omega (arith, inv.arrivals, a.counted, few_counted is_some w.places)) in
+    arrivals_sound (window_sound inv (ap (λ (v : Received). v.unfinished) is ∙ a.unfinished) (ap (λ (v : Received). length v.places) is ∙ a.long) (advanced_sound inv.window a is (omega (arith, ap {B = ℕ} (λ (q : Option Request). cond (is_held (Some q)) 1 0) request, inv.window.held_is, a.held)))) passed (omega (arith, c.pass-event.ensures.capacity))
 
 pub invariant_of-self-in_default-request : goal.invariant_of-self-in_default-request
 invariant_of-self-in_default-request c =
     let inv = c.self.invariant in
-    let a : Advanced c.self.inside.window c.in-Some.turned.request = advanced_at c.self.inside.window c.in-Some.turned (sym c.advance.ensures.answer ∙ c.in-Some.is) in
-    let is : c.advance.new.self ≡ advanced c.self.inside.window = c.advance.ensures.state in
+    let w : Received = c.self.inside.window in
+    let a : Advanced w c.in-Some.turned.request = advanced_at w c.in-Some.turned (sym c.advance.ensures.answer ∙ c.in-Some.is) in
+    let is : c.advance.new.self ≡ advanced w = c.advance.ensures.state in
     let request : c.in-Some.turned.request ≡ None = search rules in
-    let unfinished : c.advance.new.self.unfinished ≡ c.self.inside.window.unfinished = ap (λ (w : Received). w.unfinished) is ∙ a.unfinished in
-    let turned : c.advance.new.self.turned ≡ c.self.inside.window.turned + 1 = ap (λ (w : Received). w.turned) is ∙ a.turned in
-    let long : length c.advance.new.self.places ≡ length c.self.inside.window.places = ap (λ (w : Received). length w.places) is ∙ a.long in
-    let counted : count_by is_some c.advance.new.self.places + 1 ≡ count_by is_some c.self.inside.window.places = ap (λ (w : Received). count_by is_some w.places + 1) is ∙ a.counted in
-    let held : count_by is_held c.advance.new.self.places + 0 ≡ count_by is_held c.self.inside.window.places =
-    ap (λ (w : Received). count_by is_held w.places + 0) is ∙ ap (λ (q : Option Request). count_by is_held (advanced c.self.inside.window).places + cond (is_held (Some q)) 1 0) (sym request) ∙ a.held in
-    let passed : length c.pass-event.new.arrived.items ≡ length c.self.inside.arrived.items = ap length c.pass-event.ensures.events ∙ length-passed c.self.inside.arrived.items (omega (arith, inv.18, counted, few_counted is_some c.self.inside.window.places)) in (
-      omega (arith, inv.0, unfinished),
-      omega (arith, inv.1, unfinished, long),
-      omega (arith, inv.2, long),
-      omega (arith, inv.3, long),
-      omega (arith, inv.4, held),
-      omega (arith, inv.5, turned, counted),
-      omega (arith, inv.6, counted),
-      inv.7,
-      inv.8,
-      inv.9,
-      ap (λ (w : Received). list_all (is_place_known c.self.inside.conns.items) w.places) is ∙ (a.known c.self.inside.conns.items inv.10).1,
-      inv.11,
-      inv.12,
-      inv.13,
-      inv.14,
-      omega (arith, inv.15, long),
-      inv.16,
-      inv.17,
-      omega (arith, inv.18, long, passed),
-      omega (arith, inv.19, long, c.pass-event.ensures.capacity),
-      inv.20,
-      inv.21,
-      inv.22,
-      inv.23,
-      inv.24,
-      inv.25,
-    )
+    let passed : length c.pass-event.new.arrived.items ≡ length c.self.inside.arrived.items = ap length c.pass-event.ensures.events ∙ length-passed c.self.inside.arrived.items (omega (arith, inv.arrivals, a.counted, few_counted is_some w.places)) in
+    arrivals_sound (window_sound inv (ap (λ (v : Received). v.unfinished) is ∙ a.unfinished) (ap (λ (v : Received). length v.places) is ∙ a.long) (advanced_sound inv.window a is (omega (arith, ap {B = ℕ} (λ (q : Option Request). cond (is_held (Some q)) 1 0) request, inv.window.held_is, a.held)))) passed (omega (arith, c.pass-event.ensures.capacity))
 
 pub deliver-requires-clause-numbered : goal.deliver-requires-clause-numbered
 deliver-requires-clause-numbered c =
     let request : c.in-Some.turned.request ≡ Some c.in-Some-request.request = search rules in
     let n : Advanced c.self.inside.window (Some c.in-Some-request.request) = subst (Advanced c.self.inside.window) request (advanced_at c.self.inside.window c.in-Some.turned (sym c.advance.ensures.answer ∙ c.in-Some.is)) in
-    let known = (n.known c.self.inside.conns.items c.self.invariant.10).0 in
+    let known = (n.known c.self.inside.conns.items c.self.invariant.window.known).0 in
     let numbered : is_immediate c.in-Some-request.request ≡ false = not_true (is_immediate c.in-Some-request.request) (and_first (not (is_immediate c.in-Some-request.request)) (is_known (connection_of c.in-Some-request.request) c.self.inside.conns.items) known) in
     numbered
 
@@ -117,7 +55,7 @@ deliver-requires-clause-counted c =
     let request : c.in-Some.turned.request ≡ Some c.in-Some-request.request = search rules in
     let n : Advanced c.self.inside.window (Some c.in-Some-request.request) = subst (Advanced c.self.inside.window) request (advanced_at c.self.inside.window c.in-Some.turned (sym c.advance.ensures.answer ∙ c.in-Some.is)) in
     let counted : count_by is_some c.advance.new.self.places + 1 ≡ count_by is_some c.self.inside.window.places = ap (λ (w : Received). count_by is_some w.places + 1) c.advance.ensures.state ∙ n.counted in
-    omega (arith, c.self.invariant.6, counted)
+    omega (arith, c.self.invariant.window.entered, counted)
 
 pub returns-in-Some-request-clause-session : goal.returns-in-Some-request-clause-session
 returns-in-Some-request-clause-session c =
@@ -161,7 +99,7 @@ pub returns-in-Some-request-clause-fewer : goal.returns-in-Some-request-clause-f
 returns-in-Some-request-clause-fewer c = λ said.
     let request : c.in-Some.turned.request ≡ Some c.in-Some-request.request = search rules in
     let n : Advanced c.self.inside.window (Some c.in-Some-request.request) = subst (Advanced c.self.inside.window) request (advanced_at c.self.inside.window c.in-Some.turned (sym c.advance.ensures.answer ∙ c.in-Some.is)) in
-    let known = (n.known c.self.inside.conns.items c.self.invariant.10).0 in
+    let known = (n.known c.self.inside.conns.items c.self.invariant.window.known).0 in
     let numbered : is_immediate c.in-Some-request.request ≡ false = not_true (is_immediate c.in-Some-request.request) (and_first (not (is_immediate c.in-Some-request.request)) (is_known (connection_of c.in-Some-request.request) c.self.inside.conns.items) known) in
     let s : Core = record { window = c.self.inside.window; events = c.self.inside.events; conns = c.self.inside.conns.items; entered = c.self.inside.entered; taken = c.self.inside.taken; live = c.self.inside.live.items; sets = c.self.inside.sets.items; level = c.self.inside.level; arrived = c.self.inside.arrived.items; waiting = c.self.inside.waiting.items; open_conns = c.self.inside.open_conns.items } in
     let t : Core = record s { window = c.advance.new.self; arrived = c.pass-event.new.arrived.items } in

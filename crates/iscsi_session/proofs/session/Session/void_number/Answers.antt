@@ -2,6 +2,7 @@ use Rattle.std.proofs.Common.{◌+◌, ◌<◌, ◌≤◌, cond, ap, sym, subst,
 use Rattle.iscsi_window.specs.Windows.{Received, place_in, IsInside, is_received_at}
 use Rattle.iscsi_session.specs.Standing.{Core, is_held}
 use Rattle.iscsi_session.proofs.WindowLemmas.{Changed, voided_changes}
+use Rattle.iscsi_session.proofs.SoundLemmas.{window_sound, changed_sound}
 use Rattle.iscsi_session.proofs.session.Session.void_number.Goals as goal
 
 -- one number more at the most
@@ -18,34 +19,8 @@ invariant_of-self c =
     let inside : IsInside (place_in w c.args.sn) = subst (λ (s : Core). IsInside (place_in s.window c.args.sn)) (sym c.self.view_is) c.requires.inside in
     let g : Changed w c.void.new.self 0 more = subst (λ (v : Received). Changed w v 0 more) (sym c.void.ensures.state) (voided_changes w c.args.sn inside) in
     let room : w.turned + count_by is_some w.places < c.self.inside.taken = subst (λ (s : Core). s.window.turned + count_by is_some s.window.places < s.taken) (sym c.self.view_is) c.requires.counted in
-    let entered : c.self.inside.entered + count_by is_some w.places < c.self.inside.taken = subst (λ (s : Core). s.entered + count_by is_some s.window.places < s.taken) (sym c.self.view_is) c.requires.entered in (
-      omega (arith, inv.0, g.unfinished),
-      omega (arith, inv.1, g.unfinished, g.long),
-      omega (arith, inv.2, g.long),
-      omega (arith, inv.3, g.long),
-      omega (arith, inv.4, g.held_is),
-      omega (arith, room, g.turned, g.counted, few),
-      omega (arith, entered, g.counted, few),
-      inv.7,
-      inv.8,
-      inv.9,
-      g.known c.self.inside.conns.items inv.10,
-      inv.11,
-      inv.12,
-      inv.13,
-      inv.14,
-      omega (arith, inv.15, g.long),
-      inv.16,
-      inv.17,
-      omega (arith, inv.18, g.long),
-      omega (arith, inv.19, g.long),
-      inv.20,
-      inv.21,
-      inv.22,
-      inv.23,
-      inv.24,
-      inv.25,
-    )
+    let entered : c.self.inside.entered + count_by is_some w.places < c.self.inside.taken = subst (λ (s : Core). s.entered + count_by is_some s.window.places < s.taken) (sym c.self.view_is) c.requires.entered in
+    window_sound inv g.unfinished g.long (changed_sound inv.window g (omega arith) (omega (arith, room, few)) (omega (arith, entered, few)))
 
 pub returns-clause-held : goal.returns-clause-held
 returns-clause-held c =

@@ -12,6 +12,7 @@ use Rattle.iscsi_history.specs.Management.{may_wait}
 use Rattle.iscsi_session.specs.Standing.{Core}
 use Rattle.iscsi_session.specs.Turning.{waiting_in, with_waiting}
 use Rattle.iscsi_session.proofs.ManageLemmas.{Waits, waits_more, Later, later, ahead_by}
+use Rattle.iscsi_session.proofs.SoundLemmas.{functions_sound}
 use Rattle.iscsi_session.proofs.session.Session.wait.Goals as goal
 
 abbrev waiting_of : Request → ℕ → ℕ → Waiting
@@ -24,8 +25,8 @@ push_reserved-requires-2 c =
     let r : Request = c.args.request in
     let l : Later s r = subst (λ (t : Core). Later t r) (sym c.self.view_is) (later c.args.self.now r c.requires.later) in
     let known : is_known (connection_of r) s.conns ≡ true = ap (λ (t : Core). is_known (connection_of r) t.conns) c.self.view_is ∙ c.requires.known in
-    let w : Waits s.conns s.waiting (waiting_of r 0 0) = waits_more s.conns s.waiting (waiting_of r 0 0) inv.23 inv.21 known l.few in
-    omega (arith, w.room, inv.24, c.self.inside.waiting.ok.0)
+    let w : Waits s.conns s.waiting (waiting_of r 0 0) = waits_more s.conns s.waiting (waiting_of r 0 0) inv.functions.few inv.functions.known known l.few in
+    omega (arith, w.room, inv.rooms.waiting, c.self.inside.waiting.ok.0)
 
 pub invariant_of-self : goal.invariant_of-self
 invariant_of-self c =
@@ -35,37 +36,16 @@ invariant_of-self c =
     let l : Later s r = subst (λ (t : Core). Later t r) (sym c.self.view_is) (later c.args.self.now r c.requires.later) in
     let known : is_known (connection_of r) s.conns ≡ true = ap (λ (t : Core). is_known (connection_of r) t.conns) c.self.view_is ∙ c.requires.known in
     let f : Waiting = waiting_of r (c.turned.result + c.from.result) (c.self.inside.taken - 1) in
-    let w : Waits s.conns s.waiting f = waits_more s.conns s.waiting f inv.23 inv.21 known l.few in
+    let w : Waits s.conns s.waiting f = waits_more s.conns s.waiting f inv.functions.few inv.functions.known known l.few in
     let items : c.push_reserved-2.new.self.items ≡ s.waiting ++ f ∷ [] = c.push_reserved-2.ensures.items in
     let some : 0 < c.self.inside.taken = omega (arith, c.requires.taken, ap (λ (t : Core). t.taken) c.self.view_is) in
-    let before : nat_lt (c.self.inside.taken - 1) c.self.inside.taken ≡ true = let lt : c.self.inside.taken - 1 < c.self.inside.taken = omega (arith, some) in grind (arith, nat_tests) in (
-      inv.0,
-      inv.1,
-      inv.2,
-      inv.3,
-      inv.4,
-      inv.5,
-      inv.6,
-      inv.7,
-      inv.8,
-      inv.9,
-      inv.10,
-      inv.11,
-      inv.12,
-      inv.13,
-      inv.14,
-      inv.15,
-      inv.16,
-      inv.17,
-      inv.18,
-      inv.19,
-      ap (list_all (λ (v : Waiting). nat_lt v.event s.taken)) items ∙ list_all-append (λ (v : Waiting). nat_lt v.event s.taken) s.waiting (f ∷ []) ∙ ap (λ b. b && (nat_lt f.event s.taken && true)) inv.20 ∙ ap (λ b. b && true) before,
-      ap (list_all (λ (v : Waiting). is_known (connection_of v.request) s.conns)) items ∙ w.known,
-      ap (list_all (λ (v : Waiting). may_wait v.request)) items ∙ list_all-append (λ (v : Waiting). may_wait v.request) s.waiting (f ∷ []) ∙ ap (λ b. b && (may_wait r && true)) inv.22 ∙ ap (λ b. b && true) l.may,
-      λ cid. omega (arith, w.few cid, ap (λ ws. waiting_in ws cid) items),
-      omega (arith, inv.24, c.push_reserved-2.ensures.capacity),
-      inv.25,
-    )
+    let before : nat_lt (c.self.inside.taken - 1) c.self.inside.taken ≡ true = let lt : c.self.inside.taken - 1 < c.self.inside.taken = omega (arith, some) in grind (arith, nat_tests) in
+    functions_sound inv (record {
+      before = ap (list_all (λ (v : Waiting). nat_lt v.event s.taken)) items ∙ list_all-append (λ (v : Waiting). nat_lt v.event s.taken) s.waiting (f ∷ []) ∙ ap (λ b. b && (nat_lt f.event s.taken && true)) inv.functions.before ∙ ap (λ b. b && true) before;
+      known = ap (list_all (λ (v : Waiting). is_known (connection_of v.request) s.conns)) items ∙ w.known;
+      may = ap (list_all (λ (v : Waiting). may_wait v.request)) items ∙ list_all-append (λ (v : Waiting). may_wait v.request) s.waiting (f ∷ []) ∙ ap (λ b. b && (may_wait r && true)) inv.functions.may ∙ ap (λ b. b && true) l.may;
+      few = λ cid. omega (arith, w.few cid, ap (λ ws. waiting_in ws cid) items);
+    }) (omega (arith, c.push_reserved-2.ensures.capacity))
 
 pub returns-clause-session : goal.returns-clause-session
 returns-clause-session c =

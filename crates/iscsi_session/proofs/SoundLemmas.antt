@@ -1,0 +1,251 @@
+-- What holds of every session holds on, where only some of its fields change.
+use Rattle.std.proofs.Common.{◌≡◌, ◌∙◌, ◌+◌, ◌<◌, ◌≤◌, ◌==◌, not, ap, sym, subst, arith, nat_lt, length, filter, count_by, is_some, Bool, true, List, Option, Some, ℕ, All, cond, ◌&&◌, ◌++◌, [], ◌∷◌}
+use Rattle.std.specs.List.{list_all}
+use Rattle.std.proofs.lemmas.Bool.Decides.{nat_tests}
+use Rattle.std.proofs.lemmas.List.Elements.{All-append, All-cons, All-filter}
+use Rattle.std.proofs.lemmas.List.Folds.{list_all-append}
+use Rattle.iscsi_wire.specs.Fields.{connection_of}
+use Rattle.iscsi_wire.specs.declared.request.Request.{Request}
+use Rattle.iscsi_window.specs.Windows.{Received, advanced}
+use Rattle.iscsi_tasks.specs.Sets.{Members}
+use Rattle.iscsi_session.specs.declared.session.live.Live.{Live}
+use Rattle.iscsi_session.specs.declared.session.waiting.Waiting.{Waiting}
+use Rattle.iscsi_history.specs.Settings.{is_known}
+use Rattle.iscsi_history.specs.Management.{may_wait}
+use Rattle.iscsi_session.specs.Standing.{is_held, is_place_known, Match, are_within}
+use Rattle.iscsi_session.specs.Steps.{AreCounted, is_numbered, count_reply, without_ticket}
+use Rattle.iscsi_session.specs.Invariant.{Inner, IsWindowSound, AreCommandsSound, AreFunctionsSound, HasRooms, IsSessionSound}
+use Rattle.iscsi_history.proofs.ListLemmas.{count_by-push, list_all-filter, fewer_counted}
+use Rattle.iscsi_session.proofs.ListLemmas.{are_known-left, are_known-replied, are_places_known-replied, are_waiting_known-replied}
+use Rattle.iscsi_history.proofs.TraceLemmas.{weaker}
+use Rattle.iscsi_session.proofs.WindowLemmas.{Changed, Advanced}
+use Rattle.iscsi_session.proofs.CountLemmas.{length-replied, AreCounted-replied}
+use Rattle.iscsi_session.proofs.KeptLemmas.{ascending-push, within-push, ascending-left, within-left}
+
+-- ---- the window
+
+-- it has become another, with as many places and as many commands in execution
+pub window_sound : {s : Inner} → IsSessionSound s → {w : Received} {held : ℕ} → w.unfinished ≡ s.window.unfinished → length w.places ≡ length s.window.places
+    → IsWindowSound w held s.entered s.taken s.conns → IsSessionSound (record s { window = w; held = held })
+window_sound {s} inv {w} {held} unfinished long sound = record {
+  window = sound;
+  commands = subst (λ n. AreCommandsSound n s.entered s.conns s.tickets s.immediate s.sets s.live) (sym unfinished) inv.commands;
+  functions = inv.functions;
+  rooms = subst (λ n. HasRooms n (length s.conns) s.live_room s.tag_room s.arrived_room s.waiting_room) (sym long) inv.rooms;
+  arrivals = inv.arrivals ∙ sym long;
+  taken = inv.taken;
+  events = inv.events;
+  conns = inv.conns;
+  units = inv.units;
+}
+
+-- it has stayed the same
+pub same_sound : {s : Inner} → IsSessionSound s → {w : Received} → w ≡ s.window → IsSessionSound (record s { window = w })
+same_sound {s} inv same = subst (λ (v : Received). IsSessionSound (record s { window = v })) (sym same) inv
+
+-- so many requests fewer are held, and so many numbers more received
+pub changed_sound : {old new : Received} {fewer more held now count taken : ℕ} {conns : List (ℕ × ℕ)} → IsWindowSound old held count taken conns → Changed old new fewer more → now + fewer ≡ held
+    → old.turned + count_by is_some old.places + more ≤ taken → count + count_by is_some old.places + more ≤ taken → IsWindowSound new now count taken conns
+changed_sound {old} {new} {fewer} {more} {held} {now} {count} {taken} {conns} w g is turned entered = record {
+  fits = omega (arith, w.fits, g.unfinished, g.long);
+  most = omega (arith, w.most, g.long);
+  held_is = omega (arith, w.held_is, g.held_is, is);
+  turned = omega (arith, turned, g.turned, g.counted);
+  entered = omega (arith, entered, g.counted);
+  known = g.known conns w.known;
+}
+
+-- its places have stayed the same, and a command may have entered or left
+pub places_sound : {old new : Received} {held count now taken : ℕ} {conns : List (ℕ × ℕ)} → IsWindowSound old held count taken conns → new.places ≡ old.places → new.turned ≡ old.turned
+    → new.unfinished ≤ length old.places → now + count_by is_some old.places ≤ taken → IsWindowSound new held now taken conns
+places_sound {old} {new} {held} {count} {now} {taken} {conns} w places turned fits entered = record {
+  fits = omega (arith, fits, ap length places);
+  most = omega (arith, w.most, ap length places);
+  held_is = w.held_is ∙ ap (count_by is_held) (sym places);
+  turned = omega (arith, w.turned, turned, ap (count_by is_some) places);
+  entered = omega (arith, entered, ap (count_by is_some) places);
+  known = ap (list_all (is_place_known conns)) places ∙ w.known;
+}
+
+-- the next number has turned: it isn't received any more, and its request is held no longer
+pub advanced_sound : {w new : Received} {q : Option Request} {held now count taken : ℕ} {conns : List (ℕ × ℕ)} → IsWindowSound w held count taken conns → Advanced w q → new ≡ advanced w → now + cond (is_held (Some q)) 1 0 ≡ held
+    → IsWindowSound new now count taken conns
+advanced_sound {w} {new} {q} {held} {now} {count} {taken} {conns} sound a is less = subst (λ (v : Received). IsWindowSound v now count taken conns) (sym is) (record {
+  fits = omega (arith, sound.fits, a.unfinished, a.long);
+  most = omega (arith, sound.most, a.long);
+  held_is = omega (arith, sound.held_is, a.held, less);
+  turned = omega (arith, sound.turned, a.turned, a.counted);
+  entered = omega (arith, sound.entered, a.counted);
+  known = (a.known conns sound.known).1;
+})
+
+-- the events of arrival have become others, as many
+pub arrivals_sound : {s : Inner} → IsSessionSound s → {arrived : List ℕ} {room : ℕ} → length arrived ≡ length s.arrived → s.arrived_room ≤ room → IsSessionSound (record s { arrived = arrived; arrived_room = room })
+arrivals_sound {s} inv {arrived} {room} long more = record {
+  window = inv.window;
+  commands = inv.commands;
+  functions = inv.functions;
+  rooms = record { live = inv.rooms.live; tags = inv.rooms.tags; arrived = omega (arith, inv.rooms.arrived, more); waiting = inv.rooms.waiting };
+  arrivals = long ∙ inv.arrivals;
+  taken = inv.taken;
+  events = inv.events;
+  conns = inv.conns;
+  units = inv.units;
+}
+
+-- ---- the commands
+
+-- a command has entered or left: the window counts it, and the room is no less
+pub commands_sound : {s : Inner} → IsSessionSound s → {w : Received} {count : ℕ} {live : List Live} {tickets : ℕ → Option ℕ} {immediate : List ℕ} {sets : List Members} {live_room tag_room : ℕ} → IsWindowSound w s.held count s.taken s.conns
+    → AreCommandsSound w.unfinished count s.conns tickets immediate sets live → w.places ≡ s.window.places → length sets ≡ length s.sets → s.live_room ≤ live_room → s.tag_room ≤ tag_room
+    → IsSessionSound (record s { window = w; entered = count; live = live; tickets = tickets; immediate = immediate; sets = sets; live_room = live_room; tag_room = tag_room })
+commands_sound {s} inv {w} {count} {live} {tickets} {immediate} {sets} {live_room} {tag_room} window commands places units more_live more_tags = record {
+  window = window;
+  commands = commands;
+  functions = inv.functions;
+  rooms = record {
+    live = omega (arith, inv.rooms.live, more_live, ap length places);
+    tags = omega (arith, inv.rooms.tags, more_tags, ap length places);
+    arrived = omega (arith, inv.rooms.arrived, ap length places);
+    waiting = inv.rooms.waiting;
+  };
+  arrivals = inv.arrivals ∙ ap length (sym places);
+  taken = inv.taken;
+  events = inv.events;
+  conns = inv.conns;
+  units = omega (arith, inv.units, units);
+}
+
+-- the sets have become others, of the same commands
+pub sets_sound : {s : Inner} → IsSessionSound s → {sets new : List Members} → sets ≡ new → length new ≡ length s.sets → Match new s.live → IsSessionSound (record s { sets = sets })
+sets_sound {s} inv {sets} {new} is long match =
+    let c = inv.commands in
+    let units : length sets ≡ length s.sets = ap length is ∙ long in record {
+      window = inv.window;
+      commands = record {
+        numbered = c.numbered;
+        known = c.known;
+        in_sets = subst (λ (ms : List Members). Match ms s.live) (sym is) match;
+        ascending = c.ascending;
+        within = ap (λ n. are_within s.entered n s.live) units ∙ c.within;
+        indexed = c.indexed;
+        counted = c.counted;
+      };
+      functions = inv.functions;
+      rooms = inv.rooms;
+      arrivals = inv.arrivals;
+      taken = inv.taken;
+      events = inv.events;
+      conns = inv.conns;
+      units = omega (arith, inv.units, units);
+    }
+
+-- one more, of the next ticket, has entered
+pub entered_sound : {unfinished now count : ℕ} {conns : List (ℕ × ℕ)} {tickets : ℕ → Option ℕ} {immediate counts : List ℕ} {sets new : List Members} {live entered : List Live} → AreCommandsSound unfinished count conns tickets immediate sets live
+    → (index : ℕ → Option ℕ) (l : Live) → entered ≡ live ++ l ∷ [] → l.ticket ≡ count + 1 → l.unit < length sets → is_known l.conn conns ≡ true → count_by is_numbered live + cond (not l.immediate) 1 0 ≤ now
+    → length new ≡ length sets → Match new (live ++ l ∷ []) → All (λ x. index x.itt ≡ Some x.ticket) live → index l.itt ≡ Some l.ticket → AreCounted counts conns (live ++ l ∷ []) → AreCommandsSound now (count + 1) conns index counts new entered
+entered_sound {unfinished} {now} {count} {conns} {tickets} {immediate} {counts} {sets} {new} {live} c index l is next inside known numbered long match others this counted =
+    subst (AreCommandsSound now (count + 1) conns index counts new) (sym is) (record {
+      numbered = omega (arith, numbered, count_by-push is_numbered live l);
+      known = list_all-append (λ (x : Live). is_known x.conn conns) live (l ∷ []) ∙ ap (λ b. b && (is_known l.conn conns && true)) c.known ∙ ap (λ b. b && true) known;
+      in_sets = match;
+      ascending = ascending-push count (length sets) live l c.ascending c.within (omega (arith, next));
+      within = ap (λ n. are_within (count + 1) n (live ++ l ∷ [])) long ∙ within-push count (length sets) live l c.within next inside;
+      indexed = All-append (λ (x : Live). index x.itt ≡ Some x.ticket) live (l ∷ []) others (All-cons (λ (x : Live). index x.itt ≡ Some x.ticket) l [] this (λ k d within. absurd (omega arith)));
+      counted = counted;
+    })
+
+-- those that are left once the command of a ticket has left
+pub left_sound : {unfinished now count : ℕ} {conns : List (ℕ × ℕ)} {tickets : ℕ → Option ℕ} {immediate counts : List ℕ} {sets new : List Members} {live left : List Live} → AreCommandsSound unfinished count conns tickets immediate sets live
+    → (k : ℕ) → left ≡ without_ticket k live → count_by is_numbered (without_ticket k live) ≤ now → length new ≡ length sets → Match new (without_ticket k live) → AreCounted counts conns (without_ticket k live)
+    → AreCommandsSound now count conns tickets counts new left
+left_sound {unfinished} {now} {count} {conns} {tickets} {immediate} {counts} {sets} {new} {live} c k is numbered long match counted =
+    subst (AreCommandsSound now count conns tickets counts new) (sym is) (record {
+      numbered = numbered;
+      known = are_known-left k live conns c.known;
+      in_sets = match;
+      ascending = ascending-left k live c.ascending;
+      within = ap (λ n. are_within count n (without_ticket k live)) long ∙ within-left k count (length sets) live c.within;
+      indexed = All-filter (λ (l : Live). not (l.ticket == k)) (λ (l : Live). tickets l.itt ≡ Some l.ticket) live c.indexed;
+      counted = counted;
+    })
+
+-- ---- the functions that wait
+
+-- they have become others
+pub functions_sound : {s : Inner} → IsSessionSound s → {waiting : List Waiting} {room : ℕ} → AreFunctionsSound s.taken s.conns waiting → s.waiting_room ≤ room → IsSessionSound (record s { waiting = waiting; waiting_room = room })
+functions_sound {s} inv {waiting} {room} sound more = record {
+  window = inv.window;
+  commands = inv.commands;
+  functions = sound;
+  rooms = record { live = inv.rooms.live; tags = inv.rooms.tags; arrived = inv.rooms.arrived; waiting = omega (arith, inv.rooms.waiting, more) };
+  arrivals = inv.arrivals;
+  taken = inv.taken;
+  events = inv.events;
+  conns = inv.conns;
+  units = inv.units;
+}
+
+-- some of them don't wait any longer
+pub fewer_sound : {s : Inner} → IsSessionSound s → (stays : Waiting → Bool) → {waiting : List Waiting} {room : ℕ} → waiting ≡ filter stays s.waiting → s.waiting_room ≤ room → IsSessionSound (record s { waiting = waiting; waiting_room = room })
+fewer_sound {s} inv stays rest more =
+    let f = inv.functions in
+    functions_sound inv (subst (AreFunctionsSound s.taken s.conns) (sym rest) (record {
+      before = list_all-filter stays (λ (w : Waiting). nat_lt w.event s.taken) s.waiting f.before;
+      known = list_all-filter stays (λ (w : Waiting). is_known (connection_of w.request) s.conns) s.waiting f.known;
+      may = list_all-filter stays (λ (w : Waiting). may_wait w.request) s.waiting f.may;
+      few = λ cid. omega (arith, f.few cid, fewer_counted (λ (w : Waiting). connection_of w.request == cid) stays s.waiting);
+    })) more
+
+-- ---- an event and a reply
+
+-- what arrived before did so before the next event too
+later_event : (event taken : ℕ) → nat_lt event taken ≡ true → nat_lt event (taken + 1) ≡ true
+later_event event taken before =
+    let lt : event < taken = grind (arith, nat_tests) in
+    grind (arith, nat_tests)
+
+-- one event more was taken
+pub taken_sound : {s : Inner} → IsSessionSound s → s.taken < s.events → IsSessionSound (record s { taken = s.taken + 1 })
+taken_sound {s} inv one =
+    let w = inv.window in
+    let f = inv.functions in
+    let before = weaker (λ (v : Waiting). nat_lt v.event s.taken) (λ v. nat_lt v.event (s.taken + 1)) s.waiting (λ v. later_event v.event s.taken) f.before in record {
+      window = record { fits = w.fits; most = w.most; held_is = w.held_is; turned = omega (arith, w.turned); entered = omega (arith, w.entered); known = w.known };
+      commands = inv.commands;
+      functions = record { before = before; known = f.known; may = f.may; few = f.few };
+      rooms = inv.rooms;
+      arrivals = inv.arrivals;
+      taken = omega (arith, one);
+      events = inv.events;
+      conns = inv.conns;
+      units = inv.units;
+    }
+
+-- a reply went out on a connection
+pub replied_sound : {s : Inner} → IsSessionSound s → (cid : ℕ) {conns : List (ℕ × ℕ)} → conns ≡ count_reply cid s.conns → IsSessionSound (record s { conns = conns })
+replied_sound {s} inv cid is =
+    let w = inv.window in
+    let c = inv.commands in
+    let f = inv.functions in
+    let r = inv.rooms in
+    let long : length (count_reply cid s.conns) ≡ length s.conns = length-replied cid s.conns in
+    subst (λ (cs : List (ℕ × ℕ)). IsSessionSound (record s { conns = cs })) (sym is) (record {
+      window = record { fits = w.fits; most = w.most; held_is = w.held_is; turned = w.turned; entered = w.entered; known = are_places_known-replied cid s.window.places s.conns w.known };
+      commands = record {
+        numbered = c.numbered;
+        known = are_known-replied cid s.live s.conns c.known;
+        in_sets = c.in_sets;
+        ascending = c.ascending;
+        within = c.within;
+        indexed = c.indexed;
+        counted = AreCounted-replied cid s.immediate s.conns s.live c.counted;
+      };
+      functions = record { before = f.before; known = are_waiting_known-replied cid s.waiting s.conns f.known; may = f.may; few = f.few };
+      rooms = record { live = omega (arith, r.live, long); tags = omega (arith, r.tags, long); arrived = r.arrived; waiting = omega (arith, r.waiting, long) };
+      arrivals = inv.arrivals;
+      taken = inv.taken;
+      events = inv.events;
+      conns = omega (arith, inv.conns, long);
+      units = inv.units;
+    })
