@@ -7,6 +7,7 @@ use Rattle.iscsi_wire.specs.declared.request.Request.{Request}
 use Rattle.iscsi_wire.specs.Serial.{wire, lift, number_of_first}
 use Rattle.iscsi_wire.specs.Fields.{cmd_sn}
 use Rattle.iscsi_window.specs.declared.answer.Place.TheVariants.{Inside, Outside}
+use Rattle.iscsi_window.specs.declared.answer.Offer.{Offer}
 use Rattle.iscsi_window.specs.declared.answer.Offer.TheVariants.{Held, Outside as OutsideWindow, Duplicate}
 use Rattle.iscsi_window.specs.declared.answer.Turned.{Turned as Turn}
 use Rattle.iscsi_window.specs.Received.{Received, number_expected, room_of, at_place, IsSound}
@@ -52,8 +53,8 @@ received_here s w k h st x = ap is_some (place_shows s h k st) ∙ is_some-place
 
 -- ---- requests that come
 
-pub StandsFor-offered : (s : Received) (r : Request) (h : List Change) → StandsFor s h → StandsFor (offered_to s r) (after_offer (offer_to s r) (number_of s.first h (cmd_sn r)) r h)
-StandsFor-offered s r h st =
+offered_stands : (s : Received) (r : Request) (h : List Change) → StandsFor s h → StandsFor (offered_to s r) (after_offer (offer_to s r) (number_of s.first h (cmd_sn r)) r h)
+offered_stands s r h st =
     subst (λ e. StandsFor (offered_to s r) (after_offer (offer_to s r) (lift e (cmd_sn r)) r h)) (expected_is s h st)
     (⊎_elim inside (λ x. subst (λ p. StandsFor (received_at s p (Some r)) (after_offer (offer_at s p) n r h)) (sym x.no_place) st) (stands_or_strays s (cmd_sn r)))
   where
@@ -69,6 +70,11 @@ StandsFor-offered s r h st =
         let k : ℕ = n - number_expected s in
         subst (λ p. StandsFor (received_at s p (Some r)) (after_offer (offer_at s p) n r h)) (sym x.place)
         (subst (λ b. StandsFor (cond b s (with_place s k (Some (Some r)))) (after_offer (cond b Duplicate Held) n r h)) (sym (received_here s (cmd_sn r) k h st x)) (by_received k x (is_received h n) refl))
+
+pub StandsFor-offer : (s : Received) (r : Request) (answer : Offer) (now : Received) (h : List Change) → StandsFor s h → answer ≡ offer_to s r → now ≡ offered_to s r → StandsFor now (after_offer answer (number_of s.first h (cmd_sn r)) r h)
+StandsFor-offer s r answer now h st told state =
+    subst (λ x. StandsFor x (after_offer answer (number_of s.first h (cmd_sn r)) r h)) (sym state)
+    (subst (λ o. StandsFor (offered_to s r) (after_offer o (number_of s.first h (cmd_sn r)) r h)) (sym told) (offered_stands s r h st))
 
 pub offered_since : (s : Received) (r : Request) (h : List Change) → IsSound s → StandsFor s h → offer_to s r ≡ offer_since s.first (length s.places) h (number_of s.first h (cmd_sn r))
 offered_since s r h sound st =
@@ -155,8 +161,8 @@ held_here s w h st = ⊎_elim
 pub emptied_since : (s : Received) (w : ℕ) (h : List Change) → StandsFor s h → held_at s (place_in s w) ≡ held h (number_of s.first h w)
 emptied_since s w h st = held_here s w h st ∙ ap (λ e. held h (lift e w)) (expected_is s h st)
 
-pub StandsFor-empty : (s : Received) (w : ℕ) (h : List Change) → StandsFor s h → StandsFor (emptied s w) (after_taking (held_at s (place_in s w)) (number_of s.first h w) h)
-StandsFor-empty s w h st =
+emptied_stands : (s : Received) (w : ℕ) (h : List Change) → StandsFor s h → StandsFor (emptied s w) (after_taking (held_at s (place_in s w)) (number_of s.first h w) h)
+emptied_stands s w h st =
     subst (λ e. StandsFor (emptied s w) (after_taking (held_at s (place_in s w)) (lift e w) h)) (expected_is s h st)
     (⊎_elim inside (λ x. subst (λ p. StandsFor (emptied_if s p (held_at s p)) (after_taking (held_at s p) n h)) (sym x.no_place) st) (stands_or_strays s w))
   where
@@ -171,6 +177,11 @@ StandsFor-empty s w h st =
     inside x =
         subst (λ y. StandsFor (emptied_if s (place_in s w) y) (after_taking y n h)) (sym (held_here s w h st))
         (subst (λ p. StandsFor (emptied_if s p (held h n)) (after_taking (held h n) n h)) (sym x.place) (by_held (n - number_expected s) x (held h n) refl))
+
+pub StandsFor-empty : (s : Received) (w : ℕ) (answer : Option Request) (now : Received) (h : List Change) → StandsFor s h → answer ≡ held_at s (place_in s w) → now ≡ emptied s w → StandsFor now (after_taking answer (number_of s.first h w) h)
+StandsFor-empty s w answer now h st told state =
+    subst (λ x. StandsFor x (after_taking answer (number_of s.first h w) h)) (sym state)
+    (subst (λ x. StandsFor (emptied s w) (after_taking x (number_of s.first h w) h)) (sym told) (emptied_stands s w h st))
 
 -- ---- the request of one place
 
@@ -200,8 +211,8 @@ taken_since s k conn h st =
     by_test true = refl
     by_test false = refl
 
-pub StandsFor-taken : (s : Received) (k : ℕ) (conn : Option ℕ) (h : List Change) → StandsFor s h → StandsFor (taken_at s k conn) (after_emptying (held_number h conn (expected s.first h + k)) h)
-StandsFor-taken s k conn h st =
+taken_stands : (s : Received) (k : ℕ) (conn : Option ℕ) (h : List Change) → StandsFor s h → StandsFor (taken_at s k conn) (after_emptying (held_number h conn (expected s.first h + k)) h)
+taken_stands s k conn h st =
     subst (λ e. StandsFor (taken_at s k conn) (after_emptying (held_number h conn (e + k)) h)) (expected_is s h st)
     (subst (λ b. StandsFor (cond b (with_place s k (Some None)) s) (after_emptying (held_number h conn n) h)) (sym (held_from_here s k conn h st)) (by_test (is_held_at h conn n) refl))
   where
@@ -213,6 +224,9 @@ StandsFor-taken s k conn h st =
         let there : is_received h n ≡ true = received_of_test (is_held_from conn) h n refl is in
         StandsFor-emptied s k h st (within_room s k h st there) there
     by_test false is = st
+
+pub StandsFor-take : (s : Received) (k : ℕ) (conn : Option ℕ) (now : Received) (h : List Change) → StandsFor s h → now ≡ taken_at s k conn → StandsFor now (after_emptying (held_number h conn (expected s.first h + k)) h)
+StandsFor-take s k conn now h st state = subst (λ x. StandsFor x (after_emptying (held_number h conn (expected s.first h + k)) h)) (sym state) (taken_stands s k conn h st)
 
 -- ---- the expected number turns
 
@@ -238,9 +252,9 @@ pub turned_since : (s : Received) (h : List Change) → StandsFor s h → turned
 unfolding turn_at
 turned_since s h st = turned_here s h st ∙ ap (λ e. turn_at e h) (expected_is s h st)
 
-pub StandsFor-advanced : (s : Received) (h : List Change) → StandsFor s h → StandsFor (advanced s) (after_turning (turned_by s) (expected s.first h) h)
+advanced_stands : (s : Received) (h : List Change) → StandsFor s h → StandsFor (advanced s) (after_turning (turned_by s) (expected s.first h) h)
 unfolding turn_at
-StandsFor-advanced s h st =
+advanced_stands s h st =
     subst (λ n. StandsFor (advanced s) (after_turning (turned_by s) n h)) (expected_is s h st)
     (subst (λ t. StandsFor (advanced s) (after_turning t e h)) (sym (turned_here s h st))
     (subst (λ p. StandsFor (advanced_if s p) (after_turning (turn_at e h) e h)) (sym (first_shows s h st)) (by_received (is_received h e) refl)))
@@ -253,6 +267,11 @@ StandsFor-advanced s h st =
         let first : 0 < room_of s = within_room s 0 h st (ap (is_received h) (let z : e + 0 ≡ e = omega arith in z) ∙ is) in
         StandsFor-turned s h st (omega arith) is
     by_received false is = st
+
+pub StandsFor-advance : (s : Received) (answer : Option Turn) (now : Received) (h : List Change) → StandsFor s h → answer ≡ turned_by s → now ≡ advanced s → StandsFor now (after_turning answer (expected s.first h) h)
+StandsFor-advance s answer now h st told state =
+    subst (λ x. StandsFor x (after_turning answer (expected s.first h) h)) (sym state)
+    (subst (λ t. StandsFor (advanced s) (after_turning t (expected s.first h) h)) (sym told) (advanced_stands s h st))
 
 -- ---- the law
 
