@@ -35,6 +35,9 @@ type Places = HeapCircularBuffer<Received>;
 /// A window of W places admits the numbers from the expected one, ExpCmdSN, to the last one, MaxCmdSN,
 /// which is W - 1 above it less one for each command that is being executed (RFC 7143 section 4.2.2.1).
 /// Numbers on the wire wrap at 2^32; each stands for the number nearest to the expected one that it shows.
+///
+/// The clauses `stands` follow a window over every history of calls: what was admitted, voided, emptied and
+/// turned, in numbers that don't wrap. The law of `size` says what that means.
 #[derive(Drop)]
 pub struct Window {
     first: u32,
