@@ -1,2 +1,5 @@
+pub mod HistoryLemmas
+pub mod LowestLemmas
 pub mod PlaceLemmas
+pub mod SinceLemmas
 pub mod SoundLemmas

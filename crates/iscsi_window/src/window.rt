@@ -1,10 +1,12 @@
 //! The window: a ring of places, one for each number from the expected one on.
 
-ghost use Rattle.std.specs.Prelude.{Err, ◌≡◌, ℕ, ◌+◌, ◌-◌, ◌^◌, ◌<◌, ◌≤◌, ◌⊎◌, ◌↔◌, ◌==◌, length, replicate, slice_set, slice_index_or, Option, Some, None, IsSome, OnSome, IfOk, not, position, take, option_map, if◌then◌else◌};
+ghost use Rattle.std.specs.Prelude.{Err, ◌≡◌, ℕ, List, [], ◌∷◌, ◌+◌, ◌-◌, ◌^◌, ◌<◌, ◌≤◌, ◌⊎◌, ◌↔◌, ◌==◌, length, replicate, slice_set, slice_index_or, Option, Some, None, IsSome, OnSome, IfOk, not, position, take, option_map, if◌then◌else◌};
 ghost use Rattle.circular_buffer.specs.Buffer.{buffer};
+ghost use Rattle.iscsi_wire.specs.Fields.{cmd_sn};
 ghost use Rattle.iscsi_wire.specs.Serial.{wire, lift};
 ghost use Rattle.iscsi_window.specs.Received.{number_expected, at_place, IsSound, HasRoom};
 ghost use Rattle.iscsi_window.specs.Windows.{opened, number_last, place_in, IsInside, held_at, offer_to, offered_to, is_received_at, voided, is_command, is_asked, is_held_from, number_shown, find_command, emptied, first_from, dropped_at, taken_at, turned_by, advanced, with_unfinished};
+ghost use Rattle.iscsi_window.specs.History.{Change, Started, Finished, is_received, held, expected, number_of, StandsFor, Law, after_offer, after_voiding, after_taking, after_emptying, after_turning, offer_since, turn_since, is_command_below, is_held_at, held_number, ShowsLowest, TookLowest};
 
 use crate::answer::{Offer, Place, Turned};
 use crate::fault::WindowFault;
@@ -33,6 +35,9 @@ type Places = HeapCircularBuffer<Received>;
 /// A window of W places admits the numbers from the expected one, ExpCmdSN, to the last one, MaxCmdSN,
 /// which is W - 1 above it less one for each command that is being executed (RFC 7143 section 4.2.2.1).
 /// Numbers on the wire wrap at 2^32; each stands for the number nearest to the expected one that it shows.
+///
+/// The clauses `stands` follow a window over every history of calls: what was admitted, voided, emptied and
+/// turned, in numbers that don't wrap. The law of `size` says what that means.
 #[derive(Drop)]
 pub struct Window {
     first: u32,
@@ -60,6 +65,7 @@ impl Window {
     pub fn open(alloc: Global, first: u32, size: u32) -> Result<Window, WindowFault>
         ensures ok { IfOk result (λ w. w ≡ opened first size) }
         ensures bad_size { (result ≡ Err WindowFault.BadSize) ↔ ((size < 1) ⊎ (1024 < size)) }
+        ensures stands { IfOk result (λ w. StandsFor w []) }
     {
         if size < 1 || size > MOST_PLACES {
             return Err(WindowFault::BadSize);
@@ -78,6 +84,7 @@ impl Window {
     pub fn size(&self) -> u32
         ensures size { result ≡ length self.now.places }
         ensures sound { IsSound self.now }
+        ensures law { (h : List Change) → StandsFor self.now h → Law self.now h }
     {
         self.size
     }
@@ -131,6 +138,8 @@ impl Window {
     pub fn offer(&mut self, request: &Request) -> Offer
         ensures answer { result ≡ offer_to self.old request.now }
         ensures state { self.new ≡ offered_to self.old request.now }
+        ensures answer_since { (h : List Change) → StandsFor self.old h → result ≡ offer_since self.old.first (length self.old.places) h (number_of self.old.first h (cmd_sn request.now)) }
+        ensures stands { (h : List Change) → StandsFor self.old h → StandsFor self.new (after_offer result (number_of self.old.first h (cmd_sn request.now)) request.now h) }
     {
         let Place::Inside(k) = self.place(request.cmd_sn()) else {
             return Offer::Outside;
@@ -148,6 +157,8 @@ impl Window {
         requires { IsInside (place_in self.old w) }
         ensures answer { result ≡ not (is_received_at self.old (place_in self.old w)) }
         ensures state { self.new ≡ voided self.old w }
+        ensures answer_since { (h : List Change) → StandsFor self.old h → result ≡ not (is_received h (number_of self.old.first h w)) }
+        ensures stands { (h : List Change) → StandsFor self.old h → StandsFor self.new (after_voiding result (number_of self.old.first h w) h) }
     {
         let Place::Inside(k) = self.place(w) else {
             unreachable!();
@@ -162,7 +173,8 @@ impl Window {
     /// The lowest number, below the one that the wire shows as `below`, for which a SCSI Command with this
     /// tag and to this unit is held.
     pub fn find_held(&self, itt: u32, unit: u16, below: u32) -> Option<u32>
-        ensures { result ≡ option_map (number_shown self.now) (find_command self.now itt unit below) }
+        ensures answer { result ≡ option_map (number_shown self.now) (find_command self.now itt unit below) }
+        ensures answer_since { (h : List Change) → StandsFor self.now h → ShowsLowest (is_command_below h itt unit (number_of self.now.first h below)) result }
     {
         let exp = self.exp();
         let ahead = ahead_of(exp, below);
@@ -175,6 +187,8 @@ impl Window {
     pub fn empty(&mut self, w: u32) -> Option<Request>
         ensures answer { result ≡ held_at self.old (place_in self.old w) }
         ensures state { self.new ≡ emptied self.old w }
+        ensures answer_since { (h : List Change) → StandsFor self.old h → result ≡ held h (number_of self.old.first h w) }
+        ensures stands { (h : List Change) → StandsFor self.old h → StandsFor self.new (after_taking result (number_of self.old.first h w) h) }
     {
         let Place::Inside(k) = self.place(w) else {
             return None;
@@ -189,6 +203,7 @@ impl Window {
     pub fn drop_first(&mut self, conn: Option<u16>) -> Option<u32>
         ensures answer { result ≡ option_map (number_shown self.old) (first_from self.old conn) }
         ensures state { self.new ≡ dropped_at self.old (first_from self.old conn) }
+        ensures stands { (h : List Change) → StandsFor self.old h → TookLowest (is_held_at h conn) result self.new h }
     {
         let k = first_held(&self.places, conn)?;
         let sn = self.exp().wrapping_add(k);
@@ -201,6 +216,8 @@ impl Window {
     pub fn drop_at(&mut self, ahead: u32, conn: Option<u16>) -> Option<u32>
         ensures answer { result ≡ (if is_held_from conn (at_place self.old ahead) then Some (number_shown self.old ahead) else None) }
         ensures state { self.new ≡ taken_at self.old ahead conn }
+        ensures answer_since { (h : List Change) → StandsFor self.old h → result ≡ option_map wire (held_number h conn (expected self.old.first h + ahead)) }
+        ensures stands { (h : List Change) → StandsFor self.old h → StandsFor self.new (after_emptying (held_number h conn (expected self.old.first h + ahead)) h) }
     {
         if !holds_from(&at(&self.places, ahead), conn) {
             return None;
@@ -217,6 +234,8 @@ impl Window {
         ensures answer { result ≡ turned_by self.old }
         ensures state { self.new ≡ advanced self.old }
         ensures room { OnSome result (HasRoom self.new) }
+        ensures answer_since { (h : List Change) → StandsFor self.old h → result ≡ turn_since self.old.first h }
+        ensures stands { (h : List Change) → StandsFor self.old h → StandsFor self.new (after_turning result (expected self.old.first h) h) }
     {
         let sn = self.exp();
         let request = at(&self.places, 0)?;
@@ -229,7 +248,8 @@ impl Window {
     /// Counts a command as being executed: the last admitted number isn't admitted any more.
     pub fn start_one(&mut self)
         requires { HasRoom self.old }
-        ensures { self.new ≡ with_unfinished self.old (self.old.unfinished + 1) }
+        ensures state { self.new ≡ with_unfinished self.old (self.old.unfinished + 1) }
+        ensures stands { (h : List Change) → StandsFor self.old h → StandsFor self.new (Started ∷ h) }
     {
         self.unfinished += 1;
     }
@@ -237,7 +257,8 @@ impl Window {
     /// Takes a command back from the count: one number more is admitted.
     pub fn finish_one(&mut self)
         requires { 0 < self.old.unfinished }
-        ensures { self.new ≡ with_unfinished self.old (self.old.unfinished - 1) }
+        ensures state { self.new ≡ with_unfinished self.old (self.old.unfinished - 1) }
+        ensures stands { (h : List Change) → StandsFor self.old h → StandsFor self.new (Finished ∷ h) }
     {
         self.unfinished -= 1;
     }

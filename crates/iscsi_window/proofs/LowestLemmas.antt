@@ -1,0 +1,113 @@
+-- The first place that passes has the lowest number that fits.
+use Rattle.std.proofs.Common.{◌≡◌, ℕ, ◌+◌, ◌-◌, ◌<◌, ◌≤◌, ◌&&◌, ⊎_elim, cond, Bool, true, false, List, length, take, get_or, position, Option, Some, None, option_map, nat_lt, refl, ap, sym, subst, ◌∙◌, arith}
+use Rattle.std.specs.List.{position_or_len}
+use Rattle.std.proofs.lemmas.Bool.{cases_lt}
+use Rattle.std.proofs.lemmas.Bool.Decides.{nat_tests}
+use Rattle.std.proofs.lemmas.List.{get_or_past, get_or-take, length-take}
+use Rattle.std.proofs.lemmas.List.Quantifiers.{position-Some}
+use Rattle.std.proofs.lemmas.List.Sums.{fails_before_first}
+use Rattle.iscsi_wire.specs.declared.request.Request.{Request}
+use Rattle.iscsi_wire.specs.Serial.{wire, lift}
+use Rattle.iscsi_window.specs.Received.{Received, number_expected, at_place}
+use Rattle.iscsi_window.specs.Windows.{is_command, is_held_from, number_shown, find_command, first_from, dropped_at}
+use Rattle.iscsi_window.specs.History.{Change, is_received, held, StandsFor, number_of, after_emptying, is_command_below, is_held_at, IsLowest, ShowsLowest, TookLowest}
+use Rattle.iscsi_window.proofs.HistoryLemmas.{unheld_below, place_shows, StandsFor-emptied}
+use Rattle.iscsi_window.proofs.SinceLemmas.{expected_is, test_held, received_of_test, within_room}
+
+-- no place passes
+none_passes : {A : Type 0} (f : Option A → Bool) (xs : List (Option A)) (k : ℕ) → f None ≡ false → position f xs ≡ None → f (get_or xs k None) ≡ false
+none_passes f xs k missing none = ⊎_elim
+    (λ within. elim (nat_lt (position_or_len f xs) (length xs)) as (λ b. nat_lt (position_or_len f xs) (length xs) ≡ b → cond b (Some (position_or_len f xs)) None ≡ None → f (get_or xs k None) ≡ false) [
+      | true ↦ λ is said. absurd cc
+      | false ↦ λ is said. let later : k < position_or_len f xs = grind (arith, nat_tests) in fails_before_first f xs k None later
+    ] refl none)
+    (λ past. ap f (get_or_past xs k None past) ∙ missing)
+    (cases_lt k (length xs))
+
+lowest_at : (f : Option (Option Request) → Bool) (xs : List (Option (Option Request))) (e : ℕ) (fits : ℕ → Bool) → f None ≡ false
+    → ((k : ℕ) → f (get_or xs k None) ≡ fits (e + k)) → ((n : ℕ) → n < e → fits n ≡ false) → IsLowest fits (option_map (λ k. e + k) (position f xs))
+lowest_at f xs e fits missing same below = by_place (position f xs) refl
+  where
+    at : (n : ℕ) → e ≤ n → fits n ≡ f (get_or xs (n - e) None)
+    at n ge = sym (same (n - e) ∙ ap fits (let z : e + (n - e) ≡ n = omega (arith, ge) in z))
+
+    by_place : (x : Option ℕ) → position f xs ≡ x → IsLowest fits (option_map (λ k. e + k) x)
+    by_place None is = λ n. ⊎_elim (λ lt. below n lt) (λ ge. at n ge ∙ none_passes f xs (n - e) missing is) (cases_lt n e)
+    by_place (Some k) is =
+        let first = position-Some f xs k None is in
+        (sym (same k) ∙ first.1, λ n lower. ⊎_elim (λ lt. below n lt) (λ ge. at n ge ∙ first.2 (n - e) (omega (arith, lower, ge))) (cases_lt n e))
+
+shown_by : (s : Received) (x : Option ℕ) → option_map (number_shown s) x ≡ option_map wire (option_map (λ k. number_expected s + k) x)
+shown_by s None = refl
+shown_by s (Some k) = refl
+
+-- ---- a SCSI Command with a tag
+
+read_front : {A : Type 0} (xs : List (Option A)) (m k : ℕ) → get_or (take m xs) k None ≡ cond (nat_lt k m) (get_or xs k None) None
+read_front xs m k = ⊎_elim
+    (λ lt. let test : nat_lt k m ≡ true = grind (arith, nat_tests) in get_or-take m xs k None lt ∙ ap (λ b. cond b (get_or xs k None) None) (sym test))
+    (λ ge. let far : m ≤ k = ge in let test : nat_lt k m ≡ false = grind (arith, nat_tests) in get_or_past (take m xs) k None (simp length-take (omega (arith, far))) ∙ ap (λ b. cond b (get_or xs k None) None) (sym test))
+    (cases_lt k m)
+
+pub find_since : (s : Received) (tag unit w : ℕ) (h : List Change) → StandsFor s h → ShowsLowest (is_command_below h tag unit (number_of s.first h w)) (option_map (number_shown s) (find_command s tag unit w))
+find_since s tag unit w h st = record {
+  number = option_map (λ k. e + k) (find_command s tag unit w);
+  lowest = subst (λ x. IsLowest (is_command_below h tag unit (lift x w)) (option_map (λ k. e + k) (find_command s tag unit w))) (expected_is s h st)
+      (lowest_at f (take (below - e) s.places) e (is_command_below h tag unit below) refl same none);
+  shown = shown_by s (find_command s tag unit w);
+}
+  where
+    e : ℕ
+    e = number_expected s
+
+    below : ℕ
+    below = lift e w
+
+    f : Option (Option Request) → Bool
+    f = is_command tag unit
+
+    none : (n : ℕ) → n < e → is_command_below h tag unit below n ≡ false
+    none n lt = ap (λ x. nat_lt n below && is_command tag unit (let y : Option (Option Request) = Some x in y)) (unheld_below s h n st lt) ∙ (let z : (nat_lt n below && false) ≡ false = elim (nat_lt n below) as (λ b. (b && false) ≡ false) [ true ↦ refl | false ↦ refl ] in z)
+
+    here : (k : ℕ) → f (at_place s k) ≡ f (Some (held h (e + k)))
+    here k = ap f (place_shows s h k st) ∙ test_held f h (e + k) refl refl
+
+    same : (k : ℕ) → f (get_or (take (below - e) s.places) k None) ≡ is_command_below h tag unit below (e + k)
+    same k =
+        ap f (read_front s.places (below - e) k)
+        ∙ elim (nat_lt k (below - e)) as (λ b. f (cond b (at_place s k) None) ≡ (b && f (at_place s k))) [ true ↦ refl | false ↦ refl ]
+        ∙ ap (λ b. b && f (at_place s k)) (let z : nat_lt k (below - e) ≡ nat_lt (e + k) below = grind (arith, nat_tests) in z)
+        ∙ ap (λ b. nat_lt (e + k) below && b) (here k)
+
+-- ---- a request of a connection
+
+drop_since : (s : Received) (conn : Option ℕ) (h : List Change) → StandsFor s h → TookLowest (is_held_at h conn) (option_map (number_shown s) (first_from s conn)) (dropped_at s (first_from s conn)) h
+drop_since s conn h st = record {
+  shows = record {
+    number = option_map (λ k. e + k) (first_from s conn);
+    lowest = lowest_at f s.places e (is_held_at h conn) refl here (λ n lt. ap (λ x. is_held_from conn (let y : Option (Option Request) = Some x in y)) (unheld_below s h n st lt));
+    shown = shown_by s (first_from s conn);
+  };
+  stands = by_place (first_from s conn) refl;
+}
+  where
+    e : ℕ
+    e = number_expected s
+
+    f : Option (Option Request) → Bool
+    f = is_held_from conn
+
+    here : (k : ℕ) → f (at_place s k) ≡ is_held_at h conn (e + k)
+    here k = ap f (place_shows s h k st) ∙ test_held f h (e + k) refl refl
+
+    by_place : (x : Option ℕ) → first_from s conn ≡ x → StandsFor (dropped_at s x) (after_emptying (option_map (λ k. e + k) x) h)
+    by_place None is = st
+    by_place (Some k) is =
+        let passes : is_held_at h conn (e + k) ≡ true = sym (here k) ∙ (position-Some f s.places k None is).1 in
+        let there : is_received h (e + k) ≡ true = received_of_test f h (e + k) refl passes in
+        StandsFor-emptied s k h st (within_room s k h st there) there
+
+pub TookLowest-drop : (s : Received) (conn answer : Option ℕ) (now : Received) (h : List Change) → StandsFor s h → answer ≡ option_map (number_shown s) (first_from s conn) → now ≡ dropped_at s (first_from s conn) → TookLowest (is_held_at h conn) answer now h
+TookLowest-drop s conn answer now h st told state =
+    subst (λ x. TookLowest (is_held_at h conn) answer x h) (sym state)
+    (subst (λ x. TookLowest (is_held_at h conn) x (dropped_at s (first_from s conn)) h) (sym told) (drop_since s conn h st))

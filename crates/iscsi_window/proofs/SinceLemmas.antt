@@ -1,0 +1,305 @@
+-- What each call answers and becomes, by the history.
+use Rattle.std.proofs.Common.{◌≡◌, ◌⊎◌, inl, inr, ℕ, ◌+◌, ◌-◌, ◌<◌, ◌≤◌, ◌&&◌, not, ⊎_elim, cond, Bool, true, false, List, ◌∷◌, length, Option, Some, None, is_some, option_map, nat_lt, nat_le, refl, ap, sym, subst, ◌∙◌, arith}
+use Rattle.std.specs.Option.{option_flatten}
+use Rattle.std.proofs.lemmas.Bool.{cases_lt, false≢true}
+use Rattle.std.proofs.lemmas.Bool.Decides.{nat_tests}
+use Rattle.iscsi_wire.specs.declared.request.Request.{Request}
+use Rattle.iscsi_wire.specs.Serial.{wire, lift, number_of_first}
+use Rattle.iscsi_wire.specs.Fields.{cmd_sn}
+use Rattle.iscsi_window.specs.declared.answer.Place.TheVariants.{Inside, Outside}
+use Rattle.iscsi_window.specs.declared.answer.Offer.{Offer}
+use Rattle.iscsi_window.specs.declared.answer.Offer.TheVariants.{Held, Outside as OutsideWindow, Duplicate}
+use Rattle.iscsi_window.specs.declared.answer.Turned.{Turned as Turn}
+use Rattle.iscsi_window.specs.Received.{Received, number_expected, room_of, at_place, IsSound}
+use Rattle.iscsi_window.specs.Windows.{number_last, place_in, IsInside, with_place, held_at, is_received_at, received_at, offer_at, offer_to, offered_to, voided, is_held_from, number_shown, emptied, emptied_if, taken_at, turned_by, advanced, advanced_if}
+use Rattle.iscsi_window.specs.History.{Change, Admitted, Voided, Emptied, is_received, held, has_turned, expected, last, place_of, StandsFor, number_of, after_offer, after_voiding, after_taking, after_emptying, after_turning, offer_since, turn_since, is_held_at, held_number, Law}
+use Rattle.iscsi_window.proofs.HistoryLemmas.{received_of_held, unheld, unheld_below, place_missing, place_received, is_some-place_of, place_shows, StandsFor-admitted, StandsFor-voided, StandsFor-emptied, StandsFor-turned}
+
+-- ExpCmdSN, as the history has it
+pub expected_is : (s : Received) (h : List Change) → StandsFor s h → number_expected s ≡ expected s.first h
+expected_is s h st = ap (λ n. number_of_first s.first + n) st.turned
+
+-- ---- where a number stands
+
+-- the number that the wire shows as w has this place
+record Stands (s : Received) (w k : ℕ) : Type 0 where
+  place : place_in s w ≡ Inside k
+  number : number_expected s + k ≡ lift (number_expected s) w
+  within : k < room_of s
+
+-- or has none
+record Strays (s : Received) (w : ℕ) : Type 0 where
+  no_place : place_in s w ≡ Outside
+  far : (lift (number_expected s) w < number_expected s) ⊎ (number_expected s + room_of s ≤ lift (number_expected s) w)
+
+stands_or_strays : (s : Received) (w : ℕ) → Stands s w (lift (number_expected s) w - number_expected s) ⊎ Strays s w
+stands_or_strays s w =
+    let e : ℕ = number_expected s in
+    let n : ℕ = lift e w in
+    elim (nat_le e n && nat_lt n (e + room_of s)) as (λ b. (nat_le e n && nat_lt n (e + room_of s)) ≡ b → Stands s w (n - e) ⊎ Strays s w) [
+      | true ↦ λ is.
+          let low : e ≤ n = grind (arith, nat_tests) in
+          let high : n < e + room_of s = grind (arith, nat_tests) in
+          inl (record { place = ap (λ b. cond b (Inside (n - e)) Outside) is; number = omega arith; within = omega arith })
+      | false ↦ λ is. inr (record {
+        no_place = ap (λ b. cond b (Inside (n - e)) Outside) is;
+        far = ⊎_elim (λ lt. inl lt) (λ ge. inr (let high : e + room_of s ≤ n = grind (arith, nat_tests) in high)) (cases_lt n e);
+      })
+    ] refl
+
+-- whether its place is received
+received_here : (s : Received) (w k : ℕ) (h : List Change) → StandsFor s h → Stands s w k → is_some (at_place s k) ≡ is_received h (lift (number_expected s) w)
+received_here s w k h st x = ap is_some (place_shows s h k st) ∙ is_some-place_of h (number_expected s + k) ∙ ap (is_received h) x.number
+
+-- ---- requests that come
+
+offered_stands : (s : Received) (r : Request) (h : List Change) → StandsFor s h → StandsFor (offered_to s r) (after_offer (offer_to s r) (number_of s.first h (cmd_sn r)) r h)
+offered_stands s r h st =
+    subst (λ e. StandsFor (offered_to s r) (after_offer (offer_to s r) (lift e (cmd_sn r)) r h)) (expected_is s h st)
+    (⊎_elim inside (λ x. subst (λ p. StandsFor (received_at s p (Some r)) (after_offer (offer_at s p) n r h)) (sym x.no_place) st) (stands_or_strays s (cmd_sn r)))
+  where
+    n : ℕ
+    n = lift (number_expected s) (cmd_sn r)
+
+    by_received : (k : ℕ) → Stands s (cmd_sn r) k → (b : Bool) → is_received h n ≡ b → StandsFor (cond b s (with_place s k (Some (Some r)))) (after_offer (cond b Duplicate Held) n r h)
+    by_received k x true is = st
+    by_received k x false is = subst (λ m. StandsFor (with_place s k (Some (Some r))) (Admitted m r ∷ h)) x.number (StandsFor-admitted s k r h st x.within (omega (arith, x.number)))
+
+    inside : Stands s (cmd_sn r) (n - number_expected s) → StandsFor (offered_to s r) (after_offer (offer_to s r) n r h)
+    inside x =
+        let k : ℕ = n - number_expected s in
+        subst (λ p. StandsFor (received_at s p (Some r)) (after_offer (offer_at s p) n r h)) (sym x.place)
+        (subst (λ b. StandsFor (cond b s (with_place s k (Some (Some r)))) (after_offer (cond b Duplicate Held) n r h)) (sym (received_here s (cmd_sn r) k h st x)) (by_received k x (is_received h n) refl))
+
+pub StandsFor-offer : (s : Received) (r : Request) (answer : Offer) (now : Received) (h : List Change) → StandsFor s h → answer ≡ offer_to s r → now ≡ offered_to s r → StandsFor now (after_offer answer (number_of s.first h (cmd_sn r)) r h)
+StandsFor-offer s r answer now h st told state =
+    subst (λ x. StandsFor x (after_offer answer (number_of s.first h (cmd_sn r)) r h)) (sym state)
+    (subst (λ o. StandsFor (offered_to s r) (after_offer o (number_of s.first h (cmd_sn r)) r h)) (sym told) (offered_stands s r h st))
+
+pub offered_since : (s : Received) (r : Request) (h : List Change) → IsSound s → StandsFor s h → offer_to s r ≡ offer_since s.first (length s.places) h (number_of s.first h (cmd_sn r))
+offered_since s r h sound st =
+    ⊎_elim inside outside (stands_or_strays s (cmd_sn r))
+    ∙ ap (λ e. cond (nat_le e (lift e (cmd_sn r)) && nat_le (lift e (cmd_sn r)) (e + length s.places - 1 - s.unfinished)) (cond (is_received h (lift e (cmd_sn r))) Duplicate Held) OutsideWindow) (expected_is s h st)
+    ∙ ap (λ u. cond (nat_le (expected s.first h) m && nat_le m (expected s.first h + length s.places - 1 - u)) (cond (is_received h m) Duplicate Held) OutsideWindow) st.unfinished
+  where
+    n : ℕ
+    n = lift (number_expected s) (cmd_sn r)
+
+    m : ℕ
+    m = number_of s.first h (cmd_sn r)
+
+    test : Bool
+    test = nat_le (number_expected s) n && nat_le n (number_last s)
+
+    inside : Stands s (cmd_sn r) (n - number_expected s) → offer_to s r ≡ cond test (cond (is_received h n) Duplicate Held) OutsideWindow
+    inside x =
+        let within : test ≡ true = let low : number_expected s ≤ n = omega (arith, x.number) in let high : n ≤ number_last s = omega (arith, x.number, x.within, sound.counted) in grind (arith, nat_tests) in
+        ap (offer_at s) x.place ∙ ap (λ b. cond b Duplicate Held) (received_here s (cmd_sn r) (n - number_expected s) h st x) ∙ ap (λ b. cond b (cond (is_received h n) Duplicate Held) OutsideWindow) (sym within)
+
+    outside : Strays s (cmd_sn r) → offer_to s r ≡ cond test (cond (is_received h n) Duplicate Held) OutsideWindow
+    outside x =
+        let without : test ≡ false = ⊎_elim
+        (λ lt. let no : test ≡ false = grind (arith, nat_tests) in no)
+        (λ ge. let far : number_last s < n = omega (arith, ge, sound.counted, sound.not_empty) in let no : test ≡ false = grind (arith, nat_tests) in no)
+        x.far in
+        ap (offer_at s) x.no_place ∙ ap (λ b. cond b (cond (is_received h n) Duplicate Held) OutsideWindow) (sym without)
+
+-- ---- a number without a request
+
+pub voided_since : (s : Received) (w : ℕ) (h : List Change) → StandsFor s h → IsInside (place_in s w) → is_received_at s (place_in s w) ≡ is_received h (number_of s.first h w)
+voided_since s w h st there = ⊎_elim
+    (λ x. ap (is_received_at s) x.place ∙ received_here s w (lift (number_expected s) w - number_expected s) h st x ∙ ap (λ e. is_received h (lift e w)) (expected_is s h st))
+    (λ x. absurd (subst IsInside x.no_place there))
+    (stands_or_strays s w)
+
+voided_stands : (s : Received) (w : ℕ) (h : List Change) → StandsFor s h → IsInside (place_in s w) → StandsFor (voided s w) (after_voiding (not (is_received_at s (place_in s w))) (number_of s.first h w) h)
+voided_stands s w h st there =
+    subst (λ e. StandsFor (voided s w) (after_voiding (not (is_received_at s (place_in s w))) (lift e w) h)) (expected_is s h st)
+    (⊎_elim inside (λ x. absurd (subst IsInside x.no_place there)) (stands_or_strays s w))
+  where
+    n : ℕ
+    n = lift (number_expected s) w
+
+    by_received : (k : ℕ) → Stands s w k → (b : Bool) → is_received h n ≡ b → StandsFor (cond b s (with_place s k (Some None))) (after_voiding (not b) n h)
+    by_received k x true is = st
+    by_received k x false is = subst (λ m. StandsFor (with_place s k (Some None)) (Voided m ∷ h)) x.number (StandsFor-voided s k h st x.within (ap (is_received h) x.number ∙ is))
+
+    inside : Stands s w (n - number_expected s) → StandsFor (voided s w) (after_voiding (not (is_received_at s (place_in s w))) n h)
+    inside x =
+        let k : ℕ = n - number_expected s in
+        subst (λ p. StandsFor (received_at s p None) (after_voiding (not (is_received_at s p)) n h)) (sym x.place)
+        (subst (λ b. StandsFor (cond b s (with_place s k (Some None))) (after_voiding (not b) n h)) (sym (received_here s w k h st x)) (by_received k x (is_received h n) refl))
+
+pub StandsFor-void : (s : Received) (w : ℕ) (answer : Bool) (now : Received) (h : List Change) → StandsFor s h → IsInside (place_in s w) → answer ≡ not (is_received_at s (place_in s w)) → now ≡ voided s w → StandsFor now (after_voiding answer (number_of s.first h w) h)
+StandsFor-void s w answer now h st there told state =
+    subst (λ x. StandsFor x (after_voiding answer (number_of s.first h w) h)) (sym state)
+    (subst (λ b. StandsFor (voided s w) (after_voiding b (number_of s.first h w) h)) (sym told) (voided_stands s w h st there))
+
+-- ---- requests that are taken out
+
+-- a test that passes for nothing tells the same of a place and of what is held
+pub test_held : (f : Option (Option Request) → Bool) (h : List Change) (n : ℕ) → f None ≡ false → f (Some None) ≡ false → f (place_of h n) ≡ f (Some (held h n))
+test_held f h n missing empty = by_received (is_received h n) refl
+  where
+    by_received : (b : Bool) → is_received h n ≡ b → f (place_of h n) ≡ f (Some (held h n))
+    by_received true is = ap f (place_received h n is)
+    by_received false is = ap f (place_missing h n is) ∙ missing ∙ sym (ap (λ x. let y : Option (Option Request) = Some x in f y) (unheld h n is) ∙ empty)
+
+held_place : (h : List Change) (n : ℕ) → option_flatten (place_of h n) ≡ held h n
+held_place h n = by_received (is_received h n) refl
+  where
+    by_received : (b : Bool) → is_received h n ≡ b → option_flatten (place_of h n) ≡ held h n
+    by_received true is = ap option_flatten (place_received h n is)
+    by_received false is = ap option_flatten (place_missing h n is) ∙ sym (unheld h n is)
+
+held_here : (s : Received) (w : ℕ) (h : List Change) → StandsFor s h → held_at s (place_in s w) ≡ held h (lift (number_expected s) w)
+held_here s w h st = ⊎_elim
+    (λ x. let k : ℕ = lift (number_expected s) w - number_expected s in ap (held_at s) x.place ∙ ap option_flatten (place_shows s h k st) ∙ held_place h (number_expected s + k) ∙ ap (held h) x.number)
+    (λ x. ap (held_at s) x.no_place ∙ sym (⊎_elim (λ lt. unheld_below s h (lift (number_expected s) w) st lt) (λ ge. unheld h (lift (number_expected s) w) (st.above (lift (number_expected s) w) ge)) x.far))
+    (stands_or_strays s w)
+
+pub emptied_since : (s : Received) (w : ℕ) (h : List Change) → StandsFor s h → held_at s (place_in s w) ≡ held h (number_of s.first h w)
+emptied_since s w h st = held_here s w h st ∙ ap (λ e. held h (lift e w)) (expected_is s h st)
+
+emptied_stands : (s : Received) (w : ℕ) (h : List Change) → StandsFor s h → StandsFor (emptied s w) (after_taking (held_at s (place_in s w)) (number_of s.first h w) h)
+emptied_stands s w h st =
+    subst (λ e. StandsFor (emptied s w) (after_taking (held_at s (place_in s w)) (lift e w) h)) (expected_is s h st)
+    (⊎_elim inside (λ x. subst (λ p. StandsFor (emptied_if s p (held_at s p)) (after_taking (held_at s p) n h)) (sym x.no_place) st) (stands_or_strays s w))
+  where
+    n : ℕ
+    n = lift (number_expected s) w
+
+    by_held : (k : ℕ) → Stands s w k → (x : Option Request) → held h n ≡ x → StandsFor (emptied_if s (Inside k) x) (after_taking x n h)
+    by_held k x None is = st
+    by_held k x (Some r) is = subst (λ m. StandsFor (with_place s k (Some None)) (Emptied m ∷ h)) x.number (StandsFor-emptied s k h st x.within (ap (is_received h) x.number ∙ received_of_held h n r is))
+
+    inside : Stands s w (n - number_expected s) → StandsFor (emptied s w) (after_taking (held_at s (place_in s w)) n h)
+    inside x =
+        subst (λ y. StandsFor (emptied_if s (place_in s w) y) (after_taking y n h)) (sym (held_here s w h st))
+        (subst (λ p. StandsFor (emptied_if s p (held h n)) (after_taking (held h n) n h)) (sym x.place) (by_held (n - number_expected s) x (held h n) refl))
+
+pub StandsFor-empty : (s : Received) (w : ℕ) (answer : Option Request) (now : Received) (h : List Change) → StandsFor s h → answer ≡ held_at s (place_in s w) → now ≡ emptied s w → StandsFor now (after_taking answer (number_of s.first h w) h)
+StandsFor-empty s w answer now h st told state =
+    subst (λ x. StandsFor x (after_taking answer (number_of s.first h w) h)) (sym state)
+    (subst (λ x. StandsFor (emptied s w) (after_taking x (number_of s.first h w) h)) (sym told) (emptied_stands s w h st))
+
+-- ---- the request of one place
+
+-- a test that passes where a request is held shows that its number was received
+pub received_of_test : (f : Option (Option Request) → Bool) (h : List Change) (n : ℕ) → f (Some None) ≡ false → f (Some (held h n)) ≡ true → is_received h n ≡ true
+received_of_test f h n empty passes = by_held (held h n) refl passes
+  where
+    by_held : (x : Option Request) → held h n ≡ x → f (Some x) ≡ true → is_received h n ≡ true
+    by_held None is said = absurd (false≢true (sym empty ∙ said))
+    by_held (Some r) is said = received_of_held h n r is
+
+-- a received number, from ExpCmdSN on, has a place below the room
+pub within_room : (s : Received) (k : ℕ) (h : List Change) → StandsFor s h → is_received h (number_expected s + k) ≡ true → k < room_of s
+within_room s k h st there = ⊎_elim (λ lt. lt) (λ ge. absurd (false≢true (sym (st.above (number_expected s + k) (omega arith)) ∙ there))) (cases_lt k (room_of s))
+
+held_from_here : (s : Received) (k : ℕ) (conn : Option ℕ) (h : List Change) → StandsFor s h → is_held_from conn (at_place s k) ≡ is_held_at h conn (number_expected s + k)
+held_from_here s k conn h st = ap (is_held_from conn) (place_shows s h k st) ∙ test_held (is_held_from conn) h (number_expected s + k) refl refl
+
+pub taken_since : (s : Received) (k : ℕ) (conn : Option ℕ) (h : List Change) → StandsFor s h
+    → cond (is_held_from conn (at_place s k)) (Some (number_shown s k)) None ≡ option_map wire (held_number h conn (expected s.first h + k))
+taken_since s k conn h st =
+    ap (λ b. cond b (Some (number_shown s k)) None) (held_from_here s k conn h st)
+    ∙ by_test (is_held_at h conn (number_expected s + k))
+    ∙ ap (λ e. option_map wire (held_number h conn (e + k))) (expected_is s h st)
+  where
+    by_test : (b : Bool) → cond b (Some (number_shown s k)) None ≡ option_map wire (cond b (Some (number_expected s + k)) None)
+    by_test true = refl
+    by_test false = refl
+
+taken_stands : (s : Received) (k : ℕ) (conn : Option ℕ) (h : List Change) → StandsFor s h → StandsFor (taken_at s k conn) (after_emptying (held_number h conn (expected s.first h + k)) h)
+taken_stands s k conn h st =
+    subst (λ e. StandsFor (taken_at s k conn) (after_emptying (held_number h conn (e + k)) h)) (expected_is s h st)
+    (subst (λ b. StandsFor (cond b (with_place s k (Some None)) s) (after_emptying (held_number h conn n) h)) (sym (held_from_here s k conn h st)) (by_test (is_held_at h conn n) refl))
+  where
+    n : ℕ
+    n = number_expected s + k
+
+    by_test : (b : Bool) → is_held_at h conn n ≡ b → StandsFor (cond b (with_place s k (Some None)) s) (after_emptying (cond b (Some n) None) h)
+    by_test true is =
+        let there : is_received h n ≡ true = received_of_test (is_held_from conn) h n refl is in
+        StandsFor-emptied s k h st (within_room s k h st there) there
+    by_test false is = st
+
+pub StandsFor-take : (s : Received) (k : ℕ) (conn : Option ℕ) (now : Received) (h : List Change) → StandsFor s h → now ≡ taken_at s k conn → StandsFor now (after_emptying (held_number h conn (expected s.first h + k)) h)
+StandsFor-take s k conn now h st state = subst (λ x. StandsFor x (after_emptying (held_number h conn (expected s.first h + k)) h)) (sym state) (taken_stands s k conn h st)
+
+-- ---- the expected number turns
+
+-- the place of ExpCmdSN
+first_shows : (s : Received) (h : List Change) → StandsFor s h → at_place s 0 ≡ place_of h (number_expected s)
+first_shows s h st = place_shows s h 0 st ∙ ap (place_of h) (let z : number_expected s + 0 ≡ number_expected s = omega arith in z)
+
+turn_at : ℕ → List Change → Option Turn
+turn_at e h = cond (is_received h e) (Some (record { sn = wire e; request = held h e })) None
+
+turned_here : (s : Received) (h : List Change) → StandsFor s h → turned_by s ≡ turn_at (number_expected s) h
+unfolding turn_at
+turned_here s h st = ap (option_map (λ (r : Option Request). let t : Turn = record { sn = wire e; request = r } in t)) (first_shows s h st) ∙ by_received (is_received h e)
+  where
+    e : ℕ
+    e = number_expected s
+
+    by_received : (b : Bool) → option_map (λ (r : Option Request). let t : Turn = record { sn = wire e; request = r } in t) (let x : Option (Option Request) = cond b (Some (held h e)) None in x) ≡ cond b (Some (record { sn = wire e; request = held h e })) None
+    by_received true = refl
+    by_received false = refl
+
+pub turned_since : (s : Received) (h : List Change) → StandsFor s h → turned_by s ≡ turn_since s.first h
+unfolding turn_at
+turned_since s h st = turned_here s h st ∙ ap (λ e. turn_at e h) (expected_is s h st)
+
+advanced_stands : (s : Received) (h : List Change) → StandsFor s h → StandsFor (advanced s) (after_turning (turned_by s) (expected s.first h) h)
+unfolding turn_at
+advanced_stands s h st =
+    subst (λ n. StandsFor (advanced s) (after_turning (turned_by s) n h)) (expected_is s h st)
+    (subst (λ t. StandsFor (advanced s) (after_turning t e h)) (sym (turned_here s h st))
+    (subst (λ p. StandsFor (advanced_if s p) (after_turning (turn_at e h) e h)) (sym (first_shows s h st)) (by_received (is_received h e) refl)))
+  where
+    e : ℕ
+    e = number_expected s
+
+    by_received : (b : Bool) → is_received h e ≡ b → StandsFor (advanced_if s (cond b (Some (held h e)) None)) (after_turning (cond b (Some (record { sn = wire e; request = held h e })) None) e h)
+    by_received true is =
+        let first : 0 < room_of s = within_room s 0 h st (ap (is_received h) (let z : e + 0 ≡ e = omega arith in z) ∙ is) in
+        StandsFor-turned s h st (omega arith) is
+    by_received false is = st
+
+pub StandsFor-advance : (s : Received) (answer : Option Turn) (now : Received) (h : List Change) → StandsFor s h → answer ≡ turned_by s → now ≡ advanced s → StandsFor now (after_turning answer (expected s.first h) h)
+StandsFor-advance s answer now h st told state =
+    subst (λ x. StandsFor x (after_turning answer (expected s.first h) h)) (sym state)
+    (subst (λ t. StandsFor (advanced s) (after_turning t (expected s.first h) h)) (sym told) (advanced_stands s h st))
+
+-- ---- the law
+
+pub Law-stands : (s : Received) (h : List Change) → IsSound s → StandsFor s h → Law s h
+Law-stands s h sound st =
+    let is : number_expected s ≡ expected s.first h = expected_is s h st in
+    let last_same : number_last s ≡ last s.first (length s.places) h = omega (arith, is, st.unfinished) in
+    let above : (n : ℕ) → last s.first (length s.places) h < n → is_received h n ≡ false = λ n high. st.above n (omega (arith, high, last_same, sound.counted, sound.not_empty)) in
+    let past : (n : ℕ) → number_of_first s.first ≤ n → n < expected s.first h → (is_received h n ≡ true) × (has_turned h n ≡ true) × (held h n ≡ None) = λ n from low. st.past n from (omega (arith, low, is)) in
+    record {
+      expected_is = is;
+      last_is = last_same;
+      turned_are = λ n. (
+        λ has. (
+          ⊎_elim (λ lt. absurd (false≢true (sym (st.before n lt).1 ∙ has))) (λ ge. ge) (cases_lt n (number_of_first s.first)),
+          ⊎_elim (λ lt. lt) (λ ge. absurd (false≢true (sym (st.ahead n (omega (arith, ge, is))) ∙ has))) (cases_lt n (expected s.first h)),
+        ),
+        λ between. (past n between.0 between.1).1,
+      );
+      gapless = λ n from low. (past n from low).0;
+      none_before = λ n low. (st.before n low).0;
+      none_above = above;
+      least = λ missing. record { from_first = omega arith; missing = missing; none_lower = λ k from low. (past k from low).0 };
+      held_are = λ n r has.
+          let there : is_received h n ≡ true = received_of_held h n r has in (
+            there,
+            ⊎_elim (λ lt. absurd (let z : None ≡ Some r = sym (unheld_below s h n st (omega (arith, lt, is))) ∙ has in cc)) (λ ge. ge) (cases_lt n (expected s.first h)),
+            ⊎_elim (λ lt. absurd (false≢true (sym (above n lt) ∙ there))) (λ ge. ge) (cases_lt (last s.first (length s.places) h) n),
+            st.numbers n r has,
+          );
+    }

@@ -1,0 +1,10 @@
+use Rattle.std.proofs.Common.{rules, sym, subst, ◌∷◌}
+use Rattle.iscsi_window.specs.History.{Finished, StandsFor}
+use Rattle.iscsi_window.proofs.HistoryLemmas.{StandsFor-finished}
+use Rattle.iscsi_window.proofs.window.Window.finish_one.Goals as goal
+
+pub returns-clause-state : goal.returns-clause-state
+returns-clause-state c = search rules
+
+pub returns-clause-stands : goal.returns-clause-stands
+returns-clause-stands c = λ h st. subst (λ s. StandsFor s (Finished ∷ h)) (sym (returns-clause-state c)) (StandsFor-finished c.args.self.now h st)
