@@ -34,7 +34,7 @@ returns-in-Some-find_held c =
     let r : Request = c.args.request.now in
     let none : tagged_in s (rtt r) c.args.unit ≡ None = search rules in
     let found : option_map (number_shown c.self.inside.window) (find_command c.self.inside.window (rtt r) c.args.unit (cmd_sn r)) ≡ Some c.in-Some-find_held.sn =
-    shown c.self.inside.window r c.args.unit c.rtt-2.result c.cmd_sn.result c.rtt-2.ensures c.cmd_sn.ensures ∙ sym c.find_held.ensures ∙ search rules in
+    shown c.self.inside.window r c.args.unit c.rtt-2.result c.cmd_sn.result c.rtt-2.ensures c.cmd_sn.ensures ∙ sym c.find_held.ensures.answer ∙ search rules in
     let held : option_map (number_shown s.window) (find_command s.window (rtt r) c.args.unit (cmd_sn r)) ≡ Some c.in-Some-find_held.sn =
     ap (λ (x : Core). option_map (number_shown x.window) (find_command x.window (rtt r) c.args.unit (cmd_sn r))) (sym c.self.view_is) ∙ found in
     held_found s r (find_command s.window (rtt r) c.args.unit (cmd_sn r)) c.in-Some-find_held.sn held ∙ sym (untagged s r c.args.unit none)
@@ -45,7 +45,7 @@ returns c =
     let r : Request = c.args.request.now in
     let none : tagged_in s (rtt r) c.args.unit ≡ None = search rules in
     let nowhere : option_map (number_shown c.self.inside.window) (find_command c.self.inside.window (rtt r) c.args.unit (cmd_sn r)) ≡ None =
-    shown c.self.inside.window r c.args.unit c.rtt-2.result c.cmd_sn.result c.rtt-2.ensures c.cmd_sn.ensures ∙ sym c.find_held.ensures ∙ search rules in
+    shown c.self.inside.window r c.args.unit c.rtt-2.result c.cmd_sn.result c.rtt-2.ensures c.cmd_sn.ensures ∙ sym c.find_held.ensures.answer ∙ search rules in
     let held : option_map (number_shown s.window) (find_command s.window (rtt r) c.args.unit (cmd_sn r)) ≡ None =
     ap (λ (x : Core). option_map (number_shown x.window) (find_command x.window (rtt r) c.args.unit (cmd_sn r))) (sym c.self.view_is) ∙ nowhere in
     c.missing.ensures ∙ sym (untagged s r c.args.unit none ∙ held_nowhere s r (find_command s.window (rtt r) c.args.unit (cmd_sn r)) held)
