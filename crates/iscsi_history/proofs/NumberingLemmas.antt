@@ -21,6 +21,7 @@ use Rattle.iscsi_history.specs.Run.{first_stat_sn, stat_sn_of, effects_of_mark, 
 use Rattle.iscsi_history.specs.Enabling.{effects_so_far, effects_in}
 use Rattle.iscsi_history.specs.Numbering.{stat_sn_shown, stat_sns_on, CountsReplies}
 use Rattle.iscsi_history.proofs.AbortMarks.{none_viewed}
+use Rattle.iscsi_history.proofs.DeliveryLemmas.{range_more}
 use Rattle.iscsi_history.proofs.MomentLemmas.{log_effects}
 use Rattle.iscsi_history.proofs.Forms.{Start, AtTurn, AtArrival, AfterWaiting, Deeds, if_some, marks_done, Form, Ignored, Rejected, Received, Postponed, Completed, Executed, marks_of_form, HasForm, HaveForms}
 use Rattle.iscsi_history.proofs.FormRuns.{trace_has_forms}
@@ -164,10 +165,6 @@ count_on conn t = count_by (λ k. k == conn) (shown sent_on t)
 abbrev counted_from : Setting → ℕ → ℕ → List ℕ
 counted_from o conn n = map (λ k. wire (first_stat_sn o conn + k)) (range_with_len 0 n)
 
-range_push : (a n : ℕ) → range_with_len a (suc n) ≡ range_with_len a n ++ (a + n) ∷ []
-range_push a zero = ap (λ k. k ∷ []) (let z : a ≡ a + 0 = omega arith in z)
-range_push a (suc n) = ap (λ ks. a ∷ ks) (range_push (a + 1) n ∙ ap (λ k. range_with_len (a + 1) n ++ k ∷ []) (let z : (a + 1) + n ≡ a + suc n = omega arith in z))
-
 map_push : (f : ℕ → ℕ) (xs : List ℕ) (x : ℕ) → map f (xs ++ x ∷ []) ≡ map f xs ++ f x ∷ []
 map_push f [] x = refl
 map_push f (y ∷ xs) x = ap (λ ys. f y ∷ ys) (map_push f xs x)
@@ -175,7 +172,7 @@ map_push f (y ∷ xs) x = ap (λ ys. f y ∷ ys) (map_push f xs x)
 counted_more : (o : Setting) (conn n : ℕ) → counted_from o conn (n + 1) ≡ counted_from o conn n ++ wire (first_stat_sn o conn + n) ∷ []
 counted_more o conn n =
     ap (λ k. map (λ j. wire (first_stat_sn o conn + j)) (range_with_len 0 k)) (let z : n + 1 ≡ suc n = omega arith in z)
-    ∙ ap (map (λ j. wire (first_stat_sn o conn + j))) (range_push 0 n)
+    ∙ ap (map (λ j. wire (first_stat_sn o conn + j))) (range_more 0 n)
     ∙ map_push (λ j. wire (first_stat_sn o conn + j)) (range_with_len 0 n) (0 + n)
     ∙ ap (λ k. counted_from o conn n ++ wire (first_stat_sn o conn + k) ∷ []) (let z : 0 + n ≡ n = omega arith in z)
 
