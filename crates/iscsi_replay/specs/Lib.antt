@@ -11,3 +11,4 @@ pub mod Writing
 pub mod Replayed
 pub mod Stops
 pub mod Again
+pub mod Told
