@@ -81,18 +81,6 @@ pub fn exit_code<R: Print + Eprint>(answer: Result<(), Stop>, rt: &R) -> ExitCod
     }
 }
 
-impl From<ReplayFault> for Stop {
-    ghost use Rattle.iscsi_replay.specs.declared.stopping.Stop.{Stop};
-
-    ghost from_gives = { λ fault stop. stop ≡ Stop.Fault fault };
-
-    fn from(fault: ReplayFault) -> Stop
-        ensures value { result ≡ Stop.Fault fault }
-    {
-        Stop::Fault(fault)
-    }
-}
-
 impl From<clap::Error> for Stop {
     ghost use Rattle.iscsi_replay.specs.declared.stopping.Stop.{Stop};
 
