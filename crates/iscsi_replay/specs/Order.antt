@@ -13,7 +13,7 @@ IsDue reads seen f = (more : List ℕ) → reads (seen ++ more) ≡ Err f
 abbrev pub NoneIsDue : (List ℕ → Result Recorded ReplayFault) → List ℕ → Type 0
 NoneIsDue reads seen = (f : ReplayFault) → IsDue reads seen f → ⊥
 
--- the bytes seen are a recording to their end but for this fault, and the reader has no more
+-- reading gives this fault for just the bytes seen, and the reader has no more
 pub record IsDueAtEnd (reads : List ℕ → Result Recorded ReplayFault) (seen : List ℕ) (new : Option (List ℕ)) (f : ReplayFault) : Type 0 where
   pub fault : reads seen ≡ Err f
   pub ended : IsAtEnd new
