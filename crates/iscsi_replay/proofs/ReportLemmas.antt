@@ -1,8 +1,9 @@
 -- The report of a recording, event by event.
-use Rattle.std.proofs.Common.{◌≡◌, ℕ, ◌+◌, ◌<◌, ◌≤◌, List, [], ◌∷◌, ◌++◌, length, take, drop, get_or, Option, sym, ap, ap₂, subst, ◌∙◌, take-append-drop, append-nil, append_assoc}
+use Rattle.std.proofs.Common.{◌≡◌, ℕ, ◌+◌, ◌<◌, ◌≤◌, List, [], ◌∷◌, ◌++◌, length, take, drop, get_or, Option, None, Some, Result, Ok, Err, IfSome, sym, ap, ap₂, subst, ◌∙◌, take-append-drop, append-nil, append_assoc}
 use Rattle.std.specs.List.{flat_map}
 use Rattle.std.proofs.lemmas.List.{take_more, take_all}
 use Rattle.std.specs.Io.KnownBytes.{Appends}
+use Rattle.std.proofs.KnownBytes.{Keeps-refl}
 use Rattle.iscsi_history.specs.declared.effect.Effect.{Effect}
 use Rattle.iscsi_history.specs.declared.effect.Numbers.{Numbers}
 use Rattle.iscsi_history.specs.declared.event.Event.{Event}
@@ -12,9 +13,11 @@ use Rattle.iscsi_history.specs.Run.{next_entry}
 use Rattle.iscsi_session.specs.Lines.{event_line, effect_line, entry_lines}
 use Rattle.iscsi_session.proofs.LineLemmas.{report_of-push}
 use Rattle.iscsi_replay.specs.declared.settings.Settings.{Settings}
-use Rattle.iscsi_replay.specs.Replayed.{setting_for, report_of}
+use Rattle.iscsi_replay.specs.declared.fault.ReplayFault.{ReplayFault}
+use Rattle.iscsi_replay.specs.Recorded.{Recorded, read_of}
+use Rattle.iscsi_replay.specs.Replayed.{setting_for, report_of, FrontReported}
 use Rattle.iscsi_replay.specs.Writing.{AppendsFront, AppendsBut}
-use Rattle.iscsi_replay.proofs.Written.{front_longer, waits_more, all_after}
+use Rattle.iscsi_replay.proofs.Written.{nothing_of, front_longer, waits_more, all_after}
 
 -- the report of these events
 abbrev pub report_until : Settings → List (ℕ × ℕ) → List Event → List ℕ
@@ -84,3 +87,12 @@ pub all_written : (a b c : Option (List ℕ)) (s : Settings) (conns : List (ℕ 
 all_written a b c s conns items events i waiting put same past is h more =
     subst (λ es. Appends a c (report_until s conns es)) (take_all i items past ∙ same)
     (all_after a b c waiting put (report_until s conns (take i items)) is h more)
+
+none_reported : (s : Settings) (r : Result Recorded ReplayFault) (a : Option (List ℕ)) → FrontReported s r a a
+none_reported s (Ok r) a = nothing_of a (report_of s r)
+none_reported s (Err e) a = Keeps-refl a
+
+-- nothing is a front of the report of any bytes
+pub front_of_none : (s : Settings) (given a : Option (List ℕ)) → IfSome given (λ bytes. FrontReported s (read_of bytes) a a)
+front_of_none s None a = tt
+front_of_none s (Some bytes) a = none_reported s (read_of bytes) a

@@ -2,6 +2,7 @@ pub mod Fields
 pub mod Grammar
 pub mod Faults
 pub mod Recorded
+pub mod Order
 pub mod Reading
 pub mod Watched
 pub mod Limits
@@ -10,3 +11,4 @@ pub mod Writing
 pub mod Replayed
 pub mod Stops
 pub mod Again
+pub mod Told

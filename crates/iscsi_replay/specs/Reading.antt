@@ -1,6 +1,7 @@
 -- A recording that is being read.
-use Rattle.std.specs.Prelude.{◌≡◌, ℕ, ◌+◌, ◌-◌, ◌*◌, ◌<◌, ◌≤◌, ◌==◌, Bool, true, false, List, ◌++◌, length, Option, Some, None, Result, Ok, Err, ⊤}
+use Rattle.std.specs.Prelude.{◌≡◌, ℕ, ◌+◌, ◌-◌, ◌*◌, ◌<◌, ◌≤◌, ◌==◌, Bool, true, false, List, ◌++◌, length, Option, Result, Ok, Err, ⊤}
 use Rattle.std.specs.List.{list_any, list_all}
+use Rattle.std.specs.Io.KnownBytes.{Consumes}
 use Rattle.iscsi_history.specs.Settings.{are_distinct}
 use Rattle.iscsi_replay.specs.Recorded.{Recorded, view, belongs_to, read_lines, lines_of}
 use Rattle.iscsi_replay.specs.declared.fault.ReplayFault.{ReplayFault}
@@ -34,11 +35,11 @@ left_of w bytes = read_lines w.line (view w.so_far) (lines_of (w.pending.items +
 abbrev pub weight : Reading → ℕ
 weight w = (w.line - 1) * 257 + length w.pending.items
 
--- the known bytes that are left are read to the same answer as all were at v
-abbrev pub ReadsOn : Option (List ℕ) → Option (List ℕ) → Reading → Reading → Type 0
-ReadsOn None new v w = ⊤
-ReadsOn (Some bytes) None v w = ⊥
-ReadsOn (Some bytes) (Some rest) v w = left_of w rest ≡ left_of v bytes
+-- the known bytes lost a front that was seen, and with it v became w: whatever comes yet is read to the same answer
+pub record ReadsOn (old new : Option (List ℕ)) (v w : Reading) : Type 0 where
+  pub front : List ℕ
+  pub seen : Consumes old new front
+  pub read : (more : List ℕ) → left_of w more ≡ left_of v (front ++ more)
 
 -- the answer is what reading gives, unless a read answered an error or memory ran out
 abbrev pub Answers : Result (Unit {0}) ReplayFault → Recorded → Result Recorded ReplayFault → Type 0

@@ -1,10 +1,10 @@
 -- What a replay answers, and what it writes.
-use Rattle.std.specs.Prelude.{◌≡◌, ℕ, List, Option, Result, Ok, Err, ⊤}
-use Rattle.std.specs.Io.KnownBytes.{Appends, Keeps}
+use Rattle.std.specs.Prelude.{◌≡◌, ℕ, List, Option, Result, Ok, Err, IfSome, IsOk, ⊤}
+use Rattle.std.specs.Io.KnownBytes.{Appends, Keeps, IsAtEnd}
 use Rattle.iscsi_history.specs.Settings.{Setting}
 use Rattle.iscsi_history.specs.Run.{run_of}
 use Rattle.iscsi_session.specs.Lines.{report_from}
-use Rattle.iscsi_replay.specs.Recorded.{Recorded}
+use Rattle.iscsi_replay.specs.Recorded.{Recorded, read_of}
 use Rattle.iscsi_replay.specs.Writing.{AppendsFront}
 use Rattle.iscsi_replay.specs.declared.settings.Settings.{Settings}
 use Rattle.iscsi_replay.specs.declared.fault.ReplayFault.{ReplayFault}
@@ -55,3 +55,20 @@ AnswersAs (Ok r) (Ok x) = ⊤
 AnswersAs (Ok r) (Err e) = CanStop e
 AnswersAs (Err f) (Ok x) = ⊥
 AnswersAs (Err f) (Err e) = IsFaultOr f e
+
+-- the refusals that reading alone gives, and that of the settings: nothing is written before them. Want of memory may come
+-- while the report is written, and a failed write comes only then.
+abbrev pub ComesOfReading : ReplayFault → Type 0
+ComesOfReading (fault.BadLine line) = ⊤
+ComesOfReading (fault.LineTooLong line) = ⊤
+ComesOfReading fault.TooManyLines = ⊤
+ComesOfReading fault.Read = ⊤
+ComesOfReading fault.NoMemory = ⊥
+ComesOfReading fault.NoConnection = ⊤
+ComesOfReading fault.Write = ⊥
+ComesOfReading fault.BadSettings = ⊤
+
+-- the input was read to its end, and its bytes, where they are known, are a recording
+pub record IsReadWhole (old new : Option (List ℕ)) : Type 0 where
+  pub ended : IsAtEnd new
+  pub read : IfSome old (λ bytes. IsOk (read_of bytes))

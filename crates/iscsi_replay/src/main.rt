@@ -6,6 +6,7 @@ mod command_line;
 mod fault;
 mod line;
 mod parse;
+mod program;
 mod reading;
 mod recording;
 mod replaying;
@@ -17,10 +18,14 @@ mod source;
 mod stopping;
 mod watched;
 
+ghost use Rattle.std.specs.Prelude.{◌≡◌, IfOk, map, string_bytes};
+
 use fault::ReplayFault;
+use program::replay_as_told;
+use std::alloc::Global;
 use std::process::ExitCode;
 use std::{env, io};
-use stopping::Stop;
+use stopping::{Stop, exit_code};
 use watched::Watched;
 
 /// The words of the command line, the program's name first.
@@ -38,8 +43,10 @@ fn words(rt: &HostRuntime) -> Result<Vec<String>, Stop> {
 }
 
 /// The texts of the words.
-fn texts<'a>(rt: &HostRuntime, words: &'a [String]) -> Result<Vec<&'a str>, Stop> {
-    let mut texts = Vec::new(rt.alloc());
+fn texts<'a>(alloc: Global, words: &'a [String]) -> Result<Vec<&'a str>, Stop>
+    ensures { IfOk result (λ texts. map (λ text. text.now) texts.items ≡ map string_bytes words.entry.now) }
+{
+    let mut texts = Vec::new(alloc);
     for word in words {
         if texts.push(word.as_str()).is_err() {
             return Err(Stop::Fault(ReplayFault::NoMemory));
@@ -51,19 +58,12 @@ fn texts<'a>(rt: &HostRuntime, words: &'a [String]) -> Result<Vec<&'a str>, Stop
 /// Replays standard input as the command line says.
 fn run(rt: &HostRuntime) -> Result<(), Stop> {
     let words = words(rt)?;
-    let texts = texts(rt, &words)?;
-    let Some(settings) = command_line::settings(rt.alloc(), &texts)? else {
-        return Err(Stop::BadFirst);
-    };
+    let texts = texts(rt.alloc(), &words)?;
     let mut reader = Watched::new(rt.reader());
     let mut writer = Watched::new(io::writer(rt));
-    replaying::replay(rt.alloc(), &settings, &mut reader, &mut writer)?;
-    Ok(())
+    replay_as_told(rt.alloc(), &texts, &mut reader, &mut writer)
 }
 
 fn main(rt: HostRuntime) -> ExitCode {
-    match run(&rt) {
-        Ok(()) => ExitCode::SUCCESS,
-        Err(stop) => stop.report(&rt),
-    }
+    exit_code(run(&rt), &rt)
 }

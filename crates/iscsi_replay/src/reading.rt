@@ -3,7 +3,9 @@
 ghost use Rattle.std.specs.Prelude.{◌≡◌, ◌≢◌, ◌↔◌, ◌+◌, ◌≤◌, ℕ, length, List, [], ◌∷◌, ◌++◌, ◌<◌, true, false, IfSome, IfErr, OnOk, OnErr, IfOk, IsErrOf, MatchResult, Ok, vec_len};
 ghost use Rattle.std.specs.List.{list_any};
 ghost use Rattle.iscsi_replay.specs.Recorded.{view, read_line, read_end, read_of, Fails, Steps, IsSound};
-ghost use Rattle.iscsi_replay.specs.Reading.{is_end, IsReading, IsSoundIn, left_of, weight, Answers};
+ghost use Rattle.std.specs.Io.KnownBytes.{IsAtEnd};
+ghost use Rattle.iscsi_replay.specs.Reading.{is_end, IsReading, IsSoundIn, left_of, weight, ReadsOn, Answers};
+ghost use Rattle.iscsi_replay.specs.Order.{ReadsInOrder};
 
 use crate::fault::ReplayFault;
 use crate::recording::{MAX_LINE, MAX_LINES, Recording};
@@ -147,9 +149,15 @@ fn fill<R: Source>(
     requires ready { IsReading reading.old }
     requires fresh { R.has_failed reader.old ≡ false }
     requires space { 0 < length chunk.old }
+    requires chunk { length chunk.old ≤ 65536 }
     ensures ready { OnOk result (IsReading reading.new) }
     ensures ok { OnOk result (IfSome (R.remaining reader.old) (λ bytes. left_of reading.new [] ≡ left_of reading.old bytes)) }
     ensures err { IfErr result (λ e. e ≢ ReplayFault.Read → IfSome (R.remaining reader.old) (λ bytes. Fails e (left_of reading.old bytes))) }
+    // What was seen is in the reading, and the reader has no more.
+    ensures seen { OnOk result (ReadsOn (R.remaining reader.old) (R.remaining reader.new) reading.old reading.new) }
+    ensures ended { OnOk result (IsAtEnd (R.remaining reader.new)) }
+    // A fault is answered once the bytes seen make it certain, and `Read` only where they make none certain.
+    ensures order { OnErr result (ReadsInOrder (left_of reading.old) result (R.remaining reader.old) (R.remaining reader.new)) }
     ensures failed { IsErrOf result ReplayFault.Read ↔ (R.has_failed reader.new ≡ true) }
     ensures kinds { IfErr result (λ e. (e ≢ ReplayFault.Write) × (e ≢ ReplayFault.BadSettings)) }
 {
@@ -180,6 +188,9 @@ pub fn read_recording<R: Source>(
     requires { R.has_failed reader.old ≡ false }
     // Where no read answered an error and memory lasted, the answer is that of the bytes that the reader had.
     ensures read { IfSome (R.remaining reader.old) (λ bytes. Answers result (view recording.new) (read_of bytes)) }
+    // A fault is answered once the bytes seen make it certain, or at the end of the input. `Read` is answered only where
+    // they make none certain, and no more is read after a chunk that makes one certain.
+    ensures order { ReadsInOrder read_of result (R.remaining reader.old) (R.remaining reader.new) }
     ensures failed { IsErrOf result ReplayFault.Read ↔ (R.has_failed reader.new ≡ true) }
     ensures kinds { IfErr result (λ e. (e ≢ ReplayFault.Write) × (e ≢ ReplayFault.BadSettings)) }
     ensures err { OnErr result (view recording.new ≡ view recording.old) }

@@ -1,6 +1,6 @@
 //! A recording and its report.
 
-ghost use Rattle.std.specs.Prelude.{◌≡◌, ◌≢◌, ◌↔◌, ◌++◌, ◌<◌, true, false, [], vec_len, IfSome, OnOk, IfOk, IfErr, IsErrOf, MatchResult, Ok};
+ghost use Rattle.std.specs.Prelude.{◌≡◌, ◌≢◌, ◌↔◌, ◌⊎◌, ◌++◌, ◌<◌, true, false, [], vec_len, IfSome, OnOk, IfOk, IfErr, IsErrOf, MatchResult, Ok};
 ghost use Rattle.std.specs.List.{list_all};
 ghost use Rattle.std.specs.Io.KnownBytes.{Appends};
 ghost use Rattle.iscsi_history.specs.Settings.{is_valid};
@@ -8,7 +8,8 @@ ghost use Rattle.iscsi_session.specs.Standing.{StandsFor};
 ghost use Rattle.iscsi_session.specs.Lines.{event_line, entry_lines};
 ghost use Rattle.iscsi_replay.specs.Limits.{are_valid};
 ghost use Rattle.iscsi_replay.specs.Recorded.{Recorded, view, read_of, IsSound};
-ghost use Rattle.iscsi_replay.specs.Replayed.{setting_for, report_of, Reported, FrontReported, AnswersAs};
+ghost use Rattle.iscsi_replay.specs.Order.{ReadsInOrder};
+ghost use Rattle.iscsi_replay.specs.Replayed.{setting_for, report_of, Reported, FrontReported, AnswersAs, ComesOfReading, IsReadWhole};
 ghost use Rattle.iscsi_replay.specs.Writing.{AppendsFront, AppendsBut};
 ghost use Rattle.iscsi_replay.specs.Again.{IsRecordable, IsReadAgain};
 
@@ -149,6 +150,13 @@ pub fn replay<R: Source, W: Sink>(
     ensures fault { are_valid settings.now ≡ true → IfSome (R.remaining reader.old) (λ bytes. AnswersAs (read_of bytes) result) }
     // In any case a front of the report is written, and nothing where the bytes are no recording.
     ensures front { IfSome (R.remaining reader.old) (λ bytes. FrontReported settings.now (read_of bytes) (W.contents writer.old) (W.contents writer.new)) }
+    // A fault is answered once the bytes seen make it certain, or at the end of the input, and `Read` only where they
+    // make none certain. The report is begun at the end of the input.
+    ensures order { ReadsInOrder read_of result (R.remaining reader.old) (R.remaining reader.new) }
+    // A refusal that reading gives leaves the writer as it was, whatever was known of its bytes and of the reader's.
+    ensures unwritten { IfErr result (λ e. ComesOfReading e → writer.new ≡ writer.old) }
+    // The writer is as it was, or the input was read to its end, and is a recording.
+    ensures whole { (writer.new ≡ writer.old) ⊎ IsReadWhole (R.remaining reader.old) (R.remaining reader.new) }
     // With the lines of the connections before it, that report is a recording again: of the same connections and
     // events, unless it has too many lines.
     ensures again { IfSome (R.remaining reader.old) (λ bytes. IsReadAgain settings.now (read_of bytes)) }

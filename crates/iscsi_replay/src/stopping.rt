@@ -1,7 +1,8 @@
 //! Why the program ends without a whole report.
 
-ghost use Rattle.std.specs.Prelude.{◌≡◌, ◌≢◌, ◌≤◌};
+ghost use Rattle.std.specs.Prelude.{◌≡◌, ◌≢◌, ◌≤◌, OnOk, IfErr};
 ghost use Rattle.std.specs.Process.{exit_status};
+ghost use Rattle.iscsi_replay.specs.Stops.{status_of};
 
 use crate::fault::ReplayFault;
 use clap::error::ErrorKind;
@@ -23,8 +24,6 @@ pub enum Stop {
 }
 
 impl Stop {
-    ghost use Rattle.iscsi_replay.specs.Stops.{status_of};
-
     /// The status with which the program ends: 0 for the help, 1 for a fault and for want of memory, and 2
     /// for a command line that is refused.
     pub fn status(&self) -> u8
@@ -70,15 +69,15 @@ impl Stop {
     }
 }
 
-impl From<ReplayFault> for Stop {
-    ghost use Rattle.iscsi_replay.specs.declared.stopping.Stop.{Stop};
-
-    ghost from_gives = { λ fault stop. stop ≡ Stop.Fault fault };
-
-    fn from(fault: ReplayFault) -> Stop
-        ensures value { result ≡ Stop.Fault fault }
-    {
-        Stop::Fault(fault)
+/// Tells why the program ends, if it ends without a whole report, and answers its status.
+pub fn exit_code<R: Print + Eprint>(answer: Result<(), Stop>, rt: &R) -> ExitCode
+    ensures ok { OnOk answer (exit_status result ≡ 0) }
+    ensures refused { IfErr answer (λ stop. status_of stop ≢ 0 → exit_status result ≡ status_of stop) }
+    ensures help { IfErr answer (λ stop. status_of stop ≡ 0 → exit_status result ≤ 1) }
+{
+    match answer {
+        Ok(()) => ExitCode::SUCCESS,
+        Err(stop) => stop.report(rt),
     }
 }
 

@@ -1,0 +1,43 @@
+//! The program, over any reader and any writer.
+
+ghost use Rattle.std.specs.Prelude.{◌≡◌, ◌↔◌, ◌⊎◌, map, true, false, IfErr, IsErrOf};
+ghost use Rattle.iscsi_replay.specs.Replayed.{IsReadWhole};
+ghost use Rattle.iscsi_replay.specs.Told.{IsAsTold, ComesOfWords, ComesBeforeReport};
+
+use crate::command_line;
+use crate::fault::ReplayFault;
+use crate::replaying::replay;
+use crate::sink::Sink;
+use crate::source::Source;
+use crate::stopping::Stop;
+use std::alloc::Global;
+
+/// Replays what the reader gives, with the settings that the words of a command line give, the program's name
+/// first.
+pub fn replay_as_told<R: Source, W: Sink>(
+    alloc: Global,
+    words: &[&str],
+    reader: &mut R,
+    writer: &mut W,
+) -> Result<(), Stop>
+    requires read_fresh { R.has_failed reader.old ≡ false }
+    requires write_fresh { W.has_failed writer.old ≡ false }
+    // The words are refused, or this is the replay with exactly the settings that they give.
+    ensures told { IsAsTold (map (λ w. w.now) words.entry.now) result (R.remaining reader.old) (R.remaining reader.new) (W.contents writer.old) (W.contents writer.new) }
+    // Where the words are refused, nothing is read and nothing is written.
+    ensures untouched { IfErr result (λ stop. ComesOfWords stop → (reader.new ≡ reader.old) × (writer.new ≡ writer.old)) }
+    // A refusal that the words or reading give leaves the writer as it was.
+    ensures unwritten { IfErr result (λ stop. ComesBeforeReport stop → writer.new ≡ writer.old) }
+    // The writer is as it was, or the input was read to its end, and is a recording.
+    ensures whole { (writer.new ≡ writer.old) ⊎ IsReadWhole (R.remaining reader.old) (R.remaining reader.new) }
+    ensures read_failed { IsErrOf result (Stop.Fault ReplayFault.Read) ↔ (R.has_failed reader.new ≡ true) }
+    ensures write_failed { IsErrOf result (Stop.Fault ReplayFault.Write) ↔ (W.has_failed writer.new ≡ true) }
+{
+    let Some(settings) = command_line::settings(alloc, words)? else {
+        return Err(Stop::BadFirst);
+    };
+    match replay(alloc, &settings, reader, writer) {
+        Ok(()) => Ok(()),
+        Err(fault) => Err(Stop::Fault(fault)),
+    }
+}
