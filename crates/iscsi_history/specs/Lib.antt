@@ -17,3 +17,4 @@ pub mod Order
 pub mod Numbering
 pub mod Answers
 pub mod Meaning
+pub mod Promises

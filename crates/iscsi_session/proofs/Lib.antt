@@ -46,3 +46,4 @@ pub mod AgendaLemmas
 pub mod ManageLemmas
 pub mod PaceLemmas
 pub mod OwedLemmas
+pub mod PromiseLemmas

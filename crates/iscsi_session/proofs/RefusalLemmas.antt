@@ -1,30 +1,29 @@
 -- The first event of a run that is refused.
-use Rattle.std.proofs.Common.{◌≡◌, ℕ, ◌+◌, ◌&&◌, inl, not, cond, Bool, true, false, List, [], ◌∷◌, Option, Some, None, refl, ap, sym, ◌∙◌, nat_lt, ◌<◌, ◌⊎◌, inr, length, take, drop, get_or, Ok, Err, arith, length-take}
+use Rattle.std.proofs.Common.{◌≡◌, ℕ, ◌+◌, ◌&&◌, inl, not, cond, Bool, true, false, List, [], ◌∷◌, ◌++◌, Option, Some, None, refl, ap, sym, ◌∙◌, nat_lt, ◌<◌, ◌⊎◌, inr, length, take, drop, get_or, Ok, Err, arith, length-take}
 use Rattle.std.specs.List.{list_all}
 use Rattle.iscsi_history.specs.declared.event.Event.{Event}
 use Rattle.iscsi_session.specs.declared.fault.SessionFault.{SessionFault}
 use Rattle.iscsi_session.specs.declared.fault.SessionFault.TheVariants.{UnknownConnection, Exhausted, NoMemory}
 use Rattle.iscsi_history.specs.Settings.{Setting}
-use Rattle.iscsi_history.specs.Run.{run_of}
 use Rattle.iscsi_history.specs.Agenda.{belongs}
 use Rattle.iscsi_session.specs.Refusals.{first_refusal, refusal_after, refusal_of, RefusesAs, RunRefusesAs}
-use Rattle.iscsi_history.specs.Closes.{ClosesHoldIn}
 use Rattle.std.proofs.lemmas.List.{drop_more}
-use Rattle.iscsi_history.proofs.CloseTheorem.{closes_hold_in}
+use Rattle.iscsi_history.proofs.BoolLemmas.{and_parts, and_both}
 
--- events of which none is refused come on the session's connections
-belongs_all : (o : Setting) (taken : ℕ) (h : List Event) → first_refusal o taken h ≡ None → list_all (belongs o) h ≡ true
-belongs_all o taken [] none = refl
-belongs_all o taken (e ∷ h) none = by_tests (λ rest. belongs_all o (taken + 1) h rest) (belongs o e) (nat_lt taken o.events) none
+-- an event that isn't refused comes on a connection of the session
+pub taken_belongs : (o : Setting) (h : List Event) (e : Event) → refusal_of o h e ≡ None → belongs o e ≡ true
+taken_belongs o h e none = by_test (belongs o e) (nat_lt (length h) o.events) none
   where
-    by_tests : (first_refusal o (taken + 1) h ≡ None → list_all (belongs o) h ≡ true) → (b c : Bool) → (let x : Option SessionFault = elim (cond (not b) (Some UnknownConnection) (cond c None (Some Exhausted))) [ Some fault ↦ Some fault | None ↦ first_refusal o (taken + 1) h ] in x) ≡ None → (b && list_all (belongs o) h) ≡ true
-    by_tests later true true k = later k
-    by_tests later true false k = absurd cc
-    by_tests later false c k = absurd cc
+    by_test : (b c : Bool) → (let x : Option SessionFault = cond (not b) (Some UnknownConnection) (cond c None (Some Exhausted)) in x) ≡ None → b ≡ true
+    by_test true c h = refl
+    by_test false c h = absurd cc
 
--- for every list of events that a session takes, and for its log
-pub closes_hold_run : (o : Setting) (h : List Event) → first_refusal o 0 h ≡ None → ClosesHoldIn o h (run_of o h)
-closes_hold_run o h none = closes_hold_in o h (belongs_all o 0 h none)
+-- so do the events with it
+pub belong_more : (o : Setting) (h : List Event) (e : Event) → list_all (belongs o) h ≡ true → belongs o e ≡ true → list_all (belongs o) (h ++ e ∷ []) ≡ true
+belong_more o [] e before here = and_both (belongs o e) true here refl
+belong_more o (d ∷ h) e before here =
+    let parts = and_parts (belongs o d) (list_all (belongs o) h) before in
+    and_both (belongs o d) (list_all (belongs o) (h ++ e ∷ [])) parts.0 (belong_more o h e parts.1 here)
 
 abbrev first_of_two : Option SessionFault → Option SessionFault → Option SessionFault
 first_of_two x y = elim x [ Some fault ↦ Some fault | None ↦ y ]

@@ -16,6 +16,7 @@ use Rattle.iscsi_history.specs.Trace.{Arrival, Command, Trace, has, shown, waiti
 use Rattle.iscsi_history.specs.Execution.{exp_of, unfinished}
 use Rattle.iscsi_history.specs.Management.{may_wait}
 use Rattle.iscsi_history.specs.Logout.{is_open}
+use Rattle.iscsi_history.specs.Agenda.{belongs}
 use Rattle.iscsi_history.specs.Run.{trace_of, stat_sn_of}
 use Rattle.iscsi_history.specs.Executed.{executed_below, delivers}
 use Rattle.iscsi_history.specs.Enabling.{EnabledSoFar}
@@ -194,6 +195,7 @@ pub record Settled (o : Setting) (s : Core) (t : Trace) : Type 0 where
 pub record StandsFor (o : Setting) (s : Core) (h : List Event) : Type 0 where
   pub settled : Settled o s (trace_of o h)
   pub taken : s.taken ≡ length h
+  pub belong : list_all (belongs o) h ≡ true  -- each arrival came on a connection of the session
 
 -- how many requests are held
 abbrev pub held_count : Setting → Trace → ℕ
@@ -202,3 +204,8 @@ held_count o t = count_by (λ n. is_some (held t n)) (range_with_len (exp_of o t
 -- the most effects of the next event
 abbrev pub effect_bound_of : Setting → Trace → ℕ
 effect_bound_of o t = 12 * (held_count o t + length (waiting t) + 1) + 2 * length (live t)
+
+-- what no bound is above: each place of the window may hold a request and each connection four functions that wait, and as many
+-- commands are live as the window has places, and eight immediate ones of each connection
+abbrev pub most_effects : Setting → ℕ
+most_effects o = 12 * (o.window + 4 * length o.conns + 1) + 2 * (o.window + 8 * length o.conns)

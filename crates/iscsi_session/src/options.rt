@@ -1,8 +1,10 @@
 //! The options of a session.
 
-ghost use Rattle.std.specs.Prelude.{◌≡◌};
+ghost use Rattle.std.specs.Prelude.{◌≡◌, IfOk};
 ghost use Rattle.iscsi_session.specs.Settings.{setting_of};
 ghost use Rattle.iscsi_history.specs.Settings.{is_known as known_in, are_distinct as distinct_in, is_valid as valid_setting, are_sizes_valid as valid_sizes, is_within as within};
+
+use std::alloc::{AllocError, Global};
 
 /// The options of a session, with their limits.
 #[derive(Debug, Drop)]
@@ -44,6 +46,21 @@ impl Options {
             && is_within(self.events, MAX_EVENTS)
             && is_within(self.conns.len() as u64, MAX_CONNS)
             && are_distinct(&self.conns)
+    }
+
+    /// A copy of the options, for a session beside this one or after it.
+    pub fn copy(&self, alloc: Global) -> Result<Options, AllocError>
+        ensures same { IfOk result (λ options. setting_of options ≡ setting_of self.now) }
+    {
+        Ok(Options {
+            first: self.first,
+            window: self.window,
+            units: self.units,
+            depth: self.depth,
+            level: self.level,
+            events: self.events,
+            conns: self.conns.to_vec(alloc)?,
+        })
     }
 
     fn are_sizes_valid(&self) -> bool

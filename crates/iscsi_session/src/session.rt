@@ -4,13 +4,20 @@ ghost use Rattle.std.specs.Prelude.{IfSome, Err, ◌*◌, ◌≡◌, ◌≢◌, 
 ghost use Rattle.std.specs.List.{list_all};
 ghost use Rattle.iscsi_history.specs.Settings.{Setting, is_valid};
 ghost use Rattle.iscsi_session.specs.Settings.{setting_of};
-ghost use Rattle.iscsi_history.specs.Trace.{Trace, after_items, received};
+ghost use Rattle.iscsi_history.specs.Trace.{Trace, after_items, received, live};
 ghost use Rattle.std.specs.VecDeque.{deque_capacity};
 ghost use Rattle.iscsi_history.specs.Agenda.{arrival, items_of};
-ghost use Rattle.iscsi_history.specs.Run.{trace_of, next_entry, effects_of};
+ghost use Rattle.iscsi_history.specs.Run.{trace_of, run_of, next_entry, numbers_of, effects_of};
 ghost use Rattle.iscsi_history.specs.Flow.{Flows, HasOneMore};
+ghost use Rattle.iscsi_history.specs.Executed.{delivered, executed};
+ghost use Rattle.iscsi_history.specs.Enabling.{EnablesByTheRule};
+ghost use Rattle.iscsi_history.specs.Aborts.{AbortsHoldIn};
+ghost use Rattle.iscsi_history.specs.Closes.{ClosesHoldIn};
+ghost use Rattle.iscsi_history.specs.Lives.{StartsOnce};
+ghost use Rattle.iscsi_history.specs.Numbering.{CountsReplies};
+ghost use Rattle.iscsi_history.specs.Order.{KeepsOrder};
 ghost use Rattle.iscsi_session.specs.Refusals.{RefusesAs, refusal_of, refusal_of_options};
-ghost use Rattle.iscsi_session.specs.Standing.{Settled, StandsFor, effect_bound_of, is_held, are_ascending};
+ghost use Rattle.iscsi_session.specs.Standing.{Settled, StandsFor, effect_bound_of, most_effects, is_held, are_ascending};
 ghost use Rattle.iscsi_session.specs.Steps.{refusal_by, comes_on, KeepsPace, counted, numbers_by};
 ghost use Rattle.iscsi_session.specs.Functions.{owed};
 
@@ -91,9 +98,10 @@ impl Session {
         make(alloc, options).ok_or(SessionFault::NoMemory)
     }
 
-    /// ExpCmdSN and MaxCmdSN.
-    fn numbers(&self) -> Numbers
-        ensures { result ≡ numbers_by self.now }
+    /// ExpCmdSN and MaxCmdSN, as a reply that went out now would carry them (RFC 7143 section 4.2.2.1).
+    pub fn numbers(&self) -> Numbers
+        ensures numbers { (o : Setting) (h : List Event) → StandsFor o self.now h → result ≡ numbers_of o (trace_of o h) }
+        ensures value { result ≡ numbers_by self.now }
     {
         Numbers {
             exp: self.window.exp(),
@@ -101,9 +109,20 @@ impl Session {
         }
     }
 
+    /// How many commands are live: they entered a task set, and haven't left it.
+    pub fn live_len(&self) -> usize
+        ensures live { (o : Setting) (h : List Event) → StandsFor o self.now h → result ≡ length (live (trace_of o h)) }
+        ensures value { result ≡ length self.now.live }
+    {
+        self.live.len()
+    }
+
     /// The most effects that the next event gives.
+    ///
+    /// For a window of W and C connections it is never more than 12 (W + 4 C + 1) + 2 (W + 8 C).
     pub fn effect_bound(&self) -> usize
         ensures bound { (o : Setting) (h : List Event) → StandsFor o self.now h → result ≡ effect_bound_of o (trace_of o h) }
+        ensures most { (o : Setting) (h : List Event) → StandsFor o self.now h → result ≤ most_effects o }
         ensures value { result ≡ 12 * (count_by is_held self.now.window.places + length self.now.waiting + 1) + 2 * length self.now.live }
     {
         ITEM_EFFECTS * (self.held as usize + self.waiting.len() + 1) + 2 * self.live.len()
@@ -126,6 +145,20 @@ impl Session {
         // An event receives one number at the most. ExpCmdSN and MaxCmdSN don't go back, and no more commands
         // are unfinished than the window has places.
         ensures flow { (o : Setting) (h : List Event) → StandsFor o self.old h → OnOk result (Flows o (trace_of o h) (trace_of o (h ++ event.now ∷ []))) }
+
+        // The log of those events and this one keeps the promises: the numbered requests that it delivers are those received
+        // without a gap, in CmdSN order; it enables what the rules of task sets enable; what a completed abort covers is over;
+        // nothing goes on where it was closed.
+        ensures delivery { (o : Setting) (h : List Event) → StandsFor o self.old h → let all = h ++ event.now ∷ [] in OnOk result (delivered (run_of o all) ≡ executed o all) }
+        ensures enabling { (o : Setting) (h : List Event) → StandsFor o self.old h → let all = h ++ event.now ∷ [] in OnOk result (EnablesByTheRule o all (run_of o all)) }
+        ensures aborts { (o : Setting) (h : List Event) → StandsFor o self.old h → let all = h ++ event.now ∷ [] in OnOk result (AbortsHoldIn o all (run_of o all)) }
+        ensures closes { (o : Setting) (h : List Event) → StandsFor o self.old h → let all = h ++ event.now ∷ [] in OnOk result (ClosesHoldIn o all (run_of o all)) }
+
+        // Each command is started at most once, and each request answered at most once; the StatSNs of a connection count
+        // its replies; the effects of an item stand in order; and the definitions mean what they say.
+        ensures started_once { (o : Setting) (h : List Event) → StandsFor o self.old h → let all = h ++ event.now ∷ [] in OnOk result (StartsOnce (run_of o all)) }
+        ensures stat_sns { (o : Setting) (h : List Event) → StandsFor o self.old h → let all = h ++ event.now ∷ [] in OnOk result (CountsReplies o (run_of o all)) }
+        ensures in_order { (o : Setting) (h : List Event) → StandsFor o self.old h → let all = h ++ event.now ∷ [] in OnOk result (KeepsOrder (run_of o all)) }
 
         // No event gives more effects than the bound, and with that much room memory isn't wanting.
         ensures bound { (o : Setting) (h : List Event) → StandsFor o self.old h → OnOk result (length (next_entry o h event.now).effects ≤ effect_bound_of o (trace_of o h)) }

@@ -16,7 +16,6 @@ use Rattle.iscsi_history.specs.Flow.{FlowsThrough}
 use Rattle.iscsi_history.specs.Enabling.{effects_in}
 use Rattle.iscsi_history.specs.Aborts.{AbortsHoldIn}
 use Rattle.iscsi_history.specs.Closes.{ClosesHoldIn}
-use Rattle.iscsi_session.proofs.RefusalLemmas.{closes_hold_run}
 use Rattle.iscsi_history.proofs.AbortTheorem.{aborts_hold_in}
 use Rattle.iscsi_history.proofs.MomentLemmas.{log_effects, rule_means}
 use Rattle.iscsi_session.proofs.FlowLemmas.{FlowsThrough-push}
@@ -26,6 +25,8 @@ use Rattle.iscsi_history.proofs.RunLemmas.{run_of-push}
 use Rattle.iscsi_history.proofs.DeliveryLemmas.{log_delivers}
 use Rattle.iscsi_session.proofs.AgreeLemmas.{settled_expected}
 use Rattle.iscsi_session.proofs.RefusalLemmas.{taken_none, refused_cases, refusal_more, refusal_here, options_refused, event_refused, run_taken}
+use Rattle.iscsi_history.specs.Enabling.{EnablesByTheRule}
+use Rattle.iscsi_session.proofs.PromiseLemmas.{stands_delivers, stands_enables, stands_closes}
 use Rattle.iscsi_session.proofs.log.run.Goals as goal
 
 pub returns-in_err-session-clause-refused : goal.returns-in_err-session-clause-refused
@@ -81,18 +82,11 @@ loop-event-preserved c =
       refusal = refusal_more o c.args.events.now i _ (first_refusal o 0 c.args.events.now) in_range inv.refusal (taken_none _ c.in_ok-numbers.numbers (c.in_ok-numbers.ensures.refused o h inv.stands));
     }
 
--- what a session that stands for the events has delivered
-delivered_by_session : (o : Setting) (s : Core) (h : List Event) → StandsFor o s h → delivered (run_of o h) ≡ executed o h
-delivered_by_session o s h stands =
-    sym (log_delivers o 0 [] h)
-    ∙ stands.settled.agrees.window.delivered
-    ∙ ap (executed_below o (trace_of o h)) (sym (settled_expected o s (trace_of o h) stands.settled))
-
 pub returns-clause-delivery : goal.returns-clause-delivery
 returns-clause-delivery c =
     let o : Setting = setting_of c.args.options in
     let all : take c.loop-event.event-index c.args.events.now ≡ c.args.events.now = take_all c.loop-event.event-index c.args.events.now c.loop-event-test.false in
-    ap delivered (c.loop-event.invariant.log ∙ ap (run_of o) all) ∙ delivered_by_session o c.loop-event.session c.args.events.now (subst (StandsFor o c.loop-event.session) all c.loop-event.invariant.stands)
+    ap delivered (c.loop-event.invariant.log ∙ ap (run_of o) all) ∙ stands_delivers o c.loop-event.session c.args.events.now (subst (StandsFor o c.loop-event.session) all c.loop-event.invariant.stands)
 
 pub returns-clause-enabling : goal.returns-clause-enabling
 returns-clause-enabling c =
@@ -100,11 +94,7 @@ returns-clause-enabling c =
     let events : List Event = c.args.events.now in
     let all : take c.loop-event.event-index events ≡ events = take_all c.loop-event.event-index events c.loop-event-test.false in
     let stands : StandsFor o c.loop-event.session events = subst (StandsFor o c.loop-event.session) all c.loop-event.invariant.stands in
-    record {
-      whole = ap effects_in (c.loop-event.invariant.log ∙ ap (run_of o) all) ∙ sym (log_effects o 0 [] events);
-      exact = stands.settled.agrees.enabled;
-      means = rule_means;
-    }
+    subst (EnablesByTheRule o events) (sym (c.loop-event.invariant.log ∙ ap (run_of o) all)) (stands_enables o c.loop-event.session events stands)
 
 pub returns-clause-aborts : goal.returns-clause-aborts
 returns-clause-aborts c =
@@ -115,10 +105,10 @@ returns-clause-aborts c =
 pub returns-clause-closes : goal.returns-clause-closes
 returns-clause-closes c =
     let o : Setting = setting_of c.args.options in
-    let all : take c.loop-event.event-index c.args.events.now ≡ c.args.events.now = take_all c.loop-event.event-index c.args.events.now c.loop-event-test.false in
-    let over : drop c.loop-event.event-index c.args.events.now ≡ [] = grind (arith, common_steps) in
-    let taken : first_refusal o 0 c.args.events.now ≡ None = sym c.loop-event.invariant.refusal ∙ ap (first_refusal o c.loop-event.event-index) over in
-    subst (ClosesHoldIn o c.args.events.now) (sym (c.loop-event.invariant.log ∙ ap (run_of o) all)) (closes_hold_run o c.args.events.now taken)
+    let events : List Event = c.args.events.now in
+    let all : take c.loop-event.event-index events ≡ events = take_all c.loop-event.event-index events c.loop-event-test.false in
+    let stands : StandsFor o c.loop-event.session events = subst (StandsFor o c.loop-event.session) all c.loop-event.invariant.stands in
+    subst (ClosesHoldIn o events) (sym (c.loop-event.invariant.log ∙ ap (run_of o) all)) (stands_closes o c.loop-event.session events stands)
 
 pub returns-clause-flow : goal.returns-clause-flow
 returns-clause-flow c =

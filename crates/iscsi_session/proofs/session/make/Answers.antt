@@ -79,4 +79,5 @@ returns c = record {
       let waits : c.in_ok-ok-3.field-0.items ≡ [] = search rules in
       Settled-opened (setting_of c.args.options) _ is refl refl refl none c.in_ok-open-3.ensures refl c.in_ok-open-4.ensures.events waits (c.in_ok-open-5.ensures ∙ ap (map (λ (k : ℕ × ℕ). k.0)) c.deref.ensures.value);
   taken = refl;
+  belong = refl;
 }

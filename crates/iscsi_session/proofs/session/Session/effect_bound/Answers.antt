@@ -1,4 +1,5 @@
-use Rattle.std.proofs.Common.{◌≡◌, ◌≤◌, ◌+◌, ◌*◌, ◌∙◌, ap, arith, length, count_by}
+use Rattle.std.proofs.lemmas.List.{length-map}
+use Rattle.std.proofs.Common.{◌≡◌, ℕ, sym, ◌≤◌, ◌+◌, ◌*◌, ◌∙◌, ap, arith, length, count_by}
 use Rattle.iscsi_session.specs.Standing.{Core, is_held}
 use Rattle.iscsi_session.proofs.OpenLemmas.{bound_is}
 use Rattle.iscsi_session.proofs.WindowLemmas.{few_counted}
@@ -25,3 +26,14 @@ returns-clause-bound c = λ o h stands.
     let lives : c.len-2.result ≡ length c.args.self.now.live = c.len-2.ensures ∙ c.self.inside.live.ok.0 ∙ ap (λ (s : Core). length s.live) c.self.view_is in
     let waits : length c.self.inside.waiting.items ≡ length c.args.self.now.waiting = ap (λ (s : Core). length s.waiting) c.self.view_is in
     omega (arith, held, lives, waits, c.len.ensures, c.self.inside.waiting.ok.0, bound_is o c.args.self.now h stands)
+
+pub returns-clause-most : goal.returns-clause-most
+returns-clause-most c = λ o h stands.
+    let inv = c.self.invariant in
+    let a = stands.settled.agrees in
+    let size : length c.self.inside.window.places ≡ o.window = ap (λ (s : Core). length s.window.places) c.self.view_is ∙ a.window.size in
+    let conns : length c.self.inside.conns.items ≡ length o.conns =
+    ap (λ (s : Core). length s.conns) c.self.view_is ∙ sym (length-map c.args.self.now.conns (λ (k : ℕ × ℕ). k.0)) ∙ ap length a.replies.cids ∙ length-map o.conns (λ (k : ℕ × ℕ). k.0) in
+    let waits : length c.self.inside.waiting.items ≤ 4 * length c.self.inside.conns.items = few_waiting c.self.inside.conns.items c.self.inside.waiting.items inv.functions.few inv.functions.known in
+    let few : length c.self.inside.live.items ≤ c.self.inside.window.unfinished + 8 * length c.self.inside.conns.items = few_live c.self.inside.window.unfinished c.self.inside.conns.items c.self.inside.live.items inv.commands.numbered inv.commands.counted.few inv.commands.known in
+    omega (arith, c.len.ensures, c.self.inside.waiting.ok.0, c.len-2.ensures, c.self.inside.live.ok.0, waits, few, conns, size, inv.window.fits, inv.window.held_is, few_counted is_held c.self.inside.window.places)

@@ -18,6 +18,12 @@ use Rattle.iscsi_session.proofs.AgreeLemmas.{settled_numbers}
 use Rattle.iscsi_session.proofs.StepLemmas.{Settled-counted, taken_by, refusal_is}
 use Rattle.iscsi_session.proofs.OpenLemmas.{bound_is}
 use Rattle.iscsi_session.proofs.SoundLemmas.{taken_sound}
+use Rattle.iscsi_history.proofs.AbortTheorem.{aborts_hold_in}
+use Rattle.iscsi_history.proofs.LifeTheorem.{starts_once}
+use Rattle.iscsi_history.proofs.NumberingLemmas.{counts_replies}
+use Rattle.iscsi_history.proofs.OrderRuns.{keeps_order}
+use Rattle.iscsi_session.proofs.PromiseLemmas.{stands_delivers, stands_enables, stands_closes}
+use Rattle.iscsi_session.proofs.RefusalLemmas.{belong_more, taken_belongs}
 use Rattle.iscsi_session.proofs.session.Session.step.Goals as goal
 
 pub returns-in-Some-clause-refused : goal.returns-in-Some-clause-refused
@@ -53,6 +59,7 @@ returns-clause-stands c = λ o h stands.
     let one : length (h ++ e ∷ []) ≡ length h + 1 = length_push h e in
     record {
       settled = subst (Settled o c.apply.new.self) (sym (trace_of-push o h e)) now;
+      belong = belong_more o h e stands.belong (taken_belongs o h e (sym (refusal_is o c.args.self.now h e stands) ∙ sym c.refusal.ensures ∙ c.in_default.is));
       taken = c.apply.ensures.taken ∙ ap (λ (s : Core). s.taken + 1) c.self.view_is ∙ ap (λ n. n + 1) stands.taken ∙ sym one;
     }
 
@@ -77,7 +84,7 @@ pub returns-clause-numbers : goal.returns-clause-numbers
 returns-clause-numbers c = λ o h stands.
     let start : Settled o (counted c.args.self.now) (trace_of o h) = Settled-counted o c.args.self.now (trace_of o h) stands.settled in
     let from = subst (λ (s : Core). Settled o (counted s) (trace_of o h)) (sym c.self.view_is) start in
-    c.numbers-numbers.ensures ∙ settled_numbers o c.apply.new.self (after_event o (length h) (trace_of o h) c.args.event.now) (c.apply.ensures.settled o (length h) (trace_of o h) (index_is c.args.self.now c.self.inside.taken h (ap (λ (s : Core). s.taken) c.self.view_is) stands.taken) from)
+    c.numbers-numbers.ensures.value ∙ settled_numbers o c.apply.new.self (after_event o (length h) (trace_of o h) c.args.event.now) (c.apply.ensures.settled o (length h) (trace_of o h) (index_is c.args.self.now c.self.inside.taken h (ap (λ (s : Core). s.taken) c.self.view_is) stands.taken) from)
 
 pub returns-clause-refused : goal.returns-clause-refused
 returns-clause-refused c = λ o h stands.
@@ -95,3 +102,24 @@ returns-clause-bound c = λ o h stands.
     let waits : length c.self.inside.waiting.items ≡ length c.args.self.now.waiting = ap (λ (s : Core). length s.waiting) c.self.view_is in
     let lives : length c.self.inside.live.items ≡ length c.args.self.now.live = ap (λ (s : Core). length s.live) c.self.view_is in
     omega (arith, added, held, c.apply.new.out.ok.0, c.reserve.new.self.ok.0, c.apply.ensures.spent, bound_is o c.args.self.now h stands, lives, waits)
+
+pub returns-clause-delivery : goal.returns-clause-delivery
+returns-clause-delivery c = λ o h stands. stands_delivers o c.apply.new.self (h ++ c.args.event.now ∷ []) (returns-clause-stands c o h stands)
+
+pub returns-clause-enabling : goal.returns-clause-enabling
+returns-clause-enabling c = λ o h stands. stands_enables o c.apply.new.self (h ++ c.args.event.now ∷ []) (returns-clause-stands c o h stands)
+
+pub returns-clause-aborts : goal.returns-clause-aborts
+returns-clause-aborts c = λ o h stands. aborts_hold_in o (h ++ c.args.event.now ∷ [])
+
+pub returns-clause-closes : goal.returns-clause-closes
+returns-clause-closes c = λ o h stands. stands_closes o c.apply.new.self (h ++ c.args.event.now ∷ []) (returns-clause-stands c o h stands)
+
+pub returns-clause-started_once : goal.returns-clause-started_once
+returns-clause-started_once c = λ o h stands. starts_once o (h ++ c.args.event.now ∷ [])
+
+pub returns-clause-stat_sns : goal.returns-clause-stat_sns
+returns-clause-stat_sns c = λ o h stands. counts_replies o (h ++ c.args.event.now ∷ [])
+
+pub returns-clause-in_order : goal.returns-clause-in_order
+returns-clause-in_order c = λ o h stands. keeps_order o (h ++ c.args.event.now ∷ [])

@@ -1,0 +1,48 @@
+-- Where a session stands for some events, their log keeps the promises.
+use Rattle.std.proofs.Common.{◌≡◌, ◌∙◌, ◌++◌, List, [], ap, sym}
+use Rattle.iscsi_history.specs.declared.event.Event.{Event}
+use Rattle.iscsi_history.specs.Settings.{Setting}
+use Rattle.iscsi_history.specs.Run.{trace_of, run_of}
+use Rattle.iscsi_history.specs.Executed.{delivered, executed, executed_below}
+use Rattle.iscsi_history.specs.Flow.{FlowsThrough}
+use Rattle.iscsi_history.specs.Enabling.{EnablesByTheRule}
+use Rattle.iscsi_history.specs.Aborts.{AbortsHoldIn}
+use Rattle.iscsi_history.specs.Closes.{ClosesHoldIn}
+use Rattle.iscsi_history.specs.Promises.{KeepsPromises}
+use Rattle.iscsi_history.proofs.DeliveryLemmas.{log_delivers}
+use Rattle.iscsi_history.proofs.MomentLemmas.{log_effects, rule_means}
+use Rattle.iscsi_history.proofs.AbortTheorem.{aborts_hold_in}
+use Rattle.iscsi_history.proofs.CloseTheorem.{closes_hold_in}
+use Rattle.iscsi_history.proofs.LifeTheorem.{starts_once}
+use Rattle.iscsi_history.proofs.NumberingLemmas.{counts_replies}
+use Rattle.iscsi_history.proofs.OrderRuns.{keeps_order}
+use Rattle.iscsi_session.specs.Standing.{Core, StandsFor}
+use Rattle.iscsi_session.proofs.AgreeLemmas.{settled_expected}
+
+pub stands_delivers : (o : Setting) (s : Core) (h : List Event) → StandsFor o s h → delivered (run_of o h) ≡ executed o h
+stands_delivers o s h stands =
+    sym (log_delivers o 0 [] h)
+    ∙ stands.settled.agrees.window.delivered
+    ∙ ap (executed_below o (trace_of o h)) (sym (settled_expected o s (trace_of o h) stands.settled))
+
+pub stands_enables : (o : Setting) (s : Core) (h : List Event) → StandsFor o s h → EnablesByTheRule o h (run_of o h)
+stands_enables o s h stands = record {
+  whole = sym (log_effects o 0 [] h);
+  exact = stands.settled.agrees.enabled;
+  means = rule_means;
+}
+
+pub stands_closes : (o : Setting) (s : Core) (h : List Event) → StandsFor o s h → ClosesHoldIn o h (run_of o h)
+stands_closes o s h stands = closes_hold_in o h stands.belong
+
+pub promises_kept : (o : Setting) (s : Core) (h : List Event) → StandsFor o s h → FlowsThrough o h → KeepsPromises o h (run_of o h)
+promises_kept o s h stands flow = record {
+  delivery = stands_delivers o s h stands;
+  enabling = stands_enables o s h stands;
+  aborts = aborts_hold_in o h;
+  closes = stands_closes o s h stands;
+  flow = flow;
+  started_once = starts_once o h;
+  stat_sns = counts_replies o h;
+  in_order = keeps_order o h;
+}
