@@ -2,6 +2,9 @@
 use Rattle.std.specs.Prelude.{◌≡◌, ℕ, List, Option, Result, Ok, Err, IfSome, IsOk, ⊤}
 use Rattle.std.specs.Io.KnownBytes.{Appends, Keeps, IsAtEnd}
 use Rattle.iscsi_history.specs.Settings.{Setting}
+use Rattle.iscsi_history.specs.declared.event.Event.{Event}
+use Rattle.iscsi_history.specs.declared.entry.Entry.{Entry}
+use Rattle.iscsi_history.specs.Promises.{KeepsPromises}
 use Rattle.iscsi_history.specs.Run.{run_of}
 use Rattle.iscsi_session.specs.Lines.{report_from}
 use Rattle.iscsi_replay.specs.Recorded.{Recorded, read_of}
@@ -30,6 +33,17 @@ report_of s r = report_from r.events (run_of (setting_for s r.conns) r.events)
 abbrev pub Reported : Settings → Result Recorded ReplayFault → Option (List ℕ) → Option (List ℕ) → Type 0
 Reported s (Ok r) old new = Appends old new (report_of s r)
 Reported s (Err e) old new = ⊥
+
+-- the report that was written is that of a log that keeps all promises
+pub record ReportsPromises (o : Setting) (events : List Event) (old new : Option (List ℕ)) : Type 0 where
+  pub log : List Entry
+  pub keeps : KeepsPromises o events log
+  pub written : Appends old new (report_from events log)
+
+-- the bytes are a recording, and so it is with its report
+abbrev pub KeepsWord : Settings → Result Recorded ReplayFault → Option (List ℕ) → Option (List ℕ) → Type 0
+KeepsWord s (Ok r) old new = ReportsPromises (setting_for s r.conns) r.events old new
+KeepsWord s (Err e) old new = ⊥
 
 -- a front of the report was written, and nothing where the bytes are no recording
 abbrev pub FrontReported : Settings → Result Recorded ReplayFault → Option (List ℕ) → Option (List ℕ) → Type 0

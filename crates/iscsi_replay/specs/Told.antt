@@ -4,7 +4,7 @@ use Rattle.clap.specs.Words.{Text, HasKind, fault_of, matches_of}
 use Rattle.iscsi_replay.specs.Command.{replay_app, first_number, HasValues}
 use Rattle.iscsi_replay.specs.Order.{ReadsInOrder}
 use Rattle.iscsi_replay.specs.Recorded.{read_of}
-use Rattle.iscsi_replay.specs.Replayed.{Reported, FrontReported, AnswersAs, ComesOfReading}
+use Rattle.iscsi_replay.specs.Replayed.{Reported, KeepsWord, FrontReported, AnswersAs, ComesOfReading}
 use Rattle.iscsi_replay.specs.declared.settings.Settings.{Settings}
 use Rattle.iscsi_replay.specs.declared.fault.ReplayFault.{ReplayFault}
 use Rattle.iscsi_replay.specs.declared.fault.ReplayFault.TheVariants.{BadSettings}
@@ -19,6 +19,7 @@ pub record IsReplayAsTold (words : List Text) (answer : Result (Unit {0}) Replay
   pub values : HasValues (matches_of replay_app words) settings
   pub valid : answer ≢ Err BadSettings
   pub report : OnOk answer (IfSome given (λ bytes. Reported settings (read_of bytes) old new))
+  pub promises : OnOk answer (IfSome given (λ bytes. KeepsWord settings (read_of bytes) old new))
   pub fault : IfSome given (λ bytes. AnswersAs (read_of bytes) answer)
   pub front : IfSome given (λ bytes. FrontReported settings (read_of bytes) old new)
   pub order : ReadsInOrder read_of answer given left

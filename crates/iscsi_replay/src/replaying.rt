@@ -9,7 +9,9 @@ ghost use Rattle.iscsi_session.specs.Lines.{event_line, entry_lines};
 ghost use Rattle.iscsi_replay.specs.Limits.{are_valid};
 ghost use Rattle.iscsi_replay.specs.Recorded.{Recorded, view, read_of, IsSound};
 ghost use Rattle.iscsi_replay.specs.Order.{ReadsInOrder};
-ghost use Rattle.iscsi_replay.specs.Replayed.{setting_for, report_of, Reported, FrontReported, AnswersAs, ComesOfReading, IsReadWhole};
+ghost use Rattle.iscsi_history.specs.Promises.{KeepsPromises};
+ghost use Rattle.iscsi_history.specs.Run.{run_of};
+ghost use Rattle.iscsi_replay.specs.Replayed.{setting_for, report_of, Reported, KeepsWord, FrontReported, AnswersAs, ComesOfReading, IsReadWhole};
 ghost use Rattle.iscsi_replay.specs.Writing.{AppendsFront, AppendsBut};
 ghost use Rattle.iscsi_replay.specs.Again.{IsRecordable, IsReadAgain};
 
@@ -113,6 +115,7 @@ fn write_report<W: Sink>(
     ensures front { AppendsFront (W.contents writer.old) (W.contents writer.new) (report_of settings.now (view recording)) }
     ensures failed { IsErrOf result ReplayFault.Write ↔ (W.has_failed writer.new ≡ true) }
     ensures kinds { IfErr result (λ e. e ≢ ReplayFault.Write → e ≡ ReplayFault.NoMemory) }
+    ensures promises { OnOk result (KeepsPromises (setting_for settings.now (view recording).conns) (view recording).events (run_of (setting_for settings.now (view recording).conns) (view recording).events)) }
 {
     let Recording { conns, events } = recording;
     let mut session = open(alloc, settings, conns)?;
@@ -146,6 +149,9 @@ pub fn replay<R: Source, W: Sink>(
     ensures untouched { IsErrOf result ReplayFault.BadSettings → (reader.new ≡ reader.old) × (writer.new ≡ writer.old) }
     // The bytes are a recording, and the report of its events is written, and nothing else.
     ensures ok { OnOk result (IfSome (R.remaining reader.old) (λ bytes. Reported settings.now (read_of bytes) (W.contents writer.old) (W.contents writer.new))) }
+    // It is the report of a log that keeps all promises: of delivery, enabling, aborts, closes, flow, the life of a command,
+    // replies and their numbers, and the order of effects.
+    ensures promises { OnOk result (IfSome (R.remaining reader.old) (λ bytes. KeepsWord settings.now (read_of bytes) (W.contents writer.old) (W.contents writer.new))) }
     // The answer is that of the bytes, unless memory ran out or a read or a write failed.
     ensures fault { are_valid settings.now ≡ true → IfSome (R.remaining reader.old) (λ bytes. AnswersAs (read_of bytes) result) }
     // In any case a front of the report is written, and nothing where the bytes are no recording.

@@ -125,7 +125,7 @@ impl Session {
         ensures most { (o : Setting) (h : List Event) → StandsFor o self.now h → result ≤ most_effects o }
         ensures value { result ≡ 12 * (count_by is_held self.now.window.places + length self.now.waiting + 1) + 2 * length self.now.live }
     {
-        ITEM_EFFECTS * (self.held as usize + self.waiting.len() + 1) + 2 * self.live.len()
+        ITEM_EFFECTS * (self.held as usize + self.waiting.len() + 1) + 2 * self.live_len()
     }
 
     /// Takes an event, appends its effects to `out`, and answers ExpCmdSN and MaxCmdSN at its end.

@@ -17,6 +17,7 @@ returns-in-Err-clause-told g c =
       values = values;
       valid = λ bad. absurd (false≢true (sym (c.in-Err.ensures.bad.0 bad) ∙ valid));
       report = tt;
+      promises = tt;
       fault = c.in-Err.ensures.fault valid;
       front = c.in-Err.ensures.front;
       order = c.in-Err.ensures.order;

@@ -1,9 +1,16 @@
-use Rattle.std.proofs.Common.{rules, ◌+◌, ◌≡◌, ◌≢◌, ◌∙◌, ◌↔◌, take, refl, ap, sym, subst, Bool, true, false, Result, Ok, Err, MatchResult, IfErr, IsErrOf}
+use Rattle.std.proofs.Common.{rules, ◌+◌, ◌≡◌, ◌≢◌, ◌∙◌, ◌↔◌, take, List, refl, ap, sym, subst, Bool, true, false, Result, Ok, Err, MatchResult, IfErr, IsErrOf}
 use Rattle.std.proofs.lemmas.Bool.{false≢true}
 use Rattle.iscsi_replay.specs.declared.fault.ReplayFault.{ReplayFault}
 use Rattle.iscsi_replay.specs.declared.fault.ReplayFault.TheVariants.{Write, NoMemory}
-use Rattle.std.proofs.lemmas.List.{take_more}
+use Rattle.std.specs.Prelude.{OnOk}
+use Rattle.std.proofs.lemmas.List.{take_more, take_all}
+use Rattle.iscsi_history.specs.declared.event.Event.{Event}
 use Rattle.std.proofs.lemmas.Result.{IfOk-weaker}
+use Rattle.iscsi_history.specs.Flow.{FlowsThrough}
+use Rattle.iscsi_history.specs.Promises.{KeepsPromises}
+use Rattle.iscsi_history.specs.Run.{run_of}
+use Rattle.iscsi_session.proofs.FlowLemmas.{FlowsThrough-push, FlowsThrough-none}
+use Rattle.iscsi_session.proofs.PromiseLemmas.{promises_kept}
 use Rattle.iscsi_session.specs.Standing.{StandsFor}
 use Rattle.iscsi_replay.specs.Replayed.{setting_for}
 use Rattle.iscsi_replay.proofs.Written.{front_before, front_after, waits_not, waits_less}
@@ -16,6 +23,7 @@ pub loop-event-init : goal.loop-event-init
 loop-event-init g c = record {
   fresh = search rules;
   stands = c.in_ok-session.ensures.stands;
+  flow = FlowsThrough-none _;
   written = waits_not _ _ c.new-lines.ensures.items;
 }
 
@@ -63,6 +71,7 @@ loop-event-preserved g c =
     record {
       fresh = search rules;
       stands = subst (StandsFor o c.step.new.self) (sym (take_more items i _ c.loop-event-test.true)) (c.in-Ok.ensures.stands o (take i items) stands);
+      flow = subst (FlowsThrough o) (sym (take_more items i _ c.loop-event-test.true)) (FlowsThrough-push o (take i items) _ c.loop-event.invariant.flow (c.in-Ok.ensures.flow o (take i items) stands));
       written = waits_less _ _ _ _ _ _ waits c.in_ok-write_chunk.ensures.ok;
     }
 
@@ -90,3 +99,15 @@ just_write (Err e) now h = (λ is. h.1, λ said. ap Err h.0)
 
 pub returns-clause-failed : goal.returns-clause-failed
 returns-clause-failed g c = just_write c.put_all.result _ c.put_all.ensures.failed
+
+-- a fact holds where the answer is Ok, and elsewhere too
+whatever : {P : Type 0} (x : Result (Unit {0}) ReplayFault) → P → OnOk x P
+whatever (Ok v) h = h
+whatever (Err e) h = tt
+
+pub returns-clause-promises : goal.returns-clause-promises
+returns-clause-promises g c =
+    let o = setting_for c.args.settings.now c.args.recording.conns.items in
+    let events : List Event = c.args.recording.events.items in
+    let all = take_all c.loop-event.event-index c.deref-event-items.result.now c.loop-event-test.false ∙ c.deref-event-items.ensures.value in
+    whatever c.put_all.result (promises_kept o c.loop-event.session events (subst (StandsFor o c.loop-event.session) all c.loop-event.invariant.stands) (subst (FlowsThrough o) all c.loop-event.invariant.flow))

@@ -18,12 +18,13 @@ overflow_add-result-3 c =
     let inv = c.self.invariant in
     let waits : length c.self.inside.waiting.items ≤ 4 * length c.self.inside.conns.items = few_waiting c.self.inside.conns.items c.self.inside.waiting.items inv.functions.few inv.functions.known in
     let few : length c.self.inside.live.items ≤ c.self.inside.window.unfinished + 8 * length c.self.inside.conns.items = few_live c.self.inside.window.unfinished c.self.inside.conns.items c.self.inside.live.items inv.commands.numbered inv.commands.counted.few inv.commands.known in
-    omega (arith, c.len.ensures, c.self.inside.waiting.ok.0, c.len-2.ensures, c.self.inside.live.ok.0, waits, few, inv.conns, inv.window.fits, inv.window.most, inv.window.held_is, few_counted is_held c.self.inside.window.places)
+    let lives : length c.self.inside.live.items ≡ length c.args.self.now.live = ap (λ (s : Core). length s.live) c.self.view_is in
+    omega (arith, c.len.ensures, c.self.inside.waiting.ok.0, c.live_len.ensures.value, lives, waits, few, inv.conns, inv.window.fits, inv.window.most, inv.window.held_is, few_counted is_held c.self.inside.window.places)
 
 pub returns-clause-bound : goal.returns-clause-bound
 returns-clause-bound c = λ o h stands.
     let held : c.self.inside.held ≡ count_by is_held c.args.self.now.window.places = c.self.invariant.window.held_is ∙ ap (λ (s : Core). count_by is_held s.window.places) c.self.view_is in
-    let lives : c.len-2.result ≡ length c.args.self.now.live = c.len-2.ensures ∙ c.self.inside.live.ok.0 ∙ ap (λ (s : Core). length s.live) c.self.view_is in
+    let lives : c.live_len.result ≡ length c.args.self.now.live = c.live_len.ensures.value in
     let waits : length c.self.inside.waiting.items ≡ length c.args.self.now.waiting = ap (λ (s : Core). length s.waiting) c.self.view_is in
     omega (arith, held, lives, waits, c.len.ensures, c.self.inside.waiting.ok.0, bound_is o c.args.self.now h stands)
 
@@ -36,4 +37,5 @@ returns-clause-most c = λ o h stands.
     ap (λ (s : Core). length s.conns) c.self.view_is ∙ sym (length-map c.args.self.now.conns (λ (k : ℕ × ℕ). k.0)) ∙ ap length a.replies.cids ∙ length-map o.conns (λ (k : ℕ × ℕ). k.0) in
     let waits : length c.self.inside.waiting.items ≤ 4 * length c.self.inside.conns.items = few_waiting c.self.inside.conns.items c.self.inside.waiting.items inv.functions.few inv.functions.known in
     let few : length c.self.inside.live.items ≤ c.self.inside.window.unfinished + 8 * length c.self.inside.conns.items = few_live c.self.inside.window.unfinished c.self.inside.conns.items c.self.inside.live.items inv.commands.numbered inv.commands.counted.few inv.commands.known in
-    omega (arith, c.len.ensures, c.self.inside.waiting.ok.0, c.len-2.ensures, c.self.inside.live.ok.0, waits, few, conns, size, inv.window.fits, inv.window.held_is, few_counted is_held c.self.inside.window.places)
+    let lives : length c.self.inside.live.items ≡ length c.args.self.now.live = ap (λ (s : Core). length s.live) c.self.view_is in
+    omega (arith, c.len.ensures, c.self.inside.waiting.ok.0, c.live_len.ensures.value, lives, waits, few, conns, size, inv.window.fits, inv.window.held_is, few_counted is_held c.self.inside.window.places)
