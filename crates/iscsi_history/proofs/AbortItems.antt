@@ -14,7 +14,8 @@ use Rattle.iscsi_history.specs.Execution.{exp_of, max_of, verdict_of, marks_of, 
 use Rattle.iscsi_history.specs.Management.{may_wait, refusal_of_function, MOST_WAITING, waiting_on, is_before, answer, function_marks}
 use Rattle.iscsi_history.specs.Logout.{logout_marks}
 use Rattle.iscsi_history.specs.Items.{marks_after, execution, item_of, waiting_item, immediate_item, function_item}
-use Rattle.iscsi_history.specs.Aborts.{is_set_abort, is_abort, executed_in, is_complete, completes, IsCompleted, is_in_unit_of, earlier, is_ticket_covered}
+use Rattle.iscsi_history.specs.Replies.{executed_in}
+use Rattle.iscsi_history.specs.Aborts.{is_set_abort, is_abort, is_complete, completes, IsCompleted, is_in_unit_of, earlier, is_ticket_covered}
 use Rattle.iscsi_history.proofs.BoolLemmas.{or_first, or_second, or_none, and_parts, and_both, and_false}
 use Rattle.iscsi_history.proofs.ListLemmas.{any_filter}
 use Rattle.iscsi_history.proofs.TraceLemmas.{received-item, unadmitted, live-quiet, filter-same, filter-true}

@@ -26,3 +26,8 @@ pub mod OrderLemmas
 pub mod OrderRuns
 pub mod NumberingLemmas
 pub mod TouchLemmas
+pub mod CountLemmas
+pub mod ReplyForms
+pub mod ReplyTurns
+pub mod ReplyRuns
+pub mod AnswerTheorem

@@ -1,6 +1,6 @@
 -- Aborts: what a completed abort covers is over. It is in no task set, isn't answered, and isn't delivered
 -- (RFC 7143 sections 4.2.3 and 11.5, SAM-5 section 7).
-use Rattle.std.specs.Prelude.{◌≡◌, ℕ, ◌==◌, ◌&&◌, ◌||◌, not, Bool, true, false, nat_lt, List, ◌∷◌, ◌++◌, Option, Some, None, if◌then◌else◌, filter}
+use Rattle.std.specs.Prelude.{◌≡◌, ℕ, ◌==◌, ◌&&◌, ◌||◌, not, Bool, true, false, nat_lt, List, ◌∷◌, ◌++◌, Some, None, if◌then◌else◌, filter}
 use Rattle.std.specs.List.{list_any}
 use Rattle.iscsi_wire.specs.declared.reply.Reply.{Reply}
 use Rattle.iscsi_wire.specs.declared.reply.Reply.TheVariants.{Task}
@@ -9,8 +9,9 @@ use Rattle.iscsi_wire.specs.Fields.{connection_of, opcode, function, itt}
 use Rattle.iscsi_history.specs.declared.event.Event.{Event}
 use Rattle.iscsi_history.specs.declared.entry.Entry.{Entry}
 use Rattle.iscsi_history.specs.Settings.{Setting}
-use Rattle.iscsi_history.specs.Trace.{Arrival, Command, Mark, Delivers, Executes, Voids, Empties, Sends, Trace, has, is_delivered, delivers_number, entered, leaves_ticket, live, is_among}
+use Rattle.iscsi_history.specs.Trace.{Arrival, Command, Mark, Voids, Empties, Sends, Trace, has, is_delivered, delivers_number, entered, leaves_ticket, live, is_among}
 use Rattle.iscsi_history.specs.Execution.{unit_named}
+use Rattle.iscsi_history.specs.Replies.{executed_in}
 use Rattle.iscsi_history.specs.Management.{is_before}
 use Rattle.iscsi_history.specs.Run.{trace_of, effects_of_item}
 use Rattle.iscsi_history.specs.Enabling.{is_enable, effects_so_far, effects_in}
@@ -23,12 +24,6 @@ is_set_abort r = function r == 2 || function r == 4 || function r == 5
 
 abbrev pub is_abort : Request → Bool
 is_abort r = opcode r == 0x02 && (function r == 1 || is_set_abort r)
-
--- the request that executes in an item, at its turn or at once
-abbrev pub executed_in : List Mark → Option Arrival
-executed_in (Delivers a ∷ ms) = Some a
-executed_in (Executes a ∷ ms) = Some a
-executed_in _ = None
 
 -- Function complete
 abbrev pub is_complete : ℕ → Reply → Bool
