@@ -1,9 +1,8 @@
 -- A request that executed has at most one reply, and one whose command was taken out has none, in the trace of each list of events.
-use Rattle.std.proofs.Common.{◌≡◌, ℕ, ◌+◌, ◌<◌, ◌≤◌, inl, inr, ⊎_elim, cond, Bool, true, false, List, [], ◌∷◌, ◌++◌, map, length, count_by, Option, Some, None, refl, ap, sym, subst, ◌∙◌, arith, nat_lt, eq-eqb}
+use Rattle.std.proofs.Common.{◌≡◌, ℕ, ◌+◌, ◌<◌, ◌≤◌, inl, inr, ⊎_elim, cond, true, false, List, [], ◌∷◌, ◌++◌, map, length, count_by, Option, Some, None, refl, ap, sym, subst, ◌∙◌, arith, nat_lt, eq-eqb}
 use Rattle.std.specs.List.{filter_map, cons_option}
 use Rattle.std.proofs.lemmas.List.{append-nil}
 use Rattle.std.proofs.lemmas.List.Elements.{filter_map-append}
-use Rattle.std.proofs.lemmas.Bool.Decides.{nat_tests}
 use Rattle.iscsi_wire.specs.declared.reply.Reply.{Reply}
 use Rattle.iscsi_wire.specs.declared.reply.Reply.TheVariants.{Scsi, Reject}
 use Rattle.iscsi_wire.specs.declared.request.Request.{Request}
@@ -24,7 +23,7 @@ use Rattle.iscsi_history.proofs.Forms.{Start, AtTurn, AtArrival, AfterWaiting, D
 use Rattle.iscsi_history.proofs.FormRuns.{trace_has_forms}
 use Rattle.iscsi_history.proofs.ReplyForms.{comes_of, replies_seen}
 use Rattle.iscsi_history.proofs.ReplyTurns.{begins_of}
-use Rattle.iscsi_history.proofs.ReplyRuns.{aborted_in, standing, standing_item, begun_by, standing_once, Since, since}
+use Rattle.iscsi_history.proofs.ReplyRuns.{aborted_in, standing, standing_item, begun_by, one_most, is_below, none_left, standing_once, Since, since}
 
 -- ---- the marks of an item
 
@@ -135,18 +134,6 @@ rejecting_form (Executed AtArrival a d) is conn reply h = absurd cc
 rejecting_form (Executed AfterWaiting a d) is conn reply h = absurd cc
 
 -- ---- the clauses
-
-none_left : (xs : List Reply) → length xs ≤ 0 → xs ≡ []
-none_left [] h = refl
-none_left (x ∷ xs) h = absurd (omega arith)
-
-one_most : (b : Bool) → one b ≤ 1
-one_most true = omega arith
-one_most false = omega arith
-
--- at least one is below
-is_below : (v place : ℕ) → 1 ≤ one (nat_lt v place) → v < place
-is_below v place h = grind (arith, nat_tests)
 
 -- a command that is taken out has no reply, before or after
 taken_unanswered : (o : Setting) (next : ℕ) (later before : Trace) (item : List Mark) (a : Arrival) (c : Command) → HaveForms o next (later ++ item ∷ before) → executed_in item ≡ Some a → In (Leaves c) item

@@ -31,3 +31,5 @@ pub mod ReplyForms
 pub mod ReplyTurns
 pub mod ReplyRuns
 pub mod AnswerTheorem
+pub mod BeforeLemmas
+pub mod ReplySince

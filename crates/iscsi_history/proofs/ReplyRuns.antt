@@ -76,6 +76,19 @@ becoming_item o now v t item f = subst (λ i. becoming v (i ∷ t) ≤ becoming 
 
 -- ---- all items
 
+-- no reply
+pub none_left : (xs : List Reply) → length xs ≤ 0 → xs ≡ []
+none_left [] h = refl
+none_left (x ∷ xs) h = absurd (omega arith)
+
+pub one_most : (b : Bool) → one b ≤ 1
+one_most true = omega arith
+one_most false = omega arith
+
+-- at least one is below
+pub is_below : (v place : ℕ) → 1 ≤ one (nat_lt v place) → v < place
+is_below v place h = grind (arith, nat_tests)
+
 -- the events before now, and this one
 pub begun_by : (now v next : ℕ) (b : Bool) → now < next → one (nat_lt v (cond b now (now + 1))) + cond b (one (now == v)) 0 ≤ one (nat_lt v next)
 begun_by now v next true lt = grind (arith, nat_tests)
