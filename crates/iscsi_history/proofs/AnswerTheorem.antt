@@ -23,6 +23,7 @@ use Rattle.iscsi_history.proofs.Forms.{Start, AtTurn, AtArrival, AfterWaiting, D
 use Rattle.iscsi_history.proofs.FormRuns.{trace_has_forms}
 use Rattle.iscsi_history.proofs.ReplyForms.{comes_of, replies_seen}
 use Rattle.iscsi_history.proofs.ReplyTurns.{begins_of}
+use Rattle.iscsi_history.proofs.ReplySince.{undelivered_silent}
 use Rattle.iscsi_history.proofs.ReplyRuns.{aborted_in, standing, standing_item, begun_by, one_most, is_below, none_left, standing_once, Since, since}
 
 -- ---- the marks of an item
@@ -171,6 +172,7 @@ answers_once o h = record {
   unanswered = λ later before item a c split is there.
       ap (replies_to c.arrival.event) (sym split)
       ∙ taken_unanswered o (length h) later before item a c (subst (HaveForms o (length h)) (sym split) (trace_has_forms o h)) is (in-contains item (Leaves c) there);
+  undelivered = λ n a there none. undelivered_silent o (length h) (trace_of o h) n a (trace_has_forms o h) there none;
 }
 
 -- and for its log

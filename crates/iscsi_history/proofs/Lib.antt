@@ -33,3 +33,4 @@ pub mod ReplyRuns
 pub mod AnswerTheorem
 pub mod BeforeLemmas
 pub mod ReplySince
+pub mod TurnLemmas

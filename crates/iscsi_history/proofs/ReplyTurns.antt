@@ -7,7 +7,7 @@ use Rattle.std.proofs.lemmas.List.Elements.{filter-append}
 use Rattle.std.proofs.lemmas.List.Sums.{sum_by-append}
 use Rattle.iscsi_wire.specs.Fields.{connection_of}
 use Rattle.iscsi_history.specs.Settings.{Setting}
-use Rattle.iscsi_history.specs.Trace.{Arrival, Mark, Admits, Delivers, Executes, Voids, Empties, Waits, Leaves, Enters, Sends, ClosesConn, ClosesSession, Ignores, Trace, shown, admits_at, admitted, delivers_number, is_delivered, empties_number, is_emptied, held, waiting_by, waiting_through, waiting}
+use Rattle.iscsi_history.specs.Trace.{Arrival, Mark, Admits, Delivers, Executes, Voids, Empties, Waits, Leaves, Enters, Sends, ClosesConn, ClosesSession, Ignores, Trace, shown, admits_at, admitted, delivers_number, is_delivered, is_emptied, held, waiting_by, waiting_through, waiting}
 use Rattle.iscsi_history.proofs.BoolLemmas.{and_parts, and_both}
 use Rattle.iscsi_history.proofs.ListLemmas.{fewer_counted, count_by-push}
 use Rattle.iscsi_history.proofs.CountLemmas.{one, count-cons, count-filter, count-weaker, count-lost, count-split}
@@ -23,11 +23,11 @@ abbrev pub admits_request : Mark → Option Arrival
 admits_request (Admits a) = Some a
 admits_request _ = None
 
--- nothing was delivered or taken out at its number
+-- nothing was delivered at its number
 abbrev pub is_owed : Trace → Arrival → Bool
-is_owed t a = not (is_delivered t a.number) && not (is_emptied t a.number)
+is_owed t a = not (is_delivered t a.number)
 
--- the numbered requests that are still to execute
+-- the numbered requests that didn't execute so far. Those that are taken out stay among them
 abbrev pub owed : Trace → List Arrival
 owed t = filter (is_owed t) (shown admits_request t)
 
@@ -50,7 +50,8 @@ admitted_here n (ClosesConn conn ∷ ms) a h = admitted_here n ms a h
 admitted_here n (ClosesSession ∷ ms) a h = admitted_here n ms a h
 admitted_here n (Ignores why ∷ ms) a h = admitted_here n ms a h
 
-admitted_there : (n : ℕ) (t : Trace) (a : Arrival) → In a (shown (admits_at n) t) → In a (shown admits_request t)
+-- the request that was admitted at a number is one that was admitted
+pub admitted_there : (n : ℕ) (t : Trace) (a : Arrival) → In a (shown (admits_at n) t) → In a (shown admits_request t)
 admitted_there n [] a h = absurd h
 admitted_there n (item ∷ t) a h =
     ⊎_elim
@@ -61,21 +62,17 @@ admitted_there n (item ∷ t) a h =
 held_owed : (t : Trace) (a : Arrival) → held t a.number ≡ Some a → is_owed t a ≡ true
 held_owed t a h = by_tests (is_delivered t a.number) (is_emptied t a.number) h
   where
-    by_tests : (d e : Bool) → cond (d || e) None (admitted t a.number) ≡ Some a → (not d && not e) ≡ true
+    by_tests : (d e : Bool) → cond (d || e) None (admitted t a.number) ≡ Some a → not d ≡ true
     by_tests true e found = absurd cc
-    by_tests false true found = absurd cc
-    by_tests false false found = refl
+    by_tests false e found = refl
 
-neither : (a b c d : Bool) → (not (a || b) && not (c || d)) ≡ true → (not b && not d) ≡ true
-neither false false false false h = refl
-neither false false false true h = absurd (false≢true h)
-neither false false true d h = absurd (false≢true h)
-neither false true c d h = absurd (false≢true h)
-neither true b c d h = absurd (false≢true h)
+not_either : (a b : Bool) → not (a || b) ≡ true → not b ≡ true
+not_either true b h = absurd (false≢true h)
+not_either false b h = h
 
 -- what is owed was owed before
 owed_before : (item : List Mark) (t : Trace) (a : Arrival) → is_owed (item ∷ t) a ≡ true → is_owed t a ≡ true
-owed_before item t a h = neither (list_any (delivers_number a.number) item) (is_delivered t a.number) (list_any (empties_number a.number) item) (is_emptied t a.number) h
+owed_before item t a h = not_either (list_any (delivers_number a.number) item) (is_delivered t a.number) h
 
 -- an item adds no more than what it admits
 owed_item : (p : Arrival → Bool) (item : List Mark) (t : Trace) → count_by p (owed (item ∷ t)) ≤ count_by p (owed t) + count_by p (filter_map admits_request item)
@@ -100,7 +97,7 @@ owed_passing p a ms t none here passes =
     let old : List Arrival = shown admits_request t in
     let same : owed t' ≡ filter (is_owed t') old = ap (λ xs. filter (is_owed t') (old ++ xs)) none ∙ ap (filter (is_owed t')) (append-nil old) in
     let there : In a old = admitted_there a.number t a (first-in (shown (admits_at a.number) t) a (admitted_of_held t a.number a here)) in
-    let turned : (is_owed t' a && p a) ≡ false = ap (λ b. (not ((b || list_any (delivers_number a.number) ms) || is_delivered t a.number) && not (is_emptied t' a.number)) && p a) (eq-eqb a.number a.number refl) in
+    let turned : (is_owed t' a && p a) ≡ false = ap (λ b. not ((b || list_any (delivers_number a.number) ms) || is_delivered t a.number) && p a) (eq-eqb a.number a.number refl) in
     omega (
       arith,
       ap (count_by p) same,

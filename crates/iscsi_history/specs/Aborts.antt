@@ -9,7 +9,7 @@ use Rattle.iscsi_wire.specs.Fields.{connection_of, is_immediate, opcode, functio
 use Rattle.iscsi_history.specs.declared.event.Event.{Event}
 use Rattle.iscsi_history.specs.declared.entry.Entry.{Entry}
 use Rattle.iscsi_history.specs.Settings.{Setting}
-use Rattle.iscsi_history.specs.Trace.{Arrival, Command, Mark, Voids, Empties, Sends, Trace, has, is_delivered, delivers_number, entered, leaves_ticket, live, is_among}
+use Rattle.iscsi_history.specs.Trace.{Arrival, Command, Mark, Voids, Empties, Sends, Trace, has, admitted, is_delivered, delivers_number, entered, leaves_ticket, live, is_among}
 use Rattle.iscsi_history.specs.Execution.{unit_named}
 use Rattle.iscsi_history.specs.Replies.{executed_in, replies_to}
 use Rattle.iscsi_history.specs.Run.{trace_of, effects_of_item}
@@ -90,6 +90,8 @@ pub record IsOver (o : Setting) (f : Arrival) (later : Trace) (item : List Mark)
       → list_any (is_enable k) (effects_of_item o (moment ++ item ∷ before) i) ≡ false
   -- no request is delivered at a covered number
   pub numbers : (n : ℕ) → is_number_covered f item before n ≡ true → has (delivers_number n) later ≡ false
+  -- and the one that was admitted there has no reply, before or after
+  pub unanswered : (n : ℕ) (a : Arrival) → is_number_covered f item before n ≡ true → admitted (later ++ item ∷ before) n ≡ Some a → replies_to a.event (later ++ item ∷ before) ≡ []
 
 -- so it is with each completed abort
 abbrev pub AbortsHold : Setting → Trace → Type 0

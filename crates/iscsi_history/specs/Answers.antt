@@ -1,5 +1,5 @@
 -- Replies: a request that executed has at most one, and one whose command was taken out has none.
-use Rattle.std.specs.Prelude.{◌≡◌, ◌≤◌, ℕ, List, [], ◌∷◌, ◌++◌, length, Some, None, Contains}
+use Rattle.std.specs.Prelude.{◌≡◌, ◌≤◌, ℕ, false, List, [], ◌∷◌, ◌++◌, length, Some, None, Contains}
 use Rattle.iscsi_wire.specs.declared.reply.Reply.{Reply}
 use Rattle.iscsi_wire.specs.declared.reply.Reply.TheVariants.{Scsi, Task, Logout, Nop, Reject}
 use Rattle.iscsi_wire.specs.declared.request.Request.{Request}
@@ -7,7 +7,7 @@ use Rattle.iscsi_wire.specs.Fields.{connection_of, header_of, itt}
 use Rattle.iscsi_history.specs.declared.event.Event.{Event}
 use Rattle.iscsi_history.specs.declared.entry.Entry.{Entry}
 use Rattle.iscsi_history.specs.Settings.{Setting}
-use Rattle.iscsi_history.specs.Trace.{Arrival, Command, Mark, Leaves, Sends, Trace}
+use Rattle.iscsi_history.specs.Trace.{Arrival, Command, Mark, Leaves, Sends, Trace, admitted, is_delivered}
 use Rattle.iscsi_history.specs.Execution.{sense_of_status}
 use Rattle.iscsi_history.specs.Run.{trace_of}
 use Rattle.iscsi_history.specs.Enabling.{effects_so_far, effects_in}
@@ -36,6 +36,8 @@ pub record AnswersOnce (t : Trace) : Type 0 where
   -- a command that left while a request executed, by an abort or a Logout, is never answered, before or after
   pub unanswered : (later before : Trace) (item : List Mark) (a : Arrival) (c : Command) → later ++ item ∷ before ≡ t → executed_in item ≡ Some a → Contains item (Leaves c)
       → replies_to c.arrival.event t ≡ []
+  -- nor is a numbered request that wasn't delivered, as one that is taken out while it is held
+  pub undelivered : (n : ℕ) (a : Arrival) → admitted t n ≡ Some a → is_delivered t n ≡ false → replies_to a.event t ≡ []
 
 pub record AnswersOnceIn (o : Setting) (h : List Event) (log : List Entry) : Type 0 where
   -- the log has the effects of all items, one after the other
