@@ -1,4 +1,4 @@
--- In the trace of a list of events a request is still to execute, is a live command or is answered, and only one of these, once.
+-- In the trace of a list of events a request didn't execute so far, or is a live command, or has its reply: no two of these, and each once.
 use Rattle.std.proofs.Common.{◌≡◌, ℕ, ◌+◌, ◌<◌, ◌≤◌, ◌==◌, cond, Bool, true, false, List, [], ◌∷◌, ◌++◌, length, count_by, Option, Some, None, refl, ap, sym, subst, ◌∙◌, arith, nat_lt}
 use Rattle.std.proofs.lemmas.Bool.Decides.{nat_tests}
 use Rattle.iscsi_wire.specs.declared.reply.Reply.{Reply}
@@ -54,11 +54,11 @@ answered_once o now v t (Executed start a d) x = omega (arith, done_once o t v s
 
 -- ---- the requests of an event
 
--- those that are to be answered, and their replies
+-- those that didn't execute so far, their live commands and their replies
 abbrev pub standing : ℕ → Trace → ℕ
 standing v t = length (replies_to v t) + count_by (comes_of v) (live t) + awaited v t
 
--- those that are to execute, and the commands that they became
+-- those that didn't execute so far, and their commands that ever entered a set
 abbrev pub becoming : ℕ → Trace → ℕ
 becoming v t = count_by (comes_of v) (entered t) + awaited v t
 

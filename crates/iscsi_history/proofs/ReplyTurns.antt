@@ -1,4 +1,4 @@
--- The requests that are still to execute: those that were admitted, and the functions that wait.
+-- The requests that didn't execute so far: those that were admitted and not delivered, and the functions that wait.
 use Rattle.std.proofs.Common.{◌≡◌, ℕ, ◌+◌, ◌≤◌, ◌==◌, ◌&&◌, ◌||◌, not, inl, inr, ⊎_elim, cond, Bool, true, false, List, [], ◌∷◌, ◌++◌, map, filter, count_by, Option, Some, None, refl, ap, sym, ◌∙◌, arith, eq-eqb}
 use Rattle.std.specs.List.{list_any, filter_map, cons_option}
 use Rattle.std.proofs.lemmas.Bool.{false≢true, eqb-true}
@@ -186,7 +186,7 @@ executes_of v _ = 0
 abbrev pub begins_of : ℕ → ℕ → Form → ℕ
 begins_of now v form = cond (is_arrival form) (one (now == v)) 0
 
--- the requests of an event that are still to execute
+-- the requests of an event that didn't execute so far
 abbrev pub awaited : ℕ → Trace → ℕ
 awaited v t = count_by (is_of v) (waiting t) + count_by (is_of v) (owed t)
 
