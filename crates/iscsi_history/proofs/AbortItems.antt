@@ -11,10 +11,12 @@ use Rattle.iscsi_history.specs.declared.effect.Why.{Why}
 use Rattle.iscsi_history.specs.Settings.{Setting}
 use Rattle.iscsi_history.specs.Trace.{Arrival, Command, Mark, Admits, Delivers, Executes, Waits, Leaves, Ignores, Trace, has, enters, entered, number_received, contains, is_received, admits_at, delivers_number, held, leaves_ticket, live, live_in, is_among}
 use Rattle.iscsi_history.specs.Execution.{exp_of, max_of, verdict_of, marks_of, rejected, reply_on}
-use Rattle.iscsi_history.specs.Management.{may_wait, refusal_of_function, MOST_WAITING, waiting_on, is_before, answer, function_marks}
+use Rattle.iscsi_history.specs.Management.{may_wait, refusal_of_function, MOST_WAITING, waiting_on, answer, function_marks}
 use Rattle.iscsi_history.specs.Logout.{logout_marks}
 use Rattle.iscsi_history.specs.Items.{marks_after, execution, item_of, waiting_item, immediate_item, function_item}
-use Rattle.iscsi_history.specs.Aborts.{is_set_abort, is_abort, executed_in, is_complete, completes, IsCompleted, is_in_unit_of, earlier, is_ticket_covered}
+use Rattle.iscsi_history.specs.Replies.{executed_in}
+use Rattle.iscsi_history.specs.Aborts.{is_set_abort, is_abort, is_complete, completes, IsCompleted, is_in_unit_of, came_before, earlier, is_ticket_covered}
+use Rattle.iscsi_history.proofs.BeforeLemmas.{came_is_before}
 use Rattle.iscsi_history.proofs.BoolLemmas.{or_first, or_second, or_none, and_parts, and_both, and_false}
 use Rattle.iscsi_history.proofs.ListLemmas.{any_filter}
 use Rattle.iscsi_history.proofs.TraceLemmas.{received-item, unadmitted, live-quiet, filter-same, filter-true}
@@ -95,18 +97,18 @@ module _ (o : Setting) (p : ℕ) (t : Trace) (mark : Mark) (a : Arrival) (b : Be
       any_filter (λ (c : Command). c.ticket == k) s.covers (live_in s.unit t)
       ∙ any_filter (λ (c : Command). s.covers c && c.ticket == k) (λ (c : Command). c.unit == s.unit) (live t)
       ∙ any_filter (λ (c : Command). c.unit == s.unit && (s.covers c && c.ticket == k)) (λ (c : Command). not (has (leaves_ticket c.ticket) t)) (entered t)
-      ∙ any_weaker (λ (c : Command). (is_in_unit_of o a c && is_before a c) && c.ticket == k) (λ (c : Command). not (has (leaves_ticket c.ticket) t) && (c.unit == s.unit && (s.covers c && c.ticket == k))) (entered t) passes
-      (sym (any_filter (λ (c : Command). c.ticket == k) (λ (c : Command). is_in_unit_of o a c && is_before a c) (entered t)) ∙ h)
+      ∙ any_weaker (λ (c : Command). (is_in_unit_of o a c && came_before c.arrival a) && c.ticket == k) (λ (c : Command). not (has (leaves_ticket c.ticket) t) && (c.unit == s.unit && (s.covers c && c.ticket == k))) (entered t) passes
+      (sym (any_filter (λ (c : Command). c.ticket == k) (λ (c : Command). is_in_unit_of o a c && came_before c.arrival a) (entered t)) ∙ h)
     where
-      passes : (c : Command) → ((is_in_unit_of o a c && is_before a c) && c.ticket == k) ≡ true → (not (has (leaves_ticket c.ticket) t) && (c.unit == s.unit && (s.covers c && c.ticket == k))) ≡ true
+      passes : (c : Command) → ((is_in_unit_of o a c && came_before c.arrival a) && c.ticket == k) ≡ true → (not (has (leaves_ticket c.ticket) t) && (c.unit == s.unit && (s.covers c && c.ticket == k))) ≡ true
       passes c found =
-          let outer = and_parts (is_in_unit_of o a c && is_before a c) (c.ticket == k) found in
-          let inner = and_parts (is_in_unit_of o a c) (is_before a c) outer.0 in
+          let outer = and_parts (is_in_unit_of o a c && came_before c.arrival a) (c.ticket == k) found in
+          let inner = and_parts (is_in_unit_of o a c) (came_before c.arrival a) outer.0 in
           let stays : not (has (leaves_ticket c.ticket) t) ≡ true = ap (λ n. not (has (leaves_ticket n) t)) (eqb-true c.ticket k outer.1) ∙ ap not unleft in
           let there : (c.unit == s.unit) ≡ true = sym (ap (λ x. elim x [ Some unit ↦ c.unit == unit | None ↦ false ]) s.named) ∙ inner.0 in
           and_both (not (has (leaves_ticket c.ticket) t)) (c.unit == s.unit && (s.covers c && c.ticket == k)) stays
           (and_both (c.unit == s.unit) (s.covers c && c.ticket == k) there
-          (and_both (s.covers c) (c.ticket == k) (s.early c inner.1) outer.1))
+          (and_both (s.covers c) (c.ticket == k) (s.early c (sym (came_is_before a c) ∙ inner.1)) outer.1))
 
   -- LOGICAL UNIT RESET takes out the whole set
   whole_swept : (ms : List Mark) (s : Sweeps o ((mark ∷ []) ∷ t) a ms) (k : ℕ) → (function a.request == 5) ≡ true → is_among k (filter (is_in_unit_of o a) (live t)) ≡ true → is_among k (filter s.covers (live_in s.unit t)) ≡ true

@@ -1,23 +1,32 @@
 -- What a completed abort covers is over, in the trace of each list of events.
-use Rattle.std.proofs.Common.{◌≡◌, ℕ, ◌<◌, ◌≤◌, ◌==◌, ◌&&◌, ◌||◌, ◌⊎◌, inl, inr, ⊎_elim, not, cond, Bool, true, false, List, [], ◌∷◌, ◌++◌, filter, Option, None, refl, ap, sym, subst, ◌∙◌, arith, nat_lt, append_assoc}
+use Rattle.std.proofs.Common.{◌≡◌, ℕ, ◌<◌, ◌≤◌, ◌==◌, ◌&&◌, ◌||◌, ◌⊎◌, inl, inr, ⊎_elim, not, cond, Bool, true, false, List, [], ◌∷◌, ◌++◌, length, filter, Option, Some, None, refl, ap, sym, subst, ◌∙◌, arith, nat_lt, append_assoc}
 use Rattle.std.specs.List.{list_any, filter_map, range_with_len}
+use Rattle.std.specs.Prelude.{Contains}
 use Rattle.std.proofs.lemmas.Bool.{false≢true, or_cases}
 use Rattle.std.proofs.lemmas.Bool.Decides.{nat_tests}
+use Rattle.std.proofs.lemmas.List.Folds.{list_any-append}
 use Rattle.iscsi_wire.specs.Fields.{opcode, function}
 use Rattle.iscsi_history.specs.declared.event.Event.{Event}
 use Rattle.iscsi_history.specs.Settings.{Setting}
-use Rattle.iscsi_history.specs.Trace.{Arrival, Mark, Admits, Delivers, Executes, Voids, Empties, Waits, Leaves, Enters, Sends, ClosesConn, ClosesSession, Ignores, Trace, first_of, has, shown, number_received, contains, is_received, admits_at, admitted, delivers_number, is_delivered, empties_number, is_emptied, held, leaves_ticket, live, live_in, is_among, was_free, enabled_in}
+use Rattle.iscsi_history.specs.Trace.{Arrival, Command, Mark, Admits, Delivers, Executes, Voids, Empties, Waits, Leaves, Enters, Sends, ClosesConn, ClosesSession, Ignores, Trace, first_of, has, shown, number_received, contains, is_received, admits_at, admitted, delivers_number, is_delivered, empties_number, is_emptied, held, entered, leaves_ticket, live, live_in, is_among, was_free, enabled_in}
 use Rattle.iscsi_history.specs.Execution.{exp_of}
 use Rattle.iscsi_history.specs.Run.{trace_of, effects_of_item, run_of}
 use Rattle.iscsi_history.specs.Enabling.{is_enable}
+use Rattle.iscsi_history.specs.Replies.{executed_in, replies_to}
 use Rattle.iscsi_history.specs.Aborts.{is_set_abort, IsCompleted, is_in_unit_of, earlier, is_ticket_covered, takes_out, is_number_covered, IsOver, AbortsHold, AbortsHoldIn}
-use Rattle.iscsi_history.proofs.BoolLemmas.{or_first, or_second, and_parts}
+use Rattle.iscsi_history.proofs.BoolLemmas.{or_first, or_second, and_parts, not_true}
+use Rattle.iscsi_history.proofs.ElementLemmas.{in-contains}
 use Rattle.iscsi_history.proofs.ApartLemmas.{unamong-filter}
 use Rattle.iscsi_history.proofs.TraceLemmas.{received-item}
 use Rattle.iscsi_history.proofs.MomentLemmas.{left_unlive, item_enables, log_effects}
 use Rattle.iscsi_history.proofs.AbortLemmas.{voids_number, Fits, Fit, Stood, stood}
 use Rattle.iscsi_history.proofs.AbortMarks.{none_among}
 use Rattle.iscsi_history.proofs.AbortRuns.{trace_fits}
+use Rattle.iscsi_history.proofs.Forms.{HasForm, HaveForms}
+use Rattle.iscsi_history.proofs.FormRuns.{trace_has_forms}
+use Rattle.iscsi_history.proofs.ReplySince.{silent_since, undelivered_silent}
+use Rattle.iscsi_history.proofs.ReplyRuns.{Since, since}
+use Rattle.iscsi_history.proofs.TurnLemmas.{delivers_form, delivers_own, emptied_undelivered}
 
 -- what has happened has happened at each later moment
 has_since : (test : Mark → Bool) (later t : Trace) → has test t ≡ true → has test (later ++ t) ≡ true
@@ -137,15 +146,26 @@ taken_shut o p n item t fits taken =
     ))
     (taken_cases n item taken)
 
+-- the item of a function delivers no number but its own
+own_delivered : (o : Setting) (next : ℕ) (later before : Trace) (item : List Mark) (f : Arrival) → HaveForms o next (later ++ item ∷ before) → executed_in item ≡ Some f → (n : ℕ) → (f.number == n) ≡ false → list_any (delivers_number n) item ≡ false
+own_delivered o next later before item f y is n apart =
+    let s : Since o next later (item ∷ before) = since o later (item ∷ before) next y in
+    let g : HasForm o s.before.0 before item = s.before.1.1.0 in
+    ap (list_any (delivers_number n)) g.is ∙ delivers_form n g.form ∙ delivers_own n g.form f (sym (ap executed_in g.is) ∙ is) apart
+
 -- ---- the clause
 
-module _ (o : Setting) (p : ℕ) (later before : Trace) (item : List Mark) (f : Arrival) (x : Fit o p (later ++ item ∷ before)) (done : IsCompleted f item) where
+module _ (o : Setting) (p next : ℕ) (later before : Trace) (item : List Mark) (f : Arrival) (x : Fit o p (later ++ item ∷ before)) (y : HaveForms o next (later ++ item ∷ before)) (done : IsCompleted f item) where
   here : Stood o later item before
   here = stood o p later item before x
 
   -- a covered command isn't live at any moment since
   unlive_since : (k : ℕ) → is_ticket_covered o f item before k ≡ true → (moment : Trace) → is_among k (live (moment ++ item ∷ before)) ≡ false
   unlive_since k covered moment = left_unlive (moment ++ item ∷ before) k (has_since (leaves_ticket k) moment (item ∷ before) (covered_left o here.place f item before here.fits done k covered))
+
+  -- and nothing is sent to its request
+  silent : (c : Command) → is_ticket_covered o f item before c.ticket ≡ true → Contains (entered (item ∷ before)) c → replies_to c.arrival.event later ≡ []
+  silent c covered there = silent_since o next later (item ∷ before) c y (in-contains (entered (item ∷ before)) c there) (covered_left o here.place f item before here.fits done c.ticket covered)
 
   undelivered : (n : ℕ) → is_number_covered f item before n ≡ true → has (delivers_number n) later ≡ false
   undelivered n covered = by_test (function f.request == 1) refl covered
@@ -158,22 +178,42 @@ module _ (o : Setting) (p : ℕ) (later before : Trace) (item : List Mark) (f : 
           let lower : n < f.number = grind (arith, nat_tests) in
           here.none_below n (omega (arith, lower, reached))
 
+  -- nothing is delivered at a covered number where a request was admitted, at any time
+  never_delivered : (n : ℕ) (a : Arrival) → is_number_covered f item before n ≡ true → admitted (later ++ item ∷ before) n ≡ Some a → is_delivered (later ++ item ∷ before) n ≡ false
+  never_delivered n a covered there = by_test (function f.request == 1) refl covered
+    where
+      by_test : (b : Bool) → (function f.request == 1) ≡ b → cond b (list_any (takes_out n) item) (nat_lt n f.number && not (is_delivered before n)) ≡ true → is_delivered (later ++ item ∷ before) n ≡ false
+      by_test true is taken =
+          ⊎_elim (λ emptied. emptied_undelivered o n (later ++ item ∷ before) next y emptied)
+          (λ void. let none : admitted (later ++ item ∷ before) n ≡ None = ap first_of void.1 in absurd cc)
+          (shut_later o p n later (item ∷ before) x (taken_shut o here.place n item before here.fits taken)).0
+      by_test false is below =
+          let parts = and_parts (nat_lt n f.number) (not (is_delivered before n)) below in
+          let test : nat_lt n f.number ≡ true = parts.0 in
+          let apart : (f.number == n) ≡ false = grind (arith, nat_tests) in
+          list_any-append (list_any (delivers_number n)) later (item ∷ before)
+          ∙ ap (λ b. b || is_delivered (item ∷ before) n) (undelivered n covered)
+          ∙ ap (λ b. b || is_delivered before n) (own_delivered o next later before item f y done.executes n apart)
+          ∙ not_true (is_delivered before n) parts.1
+
   over : IsOver o f later item before
   over = record {
     sets = λ k covered after moment split. unlive_since k covered moment;
     completions = λ k covered after moment i split.
-        let y : Fit o p (after ++ i ∷ (moment ++ item ∷ before)) = subst (Fit o p) (ap (λ l. l ++ item ∷ before) (sym split) ∙ append_assoc after (i ∷ moment) (item ∷ before)) x in
-        let there : Stood o after i (moment ++ item ∷ before) = stood o p after i (moment ++ item ∷ before) y in
+        let z : Fit o p (after ++ i ∷ (moment ++ item ∷ before)) = subst (Fit o p) (ap (λ l. l ++ item ∷ before) (sym split) ∙ append_assoc after (i ∷ moment) (item ∷ before)) x in
+        let there : Stood o after i (moment ++ item ∷ before) = stood o p after i (moment ++ item ∷ before) z in
         there.fits.leaves k (unlive_since k covered moment);
+    replies = silent;
     enables = λ k covered after moment i split. unlive_unenabled o (moment ++ item ∷ before) i k (unlive_since k covered (i ∷ moment));
     numbers = undelivered;
+    unanswered = λ n a covered there. undelivered_silent o next (later ++ item ∷ before) n a y there (never_delivered n a covered there);
   }
 
 -- for every list of events
 pub aborts_hold : (o : Setting) (h : List Event) → AbortsHold o (trace_of o h)
 aborts_hold o h later before item f split done =
     let p : ℕ = exp_of o (trace_of o h) in
-    over o p later before item f (subst (Fit o p) (sym split) (trace_fits o h)) done
+    over o p (length h) later before item f (subst (Fit o p) (sym split) (trace_fits o h)) (subst (HaveForms o (length h)) (sym split) (trace_has_forms o h)) done
 
 -- and for its log
 pub aborts_hold_in : (o : Setting) (h : List Event) → AbortsHoldIn o h (run_of o h)

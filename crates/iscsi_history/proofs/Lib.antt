@@ -28,3 +28,11 @@ pub mod NumberingLemmas
 pub mod TouchLemmas
 pub mod LifeLemmas
 pub mod LifeTheorem
+pub mod CountLemmas
+pub mod ReplyForms
+pub mod ReplyTurns
+pub mod ReplyRuns
+pub mod AnswerTheorem
+pub mod BeforeLemmas
+pub mod ReplySince
+pub mod TurnLemmas

@@ -1,17 +1,17 @@
 -- Aborts: what a completed abort covers is over. It is in no task set, isn't answered, and isn't delivered
 -- (RFC 7143 sections 4.2.3 and 11.5, SAM-5 section 7).
-use Rattle.std.specs.Prelude.{◌≡◌, ℕ, ◌==◌, ◌&&◌, ◌||◌, not, Bool, true, false, nat_lt, List, ◌∷◌, ◌++◌, Option, Some, None, if◌then◌else◌, filter}
+use Rattle.std.specs.Prelude.{◌≡◌, ℕ, ◌==◌, ◌&&◌, ◌||◌, not, Bool, true, false, nat_lt, List, [], ◌∷◌, ◌++◌, Some, None, if◌then◌else◌, filter, Contains}
 use Rattle.std.specs.List.{list_any}
 use Rattle.iscsi_wire.specs.declared.reply.Reply.{Reply}
 use Rattle.iscsi_wire.specs.declared.reply.Reply.TheVariants.{Task}
 use Rattle.iscsi_wire.specs.declared.request.Request.{Request}
-use Rattle.iscsi_wire.specs.Fields.{connection_of, opcode, function, itt}
+use Rattle.iscsi_wire.specs.Fields.{connection_of, is_immediate, opcode, function, itt}
 use Rattle.iscsi_history.specs.declared.event.Event.{Event}
 use Rattle.iscsi_history.specs.declared.entry.Entry.{Entry}
 use Rattle.iscsi_history.specs.Settings.{Setting}
-use Rattle.iscsi_history.specs.Trace.{Arrival, Command, Mark, Delivers, Executes, Voids, Empties, Sends, Trace, has, is_delivered, delivers_number, entered, leaves_ticket, live, is_among}
+use Rattle.iscsi_history.specs.Trace.{Arrival, Command, Mark, Voids, Empties, Sends, Trace, has, admitted, is_delivered, delivers_number, entered, leaves_ticket, live, is_among}
 use Rattle.iscsi_history.specs.Execution.{unit_named}
-use Rattle.iscsi_history.specs.Management.{is_before}
+use Rattle.iscsi_history.specs.Replies.{executed_in, replies_to}
 use Rattle.iscsi_history.specs.Run.{trace_of, effects_of_item}
 use Rattle.iscsi_history.specs.Enabling.{is_enable, effects_so_far, effects_in}
 
@@ -23,12 +23,6 @@ is_set_abort r = function r == 2 || function r == 4 || function r == 5
 
 abbrev pub is_abort : Request → Bool
 is_abort r = opcode r == 0x02 && (function r == 1 || is_set_abort r)
-
--- the request that executes in an item, at its turn or at once
-abbrev pub executed_in : List Mark → Option Arrival
-executed_in (Delivers a ∷ ms) = Some a
-executed_in (Executes a ∷ ms) = Some a
-executed_in _ = None
 
 -- Function complete
 abbrev pub is_complete : ℕ → Reply → Bool
@@ -52,9 +46,14 @@ pub record IsCompleted (f : Arrival) (item : List Mark) : Type 0 where
 abbrev pub is_in_unit_of : Setting → Arrival → Command → Bool
 is_in_unit_of o f c = elim (unit_named o.units f.request) [ Some unit ↦ c.unit == unit | None ↦ false ]
 
--- the commands of the function's unit that ever entered its set, and were before it
+-- a request came before another: its number is lower, or, as an immediate request has the number of the next numbered one,
+-- it is immediate, of the same number, and arrived in an earlier event
+abbrev pub came_before : Arrival → Arrival → Bool
+came_before a f = if a.number == f.number then is_immediate a.request && nat_lt a.event f.event else nat_lt a.number f.number
+
+-- the commands of the function's unit that ever entered its set, and came before it
 abbrev pub earlier : Setting → Arrival → Trace → List Command
-earlier o f t = filter (λ c. is_in_unit_of o f c && is_before f c) (entered t)
+earlier o f t = filter (λ c. is_in_unit_of o f c && came_before c.arrival f) (entered t)
 
 -- the tickets that an abort covers, in this item: that of the task that ABORT TASK takes out, the earlier ones of a whole
 -- set, and after LOGICAL UNIT RESET those of the later ones too that were in the set by then
@@ -84,11 +83,15 @@ pub record IsOver (o : Setting) (f : Arrival) (later : Trace) (item : List Mark)
   pub sets : (k : ℕ) → is_ticket_covered o f item before k ≡ true → (after moment : Trace) → after ++ moment ≡ later → is_among k (live (moment ++ item ∷ before)) ≡ false
   -- it doesn't leave any more: a completion's response goes out in the item that the command leaves by
   pub completions : (k : ℕ) → is_ticket_covered o f item before k ≡ true → (after moment : Trace) (i : List Mark) → after ++ i ∷ moment ≡ later → list_any (leaves_ticket k) i ≡ false
+  -- and nothing is sent any more to its request
+  pub replies : (c : Command) → is_ticket_covered o f item before c.ticket ≡ true → Contains (entered (item ∷ before)) c → replies_to c.arrival.event later ≡ []
   -- nor is its unit told to begin it
   pub enables : (k : ℕ) → is_ticket_covered o f item before k ≡ true → (after moment : Trace) (i : List Mark) → after ++ i ∷ moment ≡ later
       → list_any (is_enable k) (effects_of_item o (moment ++ item ∷ before) i) ≡ false
   -- no request is delivered at a covered number
   pub numbers : (n : ℕ) → is_number_covered f item before n ≡ true → has (delivers_number n) later ≡ false
+  -- and the one that was admitted there has no reply, before or after
+  pub unanswered : (n : ℕ) (a : Arrival) → is_number_covered f item before n ≡ true → admitted (later ++ item ∷ before) n ≡ Some a → replies_to a.event (later ++ item ∷ before) ≡ []
 
 -- so it is with each completed abort
 abbrev pub AbortsHold : Setting → Trace → Type 0

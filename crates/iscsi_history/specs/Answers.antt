@@ -1,6 +1,5 @@
 -- Replies: a request that executed has at most one, and one whose command was taken out has none.
-use Rattle.std.specs.Prelude.{◌≡◌, ◌≤◌, ℕ, ◌==◌, Bool, true, false, List, [], ◌∷◌, ◌++◌, length, Option, Some, None, filter_map, Contains, if◌then◌else◌}
-use Rattle.std.specs.List.{list_any}
+use Rattle.std.specs.Prelude.{◌≡◌, ◌≤◌, ℕ, false, List, [], ◌∷◌, ◌++◌, length, Some, None, Contains}
 use Rattle.iscsi_wire.specs.declared.reply.Reply.{Reply}
 use Rattle.iscsi_wire.specs.declared.reply.Reply.TheVariants.{Scsi, Task, Logout, Nop, Reject}
 use Rattle.iscsi_wire.specs.declared.request.Request.{Request}
@@ -8,11 +7,11 @@ use Rattle.iscsi_wire.specs.Fields.{connection_of, header_of, itt}
 use Rattle.iscsi_history.specs.declared.event.Event.{Event}
 use Rattle.iscsi_history.specs.declared.entry.Entry.{Entry}
 use Rattle.iscsi_history.specs.Settings.{Setting}
-use Rattle.iscsi_history.specs.Trace.{Arrival, Command, Mark, Delivers, Executes, Leaves, Sends, Trace}
+use Rattle.iscsi_history.specs.Trace.{Arrival, Command, Mark, Leaves, Sends, Trace, admitted, is_delivered}
 use Rattle.iscsi_history.specs.Execution.{sense_of_status}
 use Rattle.iscsi_history.specs.Run.{trace_of}
 use Rattle.iscsi_history.specs.Enabling.{effects_so_far, effects_in}
-use Rattle.iscsi_history.specs.Aborts.{executed_in}
+use Rattle.iscsi_history.specs.Replies.{executed_in, answered_in, replies_to}
 
 -- the reply is one to the request: it has its tag, and a Reject has its header
 abbrev pub Answers : Request → Reply → Type 0
@@ -21,26 +20,6 @@ Answers r (Task tag response) = tag ≡ itt r
 Answers r (Logout tag response) = tag ≡ itt r
 Answers r (Nop tag) = tag ≡ itt r
 Answers r (Reject reason header) = header ≡ header_of r
-
--- the request that an item answers, if it answers one: the one that executes in it, or that of the command which leaves first
-abbrev pub answered_in : List Mark → Option Arrival
-answered_in (Delivers a ∷ ms) = Some a
-answered_in (Executes a ∷ ms) = Some a
-answered_in (Leaves c ∷ ms) = Some c.arrival
-answered_in _ = None
-
--- the item answers the request that arrived in this event
-abbrev pub is_answer_to : ℕ → List Mark → Bool
-is_answer_to event item = elim (answered_in item) [ Some a ↦ a.event == event | None ↦ false ]
-
-abbrev pub reply_sent : Mark → Option Reply
-reply_sent (Sends conn reply) = Some reply
-reply_sent _ = None
-
--- the replies to the request that arrived in this event
-abbrev pub replies_to : ℕ → Trace → List Reply
-replies_to event [] = []
-replies_to event (item ∷ t) = replies_to event t ++ (if is_answer_to event item then filter_map reply_sent item else [])
 
 pub record AnswersOnce (t : Trace) : Type 0 where
   -- a request has at most one reply
@@ -51,9 +30,14 @@ pub record AnswersOnce (t : Trace) : Type 0 where
   -- a completion is the leaving of the command and, right after it, a SCSI Response on its connection, with its tag
   pub completing : (later before : Trace) (c : Command) (ms : List Mark) → later ++ (Leaves c ∷ ms) ∷ before ≡ t
       → (status : ℕ) × (ms ≡ Sends (connection_of c.arrival.request) (Scsi (itt c.arrival.request) status (sense_of_status status)) ∷ [])
+  -- an item that answers no request sends nothing, or is the Reject of one that doesn't execute, for its opcode
+  pub rejecting : (later before : Trace) (item : List Mark) → later ++ item ∷ before ≡ t → answered_in item ≡ None → (conn : ℕ) (reply : Reply) → Contains item (Sends conn reply)
+      → (r : Request) × (item ≡ Sends (connection_of r) (Reject 5 (header_of r)) ∷ [])
   -- a command that left while a request executed, by an abort or a Logout, is never answered, before or after
   pub unanswered : (later before : Trace) (item : List Mark) (a : Arrival) (c : Command) → later ++ item ∷ before ≡ t → executed_in item ≡ Some a → Contains item (Leaves c)
       → replies_to c.arrival.event t ≡ []
+  -- nor is a numbered request that wasn't delivered, as one that is taken out while it is held
+  pub undelivered : (n : ℕ) (a : Arrival) → admitted t n ≡ Some a → is_delivered t n ≡ false → replies_to a.event t ≡ []
 
 pub record AnswersOnceIn (o : Setting) (h : List Event) (log : List Entry) : Type 0 where
   -- the log has the effects of all items, one after the other

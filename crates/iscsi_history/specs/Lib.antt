@@ -9,6 +9,7 @@ pub mod Run
 pub mod Executed
 pub mod Flow
 pub mod Enabling
+pub mod Replies
 pub mod Aborts
 pub mod Closes
 pub mod Rows

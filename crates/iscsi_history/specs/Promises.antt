@@ -9,6 +9,7 @@ use Rattle.iscsi_history.specs.Enabling.{EnablesByTheRule}
 use Rattle.iscsi_history.specs.Aborts.{AbortsHoldIn}
 use Rattle.iscsi_history.specs.Closes.{ClosesHoldIn}
 use Rattle.iscsi_history.specs.Lives.{StartsOnce}
+use Rattle.iscsi_history.specs.Answers.{AnswersOnceIn}
 use Rattle.iscsi_history.specs.Numbering.{CountsReplies}
 use Rattle.iscsi_history.specs.Order.{KeepsOrder}
 
@@ -25,6 +26,8 @@ pub record KeepsPromises (o : Setting) (h : List Event) (log : List Entry) : Typ
   pub flow : FlowsThrough o h
   -- each command is started at most once
   pub started_once : StartsOnce log
+  -- each request is answered at most once
+  pub answered_once : AnswersOnceIn o h log
   -- the StatSNs of each connection count its replies
   pub stat_sns : CountsReplies o log
   -- the effects of an item stand in order

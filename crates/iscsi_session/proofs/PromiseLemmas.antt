@@ -14,6 +14,7 @@ use Rattle.iscsi_history.proofs.MomentLemmas.{log_effects, rule_means}
 use Rattle.iscsi_history.proofs.AbortTheorem.{aborts_hold_in}
 use Rattle.iscsi_history.proofs.CloseTheorem.{closes_hold_in}
 use Rattle.iscsi_history.proofs.LifeTheorem.{starts_once}
+use Rattle.iscsi_history.proofs.AnswerTheorem.{answers_once_in}
 use Rattle.iscsi_history.proofs.NumberingLemmas.{counts_replies}
 use Rattle.iscsi_history.proofs.OrderRuns.{keeps_order}
 use Rattle.iscsi_session.specs.Standing.{Core, StandsFor}
@@ -43,6 +44,7 @@ promises_kept o s h stands flow = record {
   closes = stands_closes o s h stands;
   flow = flow;
   started_once = starts_once o h;
+  answered_once = answers_once_in o h;
   stat_sns = counts_replies o h;
   in_order = keeps_order o h;
 }

@@ -14,6 +14,7 @@ ghost use Rattle.iscsi_history.specs.Enabling.{EnablesByTheRule};
 ghost use Rattle.iscsi_history.specs.Aborts.{AbortsHoldIn};
 ghost use Rattle.iscsi_history.specs.Closes.{ClosesHoldIn};
 ghost use Rattle.iscsi_history.specs.Lives.{StartsOnce};
+ghost use Rattle.iscsi_history.specs.Answers.{AnswersOnceIn};
 ghost use Rattle.iscsi_history.specs.Numbering.{CountsReplies};
 ghost use Rattle.iscsi_history.specs.Order.{KeepsOrder};
 ghost use Rattle.iscsi_session.specs.Refusals.{RefusesAs, refusal_of, refusal_of_options};
@@ -157,6 +158,7 @@ impl Session {
         // Each command is started at most once, and each request answered at most once; the StatSNs of a connection count
         // its replies; the effects of an item stand in order; and the definitions mean what they say.
         ensures started_once { (o : Setting) (h : List Event) → StandsFor o self.old h → let all = h ++ event.now ∷ [] in OnOk result (StartsOnce (run_of o all)) }
+        ensures answered_once { (o : Setting) (h : List Event) → StandsFor o self.old h → let all = h ++ event.now ∷ [] in OnOk result (AnswersOnceIn o all (run_of o all)) }
         ensures stat_sns { (o : Setting) (h : List Event) → StandsFor o self.old h → let all = h ++ event.now ∷ [] in OnOk result (CountsReplies o (run_of o all)) }
         ensures in_order { (o : Setting) (h : List Event) → StandsFor o self.old h → let all = h ++ event.now ∷ [] in OnOk result (KeepsOrder (run_of o all)) }
 

@@ -20,6 +20,7 @@ use Rattle.iscsi_session.proofs.OpenLemmas.{bound_is}
 use Rattle.iscsi_session.proofs.SoundLemmas.{taken_sound}
 use Rattle.iscsi_history.proofs.AbortTheorem.{aborts_hold_in}
 use Rattle.iscsi_history.proofs.LifeTheorem.{starts_once}
+use Rattle.iscsi_history.proofs.AnswerTheorem.{answers_once_in}
 use Rattle.iscsi_history.proofs.NumberingLemmas.{counts_replies}
 use Rattle.iscsi_history.proofs.OrderRuns.{keeps_order}
 use Rattle.iscsi_session.proofs.PromiseLemmas.{stands_delivers, stands_enables, stands_closes}
@@ -123,3 +124,6 @@ returns-clause-stat_sns c = λ o h stands. counts_replies o (h ++ c.args.event.n
 
 pub returns-clause-in_order : goal.returns-clause-in_order
 returns-clause-in_order c = λ o h stands. keeps_order o (h ++ c.args.event.now ∷ [])
+
+pub returns-clause-answered_once : goal.returns-clause-answered_once
+returns-clause-answered_once c = λ o h stands. answers_once_in o (h ++ c.args.event.now ∷ [])

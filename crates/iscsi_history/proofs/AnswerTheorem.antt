@@ -1,0 +1,180 @@
+-- A request that executed has at most one reply, and one whose command was taken out has none, in the trace of each list of events.
+use Rattle.std.proofs.Common.{◌≡◌, ℕ, ◌+◌, ◌<◌, ◌≤◌, inl, inr, ⊎_elim, cond, true, false, List, [], ◌∷◌, ◌++◌, map, length, count_by, Option, Some, None, refl, ap, sym, subst, ◌∙◌, arith, nat_lt, eq-eqb}
+use Rattle.std.specs.List.{filter_map, cons_option}
+use Rattle.std.proofs.lemmas.List.{append-nil}
+use Rattle.std.proofs.lemmas.List.Elements.{filter_map-append}
+use Rattle.iscsi_wire.specs.declared.reply.Reply.{Reply}
+use Rattle.iscsi_wire.specs.declared.reply.Reply.TheVariants.{Scsi, Reject}
+use Rattle.iscsi_wire.specs.declared.request.Request.{Request}
+use Rattle.iscsi_wire.specs.Fields.{connection_of, header_of, itt}
+use Rattle.iscsi_history.specs.declared.event.Event.{Event}
+use Rattle.iscsi_history.specs.Settings.{Setting}
+use Rattle.iscsi_history.specs.Trace.{Arrival, Command, Mark, Delivers, Executes, Voids, Empties, Leaves, Enters, Sends, ClosesConn, ClosesSession, Trace}
+use Rattle.iscsi_history.specs.Execution.{sense_of_status}
+use Rattle.iscsi_history.specs.Replies.{executed_in, answered_in, replies_to}
+use Rattle.iscsi_history.specs.Run.{trace_of, run_of}
+use Rattle.iscsi_history.specs.Answers.{Answers, AnswersOnce, AnswersOnceIn}
+use Rattle.iscsi_history.proofs.ElementLemmas.{In, in-contains}
+use Rattle.iscsi_history.proofs.MomentLemmas.{log_effects}
+use Rattle.iscsi_history.proofs.CountLemmas.{one, count-one}
+use Rattle.iscsi_history.proofs.AbortMarks.{none_viewed}
+use Rattle.iscsi_history.proofs.NumberingLemmas.{unseen, passed}
+use Rattle.iscsi_history.proofs.Forms.{Start, AtTurn, AtArrival, AfterWaiting, Deeds, if_some, marks_done, Form, Ignored, Rejected, Received, Postponed, Completed, Executed, marks_of_form, IsDone, Each, IsFormed, HasForm, is_arrival, HaveForms}
+use Rattle.iscsi_history.proofs.FormRuns.{trace_has_forms}
+use Rattle.iscsi_history.proofs.ReplyForms.{comes_of, replies_seen}
+use Rattle.iscsi_history.proofs.ReplyTurns.{begins_of}
+use Rattle.iscsi_history.proofs.ReplySince.{undelivered_silent}
+use Rattle.iscsi_history.proofs.ReplyRuns.{aborted_in, standing, standing_item, begun_by, one_most, is_below, none_left, standing_once, Since, since}
+
+-- ---- the marks of an item
+
+cons-in : {B : Type 0} (y : Option B) (xs : List B) (x : B) → In x xs → In x (cons_option y xs)
+cons-in None xs x h = h
+cons-in (Some y) xs x h = inr h
+
+-- what a view shows of a mark, it shows of the marks
+viewed-in : {B : Type 0} (view : Mark → Option B) (ms : List Mark) (m : Mark) (x : B) → In m ms → view m ≡ Some x → In x (filter_map view ms)
+viewed-in view [] m x h is = absurd h
+viewed-in view (n ∷ ms) m x h is =
+    ⊎_elim (λ same. subst (λ y. In x (cons_option y (filter_map view ms))) (sym (ap view same ∙ is)) (inl refl)) (λ later. cons-in (view n) (filter_map view ms) x (viewed-in view ms m x later is)) h
+
+-- a reply, and where it goes out
+abbrev send_of : Mark → Option (ℕ × Reply)
+send_of (Sends conn reply) = Some (conn, reply)
+send_of _ = None
+
+abbrev leaver_of : Mark → Option Command
+leaver_of (Leaves c) = Some c
+leaver_of _ = None
+
+-- what goes out of what a request does
+sent_done : (a : Arrival) (d : Deeds) (conn : ℕ) (reply : Reply) → In (Sends conn reply) (marks_done a d) → (conn ≡ connection_of a.request) × (d.reply ≡ Some reply)
+sent_done a d conn reply h =
+    by_reply d.reply
+    (subst (In (conn, reply)) (replies_seen send_of (λ n. refl) (λ c. refl) (λ b. refl) (λ c. refl) (λ conn. refl) refl a d)
+    (viewed-in send_of (marks_done a d) (Sends conn reply) (conn, reply) h refl))
+  where
+    by_reply : (x : Option Reply) → In (conn, reply) (filter_map send_of (if_some (Sends (connection_of a.request)) x)) → (conn ≡ connection_of a.request) × (x ≡ Some reply)
+    by_reply None k = absurd k
+    by_reply (Some r) k = ⊎_elim (λ same. (sym (ap (λ (p : ℕ × Reply). p.0) same), ap (λ (p : ℕ × Reply). Some p.1) same)) (λ none. absurd none) k
+
+-- what leaves
+left_done : (a : Arrival) (d : Deeds) → filter_map leaver_of (marks_done a d) ≡ d.leaving
+left_done a d =
+    passed leaver_of (if_some Voids d.void) _ (unseen leaver_of Voids d.void (λ n. refl))
+    ∙ filter_map-append leaver_of (map Leaves d.leaving) _
+    ∙ ap (λ xs. filter_map leaver_of (map Leaves d.leaving) ++ xs)
+    (passed leaver_of (map Empties d.emptied) _ (none_viewed leaver_of Empties d.emptied (λ b. refl))
+    ∙ passed leaver_of (if_some Enters d.entering) _ (unseen leaver_of Enters d.entering (λ c. refl))
+    ∙ passed leaver_of (if_some (Sends (connection_of a.request)) d.reply) _ (unseen leaver_of (Sends (connection_of a.request)) d.reply (λ reply. refl))
+    ∙ passed leaver_of (if_some ClosesConn d.closing) _ (unseen leaver_of ClosesConn d.closing (λ conn. refl))
+    ∙ elim d.ending as (λ b. filter_map leaver_of (cond b (ClosesSession ∷ []) []) ≡ []) [ true ↦ refl | false ↦ refl ])
+    ∙ append-nil (filter_map leaver_of (map Leaves d.leaving)) ∙ all d.leaving
+  where
+    all : (cs : List Command) → filter_map leaver_of (map Leaves cs) ≡ cs
+    all [] = refl
+    all (c ∷ cs) = ap (λ xs. c ∷ xs) (all cs)
+
+-- ---- an item in which a request executes
+
+-- its replies are to the request
+fitting_done : (o : Setting) (t : Trace) (start : Start) (a b : Arrival) (d : Deeds) → IsDone o t start a d → a ≡ b → (conn : ℕ) (reply : Reply) → In (Sends conn reply) (marks_done a d)
+    → (conn ≡ connection_of b.request) × Answers b.request reply
+fitting_done o t start a b d x same conn reply h =
+    let sent = sent_done a d conn reply h in
+    (sent.0 ∙ ap (λ (y : Arrival). connection_of y.request) same, subst (λ (y : Arrival). Answers y.request reply) same (subst (Each (Answers a.request)) sent.1 x.answers))
+
+fitting_form : (o : Setting) (now : ℕ) (t : Trace) (form : Form) → IsFormed o now t form → (a : Arrival) → executed_in (marks_of_form form) ≡ Some a → (conn : ℕ) (reply : Reply) → In (Sends conn reply) (marks_of_form form)
+    → (conn ≡ connection_of a.request) × Answers a.request reply
+fitting_form o now t (Ignored why) x a is conn reply h = absurd cc
+fitting_form o now t (Rejected b) x a is conn reply h = absurd cc
+fitting_form o now t (Received b) x a is conn reply h = absurd cc
+fitting_form o now t (Postponed b) x a is conn reply h = absurd cc
+fitting_form o now t (Completed c status) x a is conn reply h = absurd cc
+fitting_form o now t (Executed AtTurn b d) x a is conn reply h = ⊎_elim (λ same. absurd cc) (λ later. fitting_done o t AtTurn b a d x.1 (cc) conn reply later) h
+fitting_form o now t (Executed AtArrival b d) x a is conn reply h = ⊎_elim (λ same. absurd cc) (λ later. fitting_done o t AtArrival b a d x.1 (cc) conn reply later) h
+fitting_form o now t (Executed AfterWaiting b d) x a is conn reply h = ⊎_elim (λ same. absurd cc) (λ later. fitting_done o t AfterWaiting b a d x.1 (cc) conn reply later) h
+
+-- its commands that leave are those that are taken out
+left_form : (form : Form) (a : Arrival) (c : Command) → executed_in (marks_of_form form) ≡ Some a → In (Leaves c) (marks_of_form form) → In c (aborted_in form)
+left_form (Ignored why) a c is h = absurd cc
+left_form (Rejected b) a c is h = absurd cc
+left_form (Received b) a c is h = absurd cc
+left_form (Postponed b) a c is h = absurd cc
+left_form (Completed d status) a c is h = absurd cc
+left_form (Executed AtTurn b d) a c is h = subst (In c) (left_done b d) (viewed-in leaver_of (Delivers b ∷ marks_done b d) (Leaves c) c h refl)
+left_form (Executed AtArrival b d) a c is h = subst (In c) (left_done b d) (viewed-in leaver_of (Executes b ∷ marks_done b d) (Leaves c) c h refl)
+left_form (Executed AfterWaiting b d) a c is h = subst (In c) (left_done b d) (viewed-in leaver_of (Executes b ∷ marks_done b d) (Leaves c) c h refl)
+
+-- ---- an item that completes a command
+
+abbrev Completes : Command → List Mark → Type 0
+Completes c ms = (status : ℕ) × (ms ≡ Sends (connection_of c.arrival.request) (Scsi (itt c.arrival.request) status (sense_of_status status)) ∷ [])
+
+completing_form : (form : Form) (c : Command) (ms : List Mark) → Leaves c ∷ ms ≡ marks_of_form form → Completes c ms
+completing_form (Ignored why) c ms is = absurd cc
+completing_form (Rejected b) c ms is = absurd cc
+completing_form (Received b) c ms is = absurd cc
+completing_form (Postponed b) c ms is = absurd cc
+completing_form (Completed d status) c ms is = (status, cc)
+completing_form (Executed AtTurn b d) c ms is = absurd cc
+completing_form (Executed AtArrival b d) c ms is = absurd cc
+completing_form (Executed AfterWaiting b d) c ms is = absurd cc
+
+-- ---- an item that answers no request
+
+rejecting_form : (form : Form) → answered_in (marks_of_form form) ≡ None → (conn : ℕ) (reply : Reply) → In (Sends conn reply) (marks_of_form form)
+    → (r : Request) × (marks_of_form form ≡ Sends (connection_of r) (Reject 5 (header_of r)) ∷ [])
+rejecting_form (Ignored why) is conn reply h = ⊎_elim (λ same. absurd cc) (λ none. absurd none) h
+rejecting_form (Rejected a) is conn reply h = (a.request, refl)
+rejecting_form (Received a) is conn reply h = ⊎_elim (λ same. absurd cc) (λ none. absurd none) h
+rejecting_form (Postponed a) is conn reply h = ⊎_elim (λ same. absurd cc) (λ none. absurd none) h
+rejecting_form (Completed c status) is conn reply h = absurd cc
+rejecting_form (Executed AtTurn a d) is conn reply h = absurd cc
+rejecting_form (Executed AtArrival a d) is conn reply h = absurd cc
+rejecting_form (Executed AfterWaiting a d) is conn reply h = absurd cc
+
+-- ---- the clauses
+
+-- a command that is taken out has no reply, before or after
+taken_unanswered : (o : Setting) (next : ℕ) (later before : Trace) (item : List Mark) (a : Arrival) (c : Command) → HaveForms o next (later ++ item ∷ before) → executed_in item ≡ Some a → In (Leaves c) item
+    → replies_to c.arrival.event (later ++ item ∷ before) ≡ []
+taken_unanswered o next later before item a c x is h =
+    let v : ℕ = c.arrival.event in
+    let s : Since o next later (item ∷ before) = since o later (item ∷ before) next x in
+    let now : ℕ = s.before.0 in
+    let f : HasForm o now before item = s.before.1.1.0 in
+    let out : In c (aborted_in f.form) = left_form f.form a c (sym (ap executed_in f.is) ∙ is) (subst (In (Leaves c)) f.is h) in
+    let some : 1 ≤ count_by (comes_of v) (aborted_in f.form) = count-one (comes_of v) (aborted_in f.form) c out (eq-eqb v v refl) in
+    let here : standing v (item ∷ before) + count_by (comes_of v) (aborted_in f.form) ≤ standing v before + begins_of now v f.form = standing_item o now v before item f in
+    let once : standing v before ≤ one (nat_lt v (cond (is_arrival f.form) now (now + 1))) = standing_once o v before _ s.before.1.1.1 in
+    let begun : one (nat_lt v (cond (is_arrival f.form) now (now + 1))) + begins_of now v f.form ≤ one (nat_lt v s.place) = begun_by now v s.place (is_arrival f.form) s.before.1.0 in
+    let lt : v < s.place = is_below v s.place (omega (arith, some, here, once, begun)) in
+    none_left (replies_to v (later ++ item ∷ before)) (omega (arith, s.falls v lt, some, here, once, begun, one_most (nat_lt v s.place)))
+
+-- for every list of events
+pub answers_once : (o : Setting) (h : List Event) → AnswersOnce (trace_of o h)
+answers_once o h = record {
+  once = λ event. omega (arith, standing_once o event (trace_of o h) (length h) (trace_has_forms o h), one_most (nat_lt event (length h)));
+  fitting = λ later before item a split is conn reply there.
+      let s : Since o (length h) later (item ∷ before) = since o later (item ∷ before) (length h) (subst (HaveForms o (length h)) (sym split) (trace_has_forms o h)) in
+      let f : HasForm o s.before.0 before item = s.before.1.1.0 in
+      fitting_form o s.before.0 before f.form f.formed a (sym (ap executed_in f.is) ∙ is) conn reply (subst (In (Sends conn reply)) f.is (in-contains item (Sends conn reply) there));
+  completing = λ later before c ms split.
+      let s : Since o (length h) later ((Leaves c ∷ ms) ∷ before) = since o later ((Leaves c ∷ ms) ∷ before) (length h) (subst (HaveForms o (length h)) (sym split) (trace_has_forms o h)) in
+      let f : HasForm o s.before.0 before (Leaves c ∷ ms) = s.before.1.1.0 in
+      completing_form f.form c ms f.is;
+  rejecting = λ later before item split is conn reply there.
+      let s : Since o (length h) later (item ∷ before) = since o later (item ∷ before) (length h) (subst (HaveForms o (length h)) (sym split) (trace_has_forms o h)) in
+      let f : HasForm o s.before.0 before item = s.before.1.1.0 in
+      let r = rejecting_form f.form (sym (ap answered_in f.is) ∙ is) conn reply (subst (In (Sends conn reply)) f.is (in-contains item (Sends conn reply) there)) in
+      (r.0, f.is ∙ r.1);
+  unanswered = λ later before item a c split is there.
+      ap (replies_to c.arrival.event) (sym split)
+      ∙ taken_unanswered o (length h) later before item a c (subst (HaveForms o (length h)) (sym split) (trace_has_forms o h)) is (in-contains item (Leaves c) there);
+  undelivered = λ n a there none. undelivered_silent o (length h) (trace_of o h) n a (trace_has_forms o h) there none;
+}
+
+-- and for its log
+pub answers_once_in : (o : Setting) (h : List Event) → AnswersOnceIn o h (run_of o h)
+answers_once_in o h = record { whole = sym (log_effects o 0 [] h); hold = answers_once o h }

@@ -1,0 +1,136 @@
+-- Turns: which numbers an item delivers and empties. What is emptied is never delivered.
+use Rattle.std.proofs.Common.{◌≡◌, ℕ, ◌==◌, ◌||◌, inl, inr, ⊎_elim, cond, Bool, true, false, List, [], ◌∷◌, ◌++◌, map, Option, Some, None, refl, ap, sym, ◌∙◌}
+use Rattle.std.specs.List.{list_any}
+use Rattle.std.proofs.lemmas.Bool.{false≢true, eqb-true, or_cases}
+use Rattle.std.proofs.lemmas.List.Folds.{list_any-append}
+use Rattle.iscsi_wire.specs.declared.reply.Reply.{Reply}
+use Rattle.iscsi_wire.specs.Fields.{connection_of}
+use Rattle.iscsi_history.specs.Settings.{Setting}
+use Rattle.iscsi_history.specs.Trace.{Arrival, Command, Mark, Voids, Empties, Leaves, Enters, Sends, ClosesConn, ClosesSession, Trace, admitted, delivers_number, is_delivered, empties_number, is_emptied, held}
+use Rattle.iscsi_history.specs.Replies.{executed_in}
+use Rattle.iscsi_history.proofs.BoolLemmas.{or_false}
+use Rattle.iscsi_history.proofs.ListLemmas.{list_any-map}
+use Rattle.iscsi_history.proofs.ElementLemmas.{In}
+use Rattle.iscsi_history.proofs.HeldLemmas.{held_unemptied}
+use Rattle.iscsi_history.proofs.AbortMarks.{none_mapped}
+use Rattle.iscsi_history.proofs.Forms.{Start, AtTurn, AtArrival, AfterWaiting, start_mark, Deeds, if_some, marks_done, Form, Ignored, Rejected, Received, Postponed, Completed, Executed, marks_of_form, begun, IsFormed, HasForm, HaveForms}
+
+-- ---- the marks of an item
+
+none_some : {A : Type 0} (test : Mark → Bool) (f : A → Mark) (x : Option A) → ((y : A) → test (f y) ≡ false) → list_any test (if_some f x) ≡ false
+none_some test f None no_mark = refl
+none_some test f (Some y) no_mark = ap (λ b. b || false) (no_mark y)
+
+skipped : (test : Mark → Bool) (xs ys : List Mark) → list_any test xs ≡ false → list_any test (xs ++ ys) ≡ list_any test ys
+skipped test xs ys h = list_any-append test xs ys ∙ ap (λ b. b || list_any test ys) h
+
+-- a test that no more of the marks that are done pass than those of requests that are taken out
+module _ (test : Mark → Bool) (voids : (n : ℕ) → test (Voids n) ≡ false) (leaves : (c : Command) → test (Leaves c) ≡ false) (enter : (c : Command) → test (Enters c) ≡ false)
+    (sends : (conn : ℕ) (reply : Reply) → test (Sends conn reply) ≡ false) (closes : (conn : ℕ) → test (ClosesConn conn) ≡ false) (ends : test ClosesSession ≡ false) where
+  tests_done : (a : Arrival) (d : Deeds) → list_any test (marks_done a d) ≡ list_any test (map Empties d.emptied)
+  tests_done a d =
+      skipped test (if_some Voids d.void) _ (none_some test Voids d.void voids)
+      ∙ skipped test (map Leaves d.leaving) _ (none_mapped test Leaves d.leaving leaves)
+      ∙ list_any-append test (map Empties d.emptied) _
+      ∙ ap (λ b. list_any test (map Empties d.emptied) || b)
+      (skipped test (if_some Enters d.entering) _ (none_some test Enters d.entering enter)
+      ∙ skipped test (if_some (Sends (connection_of a.request)) d.reply) _ (none_some test (Sends (connection_of a.request)) d.reply (sends (connection_of a.request)))
+      ∙ skipped test (if_some ClosesConn d.closing) _ (none_some test ClosesConn d.closing closes)
+      ∙ elim d.ending as (λ b. list_any test (cond b (ClosesSession ∷ []) []) ≡ false) [ true ↦ ap (λ b. b || false) ends | false ↦ refl ])
+      ∙ or_false (list_any test (map Empties d.emptied))
+
+delivers_done : (n : ℕ) (a : Arrival) (d : Deeds) → list_any (delivers_number n) (marks_done a d) ≡ false
+delivers_done n a d = tests_done (delivers_number n) (λ k. refl) (λ c. refl) (λ c. refl) (λ conn reply. refl) (λ conn. refl) refl a d ∙ none_mapped (delivers_number n) Empties d.emptied (λ b. refl)
+
+empties_done : (n : ℕ) (a : Arrival) (d : Deeds) → list_any (empties_number n) (marks_done a d) ≡ list_any (λ b. b.number == n) d.emptied
+empties_done n a d = tests_done (empties_number n) (λ k. refl) (λ c. refl) (λ c. refl) (λ conn reply. refl) (λ conn. refl) refl a d ∙ list_any-map (empties_number n) Empties d.emptied
+
+-- ---- an item
+
+-- it delivers the request whose turn it is
+abbrev pub delivers_in : ℕ → Form → Bool
+delivers_in n (Executed AtTurn a d) = a.number == n
+delivers_in n _ = false
+
+pub delivers_form : (n : ℕ) (form : Form) → list_any (delivers_number n) (marks_of_form form) ≡ delivers_in n form
+delivers_form n (Ignored why) = refl
+delivers_form n (Rejected a) = refl
+delivers_form n (Received a) = refl
+delivers_form n (Postponed a) = refl
+delivers_form n (Completed c status) = refl
+delivers_form n (Executed AtTurn a d) = ap (λ b. (a.number == n) || b) (delivers_done n a d) ∙ or_false (a.number == n)
+delivers_form n (Executed AtArrival a d) = delivers_done n a d
+delivers_form n (Executed AfterWaiting a d) = delivers_done n a d
+
+-- what is held isn't delivered
+held_undelivered : (t : Trace) (n : ℕ) (a : Arrival) → held t n ≡ Some a → is_delivered t n ≡ false
+held_undelivered t n a h = by_tests (is_delivered t n) (is_emptied t n) h
+  where
+    by_tests : (d e : Bool) → cond (d || e) None (admitted t n) ≡ Some a → d ≡ false
+    by_tests true e found = absurd cc
+    by_tests false e found = refl
+
+-- a number at which a request is taken out
+some_emptied : (t : Trace) (n : ℕ) (bs : List Arrival) → ((b : Arrival) → In b bs → is_delivered t b.number ≡ false) → list_any (λ b. b.number == n) bs ≡ true → is_delivered t n ≡ false
+some_emptied t n [] h found = absurd (false≢true found)
+some_emptied t n (b ∷ bs) h found =
+    ⊎_elim
+    (λ here. ap (is_delivered t) (sym (eqb-true b.number n here)) ∙ h b (inl refl))
+    (λ later. some_emptied t n bs (λ d there. h d (inr there)) later)
+    (or_cases (b.number == n) (list_any (λ (d : Arrival). d.number == n) bs) found)
+
+-- nothing is delivered at a number that the item empties
+emptied_form : (o : Setting) (now n : ℕ) (t : Trace) (form : Form) → IsFormed o now t form → list_any (empties_number n) (marks_of_form form) ≡ true → is_delivered (marks_of_form form ∷ t) n ≡ false
+emptied_form o now n t (Ignored why) x h = absurd (false≢true h)
+emptied_form o now n t (Rejected a) x h = absurd (false≢true h)
+emptied_form o now n t (Received a) x h = absurd (false≢true h)
+emptied_form o now n t (Postponed a) x h = absurd (false≢true h)
+emptied_form o now n t (Completed c status) x h = absurd (false≢true h)
+emptied_form o now n t (Executed start a d) x h =
+    ap (λ b. (delivers_number n (start_mark start a) || b) || is_delivered t n) (delivers_done n a d)
+    ∙ some_emptied (begun start a t) n d.emptied (λ b there. held_undelivered (begun start a t) b.number b (x.1.empties b there)) (sym (empties_done n a d) ∙ by_start start h)
+  where
+    by_start : (s : Start) → list_any (empties_number n) (start_mark s a ∷ marks_done a d) ≡ true → list_any (empties_number n) (marks_done a d) ≡ true
+    by_start AtTurn h = h
+    by_start AtArrival h = h
+    by_start AfterWaiting h = h
+
+-- nothing is delivered at a number that was emptied
+unturned_form : (o : Setting) (now n : ℕ) (t : Trace) (form : Form) → IsFormed o now t form → is_emptied t n ≡ true → delivers_in n form ≡ false
+unturned_form o now n t (Ignored why) x gone = refl
+unturned_form o now n t (Rejected a) x gone = refl
+unturned_form o now n t (Received a) x gone = refl
+unturned_form o now n t (Postponed a) x gone = refl
+unturned_form o now n t (Completed c status) x gone = refl
+unturned_form o now n t (Executed AtTurn a d) x gone =
+    elim (a.number == n) as (λ b. (a.number == n) ≡ b → b ≡ false) [
+      | true ↦ λ is. absurd (false≢true (sym (held_unemptied t a.number a x.0) ∙ ap (is_emptied t) (eqb-true a.number n is) ∙ gone))
+      | false ↦ λ is. refl
+    ] refl
+unturned_form o now n t (Executed AtArrival a d) x gone = refl
+unturned_form o now n t (Executed AfterWaiting a d) x gone = refl
+
+-- a request that executes delivers no number but its own
+pub delivers_own : (n : ℕ) (form : Form) (f : Arrival) → executed_in (marks_of_form form) ≡ Some f → (f.number == n) ≡ false → delivers_in n form ≡ false
+delivers_own n (Ignored why) f is apart = refl
+delivers_own n (Rejected a) f is apart = refl
+delivers_own n (Received a) f is apart = refl
+delivers_own n (Postponed a) f is apart = refl
+delivers_own n (Completed c status) f is apart = refl
+delivers_own n (Executed AtTurn a d) f is apart = let same : a ≡ f = cc in ap (λ (x : Arrival). x.number == n) same ∙ apart
+delivers_own n (Executed AtArrival a d) f is apart = refl
+delivers_own n (Executed AfterWaiting a d) f is apart = refl
+
+-- ---- all items
+
+-- what was emptied isn't delivered
+pub emptied_undelivered : (o : Setting) (n : ℕ) (t : Trace) (next : ℕ) → HaveForms o next t → is_emptied t n ≡ true → is_delivered t n ≡ false
+emptied_undelivered o n [] next x h = refl
+emptied_undelivered o n (item ∷ t) next x h =
+    let f : HasForm o x.0 t item = x.1.1.0 in
+    ⊎_elim
+    (λ here. ap (λ i. is_delivered (i ∷ t) n) f.is ∙ emptied_form o x.0 n t f.form f.formed (ap (list_any (empties_number n)) (sym f.is) ∙ here))
+    (λ before.
+    ap (λ b. b || is_delivered t n) (ap (list_any (delivers_number n)) f.is ∙ delivers_form n f.form ∙ unturned_form o x.0 n t f.form f.formed before)
+    ∙ emptied_undelivered o n t _ x.1.1.1 before)
+    (or_cases (list_any (empties_number n) item) (is_emptied t n) h)
