@@ -1,5 +1,5 @@
 -- Each item does and brings what is on open connections, and takes out what is going on on those that it closes.
-use Rattle.std.proofs.Common.{◌≡◌, ℕ, ◌+◌, ◌-◌, ◌<◌, ◌≤◌, ◌==◌, ◌&&◌, ◌||◌, ◌⊎◌, inl, inr, ⊎_elim, not, cond, Bool, true, false, List, [], ◌∷◌, ◌++◌, map, filter, Option, Some, None, option_map, refl, ap, sym, subst, ◌∙◌, arith, eq-eqb, append_assoc, nat_lt, nat_le}
+use Rattle.std.proofs.Common.{◌≡◌, ℕ, ◌+◌, ◌-◌, ◌<◌, ◌≤◌, ◌==◌, ◌&&◌, ◌||◌, ◌⊎◌, inl, inr, ⊎_elim, not, cond, Bool, true, false, List, [], ◌∷◌, ◌++◌, map, filter, Option, Some, None, refl, ap, sym, subst, ◌∙◌, arith, eq-eqb, append_assoc, nat_lt, nat_le}
 use Rattle.std.specs.List.{list_any, list_all, filter_map, range_with_len, cons_option}
 use Rattle.std.proofs.lemmas.Bool.{false≢true, eqb-true}
 use Rattle.std.proofs.lemmas.List.{append-nil}
@@ -13,7 +13,7 @@ use Rattle.iscsi_history.specs.declared.verdict.Verdict.{Verdict}
 use Rattle.iscsi_history.specs.declared.verdict.Verdict.TheVariants.{Nothing, Answer, Enter}
 use Rattle.iscsi_history.specs.Settings.{Setting, is_known}
 use Rattle.iscsi_history.specs.Trace.{Arrival, Command, Mark, Admits, Delivers, Executes, Voids, Empties, Waits, Leaves, Enters, ClosesConn, ClosesSession, Ignores, Trace, has, shown, first_of, is_received, admits_at, delivers_number, is_delivered, empties_number, is_emptied, held, enters, entered, leaves_ticket, live, live_in, closes_conn, closes_session, is_ended, is_closed}
-use Rattle.iscsi_history.specs.Execution.{exp_of, max_of, NO_TAG, unit_named, is_tag_live, is_crowded, place_named, is_full, verdict_of, marks_of, next_command, rejected, reply_on}
+use Rattle.iscsi_history.specs.Execution.{exp_of, max_of, NO_TAG, unit_named, verdict_of, marks_of, next_command, rejected, reply_on}
 use Rattle.iscsi_history.specs.Management.{may_wait, refusal_of_function, MOST_WAITING, waiting_on, answer, held_command, live_with_tag, abort_missing, abort_task, is_before, abort_all, query, function_to, function_marks, management_marks}
 use Rattle.iscsi_history.specs.Logout.{is_open, is_last_open, live_of_units, all_held, taken_out, parting, end_session, close_conn, logout_marks}
 use Rattle.iscsi_history.specs.Items.{execution, item_of, waiting_item, immediate_item, function_item}
@@ -23,7 +23,7 @@ use Rattle.iscsi_history.proofs.TraceLemmas.{live-quiet}
 use Rattle.iscsi_history.proofs.HeldLemmas.{held-number, admitted_of_held}
 use Rattle.iscsi_history.proofs.AbortMarks.{any_taken}
 use Rattle.iscsi_history.proofs.AbortRuns.{exp_item}
-use Rattle.iscsi_history.proofs.VerdictLemmas.{verdict_below, named_below, Entering, entering_by}
+use Rattle.iscsi_history.proofs.VerdictLemmas.{verdict_below}
 use Rattle.iscsi_history.proofs.ElementLemmas.{In, in-filter, filter-in, flat_map-in, range-in}
 use Rattle.iscsi_history.proofs.CloseLemmas.{is_at, brings, ignores, closed_by, entered_brought, admitted_brought, Sound, Clear, open-item, open-unended, by_bool}
 

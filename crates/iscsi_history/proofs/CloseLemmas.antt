@@ -1,14 +1,14 @@
 -- What is still going on is on connections that are open: one item more.
-use Rattle.std.proofs.Common.{◌≡◌, ℕ, zero, suc, ◌+◌, ◌<◌, ◌≤◌, ◌==◌, ◌||◌, ◌⊎◌, inl, inr, ⊎_elim, not, cond, Bool, true, false, List, [], ◌∷◌, ◌++◌, filter, Option, Some, None, refl, ap, sym, subst, ◌∙◌, arith, eq-eqb}
-use Rattle.std.specs.List.{list_any, list_all, filter_map, flat_map, range_with_len, cons_option}
-use Rattle.std.proofs.lemmas.Bool.{false≢true, cases_eq}
+use Rattle.std.proofs.Common.{◌≡◌, ℕ, ◌+◌, ◌<◌, ◌≤◌, ◌==◌, ◌||◌, ◌⊎◌, inl, inr, ⊎_elim, not, cond, Bool, true, false, List, [], ◌∷◌, filter, Some, None, refl, ap, sym, subst, ◌∙◌, arith, eq-eqb}
+use Rattle.std.specs.List.{list_any, list_all, filter_map}
+use Rattle.std.proofs.lemmas.Bool.{false≢true}
 use Rattle.iscsi_wire.specs.Serial.{number_of_first}
 use Rattle.iscsi_wire.specs.Fields.{connection_of}
 use Rattle.iscsi_history.specs.Settings.{Setting, is_known}
 use Rattle.iscsi_history.specs.Trace.{Arrival, Command, Mark, Admits, Delivers, Executes, Voids, Empties, Waits, Leaves, Enters, Sends, ClosesConn, ClosesSession, Ignores, Trace, has, shown, first_of, admits_at, admitted, delivers_number, is_delivered, empties_number, is_emptied, held, waiting_by, waiting_through, waiting, enters, entered, leaves_ticket, live, closes_conn, closes_session, is_ended, is_closed}
 use Rattle.iscsi_history.specs.Execution.{exp_of}
 use Rattle.iscsi_history.specs.Logout.{is_open}
-use Rattle.iscsi_history.proofs.ElementLemmas.{In, in-filter, filter-in, in-append, append-in_first, append-in_second, flat_map-in, range-in, in-cons}
+use Rattle.iscsi_history.proofs.ElementLemmas.{In, in-filter, in-append, in-cons}
 use Rattle.iscsi_history.proofs.BoolLemmas.{and_parts, and_both, or_none, or_first, or_second, not_true}
 use Rattle.iscsi_history.proofs.ApartLemmas.{eq_sym}
 use Rattle.iscsi_history.proofs.TraceLemmas.{live-item}

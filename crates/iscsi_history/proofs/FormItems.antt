@@ -1,29 +1,28 @@
 -- Each item has a form: what a request does that executes.
-use Rattle.std.proofs.Common.{◌≡◌, ℕ, zero, suc, ◌+◌, ◌<◌, ◌≤◌, ◌==◌, ◌&&◌, ◌||◌, not, ⊎_elim, cond, Bool, true, false, List, [], ◌∷◌, ◌++◌, length, map, filter, count_by, Option, Some, None, refl, ap, sym, subst, ◌∙◌, arith, nat_lt, nat_le, append_assoc}
+use Rattle.std.proofs.Common.{◌≡◌, ℕ, zero, suc, ◌+◌, ◌<◌, ◌≤◌, ◌==◌, ◌&&◌, ⊎_elim, cond, Bool, true, false, List, [], ◌∷◌, ◌++◌, length, map, filter, count_by, Option, Some, None, refl, ap, sym, subst, ◌∙◌, arith, nat_lt, nat_le, append_assoc}
 use Rattle.std.specs.List.{list_any, flat_map, range_with_len}
-use Rattle.std.proofs.lemmas.Bool.{false≢true}
 use Rattle.std.proofs.lemmas.Bool.Decides.{nat_tests}
 use Rattle.std.proofs.lemmas.List.{append-nil}
 use Rattle.std.proofs.lemmas.List.Sums.{sum_by-cons, sum_by-append}
 use Rattle.iscsi_wire.specs.declared.reply.Reply.{Reply}
 use Rattle.iscsi_wire.specs.declared.reply.Reply.TheVariants.{Task, Logout, Reject}
-use Rattle.iscsi_wire.specs.Serial.{lift, number_of_first}
+use Rattle.iscsi_wire.specs.Serial.{lift}
 use Rattle.iscsi_wire.specs.Fields.{attr_code, connection_of, header_of, is_immediate, opcode, function, itt, rtt, cid, ref_cmd_sn}
 use Rattle.iscsi_history.specs.declared.verdict.Verdict.{Verdict}
 use Rattle.iscsi_history.specs.declared.verdict.Verdict.TheVariants.{Nothing, Answer, Enter}
 use Rattle.iscsi_history.specs.Settings.{Setting}
-use Rattle.iscsi_history.specs.Trace.{Arrival, Command, Mark, Delivers, Executes, Voids, Empties, Leaves, Enters, ClosesConn, ClosesSession, Trace, first_of, received, is_received, held, held_among, entered, live, live_in}
+use Rattle.iscsi_history.specs.Trace.{Arrival, Command, Mark, Delivers, Executes, Voids, Empties, Leaves, Enters, Trace, first_of, received, is_received, held, held_among, entered, live, live_in}
 use Rattle.iscsi_history.specs.Execution.{attr_of, exp_of, max_of, NO_TAG, unit_named, is_tag_live, is_crowded, place_named, verdict_of, reply_on, next_command, marks_of}
 use Rattle.iscsi_history.specs.Management.{refusal_of_function, answer, held_requests, held_command, is_to, live_with_tag, abort_missing, abort_task, is_before, abort_all, query, function_to, function_marks, management_marks}
-use Rattle.iscsi_history.specs.Logout.{is_open, is_last_open, live_of_units, all_held, taken_out, parting, end_session, close_conn, logout_marks}
+use Rattle.iscsi_history.specs.Logout.{is_open, is_last_open, live_of_units, all_held, parting, end_session, close_conn, logout_marks}
 use Rattle.iscsi_history.specs.Items.{marks_after}
 use Rattle.iscsi_history.specs.Answers.{Answers}
 use Rattle.iscsi_history.proofs.ListLemmas.{fewer_counted}
-use Rattle.iscsi_history.proofs.ElementLemmas.{In, in-filter, in-append, first-in}
+use Rattle.iscsi_history.proofs.ElementLemmas.{In, in-filter, first-in}
 use Rattle.iscsi_history.proofs.TraceLemmas.{live-quiet}
 use Rattle.iscsi_history.proofs.HeldLemmas.{held-number}
 use Rattle.iscsi_history.proofs.VerdictLemmas.{verdict_below, verdict_answers, refusal_answers}
-use Rattle.iscsi_history.proofs.Forms.{Start, AtTurn, AtArrival, AfterWaiting, Deeds, idle, marks_done, begun, EntersAs, IsDone}
+use Rattle.iscsi_history.proofs.Forms.{Start, AtTurn, AtArrival, AfterWaiting, Deeds, idle, marks_done, begun, IsDone}
 
 -- ---- the mark by which a request executes changes nothing else
 
@@ -73,7 +72,7 @@ of_units p u (c ∷ cs) =
         → count_by p (c ∷ filter (λ d. nat_le (u + 1) d.unit) cs) ≡ cond (p c) 1 0 + count_by p (filter (λ d. nat_le (u + 1) d.unit) cs)
         → count_by p (c ∷ filter (λ d. nat_le u d.unit) cs) ≡ cond (p c) 1 0 + count_by p (filter (λ d. nat_le u d.unit) cs)
         → count_by p (cond v (c ∷ filter (λ d. d.unit == u) cs) (filter (λ d. d.unit == u) cs)) + count_by p (cond w (c ∷ filter (λ d. nat_le (u + 1) d.unit) cs) (filter (λ d. nat_le (u + 1) d.unit) cs))
-          ≡ count_by p (cond x (c ∷ filter (λ d. nat_le u d.unit) cs) (filter (λ d. nat_le u d.unit) cs))
+        ≡ count_by p (cond x (c ∷ filter (λ d. nat_le u d.unit) cs) (filter (λ d. nat_le u d.unit) cs))
     by_tests true true x i j k rest a b d = absurd (let z : ⊥ = grind (arith, nat_tests) in z)
     by_tests true false true i j k rest a b d = omega arith
     by_tests true false false i j k rest a b d = absurd (let z : ⊥ = grind (arith, nat_tests) in z)

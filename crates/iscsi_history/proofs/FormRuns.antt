@@ -16,10 +16,10 @@ use Rattle.iscsi_history.specs.Items.{execution, waiting_item, immediate_item, f
 use Rattle.iscsi_history.specs.Management.{may_wait, refusal_of_function, MOST_WAITING, waiting_on}
 use Rattle.iscsi_history.specs.Agenda.{with_turns, numbered, kind_of, arrival_as, arrival_open, arrival, arrival_of, command_of}
 use Rattle.iscsi_history.specs.Run.{after_event, after_events, trace_of}
-use Rattle.iscsi_history.proofs.ElementLemmas.{In, in-filter, first-in}
+use Rattle.iscsi_history.proofs.ElementLemmas.{in-filter, first-in}
 use Rattle.iscsi_history.proofs.TraceLemmas.{after_items-append}
 use Rattle.iscsi_history.proofs.HeldLemmas.{held-number}
-use Rattle.iscsi_history.proofs.Forms.{Start, AtTurn, AtArrival, AfterWaiting, start_mark, Form, Ignored, Rejected, Received, Postponed, Completed, Executed, begun, Starts, HasForm, is_arrival, HaveForms}
+use Rattle.iscsi_history.proofs.Forms.{Start, AtTurn, AtArrival, AfterWaiting, start_mark, Ignored, Rejected, Received, Postponed, Completed, Executed, Starts, HasForm, is_arrival, HaveForms}
 use Rattle.iscsi_history.proofs.FormItems.{Does, does_reply, does_function, does_after}
 
 -- ---- items

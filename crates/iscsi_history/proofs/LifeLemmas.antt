@@ -1,24 +1,18 @@
 -- Each command is started at most once.
-use Rattle.std.proofs.Common.{◌≡◌, ℕ, zero, suc, ◌+◌, ◌<◌, ◌≤◌, ◌==◌, ◌&&◌, ◌||◌, ◌⊎◌, inl, inr, not, ⊎_elim, cond, Bool, true, false, List, [], ◌∷◌, ◌++◌, map, filter, length, count_by, Option, Some, None, refl, ap, sym, subst, ◌∙◌, arith, eq-eqb, append_assoc, length-append}
-use Rattle.std.specs.List.{list_any, filter_map, flat_map, range_with_len, cons_option}
-use Rattle.std.proofs.lemmas.Bool.{false≢true, eqb-true, cases_eq}
+use Rattle.std.proofs.Common.{◌≡◌, ℕ, zero, suc, ◌+◌, ◌<◌, ◌≤◌, ◌==◌, ◌&&◌, ◌||◌, not, ⊎_elim, cond, Bool, true, false, List, [], ◌∷◌, ◌++◌, map, filter, length, count_by, Option, Some, None, refl, ap, sym, ◌∙◌, arith, eq-eqb, length-append}
+use Rattle.std.specs.List.{list_any, filter_map, flat_map, range_with_len}
+use Rattle.std.proofs.lemmas.Bool.{false≢true, cases_eq}
 use Rattle.std.proofs.lemmas.Bool.Decides.{nat_tests}
 use Rattle.std.proofs.lemmas.List.{append-nil, map-append}
 use Rattle.std.proofs.lemmas.List.Elements.{filter-append}
-use Rattle.std.proofs.lemmas.List.Folds.{list_any-append}
 use Rattle.std.proofs.lemmas.List.Sums.{sum_by-cons}
-use Rattle.iscsi_history.specs.declared.effect.Effect.{Effect}
 use Rattle.iscsi_history.specs.Settings.{Setting}
-use Rattle.iscsi_history.specs.Trace.{Command, Mark, Trace, has, enters, entered, leaves_ticket, live, live_in, is_among, was_free, is_free_at}
+use Rattle.iscsi_history.specs.Trace.{Command, Mark, Trace, enters, entered, live, is_among, was_free}
 use Rattle.iscsi_history.specs.Run.{newly_enabled}
-use Rattle.iscsi_history.specs.Lives.{life_of}
-use Rattle.iscsi_history.proofs.BoolLemmas.{or_first, or_second, or_false}
 use Rattle.iscsi_history.proofs.DeliveryLemmas.{range_more}
-use Rattle.iscsi_history.proofs.TraceLemmas.{live-item}
-use Rattle.iscsi_history.proofs.NewlyLemmas.{never_free, filter-none}
-use Rattle.iscsi_history.proofs.Forms.{Form, marks_of_form, Each, IsFormed, HasForm, HaveForms}
+use Rattle.iscsi_history.proofs.Forms.{Each, HasForm, HaveForms}
 use Rattle.iscsi_history.proofs.NumberingLemmas.{to_list}
-use Rattle.iscsi_history.proofs.TouchLemmas.{mine, leaving_in, entering_in, enters_form, leaves_form, leaving_few, EntersNext, entering_next}
+use Rattle.iscsi_history.proofs.TouchLemmas.{mine, entering_in, enters_form, EntersNext, entering_next}
 
 -- ---- lists of commands
 

@@ -1,5 +1,5 @@
 -- What a log shows of each ticket is a life.
-use Rattle.std.proofs.Common.{◌≡◌, ℕ, ◌+◌, ◌<◌, ◌≤◌, ◌==◌, ◌&&◌, ◌||◌, ◌⊎◌, ◌≢◌, inl, inr, not, ⊎_elim, cond, Bool, true, false, List, [], ◌∷◌, ◌++◌, map, filter, length, count_by, Option, Some, None, refl, ap, sym, subst, ◌∙◌, arith, eq-eqb, append_assoc, length-append}
+use Rattle.std.proofs.Common.{◌≡◌, ℕ, ◌+◌, ◌<◌, ◌≤◌, ◌==◌, ◌&&◌, ◌||◌, ◌⊎◌, ◌≢◌, inl, inr, not, ⊎_elim, cond, Bool, true, false, List, [], ◌∷◌, ◌++◌, map, filter, length, count_by, Option, Some, None, refl, ap, sym, subst, ◌∙◌, arith, eq-eqb, length-append}
 use Rattle.std.specs.List.{list_any, filter_map, flat_map, range_with_len}
 use Rattle.std.proofs.lemmas.Bool.{false≢true, eqb-true, cases_eq}
 use Rattle.std.proofs.lemmas.Bool.Decides.{nat_tests}
@@ -13,7 +13,6 @@ use Rattle.iscsi_history.specs.Trace.{Command, Mark, Admits, Delivers, Executes,
 use Rattle.iscsi_history.specs.Run.{effects_of_mark, newly_enabled, effects_of_item, trace_of, run_of}
 use Rattle.iscsi_history.specs.Enabling.{effects_so_far, effects_in}
 use Rattle.iscsi_history.specs.Lives.{ticket_entered, tickets_entered, names_ticket, life_of, is_life, StartsOnce}
-use Rattle.iscsi_history.proofs.BoolLemmas.{or_none}
 use Rattle.iscsi_history.proofs.ElementLemmas.{In, in-filter}
 use Rattle.iscsi_history.proofs.TraceLemmas.{live-item}
 use Rattle.iscsi_history.proofs.NewlyLemmas.{never_free}
@@ -22,7 +21,7 @@ use Rattle.iscsi_history.proofs.Forms.{Form, marks_of_form, Each, IsFormed, HasF
 use Rattle.iscsi_history.proofs.FormRuns.{trace_has_forms}
 use Rattle.iscsi_history.proofs.NumberingLemmas.{to_list}
 use Rattle.iscsi_history.proofs.TouchLemmas.{mine, leave_effect, enter_effect, enable_effect, leaving_in, entering_in, enters_form, leaves_form, life_item, leaving_few, EntersNext, entering_next}
-use Rattle.iscsi_history.proofs.LifeLemmas.{filter-swap, mine-none, among-mine, mine-none_counted, count-mine, tickets_count, beyond_entered, newly_none, newly_one}
+use Rattle.iscsi_history.proofs.LifeLemmas.{filter-swap, mine-none, among-mine, count-mine, tickets_count, beyond_entered, newly_none, newly_one}
 
 -- ---- the state of a ticket
 

@@ -1,5 +1,5 @@
 -- What an item does to the command of a ticket: which leaves, which enters, and what is shown of it.
-use Rattle.std.proofs.Common.{◌≡◌, ℕ, ◌+◌, ◌<◌, ◌≤◌, ◌==◌, ◌&&◌, ◌||◌, not, ⊎_elim, cond, Bool, true, false, List, [], ◌∷◌, ◌++◌, map, filter, length, count_by, Option, Some, None, refl, ap, sym, ◌∙◌, arith}
+use Rattle.std.proofs.Common.{◌≡◌, ℕ, ◌+◌, ◌<◌, ◌≤◌, ◌==◌, ◌||◌, ⊎_elim, cond, Bool, true, false, List, [], ◌∷◌, ◌++◌, map, filter, length, count_by, Option, Some, None, refl, ap, sym, ◌∙◌, arith}
 use Rattle.std.specs.List.{list_any, filter_map, flat_map, cons_option}
 use Rattle.std.proofs.lemmas.List.{append-nil}
 use Rattle.std.proofs.lemmas.List.Elements.{filter_map-append, filter-append}
@@ -16,7 +16,7 @@ use Rattle.iscsi_history.specs.Lives.{names_ticket, life_of}
 use Rattle.iscsi_history.proofs.AbortMarks.{leaves_are, none_viewed, none_mapped}
 use Rattle.iscsi_history.proofs.BoolLemmas.{or_false}
 use Rattle.iscsi_history.proofs.ElementLemmas.{In}
-use Rattle.iscsi_history.proofs.Forms.{Start, AtTurn, AtArrival, AfterWaiting, start_mark, Deeds, if_some, marks_done, Form, Ignored, Rejected, Received, Postponed, Completed, Executed, marks_of_form, IsDone, Each, EntersAs, IsFormed, HasForm}
+use Rattle.iscsi_history.proofs.Forms.{Start, AtTurn, AtArrival, AfterWaiting, start_mark, Deeds, if_some, marks_done, Form, Ignored, Rejected, Received, Postponed, Completed, Executed, marks_of_form, Each, EntersAs, IsFormed}
 use Rattle.iscsi_history.proofs.NumberingLemmas.{to_list, unseen, passed}
 
 -- the commands with this ticket
@@ -47,7 +47,6 @@ enable_effect c = Enable c.ticket c.unit
 -- a view that sees nothing but commands that leave and enter
 module _ {B : Type 0} (view : Mark → Option B) (voids : (n : ℕ) → view (Voids n) ≡ None) (empties : (a : Arrival) → view (Empties a) ≡ None)
     (sends : (conn : ℕ) (reply : Reply) → view (Sends conn reply) ≡ None) (closes : (conn : ℕ) → view (ClosesConn conn) ≡ None) (ends : view ClosesSession ≡ None) where
-
   unseen_end : (d : Deeds) (conn : ℕ) → filter_map view (if_some (Sends conn) d.reply ++ (if_some ClosesConn d.closing ++ cond d.ending (ClosesSession ∷ []) [])) ≡ []
   unseen_end d conn =
       passed view (if_some (Sends conn) d.reply) _ (unseen view (Sends conn) d.reply (sends conn))

@@ -15,7 +15,7 @@ use Rattle.iscsi_session.specs.Steps.{find_ticket}
 use Rattle.iscsi_history.proofs.BoolLemmas.{and_parts, or_none, or_false, not_true}
 use Rattle.iscsi_history.proofs.ApartLemmas.{eq_sym, unamong-filter, apart-push, apart-filter}
 use Rattle.iscsi_session.proofs.EnabledLemmas.{filter-map}
-use Rattle.iscsi_history.proofs.TraceLemmas.{live-quiet, live-enters, live-leaves}
+use Rattle.iscsi_history.proofs.TraceLemmas.{live-enters, live-leaves}
 use Rattle.iscsi_history.proofs.NewlyLemmas.{Untouched, live-untouched}
 
 entered-untouched : (item : List Mark) (t : Trace) → Untouched item → entered (item ∷ t) ≡ entered t

@@ -1,24 +1,20 @@
 -- Which commands were free at some moment, after one item more.
 use Rattle.std.proofs.Common.{◌≡◌, ℕ, zero, suc, ◌+◌, ◌<◌, ◌≤◌, ◌==◌, ◌&&◌, ◌||◌, not, ⊎_elim, cond, Bool, true, false, List, [], ◌∷◌, ◌++◌, map, filter, find, Some, option_map, refl, ap, sym, ◌∙◌, arith}
-use Rattle.std.specs.List.{list_any, list_all, filter_map, flat_map, range_with_len}
+use Rattle.std.specs.List.{list_all, flat_map, range_with_len}
 use Rattle.std.proofs.lemmas.Bool.{cases_eq, eqb-true}
 use Rattle.std.proofs.lemmas.Bool.Decides.{nat_tests}
 use Rattle.std.proofs.lemmas.List.{append-nil, map-append}
-use Rattle.std.proofs.lemmas.List.Elements.{filter-append}
-use Rattle.std.proofs.lemmas.List.Folds.{list_any-append}
 use Rattle.iscsi_tasks.specs.declared.member.Member.{Member}
-use Rattle.iscsi_tasks.specs.Sets.{Queued, bars, is_free, queued, is_free_among, looked_at, after_moment, is_new, next_in, given_in}
+use Rattle.iscsi_tasks.specs.Sets.{is_free, queued, is_free_among, looked_at, after_moment, is_new, next_in, given_in}
 use Rattle.iscsi_history.specs.declared.effect.Effect.TheVariants.{Enable}
 use Rattle.iscsi_history.specs.Settings.{Setting}
-use Rattle.iscsi_history.specs.Trace.{Command, Mark, Trace, has, enters, entered, leaves_ticket, live, live_in, is_among, queued_of, is_free_at, was_free, enabled_in}
+use Rattle.iscsi_history.specs.Trace.{Command, Mark, Trace, live, live_in, is_among, queued_of, is_free_at, was_free}
 use Rattle.iscsi_history.specs.Run.{newly_enabled}
 use Rattle.iscsi_session.specs.Standing.{task_of, member_of, set_of}
 use Rattle.iscsi_session.specs.Steps.{as_given, enable_effects, enable_effect}
-use Rattle.iscsi_history.proofs.BoolLemmas.{and_parts, and_both, or_none, or_comm, not_true}
-use Rattle.iscsi_history.proofs.ApartLemmas.{unamong-filter}
-use Rattle.iscsi_history.proofs.TraceLemmas.{all_among}
+use Rattle.iscsi_history.proofs.BoolLemmas.{and_parts, or_comm}
 use Rattle.iscsi_history.proofs.ListLemmas.{list_all-filter, all_of_filter}
-use Rattle.iscsi_history.proofs.MomentLemmas.{free_now, enables}
+use Rattle.iscsi_history.proofs.MomentLemmas.{enables}
 use Rattle.iscsi_history.proofs.NewlyLemmas.{all_here, filter-twice, flat_map-none, is_here, new_in, new_in-more, new_in-none, was_free-stays}
 
 -- ---- lists

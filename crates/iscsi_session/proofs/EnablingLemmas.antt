@@ -1,21 +1,20 @@
 -- The commands that the effects show as enabled are those that the rule enables, after one item more.
-use Rattle.std.proofs.Common.{◌≡◌, ℕ, zero, suc, ◌+◌, ◌<◌, ◌≤◌, nat_lt, ⊎_elim, ◌==◌, ◌&&◌, ◌||◌, not, cond, Bool, true, false, List, [], ◌∷◌, ◌++◌, filter, refl, ap, sym, ◌∙◌, arith, eq-eqb}
-use Rattle.std.specs.List.{list_any, list_all, flat_map, range_with_len}
-use Rattle.std.proofs.lemmas.Bool.{cases_eq, false≢true, eqb-true}
-use Rattle.std.proofs.lemmas.Bool.Decides.{nat_tests}
+use Rattle.std.proofs.Common.{◌≡◌, ℕ, ◌<◌, nat_lt, ◌==◌, ◌&&◌, ◌||◌, not, cond, Bool, true, false, List, [], ◌∷◌, ◌++◌, filter, refl, ap, sym, ◌∙◌, arith, eq-eqb}
+use Rattle.std.specs.List.{list_any, list_all, flat_map}
+use Rattle.std.proofs.lemmas.Bool.{false≢true, eqb-true}
 use Rattle.std.proofs.lemmas.List.{append-nil}
 use Rattle.std.proofs.lemmas.List.Folds.{list_any-append}
 use Rattle.iscsi_session.specs.declared.session.live.Live.{Live}
 use Rattle.iscsi_history.specs.Settings.{Setting}
-use Rattle.iscsi_history.specs.Trace.{Command, Mark, Admits, Delivers, Executes, Voids, Empties, Waits, Leaves, Enters, Sends, ClosesConn, ClosesSession, Ignores, Trace, has, leaves_ticket, live, live_in, is_among, is_free_at, was_free}
+use Rattle.iscsi_history.specs.Trace.{Command, Mark, Admits, Delivers, Executes, Voids, Empties, Waits, Leaves, Enters, Sends, ClosesConn, ClosesSession, Ignores, Trace, has, leaves_ticket, live, live_in, is_among, was_free}
 use Rattle.iscsi_history.specs.Run.{effects_of_mark, newly_enabled, effects_of_item}
 use Rattle.iscsi_history.specs.Enabling.{effects_so_far, is_enable, is_leave, is_shown_enabled, is_enabled, EnabledSoFar}
 use Rattle.iscsi_session.specs.Standing.{CommandsAgree}
-use Rattle.iscsi_history.proofs.BoolLemmas.{and_parts, and_both, or_first, or_second, or_comm, or_false, and_false, and_comm, and_true}
-use Rattle.iscsi_history.proofs.ListLemmas.{any_all, any_filter, any_flat_map, any_same}
+use Rattle.iscsi_history.proofs.BoolLemmas.{and_both, or_second, or_comm, or_false, and_false}
+use Rattle.iscsi_history.proofs.ListLemmas.{any_all}
 use Rattle.iscsi_history.proofs.TraceLemmas.{weaker}
 use Rattle.iscsi_history.proofs.MomentLemmas.{enables, item_enables, left_unlive}
-use Rattle.iscsi_history.proofs.NewlyLemmas.{is_here, was_free-stays, new_in, new_in-more, filter-twice}
+use Rattle.iscsi_history.proofs.NewlyLemmas.{is_here, was_free-stays, new_in-more}
 use Rattle.iscsi_session.proofs.EnabledLemmas.{newly-one}
 use Rattle.iscsi_history.proofs.NewlyLemmas.{Untouched, live-untouched, live_in-untouched}
 use Rattle.iscsi_session.proofs.CommandParts.{EntersOne, live-entered, live_in-entered, live_in-elsewhere, LeavesSome, live-left, none_any}

@@ -1,12 +1,11 @@
 -- Where a session stands for some events, their log keeps the promises.
-use Rattle.std.proofs.Common.{◌≡◌, ◌∙◌, ◌++◌, List, [], ap, sym}
+use Rattle.std.proofs.Common.{◌≡◌, ◌∙◌, List, [], ap, sym}
 use Rattle.iscsi_history.specs.declared.event.Event.{Event}
 use Rattle.iscsi_history.specs.Settings.{Setting}
 use Rattle.iscsi_history.specs.Run.{trace_of, run_of}
 use Rattle.iscsi_history.specs.Executed.{delivered, executed, executed_below}
 use Rattle.iscsi_history.specs.Flow.{FlowsThrough}
 use Rattle.iscsi_history.specs.Enabling.{EnablesByTheRule}
-use Rattle.iscsi_history.specs.Aborts.{AbortsHoldIn}
 use Rattle.iscsi_history.specs.Closes.{ClosesHoldIn}
 use Rattle.iscsi_history.specs.Promises.{KeepsPromises}
 use Rattle.iscsi_history.proofs.DeliveryLemmas.{log_delivers}

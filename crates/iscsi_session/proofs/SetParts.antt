@@ -12,7 +12,7 @@ use Rattle.iscsi_history.specs.Trace.{Command, Mark, Trace, live, live_in, is_am
 use Rattle.iscsi_history.specs.Run.{newly_enabled}
 use Rattle.iscsi_session.specs.Standing.{task_of, member_of, set_of, SetsAgree, CommandsAgree}
 use Rattle.iscsi_session.specs.Steps.{all_given, as_given, enable_effects, enable_effect}
-use Rattle.iscsi_history.proofs.NewlyLemmas.{newly-none, never_free}
+use Rattle.iscsi_history.proofs.NewlyLemmas.{never_free}
 use Rattle.iscsi_session.proofs.EnabledLemmas.{filter-map, noted_given, noted_effects, newly-one, set_of-same, EnteredSet, set-entered}
 use Rattle.iscsi_history.proofs.MomentLemmas.{enables}
 use Rattle.iscsi_history.proofs.NewlyLemmas.{Untouched, live_in-untouched}
