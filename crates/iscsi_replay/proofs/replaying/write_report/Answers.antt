@@ -7,8 +7,6 @@ use Rattle.std.proofs.lemmas.List.{take_more, take_all}
 use Rattle.iscsi_history.specs.declared.event.Event.{Event}
 use Rattle.std.proofs.lemmas.Result.{IfOk-weaker}
 use Rattle.iscsi_history.specs.Flow.{FlowsThrough}
-use Rattle.iscsi_history.specs.Promises.{KeepsPromises}
-use Rattle.iscsi_history.specs.Run.{run_of}
 use Rattle.iscsi_session.proofs.FlowLemmas.{FlowsThrough-push, FlowsThrough-none}
 use Rattle.iscsi_session.proofs.PromiseLemmas.{promises_kept}
 use Rattle.iscsi_session.specs.Standing.{StandsFor}
