@@ -26,3 +26,5 @@ pub mod OrderLemmas
 pub mod OrderRuns
 pub mod NumberingLemmas
 pub mod TouchLemmas
+pub mod FateLemmas
+pub mod MeaningTheorem
