@@ -36,3 +36,5 @@ pub mod AnswerTheorem
 pub mod BeforeLemmas
 pub mod ReplySince
 pub mod TurnLemmas
+pub mod FateLemmas
+pub mod MeaningTheorem

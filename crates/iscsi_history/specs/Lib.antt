@@ -13,6 +13,14 @@ pub mod Replies
 pub mod Aborts
 pub mod Closes
 pub mod Rows
+pub mod NumberRows
+pub mod OtherRows
+pub mod CommandRows
+pub mod SetRows
+pub mod FunctionRows
+pub mod SetAbortRows
+pub mod LogoutRows
+pub mod QueryRows
 pub mod Lives
 pub mod Order
 pub mod Numbering

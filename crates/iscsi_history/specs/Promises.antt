@@ -12,6 +12,8 @@ use Rattle.iscsi_history.specs.Lives.{StartsOnce}
 use Rattle.iscsi_history.specs.Answers.{AnswersOnceIn}
 use Rattle.iscsi_history.specs.Numbering.{CountsReplies}
 use Rattle.iscsi_history.specs.Order.{KeepsOrder}
+use Rattle.iscsi_history.specs.Meaning.{MeansWhatItSays}
+use Rattle.iscsi_history.specs.Run.{trace_of}
 
 pub record KeepsPromises (o : Setting) (h : List Event) (log : List Entry) : Type 0 where
   -- the numbered requests delivered are those received from the first CmdSN on without a gap, in CmdSN order, each once
@@ -32,3 +34,5 @@ pub record KeepsPromises (o : Setting) (h : List Event) (log : List Entry) : Typ
   pub stat_sns : CountsReplies o log
   -- the effects of an item stand in order
   pub in_order : KeepsOrder log
+  -- and the definitions mean what they say
+  pub meaning : MeansWhatItSays o (trace_of o h)

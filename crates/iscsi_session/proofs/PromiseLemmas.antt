@@ -16,6 +16,7 @@ use Rattle.iscsi_history.proofs.LifeTheorem.{starts_once}
 use Rattle.iscsi_history.proofs.AnswerTheorem.{answers_once_in}
 use Rattle.iscsi_history.proofs.NumberingLemmas.{counts_replies}
 use Rattle.iscsi_history.proofs.OrderRuns.{keeps_order}
+use Rattle.iscsi_history.proofs.MeaningTheorem.{means_what_it_says}
 use Rattle.iscsi_session.specs.Standing.{Core, StandsFor}
 use Rattle.iscsi_session.proofs.AgreeLemmas.{settled_expected}
 
@@ -46,4 +47,5 @@ promises_kept o s h stands flow = record {
   answered_once = answers_once_in o h;
   stat_sns = counts_replies o h;
   in_order = keeps_order o h;
+  meaning = means_what_it_says o h;
 }

@@ -17,6 +17,7 @@ ghost use Rattle.iscsi_history.specs.Lives.{StartsOnce};
 ghost use Rattle.iscsi_history.specs.Answers.{AnswersOnceIn};
 ghost use Rattle.iscsi_history.specs.Numbering.{CountsReplies};
 ghost use Rattle.iscsi_history.specs.Order.{KeepsOrder};
+ghost use Rattle.iscsi_history.specs.Meaning.{MeansWhatItSays};
 ghost use Rattle.iscsi_session.specs.Refusals.{RefusesAs, refusal_of, refusal_of_options};
 ghost use Rattle.iscsi_session.specs.Standing.{Settled, StandsFor, effect_bound_of, most_effects, is_held, are_ascending};
 ghost use Rattle.iscsi_session.specs.Steps.{refusal_by, comes_on, KeepsPace, counted, numbers_by};
@@ -161,6 +162,7 @@ impl Session {
         ensures answered_once { (o : Setting) (h : List Event) → StandsFor o self.old h → let all = h ++ event.now ∷ [] in OnOk result (AnswersOnceIn o all (run_of o all)) }
         ensures stat_sns { (o : Setting) (h : List Event) → StandsFor o self.old h → let all = h ++ event.now ∷ [] in OnOk result (CountsReplies o (run_of o all)) }
         ensures in_order { (o : Setting) (h : List Event) → StandsFor o self.old h → let all = h ++ event.now ∷ [] in OnOk result (KeepsOrder (run_of o all)) }
+        ensures meaning { (o : Setting) (h : List Event) → StandsFor o self.old h → OnOk result (MeansWhatItSays o (trace_of o (h ++ event.now ∷ []))) }
 
         // No event gives more effects than the bound, and with that much room memory isn't wanting.
         ensures bound { (o : Setting) (h : List Event) → StandsFor o self.old h → OnOk result (length (next_entry o h event.now).effects ≤ effect_bound_of o (trace_of o h)) }

@@ -23,6 +23,7 @@ use Rattle.iscsi_history.proofs.LifeTheorem.{starts_once}
 use Rattle.iscsi_history.proofs.AnswerTheorem.{answers_once_in}
 use Rattle.iscsi_history.proofs.NumberingLemmas.{counts_replies}
 use Rattle.iscsi_history.proofs.OrderRuns.{keeps_order}
+use Rattle.iscsi_history.proofs.MeaningTheorem.{means_what_it_says}
 use Rattle.iscsi_session.proofs.PromiseLemmas.{stands_delivers, stands_enables, stands_closes}
 use Rattle.iscsi_session.proofs.RefusalLemmas.{belong_more, taken_belongs}
 use Rattle.iscsi_session.proofs.session.Session.step.Goals as goal
@@ -127,3 +128,6 @@ returns-clause-in_order c = λ o h stands. keeps_order o (h ++ c.args.event.now 
 
 pub returns-clause-answered_once : goal.returns-clause-answered_once
 returns-clause-answered_once c = λ o h stands. answers_once_in o (h ++ c.args.event.now ∷ [])
+
+pub returns-clause-meaning : goal.returns-clause-meaning
+returns-clause-meaning c = λ o h stands. means_what_it_says o (h ++ c.args.event.now ∷ [])

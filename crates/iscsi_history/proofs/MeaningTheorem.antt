@@ -1,0 +1,102 @@
+-- What the definitions mean, said once more in other words, holds of every trace.
+use Rattle.std.proofs.Common.{◌≡◌, ℕ, ◌+◌, ◌≤◌, ◌==◌, ◌&&◌, ◌||◌, not, cond, Bool, true, false, List, [], ◌∷◌, count_by, length, refl, ap, sym, ◌∙◌, arith}
+use Rattle.std.specs.List.{list_any, filter_map}
+use Rattle.std.proofs.lemmas.Bool.{false≢true, eqb-true}
+use Rattle.std.proofs.lemmas.List.Folds.{list_any-append}
+use Rattle.std.proofs.lemmas.List.Sums.{sum_by-cons}
+use Rattle.iscsi_history.specs.declared.event.Event.{Event}
+use Rattle.iscsi_history.specs.Settings.{Setting}
+use Rattle.iscsi_history.specs.Trace.{Command, Trace, has, enters, entered, leaves_ticket, live, is_among}
+use Rattle.iscsi_history.specs.Run.{trace_of}
+use Rattle.iscsi_history.specs.Meaning.{MeansWhatItSays}
+use Rattle.iscsi_history.proofs.ListLemmas.{any_filter}
+use Rattle.iscsi_history.proofs.BoolLemmas.{or_first, and_first, and_true, and_false}
+use Rattle.iscsi_history.proofs.Missing.{expected_low, expected_gone, expected_below}
+use Rattle.iscsi_history.proofs.Forms.{HasForm, HaveForms}
+use Rattle.iscsi_history.proofs.FormRuns.{trace_has_forms}
+use Rattle.iscsi_history.proofs.TouchLemmas.{leaving_in, leaves_form, leaving_few}
+use Rattle.iscsi_history.proofs.FateLemmas.{fate, one_fate}
+
+-- ---- commands that entered
+
+-- a command is live where it entered and hasn't left
+live_among : (k : ℕ) (t : Trace) → is_among k (live t) ≡ (is_among k (entered t) && not (has (leaves_ticket k) t))
+live_among k t = any_filter (λ (c : Command). c.ticket == k) (λ (c : Command). not (has (leaves_ticket c.ticket) t)) (entered t) ∙ by_ticket (entered t)
+  where
+    same : (c : Command) → (v : Bool) → (c.ticket == k) ≡ v → (not (has (leaves_ticket c.ticket) t) && v) ≡ (v && not (has (leaves_ticket k) t))
+    same c true is = and_true (not (has (leaves_ticket c.ticket) t)) ∙ ap (λ j. not (has (leaves_ticket j) t)) (eqb-true c.ticket k is)
+    same c false is = and_false (not (has (leaves_ticket c.ticket) t))
+
+    apart_or : (a b c : Bool) → ((a && c) || (b && c)) ≡ ((a || b) && c)
+    apart_or true true true = refl
+    apart_or true true false = refl
+    apart_or true false true = refl
+    apart_or true false false = refl
+    apart_or false b c = refl
+
+    by_ticket : (cs : List Command) → list_any (λ c. not (has (leaves_ticket c.ticket) t) && (c.ticket == k)) cs ≡ (is_among k cs && not (has (leaves_ticket k) t))
+    by_ticket [] = refl
+    by_ticket (c ∷ cs) =
+        ap (λ b. b || list_any (λ x. not (has (leaves_ticket x.ticket) t) && (x.ticket == k)) cs) (same c (c.ticket == k) refl)
+        ∙ ap (λ b. ((c.ticket == k) && not (has (leaves_ticket k) t)) || b) (by_ticket cs)
+        ∙ apart_or (c.ticket == k) (is_among k cs) (not (has (leaves_ticket k) t))
+
+-- what is among some that are counted is counted
+among_counted : (k : ℕ) (cs : List Command) → is_among k cs ≡ true → 1 ≤ count_by (λ (c : Command). c.ticket == k) cs
+among_counted k [] h = absurd (false≢true h)
+among_counted k (c ∷ cs) h = by_test (c.ticket == k) (sum_by-cons (λ (x : Command). cond (x.ticket == k) 1 0) c cs) (among_counted k cs) h
+  where
+    by_test : (v : Bool) → count_by (λ (x : Command). x.ticket == k) (c ∷ cs) ≡ cond v 1 0 + count_by (λ (x : Command). x.ticket == k) cs → (is_among k cs ≡ true → 1 ≤ count_by (λ (x : Command). x.ticket == k) cs) → (v || is_among k cs) ≡ true
+        → 1 ≤ count_by (λ (x : Command). x.ticket == k) (c ∷ cs)
+    by_test true all rest h = omega arith
+    by_test false all rest h = omega (arith, rest h)
+
+counted_among : (k : ℕ) (cs : List Command) → 1 ≤ count_by (λ (c : Command). c.ticket == k) cs → is_among k cs ≡ true
+counted_among k [] h = absurd (omega arith)
+counted_among k (c ∷ cs) h = by_test (c.ticket == k) (sum_by-cons (λ (x : Command). cond (x.ticket == k) 1 0) c cs) (counted_among k cs)
+  where
+    by_test : (v : Bool) → count_by (λ (x : Command). x.ticket == k) (c ∷ cs) ≡ cond v 1 0 + count_by (λ (x : Command). x.ticket == k) cs → (1 ≤ count_by (λ (x : Command). x.ticket == k) cs → is_among k cs ≡ true) → (v || is_among k cs) ≡ true
+    by_test true all rest = refl
+    by_test false all rest = rest (omega arith)
+
+-- nothing leaves that didn't enter
+left_entered : (o : Setting) (k : ℕ) (t : Trace) (next : ℕ) → HaveForms o next t → has (leaves_ticket k) t ≡ true → is_among k (entered t) ≡ true
+left_entered o k [] next x h = absurd (false≢true h)
+left_entered o k (item ∷ t) next x h =
+    let f : HasForm o x.0 t item = x.1.1.0 in
+    list_any-append (λ (c : Command). c.ticket == k) (entered t) (filter_map enters item)
+    ∙ or_first (is_among k (entered t)) (is_among k (filter_map enters item))
+    (by_item (list_any (leaves_ticket k) item) (leaving_in f.form) (sym (leaves_form k f.form) ∙ sym (ap (list_any (leaves_ticket k)) f.is)) (leaving_few o x.0 t f.form f.formed (λ (c : Command). c.ticket == k)) (left_entered o k t _ x.1.1.1) h)
+  where
+    by_item : (v : Bool) (cs : List Command) → is_among k cs ≡ v → count_by (λ (c : Command). c.ticket == k) cs ≤ count_by (λ (c : Command). c.ticket == k) (live t) → (has (leaves_ticket k) t ≡ true → is_among k (entered t) ≡ true)
+        → (v || has (leaves_ticket k) t) ≡ true → is_among k (entered t) ≡ true
+    by_item true cs leaves few before h =
+        and_first (is_among k (entered t)) (not (has (leaves_ticket k) t))
+        (sym (live_among k t) ∙ counted_among k (live t) (omega (arith, among_counted k cs leaves, few)))
+    by_item false cs leaves few before h = before h
+
+entered_parted : (a l : Bool) → (l ≡ true → a ≡ true) → a ≡ ((a && not l) || l)
+entered_parted true true h = refl
+entered_parted true false h = refl
+entered_parted false true h = h refl
+entered_parted false false h = refl
+
+live_apart : (a l : Bool) → ((a && not l) && l) ≡ false
+live_apart true true = refl
+live_apart true false = refl
+live_apart false l = refl
+
+-- for every list of events
+pub means_what_it_says : (o : Setting) (h : List Event) → MeansWhatItSays o (trace_of o h)
+means_what_it_says o h = record {
+  expected = record {
+    from_first = expected_low o.first (trace_of o h);
+    missing = expected_gone o.first (trace_of o h);
+    least = λ n low high. expected_below o.first (trace_of o h) n low high;
+  };
+  fates = λ n. one_fate (trace_of o h) n (fate o n (trace_of o h) (length h) (trace_has_forms o h));
+  parted = λ k.
+      entered_parted (is_among k (entered (trace_of o h))) (has (leaves_ticket k) (trace_of o h)) (left_entered o k (trace_of o h) (length h) (trace_has_forms o h))
+      ∙ ap (λ b. b || has (leaves_ticket k) (trace_of o h)) (sym (live_among k (trace_of o h)));
+  apart = λ k. ap (λ b. b && has (leaves_ticket k) (trace_of o h)) (live_among k (trace_of o h)) ∙ live_apart (is_among k (entered (trace_of o h))) (has (leaves_ticket k) (trace_of o h));
+}
