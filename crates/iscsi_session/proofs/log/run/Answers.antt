@@ -1,4 +1,6 @@
 use Rattle.std.proofs.Common.{arith, ◌≡◌, ◌<◌, ◌∙◌, ◌+◌, ◌++◌, [], ◌∷◌, List, length, take, drop, ap, sym, subst, get_or, None, inl, inr, ⊎_elim, refl, ℕ}
+use Rattle.std.specs.Prelude.{Result, Ok, Err, OnOk, is_err}
+use Rattle.std.proofs.Common.{false}
 use Rattle.std.proofs.lemmas.Grind.{common_steps}
 use Rattle.iscsi_session.specs.declared.session.Session.{Session}
 use Rattle.std.proofs.lemmas.List.{take_more, take_all}
@@ -62,6 +64,16 @@ log_more o events i d log reserved new numbers effects out none in_range so_far 
     ∙ ap (λ es. run_of o (take i events) ++ record { numbers = next.numbers; effects = es } ∷ []) all
     ∙ sym (run_of-push o (take i events) e)
     ∙ ap (run_of o) (sym (take_more events i d in_range))
+
+-- what an answer says that is no error
+granted : {T E : Type 0} (P : Type 0) (r : Result T E) → is_err r ≡ false → OnOk r P → P
+granted P (Ok x) ok h = h
+granted P (Err e) ok h = absurd cc
+
+pub push_reserved-requires : goal.push_reserved-requires
+push_reserved-requires c =
+    let room = granted _ c.reserve.result (sym c.is_err.ensures.value ∙ c.if-is_err.false) c.reserve.ensures.ok in
+    omega (arith, room)
 
 pub loop-event-preserved : goal.loop-event-preserved
 loop-event-preserved c =
