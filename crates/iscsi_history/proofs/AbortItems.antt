@@ -21,7 +21,8 @@ use Rattle.iscsi_history.proofs.BoolLemmas.{or_first, or_second, or_none, and_pa
 use Rattle.iscsi_history.proofs.ListLemmas.{any_filter}
 use Rattle.iscsi_history.proofs.TraceLemmas.{received-item, unadmitted, live-quiet, filter-same, filter-true}
 use Rattle.iscsi_history.proofs.HeldLemmas.{held-number}
-use Rattle.iscsi_history.proofs.AbortLemmas.{voids_number, Fits}
+use Rattle.iscsi_history.specs.Meaning.{voids_number}
+use Rattle.iscsi_history.proofs.AbortLemmas.{Fits}
 use Rattle.iscsi_history.proofs.AbortMarks.{Follows, follows_reply, follows_function, follows_after, leaves_are, refused_incomplete, reply_incomplete, Sweeps, sweeps_function, sweeps_after}
 
 -- ---- a mark by which a request begins to execute

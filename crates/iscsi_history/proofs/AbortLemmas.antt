@@ -3,11 +3,8 @@ use Rattle.std.proofs.Common.{◌≡◌, ℕ, ◌<◌, ◌≤◌, ◌==◌, ◌|
 use Rattle.std.specs.List.{list_any, filter_map}
 use Rattle.iscsi_history.specs.Settings.{Setting}
 use Rattle.iscsi_history.specs.Trace.{Arrival, Mark, Voids, Trace, has, shown, is_received, admits_at, delivers_number, held, leaves_ticket, live, is_among}
+use Rattle.iscsi_history.specs.Meaning.{voids_number}
 use Rattle.iscsi_history.specs.Aborts.{is_set_abort, IsCompleted, is_ticket_covered}
-
-abbrev pub voids_number : ℕ → Mark → Bool
-voids_number n (Voids k) = k == n
-voids_number n _ = false
 
 -- ---- an item after t, where nothing below p is due any more
 

@@ -21,7 +21,7 @@ use Rattle.iscsi_history.specs.Aborts.{is_set_abort, is_complete, completes}
 use Rattle.iscsi_history.proofs.BoolLemmas.{or_none, or_false, and_false}
 use Rattle.iscsi_history.proofs.ApartLemmas.{unamong-filter}
 use Rattle.iscsi_history.proofs.ListLemmas.{list_any-map}
-use Rattle.iscsi_history.proofs.AbortLemmas.{voids_number}
+use Rattle.iscsi_history.specs.Meaning.{voids_number}
 
 -- ---- marks after the one that begins the item; t has that one
 

@@ -19,7 +19,8 @@ use Rattle.iscsi_history.proofs.ElementLemmas.{in-contains}
 use Rattle.iscsi_history.proofs.ApartLemmas.{unamong-filter}
 use Rattle.iscsi_history.proofs.TraceLemmas.{received-item}
 use Rattle.iscsi_history.proofs.MomentLemmas.{left_unlive, item_enables, log_effects}
-use Rattle.iscsi_history.proofs.AbortLemmas.{voids_number, Fits, Fit, Stood, stood}
+use Rattle.iscsi_history.specs.Meaning.{voids_number}
+use Rattle.iscsi_history.proofs.AbortLemmas.{Fits, Fit, Stood, stood}
 use Rattle.iscsi_history.proofs.AbortMarks.{none_among}
 use Rattle.iscsi_history.proofs.AbortRuns.{trace_fits}
 use Rattle.iscsi_history.proofs.Forms.{HasForm, HaveForms}

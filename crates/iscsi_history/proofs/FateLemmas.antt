@@ -9,7 +9,7 @@ use Rattle.iscsi_wire.specs.declared.reply.Reply.{Reply}
 use Rattle.iscsi_wire.specs.Fields.{connection_of}
 use Rattle.iscsi_history.specs.Settings.{Setting}
 use Rattle.iscsi_history.specs.Trace.{Arrival, Command, Mark, Admits, Delivers, Executes, Voids, Empties, Leaves, Enters, Sends, ClosesConn, ClosesSession, Trace, has, shown, first_of, number_received, contains, is_received, admits_at, admitted, delivers_number, is_delivered, empties_number, is_emptied, held}
-use Rattle.iscsi_history.specs.Meaning.{voids, fates_of}
+use Rattle.iscsi_history.specs.Meaning.{voids_number, fates_of}
 use Rattle.iscsi_history.proofs.AbortMarks.{none_mapped, none_viewed}
 use Rattle.iscsi_history.proofs.BoolLemmas.{or_false}
 use Rattle.iscsi_history.proofs.ElementLemmas.{In}
@@ -23,7 +23,7 @@ use Rattle.iscsi_history.proofs.NumberingLemmas.{to_list, unseen, passed}
 -- the number is received in the item, voided, its request taken out, delivered, and admitted
 pub record ItemAt (n : ℕ) (item : List Mark) (r v e d : Bool) (as' : List Arrival) : Type 0 where
   pub receives : contains (filter_map number_received item) n ≡ r
-  pub voided : list_any (voids n) item ≡ v
+  pub voided : list_any (voids_number n) item ≡ v
   pub emptied : list_any (empties_number n) item ≡ e
   pub delivered : list_any (delivers_number n) item ≡ d
   pub admits : filter_map (admits_at n) item ≡ as'
@@ -40,7 +40,7 @@ pub data Touch (t : Trace) (n : ℕ) (item : List Mark) : Type 0 where
 
 pub record NumberIs (t : Trace) (n : ℕ) (r v e d : Bool) (h : Option Arrival) : Type 0 where
   pub received : is_received t n ≡ r
-  pub voided : has (voids n) t ≡ v
+  pub voided : has (voids_number n) t ≡ v
   pub emptied : is_emptied t n ≡ e
   pub delivered : is_delivered t n ≡ d
   pub holds : held t n ≡ h
@@ -85,7 +85,7 @@ joined : (t : Trace) (n : ℕ) (item : List Mark) (r v e d r' v' e' d' : Bool) (
     → NumberIs (item ∷ t) n (r || r') (v' || v) (e' || e) (d' || d) x
 joined t n item r v e d r' v' e' d' as' h x s i holds = record {
   received = received-item item t n ∙ ap (λ b. b || contains (filter_map number_received item) n) s.received ∙ ap (λ b. r || b) i.receives;
-  voided = ap (λ b. b || has (voids n) t) i.voided ∙ ap (λ b. v' || b) s.voided;
+  voided = ap (λ b. b || has (voids_number n) t) i.voided ∙ ap (λ b. v' || b) s.voided;
   emptied = ap (λ b. b || is_emptied t n) i.emptied ∙ ap (λ b. e' || b) s.emptied;
   delivered = ap (λ b. b || is_delivered t n) i.delivered ∙ ap (λ b. d' || b) s.delivered;
   holds = holds;
@@ -161,7 +161,7 @@ module _ {B : Type 0} (view : Mark → Option B) (leaves : (c : Command) → vie
 
 -- what the marks do to a number: it is voided, or requests are taken out there, or the request that executes is delivered there
 abbrev void_at : ℕ → Deeds → Bool
-void_at n d = list_any (voids n) (if_some Voids d.void)
+void_at n d = list_any (voids_number n) (if_some Voids d.void)
 
 abbrev emptied_at : ℕ → Deeds → Bool
 emptied_at n d = list_any (λ (b : Arrival). b.number == n) d.emptied
@@ -172,13 +172,13 @@ delivered_at n start a = list_any (delivers_number n) (start_mark start a ∷ []
 done_at : (n : ℕ) (a : Arrival) (d : Deeds) → ItemAt n (marks_done a d) (void_at n d) (void_at n d) (emptied_at n d) false []
 done_at n a d = record {
   receives = ap (λ ns. contains ns n) (voids_viewed number_received (λ c. refl) (λ b. refl) (λ c. refl) (λ conn reply. refl) (λ conn. refl) refl a d) ∙ numbers d.void;
-  voided = tested (voids n) (λ c. refl) (λ c. refl) (λ conn reply. refl) (λ conn. refl) refl a d ∙ ap (λ b. void_at n d || b) (none_mapped (voids n) Empties d.emptied (λ b. refl)) ∙ or_false (void_at n d);
+  voided = tested (voids_number n) (λ c. refl) (λ c. refl) (λ conn reply. refl) (λ conn. refl) refl a d ∙ ap (λ b. void_at n d || b) (none_mapped (voids_number n) Empties d.emptied (λ b. refl)) ∙ or_false (void_at n d);
   emptied = tested (empties_number n) (λ c. refl) (λ c. refl) (λ conn reply. refl) (λ conn. refl) refl a d ∙ ap (λ b. b || list_any (empties_number n) (map Empties d.emptied)) (unemptied d.void) ∙ list_any-map (empties_number n) Empties d.emptied;
   delivered = tested (delivers_number n) (λ c. refl) (λ c. refl) (λ conn reply. refl) (λ conn. refl) refl a d ∙ ap (λ b. b || list_any (delivers_number n) (map Empties d.emptied)) (undelivered d.void) ∙ none_mapped (delivers_number n) Empties d.emptied (λ b. refl);
   admits = voids_viewed (admits_at n) (λ c. refl) (λ b. refl) (λ c. refl) (λ conn reply. refl) (λ conn. refl) refl a d ∙ unseen (admits_at n) Voids d.void (λ k. refl);
 }
   where
-    numbers : (x : Option ℕ) → contains (filter_map number_received (if_some Voids x)) n ≡ list_any (voids n) (if_some Voids x)
+    numbers : (x : Option ℕ) → contains (filter_map number_received (if_some Voids x)) n ≡ list_any (voids_number n) (if_some Voids x)
     numbers None = refl
     numbers (Some k) = refl
 
@@ -198,7 +198,7 @@ executed_at n AfterWaiting a d = record { receives = (done_at n a d).receives; v
 -- ---- where they may be
 
 -- a number that is voided wasn't received
-void_new : (t : Trace) (n : ℕ) (x : Option ℕ) → Each (λ k. is_received t k ≡ false) x → list_any (voids n) (if_some Voids x) ≡ true → is_received t n ≡ false
+void_new : (t : Trace) (n : ℕ) (x : Option ℕ) → Each (λ k. is_received t k ≡ false) x → list_any (voids_number n) (if_some Voids x) ≡ true → is_received t n ≡ false
 void_new t n None new h = absurd (false≢true h)
 void_new t n (Some k) new h = ap (is_received t) (sym (eqb-true k n (sym (or_false (k == n)) ∙ h))) ∙ new
 
@@ -282,7 +282,7 @@ fate o n (item ∷ t) next x =
 -- counted: one fate of a received number, none of any other
 counted : (t : Trace) (n : ℕ) (r v e d : Bool) (h : Option Arrival) → NumberIs t n r v e d h → count_by (λ b. b) (is_some h ∷ v ∷ e ∷ d ∷ []) ≡ cond r 1 0 → count_by (λ b. b) (fates_of t n) ≡ cond (is_received t n) 1 0
 counted t n r v e d h s is =
-    ap (λ b. count_by (λ x. x) (b ∷ has (voids n) t ∷ is_emptied t n ∷ is_delivered t n ∷ [])) (ap is_some s.holds)
+    ap (λ b. count_by (λ x. x) (b ∷ has (voids_number n) t ∷ is_emptied t n ∷ is_delivered t n ∷ [])) (ap is_some s.holds)
     ∙ ap (λ b. count_by (λ x. x) (is_some h ∷ b ∷ is_emptied t n ∷ is_delivered t n ∷ [])) s.voided
     ∙ ap (λ b. count_by (λ x. x) (is_some h ∷ v ∷ b ∷ is_delivered t n ∷ [])) s.emptied
     ∙ ap (λ b. count_by (λ x. x) (is_some h ∷ v ∷ e ∷ b ∷ [])) s.delivered

@@ -11,13 +11,13 @@ pub record IsLeastMissing (o : Setting) (t : Trace) : Type 0 where
   pub missing : is_received t (exp_of o t) ≡ false
   pub least : (n : ℕ) → number_of_first o.first ≤ n → n < exp_of o t → is_received t n ≡ true
 
-abbrev pub voids : ℕ → Mark → Bool
-voids n (Voids k) = k == n
-voids n _ = false
+abbrev pub voids_number : ℕ → Mark → Bool
+voids_number n (Voids k) = k == n
+voids_number n _ = false
 
 -- what may have become of a number: a request is held at it, it was voided, or its request was taken out or executed
 abbrev pub fates_of : Trace → ℕ → List Bool
-fates_of t n = is_some (held t n) ∷ has (voids n) t ∷ is_emptied t n ∷ is_delivered t n ∷ []
+fates_of t n = is_some (held t n) ∷ has (voids_number n) t ∷ is_emptied t n ∷ is_delivered t n ∷ []
 
 pub record MeansWhatItSays (o : Setting) (t : Trace) : Type 0 where
   pub expected : IsLeastMissing o t
