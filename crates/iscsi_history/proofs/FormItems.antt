@@ -13,7 +13,7 @@ use Rattle.iscsi_history.specs.declared.verdict.Verdict.TheVariants.{Nothing, An
 use Rattle.iscsi_history.specs.Settings.{Setting}
 use Rattle.iscsi_history.specs.Trace.{Arrival, Command, Mark, Delivers, Executes, Voids, Empties, Leaves, Enters, Trace, first_of, received, is_received, held, held_among, entered, live, live_in}
 use Rattle.iscsi_history.specs.Execution.{attr_of, exp_of, max_of, NO_TAG, unit_named, is_tag_live, is_crowded, place_named, verdict_of, reply_on, next_command, marks_of}
-use Rattle.iscsi_history.specs.Management.{refusal_of_function, answer, held_requests, held_command, is_to, live_with_tag, abort_missing, abort_task, is_before, abort_all, query, function_to, function_marks, management_marks}
+use Rattle.iscsi_history.specs.Management.{refusal_of_function, answer, held_requests, held_command, live_with_tag, abort_missing, abort_task, is_before, abort_all, query, function_to, function_marks, management_marks}
 use Rattle.iscsi_history.specs.Logout.{is_open, is_last_open, live_of_units, all_held, parting, end_session, close_conn, logout_marks}
 use Rattle.iscsi_history.specs.Items.{marks_after}
 use Rattle.iscsi_history.specs.Answers.{Answers}
@@ -191,9 +191,6 @@ module _ (o : Setting) (t : Trace) (start : Start) (a : Arrival) where
   unfolding t'
   does_task unit = by_live (live_with_tag t' (rtt a.request) unit) refl
     where
-      asked : Arrival → Bool
-      asked h = nat_lt h.number a.number && opcode h.request == 0x01 && itt h.request == rtt a.request && is_to o unit h.request
-
       by_held : (y : Option Arrival) → held_command o t' (rtt a.request) unit a.number ≡ y → Does o t start a (elim y [ Some h ↦ Empties h ∷ answer a 0 | None ↦ abort_missing o t' a (lift (exp_of o t') (ref_cmd_sn a.request)) ])
       by_held (Some h) is = does_empty h (in-held_among t' _ h (in-filter _ (held_requests o t') h (first-in _ h is)).0)
       by_held None is = does_missing (lift (exp_of o t') (ref_cmd_sn a.request))

@@ -167,9 +167,6 @@ module _ (o : Setting) (now : ℕ) (t : Trace) (next : ℕ) (x : HaveForms o nex
           let of_live : count_by (λ c. c.ticket == k && p c) (live t) ≡ cond (p g.command) 1 0 + 0 = count-mine p k (live t) ∙ ap (count_by p) g.live_one ∙ sum_by-cons (λ c. cond (p c) 1 0) g.command [] in
           omega (arith, leaving_few o now t form formed (λ c. c.ticket == k && p c), of_live, count-mine p k (leaving_in form))
 
-      elsewhere : Command → Bool
-      elsewhere c = not (c.unit == g.command.unit)
-
       by_rest : (es : List Command) → mine k (leaving_in form) ≡ d ∷ es → LeavesAlone g.command
       by_rest (e ∷ es) is = absurd (
           let all : count_by (λ c. true) (d ∷ e ∷ es) ≡ 1 + count_by (λ c. true) (e ∷ es) = sum_by-cons (λ c. 1) d (e ∷ es) in

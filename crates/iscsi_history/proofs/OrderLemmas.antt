@@ -64,9 +64,6 @@ rises-again k e es here heard silent later r = record {
 
 -- the effects of a part of the marks, and what follows
 module _ (o : Setting) (t : Trace) where
-  shows : List Mark → List Effect
-  shows ms = flat_map (effects_of_mark o t) ms
-
   rises_leaves : (cs : List Command) (ms : List Mark) (rest : List Effect) → Rises 2 (flat_map (effects_of_mark o t) ms ++ rest) → Rises 2 (flat_map (effects_of_mark o t) (map Leaves cs ++ ms) ++ rest)
   rises_leaves [] ms rest r = r
   rises_leaves (c ∷ cs) ms rest r = rises-again 2 (Leave c.ticket c.unit) _ refl refl refl refl (rises_leaves cs ms rest r)

@@ -1,10 +1,10 @@
 -- The order in which a reading meets faults.
 use Rattle.std.proofs.Common.{◌≡◌, ◌≢◌, ◌⊎◌, inl, inr, ℕ, ◌<◌, ◌≤◌, Bool, true, false, cond, List, [], ◌∷◌, ◌++◌, zero, suc, length, take, replicate, Option, Some, None, Result, Ok, Err, refl, sym, ap, ◌∙◌, subst, arith, append-nil, append_assoc, length-append, nat_lt, lt-ltb}
 use Rattle.std.proofs.lemmas.List.{length-replicate}
-use Rattle.std.specs.Prelude.{IfErr, IfSome, ok_or, option_and_then}
+use Rattle.std.specs.Prelude.{IfErr, ok_or, option_and_then}
 use Rattle.std.specs.List.{list_any}
 use Rattle.std.specs.Io.KnownBytes.{Consumes, IsAtEnd, Keeps}
-use Rattle.std.proofs.KnownBytes.{Consumes-nil, Consumes-trans, Consumes-kept, Consumes-whole}
+use Rattle.std.proofs.KnownBytes.{Consumes-nil, Consumes-trans, Consumes-kept}
 use Rattle.iscsi_replay.specs.Recorded.{Recorded, view, read_line, read_end, read_lines, read_of, lines_of, is_empty, take as take_said, Fails, ◌>>=◌}
 use Rattle.iscsi_replay.specs.Grammar.{line_of}
 use Rattle.iscsi_replay.specs.Reading.{is_end, IsReading, left_of, ReadsOn}
@@ -94,12 +94,6 @@ none_now w ready f due = go (nat_lt 1048576 w.line) refl
 pub none_since : (v w : Reading) (seen : List ℕ) → IsReading w → ((more : List ℕ) → left_of w more ≡ left_of v (seen ++ more)) → NoneIsDue (left_of v) seen
 none_since v w seen ready read f due = none_now w ready f (λ more. read more ∙ due more)
 
--- ---- a reading, chunk by chunk
-
--- before the first chunk
-pub reads_from : (a : Option (List ℕ)) (v : Reading) → ReadsOn a a v v
-reads_from a v = record { front = []; seen = Consumes-nil a; read = λ more. refl }
-
 -- a chunk more
 pub reads_more : (a b c : Option (List ℕ)) (v w x : Reading) (chunk : List ℕ) → ReadsOn a b v w → Consumes b c chunk
     → ((more : List ℕ) → left_of x more ≡ left_of w (chunk ++ more)) → ReadsOn a c v x
@@ -112,11 +106,6 @@ reads_more a b c v w x chunk h took read = record {
 -- no byte more
 pub reads_none : (a b c : Option (List ℕ)) (v w : Reading) (chunk : List ℕ) → ReadsOn a b v w → Consumes b c (take 0 chunk) → ReadsOn a c v w
 reads_none a b c v w chunk h took = reads_more a b c v w w [] h took (λ more. refl)
-
--- the whole of what was known
-pub reads_all : (a b : Option (List ℕ)) (v w : Reading) → ReadsOn a b v w → IsAtEnd b → IfSome a (λ bytes. left_of w [] ≡ left_of v bytes)
-reads_all a b v w h ended =
-    Consumes-whole a b h.front (λ bytes. left_of w [] ≡ left_of v bytes) h.seen ended (h.read [] ∙ ap (left_of v) (append-nil h.front))
 
 -- ---- the answers
 
@@ -253,14 +242,3 @@ written_of (Err TooManyLines) seen new h kinds = let other : TooManyLines ≡ No
 written_of (Err Read) seen new h kinds = let other : Read ≡ NoMemory = kinds (λ is. cc) in cc
 written_of (Err NoConnection) seen new h kinds = let other : NoConnection ≡ NoMemory = kinds (λ is. cc) in cc
 written_of (Err BadSettings) seen new h kinds = let other : BadSettings ≡ NoMemory = kinds (λ is. cc) in cc
-
-pub written_in_order : (x : Unit {0}) (answer : Result (Unit {0}) ReplayFault) (a b : Option (List ℕ)) → ReadsInOrder read_of (Ok x) a b
-    → IfErr answer (λ e. e ≢ Write → e ≡ NoMemory) → ReadsInOrder read_of answer a b
-written_in_order x answer a b h kinds = record {
-  before = h.before;
-  last = h.last;
-  seen = h.seen;
-  chunk = h.chunk;
-  early = h.early;
-  order = written_of answer (h.before ++ h.last) b h.order kinds;
-}
