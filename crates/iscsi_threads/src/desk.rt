@@ -1,0 +1,101 @@
+//! The jobs of commands that aren't enabled yet.
+
+ghost use Rattle.std.specs.Prelude.{◌≡◌, ◌+◌, ◌≤◌, ◌++◌, length, position};
+ghost use Rattle.std.specs.VecDeque.{deque_len, deque_capacity};
+ghost use Rattle.iscsi_threads.specs.Desks.{is_for, seen, jobs_from, known_after};
+
+use crate::job::Job;
+use iscsi_session::{Attr, Effect};
+use iscsi_wire::Request;
+use std::collections::VecDeque;
+
+/// The request that executes, and the jobs of the commands that entered and aren't enabled yet, oldest first.
+#[derive(Drop)]
+pub(crate) struct Desk {
+    pub(crate) last: Option<Request>,
+    pub(crate) dormant: VecDeque<Job>,
+}
+
+// Where the job of this ticket is.
+fn place_of(jobs: &VecDeque<Job>, ticket: u64) -> Option<usize>
+    ensures { result ≡ position (is_for ticket) jobs.now.items }
+{
+    jobs.iter().position(|job| job.ticket == ticket)
+}
+
+/// Notes the effects of an event, and puts the jobs of the commands that became enabled behind the fresh ones.
+pub(crate) fn note_all(desk: &mut Desk, fresh: &mut VecDeque<Job>, effects: &[Effect])
+    requires desk { deque_len desk.old.dormant + length effects.now ≤ deque_capacity desk.old.dormant }
+    requires fresh { deque_len fresh.old + length effects.now ≤ deque_capacity fresh.old }
+    ensures jobs { fresh.new.items ≡ fresh.old.items ++ jobs_from (seen desk.old) effects.now }
+    ensures known { seen desk.new ≡ known_after (seen desk.old) effects.now }
+{
+    for effect in effects {
+        if let Some(job) = desk.note(effect) {
+            fresh.push_back_reserved(job);
+        }
+    }
+}
+
+impl Desk {
+    ghost use Rattle.std.specs.Prelude.{◌≡◌, ◌≤◌, ◌+◌, find};
+    ghost use Rattle.std.specs.VecDeque.{deque_len, deque_capacity};
+    ghost use Rattle.iscsi_history.specs.declared.effect.Effect.{Effect};
+    ghost use Rattle.iscsi_threads.specs.Desks.{is_for, without, entered, seen, after_effect, job_at};
+
+    // Takes out the job of this ticket.
+    fn take(&mut self, ticket: u64) -> Option<Job>
+        ensures job { result ≡ find (is_for ticket) self.old.dormant.items }
+        ensures dormant { self.new.dormant.items ≡ without ticket self.old.dormant.items }
+        ensures last { self.new.last ≡ self.old.last }
+        ensures len { deque_len self.new.dormant ≤ deque_len self.old.dormant }
+        ensures capacity { deque_capacity self.new.dormant ≡ deque_capacity self.old.dormant }
+    {
+        let at = place_of(&self.dormant, ticket)?;
+        self.dormant.remove(at)
+    }
+
+    // A command enters as the last request executes.
+    fn enter(&mut self, ticket: u64, unit: u16, attr: Attr)
+        requires { deque_len self.old.dormant + 1 ≤ deque_capacity self.old.dormant }
+        ensures dormant { seen self.new ≡ after_effect (seen self.old) (Effect.Enter ticket unit attr) }
+        ensures len { deque_len self.new.dormant ≤ deque_len self.old.dormant + 1 }
+        ensures capacity { deque_capacity self.new.dormant ≡ deque_capacity self.old.dormant }
+    {
+        if let Some(request) = self.last {
+            self.dormant.push_back_reserved(Job {
+                ticket,
+                unit,
+                itt: request.itt(),
+                attr,
+                cdb: request.cdb(),
+            });
+        }
+    }
+
+    // Notes an effect. The answer is the job of the command that becomes enabled.
+    fn note(&mut self, effect: &Effect) -> Option<Job>
+        requires { deque_len self.old.dormant + 1 ≤ deque_capacity self.old.dormant }
+        ensures seen { seen self.new ≡ after_effect (seen self.old) effect.now }
+        ensures job { result ≡ job_at (seen self.old) effect.now }
+        ensures len { deque_len self.new.dormant ≤ deque_len self.old.dormant + 1 }
+        ensures capacity { deque_capacity self.new.dormant ≡ deque_capacity self.old.dormant }
+    {
+        match *effect {
+            Effect::Deliver { request } | Effect::Immediate { request } => {
+                self.last = Some(request);
+                None
+            }
+            Effect::Enter { ticket, unit, attr } => {
+                self.enter(ticket, unit, attr);
+                None
+            }
+            Effect::Enable { ticket, .. } => self.take(ticket),
+            Effect::Leave { ticket, .. } => {
+                self.take(ticket);
+                None
+            }
+            _ => None,
+        }
+    }
+}

@@ -1,0 +1,173 @@
+//! The loop's ends of all rings.
+
+ghost use Rattle.std.specs.Prelude.{◌≡◌, ◌<◌, ◌≤◌, map, length, vec_len, IfSome, IfNone, OnOk, IfErr};
+ghost use Rattle.iscsi_threads.specs.Outlets.{given, heard, outlet_rings, got, inlet_ring};
+ghost use Rattle.iscsi_threads.specs.Ends.{Polled, put_jobs, grow};
+ghost use Rattle.iscsi_threads.specs.Journal.{cids_in};
+
+use crate::bell::{FIRST_UNIT, MOST_RINGS, Marks};
+use crate::inlet::Inlet;
+use crate::job::{Answer, Job};
+use crate::outlet::Outlet;
+use iscsi_session::Event;
+use std::collections::VecDeque;
+
+/// Which rings are worth a look.
+#[derive(Drop)]
+pub(crate) struct Watch {
+    /// The rings that may have an item: connections from 0, units from `FIRST_UNIT`.
+    pub(crate) rung: Marks,
+    /// The units that have a backlog, from 0.
+    pub(crate) crowded: Marks,
+    /// The units that were given a job since the last wake-up, from 0.
+    pub(crate) supplied: Marks,
+}
+
+impl Watch {
+    /// Nothing to look at.
+    pub(crate) fn new() -> Watch {
+        Watch {
+            rung: Marks::new(),
+            crowded: Marks::new(),
+            supplied: Marks::new(),
+        }
+    }
+
+    // A unit was given a job, and may have a backlog now.
+    fn note_given(&mut self, unit: usize, is_crowded: bool)
+        requires { unit < 320 }
+    {
+        self.supplied.set(unit);
+        if is_crowded {
+            self.crowded.set(unit);
+        }
+    }
+}
+
+// Moves what fits from the backlog of one unit into its ring. Whether jobs are left in the backlog.
+fn fill_at(outlets: &mut Vec<Outlet>, at: usize) -> bool
+    requires { at < vec_len outlets.old }
+    ensures given { map given outlets.new.items ≡ map given outlets.old.items }
+    ensures heard { map heard outlets.new.items ≡ map heard outlets.old.items }
+    ensures rings { map outlet_rings outlets.new.items ≡ map outlet_rings outlets.old.items }
+    ensures len { vec_len outlets.new ≡ vec_len outlets.old }
+{
+    outlets[at].fill()
+}
+
+/// Moves what fits from each backlog into its ring.
+pub(crate) fn fill_all(outlets: &mut Vec<Outlet>, watch: &mut Watch)
+    ensures given { map given outlets.new.items ≡ map given outlets.old.items }
+    ensures heard { map heard outlets.new.items ≡ map heard outlets.old.items }
+    ensures rings { map outlet_rings outlets.new.items ≡ map outlet_rings outlets.old.items }
+    ensures len { vec_len outlets.new ≡ vec_len outlets.old }
+{
+    let mut first = 0;
+    for _ in 0..outlets.len() {
+        let Some(unit) = watch.crowded.next_from(first) else {
+            return;
+        };
+        if unit < outlets.len() {
+            watch.supplied.set(unit);
+            if !fill_at(outlets, unit) {
+                watch.crowded.clear(unit);
+            }
+        }
+        first = unit + 1;
+    }
+}
+
+// Takes a header from one ring.
+fn hear_inlet(inlets: &mut Vec<Inlet>, at: usize) -> Option<[u8; 48]>
+    requires { at < vec_len inlets.old }
+    ensures some { IfSome result (λ x. map got inlets.new.items ≡ grow (map got inlets.old.items) at x) }
+    ensures none { IfNone result (map got inlets.new.items ≡ map got inlets.old.items) }
+    ensures rings { map inlet_ring inlets.new.items ≡ map inlet_ring inlets.old.items }
+    ensures len { vec_len inlets.new ≡ vec_len inlets.old }
+{
+    inlets[at].hear()
+}
+
+// Takes an answer from one ring.
+fn hear_outlet(outlets: &mut Vec<Outlet>, at: usize) -> Option<Answer>
+    requires { at < vec_len outlets.old }
+    ensures some { IfSome result (λ x. map heard outlets.new.items ≡ grow (map heard outlets.old.items) at x) }
+    ensures none { IfNone result (map heard outlets.new.items ≡ map heard outlets.old.items) }
+    ensures given { map given outlets.new.items ≡ map given outlets.old.items }
+    ensures rings { map outlet_rings outlets.new.items ≡ map outlet_rings outlets.old.items }
+    ensures len { vec_len outlets.new ≡ vec_len outlets.old }
+{
+    outlets[at].hear()
+}
+
+// Puts a job behind the others of one unit. The job comes back where memory is refused.
+fn give_at(outlets: &mut Vec<Outlet>, at: usize, job: Job) -> Result<(), Job>
+    requires { at < vec_len outlets.old }
+    ensures ok { OnOk result (map given outlets.new.items ≡ grow (map given outlets.old.items) at job) }
+    ensures err { IfErr result (λ back. (back ≡ job) × (map given outlets.new.items ≡ map given outlets.old.items)) }
+    ensures heard { map heard outlets.new.items ≡ map heard outlets.old.items }
+    ensures rings { map outlet_rings outlets.new.items ≡ map outlet_rings outlets.old.items }
+    ensures len { vec_len outlets.new ≡ vec_len outlets.old }
+{
+    outlets[at].give(job)
+}
+
+/// Moves the fresh jobs behind the others of their units. Whether memory sufficed; otherwise some are left.
+pub(crate) fn spread(fresh: &mut VecDeque<Job>, outlets: &mut Vec<Outlet>, watch: &mut Watch) -> bool
+    requires { vec_len outlets.old ≤ 256 }
+    ensures jobs { put_jobs fresh.new.items (map given outlets.new.items) ≡ put_jobs fresh.old.items (map given outlets.old.items) }
+    ensures heard { map heard outlets.new.items ≡ map heard outlets.old.items }
+    ensures rings { map outlet_rings outlets.new.items ≡ map outlet_rings outlets.old.items }
+    ensures len { vec_len outlets.new ≡ vec_len outlets.old }
+{
+    for _ in 0..fresh.len() {
+        let Some(job) = fresh.pop_front() else {
+            unreachable!()
+        };
+        let unit = usize::from(job.unit);
+        if unit < outlets.len() {
+            if let Err(job) = give_at(outlets, unit, job) {
+                fresh.push_front_reserved(job);
+                return false;
+            }
+            watch.note_given(unit, !outlets[unit].backlog.is_empty());
+        }
+    }
+    true
+}
+
+/// Takes the first item that waits, looked for from the ring `next` on. It answers the event, and the place of its
+/// port or unit port; `next` is then the ring after the one that was served.
+pub(crate) fn poll(
+    inlets: &mut Vec<Inlet>,
+    conns: &[(u16, u32)],
+    outlets: &mut Vec<Outlet>,
+    rung: &mut Marks,
+    next: &mut usize,
+) -> Option<(Event, u16)>
+    requires conns { vec_len inlets.old ≡ length conns.now }
+    requires few { (vec_len inlets.old ≤ 64) × (vec_len outlets.old ≤ 256) }
+    ensures some { IfSome result (λ r. Polled (cids_in conns.now) (map got inlets.old.items) (map got inlets.new.items) (map heard outlets.old.items) (map heard outlets.new.items) r.0 r.1) }
+    ensures none { IfNone result ((map got inlets.new.items ≡ map got inlets.old.items) × (map heard outlets.new.items ≡ map heard outlets.old.items)) }
+    ensures given { map given outlets.new.items ≡ map given outlets.old.items }
+    ensures rings { (map inlet_ring inlets.new.items ≡ map inlet_ring inlets.old.items) × (map outlet_rings outlets.new.items ≡ map outlet_rings outlets.old.items) }
+    ensures len { (vec_len inlets.new ≡ vec_len inlets.old) × (vec_len outlets.new ≡ vec_len outlets.old) }
+{
+    for _ in 0..=MOST_RINGS {
+        let at = rung.next_around(*next)?;
+        *next = at + 1;
+        if at < inlets.len() {
+            if let Some(header) = hear_inlet(inlets, at) {
+                let conn = conns[at].0;
+                return Some((Event::Arrive { conn, header }, at as u16));
+            }
+        } else if at >= FIRST_UNIT && at - FIRST_UNIT < outlets.len() {
+            let unit = at - FIRST_UNIT;
+            if let Some((ticket, status)) = hear_outlet(outlets, unit) {
+                return Some((Event::Done { ticket, status }, unit as u16));
+            }
+        }
+        rung.clear(at);
+    }
+    None
+}

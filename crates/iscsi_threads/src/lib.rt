@@ -1,0 +1,28 @@
+//! Threads round one session of an iSCSI target: connections post headers, units take jobs and answer them, each by a
+//! ring of its own, and one loop steps the session.
+//!
+//! `open` gives a [`Loop`], a [`Port`] for each connection and a [`UnitPort`] for each unit. A port may be moved into a
+//! thread; the loop stays where its turns are. No call of a port or of the loop waits for another thread.
+#![tactic(auto)]
+
+mod bell;
+mod desk;
+mod ends;
+mod fault;
+mod inlet;
+mod job;
+mod opening;
+mod outlet;
+mod port;
+mod session_loop;
+mod turn;
+
+pub use fault::LoopFault;
+pub use job::Job;
+pub use opening::open;
+pub use port::{Port, PostFault, UnitPort};
+pub use session_loop::Loop;
+pub use turn::Turn;
+
+#[cfg(test)]
+mod tests;
