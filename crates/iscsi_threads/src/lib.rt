@@ -9,6 +9,7 @@ mod bell;
 mod desk;
 mod ends;
 mod fault;
+mod finish;
 mod inlet;
 mod job;
 mod opening;
@@ -18,6 +19,7 @@ mod session_loop;
 mod turn;
 
 pub use fault::LoopFault;
+pub use finish::{Ended, Outcome, Unfinished};
 pub use job::Job;
 pub use opening::open;
 pub use port::{Port, PostFault, UnitPort};
