@@ -21,7 +21,9 @@ use Rattle.iscsi_threads.specs.declared.job.Job.{Job}
 use Rattle.iscsi_threads.specs.Ports.{Answer}
 use Rattle.iscsi_threads.specs.Desks.{Known, nothing, jobs_from, known_after}
 use Rattle.iscsi_threads.specs.Ends.{put_jobs, Polled}
-use Rattle.iscsi_threads.specs.Journal.{cids_in, cids_of, jobs, jobs_of, all_jobs}
+use Rattle.iscsi_threads.specs.Journal.{cids_in, cids_of, jobs_of, all_jobs}
+use Rattle.iscsi_threads.specs.Jobs.{jobs}
+use Rattle.iscsi_threads.proofs.JobLaws.{jobs_as_noted}
 use Rattle.iscsi_threads.proofs.Lists.{put_jobs_append}
 use Rattle.iscsi_threads.proofs.DeskLemmas.{known_after-append, jobs_from-append}
 use Rattle.iscsi_threads.proofs.Journals.{map_same, put_every, jobs_of_append}
@@ -74,9 +76,10 @@ pub jobs_next : (o : Setting) (j : List Event) (e : Event) (u : ℕ)
     → jobs u (run_of o (j ++ e ∷ [])) ≡ jobs u (run_of o j) ++ jobs_of u (jobs_from (known_after nothing (effects_in (run_of o j))) (next_entry o j e).effects)
 jobs_next o j e u =
     let all = effects_in (run_of o j) in let es = (next_entry o j e).effects in
-    ap (λ (l : List Effect). jobs_of u (jobs_from nothing l)) (effects_run o j e)
+    jobs_as_noted o (j ++ e ∷ []) u ∙ ap (λ (l : List Effect). jobs_of u (jobs_from nothing l)) (effects_run o j e)
     ∙ ap (jobs_of u) (jobs_from-append nothing all es)
     ∙ jobs_of_append u (jobs_from nothing all) (jobs_from (known_after nothing all) es)
+    ∙ ap (λ (l : List Job). l ++ jobs_of u (jobs_from (known_after nothing all) es)) (sym (jobs_as_noted o j u))
 
 pub jobs_after : (n : ℕ) (o : Setting) (j : List Event) (e : Event) (fresh fresh' : List Job) (js js' : List (List Job)) (k : Known) (es : List Effect)
     → put_jobs fresh js ≡ all_jobs n (run_of o j) → k ≡ known_after nothing (effects_in (run_of o j)) → es ≡ (next_entry o j e).effects

@@ -1,11 +1,12 @@
 -- The jobs of a list of effects.
-use Rattle.std.specs.Prelude.{ℕ, ◌==◌, Bool, List, [], ◌∷◌, ◌++◌, Option, Some, None, position, find}
-use Rattle.std.specs.List.{remove}
+use Rattle.std.specs.Prelude.{◌≡◌, ℕ, ◌==◌, ◌<◌, Bool, List, [], ◌∷◌, ◌++◌, Option, Some, None, length, position, find, All, AllPairs}
+use Rattle.std.specs.List.{remove, range_with_len}
 use Rattle.iscsi_wire.specs.declared.request.Request.{Request}
 use Rattle.iscsi_wire.specs.Fields.{itt, cdb}
 use Rattle.iscsi_tasks.specs.declared.task.Attr.{Attr}
 use Rattle.iscsi_history.specs.declared.effect.Effect.{Effect}
 use Rattle.iscsi_history.specs.declared.effect.Effect.TheVariants.{Deliver, Immediate, Enter, Enable, Leave}
+use Rattle.iscsi_history.specs.Lives.{tickets_entered}
 use Rattle.iscsi_threads.specs.declared.job.Job.{Job}
 use Rattle.iscsi_threads.specs.declared.desk.Desk.{Desk}
 
@@ -58,3 +59,14 @@ known_after k (e ∷ es) = known_after (after_effect k e) es
 
 abbrev pub seen : Desk → Known
 seen d = record { last = d.last; dormant = d.dormant.items }
+
+-- tickets go up along the jobs
+abbrev pub InOrderOfTickets : List Job → Type 0
+InOrderOfTickets js = AllPairs (λ a b. a.ticket < b.ticket) js
+
+-- the commands that enter take the tickets from some number on, in order, and the jobs that wait have lower ones
+pub record EnterAbove (k : Known) (es : List Effect) : Type 0 where
+  pub first : ℕ
+  pub rising : InOrderOfTickets k.dormant
+  pub below : All (λ j. j.ticket < first) k.dormant
+  pub entered : tickets_entered es ≡ range_with_len first (length (tickets_entered es))

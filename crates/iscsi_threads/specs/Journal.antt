@@ -5,10 +5,9 @@ use Rattle.iscsi_history.specs.declared.event.Event.{Event}
 use Rattle.iscsi_history.specs.declared.event.Event.TheVariants.{Arrive, Done}
 use Rattle.iscsi_history.specs.declared.entry.Entry.{Entry}
 use Rattle.iscsi_history.specs.Settings.{Setting}
-use Rattle.iscsi_history.specs.Enabling.{effects_in}
 use Rattle.iscsi_threads.specs.declared.job.Job.{Job}
 use Rattle.iscsi_threads.specs.Ports.{Answer}
-use Rattle.iscsi_threads.specs.Desks.{nothing, jobs_from}
+use Rattle.iscsi_threads.specs.Jobs.{jobs}
 
 -- the CIDs of connections, in order
 abbrev pub cids_in : List (ℕ × ℕ) → List ℕ
@@ -34,10 +33,6 @@ done u (Done t s ∷ es) (f ∷ fs) = if nat_eq f u then (t, s) ∷ done u es fs
 abbrev pub jobs_of : ℕ → List Job → List Job
 jobs_of u [] = []
 jobs_of u (j ∷ js) = if nat_eq j.unit u then j ∷ jobs_of u js else jobs_of u js
-
--- the jobs of the unit u in a log
-abbrev pub jobs : ℕ → List Entry → List Job
-jobs u log = jobs_of u (jobs_from nothing (effects_in log))
 
 -- for each connection its part
 abbrev pub parts : List ℕ → List Event → List (List (List ℕ))

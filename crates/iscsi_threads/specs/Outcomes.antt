@@ -13,7 +13,8 @@ use Rattle.iscsi_threads.specs.declared.finish.Ended.{Ended}
 use Rattle.iscsi_threads.specs.declared.finish.Outcome.{Outcome}
 use Rattle.iscsi_threads.specs.Ports.{Answer, posted, taken, answered}
 use Rattle.iscsi_threads.specs.Loops.{journal, sources, setting}
-use Rattle.iscsi_threads.specs.Journal.{cids_of, part, jobs, done, are_sources}
+use Rattle.iscsi_threads.specs.Journal.{cids_of, part, done, are_sources}
+use Rattle.iscsi_threads.specs.Jobs.{jobs}
 
 abbrev pub ticket_of : Job → ℕ
 ticket_of j = j.ticket

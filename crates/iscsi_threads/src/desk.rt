@@ -2,14 +2,15 @@
 
 ghost use Rattle.std.specs.Prelude.{◌≡◌, ◌+◌, ◌≤◌, ◌++◌, length, position};
 ghost use Rattle.std.specs.VecDeque.{deque_len, deque_capacity};
-ghost use Rattle.iscsi_threads.specs.Desks.{is_for, seen, jobs_from, known_after};
+ghost use Rattle.iscsi_threads.specs.Desks.{is_for, seen, jobs_from, known_after, InOrderOfTickets, EnterAbove};
 
 use crate::job::Job;
 use iscsi_session::{Attr, Effect};
 use iscsi_wire::Request;
 use std::collections::VecDeque;
 
-/// The request that executes, and the jobs of the commands that entered and aren't enabled yet, oldest first.
+/// The request that executes, and the jobs of the commands that entered and aren't enabled yet, oldest first: tickets
+/// go up along them.
 #[derive(Drop)]
 pub(crate) struct Desk {
     pub(crate) last: Option<Request>,
@@ -18,15 +19,17 @@ pub(crate) struct Desk {
 
 // Where the job of this ticket is.
 fn place_of(jobs: &VecDeque<Job>, ticket: u64) -> Option<usize>
+    requires { InOrderOfTickets jobs.now.items }
     ensures { result ≡ position (is_for ticket) jobs.now.items }
 {
-    jobs.iter().position(|job| job.ticket == ticket)
+    jobs.binary_search_by_key(&ticket, |job| job.ticket).ok()
 }
 
 /// Notes the effects of an event, and puts the jobs of the commands that became enabled behind the fresh ones.
 pub(crate) fn note_all(desk: &mut Desk, fresh: &mut VecDeque<Job>, effects: &[Effect])
     requires desk { deque_len desk.old.dormant + length effects.now ≤ deque_capacity desk.old.dormant }
     requires fresh { deque_len fresh.old + length effects.now ≤ deque_capacity fresh.old }
+    requires numbered { EnterAbove (seen desk.old) effects.now }
     ensures jobs { fresh.new.items ≡ fresh.old.items ++ jobs_from (seen desk.old) effects.now }
     ensures known { seen desk.new ≡ known_after (seen desk.old) effects.now }
 {
@@ -41,10 +44,11 @@ impl Desk {
     ghost use Rattle.std.specs.Prelude.{◌≡◌, ◌≤◌, ◌+◌, find};
     ghost use Rattle.std.specs.VecDeque.{deque_len, deque_capacity};
     ghost use Rattle.iscsi_history.specs.declared.effect.Effect.{Effect};
-    ghost use Rattle.iscsi_threads.specs.Desks.{is_for, without, entered, seen, after_effect, job_at};
+    ghost use Rattle.iscsi_threads.specs.Desks.{is_for, without, entered, seen, after_effect, job_at, InOrderOfTickets};
 
     // Takes out the job of this ticket.
     fn take(&mut self, ticket: u64) -> Option<Job>
+        requires { InOrderOfTickets self.old.dormant.items }
         ensures job { result ≡ find (is_for ticket) self.old.dormant.items }
         ensures dormant { self.new.dormant.items ≡ without ticket self.old.dormant.items }
         ensures last { self.new.last ≡ self.old.last }
@@ -75,7 +79,8 @@ impl Desk {
 
     // Notes an effect. The answer is the job of the command that becomes enabled.
     fn note(&mut self, effect: &Effect) -> Option<Job>
-        requires { deque_len self.old.dormant + 1 ≤ deque_capacity self.old.dormant }
+        requires rising { InOrderOfTickets self.old.dormant.items }
+        requires room { deque_len self.old.dormant + 1 ≤ deque_capacity self.old.dormant }
         ensures seen { seen self.new ≡ after_effect (seen self.old) effect.now }
         ensures job { result ≡ job_at (seen self.old) effect.now }
         ensures len { deque_len self.new.dormant ≤ deque_len self.old.dormant + 1 }

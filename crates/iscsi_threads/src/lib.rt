@@ -15,16 +15,24 @@ mod job;
 mod opening;
 mod outlet;
 mod port;
+mod posting;
+mod quiet;
+mod serving;
 mod session_loop;
+mod shared;
 mod turn;
+mod waiter;
+mod working;
 
 pub use fault::LoopFault;
 pub use finish::{Ended, Outcome, Unfinished};
 pub use job::Job;
 pub use opening::open;
 pub use port::{Port, PostFault, UnitPort};
+pub use serving::{serve, serve_unlogged};
 pub use session_loop::Loop;
 pub use turn::Turn;
+pub use working::UnitWork;
 
 #[cfg(test)]
 mod tests;

@@ -1,9 +1,8 @@
-use Rattle.std.proofs.Common.{◌≡◌, ◌<◌, ◌∙◌, ap, sym, length, get_or, position, Some, None, [], arith}
-use Rattle.iscsi_threads.specs.declared.job.Job.{Job}
-use Rattle.iscsi_tasks.specs.declared.task.Attr.TheVariants.{Simple}
+use Rattle.std.proofs.Common.{◌≡◌, ◌<◌, ◌∙◌, sym, length, position, Some, None, arith}
+use Rattle.std.proofs.lemmas.List.Quantifiers.{position-Some}
 use Rattle.iscsi_session.proofs.ManageLemmas.{found_there, found_nowhere}
 use Rattle.iscsi_threads.specs.Desks.{is_for}
-use Rattle.iscsi_threads.proofs.DeskLemmas.{found_within}
+use Rattle.iscsi_threads.proofs.DeskLemmas.{some_job}
 use Rattle.iscsi_threads.proofs.desk.Desk.take.Goals as goal
 
 pub returns-in_err-at-clause-job : goal.returns-in_err-at-clause-job
@@ -15,6 +14,5 @@ pub returns-clause-job : goal.returns-clause-job
 returns-clause-job c =
     let js = c.args.self.now.dormant.items in let at = c.in_ok-at.at in
     let found : position (is_for c.args.ticket) js ≡ Some at = sym c.place_of.ensures ∙ c.in_ok-at.was in
-    let within : at < length js = found_within (is_for c.args.ticket) js at found in
-    let d : Job = record { ticket = 0; unit = 0; itt = 0; attr = Simple; cdb = [] } in
-    c.remove.ensures.succeeds d (omega (arith, within, c.args.self.now.dormant.ok.0)) ∙ sym (found_there (is_for c.args.ticket) js at d found)
+    let within : at < length js = (position-Some (is_for c.args.ticket) js at some_job found).0 in
+    c.remove.ensures.succeeds some_job (omega (arith, within, c.args.self.now.dormant.ok.0)) ∙ sym (found_there (is_for c.args.ticket) js at some_job found)

@@ -1,5 +1,5 @@
 use Rattle.std.specs.Prelude.{refl, None}
-use Rattle.std.proofs.Common.{◌≡◌, ℕ, ◌+◌, ◌-◌, ◌*◌, ◌<◌, ◌≤◌, ◌∙◌, ap, sym, rules, arith, List, [], ◌∷◌, ◌++◌, length, vec_len, vec_capacity, map, take, drop, true}
+use Rattle.std.proofs.Common.{◌≡◌, ℕ, ◌+◌, ◌-◌, ◌*◌, ◌<◌, ◌≤◌, ◌∙◌, ap, sym, subst, rules, arith, List, [], ◌∷◌, ◌++◌, length, vec_len, vec_capacity, map, take, drop, true}
 use Rattle.std.specs.VecDeque.{deque_len, deque_capacity}
 use Rattle.std.proofs.lemmas.List.{length-map}
 use Rattle.iscsi_history.specs.declared.event.Event.{Event}
@@ -14,7 +14,8 @@ use Rattle.iscsi_session.specs.Standing.{effect_bound_of}
 use Rattle.iscsi_threads.proofs.Journals.{heads_after, dones_after, source_of_polled, sources_snoc, range_length}
 use Rattle.iscsi_threads.proofs.Turning.{belongs_polled, taken_next, only_memory, cut_after, cut_within, known_next, jobs_after}
 use Rattle.iscsi_threads.specs.declared.job.Job.{Job}
-use Rattle.iscsi_threads.specs.Desks.{seen, jobs_from}
+use Rattle.iscsi_threads.specs.Desks.{seen, jobs_from, EnterAbove}
+use Rattle.iscsi_threads.proofs.DormantLemmas.{enters_above}
 use Rattle.iscsi_threads.specs.Ends.{Polled, put_jobs}
 use Rattle.iscsi_threads.specs.Journal.{cids_of, parts, dones, all_jobs}
 use Rattle.iscsi_threads.specs.Outlets.{given, heard, got}
@@ -52,6 +53,16 @@ note_all-requires-clause-desk c =
     let cut = ap length (c.split_at.ensures.back ∙ cut_after _ _ _ _ whole before) in
     let few : length (next_entry o j e).effects ≤ effect_bound_of o (trace_of o j) = c.in-Ok-step.ensures.bound o j self.stands in
     omega (arith, cut, few, bound, c.in-Ok.ensures.room.0)
+
+pub note_all-requires-clause-numbered : goal.note_all-requires-clause-numbered
+note_all-requires-clause-numbered c =
+    let self = c.args.self.now in
+    let o : Setting = setting_of self.options in
+    let j = self.journal.items in let e = c.in-Some.event in
+    let before : c.len-before.result ≡ length c.make_room.new.out.items = search rules in
+    let whole : c.deref-3.result.now ≡ c.make_room.new.out.items ++ (next_entry o j e).effects = c.deref-3.ensures.value ∙ c.in-Ok-step.ensures.effects o j self.stands in
+    let effects = c.split_at.ensures.back ∙ cut_after _ _ _ _ whole before in
+    subst (EnterAbove (seen c.make_room.new.desk)) (sym effects) (enters_above o j e _ (c.make_room.ensures.desk ∙ self.known))
 
 pub note_all-requires-clause-fresh : goal.note_all-requires-clause-fresh
 note_all-requires-clause-fresh c =

@@ -1,0 +1,72 @@
+-- What serve says.
+use Rattle.std.specs.Prelude.{◌≡◌, ℕ, ◌<◌, ◌≤◌, true, List, [], ◌++◌, length, map, slice_index, slice_index_or, Option, Vec, vec_capacity}
+use Rattle.std.specs.declared.alloc.Global.{Global}
+use mathlib.Core.List.{IsPrefix}
+use Rattle.iscsi_history.specs.declared.event.Event.{Event}
+use Rattle.iscsi_history.specs.Settings.{Setting}
+use Rattle.iscsi_history.specs.Trace.{live}
+use Rattle.iscsi_history.specs.Run.{run_of, trace_of}
+use Rattle.iscsi_threads.specs.declared.port.Port.{Port}
+use Rattle.iscsi_threads.specs.declared.port.UnitPort.{UnitPort}
+use Rattle.iscsi_threads.specs.declared.session_loop.Loop.{Loop}
+use Rattle.iscsi_threads.specs.declared.finish.Ended.{Ended}
+use Rattle.iscsi_threads.specs.declared.finish.Outcome.{Outcome}
+use Rattle.iscsi_threads.specs.declared.serving.Rooms.{Rooms}
+use Rattle.iscsi_threads.specs.Ports.{Answer, posted}
+use Rattle.iscsi_threads.specs.Outlets.{got}
+use Rattle.iscsi_threads.specs.Loops.{journal, setting, Belong}
+use Rattle.iscsi_threads.specs.Journal.{cids_of, part, done, are_sources}
+use Rattle.iscsi_threads.specs.Jobs.{jobs}
+use Rattle.iscsi_threads.specs.Outcomes.{ticket_of}
+use Rattle.iscsi_threads.specs.Works.{ticket_answered, InTurn}
+
+-- the unit's worker took the first of its jobs, and the rest is untaken; it answered the first of those that it took, in their order
+pub record UnitServed (o : Setting) (j : List Event) (from : List ℕ) (u : ℕ) (untaken : List ℕ) (unread : List Answer) : Type 0 where
+  pub tickets : List ℕ
+  pub taken_first : map ticket_of (jobs u (run_of o j)) ≡ tickets ++ untaken
+  pub answered_first : IsPrefix (map ticket_answered (done u j from ++ unread)) tickets
+
+-- what came of lists of headers, of which each connection had one
+pub record ServedBy (o : Setting) (lists : List (Vec (List ℕ) Global)) (j : List Event) (from : List ℕ) (left : List (Vec (List ℕ) Global)) (untaken : List (Vec ℕ Global)) (unread : List (Vec Answer Global)) : Type 0 where
+  -- an event's source is the place of its connection, or a unit
+  pub sourced : are_sources (cids_of o) o.units j from ≡ true
+  -- each list is all that the journal has of its connection, and nothing is left of it
+  pub posted : (i : ℕ) (x : Vec (List ℕ) Global) → i < length lists → part (slice_index (cids_of o) i) j ≡ (slice_index_or lists i x).items
+  pub lefts : length left ≡ length lists
+  pub none_left : (i : ℕ) (x : Vec (List ℕ) Global) → i < length lists → (slice_index_or left i x).items ≡ []
+  -- no command is live
+  pub ended : live (trace_of o j) ≡ []
+  pub untakens : length untaken ≡ o.units
+  pub unreads : length unread ≡ o.units
+  pub in_turn : (u : ℕ) (v : Vec ℕ Global) (w : Vec Answer Global) → u < o.units → UnitServed o j from u (slice_index_or untaken u v).items (slice_index_or unread u w).items
+
+abbrev pub ServedUnlogged : Setting → List (Vec (List ℕ) Global) → Ended → Type 0
+ServedUnlogged o lists e = ServedBy o lists e.journal.items e.from.items e.left.items e.untaken.items e.unread.items
+
+-- and the log is that of the journal
+pub record Served (o : Setting) (lists : List (Vec (List ℕ) Global)) (x : Outcome) : Type 0 where
+  pub log_is : x.log.items ≡ run_of o x.journal.items
+  pub served : ServedBy o lists x.journal.items x.from.items x.left.items x.untaken.items x.unread.items
+
+-- every header that was posted was taken, and no command is live
+pub record IsQuiet (l : Loop) (ports : List Port) : Type 0 where
+  pub all_taken : map posted ports ≡ map got l.inlets.items
+  pub ended : live (trace_of (setting l) (journal l)) ≡ []
+
+-- the threads ran to their end: the loop, its ports and its unit ports are together again
+pub record Ran (o : Setting) (lists : List (Vec (List ℕ) Global)) (l : Loop) (ports : List Port) (units : List UnitPort) : Type 0 where
+  pub setting_is : setting l ≡ o
+  pub belong : Belong l ports units
+  pub ports_len : length ports ≡ length lists
+  pub units_len : length units ≡ o.units
+  pub posted_are : (i : ℕ) (p : Port) (x : Vec (List ℕ) Global) → i < length lists → posted (slice_index_or ports i p) ≡ (slice_index_or lists i x).items
+  pub quiet : IsQuiet l ports
+  pub in_turn : (i : ℕ) (q : UnitPort) → i < length units → InTurn (slice_index_or units i q)
+
+-- all rooms are empty, and have so many places
+pub record HasRooms (r : Rooms) (conns units : ℕ) : Type 0 where
+  pub empty : (r.posts.items ≡ []) × (r.works.items ≡ []) × (r.ports.items ≡ []) × (r.units.items ≡ [])
+  pub for_posts : conns ≤ vec_capacity r.posts
+  pub for_works : units ≤ vec_capacity r.works
+  pub for_ports : conns ≤ vec_capacity r.ports
+  pub for_units : units ≤ vec_capacity r.units
