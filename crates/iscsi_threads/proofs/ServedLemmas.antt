@@ -1,7 +1,7 @@
 -- What the loop's end says, after the threads ran to their end.
-use Rattle.std.specs.Prelude.{◌≡◌, ℕ, zero, suc, ◌+◌, ◌<◌, List, [], ◌∷◌, ◌++◌, length, map, ◌==◌, ◌&&◌, Bool, true, false, refl, slice_index, Result, Ok, Err, Vec}
+use Rattle.std.specs.Prelude.{◌≡◌, ℕ, zero, suc, ◌+◌, ◌<◌, List, [], ◌∷◌, ◌++◌, length, map, ◌==◌, ◌&&◌, Bool, true, false, refl, slice_index, vec_len, Result, Ok, Err, Vec}
 use Rattle.std.specs.declared.alloc.Global.{Global}
-use Rattle.std.proofs.Common.{ap, sym, ◌∙◌, arith, get_or, subst, length-append, eq-eqb}
+use Rattle.std.proofs.Common.{rules, ap, sym, ◌∙◌, arith, get_or, subst, length-append, eq-eqb}
 use Rattle.std.proofs.lemmas.List.{get_or-map, length-map}
 use Rattle.std.proofs.lemmas.Bool.{false≢true}
 use Rattle.iscsi_threads.specs.declared.fault.LoopFault.{LoopFault}
@@ -42,7 +42,10 @@ module _ (l : Loop) (lists : List (Vec (List ℕ) Global)) (ports : List Port) (
 
   pub served_by : (left : List (Vec (List ℕ) Global)) (untaken : List (Vec ℕ Global)) (unread : List (Vec Answer Global))
       → Accounted l ports units left untaken unread → ServedBy (setting l) lists (journal l) (sources l) left untaken unread
-  served_by left untaken unread a = record {
+  served_by left untaken unread a =
+    let count : vec_len l.journal ≡ length (journal l) = search rules in
+    record {
+    few = omega (arith, l.sizes.5, count);
     sourced = a.sourced;
     posted = λ i x lt. let p = some_of ports i (omega (arith, lt, ran.ports_len)) in part_posted i p lt ∙ ran.posted_are i p x lt;
     lefts = a.lefts ∙ ran.ports_len;

@@ -28,6 +28,8 @@ pub record UnitServed (o : Setting) (j : List Event) (from : List ℕ) (u : ℕ)
 
 -- what came of lists of headers, of which each connection had one
 pub record ServedBy (o : Setting) (lists : List (Vec (List ℕ) Global)) (j : List Event) (from : List ℕ) (left : List (Vec (List ℕ) Global)) (untaken : List (Vec ℕ Global)) (unread : List (Vec Answer Global)) : Type 0 where
+  -- the journal has no more events than the options allow
+  pub few : length j ≤ o.events
   -- an event's source is the place of its connection, or a unit
   pub sourced : are_sources (cids_of o) o.units j from ≡ true
   -- each list is all that the journal has of its connection, and nothing is left of it
