@@ -16,6 +16,8 @@ mod settings;
 mod sink;
 mod source;
 mod stopping;
+#[cfg(test)]
+mod thread_tests;
 mod watched;
 
 ghost use Rattle.std.specs.Prelude.{◌≡◌, IfOk, map, string_bytes};
