@@ -47,6 +47,7 @@ module _ (l : Loop) (lists : List (Vec (List ℕ) Global)) (ports : List Port) (
     record {
     few = omega (arith, l.sizes.5, count);
     sourced = a.sourced;
+    gives = a.gives;
     posted = λ i x lt. let p = some_of ports i (omega (arith, lt, ran.ports_len)) in part_posted i p lt ∙ ran.posted_are i p x lt;
     lefts = a.lefts ∙ ran.ports_len;
     none_left = λ i x lt.

@@ -14,7 +14,7 @@ use Rattle.iscsi_threads.specs.declared.finish.Outcome.{Outcome}
 use Rattle.iscsi_threads.specs.Ports.{Answer, posted, taken, answered}
 use Rattle.iscsi_threads.specs.Loops.{journal, sources, setting}
 use Rattle.iscsi_threads.specs.Journal.{cids_of, part, done, are_sources}
-use Rattle.iscsi_threads.specs.Jobs.{jobs}
+use Rattle.iscsi_threads.specs.Jobs.{jobs, GivesJobs}
 
 abbrev pub ticket_of : Job → ℕ
 ticket_of j = j.ticket
@@ -40,6 +40,8 @@ AllDone o j from units untaken unread =
 pub record Accounted (l : Loop) (ports : List Port) (units : List UnitPort) (left : List (Vec (List ℕ) Global)) (untaken : List (Vec ℕ Global)) (unread : List (Vec Answer Global)) : Type 0 where
   -- an event's source is the place of its connection, or a unit
   pub sourced : are_sources (cids_of (setting l)) (setting l).units (journal l) (sources l) ≡ true
+  -- the jobs of each unit are its Enables, in their order, and no ticket stands in two jobs
+  pub gives : GivesJobs (run_of (setting l) (journal l))
   -- one list for each port, and two for each unit
   pub lefts : length left ≡ length ports
   pub untakens : length untaken ≡ length units

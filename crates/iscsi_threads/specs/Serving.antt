@@ -16,7 +16,7 @@ use Rattle.iscsi_threads.specs.Ports.{Answer, posted}
 use Rattle.iscsi_threads.specs.Outlets.{got}
 use Rattle.iscsi_threads.specs.Loops.{journal, setting, Belong}
 use Rattle.iscsi_threads.specs.Journal.{cids_of, part, done, are_sources}
-use Rattle.iscsi_threads.specs.Jobs.{jobs}
+use Rattle.iscsi_threads.specs.Jobs.{jobs, GivesJobs}
 use Rattle.iscsi_threads.specs.Outcomes.{ticket_of}
 use Rattle.iscsi_threads.specs.Works.{ticket_answered, InTurn}
 
@@ -32,6 +32,8 @@ pub record ServedBy (o : Setting) (lists : List (Vec (List ℕ) Global)) (j : Li
   pub few : length j ≤ o.events
   -- an event's source is the place of its connection, or a unit
   pub sourced : are_sources (cids_of o) o.units j from ≡ true
+  -- the jobs of each unit are its Enables, in their order, and no ticket stands in two jobs
+  pub gives : GivesJobs (run_of o j)
   -- each list is all that the journal has of its connection, and nothing is left of it
   pub posted : (i : ℕ) (x : Vec (List ℕ) Global) → i < length lists → part (slice_index (cids_of o) i) j ≡ (slice_index_or lists i x).items
   pub lefts : length left ≡ length lists

@@ -22,7 +22,7 @@ use std::collections::VecDeque;
 use std::sync::Arc;
 
 /// The places of each ring.
-const PLACES: usize = 64;
+pub(crate) const PLACES: usize = 64;
 
 /// Opens a session with a loop round it, a port for each connection and a unit port for each unit, in their order.
 ///
