@@ -1,12 +1,16 @@
 //! Tests of the public calls of the thread layer. They stand here, over the library, since a crate with tests is proved
 //! twice.
 
+ghost use Rattle.std.specs.Prelude.{◌≡◌, map};
+ghost use Rattle.iscsi_threads.specs.Loops.{Belong};
+ghost use Rattle.iscsi_threads.specs.Ports.{port_ring, unit_rings};
+
 mod loops;
 mod rings;
 mod serving;
 
 use iscsi_session::{Effect, Event, Options};
-use iscsi_threads::{Loop, Port, Turn, UnitPort};
+use iscsi_threads::{Job, Loop, LoopFault, Outcome, Port, PostFault, Turn, UnitPort, open};
 use std::alloc::{AllocError, Global};
 use std::process::Abort;
 
@@ -48,41 +52,128 @@ fn command(sn: u32, unit: u8) -> [u8; 48] {
     header
 }
 
-/// A turn that must not be refused: what it took.
-fn turn(rt: &impl Abort, core: &mut Loop, out: &mut Vec<Effect>) -> Option<Event> {
-    match core.turn(out) {
-        Ok(Turn::Took(event, _)) => Some(event),
-        Ok(Turn::Idle) => None,
-        Err(fault) => {
-            assert!(rt; false, "refused: {fault}");
-            None
-        }
+/// What was left of the first port or unit.
+fn first<T>(lists: &[Vec<T>]) -> &[T] {
+    match lists.first() {
+        Some(list) => list.as_slice(),
+        None => &[],
     }
 }
 
-/// Turns until nothing waits: how many events were taken.
-fn turn_all(rt: &impl Abort, core: &mut Loop, out: &mut Vec<Effect>) -> u32 {
-    for taken in 0..100_000 {
-        if turn(rt, core, out).is_none() {
-            return taken;
+/// A loop with its ports and its unit ports, on one thread.
+#[derive(Drop)]
+struct Rig {
+    core: Loop,
+    ports: Vec<Port>,
+    units: Vec<UnitPort>,
+    ghost belong: { Belong core ports.items units.items },
+}
+
+impl Rig {
+    ghost use Rattle.std.specs.Prelude.{◌≡◌, map};
+    ghost use Rattle.iscsi_threads.specs.Ports.{port_ring, unit_rings};
+
+    /// None where the options or memory are refused.
+    fn open(alloc: Global, options: Options) -> Option<Rig> {
+        let (core, ports, units) = open(alloc, options).ok()?;
+        Some(Rig { core, ports, units })
+    }
+
+    /// Posts a header. It comes back where the ring is full.
+    fn post(&mut self, place: usize, header: [u8; 48]) -> Option<[u8; 48]> {
+        match post_at(&mut self.ports, place, header) {
+            Ok(()) => None,
+            Err(PostFault::Full(header)) => Some(header),
         }
     }
-    assert!(rt; false, "turns without end");
-    0
+
+    /// Posts a header, which must be accepted.
+    fn must_post(&mut self, rt: &impl Abort, place: usize, header: [u8; 48]) {
+        assert!(rt; self.post(place, header).is_none(), "no place for the header");
+    }
+
+    /// The next job of a unit.
+    fn take(&mut self, unit: usize) -> Option<Job> {
+        take_at(&mut self.units, unit)
+    }
+
+    /// Answers a job. It comes back where the ring is full.
+    fn answer(&mut self, unit: usize, job: Job, status: u8) -> Option<Job> {
+        answer_at(&mut self.units, unit, job, status).err()
+    }
+
+    /// Takes a job, which must be there, and answers it: its ticket and its initiator task tag.
+    fn work(&mut self, rt: &impl Abort, unit: usize, status: u8) -> (u64, u32) {
+        let Some(job) = self.take(unit) else {
+            assert!(rt; false, "no job");
+            return (0, 0);
+        };
+        let of = (job.ticket(), job.itt());
+        assert!(rt; self.answer(unit, job, status).is_none(), "no place for the answer");
+        of
+    }
+
+    /// A turn that must not be refused: what it took.
+    fn turn(&mut self, rt: &impl Abort, out: &mut Vec<Effect>) -> Option<Event> {
+        match self.core.turn(out) {
+            Ok(Turn::Took(event, _)) => Some(event),
+            Ok(Turn::Idle) => None,
+            Err(fault) => {
+                assert!(rt; false, "refused: {fault}");
+                None
+            }
+        }
+    }
+
+    /// Turns until nothing waits: how many events were taken.
+    fn turn_all(&mut self, rt: &impl Abort, out: &mut Vec<Effect>) -> u32 {
+        for taken in 0..100_000 {
+            if self.turn(rt, out).is_none() {
+                return taken;
+            }
+        }
+        assert!(rt; false, "turns without end");
+        0
+    }
+
+    /// Whether the next turn is refused because the journal is full.
+    fn is_exhausted(&mut self, out: &mut Vec<Effect>) -> bool {
+        matches!(self.core.turn(out), Err(LoopFault::Exhausted))
+    }
+
+    /// The end. None where memory is refused.
+    fn finish(self) -> Option<Outcome> {
+        let Rig { core, ports, units } = self;
+        core.finish(ports, units).ok()
+    }
 }
 
-/// Takes a job, which must be there, and answers it: its ticket and its initiator task tag.
-fn work(rt: &impl Abort, unit: &mut UnitPort, status: u8) -> (u64, u32) {
-    let Some(job) = unit.take() else {
-        assert!(rt; false, "no job");
-        return (0, 0);
-    };
-    let of = (job.ticket(), job.itt());
-    assert!(rt; unit.answer(job, status).is_ok(), "no place for the answer");
-    of
+// Posts a header on one of the ports.
+fn post_at(ports: &mut Vec<Port>, place: usize, header: [u8; 48]) -> Result<(), PostFault>
+    ensures { map port_ring ports.new.items ≡ map port_ring ports.old.items }
+{
+    if place >= ports.len() {
+        return Err(PostFault::Full(header));
+    }
+    ports[place].post(header)
 }
 
-/// Posts a header, which must be accepted.
-fn post(rt: &impl Abort, port: &mut Port, header: [u8; 48]) {
-    assert!(rt; port.post(header).is_ok(), "no place for the header");
+// Takes a job of one of the units.
+fn take_at(units: &mut Vec<UnitPort>, unit: usize) -> Option<Job>
+    ensures { map unit_rings units.new.items ≡ map unit_rings units.old.items }
+{
+    if unit >= units.len() {
+        return None;
+    }
+    units[unit].take()
+}
+
+// Answers a job of one of the units.
+fn answer_at(units: &mut Vec<UnitPort>, unit: usize, job: Job, status: u8) -> Result<(), Job>
+    ensures { map unit_rings units.new.items ≡ map unit_rings units.old.items }
+{
+    if unit >= units.len() {
+        return Err(job);
+    }
+    units[unit].answer(job, status)
 }

@@ -1,30 +1,29 @@
-use super::{command, options, post, request, turn, turn_all, work};
+use super::{Rig, command, options, request};
 use iscsi_session::{Attr, Effect, Event, Why};
-use iscsi_threads::{LoopFault, open};
 use std::test::Fail;
 
 #[test]
 fn gives_the_job_of_a_command_that_left_as_it_was_enabled(rt: HostRuntime) -> Result<(), Fail> {
     let alloc = rt.alloc();
-    let Ok((mut core, mut ports, mut units)) = open(alloc, options(alloc, &[(1, 1)], 1, 4)?) else {
+    let Some(mut rig) = Rig::open(alloc, options(alloc, &[(1, 1)], 1, 4)?) else {
         assert!(rt; false, "not opened");
         return Ok(());
     };
     let mut out = Vec::new(alloc);
     // A HEAD OF QUEUE command keeps a SIMPLE one dormant. ABORT TASK of the first enables the second, and the ABORT TASK
     // SET behind it, held until then, takes it out in the same event.
-    post(&rt, &mut ports[0], request(1, 0x83, 0xa1, 0, 1));
-    post(&rt, &mut ports[0], request(1, 0x81, 0xa2, 0, 2));
-    post(&rt, &mut ports[0], request(2, 0x82, 0xb4, 0xffffffff, 4));
-    post(&rt, &mut ports[0], request(2, 0x81, 0xb3, 0xa1, 3));
+    rig.must_post(&rt, 0, request(1, 0x83, 0xa1, 0, 1));
+    rig.must_post(&rt, 0, request(1, 0x81, 0xa2, 0, 2));
+    rig.must_post(&rt, 0, request(2, 0x82, 0xb4, 0xffffffff, 4));
+    rig.must_post(&rt, 0, request(2, 0x81, 0xb3, 0xa1, 3));
     for _ in 0..4 {
-        assert!(rt; turn(&rt, &mut core, &mut out).is_some());
+        assert!(rt; rig.turn(&rt, &mut out).is_some());
     }
     // The turn is refused, and moves the jobs all the same.
-    assert!(rt; matches!(core.turn(&mut out), Err(LoopFault::Exhausted)));
+    assert!(rt; rig.is_exhausted(&mut out));
     let attrs = [Attr::Head, Attr::Simple];
     for ticket in 1..3u64 {
-        let Some(job) = units[0].take() else {
+        let Some(job) = rig.take(0) else {
             assert!(rt; false, "no job {ticket}");
             return Ok(());
         };
@@ -39,30 +38,30 @@ fn gives_the_job_of_a_command_that_left_as_it_was_enabled(rt: HostRuntime) -> Re
 #[test]
 fn serves_the_rings_in_turn(rt: HostRuntime) -> Result<(), Fail> {
     let alloc = rt.alloc();
-    let Ok((mut core, mut ports, mut units)) = open(alloc, options(alloc, &[(7, 1), (3, 1)], 2, 1000)?) else {
+    let Some(mut rig) = Rig::open(alloc, options(alloc, &[(7, 1), (3, 1)], 2, 1000)?) else {
         assert!(rt; false, "not opened");
         return Ok(());
     };
     let mut out = Vec::new(alloc);
     for k in 0..4 {
-        post(&rt, &mut ports[0], command(2 * k + 1, 0));
-        post(&rt, &mut ports[1], command(2 * k + 2, 1));
+        rig.must_post(&rt, 0, command(2 * k + 1, 0));
+        rig.must_post(&rt, 1, command(2 * k + 2, 1));
     }
     for k in 0..8u16 {
         let want = if k % 2 == 0 { 7 } else { 3 };
-        let taken = turn(&rt, &mut core, &mut out);
+        let taken = rig.turn(&rt, &mut out);
         assert!(rt; matches!(taken, Some(Event::Arrive { conn, .. }) if conn == want), "turn {k}");
     }
-    assert!(rt; turn(&rt, &mut core, &mut out).is_none());
+    assert!(rt; rig.turn(&rt, &mut out).is_none());
     for k in 0..4u64 {
-        assert_eq!(rt; work(&rt, &mut units[0], 0).0, 2 * k + 1);
-        assert_eq!(rt; work(&rt, &mut units[1], 2).0, 2 * k + 2);
+        assert_eq!(rt; rig.work(&rt, 0, 0).0, 2 * k + 1);
+        assert_eq!(rt; rig.work(&rt, 1, 2).0, 2 * k + 2);
     }
     for k in 0..8u64 {
-        let taken = turn(&rt, &mut core, &mut out);
+        let taken = rig.turn(&rt, &mut out);
         assert!(rt; matches!(taken, Some(Event::Done { ticket, .. }) if ticket == k + 1), "answer {k}");
     }
-    let Ok(outcome) = core.finish(ports, units) else {
+    let Some(outcome) = rig.finish() else {
         assert!(rt; false, "not finished");
         return Ok(());
     };
@@ -74,7 +73,7 @@ fn serves_the_rings_in_turn(rt: HostRuntime) -> Result<(), Fail> {
 #[test]
 fn takes_what_came_on_a_closed_connection(rt: HostRuntime) -> Result<(), Fail> {
     let alloc = rt.alloc();
-    let Ok((mut core, mut ports, units)) = open(alloc, options(alloc, &[(1, 1), (2, 1)], 1, 1000)?) else {
+    let Some(mut rig) = Rig::open(alloc, options(alloc, &[(1, 1), (2, 1)], 1, 1000)?) else {
         assert!(rt; false, "not opened");
         return Ok(());
     };
@@ -82,22 +81,22 @@ fn takes_what_came_on_a_closed_connection(rt: HostRuntime) -> Result<(), Fail> {
     // A Logout of connection 2, immediate.
     let mut logout = request(0x46, 0x81, 0xc1, 0, 1);
     logout[21] = 2;
-    post(&rt, &mut ports[0], logout);
-    assert!(rt; turn(&rt, &mut core, &mut out).is_some());
+    rig.must_post(&rt, 0, logout);
+    assert!(rt; rig.turn(&rt, &mut out).is_some());
     assert!(rt; out.iter().any(|effect| matches!(effect, Effect::CloseConn { conn: 2 })));
     for _ in 0..64 {
-        post(&rt, &mut ports[1], command(1, 0));
+        rig.must_post(&rt, 1, command(1, 0));
     }
     out.clear();
-    assert_eq!(rt; turn_all(&rt, &mut core, &mut out), 64);
+    assert_eq!(rt; rig.turn_all(&rt, &mut out), 64);
     assert_eq!(rt; out.len(), 64);
     assert!(rt; out.iter().all(|effect| matches!(effect, Effect::Ignore { why: Why::Closed })));
-    let Ok(outcome) = core.finish(ports, units) else {
+    let Some(outcome) = rig.finish() else {
         assert!(rt; false, "not finished");
         return Ok(());
     };
     assert_eq!(rt; outcome.journal.len(), 65);
-    assert_eq!(rt; outcome.left[0].len() + outcome.left[1].len(), 0);
+    assert!(rt; outcome.left.iter().all(|left| left.is_empty()));
     Ok(())
 }
 
@@ -108,16 +107,16 @@ fn looks_at_the_last_of_many_rings(rt: HostRuntime) -> Result<(), Fail> {
     for cid in 0..64u16 {
         conns.push((cid, 1))?;
     }
-    let Ok((mut core, mut ports, mut units)) = open(alloc, options(alloc, &conns, 256, 1000)?) else {
+    let Some(mut rig) = Rig::open(alloc, options(alloc, &conns, 256, 1000)?) else {
         assert!(rt; false, "not opened");
         return Ok(());
     };
     let mut out = Vec::new(alloc);
     for sn in 1..101 {
-        post(&rt, &mut ports[63], command(sn, 255));
-        assert_eq!(rt; turn_all(&rt, &mut core, &mut out), 1);
-        assert_eq!(rt; work(&rt, &mut units[255], 0), (u64::from(sn), sn));
-        assert_eq!(rt; turn_all(&rt, &mut core, &mut out), 1);
+        rig.must_post(&rt, 63, command(sn, 255));
+        assert_eq!(rt; rig.turn_all(&rt, &mut out), 1);
+        assert_eq!(rt; rig.work(&rt, 255, 0), (u64::from(sn), sn));
+        assert_eq!(rt; rig.turn_all(&rt, &mut out), 1);
     }
     Ok(())
 }

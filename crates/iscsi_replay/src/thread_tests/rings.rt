@@ -1,27 +1,26 @@
-use super::{command, options, post, request, turn, turn_all, work};
+use super::{Rig, command, first, options, request};
 use iscsi_session::{Attr, Event};
-use iscsi_threads::{LoopFault, PostFault, Turn, open};
+use iscsi_threads::{LoopFault, Turn, open};
 use std::test::Fail;
 
 #[test]
 fn carries_headers_jobs_and_answers(rt: HostRuntime) -> Result<(), Fail> {
     let alloc = rt.alloc();
-    let Ok((mut core, mut ports, mut units)) = open(alloc, options(alloc, &[(1, 1)], 1, 1000)?) else {
+    let Some(mut rig) = Rig::open(alloc, options(alloc, &[(1, 1)], 1, 1000)?) else {
         assert!(rt; false, "not opened");
         return Ok(());
     };
     let mut out = Vec::new(alloc);
     for sn in 1..65 {
-        post(&rt, &mut ports[0], command(sn, 0));
+        rig.must_post(&rt, 0, command(sn, 0));
     }
-    let full = ports[0].post(command(65, 0));
-    assert!(rt; matches!(full, Err(PostFault::Full(header)) if header == command(65, 0)));
-    assert_eq!(rt; turn_all(&rt, &mut core, &mut out), 64);
-    post(&rt, &mut ports[0], command(65, 0));
-    assert!(rt; turn(&rt, &mut core, &mut out).is_some());
+    assert_eq!(rt; rig.post(0, command(65, 0)), Some(command(65, 0)));
+    assert_eq!(rt; rig.turn_all(&rt, &mut out), 64);
+    rig.must_post(&rt, 0, command(65, 0));
+    assert!(rt; rig.turn(&rt, &mut out).is_some());
     let mut jobs = Vec::new(alloc);
     for ticket in 1..65u64 {
-        let Some(job) = units[0].take() else {
+        let Some(job) = rig.take(0) else {
             assert!(rt; false, "no job {ticket}");
             return Ok(());
         };
@@ -32,77 +31,77 @@ fn carries_headers_jobs_and_answers(rt: HostRuntime) -> Result<(), Fail> {
         assert_eq!(rt; job.attr(), Attr::Simple);
         jobs.push(job)?;
     }
-    assert!(rt; units[0].take().is_none());
-    assert!(rt; turn(&rt, &mut core, &mut out).is_none());
-    let Some(last) = units[0].take() else {
+    assert!(rt; rig.take(0).is_none());
+    assert!(rt; rig.turn(&rt, &mut out).is_none());
+    let Some(last) = rig.take(0) else {
         assert!(rt; false, "no job behind the backlog");
         return Ok(());
     };
     assert_eq!(rt; last.ticket(), 65);
     for job in jobs {
-        assert!(rt; units[0].answer(job, 0).is_ok());
+        assert!(rt; rig.answer(0, job, 0).is_none());
     }
-    let Err(last) = units[0].answer(last, 0) else {
+    let Some(last) = rig.answer(0, last, 0) else {
         assert!(rt; false, "the ring has a place too many");
         return Ok(());
     };
-    assert!(rt; matches!(turn(&rt, &mut core, &mut out), Some(Event::Done { ticket: 1, status: 0 })));
-    assert!(rt; units[0].answer(last, 0).is_ok());
-    let Ok(outcome) = core.finish(ports, units) else {
+    assert!(rt; matches!(rig.turn(&rt, &mut out), Some(Event::Done { ticket: 1, status: 0 })));
+    assert!(rt; rig.answer(0, last, 0).is_none());
+    let Some(outcome) = rig.finish() else {
         assert!(rt; false, "not finished");
         return Ok(());
     };
     assert_eq!(rt; outcome.journal.len(), 66);
     assert_eq!(rt; outcome.log.len(), 66);
     assert!(rt; outcome.from.iter().all(|place| *place == 0));
-    assert_eq!(rt; outcome.left[0].len(), 0);
-    assert_eq!(rt; outcome.untaken[0].len(), 0);
-    assert_eq!(rt; outcome.unread[0].len(), 64);
-    assert_eq!(rt; outcome.unread[0][0], (2, 0));
+    assert!(rt; first(&outcome.left).is_empty());
+    assert!(rt; first(&outcome.untaken).is_empty());
+    assert_eq!(rt; first(&outcome.unread).len(), 64);
+    assert_eq!(rt; first(&outcome.unread).first(), Some(&(2, 0)));
     Ok(())
 }
 
 #[test]
 fn finish_hands_out_what_is_left(rt: HostRuntime) -> Result<(), Fail> {
     let alloc = rt.alloc();
-    let Ok((mut core, mut ports, mut units)) = open(alloc, options(alloc, &[(1, 1)], 1, 1000)?) else {
+    let Some(mut rig) = Rig::open(alloc, options(alloc, &[(1, 1)], 1, 1000)?) else {
         assert!(rt; false, "not opened");
         return Ok(());
     };
     let mut out = Vec::new(alloc);
     for sn in 1..4 {
-        post(&rt, &mut ports[0], command(sn, 0));
+        rig.must_post(&rt, 0, command(sn, 0));
     }
     // The second job is fresh: the turn that would move it to its ring never comes.
-    assert!(rt; turn(&rt, &mut core, &mut out).is_some());
-    assert!(rt; turn(&rt, &mut core, &mut out).is_some());
-    assert_eq!(rt; work(&rt, &mut units[0], 8), (1, 1));
-    assert!(rt; units[0].take().is_none());
-    let Ok(outcome) = core.finish(ports, units) else {
+    assert!(rt; rig.turn(&rt, &mut out).is_some());
+    assert!(rt; rig.turn(&rt, &mut out).is_some());
+    assert_eq!(rt; rig.work(&rt, 0, 8), (1, 1));
+    assert!(rt; rig.take(0).is_none());
+    let Some(outcome) = rig.finish() else {
         assert!(rt; false, "not finished");
         return Ok(());
     };
     assert_eq!(rt; outcome.journal.len(), 2);
-    assert_eq!(rt; outcome.left[0].as_slice(), [command(3, 0)].as_slice());
-    assert_eq!(rt; outcome.untaken[0].as_slice(), [2].as_slice());
-    assert_eq!(rt; outcome.unread[0].as_slice(), [(1, 8)].as_slice());
+    assert_eq!(rt; first(&outcome.left), [command(3, 0)].as_slice());
+    assert_eq!(rt; first(&outcome.untaken), [2].as_slice());
+    assert_eq!(rt; first(&outcome.unread), [(1, 8)].as_slice());
     Ok(())
 }
 
 #[test]
 fn takes_no_more_events_than_the_options_allow(rt: HostRuntime) -> Result<(), Fail> {
     let alloc = rt.alloc();
-    let Ok((mut core, mut ports, _units)) = open(alloc, options(alloc, &[(1, 1)], 1, 1)?) else {
+    let Some(mut rig) = Rig::open(alloc, options(alloc, &[(1, 1)], 1, 1)?) else {
         assert!(rt; false, "not opened");
         return Ok(());
     };
     let mut out = Vec::new(alloc);
-    post(&rt, &mut ports[0], command(1, 0));
-    assert!(rt; turn(&rt, &mut core, &mut out).is_some());
+    rig.must_post(&rt, 0, command(1, 0));
+    assert!(rt; rig.turn(&rt, &mut out).is_some());
     // Whether an item waits or not.
-    assert!(rt; matches!(core.turn(&mut out), Err(LoopFault::Exhausted)));
-    post(&rt, &mut ports[0], command(2, 0));
-    assert!(rt; matches!(core.turn(&mut out), Err(LoopFault::Exhausted)));
+    assert!(rt; rig.is_exhausted(&mut out));
+    rig.must_post(&rt, 0, command(2, 0));
+    assert!(rt; rig.is_exhausted(&mut out));
     Ok(())
 }
 
@@ -125,20 +124,20 @@ fn answers_queries_at_the_second_level(rt: HostRuntime) -> Result<(), Fail> {
     let alloc = rt.alloc();
     let mut second = options(alloc, &[(1, 1)], 1, 1000)?;
     second.level = 2;
-    let Ok((mut core, mut ports, _units)) = open(alloc, second) else {
+    let Some(mut rig) = Rig::open(alloc, second) else {
         assert!(rt; false, "not opened");
         return Ok(());
     };
     let mut out = Vec::new(alloc);
-    post(&rt, &mut ports[0], request(1, 0x81, 0xa1, 0, 1));
+    rig.must_post(&rt, 0, request(1, 0x81, 0xa1, 0, 1));
     // QUERY TASK of the command, immediate.
-    post(&rt, &mut ports[0], request(0x42, 0x89, 0xb1, 0xa1, 2));
-    let Ok(Turn::Took(_, _)) = core.turn(&mut out) else {
+    rig.must_post(&rt, 0, request(0x42, 0x89, 0xb1, 0xa1, 2));
+    let Ok(Turn::Took(_, _)) = rig.core.turn(&mut out) else {
         assert!(rt; false, "the command wasn't taken");
         return Ok(());
     };
     out.clear();
-    let Ok(Turn::Took(event, numbers)) = core.turn(&mut out) else {
+    let Ok(Turn::Took(event, numbers)) = rig.core.turn(&mut out) else {
         assert!(rt; false, "the query wasn't taken");
         return Ok(());
     };

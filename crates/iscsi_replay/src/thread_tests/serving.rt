@@ -32,14 +32,13 @@ impl UnitWork for Meeting {
     fn status(&self, unit: u16, ticket: u64) -> u8 {
         let mine = usize::from(unit) % 2;
         if !self.has_come[mine].swap(true, Ordering::SeqCst) {
-            let mut turns = 0;
-            while turns < 10_000_000 && !self.has_come[1 - mine].load(Ordering::SeqCst) {
+            for _ in 0..10_000_000 {
+                if self.has_come[1 - mine].load(Ordering::SeqCst) {
+                    return status_of(ticket);
+                }
                 thread::yield_now();
-                turns += 1;
             }
-            if turns == 10_000_000 {
-                return 8;
-            }
+            return 8;
         }
         status_of(ticket)
     }
@@ -56,6 +55,18 @@ fn delivered(alloc: Global, outcome: &Outcome) -> Result<Vec<u32>, AllocError> {
         }
     }
     Ok(numbers)
+}
+
+/// These are 1, 2, 3 and so on.
+fn are_in_order(numbers: &[u32]) -> bool {
+    let mut next = 1u32;
+    for number in numbers {
+        if *number != next {
+            return false;
+        }
+        next = next.wrapping_add(1);
+    }
+    true
 }
 
 /// Nothing is left in any ring, and each command that was enabled was answered.
@@ -89,17 +100,13 @@ fn units_work_side_by_side(rt: HostRuntime) -> Result<(), Fail> {
     is_over(&rt, &outcome);
     let numbers = delivered(alloc, &outcome)?;
     assert_eq!(rt; numbers.len(), 200);
-    for k in 0..200u32 {
-        assert_eq!(rt; numbers[k as usize], k + 1);
-    }
-    let mut completions = 0;
+    assert!(rt; are_in_order(&numbers));
+    assert_eq!(rt; outcome.journal.len(), 400);
     for event in &outcome.journal {
         if let Event::Done { ticket, status } = event {
-            completions += 1;
             assert_eq!(rt; *status, status_of(*ticket));
         }
     }
-    assert_eq!(rt; completions, 200);
     Ok(())
 }
 
@@ -122,9 +129,7 @@ fn ends_with_more_commands_than_the_window_has_places(rt: HostRuntime) -> Result
     // The poster doesn't keep to the window, so some are passed over; the rest come in order, without a gap.
     let numbers = delivered(alloc, &outcome)?;
     assert!(rt; numbers.len() >= 4);
-    for k in 0..numbers.len() {
-        assert_eq!(rt; numbers[k], k as u32 + 1);
-    }
+    assert!(rt; are_in_order(&numbers));
     Ok(())
 }
 
@@ -144,7 +149,7 @@ fn ends_where_the_session_closes_first(rt: HostRuntime) -> Result<(), Fail> {
         assert!(rt; false, "refused");
         return Ok(());
     };
-    assert!(rt; outcome.left[0].is_empty());
+    assert!(rt; outcome.left.iter().all(|left| left.is_empty()));
     assert_eq!(rt; delivered(alloc, &outcome)?.len(), 1);
     Ok(())
 }
