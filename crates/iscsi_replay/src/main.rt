@@ -16,6 +16,7 @@ mod settings;
 mod sink;
 mod source;
 mod stopping;
+mod threading;
 mod watched;
 
 ghost use Rattle.std.specs.Prelude.{◌≡◌, IfOk, map, string_bytes};
