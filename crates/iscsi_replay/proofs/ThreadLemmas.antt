@@ -1,5 +1,5 @@
 -- What threads make of a recording.
-use Rattle.std.specs.Prelude.{IsSome, ◌≡◌, ℕ, zero, suc, ◌+◌, ◌<◌, ◌≤◌, ◌==◌, ◌&&◌, Bool, true, false, nat_lt, nat_eq, List, [], ◌∷◌, ◌++◌, length, map, position, slice_index, Option, Some, None, Vec, refl}
+use Rattle.std.specs.Prelude.{IsSome, ◌≡◌, ℕ, ◌+◌, ◌<◌, ◌==◌, ◌&&◌, Bool, true, false, nat_lt, nat_eq, List, [], ◌∷◌, ◌++◌, length, map, position, slice_index, Some, None, Vec, refl}
 use Rattle.std.specs.List.{list_all}
 use Rattle.std.specs.declared.alloc.Global.{Global}
 use Rattle.std.proofs.Common.{ap, sym, subst, ◌∙◌, arith, get_or, take, append-nil, append_assoc}
@@ -15,7 +15,7 @@ use Rattle.iscsi_history.specs.declared.event.Event.TheVariants.{Arrive, Done}
 use Rattle.iscsi_history.specs.Settings.{Setting, is_known, are_distinct}
 use Rattle.iscsi_history.specs.Run.{run_of}
 use Rattle.iscsi_threads.specs.Ports.{Answer}
-use Rattle.iscsi_threads.specs.Journal.{cids_in, cids_of, part, parts, done, is_source, are_sources}
+use Rattle.iscsi_threads.specs.Journal.{cids_in, part, parts, done, is_source, are_sources}
 use Rattle.iscsi_threads.specs.Jobs.{jobs}
 use Rattle.iscsi_threads.specs.Outcomes.{ticket_of}
 use Rattle.iscsi_threads.specs.Works.{ticket_answered}
@@ -104,13 +104,13 @@ ran_of s r lists j from left untaken unread given h =
     record {
       sourced = h.sourced;
       parts = λ i lt.
-        let low : i < length lists = omega (arith, lt, count) in
-        let below : i < length cids = let l = length-map r.conns (λ (c : ℕ × ℕ). c.0) in omega (arith, lt) in
-        let x = some_of lists i low in
-        h.posted i x low ∙ sym (get_or-map headers lists i x [] low) ∙ ap (λ (l : List (List (List ℕ))). get_or l i []) given ∙ get_or-map (λ c. part c r.events) cids i 0 [] below;
+          let low : i < length lists = omega (arith, lt, count) in
+          let below : i < length cids = let l = length-map r.conns (λ (c : ℕ × ℕ). c.0) in omega (arith, lt) in
+          let x = some_of lists i low in
+          h.posted i x low ∙ sym (get_or-map headers lists i x [] low) ∙ ap (λ (l : List (List (List ℕ))). get_or l i []) given ∙ get_or-map (λ c. part c r.events) cids i 0 [] below;
       ended = h.ended;
       in_turn = λ u lt.
-        let v = some_of untaken u (omega (arith, lt, h.untakens)) in
-        let w = some_of unread u (omega (arith, lt, h.unreads)) in
-        unit_in_turn o j from u (get_or untaken u v).items (get_or unread u w).items (h.in_turn u v w lt);
+          let v = some_of untaken u (omega (arith, lt, h.untakens)) in
+          let w = some_of unread u (omega (arith, lt, h.unreads)) in
+          unit_in_turn o j from u (get_or untaken u v).items (get_or unread u w).items (h.in_turn u v w lt);
     }

@@ -69,6 +69,8 @@ CanStop e = ⊥
 abbrev pub IsFaultOr : ReplayFault → ReplayFault → Type 0
 IsFaultOr f fault.Read = ⊤
 IsFaultOr f fault.NoMemory = ⊤
+IsFaultOr f fault.NoThread = ⊥
+IsFaultOr f fault.Exhausted = ⊥
 IsFaultOr f e = e ≡ f
 
 -- the answer is that of the bytes, unless memory ran out or a read or a write failed

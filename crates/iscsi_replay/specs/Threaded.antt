@@ -8,7 +8,7 @@ use Rattle.iscsi_history.specs.Trace.{live}
 use Rattle.iscsi_history.specs.Run.{run_of, trace_of}
 use Rattle.iscsi_history.specs.Promises.{KeepsPromises}
 use Rattle.iscsi_history.specs.declared.event.Event.{Event}
-use Rattle.iscsi_threads.specs.Journal.{cids_of, part, done, are_sources}
+use Rattle.iscsi_threads.specs.Journal.{cids_in, part, done, are_sources}
 use Rattle.iscsi_threads.specs.Jobs.{jobs}
 use Rattle.iscsi_threads.specs.Outcomes.{ticket_of}
 use Rattle.iscsi_threads.specs.Works.{ticket_answered}
@@ -19,7 +19,7 @@ use Rattle.iscsi_replay.specs.declared.settings.Settings.{Settings}
 use Rattle.iscsi_replay.specs.declared.fault.ReplayFault.{ReplayFault}
 use Rattle.iscsi_replay.specs.declared.fault.ReplayFault.TheVariants as fault
 
--- the options of a session with threads: for each line of a recording there may be an arrival and an answer
+-- the options of a session with threads: an arrival and an answer for each line that a recording may have
 abbrev pub setting_for_threads : Settings → List (ℕ × ℕ) → Setting
 setting_for_threads s conns = setting_with 2097152 s conns
 
@@ -27,13 +27,12 @@ setting_for_threads s conns = setting_with 2097152 s conns
 abbrev pub headers : Vec (List ℕ) Global → List (List ℕ)
 headers v = v.items
 
--- a session with threads may take these events of a recording's arrivals, each from its source
+-- these are events that a session with threads may take of the recording's arrivals, each from its source
 pub record ThreadsRan (s : Settings) (r : Recorded) (j : List Event) (from : List ℕ) : Type 0 where
   -- an event's source is the place of its connection, or a unit
-  pub sourced : are_sources (cids_of (setting_for_threads s r.conns)) s.units j from ≡ true
+  pub sourced : are_sources (cids_in r.conns) s.units j from ≡ true
   -- the same headers as in the recording arrived on each connection, in the same order
-  pub parts : (i : ℕ) → i < length r.conns
-      → part (slice_index (cids_of (setting_for_threads s r.conns)) i) j ≡ part (slice_index (cids_of (setting_for_threads s r.conns)) i) r.events
+  pub parts : (i : ℕ) → i < length r.conns → part (slice_index (cids_in r.conns) i) j ≡ part (slice_index (cids_in r.conns) i) r.events
   -- no command is live at the end
   pub ended : live (trace_of (setting_for_threads s r.conns) j) ≡ []
   -- each unit answered the first of its jobs, in their order

@@ -24,7 +24,7 @@ use std::alloc::{AllocError, Global};
 use std::sync::Wait;
 use std::thread::Threads;
 
-/// The most events that a session with threads takes: an arrival and an answer for each line of a recording.
+/// The most events that a session with threads takes: an arrival and an answer for each line that a recording may have.
 const MAX_EVENTS: u64 = 2_097_152;
 
 /// Units that answer each command at once, with the status GOOD.
@@ -61,11 +61,7 @@ fn empty_lists(alloc: Global, count: usize) -> Result<Vec<Vec<[u8; 48]>>, AllocE
 }
 
 // Puts a header behind the others of one list.
-fn push_at(
-    lists: &mut Vec<Vec<[u8; 48]>>,
-    at: usize,
-    header: [u8; 48],
-) -> Result<(), AllocError>
+fn push_at(lists: &mut Vec<Vec<[u8; 48]>>, at: usize, header: [u8; 48]) -> Result<(), AllocError>
     requires { at < vec_len lists.old }
     ensures { OnOk result (map headers lists.new.items ≡ grow (map headers lists.old.items) at header) }
 {
@@ -82,7 +78,7 @@ fn place_of(conns: &[(u16, u32)], cid: u16) -> Option<usize>
     conns.iter().position(|conn| conn.0 == cid)
 }
 
-// For each connection the headers that arrived on it, in order.
+// For each connection the headers that arrived on it, in order. The events are dropped.
 fn lists_of(
     alloc: Global,
     conns: &[(u16, u32)],
@@ -142,15 +138,18 @@ fn run_threads<T: Threads + Wait + Sync>(
     }
 }
 
-/// Reads a recording to its end, and then replays its arrivals with threads: for each connection one that posts its headers
-/// in their order, and for each unit one that answers its commands with the status GOOD. The completions that the
-/// recording has are passed over. The report is that of the events as the session took them, which differ from run to run.
+/// Reads a recording to its end, and then replays its arrivals with threads: for each connection one that posts its
+/// headers in their order, and for each unit one that answers its commands in turn, with the status GOOD. The
+/// completions that the recording has are passed over. Once every header was taken and no command is live, the report
+/// of the events as the session took them is written. Their order may differ from run to run.
 ///
-/// A thread that posts doesn't keep to the command window: what arrives outside it is ignored, as RFC 7143 asks.
+/// The posting threads don't keep to the command window: a numbered request that arrives outside it is ignored (RFC 7143
+/// section 4.2.2.1), and isn't posted again.
 ///
-/// `BadSettings` stands before all others, and then come the refusals of reading. `NoThread` where a thread can't be made, and
-/// `Exhausted` where the arrivals and their commands have more than 2,097,152 events: nothing is written then. After `Write`,
-/// and after `NoMemory` once the input was read, a front of the report is written, and after the others nothing.
+/// `BadSettings` stands before all others, and then come the refusals of reading. Then there are `NoThread`, where a
+/// thread can't be made, and `Exhausted`, where the arrivals and the answers are more than 2,097,152 events. After
+/// `Write`, and after `NoMemory` once the input was read, a front of the report is written, and after the others
+/// nothing.
 pub fn replay_threads<T: Threads + Wait + Sync, R: Source, W: Sink>(
     rt: &T,
     alloc: Global,
@@ -162,9 +161,9 @@ pub fn replay_threads<T: Threads + Wait + Sync, R: Source, W: Sink>(
     requires write_fresh { W.has_failed writer.old ≡ false }
     ensures bad { IsErrOf result ReplayFault.BadSettings ↔ (are_valid settings.now ≡ false) }
     ensures untouched { IsErrOf result ReplayFault.BadSettings → (reader.new ≡ reader.old) × (writer.new ≡ writer.old) }
-    // The bytes are a recording. What is written is the report of events that a session with threads may take of its arrivals: of
-    // each connection those of the recording in their order, and of each unit its answers in the order of its commands. It is
-    // that of a log that keeps all promises.
+    // The bytes are a recording, and the report of a journal is written, and nothing else: of each connection the journal
+    // has the recording's headers in their order, of each unit answers in the order of its jobs, and at its end no command
+    // is live. It is the report of a log that keeps all promises.
     ensures ok { OnOk result (IfSome (R.remaining reader.old) (λ bytes. ThreadsReported settings.now (read_of bytes) (W.contents writer.old) (W.contents writer.new))) }
     // The answer is that of the bytes, unless memory ran out, a read or a write failed, or threads stopped.
     ensures fault { are_valid settings.now ≡ true → IfSome (R.remaining reader.old) (λ bytes. ThreadsAnswerAs (read_of bytes) result) }
@@ -173,7 +172,8 @@ pub fn replay_threads<T: Threads + Wait + Sync, R: Source, W: Sink>(
     // A fault is answered once the bytes seen make it certain, or at the end of the input, and `Read` only where they
     // make none certain. The threads begin at the end of the input.
     ensures order { ReadsInOrder read_of result (R.remaining reader.old) (R.remaining reader.new) }
-    // A refusal that reading or the threads give leaves the writer as it was, whatever was known of its bytes and of the reader's.
+    // A refusal that reading or the threads give leaves the writer as it was, whatever was known of its bytes and of the
+    // reader's.
     ensures unwritten { IfErr result (λ e. ComesOfReading e → writer.new ≡ writer.old) }
     // The writer is as it was, or the input was read to its end, and is a recording.
     ensures whole { (writer.new ≡ writer.old) ⊎ IsReadWhole (R.remaining reader.old) (R.remaining reader.new) }
@@ -188,3 +188,6 @@ pub fn replay_threads<T: Threads + Wait + Sync, R: Source, W: Sink>(
     let journal = run_threads(rt, alloc, settings, recording)?;
     write_report(alloc, settings, MAX_EVENTS, journal, writer)
 }
+
+#[cfg(test)]
+mod tests;

@@ -6,5 +6,5 @@ abbrev pub invariant-loop-place : goal.invariant-loop-place
 invariant-loop-place l = record {
   lists : map headers l.lists.items ≡ replicate l.place [];
   len : vec_len l.lists ≡ l.place;
-  room : l.count ≤ vec_capacity l.lists
+  room : l.count ≤ vec_capacity l.lists;
 }

@@ -1,11 +1,9 @@
-use Rattle.std.proofs.Common.{◌≡◌, ◌<◌, ◌∙◌, ◌==◌, ℕ, [], length, position, Some, true, ap, sym, subst, rules, arith}
+use Rattle.std.proofs.Common.{◌≡◌, ◌∙◌, ℕ, length, true, ap, sym, rules, arith}
 use Rattle.std.specs.Prelude.{vec_len}
 use Rattle.std.specs.List.{list_all}
 use Rattle.std.proofs.lemmas.List.{length-map}
 use Rattle.iscsi_history.specs.Settings.{is_known}
-use Rattle.iscsi_history.specs.declared.event.Event.{Event}
-use Rattle.iscsi_history.specs.declared.event.Event.TheVariants.{Arrive}
-use Rattle.iscsi_threads.specs.Journal.{cids_in, part}
+use Rattle.iscsi_threads.specs.Journal.{cids_in}
 use Rattle.iscsi_threads.proofs.OpenLemmas.{parts_none}
 use Rattle.iscsi_replay.specs.Recorded.{belongs_to}
 use Rattle.iscsi_replay.specs.Threaded.{headers}
