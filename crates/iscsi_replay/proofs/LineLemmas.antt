@@ -7,7 +7,7 @@ use Rattle.std.proofs.lemmas.Bool.{eqb-true}
 use Rattle.iscsi_replay.specs.Recorded.{Recorded, read_line, read_end, read_lines, lines_of, onto_first, Fails, ◌>>=◌}
 use Rattle.iscsi_replay.specs.Reading.{is_end}
 use Rattle.iscsi_replay.specs.declared.fault.ReplayFault.{ReplayFault}
-use Rattle.iscsi_replay.specs.declared.fault.ReplayFault.TheVariants.{BadLine, LineTooLong, TooManyLines, Read, NoMemory, NoConnection, Write, BadSettings}
+use Rattle.iscsi_replay.specs.declared.fault.ReplayFault.TheVariants.{BadLine, LineTooLong, TooManyLines, Read, NoMemory, NoConnection, Write, BadSettings, NoThread, Exhausted}
 
 pub or_false : (a b : Bool) → (a || b) ≡ false → (a ≡ false) × (b ≡ false)
 or_false true b h = cc
@@ -107,6 +107,8 @@ fails_first NoMemory r whole f h is = tt
 fails_first NoConnection r whole f h is = is ∙ ap (λ s. s >>= f) h
 fails_first Write r whole f h is = h
 fails_first BadSettings r whole f h is = h
+fails_first NoThread r whole f h is = h
+fails_first Exhausted r whole f h is = h
 
 -- a line that ends
 pub line_ends : (n : ℕ) (r : Recorded) (p last rest : List ℕ) → list_any is_end p ≡ false → list_any is_end last ≡ false

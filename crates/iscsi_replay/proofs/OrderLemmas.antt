@@ -10,7 +10,7 @@ use Rattle.iscsi_replay.specs.Grammar.{line_of}
 use Rattle.iscsi_replay.specs.Reading.{is_end, IsReading, left_of, ReadsOn}
 use Rattle.iscsi_replay.specs.Order.{IsDue, NoneIsDue, IsDueAtEnd, ComesInOrder, ReadsInOrder}
 use Rattle.iscsi_replay.specs.declared.fault.ReplayFault.{ReplayFault}
-use Rattle.iscsi_replay.specs.declared.fault.ReplayFault.TheVariants.{BadLine, LineTooLong, TooManyLines, Read, NoMemory, NoConnection, Write, BadSettings}
+use Rattle.iscsi_replay.specs.declared.fault.ReplayFault.TheVariants.{BadLine, LineTooLong, TooManyLines, Read, NoMemory, NoConnection, Write, BadSettings, NoThread, Exhausted}
 use Rattle.iscsi_replay.specs.declared.reading.Reading.{Reading}
 use Rattle.iscsi_replay.proofs.LineLemmas.{line_ends, fails_open, nothing_more}
 
@@ -133,6 +133,8 @@ due_of reads seen new NoMemory h = tt
 due_of reads seen new NoConnection h = inl h
 due_of reads seen new Write h = absurd (h [])
 due_of reads seen new BadSettings h = absurd (h [])
+due_of reads seen new NoThread h = absurd (h [])
+due_of reads seen new Exhausted h = absurd (h [])
 
 -- a chunk has a fault
 pub fault_in_order : (a b c : Option (List ℕ)) (v w : Reading) (chunk : List ℕ) (e : ReplayFault) → IsReading w → ReadsOn a b v w → Consumes b c chunk
@@ -158,6 +160,8 @@ end_of reads seen new NoMemory h ended = tt
 end_of reads seen new NoConnection h ended = inr (record { fault = h; ended = ended })
 end_of reads seen new Write h ended = absurd h
 end_of reads seen new BadSettings h ended = absurd h
+end_of reads seen new NoThread h ended = absurd h
+end_of reads seen new Exhausted h ended = absurd h
 
 -- the input was read to its end
 pub end_in_order : (reads : List ℕ → Result Recorded ReplayFault) (a b : Option (List ℕ)) (v w : Reading) (answer : Result (Unit {0}) ReplayFault)
@@ -200,6 +204,8 @@ comes_as reads others (Err NoMemory) seen new same h = tt
 comes_as reads others (Err NoConnection) seen new same h = due_as reads others seen new NoConnection same h
 comes_as reads others (Err Write) seen new same h = h
 comes_as reads others (Err BadSettings) seen new same h = h
+comes_as reads others (Err NoThread) seen new same h = h
+comes_as reads others (Err Exhausted) seen new same h = h
 
 -- the same order, where reading gives the same in other words
 pub order_as : (reads others : List ℕ → Result Recorded ReplayFault) (answer : Result (Unit {0}) ReplayFault) (a b : Option (List ℕ))
@@ -242,3 +248,5 @@ written_of (Err TooManyLines) seen new h kinds = let other : TooManyLines ≡ No
 written_of (Err Read) seen new h kinds = let other : Read ≡ NoMemory = kinds (λ is. cc) in cc
 written_of (Err NoConnection) seen new h kinds = let other : NoConnection ≡ NoMemory = kinds (λ is. cc) in cc
 written_of (Err BadSettings) seen new h kinds = let other : BadSettings ≡ NoMemory = kinds (λ is. cc) in cc
+written_of (Err NoThread) seen new h kinds = let other : NoThread ≡ NoMemory = kinds (λ is. cc) in cc
+written_of (Err Exhausted) seen new h kinds = let other : Exhausted ≡ NoMemory = kinds (λ is. cc) in cc

@@ -10,9 +10,7 @@ use Rattle.iscsi_session.specs.declared.fault.SessionFault.TheVariants.{NoMemory
 use Rattle.iscsi_history.specs.Settings.{Setting, is_valid}
 use Rattle.iscsi_session.specs.Refusals.{RefusesAs, refusal_of, refusal_of_options}
 use Rattle.iscsi_history.specs.Agenda.{belongs}
-use Rattle.iscsi_replay.specs.declared.settings.Settings.{Settings}
-use Rattle.iscsi_replay.specs.Recorded.{Recorded, IsSound, belongs_to}
-use Rattle.iscsi_replay.specs.Replayed.{setting_for}
+use Rattle.iscsi_replay.specs.Recorded.{belongs_to}
 
 -- where nothing is refused, a refusal is want of memory
 pub memory_alone : {A : Type 0} (refusal : Option SessionFault) (result : Result A SessionFault) (fault : SessionFault) → refusal ≡ None → result ≡ Err fault
@@ -29,22 +27,22 @@ belongs_same : (o : Setting) (e : Event) → belongs o e ≡ belongs_to o.conns 
 belongs_same o (Arrive conn header) = refl
 belongs_same o (Done ticket status) = refl
 
-each_belongs : (p : Event → Bool) (events : List Event) (i : ℕ) (d : Event) → i < length events → list_all p events ≡ true → p (get_or events i d) ≡ true
+-- a test that each passes is passed by the i-th
+pub each_belongs : (p : Event → Bool) (events : List Event) (i : ℕ) (d : Event) → i < length events → list_all p events ≡ true → p (get_or events i d) ≡ true
 each_belongs p events i d lt all = go (p (get_or events i d)) refl
   where
     go : (b : Bool) → p (get_or events i d) ≡ b → p (get_or events i d) ≡ true
     go true is = is
     go false is = let bad : list_all p events ≡ false = list_all_at p events i d lt is in cc
 
--- the i-th event of a sound recording is not refused after those before it
-pub event_taken : (s : Settings) (r : Recorded) (items : List Event) (i : ℕ) (d : Event) → items ≡ r.events → IsSound r → i < length items
-    → refusal_of (setting_for s r.conns) (take i items) (get_or items i d) ≡ None
-event_taken s r items i d same sound lt =
-    let o : Setting = setting_for s r.conns in
-    let known : list_all (belongs_to r.conns) items ≡ true = rw same sound.known in
+-- the i-th of some events is not refused after those before it, where each is known and they aren't too many
+pub event_taken : (o : Setting) (items events : List Event) (i : ℕ) (d : Event) → items ≡ events → list_all (belongs_to o.conns) events ≡ true → length events ≤ o.events → i < length items
+    → refusal_of o (take i items) (get_or items i d) ≡ None
+event_taken o items events i d same all few lt =
+    let known : list_all (belongs_to o.conns) items ≡ true = rw same all in
     let belongs_is : belongs o (get_or items i d) ≡ true =
-    belongs_same o (get_or items i d) ∙ each_belongs (belongs_to r.conns) items i d lt known in
-    let few : length items ≤ 1048576 = rw same sound.events in
-    let below : length (take i items) < 1048576 = omega (arith, length-take {A = Event}) in
-    let test : nat_lt (length (take i items)) 1048576 ≡ true = lt-ltb _ _ below in
+    belongs_same o (get_or items i d) ∙ each_belongs (belongs_to o.conns) items i d lt known in
+    let few_are : length items ≤ o.events = rw same few in
+    let below : length (take i items) < o.events = omega (arith, length-take {A = Event}) in
+    let test : nat_lt (length (take i items)) o.events ≡ true = lt-ltb _ _ below in
     rw (belongs_is, test) refl

@@ -15,41 +15,37 @@ use Rattle.iscsi_session.proofs.LineLemmas.{report_of-push}
 use Rattle.iscsi_replay.specs.declared.settings.Settings.{Settings}
 use Rattle.iscsi_replay.specs.declared.fault.ReplayFault.{ReplayFault}
 use Rattle.iscsi_replay.specs.Recorded.{Recorded, read_of}
-use Rattle.iscsi_replay.specs.Replayed.{setting_for, report_of, FrontReported}
+use Rattle.iscsi_replay.specs.Replayed.{report_by, report_of, FrontReported}
 use Rattle.iscsi_replay.specs.Writing.{AppendsFront, AppendsBut}
 use Rattle.iscsi_replay.proofs.Written.{nothing_of, front_longer, waits_more, all_after}
 
--- the report of these events
-abbrev pub report_until : Settings → List (ℕ × ℕ) → List Event → List ℕ
-report_until s conns events = report_of s (record { conns = conns; events = events })
-
 -- the report of more events begins with that of the first ones
-pub report_longer : (s : Settings) (conns : List (ℕ × ℕ)) (h es : List Event)
-    → (rest : List ℕ) × (report_until s conns (h ++ es) ≡ report_until s conns h ++ rest)
-report_longer s conns h [] = ([], ap (report_until s conns) (append-nil h) ∙ sym (append-nil (report_until s conns h)))
-report_longer s conns h (e ∷ es) =
-    let lines : List ℕ = event_line e ++ entry_lines (next_entry (setting_for s conns) h e) in
-    let next = report_longer s conns (h ++ e ∷ []) es in (
+pub report_longer : (o : Setting) (h es : List Event)
+    → (rest : List ℕ) × (report_by o (h ++ es) ≡ report_by o h ++ rest)
+report_longer o h [] = ([], ap (report_by o) (append-nil h) ∙ sym (append-nil (report_by o h)))
+report_longer o h (e ∷ es) =
+    let lines : List ℕ = event_line e ++ entry_lines (next_entry o h e) in
+    let next = report_longer o (h ++ e ∷ []) es in (
       lines ++ next.0,
-      ap (report_until s conns) (sym (append_assoc h (e ∷ []) es)) ∙ next.1
-          ∙ ap (λ l. l ++ next.0) (report_of-push (setting_for s conns) h e)
-          ∙ append_assoc (report_until s conns h) lines next.0,
+      ap (report_by o) (sym (append_assoc h (e ∷ []) es)) ∙ next.1
+          ∙ ap (λ l. l ++ next.0) (report_of-push o h e)
+          ∙ append_assoc (report_by o h) lines next.0,
     )
 
 -- the report of the events up to the i-th is a front of that of all
-pub report_front : (s : Settings) (conns : List (ℕ × ℕ)) (events : List Event) (i : ℕ)
-    → (rest : List ℕ) × (report_until s conns events ≡ report_until s conns (take i events) ++ rest)
-report_front s conns events i =
-    let longer = report_longer s conns (take i events) (drop i events) in
-    (longer.0, ap (report_until s conns) (sym (take-append-drop i events)) ∙ longer.1)
+pub report_front : (o : Setting) (events : List Event) (i : ℕ)
+    → (rest : List ℕ) × (report_by o events ≡ report_by o (take i events) ++ rest)
+report_front o events i =
+    let longer = report_longer o (take i events) (drop i events) in
+    (longer.0, ap (report_by o) (sym (take-append-drop i events)) ∙ longer.1)
 
 -- a front of the report of the events up to the i-th is one of that of all
-pub front_of_all : (a b : Option (List ℕ)) (s : Settings) (conns : List (ℕ × ℕ)) (items events : List Event) (i : ℕ) → items ≡ events
-    → AppendsFront a b (report_until s conns (take i items)) → AppendsFront a b (report_until s conns events)
-front_of_all a b s conns items events i same f =
-    let front = report_front s conns items i in
-    subst (λ es. AppendsFront a b (report_until s conns es)) same
-    (front_longer a b (report_until s conns (take i items)) front.0 (report_until s conns items) front.1 f)
+pub front_of_all : (a b : Option (List ℕ)) (o : Setting) (items events : List Event) (i : ℕ) → items ≡ events
+    → AppendsFront a b (report_by o (take i items)) → AppendsFront a b (report_by o events)
+front_of_all a b o items events i same f =
+    let front = report_front o items i in
+    subst (λ es. AppendsFront a b (report_by o es)) same
+    (front_longer a b (report_by o (take i items)) front.0 (report_by o items) front.1 f)
 
 -- the lines of an event and its effects
 entry_lines_are : (entry : Entry) (numbers : Numbers) (effects : List Effect) → numbers ≡ entry.numbers → effects ≡ entry.effects
@@ -58,35 +54,34 @@ entry_lines_are entry numbers effects n e =
     ap₂ (λ (ns : Numbers) (es : List Effect). flat_map (λ effect. effect_line effect ns) es) n e
 
 -- after the i-th event its lines wait too
-pub waits_next : (a b : Option (List ℕ)) (s : Settings) (conns : List (ℕ × ℕ)) (events : List Event) (i : ℕ) (d : Event) (waiting longer : List ℕ)
+pub waits_next : (a b : Option (List ℕ)) (o : Setting) (events : List Event) (i : ℕ) (d : Event) (waiting longer : List ℕ)
     (numbers : Numbers) (effects : List Effect) → i < length events
     → longer ≡ waiting ++ (event_line (get_or events i d) ++ entry_lines (record { numbers = numbers; effects = effects }))
-    → numbers ≡ (next_entry (setting_for s conns) (take i events) (get_or events i d)).numbers
-    → effects ≡ (next_entry (setting_for s conns) (take i events) (get_or events i d)).effects
-    → AppendsBut a b waiting (report_until s conns (take i events))
-    → AppendsBut a b longer (report_until s conns (take (i + 1) events))
-waits_next a b s conns events i d waiting longer numbers effects lt is numbers_are effects_are h =
+    → numbers ≡ (next_entry o (take i events) (get_or events i d)).numbers
+    → effects ≡ (next_entry o (take i events) (get_or events i d)).effects
+    → AppendsBut a b waiting (report_by o (take i events))
+    → AppendsBut a b longer (report_by o (take (i + 1) events))
+waits_next a b o events i d waiting longer numbers effects lt is numbers_are effects_are h =
     let e : Event = get_or events i d in
-    let o : Setting = setting_for s conns in
     let entry : Entry = next_entry o (take i events) e in
     let lines : List ℕ = event_line e ++ entry_lines entry in
     let longer_is : longer ≡ waiting ++ lines =
     is ∙ ap (λ l. waiting ++ (event_line e ++ l)) (entry_lines_are entry numbers effects numbers_are effects_are) in
-    let next : report_until s conns (take (i + 1) events) ≡ report_until s conns (take i events) ++ lines =
-    ap (report_until s conns) (take_more events i d lt) ∙ report_of-push o (take i events) e in
-    waits_more a b waiting lines longer (report_until s conns (take i events)) (report_until s conns (take (i + 1) events)) longer_is next h
+    let next : report_by o (take (i + 1) events) ≡ report_by o (take i events) ++ lines =
+    ap (report_by o) (take_more events i d lt) ∙ report_of-push o (take i events) e in
+    waits_more a b waiting lines longer (report_by o (take i events)) (report_by o (take (i + 1) events)) longer_is next h
 
 -- the effects of a step onto a list that is empty
 pub effects_alone : (given out cleared effects : List Effect) → given ≡ out → out ≡ cleared ++ effects → cleared ≡ [] → given ≡ effects
 effects_alone given out cleared effects same more empty = same ∙ more ∙ ap (λ l. l ++ effects) empty
 
 -- the whole report is written
-pub all_written : (a b c : Option (List ℕ)) (s : Settings) (conns : List (ℕ × ℕ)) (items events : List Event) (i : ℕ) (waiting put : List ℕ)
-    → items ≡ events → length items ≤ i → put ≡ waiting → AppendsBut a b waiting (report_until s conns (take i items)) → Appends b c put
-    → Appends a c (report_until s conns events)
-all_written a b c s conns items events i waiting put same past is h more =
-    subst (λ es. Appends a c (report_until s conns es)) (take_all i items past ∙ same)
-    (all_after a b c waiting put (report_until s conns (take i items)) is h more)
+pub all_written : (a b c : Option (List ℕ)) (o : Setting) (items events : List Event) (i : ℕ) (waiting put : List ℕ)
+    → items ≡ events → length items ≤ i → put ≡ waiting → AppendsBut a b waiting (report_by o (take i items)) → Appends b c put
+    → Appends a c (report_by o events)
+all_written a b c o items events i waiting put same past is h more =
+    subst (λ es. Appends a c (report_by o es)) (take_all i items past ∙ same)
+    (all_after a b c waiting put (report_by o (take i items)) is h more)
 
 none_reported : (s : Settings) (r : Result Recorded ReplayFault) (a : Option (List ℕ)) → FrontReported s r a a
 none_reported s (Ok r) a = nothing_of a (report_of s r)

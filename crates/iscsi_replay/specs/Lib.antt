@@ -12,3 +12,4 @@ pub mod Replayed
 pub mod Stops
 pub mod Again
 pub mod Told
+pub mod Threaded

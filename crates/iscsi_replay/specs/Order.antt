@@ -19,14 +19,16 @@ pub record IsDueAtEnd (reads : List ℕ → Result Recorded ReplayFault) (seen :
   pub ended : IsAtEnd new
 
 -- when each answer may come, after these bytes were seen. `Read` comes only where they make no fault certain. A fault of
--- the bytes comes where they make it certain, or at the end of the input. `Ok` and `Write` come at the end of the input,
--- and `BadSettings` before any byte.
+-- the bytes comes where they make it certain, or at the end of the input. `Ok`, `Write` and the refusals of threads come
+-- at the end of the input, and `BadSettings` before any byte.
 abbrev pub ComesInOrder : (List ℕ → Result Recorded ReplayFault) → Result (Unit {0}) ReplayFault → List ℕ → Option (List ℕ) → Type 0
 ComesInOrder reads (Ok x) seen new = IsAtEnd new
 ComesInOrder reads (Err fault.Read) seen new = NoneIsDue reads seen
 ComesInOrder reads (Err fault.NoMemory) seen new = ⊤
 ComesInOrder reads (Err fault.Write) seen new = IsAtEnd new
 ComesInOrder reads (Err fault.BadSettings) seen new = seen ≡ []
+ComesInOrder reads (Err fault.NoThread) seen new = IsAtEnd new
+ComesInOrder reads (Err fault.Exhausted) seen new = IsAtEnd new
 ComesInOrder reads (Err e) seen new = IsDue reads seen e ⊎ IsDueAtEnd reads seen new e
 
 -- the known bytes lost a front that was seen, and the answer comes in its order. No fault was certain before the last

@@ -46,4 +46,6 @@ abbrev pub Answers : Result (Unit {0}) ReplayFault → Recorded → Result Recor
 Answers (Ok x) new read = read ≡ Ok new
 Answers (Err fault.Read) new read = ⊤
 Answers (Err fault.NoMemory) new read = ⊤
+Answers (Err fault.NoThread) new read = ⊥
+Answers (Err fault.Exhausted) new read = ⊥
 Answers (Err e) new read = read ≡ Err e

@@ -8,7 +8,7 @@ use Rattle.iscsi_replay.specs.Grammar.{line_of}
 use Rattle.iscsi_replay.specs.declared.line.Line.{Line}
 use Rattle.iscsi_replay.specs.declared.line.Line.TheVariants as line
 use Rattle.iscsi_replay.specs.declared.fault.ReplayFault.{ReplayFault}
-use Rattle.iscsi_replay.specs.declared.fault.ReplayFault.TheVariants.{BadLine, LineTooLong, TooManyLines, Read, NoMemory, NoConnection, Write, BadSettings}
+use Rattle.iscsi_replay.specs.declared.fault.ReplayFault.TheVariants.{BadLine, LineTooLong, TooManyLines, Read, NoMemory, NoConnection, Write, BadSettings, NoThread, Exhausted}
 use Rattle.iscsi_replay.specs.declared.recording.Recording.{Recording}
 
 -- a recording without where it lies in memory
@@ -31,13 +31,17 @@ abbrev pub belongs_to : List (ℕ × ℕ) → Event → Bool
 belongs_to conns (Arrive cid header) = is_known cid conns
 belongs_to conns (Done ticket status) = true
 
--- a session of these connections takes each of the events
-pub record IsSound (r : Recorded) : Type 0 where
+-- a session of these connections that takes so many events takes each of these
+pub record IsSoundWith (most : ℕ) (r : Recorded) : Type 0 where
   pub some : 1 ≤ length r.conns
   pub few : length r.conns ≤ 64
   pub distinct : are_distinct r.conns ≡ true
   pub known : list_all (belongs_to r.conns) r.events ≡ true
-  pub events : length r.events ≤ 1048576
+  pub events : length r.events ≤ most
+
+-- a recording has no more lines than this
+abbrev pub IsSound : Recorded → Type 0
+IsSound r = IsSoundWith 1048576 r
 
 -- the recording with what one more line says
 abbrev pub take : Recorded → Line → Option Recorded
@@ -86,6 +90,8 @@ abbrev pub Fails : ReplayFault → Result Recorded ReplayFault → Type 0
 Fails Read read = ⊥
 Fails Write read = ⊥
 Fails BadSettings read = ⊥
+Fails NoThread read = ⊥
+Fails Exhausted read = ⊥
 Fails NoMemory read = ⊤
 Fails e read = read ≡ Err e
 

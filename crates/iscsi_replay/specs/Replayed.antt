@@ -13,21 +13,29 @@ use Rattle.iscsi_replay.specs.declared.settings.Settings.{Settings}
 use Rattle.iscsi_replay.specs.declared.fault.ReplayFault.{ReplayFault}
 use Rattle.iscsi_replay.specs.declared.fault.ReplayFault.TheVariants as fault
 
--- the options of the session
-abbrev pub setting_for : Settings → List (ℕ × ℕ) → Setting
-setting_for s conns = record {
+-- the options of a session that takes so many events
+abbrev pub setting_with : ℕ → Settings → List (ℕ × ℕ) → Setting
+setting_with most s conns = record {
   first = s.first;
   window = s.window;
   units = s.units;
   depth = s.depth;
   level = s.level;
-  events = 1048576;
+  events = most;
   conns = conns;
 }
 
+-- the options of the session: a recording has no more lines
+abbrev pub setting_for : Settings → List (ℕ × ℕ) → Setting
+setting_for s conns = setting_with 1048576 s conns
+
+-- the report of events
+abbrev pub report_by : Setting → List Event → List ℕ
+report_by o events = report_from events (run_of o events)
+
 -- the report of a recording
 abbrev pub report_of : Settings → Recorded → List ℕ
-report_of s r = report_from r.events (run_of (setting_for s r.conns) r.events)
+report_of s r = report_by (setting_for s r.conns) r.events
 
 -- the bytes are a recording, and its report was written
 abbrev pub Reported : Settings → Result Recorded ReplayFault → Option (List ℕ) → Option (List ℕ) → Type 0
@@ -61,6 +69,8 @@ CanStop e = ⊥
 abbrev pub IsFaultOr : ReplayFault → ReplayFault → Type 0
 IsFaultOr f fault.Read = ⊤
 IsFaultOr f fault.NoMemory = ⊤
+IsFaultOr f fault.NoThread = ⊥
+IsFaultOr f fault.Exhausted = ⊥
 IsFaultOr f e = e ≡ f
 
 -- the answer is that of the bytes, unless memory ran out or a read or a write failed
@@ -70,8 +80,8 @@ AnswersAs (Ok r) (Err e) = CanStop e
 AnswersAs (Err f) (Ok x) = ⊥
 AnswersAs (Err f) (Err e) = IsFaultOr f e
 
--- the refusals that reading alone gives, and that of the settings: nothing is written before them. Want of memory may come
--- while the report is written, and a failed write comes only then.
+-- the refusals that reading alone gives, and those of the settings and of threads: nothing is written before them. Want of
+-- memory may come while the report is written, and a failed write comes only then.
 abbrev pub ComesOfReading : ReplayFault → Type 0
 ComesOfReading (fault.BadLine line) = ⊤
 ComesOfReading (fault.LineTooLong line) = ⊤
@@ -81,6 +91,8 @@ ComesOfReading fault.NoMemory = ⊥
 ComesOfReading fault.NoConnection = ⊤
 ComesOfReading fault.Write = ⊥
 ComesOfReading fault.BadSettings = ⊤
+ComesOfReading fault.NoThread = ⊤
+ComesOfReading fault.Exhausted = ⊤
 
 -- the input was read to its end, and its bytes, where they are known, are a recording
 pub record IsReadWhole (old new : Option (List ℕ)) : Type 0 where

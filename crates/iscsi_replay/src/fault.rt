@@ -25,6 +25,10 @@ pub enum ReplayFault {
     Write,
     /// A setting is outside its limits.
     BadSettings,
+    /// A thread could not be made.
+    NoThread,
+    /// The session takes no more events.
+    Exhausted,
 }
 
 impl fmt::Display for ReplayFault {
@@ -44,6 +48,8 @@ impl fmt::Display for ReplayFault {
             ReplayFault::NoConnection => write!(f, "iscsi-replay: no connection line"),
             ReplayFault::Write => write!(f, "iscsi-replay: the output could not be written"),
             ReplayFault::BadSettings => write!(f, "iscsi-replay: a setting is out of range"),
+            ReplayFault::NoThread => write!(f, "iscsi-replay: a worker could not be started"),
+            ReplayFault::Exhausted => write!(f, "iscsi-replay: too many events"),
         }
     }
 }
@@ -87,6 +93,11 @@ mod tests {
                 ReplayFault::BadSettings,
                 "iscsi-replay: a setting is out of range",
             ),
+            (
+                ReplayFault::NoThread,
+                "iscsi-replay: a worker could not be started",
+            ),
+            (ReplayFault::Exhausted, "iscsi-replay: too many events"),
         ];
         for (fault, line) in cases {
             let text = format!(in rt.alloc(); "{fault}")?;

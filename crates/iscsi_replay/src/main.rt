@@ -18,6 +18,7 @@ mod source;
 mod stopping;
 #[cfg(test)]
 mod thread_tests;
+mod threading;
 mod watched;
 
 ghost use Rattle.std.specs.Prelude.{◌≡◌, IfOk, map, string_bytes};

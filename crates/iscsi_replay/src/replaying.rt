@@ -1,17 +1,17 @@
 //! A recording and its report.
 
-ghost use Rattle.std.specs.Prelude.{◌≡◌, ◌≢◌, ◌↔◌, ◌⊎◌, ◌++◌, ◌<◌, true, false, [], vec_len, IfSome, OnOk, IfOk, IfErr, IsErrOf, MatchResult, Ok};
+ghost use Rattle.std.specs.Prelude.{◌≡◌, ◌≢◌, ◌↔◌, ◌⊎◌, ◌++◌, ◌<◌, ◌≤◌, true, false, [], length, vec_len, IfSome, OnOk, IfOk, IfErr, IsErrOf, MatchResult, Ok};
 ghost use Rattle.std.specs.List.{list_all};
 ghost use Rattle.std.specs.Io.KnownBytes.{Appends};
 ghost use Rattle.iscsi_history.specs.Settings.{is_valid};
 ghost use Rattle.iscsi_session.specs.Standing.{StandsFor};
 ghost use Rattle.iscsi_session.specs.Lines.{event_line, entry_lines};
 ghost use Rattle.iscsi_replay.specs.Limits.{are_valid};
-ghost use Rattle.iscsi_replay.specs.Recorded.{Recorded, view, read_of, IsSound};
+ghost use Rattle.iscsi_replay.specs.Recorded.{Recorded, view, read_of, belongs_to};
 ghost use Rattle.iscsi_replay.specs.Order.{ReadsInOrder};
 ghost use Rattle.iscsi_history.specs.Promises.{KeepsPromises};
 ghost use Rattle.iscsi_history.specs.Run.{run_of};
-ghost use Rattle.iscsi_replay.specs.Replayed.{setting_for, report_of, Reported, KeepsWord, FrontReported, AnswersAs, ComesOfReading, IsReadWhole};
+ghost use Rattle.iscsi_replay.specs.Replayed.{setting_with, report_by, Reported, KeepsWord, FrontReported, AnswersAs, ComesOfReading, IsReadWhole};
 ghost use Rattle.iscsi_replay.specs.Writing.{AppendsFront, AppendsBut};
 ghost use Rattle.iscsi_replay.specs.Again.{IsRecordable, IsReadAgain};
 
@@ -43,10 +43,15 @@ fn fault_of(fault: SessionFault) -> ReplayFault
     }
 }
 
-/// Opens the session of a recording's connections.
-fn open(alloc: Global, settings: &Settings, conns: Vec<(u16, u32)>) -> Result<Session, ReplayFault>
-    requires { is_valid (setting_for settings.now conns.items) ≡ true }
-    ensures stands { IfOk result (λ s. StandsFor (setting_for settings.now conns.items) s []) }
+/// Opens a session of a recording's connections that takes so many events.
+fn open(
+    alloc: Global,
+    settings: &Settings,
+    most: u64,
+    conns: Vec<(u16, u32)>,
+) -> Result<Session, ReplayFault>
+    requires { is_valid (setting_with most settings.now conns.items) ≡ true }
+    ensures stands { IfOk result (λ s. StandsFor (setting_with most settings.now conns.items) s []) }
     ensures memory { IfErr result (λ e. e ≡ ReplayFault.NoMemory) }
 {
     let options = Options {
@@ -55,7 +60,7 @@ fn open(alloc: Global, settings: &Settings, conns: Vec<(u16, u32)>) -> Result<Se
         units: settings.units,
         depth: settings.depth,
         level: settings.level,
-        events: MAX_EVENTS,
+        events: most,
         conns,
     };
     match Session::open(alloc, options) {
@@ -101,24 +106,26 @@ fn write_chunk<W: Sink>(lines: &mut Vec<u8>, writer: &mut W) -> Result<(), Repla
     Ok(())
 }
 
-/// Writes the report of a recording. On `Err` a front of it is written.
-fn write_report<W: Sink>(
+/// Writes the report of a recording, by a session that takes so many events. On `Err` a front of it is written.
+pub fn write_report<W: Sink>(
     alloc: Global,
     settings: &Settings,
+    most: u64,
     recording: Recording,
     writer: &mut W,
 ) -> Result<(), ReplayFault>
-    requires valid { are_valid settings.now ≡ true }
-    requires sound { IsSound (view recording) }
+    requires valid { is_valid (setting_with most settings.now (view recording).conns) ≡ true }
+    requires known { list_all (belongs_to (view recording).conns) (view recording).events ≡ true }
+    requires few { length (view recording).events ≤ most }
     requires fresh { W.has_failed writer.old ≡ false }
-    ensures ok { OnOk result (Appends (W.contents writer.old) (W.contents writer.new) (report_of settings.now (view recording))) }
-    ensures front { AppendsFront (W.contents writer.old) (W.contents writer.new) (report_of settings.now (view recording)) }
+    ensures ok { OnOk result (Appends (W.contents writer.old) (W.contents writer.new) (report_by (setting_with most settings.now (view recording).conns) (view recording).events)) }
+    ensures front { AppendsFront (W.contents writer.old) (W.contents writer.new) (report_by (setting_with most settings.now (view recording).conns) (view recording).events) }
     ensures failed { IsErrOf result ReplayFault.Write ↔ (W.has_failed writer.new ≡ true) }
     ensures kinds { IfErr result (λ e. e ≢ ReplayFault.Write → e ≡ ReplayFault.NoMemory) }
-    ensures promises { OnOk result (KeepsPromises (setting_for settings.now (view recording).conns) (view recording).events (run_of (setting_for settings.now (view recording).conns) (view recording).events)) }
+    ensures promises { OnOk result (KeepsPromises (setting_with most settings.now (view recording).conns) (view recording).events (run_of (setting_with most settings.now (view recording).conns) (view recording).events)) }
 {
     let Recording { conns, events } = recording;
-    let mut session = open(alloc, settings, conns)?;
+    let mut session = open(alloc, settings, most, conns)?;
     let mut effects = Vec::new(alloc);
     let mut lines = Vec::new(alloc);
     for event in &events {
@@ -176,7 +183,7 @@ pub fn replay<R: Source, W: Sink>(
     }
     let mut recording = Recording::new(alloc);
     read_recording(alloc, reader, &mut recording)?;
-    write_report(alloc, settings, recording, writer)
+    write_report(alloc, settings, MAX_EVENTS, recording, writer)
 }
 
 #[cfg(test)]

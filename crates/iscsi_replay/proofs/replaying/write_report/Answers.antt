@@ -10,10 +10,9 @@ use Rattle.iscsi_history.specs.Flow.{FlowsThrough}
 use Rattle.iscsi_session.proofs.FlowLemmas.{FlowsThrough-push, FlowsThrough-none}
 use Rattle.iscsi_session.proofs.PromiseLemmas.{promises_kept}
 use Rattle.iscsi_session.specs.Standing.{StandsFor}
-use Rattle.iscsi_replay.specs.Replayed.{setting_for}
+use Rattle.iscsi_replay.specs.Replayed.{setting_with}
 use Rattle.iscsi_replay.proofs.Written.{front_before, front_after, waits_not, waits_less}
 use Rattle.iscsi_replay.proofs.ReportLemmas.{front_of_all, effects_alone, waits_next, all_written}
-use Rattle.iscsi_replay.specs.Recorded.{view}
 use Rattle.iscsi_replay.proofs.RefusalLemmas.{memory_alone, event_taken}
 use Rattle.iscsi_replay.proofs.replaying.write_report.Goals as goal
 
@@ -27,43 +26,43 @@ loop-event-init g c = record {
 
 pub returns-in_err-put_entry-in-Ok-clause-front : goal.returns-in_err-put_entry-in-Ok-clause-front
 returns-in_err-put_entry-in-Ok-clause-front g c =
-    front_of_all _ _ c.args.settings.now c.args.recording.conns.items _ _ c.loop-event.event-index c.deref-event-items.ensures.value
+    front_of_all _ _ (setting_with c.args.most c.args.settings.now c.args.recording.conns.items) _ _ c.loop-event.event-index c.deref-event-items.ensures.value
     (front_before _ _ _ _ c.loop-event.invariant.written)
 
 pub returns-in-Err-clause-front : goal.returns-in-Err-clause-front
 returns-in-Err-clause-front g c =
-    front_of_all _ _ c.args.settings.now c.args.recording.conns.items _ _ c.loop-event.event-index c.deref-event-items.ensures.value
+    front_of_all _ _ (setting_with c.args.most c.args.settings.now c.args.recording.conns.items) _ _ c.loop-event.event-index c.deref-event-items.ensures.value
     (front_before _ _ _ _ c.loop-event.invariant.written)
 
 pub fault_of-requires : goal.fault_of-requires
 fault_of-requires g c =
-    let o = setting_for c.args.settings.now c.args.recording.conns.items in
+    let o = setting_with c.args.most c.args.settings.now c.args.recording.conns.items in
     let items = c.deref-event-items.result.now in
     let i = c.loop-event.event-index in
-    memory_alone _ _ _ (event_taken c.args.settings.now (view c.args.recording) items i _ c.deref-event-items.ensures.value c.requires.sound c.loop-event-test.true)
+    memory_alone _ _ _ (event_taken o items _ i _ c.deref-event-items.ensures.value c.requires.known c.requires.few c.loop-event-test.true)
     c.in-Err.is (c.step.ensures.refused o (take i items) c.loop-event.invariant.stands)
 
 pub returns-in_err-write_chunk-clause-front : goal.returns-in_err-write_chunk-clause-front
 returns-in_err-write_chunk-clause-front g c =
-    let o = setting_for c.args.settings.now c.args.recording.conns.items in
+    let o = setting_with c.args.most c.args.settings.now c.args.recording.conns.items in
     let items = c.deref-event-items.result.now in
     let i = c.loop-event.event-index in
     let stands = c.loop-event.invariant.stands in
     let effects_are = effects_alone _ _ _ _ c.deref.ensures.value (c.in-Ok.ensures.effects o (take i items) stands) c.clear.ensures.items in
-    let waits = waits_next _ _ c.args.settings.now c.args.recording.conns.items items i _ c.loop-event.lines.items c.put_entry.new.lines.items
+    let waits = waits_next _ _ o items i _ c.loop-event.lines.items c.put_entry.new.lines.items
     c.in-Ok.numbers c.deref.result.now c.loop-event-test.true c.in_ok-put_entry-in-Ok.ensures.ok
     (c.in-Ok.ensures.numbers o (take i items) stands) effects_are c.loop-event.invariant.written in
-    front_of_all _ _ c.args.settings.now c.args.recording.conns.items _ _ (i + 1) c.deref-event-items.ensures.value
+    front_of_all _ _ (setting_with c.args.most c.args.settings.now c.args.recording.conns.items) _ _ (i + 1) c.deref-event-items.ensures.value
     (front_after _ _ _ _ _ _ refl waits c.in_err-write_chunk.ensures.front)
 
 pub loop-event-preserved : goal.loop-event-preserved
 loop-event-preserved g c =
-    let o = setting_for c.args.settings.now c.args.recording.conns.items in
+    let o = setting_with c.args.most c.args.settings.now c.args.recording.conns.items in
     let items = c.deref-event-items.result.now in
     let i = c.loop-event.event-index in
     let stands = c.loop-event.invariant.stands in
     let effects_are = effects_alone _ _ _ _ c.deref.ensures.value (c.in-Ok.ensures.effects o (take i items) stands) c.clear.ensures.items in
-    let waits = waits_next _ _ c.args.settings.now c.args.recording.conns.items items i _ c.loop-event.lines.items c.put_entry.new.lines.items
+    let waits = waits_next _ _ o items i _ c.loop-event.lines.items c.put_entry.new.lines.items
     c.in-Ok.numbers c.deref.result.now c.loop-event-test.true c.in_ok-put_entry-in-Ok.ensures.ok
     (c.in-Ok.ensures.numbers o (take i items) stands) effects_are c.loop-event.invariant.written in
     record {
@@ -75,12 +74,12 @@ loop-event-preserved g c =
 
 pub returns-clause-ok : goal.returns-clause-ok
 returns-clause-ok g c = IfOk-weaker c.put_all.result _ _ (λ x h.
-    all_written _ _ _ c.args.settings.now c.args.recording.conns.items _ _ c.loop-event.event-index _ _ c.deref-event-items.ensures.value
+    all_written _ _ _ (setting_with c.args.most c.args.settings.now c.args.recording.conns.items) _ _ c.loop-event.event-index _ _ c.deref-event-items.ensures.value
     c.loop-event-test.false c.deref-2.ensures.value c.loop-event.invariant.written h) c.put_all.ensures.ok
 
 pub returns-clause-front : goal.returns-clause-front
 returns-clause-front g c =
-    front_of_all _ _ c.args.settings.now c.args.recording.conns.items _ _ c.loop-event.event-index c.deref-event-items.ensures.value
+    front_of_all _ _ (setting_with c.args.most c.args.settings.now c.args.recording.conns.items) _ _ c.loop-event.event-index c.deref-event-items.ensures.value
     (front_after _ _ _ _ _ _ c.deref-2.ensures.value c.loop-event.invariant.written c.put_all.ensures.front)
 
 only_write : {T : Type 0} (x : Result T ReplayFault) (fresh failed : Type 0) → MatchResult x (λ v. fresh) (λ e. (e ≡ Write) × failed) → IfErr x (λ e. e ≢ Write → e ≡ NoMemory)
@@ -105,7 +104,7 @@ whatever (Err e) h = tt
 
 pub returns-clause-promises : goal.returns-clause-promises
 returns-clause-promises g c =
-    let o = setting_for c.args.settings.now c.args.recording.conns.items in
+    let o = setting_with c.args.most c.args.settings.now c.args.recording.conns.items in
     let events : List Event = c.args.recording.events.items in
     let all = take_all c.loop-event.event-index c.deref-event-items.result.now c.loop-event-test.false ∙ c.deref-event-items.ensures.value in
     whatever c.put_all.result (promises_kept o c.loop-event.session events (subst (StandsFor o c.loop-event.session) all c.loop-event.invariant.stands) (subst (FlowsThrough o) all c.loop-event.invariant.flow))

@@ -1,0 +1,15 @@
+use Rattle.std.proofs.Common.{◌≡◌, true, sym, subst}
+use Rattle.std.specs.List.{list_all}
+use Rattle.iscsi_replay.specs.Recorded.{belongs_to}
+use Rattle.iscsi_replay.proofs.OrderLemmas.{settings_at_first}
+use Rattle.iscsi_replay.proofs.ThreadLemmas.{sources_known}
+use Rattle.iscsi_replay.proofs.threading.replay_threads.Goals as goal
+
+pub returns-then-not-are_valid-clause-order : goal.returns-then-not-are_valid-clause-order
+returns-then-not-are_valid-clause-order g c = settings_at_first _
+
+pub write_report-requires-clause-known : goal.write_report-requires-clause-known
+write_report-requires-clause-known g c =
+    let j = c.in_ok-journal.journal in
+    let of = c.in_ok-journal.ensures.ok in
+    subst (λ conns. list_all (belongs_to conns) j.events.items ≡ true) (sym of.conns) (sources_known _ c.args.settings.now.units j.events.items of.sources of.ran.sourced)

@@ -1,0 +1,18 @@
+use Rattle.std.proofs.Common.{◌≡◌, map, subst, rules}
+use Rattle.iscsi_replay.specs.Threaded.{headers}
+use Rattle.iscsi_threads.specs.Journal.{cids_in, parts}
+use Rattle.iscsi_replay.specs.Recorded.{view}
+use Rattle.iscsi_replay.proofs.ThreadLemmas.{ran_of}
+use Rattle.iscsi_replay.proofs.threading.run_threads.Goals as goal
+
+pub returns-in-Ok-serve_unlogged-clause-ok : goal.returns-in-Ok-serve_unlogged-clause-ok
+returns-in-Ok-serve_unlogged-clause-ok g c =
+    let served = c.in-Ok-serve_unlogged.ensures.served in
+    let e = c.in-Ok-serve_unlogged.ended in
+    record {
+      conns = search rules;
+      few = served.few;
+      sources = e.from.items;
+      ran = ran_of c.args.settings.now (view c.args.recording) c.in-Ok.lists.items e.journal.items e.from.items e.left.items e.untaken.items e.unread.items
+          (subst (λ conns. map headers c.in-Ok.lists.items ≡ parts (cids_in conns) c.args.recording.events.items) c.deref.ensures.value c.in-Ok.ensures) served;
+    }
