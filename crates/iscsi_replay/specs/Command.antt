@@ -51,7 +51,7 @@ HasFlag rows t = is_given (codes "threads") rows ≡ t
 abbrev pub SaysWhetherGiven : Text → List Row → Type 0
 SaysWhetherGiven name rows = one_of name rows ≡ Some (bool_text (is_given name rows))
 
--- each option has a value, those that take a number have one within its limits, and that of the flag says whether it was given
+-- each option has a value: those that take a number one within its limits, and the flag one that says if it was given
 pub record AreChecked (rows : List Row) : Type 0 where
   pub first : IsSome (first_of (codes "first") rows)
   pub window : HasNumber 1024 (first_of (codes "window") rows)
