@@ -9,7 +9,7 @@ pub mod Limits
 pub mod Command
 pub mod Writing
 pub mod Replayed
+pub mod Threaded
 pub mod Stops
 pub mod Again
 pub mod Told
-pub mod Threaded

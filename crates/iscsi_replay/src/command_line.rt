@@ -1,8 +1,9 @@
 //! The settings of a command line.
 
 ghost use Rattle.std.specs.Prelude.{◌≡◌, IfOk, false, map, option_map};
+ghost use Rattle.clap.specs.Takes.{is_given};
 ghost use Rattle.clap.specs.Words.{app_of, FailsBy, found_of, rows_of, rule_of, fault_of, matches_of, first_of};
-ghost use Rattle.iscsi_replay.specs.Command.{first_rule, number_rule, replay_app, number_of_digits, HasNumber, AreChecked, IsNumberIn, SettingsAre};
+ghost use Rattle.iscsi_replay.specs.Command.{first_rule, number_rule, threads_rule, replay_app, number_of_digits, HasNumber, SaysWhetherGiven, AreChecked, IsNumberIn, SettingsAre};
 
 use crate::settings::Settings;
 use clap::builder::ValueParser;
@@ -34,6 +35,20 @@ fn first<'a>(alloc: Global) -> Arg<'a>
         .help("The first CmdSN, in eight hexadecimal digits")
 }
 
+/// The option `--threads`, a flag.
+fn threads<'a>(alloc: Global) -> Arg<'a>
+    ensures rule { rule_of result ≡ threads_rule }
+    ensures local { result.global ≡ false }
+{
+    Arg::new(alloc, "threads")
+        .long("threads")
+        .action(ArgAction::SetTrue)
+        .help(
+            "Run the connections and the units in threads of their own; D lines are passed over, and each unit \
+             answers GOOD. The connections don't keep to the command window",
+        )
+}
+
 /// The command line of the program.
 fn command<'a>(alloc: Global) -> Result<Command<'a>, AllocError>
     ensures { IfOk result (λ c. app_of c ≡ replay_app) }
@@ -63,13 +78,14 @@ fn command<'a>(alloc: Global) -> Result<Command<'a>, AllocError>
             "64",
             "The most commands of a unit's task set, 1 to 1024",
         ))?
-        .arg(number(alloc, "level", 2, "1", "The protocol level, 1 or 2"))
+        .arg(number(alloc, "level", 2, "1", "The protocol level, 1 or 2"))?
+        .arg(threads(alloc))
 }
 
 /// The matches of the words.
 fn parse<'a>(alloc: Global, words: &'a [&'a str]) -> Result<ArgMatches<'a>, Error>
     ensures ok { IfOk result (λ m. rows_of (found_of m) ≡ matches_of replay_app (map (λ w. w.now) words.entry.now)) }
-    // The parser checked each number against its limits.
+    // The parser checked each number against its limits, and the value of the flag is from the words.
     ensures checked { IfOk result (λ m. AreChecked (rows_of (found_of m))) }
     ensures kinds { FailsBy (fault_of replay_app (map (λ w. w.now) words.entry.now)) result }
 {
@@ -98,6 +114,14 @@ fn number_of(matches: &ArgMatches<'_>, id: &str, high: u32) -> u32
     }
 }
 
+/// Whether the words gave a flag.
+fn has_flag(matches: &ArgMatches<'_>, id: &str) -> bool
+    requires { SaysWhetherGiven id.now (rows_of (found_of matches.now)) }
+    ensures { result ≡ is_given id.now (rows_of (found_of matches.now)) }
+{
+    matches.get_flag(id)
+}
+
 /// The number that eight hexadecimal digits, of either case, stand for.
 fn first_number(text: &str) -> Option<u32>
     ensures { result ≡ number_of_digits text.now }
@@ -109,9 +133,9 @@ fn first_number(text: &str) -> Option<u32>
     }
 }
 
-/// The settings of the words of a command line, the program's name first, or `None` where `--first` isn't
-/// eight hexadecimal digits.
-pub fn settings<'a>(alloc: Global, words: &'a [&'a str]) -> Result<Option<Settings>, Error>
+/// The settings of the words of a command line, the program's name first, and whether `--threads` is among them,
+/// or `None` where `--first` isn't eight hexadecimal digits.
+pub fn settings<'a>(alloc: Global, words: &'a [&'a str]) -> Result<Option<(Settings, bool)>, Error>
     // Option by option, the value that the words give it, and where they don't name it its default.
     ensures ok { IfOk result (SettingsAre (matches_of replay_app (map (λ w. w.now) words.entry.now))) }
     // They are refused where the command line does not take them, and else only for want of memory.
@@ -124,13 +148,14 @@ pub fn settings<'a>(alloc: Global, words: &'a [&'a str]) -> Result<Option<Settin
     let Some(first) = first_number(first) else {
         return Ok(None);
     };
-    Ok(Some(Settings {
+    let settings = Settings {
         first,
         window: number_of(&matches, "window", 1024),
         units: number_of(&matches, "units", 256),
         depth: number_of(&matches, "depth", 1024),
         level: number_of(&matches, "level", 2),
-    }))
+    };
+    Ok(Some((settings, has_flag(&matches, "threads"))))
 }
 
 #[cfg(test)]

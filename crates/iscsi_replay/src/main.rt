@@ -26,13 +26,17 @@ ghost use Rattle.std.specs.Prelude.{◌≡◌, IfOk, map, string_bytes};
 use fault::ReplayFault;
 use program::replay_as_told;
 use std::alloc::Global;
+use std::env::Env;
+use std::io::{Input, Print};
 use std::process::ExitCode;
+use std::sync::Wait;
+use std::thread::Threads;
 use std::{env, io};
 use stopping::{Stop, exit_code};
 use watched::Watched;
 
 /// The words of the command line, the program's name first.
-fn words(rt: &HostRuntime) -> Result<Vec<String>, Stop> {
+fn words<R: Env + AllocGlobal>(rt: &R) -> Result<Vec<String>, Stop> {
     match env::args(rt) {
         Ok(args) => match args.collect(rt.alloc()) {
             Ok(words) => Ok(words),
@@ -59,12 +63,12 @@ fn texts<'a>(alloc: Global, words: &'a [String]) -> Result<Vec<&'a str>, Stop>
 }
 
 /// Replays standard input as the command line says.
-fn run(rt: &HostRuntime) -> Result<(), Stop> {
+fn run<R: Env + Input + Print + AllocGlobal + Threads + Wait + Sync>(rt: &R) -> Result<(), Stop> {
     let words = words(rt)?;
     let texts = texts(rt.alloc(), &words)?;
     let mut reader = Watched::new(rt.reader());
     let mut writer = Watched::new(io::writer(rt));
-    replay_as_told(rt.alloc(), &texts, &mut reader, &mut writer)
+    replay_as_told(rt, rt.alloc(), &texts, &mut reader, &mut writer)
 }
 
 fn main(rt: HostRuntime) -> ExitCode {

@@ -10,11 +10,15 @@ use crate::replaying::replay;
 use crate::sink::Sink;
 use crate::source::Source;
 use crate::stopping::Stop;
+use crate::threading::replay_threads;
 use std::alloc::Global;
+use std::sync::Wait;
+use std::thread::Threads;
 
 /// Replays what the reader gives, with the settings that the words of a command line give, the program's name
-/// first.
-pub fn replay_as_told<R: Source, W: Sink>(
+/// first: in threads where they give `--threads`, and else event by event.
+pub fn replay_as_told<T: Threads + Wait + Sync, R: Source, W: Sink>(
+    rt: &T,
     alloc: Global,
     words: &[&str],
     reader: &mut R,
@@ -33,10 +37,15 @@ pub fn replay_as_told<R: Source, W: Sink>(
     ensures read_failed { IsErrOf result (Stop.Fault ReplayFault.Read) ↔ (R.has_failed reader.new ≡ true) }
     ensures write_failed { IsErrOf result (Stop.Fault ReplayFault.Write) ↔ (W.has_failed writer.new ≡ true) }
 {
-    let Some(settings) = command_line::settings(alloc, words)? else {
+    let Some((settings, threads)) = command_line::settings(alloc, words)? else {
         return Err(Stop::BadFirst);
     };
-    match replay(alloc, &settings, reader, writer) {
+    let replayed = if threads {
+        replay_threads(rt, alloc, &settings, reader, writer)
+    } else {
+        replay(alloc, &settings, reader, writer)
+    };
+    match replayed {
         Ok(()) => Ok(()),
         Err(fault) => Err(Stop::Fault(fault)),
     }

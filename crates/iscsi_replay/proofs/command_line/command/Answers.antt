@@ -13,4 +13,5 @@ returns c =
     let two = c.in_ok-arg-2.ensures.shape c.number.ensures.local ∙ ap₂ with_rule one c.number.ensures.rule in
     let three = c.in_ok-arg-3.ensures.shape c.number-2.ensures.local ∙ ap₂ with_rule two c.number-2.ensures.rule in
     let four = c.in_ok-arg-4.ensures.shape c.number-3.ensures.local ∙ ap₂ with_rule three c.number-3.ensures.rule in
-    IfOk-weaker c.arg-5.result _ _ (λ d h. h.shape c.number-4.ensures.local ∙ ap₂ with_rule four c.number-4.ensures.rule) c.arg-5.ensures
+    let five = c.in_ok-arg-5.ensures.shape c.number-4.ensures.local ∙ ap₂ with_rule four c.number-4.ensures.rule in
+    IfOk-weaker c.arg-6.result _ _ (λ d h. h.shape c.threads.ensures.local ∙ ap₂ with_rule five c.threads.ensures.rule) c.arg-6.ensures
