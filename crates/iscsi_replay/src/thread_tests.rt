@@ -89,7 +89,10 @@ impl Rig {
 
     /// Posts a header, which must be accepted.
     fn must_post(&mut self, rt: &impl Abort, place: usize, header: [u8; 48]) {
-        assert!(rt; self.post(place, header).is_none(), "no place for the header");
+        assert!(rt;
+            self.post(place, header).is_none(),
+            "no place for the header"
+        );
     }
 
     /// The next job of a unit.
@@ -109,7 +112,10 @@ impl Rig {
             return (0, 0);
         };
         let of = (job.ticket(), job.itt());
-        assert!(rt; self.answer(unit, job, status).is_none(), "no place for the answer");
+        assert!(rt;
+            self.answer(unit, job, status).is_none(),
+            "no place for the answer"
+        );
         of
     }
 

@@ -1,5 +1,5 @@
 -- A journal that is longer by one event.
-use Rattle.std.specs.Prelude.{◌≡◌, ℕ, zero, suc, ◌+◌, ◌<◌, ◌≤◌, ◌≢◌, Bool, true, false, cond, ◌&&◌, List, [], ◌∷◌, ◌++◌, length, map, slice_index, slice_set, nat_eq, nat_lt, refl}
+use Rattle.std.specs.Prelude.{◌≡◌, ℕ, zero, suc, ◌+◌, ◌<◌, ◌≤◌, ◌≢◌, Bool, true, false, cond, ◌&&◌, List, [], ◌∷◌, ◌++◌, length, map, nat_eq, nat_lt, refl}
 use Rattle.std.specs.List.{range_with_len}
 use Rattle.std.proofs.Common.{ap, sym, ◌∙◌, arith, get_or, append_assoc, append-nil, ⊎_elim}
 use Rattle.std.proofs.lemmas.Bool.{cases_lt}
@@ -94,9 +94,9 @@ put_one n F j = ⊎_elim inside past (cases_lt j.unit n)
         sym (map_grow F (λ u. F u ++ jobs_of u (j ∷ [])) (range_with_len 0 n) j.unit j (omega arith)
         (rw at (ap (λ (b : Bool). F j.unit ++ cond b (j ∷ []) []) same))
         (λ k lo ne.
-          let there : get_or (range_with_len 0 n) k 0 ≡ k = zero_range_get n k (omega arith) in
-          let other : nat_eq j.unit k ≡ false = grind (arith, nat_tests) in
-          rw there (ap (λ (b : Bool). F k ++ cond b (j ∷ []) []) other ∙ append-nil (F k))))
+        let there : get_or (range_with_len 0 n) k 0 ≡ k = zero_range_get n k (omega arith) in
+        let other : nat_eq j.unit k ≡ false = grind (arith, nat_tests) in
+        rw there (ap (λ (b : Bool). F k ++ cond b (j ∷ []) []) other ∙ append-nil (F k))))
 
     past : n ≤ j.unit → grow (map F (range_with_len 0 n)) j.unit j ≡ map (λ u. F u ++ jobs_of u (j ∷ [])) (range_with_len 0 n)
     past above =
@@ -104,9 +104,9 @@ put_one n F j = ⊎_elim inside past (cases_lt j.unit n)
         let mapped = length-map (range_with_len 0 n) F in
         set_past (map F (range_with_len 0 n)) j.unit _ (omega arith)
         ∙ map_same _ F (range_with_len 0 n) (λ k lo.
-          let there : get_or (range_with_len 0 n) k 0 ≡ k = zero_range_get n k (omega arith) in
-          let other : nat_eq j.unit k ≡ false = grind (arith, nat_tests) in
-          rw there (sym (ap (λ (b : Bool). F k ++ cond b (j ∷ []) []) other ∙ append-nil (F k))))
+        let there : get_or (range_with_len 0 n) k 0 ≡ k = zero_range_get n k (omega arith) in
+        let other : nat_eq j.unit k ≡ false = grind (arith, nat_tests) in
+        rw there (sym (ap (λ (b : Bool). F k ++ cond b (j ∷ []) []) other ∙ append-nil (F k))))
 
 pub put_every : (n : ℕ) (F : ℕ → List Job) (js : List Job) → put_jobs js (map F (range_with_len 0 n)) ≡ map (λ u. F u ++ jobs_of u js) (range_with_len 0 n)
 put_every n F [] = map_same _ _ (range_with_len 0 n) (λ k lt. sym (append-nil _))
@@ -124,10 +124,10 @@ heads_after cids j heads' ds ds' (Arrive c x) f differ polled =
     let same : nat_eq c c ≡ true = grind (arith, nat_tests) in
     polled.2
     ∙ sym (map_grow (λ k. part k j) (λ k. part k (j ++ Arrive c x ∷ [])) cids f x polled.0
-      (rw (← is) (part_snoc c j (Arrive c x) ∙ ap (λ (b : Bool). part c j ++ cond b (x ∷ []) []) same))
-      (λ k lo ne.
-        let other : nat_eq c (get_or cids k 0) ≡ false = let d = differ f k polled.0 lo ne in grind (arith, nat_tests) in
-        part_snoc _ j (Arrive c x) ∙ ap (λ (b : Bool). part (get_or cids k 0) j ++ cond b (x ∷ []) []) other ∙ append-nil _))
+    (rw (← is) (part_snoc c j (Arrive c x) ∙ ap (λ (b : Bool). part c j ++ cond b (x ∷ []) []) same))
+    (λ k lo ne.
+    let other : nat_eq c (get_or cids k 0) ≡ false = let d = differ f k polled.0 lo ne in grind (arith, nat_tests) in
+    part_snoc _ j (Arrive c x) ∙ ap (λ (b : Bool). part (get_or cids k 0) j ++ cond b (x ∷ []) []) other ∙ append-nil _))
 heads_after cids j heads' ds ds' (Done t s) f differ polled =
     polled.1 ∙ map_same _ _ cids (λ k lt. sym (part_snoc _ j (Done t s) ∙ append-nil _))
 
@@ -144,11 +144,11 @@ dones_after cids n j from hs hs' ds' (Done t s) f len polled =
     let a : Answer = (t, s) in
     polled.2
     ∙ sym (map_grow (λ u. done u j from) _ (range_with_len 0 n) f a (omega arith)
-      (rw at (done_snoc f j from (Done t s) f len ∙ ap (λ (b : Bool). done f j from ++ cond b (a ∷ []) []) same))
-      (λ k lo ne.
-        let there : get_or (range_with_len 0 n) k 0 ≡ k = zero_range_get n k (omega arith) in
-        let other : nat_eq f k ≡ false = grind (arith, nat_tests) in
-        rw there (done_snoc k j from (Done t s) f len ∙ ap (λ (b : Bool). done k j from ++ cond b (a ∷ []) []) other ∙ append-nil _)))
+    (rw at (done_snoc f j from (Done t s) f len ∙ ap (λ (b : Bool). done f j from ++ cond b (a ∷ []) []) same))
+    (λ k lo ne.
+    let there : get_or (range_with_len 0 n) k 0 ≡ k = zero_range_get n k (omega arith) in
+    let other : nat_eq f k ≡ false = grind (arith, nat_tests) in
+    rw there (done_snoc k j from (Done t s) f len ∙ ap (λ (b : Bool). done k j from ++ cond b (a ∷ []) []) other ∙ append-nil _)))
 
 pub source_of_polled : (cids : List ℕ) (n : ℕ) (hs hs' : List (List (List ℕ))) (ds ds' : List (List Answer)) (e : Event) (f : ℕ)
     → length ds ≡ n → Polled cids hs hs' ds ds' e f → is_source cids n e f ≡ true

@@ -1,8 +1,8 @@
 -- An element of a list is replaced.
-use Rattle.std.specs.Prelude.{◌≡◌, ℕ, zero, suc, ◌<◌, ◌+◌, ◌≢◌, List, [], ◌∷◌, ◌++◌, length, map, refl, Option, None, Some, IfNone, Result, Ok, Err, OnOk, IfErr}
-use Rattle.std.proofs.Common.{ap, subst, sym, ◌∙◌, arith, get_or, set, length-set}
+use Rattle.std.specs.Prelude.{◌≡◌, ℕ, zero, suc, ◌<◌, List, [], ◌∷◌, ◌++◌, length, map, refl, Option, None, Some, IfNone, Result, Ok, Err, OnOk, IfErr}
+use Rattle.std.proofs.Common.{ap, subst, sym, ◌∙◌, arith, get_or, set}
 use Rattle.std.proofs.Math.Seq.{map-set_same}
-use Rattle.std.proofs.lemmas.List.{map-set, length-map, get_or-map, get_or-set_same, get_or-set_other}
+use Rattle.std.proofs.lemmas.List.{map-set, length-map, get_or-map}
 use Rattle.iscsi_threads.specs.Ends.{grow, put_jobs}
 use Rattle.iscsi_threads.specs.declared.job.Job.{Job}
 

@@ -1,12 +1,12 @@
 -- A loop that was just opened.
-use Rattle.std.specs.Prelude.{◌≡◌, ◌≢◌, ◌^◌, ℕ, zero, suc, ◌+◌, ◌<◌, ◌≤◌, ◌==◌, ◌&&◌, ◌||◌, not, Bool, true, false, nat_le, List, [], ◌∷◌, ◌++◌, length, map, replicate, slice_index, refl}
+use Rattle.std.specs.Prelude.{◌≡◌, ◌≢◌, ◌^◌, ℕ, zero, suc, ◌+◌, ◌<◌, ◌≤◌, ◌&&◌, not, true, false, nat_le, List, [], ◌∷◌, length, map, replicate, slice_index, refl}
 use Rattle.std.specs.List.{range_with_len}
-use Rattle.std.proofs.Common.{ap, sym, ◌∙◌, arith, get_or}
+use Rattle.std.proofs.Common.{ap, sym, ◌∙◌, arith}
 use Rattle.std.proofs.lemmas.Bool.Decides.{nat_tests}
 use Rattle.std.proofs.lemmas.Bool.{false≢true}
 use Rattle.iscsi_history.proofs.BoolLemmas.{and_first, and_second, not_true}
 use Rattle.iscsi_history.specs.Settings.{Setting, is_known, are_distinct, is_within, are_sizes_valid, is_valid}
-use Rattle.iscsi_threads.specs.Journal.{cids_in, parts, dones, AllDiffer}
+use Rattle.iscsi_threads.specs.Journal.{cids_in, parts, AllDiffer}
 use Rattle.iscsi_threads.proofs.Turning.{known_at}
 
 pub parts_none : (conns : List (ℕ × ℕ)) → replicate (length conns) [] ≡ parts (cids_in conns) []

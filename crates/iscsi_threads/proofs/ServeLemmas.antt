@@ -1,5 +1,5 @@
 -- What comes back from the threads.
-use Rattle.std.specs.Prelude.{◌≡◌, ℕ, zero, suc, ◌+◌, ◌<◌, List, [], ◌∷◌, ◌++◌, length, map, replicate, refl, Option, Vec}
+use Rattle.std.specs.Prelude.{◌≡◌, ℕ, zero, suc, ◌<◌, List, [], ◌∷◌, ◌++◌, length, map, replicate, refl, Option, Vec}
 use Rattle.std.specs.declared.alloc.Global.{Global}
 use Rattle.std.specs.declared.thread.PromisedHandle.{PromisedHandle}
 use Rattle.std.proofs.Common.{ap, sym, ◌∙◌, arith, get_or}
@@ -46,11 +46,11 @@ pub posts_back : (hs : List (PromisedHandle (Option Port) Posts)) (ports ports' 
     → AllPosts hs ports lists (length ports) → AllPostedOn hs ports' (length ports) → PostsBack ports ports' lists
 posts_back hs ports ports' lists handles len many started done = record {
   rings = map_equal port_ring ports ports' len (λ i p q lt.
-    let h = some_of hs i (omega (arith, handles)) in let l = some_of lists i (omega (arith, many)) in
-    (done i h q lt).0 ∙ ap port_ring (started i h p l lt).0);
+      let h = some_of hs i (omega (arith, handles)) in let l = some_of lists i (omega (arith, many)) in
+      (done i h q lt).0 ∙ ap port_ring (started i h p l lt).0);
   posted_more = λ i p q l lt.
-    let h = some_of hs i (omega (arith, handles)) in
-    (done i h q lt).1 ∙ ap (λ (x : Port). posted x ++ (get_or hs i h).promise.list.now) (started i h p l lt).0 ∙ ap (λ (x : List (List ℕ)). posted (get_or ports i p) ++ x) (started i h p l lt).1
+      let h = some_of hs i (omega (arith, handles)) in
+      (done i h q lt).1 ∙ ap (λ (x : Port). posted x ++ (get_or hs i h).promise.list.now) (started i h p l lt).0 ∙ ap (λ (x : List (List ℕ)). posted (get_or ports i p) ++ x) (started i h p l lt).1;
 }
 
 -- the unit ports come back, each with its jobs answered in turn
@@ -62,5 +62,5 @@ pub works_back : (hs : List (PromisedHandle UnitPort Works)) (units units' : Lis
     → length hs ≡ length units → length units' ≡ length units → AllWorks hs units (length units) → AllWorkedOn hs units' (length units) → WorksBack units units'
 works_back hs units units' handles len started done = record {
   rings = map_equal unit_rings units units' len (λ i p q lt. let h = some_of hs i (omega (arith, handles)) in (done i h q lt).0 ∙ ap unit_rings (started i h p lt));
-  in_turn = λ i q lt. let h = some_of hs i (omega (arith, handles)) in (done i h q lt).1
+  in_turn = λ i q lt. let h = some_of hs i (omega (arith, handles)) in (done i h q lt).1;
 }

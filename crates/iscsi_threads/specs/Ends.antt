@@ -1,5 +1,5 @@
 -- The lists behind the loop's ends of all rings, and the journal's parts.
-use Rattle.std.specs.Prelude.{◌≡◌, ℕ, ◌+◌, ◌<◌, ◌≤◌, ◌≢◌, List, [], ◌∷◌, ◌++◌, length, map, slice_index, slice_index_or, slice_set, nat_eq, if◌then◌else◌}
+use Rattle.std.specs.Prelude.{◌≡◌, ℕ, ◌<◌, List, [], ◌∷◌, ◌++◌, length, slice_index, slice_index_or, slice_set}
 use Rattle.iscsi_history.specs.declared.event.Event.{Event}
 use Rattle.iscsi_history.specs.declared.event.Event.TheVariants.{Arrive, Done}
 use Rattle.iscsi_threads.specs.declared.job.Job.{Job}

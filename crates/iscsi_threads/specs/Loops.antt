@@ -1,9 +1,8 @@
 -- What a contract sees of a loop.
-use Rattle.std.specs.Prelude.{◌≡◌, ℕ, List, [], ◌∷◌, ◌++◌, length, map, replicate, vec_len}
+use Rattle.std.specs.Prelude.{◌≡◌, ℕ, List, [], ◌∷◌, ◌++◌, length, map, replicate}
 use Rattle.std.specs.declared.alloc.Global.{Global}
 use Rattle.iscsi_history.specs.declared.event.Event.{Event}
 use Rattle.iscsi_history.specs.declared.effect.Effect.{Effect}
-use Rattle.iscsi_history.specs.declared.effect.Numbers.{Numbers}
 use Rattle.iscsi_history.specs.Settings.{Setting}
 use Rattle.iscsi_session.specs.Settings.{setting_of}
 use Rattle.iscsi_history.specs.Run.{next_entry}

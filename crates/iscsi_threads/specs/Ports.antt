@@ -1,5 +1,5 @@
 -- What a contract sees of a port and of a unit port.
-use Rattle.std.specs.Prelude.{◌≡◌, ℕ, List}
+use Rattle.std.specs.Prelude.{ℕ, List}
 use Rattle.rtrb.specs.Ring.{sent, received}
 use Rattle.std.specs.declared.alloc.Global.{Global}
 use Rattle.iscsi_threads.specs.Rings.{Ring, producer_ring, consumer_ring}

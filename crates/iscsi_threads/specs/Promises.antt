@@ -20,7 +20,7 @@ abbrev pub AllPostedOn : List (PromisedHandle (Option Port) Posts) → List Port
 AllPostedOn hs ports n =
     (i : ℕ) (h : PromisedHandle (Option Port) Posts) (q : Port) → i < n
     → (port_ring (slice_index_or ports i q) ≡ port_ring (slice_index_or hs i h).promise.port.value)
-      × (posted (slice_index_or ports i q) ≡ posted (slice_index_or hs i h).promise.port.value ++ (slice_index_or hs i h).promise.list.now)
+    × (posted (slice_index_or ports i q) ≡ posted (slice_index_or hs i h).promise.port.value ++ (slice_index_or hs i h).promise.list.now)
 
 -- the first n handles are those of the unit ports, in order
 abbrev pub AllWorks : List (PromisedHandle UnitPort Works) → List UnitPort → ℕ → Type 0

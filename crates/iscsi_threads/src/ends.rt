@@ -113,7 +113,11 @@ fn give_at(outlets: &mut Vec<Outlet>, at: usize, job: Job) -> Result<(), Job>
 }
 
 /// Moves the fresh jobs behind the others of their units. Whether memory sufficed; otherwise some are left.
-pub(crate) fn spread(fresh: &mut VecDeque<Job>, outlets: &mut Vec<Outlet>, watch: &mut Watch) -> bool
+pub(crate) fn spread(
+    fresh: &mut VecDeque<Job>,
+    outlets: &mut Vec<Outlet>,
+    watch: &mut Watch,
+) -> bool
     requires { vec_len outlets.old ≤ 256 }
     ensures jobs { put_jobs fresh.new.items (map given outlets.new.items) ≡ put_jobs fresh.old.items (map given outlets.old.items) }
     ensures heard { map heard outlets.new.items ≡ map heard outlets.old.items }

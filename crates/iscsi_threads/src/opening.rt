@@ -27,10 +27,7 @@ pub(crate) const PLACES: usize = 64;
 /// Opens a session with a loop round it, a port for each connection and a unit port for each unit, in their order.
 ///
 /// `BadOptions` where an option is outside its limits or a CID stands twice, then `NoMemory`.
-pub fn open(
-    alloc: Global,
-    options: Options,
-) -> Result<(Loop, Vec<Port>, Vec<UnitPort>), LoopFault>
+pub fn open(alloc: Global, options: Options) -> Result<(Loop, Vec<Port>, Vec<UnitPort>), LoopFault>
     ensures opened { IfOk result (λ r. Opened (setting_of options) r.0 r.1.items r.2.items) }
     ensures bad { is_valid (setting_of options) ≡ false → result ≡ Err LoopFault.BadOptions }
     ensures good { is_valid (setting_of options) ≡ true → IfErr result (λ fault. fault ≡ LoopFault.NoMemory) }
@@ -100,10 +97,7 @@ fn make_outlets(
 }
 
 // A loop by valid options, its ports and its unit ports.
-fn make(
-    alloc: Global,
-    options: Options,
-) -> Result<(Loop, Vec<Port>, Vec<UnitPort>), AllocError>
+fn make(alloc: Global, options: Options) -> Result<(Loop, Vec<Port>, Vec<UnitPort>), AllocError>
     requires { is_valid (setting_of options) ≡ true }
     ensures { IfOk result (λ r. Opened (setting_of options) r.0 r.1.items r.2.items) }
 {

@@ -42,7 +42,8 @@ pub(crate) fn start_posts<'s, E, R: Wait + Sync>(
             port: Snapshot::of(&port),
             list,
         };
-        let Ok(handle) = scope.spawn_with(promise, move || post_all(rt, port, list, i, shared)) else {
+        let Ok(handle) = scope.spawn_with(promise, move || post_all(rt, port, list, i, shared))
+        else {
             return false;
         };
         let Ok(()) = handles.push(handle) else {

@@ -57,7 +57,9 @@ impl<'a> Rest<'a> {
         if !self.backoff.is_completed() {
             self.backoff.snooze();
         } else if self.has_said {
-            self.waiter.parker.park_timeout(rt, Duration::from_secs(NAP_SECONDS));
+            self.waiter
+                .parker
+                .park_timeout(rt, Duration::from_secs(NAP_SECONDS));
         } else {
             self.has_said = true;
             self.waiter.is_asleep.store(true, Ordering::SeqCst);

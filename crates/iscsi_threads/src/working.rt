@@ -120,13 +120,7 @@ fn work_all<R: Wait, W: UnitWork>(
 }
 
 // Answers one job once there is room. Not so where it is told to stop.
-fn answer_one<R: Wait>(
-    rt: &R,
-    port: &mut UnitPort,
-    job: Job,
-    status: u8,
-    shared: &Shared,
-) -> bool
+fn answer_one<R: Wait>(rt: &R, port: &mut UnitPort, job: Job, status: u8, shared: &Shared) -> bool
     ensures rings { unit_rings port.new ≡ unit_rings port.old }
     ensures taken { taken port.new ≡ taken port.old }
     ensures done { IsTrue result → answered port.new ≡ answered port.old ++ (job.ticket, status) ∷ [] }

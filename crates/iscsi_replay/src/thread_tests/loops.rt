@@ -50,7 +50,10 @@ fn serves_the_rings_in_turn(rt: HostRuntime) -> Result<(), Fail> {
     for k in 0..8u16 {
         let want = if k % 2 == 0 { 7 } else { 3 };
         let taken = rig.turn(&rt, &mut out);
-        assert!(rt; matches!(taken, Some(Event::Arrive { conn, .. }) if conn == want), "turn {k}");
+        assert!(rt;
+            matches!(taken, Some(Event::Arrive { conn, .. }) if conn == want),
+            "turn {k}"
+        );
     }
     assert!(rt; rig.turn(&rt, &mut out).is_none());
     for k in 0..4u64 {
@@ -59,14 +62,20 @@ fn serves_the_rings_in_turn(rt: HostRuntime) -> Result<(), Fail> {
     }
     for k in 0..8u64 {
         let taken = rig.turn(&rt, &mut out);
-        assert!(rt; matches!(taken, Some(Event::Done { ticket, .. }) if ticket == k + 1), "answer {k}");
+        assert!(rt;
+            matches!(taken, Some(Event::Done { ticket, .. }) if ticket == k + 1),
+            "answer {k}"
+        );
     }
     let Some(outcome) = rig.finish() else {
         assert!(rt; false, "not finished");
         return Ok(());
     };
     // The place of the connection among the options, not its CID.
-    assert_eq!(rt; outcome.from.as_slice(), [0, 1, 0, 1, 0, 1, 0, 1, 0, 1, 0, 1, 0, 1, 0, 1].as_slice());
+    assert_eq!(rt;
+        outcome.from.as_slice(),
+        [0, 1, 0, 1, 0, 1, 0, 1, 0, 1, 0, 1, 0, 1, 0, 1].as_slice()
+    );
     Ok(())
 }
 
@@ -83,7 +92,10 @@ fn takes_what_came_on_a_closed_connection(rt: HostRuntime) -> Result<(), Fail> {
     logout[21] = 2;
     rig.must_post(&rt, 0, logout);
     assert!(rt; rig.turn(&rt, &mut out).is_some());
-    assert!(rt; out.iter().any(|effect| matches!(effect, Effect::CloseConn { conn: 2 })));
+    assert!(rt;
+        out.iter()
+            .any(|effect| matches!(effect, Effect::CloseConn { conn: 2 }))
+    );
     for _ in 0..64 {
         rig.must_post(&rt, 1, command(1, 0));
     }
@@ -116,6 +128,38 @@ fn looks_at_the_last_of_many_rings(rt: HostRuntime) -> Result<(), Fail> {
         rig.must_post(&rt, 63, command(sn, 255));
         assert_eq!(rt; rig.turn_all(&rt, &mut out), 1);
         assert_eq!(rt; rig.work(&rt, 255, 0), (u64::from(sn), sn));
+        assert_eq!(rt; rig.turn_all(&rt, &mut out), 1);
+    }
+    Ok(())
+}
+
+#[test]
+fn hears_each_bell(rt: HostRuntime) -> Result<(), Fail> {
+    let alloc = rt.alloc();
+    let Some(mut rig) = Rig::open(alloc, options(alloc, &[(1, 1), (2, 1)], 2, 1000)?) else {
+        assert!(rt; false, "not opened");
+        return Ok(());
+    };
+    let mut out = Vec::new(alloc);
+    // A ring that still has something stays on the list when another one's bell is heard.
+    rig.must_post(&rt, 0, command(1, 0));
+    rig.must_post(&rt, 0, command(2, 1));
+    assert!(rt; rig.turn(&rt, &mut out).is_some());
+    rig.must_post(&rt, 1, command(3, 0));
+    assert_eq!(rt; rig.turn_all(&rt, &mut out), 2);
+    assert_eq!(rt; rig.work(&rt, 1, 0).0, 2);
+    assert_eq!(rt; rig.work(&rt, 0, 0).0, 1);
+    assert_eq!(rt; rig.work(&rt, 0, 0).0, 3);
+    assert!(rt; rig.turn(&rt, &mut out).is_some());
+    rig.must_post(&rt, 1, command(4, 1));
+    assert_eq!(rt; rig.turn_all(&rt, &mut out), 3);
+    // A backlog of several jobs goes on as places come free.
+    for sn in 5..75 {
+        rig.must_post(&rt, 0, command(sn, 0));
+        assert_eq!(rt; rig.turn_all(&rt, &mut out), 1);
+    }
+    for k in 0..70u64 {
+        assert_eq!(rt; rig.work(&rt, 0, 0).0, 5 + k);
         assert_eq!(rt; rig.turn_all(&rt, &mut out), 1);
     }
     Ok(())

@@ -45,7 +45,15 @@ fn carries_headers_jobs_and_answers(rt: HostRuntime) -> Result<(), Fail> {
         assert!(rt; false, "the ring has a place too many");
         return Ok(());
     };
-    assert!(rt; matches!(rig.turn(&rt, &mut out), Some(Event::Done { ticket: 1, status: 0 })));
+    assert!(rt;
+        matches!(
+            rig.turn(&rt, &mut out),
+            Some(Event::Done {
+                ticket: 1,
+                status: 0
+            })
+        )
+    );
     assert!(rt; rig.answer(0, last, 0).is_none());
     let Some(outcome) = rig.finish() else {
         assert!(rt; false, "not finished");

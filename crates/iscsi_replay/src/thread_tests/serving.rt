@@ -145,7 +145,13 @@ fn ends_where_the_session_closes_first(rt: HostRuntime) -> Result<(), Fail> {
     }
     let mut lists = Vec::new(alloc);
     lists.push(list)?;
-    let Ok(outcome) = serve(&rt, alloc, options(alloc, &[(1, 1)], 1, 1_048_576)?, lists, &Good) else {
+    let Ok(outcome) = serve(
+        &rt,
+        alloc,
+        options(alloc, &[(1, 1)], 1, 1_048_576)?,
+        lists,
+        &Good,
+    ) else {
         assert!(rt; false, "refused");
         return Ok(());
     };
@@ -159,7 +165,13 @@ fn refuses_before_any_thread(rt: HostRuntime) -> Result<(), Fail> {
     let alloc = rt.alloc();
     let mut lists = Vec::new(alloc);
     lists.push(Vec::new(alloc))?;
-    let few = serve(&rt, alloc, options(alloc, &[(1, 1), (2, 1)], 1, 1000)?, lists, &Good);
+    let few = serve(
+        &rt,
+        alloc,
+        options(alloc, &[(1, 1), (2, 1)], 1, 1000)?,
+        lists,
+        &Good,
+    );
     assert!(rt; matches!(few, Err(LoopFault::BadOptions)));
     let mut lists = Vec::new(alloc);
     let mut list = Vec::new(alloc);

@@ -8,5 +8,5 @@ invariant-loop l = record {
   heard : map heard l.outlets.items ≡ map heard l.initial.outlets.items;
   rings : map outlet_rings l.outlets.items ≡ map outlet_rings l.initial.outlets.items;
   len : vec_len l.outlets ≡ vec_len l.initial.outlets;
-  first : l.first ≤ 320
+  first : l.first ≤ 320;
 }

@@ -1,4 +1,3 @@
-use Rattle.std.proofs.Common.{◌≡◌, ◌∙◌, rules, arith}
 use Rattle.iscsi_threads.specs.Outlets.{given, heard, outlet_rings}
 use Rattle.iscsi_threads.proofs.Lists.{map_kept}
 use Rattle.iscsi_threads.proofs.ends.fill_at.Goals as goal

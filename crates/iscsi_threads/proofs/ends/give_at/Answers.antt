@@ -1,4 +1,4 @@
-use Rattle.std.proofs.Common.{◌≡◌, ◌∙◌, ◌<◌, length, rules, arith}
+use Rattle.std.proofs.Common.{◌≡◌, ◌<◌, length, rules}
 use Rattle.iscsi_threads.specs.Outlets.{given, heard, outlet_rings}
 use Rattle.iscsi_threads.proofs.Lists.{map_kept, map_grown, on_ok, if_err}
 use Rattle.iscsi_threads.proofs.ends.give_at.Goals as goal

@@ -1,4 +1,4 @@
-use Rattle.std.proofs.Common.{◌≡◌, ℕ, map, vec_len}
+use Rattle.std.proofs.Common.{◌≡◌, map, vec_len}
 use Rattle.iscsi_threads.specs.Outlets.{given, heard, outlet_rings, got, inlet_ring}
 use Rattle.iscsi_threads.proofs.ends.poll.Given as goal
 
@@ -10,5 +10,5 @@ invariant-loop l = record {
   inlets : map inlet_ring l.inlets.items ≡ map inlet_ring l.initial.inlets.items;
   rings : map outlet_rings l.outlets.items ≡ map outlet_rings l.initial.outlets.items;
   inlets_len : vec_len l.inlets ≡ vec_len l.initial.inlets;
-  len : vec_len l.outlets ≡ vec_len l.initial.outlets
+  len : vec_len l.outlets ≡ vec_len l.initial.outlets;
 }

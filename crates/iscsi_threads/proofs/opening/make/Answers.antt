@@ -1,5 +1,5 @@
 use Rattle.std.specs.Prelude.{refl}
-use Rattle.std.proofs.Common.{◌≡◌, ℕ, ◌≤◌, ◌∙◌, ap, sym, subst, rules, arith, List, [], length, vec_len, map, replicate, true}
+use Rattle.std.proofs.Common.{◌≡◌, ◌∙◌, ap, sym, subst, rules, [], length, replicate}
 use Rattle.iscsi_history.specs.Settings.{Setting}
 use Rattle.iscsi_session.specs.Settings.{setting_of}
 use Rattle.iscsi_threads.specs.Journal.{cids_of, parts, AllDiffer}

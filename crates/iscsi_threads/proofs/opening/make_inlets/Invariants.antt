@@ -11,5 +11,5 @@ invariant-loop-place l = record {
   inlets_len : vec_len l.inlets ≡ l.place;
   ports_len : vec_len l.ports ≡ l.place;
   inlets_room : l.count ≤ vec_capacity l.inlets;
-  ports_room : l.count ≤ vec_capacity l.ports
+  ports_room : l.count ≤ vec_capacity l.ports;
 }

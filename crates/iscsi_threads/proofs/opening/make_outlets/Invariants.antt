@@ -13,5 +13,5 @@ invariant-loop-unit l = record {
   outlets_len : vec_len l.outlets ≡ l.unit;
   ports_len : vec_len l.ports ≡ l.unit;
   outlets_room : l.count ≤ vec_capacity l.outlets;
-  ports_room : l.count ≤ vec_capacity l.ports
+  ports_room : l.count ≤ vec_capacity l.ports;
 }

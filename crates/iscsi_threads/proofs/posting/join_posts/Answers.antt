@@ -1,4 +1,4 @@
-use Rattle.std.proofs.Common.{refl, ◌≡◌, ℕ, ◌+◌, ◌<◌, ◌∙◌, ◌∷◌, ◌++◌, ap, sym, drop, get_or, below_more, rules, arith, vec_len}
+use Rattle.std.proofs.Common.{refl, ◌≡◌, ℕ, ◌+◌, ◌∙◌, ◌∷◌, ◌++◌, sym, drop, get_or, below_more, rules, arith, vec_len}
 use Rattle.std.specs.Prelude.{Option}
 use Rattle.std.specs.Vec.Iter.{into_iter_items}
 use Rattle.std.specs.declared.thread.PromisedHandle.{PromisedHandle}
@@ -21,10 +21,10 @@ loop-handle-preserved g c =
       room = search rules;
       done = λ k h q lo. below_more (λ (j : ℕ). (h' : PromisedHandle (Option Port) Posts) (q' : Port) →
           (port_ring (get_or ys j q') ≡ port_ring (get_or xs j h').promise.port.value) × (posted (get_or ys j q') ≡ posted (get_or xs j h').promise.port.value ++ (get_or xs j h').promise.list.now)) i
-        (λ j l h' q'. let at : get_or ys j q' ≡ _ = e.by_index.0 j q' l in rw at (v.done j h' q' l))
-        (λ h' q'.
+          (λ j l h' q'. let at : get_or ys j q' ≡ _ = e.by_index.0 j q' l in rw at (v.done j h' q' l))
+          (λ h' q'.
           let at : get_or ys i q' ≡ c.in_ok-port.port = e.by_index.1 q' refl in
           let here : c.in-Some.handle ≡ get_or xs i h' = next_of xs i _ h' _ next in
           rw (at, ← here) c.in_ok-port.ensures)
-        k (rw more at lo) h q;
+          k (rw more at lo) h q;
     }

@@ -1,7 +1,7 @@
-use Rattle.std.proofs.Common.{refl, ◌≡◌, ℕ, List, ◌+◌, ◌<◌, ◌∙◌, ◌∷◌, ap, sym, drop, get_or, below_more, rules, arith, length, vec_len, Vec}
+use Rattle.std.proofs.Common.{refl, ◌≡◌, ℕ, List, ◌<◌, ◌∙◌, ◌∷◌, ap, sym, drop, get_or, below_more, rules, arith, length, vec_len, Vec}
 use Rattle.std.specs.Prelude.{Option}
 use Rattle.std.proofs.lemmas.List.{get_or_default}
-use Rattle.std.specs.Vec.Iter.{into_iter_items, into_iter_len}
+use Rattle.std.specs.Vec.Iter.{into_iter_items}
 use Rattle.std.specs.declared.alloc.Global.{Global}
 use Rattle.std.specs.declared.thread.PromisedHandle.{PromisedHandle}
 use Rattle.iscsi_threads.specs.declared.port.Port.{Port}
@@ -24,13 +24,15 @@ loop-port-preserved g c =
       room = search rules;
       started = λ k h p l lo. below_more (λ (j : ℕ). (h' : PromisedHandle (Option Port) Posts) (p' : Port) (l' : Vec (List ℕ) Global) →
           ((get_or hs j h').promise.port.value ≡ get_or xs j p') × ((get_or hs j h').promise.list.now ≡ (get_or ls j l').items)) i
-        (λ j lo' h' p' l'. let at : get_or hs j h' ≡ _ = e.by_index.0 j h' (omega arith) in rw at (v.started j h' p' l' lo'))
-        (λ h' p' l'.
+          (λ j lo' h' p' l'. let at : get_or hs j h' ≡ _ = e.by_index.0 j h' (omega arith) in rw at (v.started j h' p' l' lo'))
+          (λ h' p' l'.
           let at : get_or hs i h' ≡ c.in-Ok.handle = ap (λ (n : ℕ). get_or hs n h') (sym v.count) ∙ e.by_index.1 h' refl in
           let list : c.index-lists-i.result ≡ get_or ls i l' = c.index-lists-i.is ∙ get_or_default ls i c.index-lists-i.result l' lt in
-          rw at (ap (λ (w : Posts). w.port.value) c.in-Ok.ensures.ok ∙ c.of.ensures ∙ next_of xs i _ p' _ next,
-            ap (λ (w : Posts). w.list.now) c.in-Ok.ensures.ok ∙ c.as_slice-list.ensures.value ∙ ap (λ (w : Vec (List ℕ) Global). w.items) list))
-        k lo h p l;
+          rw at (
+            ap (λ (w : Posts). w.port.value) c.in-Ok.ensures.ok ∙ c.of.ensures ∙ next_of xs i _ p' _ next,
+            ap (λ (w : Posts). w.list.now) c.in-Ok.ensures.ok ∙ c.as_slice-list.ensures.value ∙ ap (λ (w : Vec (List ℕ) Global). w.items) list,
+          ))
+          k lo h p l;
     }
 
 pub returns : goal.returns

@@ -9,5 +9,5 @@ invariant-loop-port g l = record {
   rest : into_iter_items l.port-iterator ≡ drop l.i l.fn.ports.items;
   left : l.i + into_iter_len l.port-iterator ≡ vec_len l.fn.ports;
   room : vec_len l.fn.ports ≤ vec_capacity l.handles;
-  started : AllPosts l.handles.items l.fn.ports.items l.lists l.i
+  started : AllPosts l.handles.items l.fn.ports.items l.lists l.i;
 }

@@ -1,11 +1,10 @@
-use Rattle.std.proofs.Common.{◌≡◌, ◌+◌, ◌<◌, ◌≤◌, ◌∙◌, ℕ, ap, sym, length, vec_len, map, below_more, rules, arith, get_or}
+use Rattle.std.proofs.Common.{◌≡◌, ◌<◌, ◌≤◌, ◌∙◌, ℕ, sym, length, below_more, rules, arith, get_or}
 use Rattle.std.specs.Prelude.{IsTrue}
 use Rattle.iscsi_threads.specs.declared.port.Port.{Port}
 use Rattle.iscsi_threads.specs.declared.inlet.Inlet.{Inlet}
 use Rattle.iscsi_threads.specs.Ports.{posted, port_ring}
 use Rattle.iscsi_threads.specs.Outlets.{got, inlet_ring}
 use Rattle.iscsi_threads.proofs.Lists.{map_at, some_of, same_length}
-use Rattle.iscsi_threads.proofs.Steps.{map_equal}
 use Rattle.iscsi_threads.proofs.ServeLemmas.{pairwise}
 use Rattle.iscsi_threads.proofs.quiet.are_empty.Goals as goal
 
@@ -27,12 +26,12 @@ loop-place-preserved c =
       inlets_len = e.len.0 ∙ v.inlets_len;
       ports_len = e.len.1 ∙ v.ports_len;
       empty = λ k p inlet lt. below_more (λ (j : ℕ). (q : Port) (r : Inlet) → posted (get_or ports j q) ≡ got (get_or inlets j r)) i
-        (λ j less q r. v.empty j q r less)
-        (λ q r. let a = some_of c.loop-place.ports.items i low in let b = some_of c.loop-place.inlets.items i low' in
+          (λ j less q r. v.empty j q r less)
+          (λ q r. let a = some_of c.loop-place.ports.items i low in let b = some_of c.loop-place.inlets.items i low' in
           sym (map_at posted posted c.loop-place.ports.items ports i a q v.all_posted low was)
           ∙ e.empty a b yes
           ∙ map_at got got c.loop-place.inlets.items inlets i b r v.all_got low' was')
-        k lt p inlet;
+          k lt p inlet;
     }
 
 pub returns-clause-empty : goal.returns-clause-empty

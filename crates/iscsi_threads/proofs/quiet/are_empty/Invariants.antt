@@ -13,5 +13,5 @@ invariant-loop-place l = record {
   port_rings : map port_ring l.ports.items ≡ map port_ring l.initial.ports.items;
   inlets_len : vec_len l.inlets ≡ vec_len l.initial.inlets;
   ports_len : vec_len l.ports ≡ vec_len l.initial.ports;
-  empty : (k : ℕ) (p : Port) (inlet : Inlet) → k < l.place → posted (get_or l.initial.ports.items k p) ≡ got (get_or l.initial.inlets.items k inlet)
+  empty : (k : ℕ) (p : Port) (inlet : Inlet) → k < l.place → posted (get_or l.initial.ports.items k p) ≡ got (get_or l.initial.inlets.items k inlet);
 }

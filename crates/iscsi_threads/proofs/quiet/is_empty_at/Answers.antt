@@ -1,4 +1,4 @@
-use Rattle.std.proofs.Common.{◌≡◌, ◌∙◌, ◌<◌, ap, sym, length, rules, arith, get_or}
+use Rattle.std.proofs.Common.{◌∙◌, ◌<◌, ap, sym, length, rules}
 use Rattle.iscsi_threads.specs.Ports.{posted, port_ring}
 use Rattle.iscsi_threads.specs.Outlets.{got, inlet_ring}
 use Rattle.iscsi_threads.proofs.Lists.{map_kept, map_at, get_same}
@@ -19,9 +19,9 @@ returns-clause-posted c = map_kept posted c.args.ports.now.items c.args.at _ _ c
 
 pub returns-clause-rings : goal.returns-clause-rings
 returns-clause-rings c = (
-    map_kept inlet_ring c.args.inlets.now.items c.args.at _ _ c.index_mut.ensures.value c.is_empty.ensures.rings.0,
-    map_kept port_ring c.args.ports.now.items c.args.at _ _ c.index_mut-2.ensures.value c.is_empty.ensures.rings.1,
-  )
+  map_kept inlet_ring c.args.inlets.now.items c.args.at _ _ c.index_mut.ensures.value c.is_empty.ensures.rings.0,
+  map_kept port_ring c.args.ports.now.items c.args.at _ _ c.index_mut-2.ensures.value c.is_empty.ensures.rings.1,
+)
 
 pub returns-clause-empty : goal.returns-clause-empty
 returns-clause-empty c = λ p i yes.

@@ -1,8 +1,8 @@
-use Rattle.std.proofs.Common.{◌≡◌, ◌∙◌, ap, sym, subst}
+use Rattle.std.proofs.Common.{◌≡◌, sym, subst}
 use Rattle.iscsi_history.specs.Settings.{Setting}
 use Rattle.iscsi_session.specs.Settings.{setting_of}
 use Rattle.iscsi_threads.specs.Loops.{setting}
-use Rattle.iscsi_threads.specs.Serving.{Ran, ServedBy}
+use Rattle.iscsi_threads.specs.Serving.{Ran}
 use Rattle.iscsi_threads.proofs.ServedLemmas.{served_by}
 use Rattle.iscsi_threads.proofs.serving.serve_unlogged.Goals as goal
 

@@ -7,5 +7,5 @@ abbrev pub invariant-loop : goal.invariant-loop
 invariant-loop g l = record {
   same : SameLoop l.initial.core l.core;
   rings : map port_ring l.ports.items ≡ map port_ring l.initial.ports.items;
-  posted : map posted l.ports.items ≡ map posted l.initial.ports.items
+  posted : map posted l.ports.items ≡ map posted l.initial.ports.items;
 }

@@ -1,9 +1,8 @@
-use Rattle.std.proofs.Common.{refl, ◌≡◌, ℕ, ◌<◌, ◌++◌, [], List, ◌∙◌, ap, sym, rules, arith, get_or, length, vec_len, map, Vec, subst}
+use Rattle.std.proofs.Common.{◌≡◌, ℕ, ◌<◌, ◌++◌, [], List, ◌∙◌, ap, sym, rules, arith, get_or, length, vec_len, map, subst}
 use Rattle.std.specs.Prelude.{IsTrue}
 use Rattle.std.proofs.lemmas.List.{length-map, length-replicate}
-use Rattle.iscsi_threads.specs.declared.port.Port.{Port}
 use Rattle.iscsi_threads.specs.Ports.{posted, taken, port_ring, unit_rings}
-use Rattle.iscsi_threads.specs.Promises.{AllPosts, AllPostedOn, AllWorks, AllWorkedOn}
+use Rattle.iscsi_threads.specs.Promises.{AllPosts, AllWorks}
 use Rattle.iscsi_threads.proofs.Lists.{some_of, same_length, map_at}
 use Rattle.iscsi_threads.proofs.ServeLemmas.{none_answered, each_empty, PostsBack, posts_back, WorksBack, works_back}
 use Rattle.iscsi_threads.proofs.serving.within.Goals as goal
@@ -60,10 +59,10 @@ returns-clause-ran g c =
       ports_len = omega (arith, len, c.requires.1, many);
       units_len = sym (length-map back_units unit_rings) ∙ ap length w.rings ∙ length-map units unit_rings ∙ sym (length-map units taken) ∙ ap length was.taken_are ∙ length-replicate _ [];
       posted_are = λ i p x lt.
-        let low : i < length ports = omega (arith, lt, c.requires.1, many) in
-        let q = some_of back i (subst (λ n. i < n) (sym counts) low) in let r = some_of ports i low in
-        map_at posted posted ends back i p q c.turn_until_quiet.ensures.posted (subst (λ n. i < n) (sym len) low) (subst (λ n. i < n) (sym counts) low)
-        ∙ b.posted_more i r q x low ∙ ap (λ (l : List (List ℕ)). l ++ (get_or lists i x).items) (each_empty posted ports _ was.posted_are i r low);
+          let low : i < length ports = omega (arith, lt, c.requires.1, many) in
+          let q = some_of back i (subst (λ n. i < n) (sym counts) low) in let r = some_of ports i low in
+          map_at posted posted ends back i p q c.turn_until_quiet.ensures.posted (subst (λ n. i < n) (sym len) low) (subst (λ n. i < n) (sym counts) low)
+          ∙ b.posted_more i r q x low ∙ ap (λ (l : List (List ℕ)). l ++ (get_or lists i x).items) (each_empty posted ports _ was.posted_are i r low);
       quiet = quiet.quiet;
       in_turn = λ i q lt. w.in_turn i q (omega (arith, lt, joined'.0, works.0, many', returned'));
     }

@@ -7,5 +7,5 @@ invariant-loop g l = record {
   rings : unit_rings l.port ≡ unit_rings l.initial.port;
   taken : taken l.port ≡ taken l.initial.port;
   answered : answered l.port ≡ answered l.initial.port;
-  job : l.job ≡ l.initial.job
+  job : l.job ≡ l.initial.job;
 }

@@ -1,4 +1,4 @@
-use Rattle.std.proofs.Common.{refl, ◌≡◌, ℕ, ◌+◌, ◌<◌, ◌∙◌, ◌∷◌, ap, sym, drop, get_or, below_more, rules, arith, vec_len}
+use Rattle.std.proofs.Common.{refl, ◌≡◌, ℕ, ◌+◌, ◌∙◌, ◌∷◌, sym, drop, get_or, below_more, rules, arith, vec_len}
 use Rattle.std.specs.Vec.Iter.{into_iter_items}
 use Rattle.std.specs.declared.thread.PromisedHandle.{PromisedHandle}
 use Rattle.iscsi_threads.specs.declared.port.UnitPort.{UnitPort}
@@ -21,12 +21,12 @@ loop-handle-preserved g c =
       room = search rules;
       done = λ k h q lo. below_more (λ (j : ℕ). (h' : PromisedHandle UnitPort Works) (q' : UnitPort) →
           (unit_rings (get_or ys j q') ≡ unit_rings (get_or xs j h').promise.port.value) × InTurn (get_or ys j q')) i
-        (λ j l h' q'. let at : get_or ys j q' ≡ _ = e.by_index.0 j q' l in rw at (v.done j h' q' l))
-        (λ h' q'.
+          (λ j l h' q'. let at : get_or ys j q' ≡ _ = e.by_index.0 j q' l in rw at (v.done j h' q' l))
+          (λ h' q'.
           let at : get_or ys i q' ≡ c.join-port.result = e.by_index.1 q' refl in
           let here : c.in-Some.handle ≡ get_or xs i h' = next_of xs i _ h' _ next in
           rw (at, ← here) c.join-port.ensures)
-        k (rw more at lo) h q;
+          k (rw more at lo) h q;
     }
 
 pub returns : goal.returns

@@ -1,5 +1,5 @@
-use Rattle.std.proofs.Common.{refl, ◌≡◌, ℕ, ◌+◌, ◌<◌, ◌∙◌, ◌∷◌, ap, sym, drop, get_or, below_more, rules, arith, vec_len}
-use Rattle.std.specs.Vec.Iter.{into_iter_items, into_iter_len}
+use Rattle.std.proofs.Common.{refl, ◌≡◌, ℕ, ◌∙◌, ◌∷◌, ap, sym, drop, get_or, below_more, rules, arith}
+use Rattle.std.specs.Vec.Iter.{into_iter_items}
 use Rattle.std.specs.declared.thread.PromisedHandle.{PromisedHandle}
 use Rattle.iscsi_threads.specs.declared.port.UnitPort.{UnitPort}
 use Rattle.iscsi_threads.specs.declared.working.Works.{Works}
@@ -19,9 +19,9 @@ loop-port-preserved g c =
       left = search rules;
       room = search rules;
       started = λ k h p lo. below_more (λ (j : ℕ). (h' : PromisedHandle UnitPort Works) (p' : UnitPort) → (get_or hs j h').promise.port.value ≡ get_or xs j p') i
-        (λ j l h' p'. let at : get_or hs j h' ≡ _ = e.by_index.0 j h' (omega arith) in rw at (v.started j h' p' l))
-        (λ h' p'.
+          (λ j l h' p'. let at : get_or hs j h' ≡ _ = e.by_index.0 j h' (omega arith) in rw at (v.started j h' p' l))
+          (λ h' p'.
           let at : get_or hs i h' ≡ c.in-Ok.handle = ap (λ (n : ℕ). get_or hs n h') (sym v.count) ∙ e.by_index.1 h' refl in
           rw at (ap (λ (w : Works). w.port.value) c.in-Ok.ensures.ok ∙ c.of.ensures ∙ next_of xs i _ p' _ next))
-        k lo h p;
+          k lo h p;
     }

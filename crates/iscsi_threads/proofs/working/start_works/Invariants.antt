@@ -9,5 +9,5 @@ invariant-loop-port g l = record {
   rest : into_iter_items l.port-iterator ≡ drop l.unit l.fn.ports.items;
   left : l.unit + into_iter_len l.port-iterator ≡ vec_len l.fn.ports;
   room : vec_len l.fn.ports ≤ vec_capacity l.handles;
-  started : AllWorks l.handles.items l.fn.ports.items l.unit
+  started : AllWorks l.handles.items l.fn.ports.items l.unit;
 }

@@ -1,6 +1,5 @@
-use Rattle.std.proofs.Common.{◌≡◌, ◌++◌, ◌∷◌, [], ◌∙◌, List, ℕ, ap, sym, map}
+use Rattle.std.proofs.Common.{◌++◌, ◌∷◌, [], ◌∙◌, List, ℕ, ap, sym, map}
 use Rattle.std.proofs.lemmas.List.{map-append}
-use Rattle.iscsi_threads.specs.declared.job.Job.{Job}
 use Rattle.iscsi_threads.specs.Ports.{taken}
 use Rattle.iscsi_threads.specs.Outcomes.{ticket_of}
 use Rattle.iscsi_threads.specs.Works.{ticket_answered}

@@ -7,5 +7,5 @@ use Rattle.iscsi_threads.proofs.working.work_all.Given as goal
 abbrev pub invariant-loop : goal.invariant-loop
 invariant-loop g l = record {
   rings : unit_rings l.port ≡ unit_rings l.initial.port;
-  turn : map ticket_answered (answered l.port) ≡ map ticket_of (taken l.port)
+  turn : map ticket_answered (answered l.port) ≡ map ticket_of (taken l.port);
 }

@@ -1,13 +1,11 @@
-use Rattle.std.specs.Prelude.{refl, None}
-use Rattle.std.proofs.Common.{◌≡◌, ℕ, ◌+◌, ◌-◌, ◌*◌, ◌<◌, ◌≤◌, ◌∙◌, ap, sym, subst, rules, arith, List, [], ◌∷◌, ◌++◌, length, vec_len, vec_capacity, map, take, drop, true}
-use Rattle.std.specs.VecDeque.{deque_len, deque_capacity}
+use Rattle.std.specs.Prelude.{refl}
+use Rattle.std.proofs.Common.{◌≡◌, ℕ, ◌+◌, ◌<◌, ◌≤◌, ◌∙◌, ap, sym, subst, rules, arith, List, [], ◌∷◌, ◌++◌, length, vec_len, vec_capacity, map, true}
 use Rattle.std.proofs.lemmas.List.{length-map}
 use Rattle.iscsi_history.specs.declared.event.Event.{Event}
 use Rattle.iscsi_history.specs.declared.effect.Effect.{Effect}
-use Rattle.iscsi_history.specs.declared.effect.Numbers.{Numbers}
 use Rattle.iscsi_history.specs.Settings.{Setting}
 use Rattle.iscsi_session.specs.Settings.{setting_of}
-use Rattle.iscsi_history.specs.Run.{run_of, trace_of, next_entry}
+use Rattle.iscsi_history.specs.Run.{trace_of, next_entry}
 use Rattle.iscsi_history.specs.Agenda.{belongs}
 use Rattle.iscsi_session.specs.Refusals.{refusal_of}
 use Rattle.iscsi_session.specs.Standing.{effect_bound_of}
@@ -16,8 +14,8 @@ use Rattle.iscsi_threads.proofs.Turning.{belongs_polled, taken_next, only_memory
 use Rattle.iscsi_threads.specs.declared.job.Job.{Job}
 use Rattle.iscsi_threads.specs.Desks.{seen, jobs_from, EnterAbove}
 use Rattle.iscsi_threads.proofs.DormantLemmas.{enters_above}
-use Rattle.iscsi_threads.specs.Ends.{Polled, put_jobs}
-use Rattle.iscsi_threads.specs.Journal.{cids_of, parts, dones, all_jobs}
+use Rattle.iscsi_threads.specs.Ends.{Polled}
+use Rattle.iscsi_threads.specs.Journal.{cids_of, parts, dones}
 use Rattle.iscsi_threads.specs.Outlets.{given, heard, got}
 use Rattle.iscsi_threads.proofs.session_loop.Loop.turn.Goals as goal
 
@@ -94,7 +92,7 @@ invariant_of-self-2 c =
     let lens : length j ≡ length from = search rules in
     let answers : map heard c.fill_all.new.outlets.items ≡ dones n j from = c.fill_all.ensures.heard ∙ c.spread-has_room.ensures.heard ∙ self.answers in
     let polled : Polled cids (parts cids j) (map got c.poll.new.inlets.items) (dones n j from) (map heard c.poll.new.outlets.items) e f =
-      rw (c.deref-2.ensures.value, self.headers, answers) at c.in-Some.ensures.some
+    rw (c.deref-2.ensures.value, self.headers, answers) at c.in-Some.ensures.some
     in
     let known = c.make_room.ensures.desk ∙ self.known in
     record {
@@ -106,7 +104,7 @@ invariant_of-self-2 c =
       answers = rw (size, events, places) (dones_after cids n j from _ _ _ e f lens polled);
       known = rw events (known_next o j e _ _ _ known effects c.note_all.ensures.known);
       jobs = rw (size, events) (jobs_after n o j e _ _ (map given c.spread-has_room.new.outlets.items) _ _ _ (c.spread-has_room.ensures.jobs ∙ self.jobs) known effects
-        (c.poll.ensures.given ∙ c.fill_all.ensures.given) (c.note_all.ensures.jobs ∙ ap (λ (w : List Job). w ++ jobs_from (seen c.make_room.new.desk) (c.split_at.result.1.now)) lists.0));
+          (c.poll.ensures.given ∙ c.fill_all.ensures.given) (c.note_all.ensures.jobs ∙ ap (λ (w : List Job). w ++ jobs_from (seen c.make_room.new.desk) (c.split_at.result.1.now)) lists.0));
     }
 
 pub returns-clause-ok : goal.returns-clause-ok
@@ -115,8 +113,7 @@ returns-clause-ok c =
     let o : Setting = setting_of self.options in
     let j = self.journal.items in
     let e = c.in-Some.event in
-    let lists = c.make_room.ensures.lists in
-    (
+    let lists = c.make_room.ensures.lists in (
       c.push_reserved.ensures.items ∙ ap (λ (w : List Event). w ++ e ∷ []) lists.1,
       (c.in-Some.source, c.push_reserved-2.ensures.items ∙ ap (λ (w : List ℕ). w ++ c.in-Some.source ∷ []) lists.2),
       c.in-Ok-step.ensures.numbers o j self.stands,
