@@ -14,8 +14,14 @@ use std::time::Clock;
 use std::{env, io};
 
 /// What the words ask for: how many events, and how many effects came of them.
-fn run<R: Threads + Wait + Clock + Sync>(rt: &R, alloc: Global, words: &[String]) -> Option<(u64, u64)> {
-    let number = |place: usize| words.get(place).and_then(|word| word.as_str().parse::<u32>().ok());
+fn run<R: Threads + Wait + Clock + Sync>(
+    rt: &R,
+    alloc: Global,
+    words: &[String],
+) -> Option<(u64, u64)> {
+    let number = |place: usize| words
+        .get(place)
+        .and_then(|word| word.as_str().parse::<u32>().ok());
     match words.get(1)?.as_str() {
         "session" => turning::session(alloc, number(2)?, number(3)?, number(4)?, number(5)?),
         "turns" => turning::turns(alloc, number(2)?, number(3)?, number(4)?, number(5)?),
@@ -33,7 +39,9 @@ fn main(rt: HostRuntime) -> io::Result<ExitCode> {
         turning::turns(rt.alloc(), 2, 2, 3, 4)
     };
     let Some((events, effects)) = done else {
-        println!(rt; "usage: iscsi_bench session CONNS UNITS DORMANT BLOCKS | turns CONNS UNITS DORMANT BLOCKS | serve SIDES COMMANDS | sleep UNITS SECONDS")?;
+        println!(rt;
+            "usage: iscsi_bench session CONNS UNITS DORMANT BLOCKS | turns CONNS UNITS DORMANT BLOCKS | serve SIDES COMMANDS | sleep UNITS SECONDS"
+        )?;
         return Ok(ExitCode::FAILURE);
     };
     println!(rt; "{events} events, {effects} effects")?;

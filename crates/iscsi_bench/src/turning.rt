@@ -32,12 +32,23 @@ pub(crate) fn session(
     for _ in 0..blocks {
         let first = sn;
         for _ in 0..BLOCK {
-            counts = plus(counts, arrive(&mut session, &mut out, conn, command(sn, number, dormant > 0))?);
+            counts = plus(
+                counts,
+                arrive(
+                    &mut session,
+                    &mut out,
+                    conn,
+                    command(sn, number, dormant > 0),
+                )?,
+            );
             sn = sn.wrapping_add(1);
         }
         for k in 0..BLOCK {
             let ticket = u64::from(first.wrapping_add(k));
-            counts = plus(counts, step(&mut session, &mut out, &Event::Done { ticket, status: 0 })?);
+            counts = plus(
+                counts,
+                step(&mut session, &mut out, &Event::Done { ticket, status: 0 })?,
+            );
         }
     }
     Some(counts)
@@ -45,7 +56,10 @@ pub(crate) fn session(
 
 // One more event of so many effects.
 fn plus(counts: Counts, effects: usize) -> Counts {
-    (counts.0.wrapping_add(1), counts.1.wrapping_add(effects as u64))
+    (
+        counts.0.wrapping_add(1),
+        counts.1.wrapping_add(effects as u64),
+    )
 }
 
 // Steps the session: how many effects came of it.
@@ -66,7 +80,13 @@ fn arrive(
 }
 
 /// The same events by turns of a loop with so many connections and units, of which the last of each is busy.
-pub(crate) fn turns(alloc: Global, conns: u32, units: u32, dormant: u32, blocks: u32) -> Option<Counts> {
+pub(crate) fn turns(
+    alloc: Global,
+    conns: u32,
+    units: u32,
+    dormant: u32,
+    blocks: u32,
+) -> Option<Counts> {
     let (mut core, mut ports, mut unit_ports) = open(alloc, options(alloc, conns, units)?).ok()?;
     let port = ports.last_mut()?;
     let unit = unit_ports.last_mut()?;
