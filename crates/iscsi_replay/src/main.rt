@@ -5,6 +5,7 @@
 mod command_line;
 mod fault;
 mod line;
+mod named;
 mod parse;
 mod program;
 mod reading;
@@ -16,14 +17,13 @@ mod settings;
 mod sink;
 mod source;
 mod stopping;
-#[cfg(test)]
-mod thread_tests;
 mod threading;
 mod watched;
 
 ghost use Rattle.std.specs.Prelude.{◌≡◌, IfOk, map, string_bytes};
 
 use fault::ReplayFault;
+use named::Named;
 use program::replay_as_told;
 use std::alloc::Global;
 use std::env::Env;
@@ -37,7 +37,7 @@ use watched::Watched;
 
 /// The words of the command line, the program's name first.
 fn words<R: Env + AllocGlobal>(rt: &R) -> Result<Vec<String>, Stop> {
-    match env::args(rt) {
+    match env::args(&(Named::new(rt), rt.alloc())) {
         Ok(args) => match args.collect(rt.alloc()) {
             Ok(words) => Ok(words),
             Err(_) => Err(Stop::Fault(ReplayFault::NoMemory)),

@@ -57,13 +57,17 @@ impl Stop {
         }
     }
 
-    /// Tells why the program ends, and answers its status, or 1 where the help couldn't be printed.
+    /// Tells why the program ends, and answers its status, or that of `Write` where the help couldn't be printed.
     pub fn report<R: Print + Eprint>(&self, rt: &R) -> ExitCode
         ensures refused { status_of self.now ≢ 0 → exit_status result ≡ status_of self.now }
         ensures help { status_of self.now ≡ 0 → exit_status result ≤ 1 }
     {
         match (self.tell(rt), self.status()) {
-            (Err(_), 0) => ExitCode::FAILURE,
+            (Err(_), 0) => {
+                let unwritten = Stop::Fault(ReplayFault::Write);
+                let _untold = unwritten.tell(rt);
+                ExitCode::from(unwritten.status())
+            }
             (_, status) => ExitCode::from(status),
         }
     }

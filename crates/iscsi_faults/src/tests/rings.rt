@@ -1,12 +1,13 @@
-use super::{Rig, command, first, options, request};
+use super::{command, first, options, request};
+use crate::rig::Rig;
 use iscsi_session::{Attr, Event};
-use iscsi_threads::{LoopFault, Turn, open};
+use iscsi_threads::{LoopFault, PostFault, Turn, open};
 use std::test::Fail;
 
 #[test]
 fn carries_headers_jobs_and_answers(rt: HostRuntime) -> Result<(), Fail> {
     let alloc = rt.alloc();
-    let Some(mut rig) = Rig::open(alloc, options(alloc, &[(1, 1)], 1, 1000)?) else {
+    let Ok(mut rig) = Rig::open(alloc, options(alloc, &[(1, 1)], 1, 1000)?) else {
         assert!(rt; false, "not opened");
         return Ok(());
     };
@@ -14,10 +15,12 @@ fn carries_headers_jobs_and_answers(rt: HostRuntime) -> Result<(), Fail> {
     for sn in 1..65 {
         rig.must_post(&rt, 0, command(sn, 0));
     }
-    assert_eq!(rt; rig.post(0, command(65, 0)), Some(command(65, 0)));
+    assert!(rt;
+        matches!(rig.post(0, command(65, 0)), Err(PostFault::Full(back)) if back == command(65, 0))
+    );
     assert_eq!(rt; rig.turn_all(&rt, &mut out), 64);
     rig.must_post(&rt, 0, command(65, 0));
-    assert!(rt; rig.turn(&rt, &mut out).is_some());
+    assert!(rt; rig.must_turn(&rt, &mut out).is_some());
     let mut jobs = Vec::new(alloc);
     for ticket in 1..65u64 {
         let Some(job) = rig.take(0) else {
@@ -32,30 +35,30 @@ fn carries_headers_jobs_and_answers(rt: HostRuntime) -> Result<(), Fail> {
         jobs.push(job)?;
     }
     assert!(rt; rig.take(0).is_none());
-    assert!(rt; rig.turn(&rt, &mut out).is_none());
+    assert!(rt; rig.must_turn(&rt, &mut out).is_none());
     let Some(last) = rig.take(0) else {
         assert!(rt; false, "no job behind the backlog");
         return Ok(());
     };
     assert_eq!(rt; last.ticket(), 65);
     for job in jobs {
-        assert!(rt; rig.answer(0, job, 0).is_none());
+        assert!(rt; rig.answer(0, job, 0).is_ok());
     }
-    let Some(last) = rig.answer(0, last, 0) else {
+    let Err(last) = rig.answer(0, last, 0) else {
         assert!(rt; false, "the ring has a place too many");
         return Ok(());
     };
     assert!(rt;
         matches!(
-            rig.turn(&rt, &mut out),
+            rig.must_turn(&rt, &mut out),
             Some(Event::Done {
                 ticket: 1,
                 status: 0
             })
         )
     );
-    assert!(rt; rig.answer(0, last, 0).is_none());
-    let Some(outcome) = rig.finish() else {
+    assert!(rt; rig.answer(0, last, 0).is_ok());
+    let Ok(outcome) = rig.finish() else {
         assert!(rt; false, "not finished");
         return Ok(());
     };
@@ -72,7 +75,7 @@ fn carries_headers_jobs_and_answers(rt: HostRuntime) -> Result<(), Fail> {
 #[test]
 fn finish_hands_out_what_is_left(rt: HostRuntime) -> Result<(), Fail> {
     let alloc = rt.alloc();
-    let Some(mut rig) = Rig::open(alloc, options(alloc, &[(1, 1)], 1, 1000)?) else {
+    let Ok(mut rig) = Rig::open(alloc, options(alloc, &[(1, 1)], 1, 1000)?) else {
         assert!(rt; false, "not opened");
         return Ok(());
     };
@@ -81,11 +84,11 @@ fn finish_hands_out_what_is_left(rt: HostRuntime) -> Result<(), Fail> {
         rig.must_post(&rt, 0, command(sn, 0));
     }
     // The second job is fresh: the turn that would move it to its ring never comes.
-    assert!(rt; rig.turn(&rt, &mut out).is_some());
-    assert!(rt; rig.turn(&rt, &mut out).is_some());
+    assert!(rt; rig.must_turn(&rt, &mut out).is_some());
+    assert!(rt; rig.must_turn(&rt, &mut out).is_some());
     assert_eq!(rt; rig.work(&rt, 0, 8), (1, 1));
     assert!(rt; rig.take(0).is_none());
-    let Some(outcome) = rig.finish() else {
+    let Ok(outcome) = rig.finish() else {
         assert!(rt; false, "not finished");
         return Ok(());
     };
@@ -99,13 +102,13 @@ fn finish_hands_out_what_is_left(rt: HostRuntime) -> Result<(), Fail> {
 #[test]
 fn takes_no_more_events_than_the_options_allow(rt: HostRuntime) -> Result<(), Fail> {
     let alloc = rt.alloc();
-    let Some(mut rig) = Rig::open(alloc, options(alloc, &[(1, 1)], 1, 1)?) else {
+    let Ok(mut rig) = Rig::open(alloc, options(alloc, &[(1, 1)], 1, 1)?) else {
         assert!(rt; false, "not opened");
         return Ok(());
     };
     let mut out = Vec::new(alloc);
     rig.must_post(&rt, 0, command(1, 0));
-    assert!(rt; rig.turn(&rt, &mut out).is_some());
+    assert!(rt; rig.must_turn(&rt, &mut out).is_some());
     // Whether an item waits or not.
     assert!(rt; rig.is_exhausted(&mut out));
     rig.must_post(&rt, 0, command(2, 0));
@@ -132,7 +135,7 @@ fn answers_queries_at_the_second_level(rt: HostRuntime) -> Result<(), Fail> {
     let alloc = rt.alloc();
     let mut second = options(alloc, &[(1, 1)], 1, 1000)?;
     second.level = 2;
-    let Some(mut rig) = Rig::open(alloc, second) else {
+    let Ok(mut rig) = Rig::open(alloc, second) else {
         assert!(rt; false, "not opened");
         return Ok(());
     };
@@ -140,12 +143,12 @@ fn answers_queries_at_the_second_level(rt: HostRuntime) -> Result<(), Fail> {
     rig.must_post(&rt, 0, request(1, 0x81, 0xa1, 0, 1));
     // QUERY TASK of the command, immediate.
     rig.must_post(&rt, 0, request(0x42, 0x89, 0xb1, 0xa1, 2));
-    let Ok(Turn::Took(_, _)) = rig.core.turn(&mut out) else {
+    let Ok(Turn::Took(_, _)) = rig.turn(&mut out) else {
         assert!(rt; false, "the command wasn't taken");
         return Ok(());
     };
     out.clear();
-    let Ok(Turn::Took(event, numbers)) = rig.core.turn(&mut out) else {
+    let Ok(Turn::Took(event, numbers)) = rig.turn(&mut out) else {
         assert!(rt; false, "the query wasn't taken");
         return Ok(());
     };

@@ -1,11 +1,12 @@
-use super::{Rig, command, options, request};
+use super::{command, options, request};
+use crate::rig::Rig;
 use iscsi_session::{Attr, Effect, Event, Why};
 use std::test::Fail;
 
 #[test]
 fn gives_the_job_of_a_command_that_left_as_it_was_enabled(rt: HostRuntime) -> Result<(), Fail> {
     let alloc = rt.alloc();
-    let Some(mut rig) = Rig::open(alloc, options(alloc, &[(1, 1)], 1, 4)?) else {
+    let Ok(mut rig) = Rig::open(alloc, options(alloc, &[(1, 1)], 1, 4)?) else {
         assert!(rt; false, "not opened");
         return Ok(());
     };
@@ -17,7 +18,7 @@ fn gives_the_job_of_a_command_that_left_as_it_was_enabled(rt: HostRuntime) -> Re
     rig.must_post(&rt, 0, request(2, 0x82, 0xb4, 0xffffffff, 4));
     rig.must_post(&rt, 0, request(2, 0x81, 0xb3, 0xa1, 3));
     for _ in 0..4 {
-        assert!(rt; rig.turn(&rt, &mut out).is_some());
+        assert!(rt; rig.must_turn(&rt, &mut out).is_some());
     }
     // The turn is refused, and moves the jobs all the same.
     assert!(rt; rig.is_exhausted(&mut out));
@@ -38,7 +39,7 @@ fn gives_the_job_of_a_command_that_left_as_it_was_enabled(rt: HostRuntime) -> Re
 #[test]
 fn serves_the_rings_in_turn(rt: HostRuntime) -> Result<(), Fail> {
     let alloc = rt.alloc();
-    let Some(mut rig) = Rig::open(alloc, options(alloc, &[(7, 1), (3, 1)], 2, 1000)?) else {
+    let Ok(mut rig) = Rig::open(alloc, options(alloc, &[(7, 1), (3, 1)], 2, 1000)?) else {
         assert!(rt; false, "not opened");
         return Ok(());
     };
@@ -49,25 +50,25 @@ fn serves_the_rings_in_turn(rt: HostRuntime) -> Result<(), Fail> {
     }
     for k in 0..8u16 {
         let want = if k % 2 == 0 { 7 } else { 3 };
-        let taken = rig.turn(&rt, &mut out);
+        let taken = rig.must_turn(&rt, &mut out);
         assert!(rt;
             matches!(taken, Some(Event::Arrive { conn, .. }) if conn == want),
             "turn {k}"
         );
     }
-    assert!(rt; rig.turn(&rt, &mut out).is_none());
+    assert!(rt; rig.must_turn(&rt, &mut out).is_none());
     for k in 0..4u64 {
         assert_eq!(rt; rig.work(&rt, 0, 0).0, 2 * k + 1);
         assert_eq!(rt; rig.work(&rt, 1, 2).0, 2 * k + 2);
     }
     for k in 0..8u64 {
-        let taken = rig.turn(&rt, &mut out);
+        let taken = rig.must_turn(&rt, &mut out);
         assert!(rt;
             matches!(taken, Some(Event::Done { ticket, .. }) if ticket == k + 1),
             "answer {k}"
         );
     }
-    let Some(outcome) = rig.finish() else {
+    let Ok(outcome) = rig.finish() else {
         assert!(rt; false, "not finished");
         return Ok(());
     };
@@ -82,7 +83,7 @@ fn serves_the_rings_in_turn(rt: HostRuntime) -> Result<(), Fail> {
 #[test]
 fn takes_what_came_on_a_closed_connection(rt: HostRuntime) -> Result<(), Fail> {
     let alloc = rt.alloc();
-    let Some(mut rig) = Rig::open(alloc, options(alloc, &[(1, 1), (2, 1)], 1, 1000)?) else {
+    let Ok(mut rig) = Rig::open(alloc, options(alloc, &[(1, 1), (2, 1)], 1, 1000)?) else {
         assert!(rt; false, "not opened");
         return Ok(());
     };
@@ -91,7 +92,7 @@ fn takes_what_came_on_a_closed_connection(rt: HostRuntime) -> Result<(), Fail> {
     let mut logout = request(0x46, 0x81, 0xc1, 0, 1);
     logout[21] = 2;
     rig.must_post(&rt, 0, logout);
-    assert!(rt; rig.turn(&rt, &mut out).is_some());
+    assert!(rt; rig.must_turn(&rt, &mut out).is_some());
     assert!(rt;
         out.iter()
             .any(|effect| matches!(effect, Effect::CloseConn { conn: 2 }))
@@ -103,7 +104,7 @@ fn takes_what_came_on_a_closed_connection(rt: HostRuntime) -> Result<(), Fail> {
     assert_eq!(rt; rig.turn_all(&rt, &mut out), 64);
     assert_eq!(rt; out.len(), 64);
     assert!(rt; out.iter().all(|effect| matches!(effect, Effect::Ignore { why: Why::Closed })));
-    let Some(outcome) = rig.finish() else {
+    let Ok(outcome) = rig.finish() else {
         assert!(rt; false, "not finished");
         return Ok(());
     };
@@ -119,7 +120,7 @@ fn looks_at_the_last_of_many_rings(rt: HostRuntime) -> Result<(), Fail> {
     for cid in 0..64u16 {
         conns.push((cid, 1))?;
     }
-    let Some(mut rig) = Rig::open(alloc, options(alloc, &conns, 256, 1000)?) else {
+    let Ok(mut rig) = Rig::open(alloc, options(alloc, &conns, 256, 1000)?) else {
         assert!(rt; false, "not opened");
         return Ok(());
     };
@@ -136,7 +137,7 @@ fn looks_at_the_last_of_many_rings(rt: HostRuntime) -> Result<(), Fail> {
 #[test]
 fn hears_each_bell(rt: HostRuntime) -> Result<(), Fail> {
     let alloc = rt.alloc();
-    let Some(mut rig) = Rig::open(alloc, options(alloc, &[(1, 1), (2, 1)], 2, 1000)?) else {
+    let Ok(mut rig) = Rig::open(alloc, options(alloc, &[(1, 1), (2, 1)], 2, 1000)?) else {
         assert!(rt; false, "not opened");
         return Ok(());
     };
@@ -144,13 +145,13 @@ fn hears_each_bell(rt: HostRuntime) -> Result<(), Fail> {
     // A ring that still has something stays on the list when another one's bell is heard.
     rig.must_post(&rt, 0, command(1, 0));
     rig.must_post(&rt, 0, command(2, 1));
-    assert!(rt; rig.turn(&rt, &mut out).is_some());
+    assert!(rt; rig.must_turn(&rt, &mut out).is_some());
     rig.must_post(&rt, 1, command(3, 0));
     assert_eq!(rt; rig.turn_all(&rt, &mut out), 2);
     assert_eq!(rt; rig.work(&rt, 1, 0).0, 2);
     assert_eq!(rt; rig.work(&rt, 0, 0).0, 1);
     assert_eq!(rt; rig.work(&rt, 0, 0).0, 3);
-    assert!(rt; rig.turn(&rt, &mut out).is_some());
+    assert!(rt; rig.must_turn(&rt, &mut out).is_some());
     rig.must_post(&rt, 1, command(4, 1));
     assert_eq!(rt; rig.turn_all(&rt, &mut out), 3);
     // A backlog of several jobs goes on as places come free.

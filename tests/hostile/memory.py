@@ -1,0 +1,245 @@
+"""Requests for memory and for threads that are refused, one after the other, until a run meets no refusal."""
+
+import re
+
+from hostile.common import (
+    CASES,
+    DRIVER,
+    EXAMPLES,
+    NO_MEMORY,
+    NO_THREAD,
+    Tally,
+    compare,
+    run,
+    words_of,
+)
+from hostile.headers import command, nop_out
+from hostile.scripts import SCRIPTS, first_difference
+
+AGAIN = re.compile(rb"again: (\d+) steps, (\d+) turns, (\d+) ends, (\d+) lines, (\d+) from the start\n")
+# More requests than any run here makes.
+MOST = 5000
+
+
+def refusals(words, data, inject="ALLOC", **how):
+    """The runs in which the first request is refused, the second, and so on; the last run meets no refusal."""
+    for number in range(1, MOST):
+        ran = run(words, data, inject={inject: number}, **how)
+        yield number, ran
+        if ran.note is None or ran.note.refused == 0:
+            return
+    raise AssertionError(f"{MOST} requests")
+
+
+def small_cases():
+    """The cases with a recording of some kilobytes and a report."""
+    for status in sorted(CASES.glob("**/status")):
+        case = status.parent
+        recording, report = case / "recording", case / "report"
+        if recording.exists() and report.exists() and recording.stat().st_size < 5000:
+            if "--threads" not in words_of(case):
+                yield case
+
+
+def numbers_of(words):
+    """The options of a command line as the driver takes them: numbers in their places."""
+    given = {"--first": "1", "--window": "32", "--units": "1", "--depth": "64", "--level": "1"}
+    given.update(zip(words[::2], words[1::2]))
+    return [str(int(given.pop("--first"), 16)), *given.values()]
+
+
+def script_of(case):
+    """The lines of a case's recording that the driver knows: connections and events."""
+    lines = (line[2:] if line.startswith(b"> ") else line for line in (case / "recording").read_bytes().split(b"\n"))
+    return b"".join(line + b"\n" for line in lines if line[:1] in (b"c", b"C", b"D"))
+
+
+def other_answers(ran, expected):
+    """What is wrong with a run of the driver that must print this."""
+    if ran.status != 0:
+        return f"status {ran.status}"
+    return first_difference(ran.out, expected) if ran.out != expected else ""
+
+
+def sort_out(tallies, what, number, ran, wrong):
+    """Counts a refusal at the call that was made again for it, as the driver tells, or at the start."""
+    counts = AGAIN.search(ran.err)
+    if counts is None:
+        tallies[-1].judge(f"{what}, request {number}", wrong or "the driver told nothing")
+        return
+    for tally, count in zip(tallies, counts.groups()):
+        if int(count) > 0:
+            tally.judge(f"{what}, request {number}", wrong)
+
+
+def driver_tallies(steps, turns, ends, lines, starts):
+    """The classes of refusals of the driver's calls, with their floors."""
+    names = ("step", "turn", "finish", "the lines of a report", "open and serve, begun anew")
+    floors = (steps, turns, ends, lines, starts)
+    return [Tally(f"memory refused to {name}", floor) for name, floor in zip(names, floors)]
+
+
+def sessions():
+    """Every small case stepped by the driver: the report is the case's, whichever request is refused."""
+    tallies = driver_tallies(400, 0, 0, 400, 400)
+    for case in small_cases():
+        words = ["session", *numbers_of(words_of(case))]
+        report = (case / "report").read_bytes()
+        for number, ran in refusals(words, script_of(case), program=DRIVER):
+            sort_out(tallies, case.name, number, ran, other_answers(ran, report))
+    return [tally for tally in tallies if tally.floor > 0]
+
+
+def loops():
+    """Every script of a loop and its ports: the answers are the same, whichever request is refused."""
+    tallies = driver_tallies(0, 100, 100, 50, 200)
+    for make in SCRIPTS:
+        script = make()
+        for number, ran in refusals(script.words, script.text(), program=DRIVER):
+            sort_out(tallies, script.name, number, ran, other_answers(ran, script.expected()))
+    return [tally for tally in tallies if tally.floor > 0]
+
+
+def row_of_threads():
+    """Two connections with 100 commands each: the odd numbers for the first unit, the even ones for the second."""
+    lines = ["conn 1 00000001", "conn 2 00000001"]
+    for sn in range(1, 201):
+        lines.append(f"C {2 - sn % 2} {command(sn, sn, unit=1 - sn % 2)}")
+    return "".join(line + "\n" for line in lines).encode()
+
+
+def wrong_of_serve(ran):
+    """What is wrong with the outcome of `serve` for these commands, whatever the schedule was."""
+    if ran.status != 0:
+        return f"status {ran.status}: {ran.err[-200:]!r}"
+    lines = ran.out.decode().splitlines()
+    report = [line for line in lines if line[:2] in ("> ", "  ")]
+    delivered = [int(line.split()[2], 16) for line in report if line.startswith("  deliver ")]
+    done = [line.split()[2:] for line in report if line.startswith("> D ")]
+    if delivered != list(range(1, 201)):
+        return "other deliveries"
+    if len(done) != 200 or any(int(status, 16) != 100 + int(ticket) % 100 for ticket, status in done):
+        return "other completions"
+    if any(line != f"{line.rsplit(' ', 1)[0]} 0" for line in lines if line not in report and line != "end"):
+        return "something was left"
+    if ran.note.ended != ran.note.threads:
+        return f"{ran.note.threads - ran.note.ended} threads are left"
+    return wrong_of_journal(report)
+
+
+def wrong_of_journal(report):
+    """Whether a report isn't that of its own events."""
+    conns = "conn 1 00000001\nconn 2 00000001\n"
+    text = "".join(line + "\n" for line in report)
+    again = run(["--window", "1024", "--units", "2", "--depth", "128"], (conns + text).encode())
+    return compare(again, 0, text.encode(), b"")
+
+
+SERVE = ["serve", "1", "1024", "2", "128"]
+
+
+def serves():
+    """`serve` with each request refused, and with each thread refused; then it is called anew."""
+    tallies = []
+    for what, inject, floor in (("memory", "ALLOC", 200), ("a thread", "THREAD", 4)):
+        tally = Tally(f"{what} refused to serve", floor)
+        for number, ran in refusals(SERVE, row_of_threads(), inject, program=DRIVER):
+            tally.judge(f"{what}, {number}", wrong_of_serve(ran))
+        tallies.append(tally)
+    return tallies
+
+
+def recordings():
+    """The recordings that the program is given: a command, the examples, and one whose report is written in pieces."""
+    yield "one-command", [], (CASES / "one-command" / "recording").read_bytes()
+    for path in sorted(EXAMPLES.glob("*.recording")):
+        yield path.name, [], path.read_bytes()
+        yield path.name, ["--window", "4", "--units", "2"], path.read_bytes()
+    many = b"".join(b"C 1 %s\n" % nop_out(sn, sn).encode() for sn in range(1, 1001))
+    yield "a thousand NOP-Outs", [], b"conn 1 00000001\n" + many
+
+
+def wrong_of_replay(ran, report):
+    """What is wrong with a replay of which one request was refused: it can end with `NoMemory` and a front."""
+    if ran.status == 1 and ran.err == NO_MEMORY:
+        return "" if report.startswith(ran.out) else "what was written is no front of the report"
+    return compare(ran, 0, report, b"")
+
+
+def replays():
+    """The program with each request refused. A run with ample memory behind it gives the whole report."""
+    tally = Tally("memory refused to the program", 1500)
+    for name, words, data in recordings():
+        report = run(words, data).out
+        for number, ran in refusals(words, data):
+            tally.judge(f"{name}, request {number}", wrong_of_replay(ran, report))
+        tally.judge(f"{name}, anew", compare(run(words, data), 0, report, b""))
+    return tally
+
+
+def wrong_of_threads(ran, words, data):
+    """What is wrong with a replay by threads of which one request or one thread was refused."""
+    if ran.note is None or ran.note.ended != ran.note.threads:
+        return "a thread is left"
+    if ran.status == 1 and ran.err in (NO_MEMORY, NO_THREAD):
+        # an event whose lines may be cut off is left out
+        return wrong_of_events(ran.out[: ran.out.rfind(b"> ")], words, data) if ran.out else ""
+    if (ran.status, ran.err) != (0, b""):
+        return f"status {ran.status}: {ran.err[-200:]!r}"
+    return wrong_of_events(ran.out, words, data)
+
+
+def wrong_of_events(report, words, data):
+    """Whether this isn't the report of its own events."""
+    conns = b"".join(line + b"\n" for line in data.split(b"\n") if line.startswith(b"conn "))
+    return compare(run(words, conns + report), 0, report, b"")
+
+
+def threaded_replays():
+    """The program with threads, with each request refused, and then with each thread."""
+    tallies = []
+    for what, inject, floor in (("memory", "ALLOC", 2000), ("a thread", "THREAD", 50)):
+        tally = Tally(f"{what} refused to the program with threads", floor)
+        for name, words, data in recordings():
+            for number, ran in refusals(["--threads", *words], data, inject):
+                tally.judge(f"{name}, {what} {number}", wrong_of_threads(ran, words, data))
+        tallies.append(tally)
+    return tallies
+
+
+COMMAND_LINES = [
+    [],
+    ["--help"],
+    ["--first", "0000000a", "--window", "4", "--units", "2", "--depth", "3", "--level", "2", "--threads"],
+    ["--window=4"],
+    ["--window", "0"],
+    ["--window", "4", "--window", "5"],
+    ["--first", "x"],
+    ["--no-such-option"],
+    ["--threads", "--threads"],
+    ["word"],
+]
+
+
+def command_lines():
+    """Command lines with each request refused: `NoMemory`, or what comes without a refusal, where none was needed."""
+    tally = Tally("memory refused to the command line", 500)
+    data = (CASES / "one-command" / "recording").read_bytes()
+    for words in COMMAND_LINES:
+        usual = run(words, data)
+        for number, ran in refusals(words, data):
+            is_fault = ran.status == 1 and ran.err in (NO_MEMORY, NO_THREAD) and usual.out.startswith(ran.out)
+            is_refused = ran.status == usual.status == 2 and ran.err and not ran.out
+            wrong = "" if is_fault or is_refused else compare(ran, usual.status, usual.out, usual.err)
+            tally.judge(f"{' '.join(words)}, request {number}", wrong)
+    return tally
+
+
+CLASSES = [
+    ("memory refused to a session", sessions),
+    ("memory refused to a loop", loops),
+    ("memory and threads refused to serve", serves),
+    ("memory refused to the program", replays),
+    ("memory and threads refused to the program with threads", threaded_replays),
+    ("memory refused to the command line", command_lines),
+]
