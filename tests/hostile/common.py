@@ -67,7 +67,7 @@ class Tally:
             self.lost.append(f"{what}: {wrong}")
 
 
-def run(words=(), data=b"", inject=None, program=PROGRAM, **how):
+def run(words=(), data=b"", inject=None, program=None, **how):
     """Runs a program on some bytes, with the faults of `inject`, as {"ALLOC": 3}, whose names injector.c has."""
     environment = dict(os.environ)
     note = None
@@ -80,7 +80,7 @@ def run(words=(), data=b"", inject=None, program=PROGRAM, **how):
     if "stdin" not in how:
         how["input"] = data
     try:
-        ran = subprocess.run([str(program), *words], env=environment, **how)
+        ran = subprocess.run([str(program or PROGRAM), *words], env=environment, **how)
     except subprocess.TimeoutExpired as late:
         return Ran(None, late.stdout or b"", late.stderr or b"")
     counts = Note(*struct.unpack("4q", os.pread(note.fileno(), 32, 0))) if note else None

@@ -81,7 +81,7 @@ def driver_tallies(steps, turns, ends, lines, starts):
 
 def sessions():
     """Every small case stepped by the driver: the report is the case's, whichever request is refused."""
-    tallies = driver_tallies(400, 0, 0, 400, 400)
+    tallies = driver_tallies(500, 0, 0, 300, 1400)
     for case in small_cases():
         words = ["session", *numbers_of(words_of(case))]
         report = (case / "report").read_bytes()
@@ -92,7 +92,7 @@ def sessions():
 
 def loops():
     """Every script of a loop and its ports: the answers are the same, whichever request is refused."""
-    tallies = driver_tallies(0, 100, 100, 50, 200)
+    tallies = driver_tallies(0, 980, 630, 44, 730)
     for make in SCRIPTS:
         script = make()
         for number, ran in refusals(script.words, script.text(), program=DRIVER):
@@ -141,7 +141,7 @@ SERVE = ["serve", "1", "1024", "2", "128"]
 def serves():
     """`serve` with each request refused, and with each thread refused; then it is called anew."""
     tallies = []
-    for what, inject, floor in (("memory", "ALLOC", 200), ("a thread", "THREAD", 4)):
+    for what, inject, floor in (("memory", "ALLOC", 550), ("a thread", "THREAD", 5)):
         tally = Tally(f"{what} refused to serve", floor)
         for number, ran in refusals(SERVE, row_of_threads(), inject, program=DRIVER):
             tally.judge(f"{what}, {number}", wrong_of_serve(ran))
@@ -168,7 +168,7 @@ def wrong_of_replay(ran, report):
 
 def replays():
     """The program with each request refused. A run with ample memory behind it gives the whole report."""
-    tally = Tally("memory refused to the program", 1500)
+    tally = Tally("memory refused to the program", 1700)
     for name, words, data in recordings():
         report = run(words, data).out
         for number, ran in refusals(words, data):
@@ -198,7 +198,7 @@ def wrong_of_events(report, words, data):
 def threaded_replays():
     """The program with threads, with each request refused, and then with each thread."""
     tallies = []
-    for what, inject, floor in (("memory", "ALLOC", 2000), ("a thread", "THREAD", 50)):
+    for what, inject, floor in (("memory", "ALLOC", 3300), ("a thread", "THREAD", 100)):
         tally = Tally(f"{what} refused to the program with threads", floor)
         for name, words, data in recordings():
             for number, ran in refusals(["--threads", *words], data, inject):
@@ -223,7 +223,7 @@ COMMAND_LINES = [
 
 def command_lines():
     """Command lines with each request refused: `NoMemory`, or what comes without a refusal, where none was needed."""
-    tally = Tally("memory refused to the command line", 500)
+    tally = Tally("memory refused to the command line", 600)
     data = (CASES / "one-command" / "recording").read_bytes()
     for words in COMMAND_LINES:
         usual = run(words, data)
