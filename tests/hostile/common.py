@@ -73,6 +73,7 @@ def run(words=(), data=b"", inject=None, program=None, **how):
     note = None
     if inject is not None:
         note = note_file()
+        os.pwrite(note.fileno(), bytes(32), 0)
         environment["LD_PRELOAD"] = str(INJECTOR)
         environment["INJECT_NOTE"] = note.name
         environment.update({f"INJECT_{name}": str(value) for name, value in inject.items()})

@@ -66,7 +66,7 @@ def far_functions():
     """ABORT TASK SET whose number is as far above ExpCmdSN as it can be, and one further, which is below it."""
     tally = Tally("functions with far numbers", 4)
     far, below = (function(sn, tag, ABORT_TASK_SET) for sn, tag in ((0x80000001, 0xB1), (0x80000000, 0xB2)))
-    first, second = (task_response(tag, (stat, 1, 0x20), response) for tag, stat, response in ((0xB1, 1, 0), (0xB2, 2, 255)))
+    first, second = task_response(0xB1, (1, 1, 0x20)), task_response(0xB2, (2, 1, 0x20), 255)
     calls = [
         ("conn 1 00000001", []),
         (arrival(1, far), [f"> C 1 {far}", "  immediate 1 80000001 000000b1", f"  send 1 {first}"]),

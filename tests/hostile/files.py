@@ -309,7 +309,8 @@ def interrupted_help():
     run = help_run()
     for place in range(len(run.out)):
         ran = injected(run, {"WRITE": f"{place}:interrupt"})
-        tally.judge(f"the help: interrupt once {place} bytes were written", common.compare(ran, 0, run.out, b"") or unfired(ran))
+        wrong = common.compare(ran, 0, run.out, b"") or unfired(ran)
+        tally.judge(f"the help: interrupt once {place} bytes were written", wrong)
     return tally
 
 

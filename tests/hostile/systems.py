@@ -1,8 +1,9 @@
 """Faults of reading and writing that a system makes by itself: devices, pipes, limits, closed descriptors, signals.
 
 A fault of the input is told by its line, and nothing is written. A fault of the output is told too, and leaves a
-front of what was to be written. What docs/FORMATS.md doesn't decide isn't judged, but for one thing: a limit of file
-size ends the program by SIGXFSZ where nobody ignores or blocks that signal.
+front of what was to be written. A limit of file size ends the program by SIGXFSZ, where nobody ignores or blocks it.
+
+What docs/FORMATS.md leaves open isn't judged: what comes of a report without lines where nothing can be written.
 """
 
 import contextlib
@@ -45,7 +46,7 @@ LAUNCHER = common.TOP / "iscsi-replay"
 WIDE, NARROW = 65536, 4096
 # The fcntl module has this name from Python 3.10 on.
 F_SETPIPE_SZ = 1031
-# A size that no device has room for, of files that are hollow.
+# The size of files that are mostly hollow, and more than any output has.
 HUGE = 1 << 36
 # A run that was to be stopped in the middle and wasn't is begun so often.
 TRIES = 50
@@ -432,33 +433,37 @@ def started_into(run, write):
     return process
 
 
-def taken(descriptor, plan):
-    """Reads as a plan says, in steps of (bytes at once, how many times, seconds after each)."""
+def taken(descriptor, steps):
+    """Reads in steps of (bytes at most, seconds after them), up to the end."""
     out = b""
-    for most, times, pause in plan:
-        for _ in range(times):
-            out += some_of(descriptor, most)
-            time.sleep(pause)
+    for most, pause in steps:
+        more = some_of(descriptor, most)
+        if not more:
+            break
+        out += more
+        time.sleep(pause)
     return out
 
 
+SINGLE = 300 * [(1, 0.001)]
+ODD = 100 * [(7, 0.001)] + 20 * [(4097, 0.001)] + 100 * [(1, 0)]
 READERS = (
-    ("a byte at a time at first", WIDE, [(1, 300, 0.001)]),
-    ("a byte at a time at first", NARROW, [(1, 300, 0.001)]),
-    ("pieces of odd lengths", WIDE, [(7, 100, 0.001), (4097, 20, 0.001), (1, 100, 0)]),
-    ("pieces of odd lengths", NARROW, [(7, 100, 0.001), (4097, 20, 0.001), (1, 100, 0)]),
-    ("a stop at the start", NARROW, [(1, 1, 0.3)]),
-    ("a stop of two seconds", WIDE, [(WIDE, 1, 2), (1, 10, 0)]),
+    ("a byte at a time at first", WIDE, SINGLE),
+    ("a byte at a time at first", NARROW, SINGLE),
+    ("pieces of odd lengths", WIDE, ODD),
+    ("pieces of odd lengths", NARROW, ODD),
+    ("a stop at the start", NARROW, [(1, 0.3)]),
+    ("a stop of two seconds", WIDE, [(WIDE, 2), (1, 0)]),
 )
 
 
 def slow_readers():
     """The report is read slowly, or not for a while: it comes whole."""
     tally = common.Tally("readers that are slow", 12)
-    for run, (name, room, plan) in product(long_runs(), READERS):
+    for run, (name, room, steps) in product(long_runs(), READERS):
         read, write = pipe_of(room)
         process = started_into(run, write)
-        out = taken(read, plan) + all_of(read)
+        out = taken(read, steps) + all_of(read)
         os.close(read)
         tally.judge(f"{run.name}, {name}, a pipe of {room} bytes", differs(ended(process, out), 0, run.out, b""))
     return tally
