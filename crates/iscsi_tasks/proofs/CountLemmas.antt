@@ -13,7 +13,7 @@ use Rattle.iscsi_tasks.specs.declared.task.Task.{Task}
 use Rattle.iscsi_tasks.specs.declared.member.Member.{Member}
 use Rattle.iscsi_tasks.specs.declared.counts.Counts.{Counts}
 use Rattle.iscsi_tasks.specs.Sets.{is_head_of, is_new}
-use Rattle.iscsi_tasks.specs.Counted.{IsCounted, is_head_in, is_ordered_in, plus_one_if, shifted_by, new_from_with, with_last, without_one, with_enabled, enabled_now, given_now}
+use Rattle.iscsi_tasks.specs.Counted.{IsCounted, is_head_in, is_ordered_in, plus_one_if, shifted_by, new_from_with, new_to_with, with_last, without_one, with_enabled, enabled_now, given_now}
 
 -- a first place is within the list or its end
 pub first-le : {X : Type 0} (p : X → Bool) (xs : List X) → position_or_len p xs ≤ length xs
@@ -52,6 +52,23 @@ new_from-le c place = ⊎_elim
     (λ yes. subst (λ n. n ≤ place) (sym (ap (λ b. cond b place (min c.new_from place)) yes)) (omega arith))
     (λ no. subst (λ n. n ≤ place) (sym (ap (λ b. cond b place (min c.new_from place)) no)) (omega arith))
     (cases_Bool (c.new_from == c.new_to))
+
+-- what is new now ends at this place or later, and within the set
+new_to-gt : (c : Counts) (to k : ℕ) → k < to → k < new_to_with c to
+new_to-gt c to k h = ⊎_elim
+    (λ yes. subst (λ n. k < n) (sym (ap (λ b. cond b to (max c.new_to to)) yes)) (omega arith))
+    (λ no. subst (λ n. k < n) (sym (ap (λ b. cond b to (max c.new_to to)) no)) (omega arith))
+    (cases_Bool (c.new_from == c.new_to))
+
+new_to-le : (c : Counts) (to n : ℕ) → to ≤ n → c.new_to ≤ n → new_to_with c to ≤ n
+new_to-le c to n h g = ⊎_elim
+    (λ yes. subst (λ m. m ≤ n) (sym (ap (λ b. cond b to (max c.new_to to)) yes)) (omega arith))
+    (λ no. subst (λ m. m ≤ n) (sym (ap (λ b. cond b to (max c.new_to to)) no)) (omega arith))
+    (cases_Bool (c.new_from == c.new_to))
+
+-- what was new before is still before the last place
+new_to-before : (c : Counts) (to k : ℕ) → c.new_from ≤ k → k < c.new_to → k < new_to_with c to
+new_to-before c to k from old = subst (λ n. k < n) (sym (ap (λ b. cond b to (max c.new_to to)) (ne_eqb c.new_from c.new_to (λ e. omega arith)))) (omega arith)
 
 -- what was new before is still behind the first place
 new_from-before : (c : Counts) (place k : ℕ) → c.new_from ≤ k → k < c.new_to → new_from_with c place ≤ k
@@ -229,16 +246,16 @@ counted_enabled c list to counted more inside =
       enabled_to = omega (arith, long);
       enabled = λ k d l. at (λ m. m.enabled ≡ true) k d (omega arith) (λ b. refl) (λ a. absurd (omega arith));
       heads_enabled = λ k d l. at (λ m. is_head_in m ≡ true → m.enabled ≡ true) k d (omega (arith, long)) (λ b head. refl) (λ a head. counted.heads_enabled k d (omega (arith, long)) head);
-      new_to = omega (arith, long, counted.new_to);
-      new = λ k d l. at (λ m. is_new m ≡ true → (new_from_with c c.enabled_to ≤ k) × (k < max c.new_to to)) k d (omega (arith, long))
+      new_to = let le = new_to-le c to (length list) inside counted.new_to in omega (arith, long, le);
+      new = λ k d l. at (λ m. is_new m ≡ true → (new_from_with c c.enabled_to ≤ k) × (k < new_to_with c to)) k d (omega (arith, long))
           (λ b new. ⊎_elim
           (λ old.
           let on : (get_or list k d).enabled ≡ true = counted.enabled k d old in
           let was = counted.new k d (omega (arith, long)) (ap (λ t. t && not (get_or list k d).given) on ∙ new) in
-          (new_from-before c c.enabled_to k was.0 was.1, omega arith))
-          (λ fresh. (let low : new_from_with c c.enabled_to ≤ c.enabled_to = new_from-le c c.enabled_to in omega arith, omega arith))
+          (new_from-before c c.enabled_to k was.0 was.1, new_to-gt c to k b))
+          (λ fresh. (let low : new_from_with c c.enabled_to ≤ c.enabled_to = new_from-le c c.enabled_to in omega arith, new_to-gt c to k b))
           (cases_lt k c.enabled_to))
-          (λ a new. let was = counted.new k d (omega (arith, long)) new in (new_from-before c c.enabled_to k was.0 was.1, omega (arith, was.1)));
+          (λ a new. let was = counted.new k d (omega (arith, long)) new in (new_from-before c c.enabled_to k was.0 was.1, new_to-before c to k was.0 was.1));
     }
 
 -- ---- a ticket is given

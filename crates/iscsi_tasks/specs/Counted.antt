@@ -62,6 +62,10 @@ shifted_by at place = if nat_lt at place then place - 1 else place
 abbrev pub new_from_with : Counts → ℕ → ℕ
 new_from_with c place = if c.new_from == c.new_to then place else min c.new_from place
 
+-- up to where what is new stands, where it ends at this place now
+abbrev pub new_to_with : Counts → ℕ → ℕ
+new_to_with c to = if c.new_from == c.new_to then to else max c.new_to to
+
 -- one command more, the last
 abbrev pub with_last : Counts → ℕ → Attr → Bool → Counts
 with_last c len attr enabled = record {
@@ -89,7 +93,7 @@ with_enabled c to = record {
   ordered_at = c.ordered_at;
   enabled_to = to;
   new_from = new_from_with c c.enabled_to;
-  new_to = max c.new_to to;
+  new_to = new_to_with c to;
 }
 
 -- a member that is enabled from now on

@@ -2,7 +2,7 @@
 
 ghost use Rattle.std.specs.Prelude.{◌≡◌, ◌<◌, ◌≤◌, true};
 ghost use Rattle.iscsi_tasks.specs.Rules.{is_head_of};
-ghost use Rattle.iscsi_tasks.specs.Counted.{is_free_behind, free_to, plus_one_if, shifted_by, new_from_with, with_last, without_one, with_enabled};
+ghost use Rattle.iscsi_tasks.specs.Counted.{is_free_behind, free_to, plus_one_if, shifted_by, new_from_with, new_to_with, with_last, without_one, with_enabled};
 
 use crate::task::Attr;
 
@@ -105,7 +105,18 @@ impl Counts {
             ordered_at: self.ordered_at,
             enabled_to: to,
             new_from: self.new_from_with(self.enabled_to),
-            new_to: self.new_to.max(to),
+            new_to: self.new_to_with(to),
+        }
+    }
+
+    /// Where what is new ends, once the commands before this place are new. Where nothing was new, it is there.
+    fn new_to_with(&self, to: usize) -> usize
+        ensures { result ≡ new_to_with self.now to }
+    {
+        if self.new_from == self.new_to {
+            to
+        } else {
+            self.new_to.max(to)
         }
     }
 

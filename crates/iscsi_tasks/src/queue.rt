@@ -171,6 +171,8 @@ pub(crate) fn give_next(members: &mut Queue, counts: &mut Counts) -> Option<u64>
     ensures items { members.new.items ≡ given_in members.old.items }
     ensures capacity { deque_capacity members.new ≡ deque_capacity members.old }
     ensures counted { IsCounted counts.new members.new.items }
+    // Once there is none, no place is looked at again until a command is enabled.
+    ensures none { result ≡ None → counts.new.new_from ≡ counts.new.new_to }
 {
     let Some(k) = first_new(members, counts.new_from, counts.new_to) else {
         counts.new_from = counts.new_to;

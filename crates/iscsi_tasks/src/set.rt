@@ -182,8 +182,8 @@ impl TaskSet {
 
     /// The oldest enabled ticket that no call gave before.
     ///
-    /// It looks only at the commands from the first to the last that may be new, so its cost doesn't grow with the set
-    /// for a caller that asks after each change until there is none.
+    /// It looks at the commands from the first to the last that may be new. Where a caller asks after each change until there
+    /// is none, those are the commands that the last change enabled, and it looks at each of them once.
     pub fn next_new(&mut self) -> Option<u64>
         ensures answer { result ≡ next_in self.old.list }
         ensures state { self.new ≡ given_by self.old }
