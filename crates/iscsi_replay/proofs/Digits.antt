@@ -1,6 +1,7 @@
 -- Digits of a number.
-use Rattle.std.proofs.Common.{◌≡◌, ℕ, suc, ◌+◌, ◌-◌, ◌*◌, ◌<◌, Bool, true, false, cond, List, [], ◌∷◌, length, drop, get_or, drop-cons, Option, None, refl, sym, ap, ◌∙◌, arith}
+use Rattle.std.proofs.Common.{◌≡◌, ℕ, suc, ◌+◌, ◌-◌, ◌*◌, ◌^◌, ◌<◌, ◌≤◌, Bool, true, false, cond, List, [], ◌∷◌, length, drop, get_or, drop-cons, Option, None, refl, sym, ap, ◌∙◌, arith}
 use Rattle.std.specs.Prelude.{option_and_then}
+use Rattle.std.proofs.Math.Nat.{pow-le-pow_right}
 use Rattle.iscsi_replay.specs.Fields.{is_digit, digits_after, up_to}
 
 up_to-over : (max n : ℕ) → max < n → up_to max n ≡ None
@@ -29,3 +30,14 @@ too_great text i n max lt digit over same =
     let step : digits_after n (drop i text) ≡ digits_after more (drop (suc i) text) =
     ap (digits_after n) (drop-cons text i 0 lt) ∙ ap (λ b. cond b (digits_after more (drop (suc i) text)) None) digit in
     ap (option_and_then (up_to max)) (sym same ∙ step) ∙ digits_over (drop (suc i) text) max more (over_max max more over)
+
+pub digit_small : (d : ℕ) → is_digit d ≡ true → d - 48 ≤ 9
+digit_small d h = grind arith
+
+-- a number of 18 digits has room for one more below 2^64
+pub has_room : (n i d : ℕ) → n < 10 ^ i → i < 19 → d ≤ 9 → n * 10 + d < 2 ^ 64
+has_room n i d h lt small =
+    let some : 0 < 10 = omega arith in
+    let few : i ≤ 18 = omega arith in
+    let most : 10 ^ i ≤ 10 ^ 18 = pow-le-pow_right {n = 10} some {i = i} {j = 18} few in
+    omega (arith, most)

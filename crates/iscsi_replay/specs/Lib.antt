@@ -13,3 +13,4 @@ pub mod Threaded
 pub mod Stops
 pub mod Again
 pub mod Told
+pub mod DigitValues

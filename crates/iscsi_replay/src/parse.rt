@@ -1,14 +1,16 @@
 //! One line of a recording.
 
-ghost use Rattle.std.specs.Prelude.{◌≡◌, ℕ, ◌+◌, ◌-◌, ◌*◌, true, length, option_map, option_and_then, position};
+ghost use Rattle.std.specs.Prelude.{◌≡◌, ℕ, ◌+◌, ◌-◌, ◌*◌, ◌<◌, ◌≤◌, true, length, slice_index, MatchOption, option_map, option_and_then, position};
 ghost use Rattle.std.specs.List.{before_first, after_first};
 ghost use Rattle.std.specs.Int.{w32, from_be_bytes};
-ghost use Rattle.iscsi_replay.specs.Fields.{is_blank, after_prefix, digits_after, is_digit, up_to, decimal_of, hex_of};
+ghost use Rattle.iscsi_replay.specs.Fields.{is_blank, digits_after, is_digit, up_to, decimal_of, hex_of};
+ghost use Rattle.iscsi_replay.specs.DigitValues.{IsValue, HasNonDigit, AreValues, paired};
 ghost use Rattle.iscsi_replay.specs.Grammar.{arrival_of, completion_of, event_of, connection_of, line_of};
 
 use crate::line::Line;
 use iscsi_session::Event;
 
+#[inline(always)]
 fn first_blank(bytes: &[u8]) -> Option<usize>
     ensures { result ≡ position is_blank bytes.now }
 {
@@ -16,6 +18,7 @@ fn first_blank(bytes: &[u8]) -> Option<usize>
 }
 
 /// What stands before the first blank, and what stands after it.
+#[inline(always)]
 fn cut(bytes: &[u8]) -> (&[u8], &[u8])
     ensures first { result.0.now ≡ before_first is_blank bytes.now }
     ensures rest { result.1.now ≡ after_first is_blank bytes.now }
@@ -23,16 +26,6 @@ fn cut(bytes: &[u8]) -> (&[u8], &[u8])
     match first_blank(bytes) {
         Some(i) => (&bytes[..i], &bytes[i + 1..]),
         None => (bytes, &[]),
-    }
-}
-
-fn after<'a>(bytes: &'a [u8], prefix: &[u8]) -> Option<&'a [u8]>
-    ensures { option_map (λ s. s.now) result ≡ after_prefix prefix.now bytes.now }
-{
-    if bytes.starts_with(prefix) {
-        Some(&bytes[prefix.len()..])
-    } else {
-        None
     }
 }
 
@@ -55,8 +48,10 @@ fn pushed(n: u64, d: u8, max: u64) -> Option<u64>
     }
 }
 
+/// A number of any count of digits.
+#[inline(always)]
 #[tactic(auto, using(crate::proofs::Digits::digits_over))]
-fn digits(text: &[u8], max: u64) -> Option<u64>
+fn many_digits(text: &[u8], max: u64) -> Option<u64>
     ensures { result ≡ option_and_then (up_to max) (digits_after 0 text.now) }
 {
     let mut n = 0u64;
@@ -72,6 +67,34 @@ fn digits(text: &[u8], max: u64) -> Option<u64>
     Some(n)
 }
 
+/// A number of so few digits that it is below 2^64.
+#[inline(always)]
+fn few_digits(text: &[u8]) -> Option<u64>
+    requires { length text.now ≤ 19 }
+    ensures { result ≡ digits_after 0 text.now }
+{
+    let mut n = 0u64;
+    for d in text {
+        if !is_decimal(*d) {
+            return None;
+        }
+        n = n * 10 + u64::from(*d - b'0');
+    }
+    Some(n)
+}
+
+#[inline(always)]
+fn digits(text: &[u8], max: u64) -> Option<u64>
+    ensures { result ≡ option_and_then (up_to max) (digits_after 0 text.now) }
+{
+    if text.len() > 19 {
+        return many_digits(text, max);
+    }
+    let n = few_digits(text)?;
+    if n <= max { Some(n) } else { None }
+}
+
+#[inline(always)]
 fn decimal(text: &[u8], max: u64) -> Option<u64>
     ensures { result ≡ decimal_of max text.now }
 {
@@ -82,6 +105,7 @@ fn decimal(text: &[u8], max: u64) -> Option<u64>
     }
 }
 
+#[inline(always)]
 fn hexadecimal<const N: usize>(text: &[u8]) -> Option<[u8; N]>
     ensures { result ≡ hex_of N text.now }
 {
@@ -92,6 +116,64 @@ fn hexadecimal<const N: usize>(text: &[u8]) -> Option<[u8; N]>
     }
 }
 
+/// The value of a hexadecimal digit of either case, or 16 or more where the byte is none.
+///
+/// It has no branch, so that many bytes are taken at once.
+#[inline(always)]
+fn digit_value(c: u8) -> u8
+    ensures { IsValue c result }
+{
+    // b'0' to b'9' become 0 to 9, and b'A' to b'F' 10 to 15. Any other byte becomes 16 or more in both.
+    let decimal = c
+        .wrapping_add(0xff - b'9')
+        .saturating_sub(6)
+        .wrapping_sub(0xf0);
+    let letter = (c & !0x20).wrapping_sub(b'A').saturating_add(10);
+    decimal.min(letter)
+}
+
+/// The values of 96 digits, or `None` where a byte is none.
+#[inline(always)]
+fn digit_values(text: &[u8]) -> Option<[u8; 96]>
+    requires { length text.now ≡ 96 }
+    ensures { MatchOption result (HasNonDigit text.now) (λ values. AreValues text.now values) }
+{
+    let mut values = [0u8; 96];
+    let mut most = 0u8;
+    'digits: for i in 0..96usize {
+        let v = digit_value(text[i]);
+        values[i] = v;
+        most = most.max(v);
+    }
+    if most < 16 { Some(values) } else { None }
+}
+
+/// The bytes of which these are the digits' values.
+#[inline(always)]
+fn joined(values: &[u8; 96]) -> [u8; 48]
+    requires { (k : ℕ) → slice_index values.now k < 16 }
+    ensures { result ≡ paired values.now }
+{
+    let mut bytes = [0u8; 48];
+    'bytes: for i in 0..48usize {
+        bytes[i] = values[2 * i] * 16 + values[2 * i + 1];
+    }
+    bytes
+}
+
+/// The 48 bytes of 96 digits.
+#[inline(always)]
+fn decode_48(text: &[u8]) -> Option<[u8; 48]>
+    ensures { result ≡ hex_of 48 text.now }
+{
+    if text.len() != 96 {
+        return None;
+    }
+    let values = digit_values(text)?;
+    Some(joined(&values))
+}
+
+#[inline(always)]
 fn cid(text: &[u8]) -> Option<u16>
     ensures { result ≡ decimal_of 65535 text.now }
 {
@@ -99,39 +181,27 @@ fn cid(text: &[u8]) -> Option<u16>
     u16::try_from(n).ok()
 }
 
-fn arrival(bytes: &[u8]) -> Option<Event>
-    ensures { result ≡ arrival_of bytes.now }
+#[inline(never)]
+fn arrival(bytes: &[u8]) -> Option<Line>
+    ensures { result ≡ option_map Line.Event (arrival_of bytes.now) }
 {
     let (first, rest) = cut(bytes);
     let conn = cid(first)?;
-    let header = hexadecimal::<48>(rest)?;
-    Some(Event::Arrive { conn, header })
+    let header = decode_48(rest)?;
+    Some(Line::Event(Event::Arrive { conn, header }))
 }
 
-fn completion(bytes: &[u8]) -> Option<Event>
-    ensures { result ≡ completion_of bytes.now }
+#[inline(never)]
+fn completion(bytes: &[u8]) -> Option<Line>
+    ensures { result ≡ option_map Line.Event (completion_of bytes.now) }
 {
     let (first, rest) = cut(bytes);
     let ticket = decimal(first, u64::MAX)?;
-    let status = hexadecimal::<1>(rest)?;
-    Some(Event::Done {
-        ticket,
-        status: status[0],
-    })
+    let [status] = hexadecimal::<1>(rest)?;
+    Some(Line::Event(Event::Done { ticket, status }))
 }
 
-fn event(bytes: &[u8]) -> Option<Event>
-    ensures { result ≡ event_of bytes.now }
-{
-    if let Some(rest) = after(bytes, b"C ") {
-        return arrival(rest);
-    }
-    if let Some(rest) = after(bytes, b"D ") {
-        return completion(rest);
-    }
-    None
-}
-
+#[inline(never)]
 fn connection(bytes: &[u8]) -> Option<Line>
     ensures { result ≡ connection_of bytes.now }
 {
@@ -144,16 +214,29 @@ fn connection(bytes: &[u8]) -> Option<Line>
     })
 }
 
+/// An event that stands behind the mark that it has in a report.
+#[inline(never)]
+fn marked(bytes: &[u8]) -> Option<Line>
+    ensures { result ≡ option_map Line.Event (event_of bytes.now) }
+{
+    match bytes {
+        [b'C', b' ', rest @ ..] => arrival(rest),
+        [b'D', b' ', rest @ ..] => completion(rest),
+        _ => None,
+    }
+}
+
 /// What a line says, or `None` where it is no line of a recording.
+#[inline(always)]
 pub fn parse_line(bytes: &[u8]) -> Option<Line>
     ensures { result ≡ line_of bytes.now }
 {
-    if let [] | [b'#' | b' ', ..] = bytes {
-        return Some(Line::Passed);
+    match bytes {
+        [b'C', b' ', rest @ ..] => arrival(rest),
+        [b'D', b' ', rest @ ..] => completion(rest),
+        [b'>', b' ', rest @ ..] => marked(rest),
+        [b'c', b'o', b'n', b'n', b' ', rest @ ..] => connection(rest),
+        [] | [b'#' | b' ', ..] => Some(Line::Passed),
+        _ => None,
     }
-    if let Some(rest) = after(bytes, b"conn ") {
-        return connection(rest);
-    }
-    let rest = after(bytes, b"> ").unwrap_or(bytes);
-    Some(Line::Event(event(rest)?))
 }

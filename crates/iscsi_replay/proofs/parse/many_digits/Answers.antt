@@ -1,6 +1,6 @@
 use Rattle.std.proofs.Common.{sym, rules}
 use Rattle.iscsi_replay.proofs.Digits.{too_great}
-use Rattle.iscsi_replay.proofs.parse.digits.Goals as goal
+use Rattle.iscsi_replay.proofs.parse.many_digits.Goals as goal
 
 pub returns-in_default : goal.returns-in_default
 returns-in_default c =
