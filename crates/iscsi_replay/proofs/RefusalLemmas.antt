@@ -1,8 +1,9 @@
 -- A session of a sound recording refuses only for want of memory.
-use Rattle.std.proofs.Common.{◌≡◌, ℕ, ◌<◌, ◌≤◌, Bool, true, false, List, length, take, get_or, Option, None, refl, ◌∙◌, subst, arith, length-take, nat_lt, lt-ltb}
+use Rattle.std.proofs.Common.{◌≡◌, ◌<◌, ◌≤◌, ◌&&◌, Bool, true, List, ◌∷◌, ◌++◌, length, Option, None, refl, ap, sym, ◌∙◌, subst, arith, length-append, nat_lt, lt-ltb}
 use Rattle.std.specs.Prelude.{Result, Err}
 use Rattle.std.specs.List.{list_all}
-use Rattle.std.proofs.lemmas.List.Folds.{list_all_at}
+use Rattle.std.proofs.lemmas.List.Folds.{list_all-append}
+use Rattle.iscsi_history.proofs.BoolLemmas.{and_first, and_second}
 use Rattle.iscsi_history.specs.declared.event.Event.{Event}
 use Rattle.iscsi_history.specs.declared.event.Event.TheVariants.{Arrive, Done}
 use Rattle.iscsi_session.specs.declared.fault.SessionFault.{SessionFault}
@@ -27,22 +28,17 @@ belongs_same : (o : Setting) (e : Event) → belongs o e ≡ belongs_to o.conns 
 belongs_same o (Arrive conn header) = refl
 belongs_same o (Done ticket status) = refl
 
--- a test that each passes is passed by the i-th
-pub each_belongs : (p : Event → Bool) (events : List Event) (i : ℕ) (d : Event) → i < length events → list_all p events ≡ true → p (get_or events i d) ≡ true
-each_belongs p events i d lt all = go (p (get_or events i d)) refl
-  where
-    go : (b : Bool) → p (get_or events i d) ≡ b → p (get_or events i d) ≡ true
-    go true is = is
-    go false is = let bad : list_all p events ≡ false = list_all_at p events i d lt is in cc
+-- a test that each passes is passed by each
+pub each_belongs : (p : Event → Bool) (before after events : List Event) (e : Event) → events ≡ before ++ e ∷ after → list_all p events ≡ true → p e ≡ true
+each_belongs p before after events e whole all =
+    let all_pass = sym (list_all-append p before (e ∷ after)) ∙ sym (ap (list_all p) whole) ∙ all in
+    and_first (p e) (list_all p after) (and_second (list_all p before) (p e && list_all p after) all_pass)
 
--- the i-th of some events is not refused after those before it, where each is known and they aren't too many
-pub event_taken : (o : Setting) (items events : List Event) (i : ℕ) (d : Event) → items ≡ events → list_all (belongs_to o.conns) events ≡ true → length events ≤ o.events → i < length items
-    → refusal_of o (take i items) (get_or items i d) ≡ None
-event_taken o items events i d same all few lt =
-    let known : list_all (belongs_to o.conns) items ≡ true = rw same all in
-    let belongs_is : belongs o (get_or items i d) ≡ true =
-    belongs_same o (get_or items i d) ∙ each_belongs (belongs_to o.conns) items i d lt known in
-    let few_are : length items ≤ o.events = rw same few in
-    let below : length (take i items) < o.events = omega (arith, length-take {A = Event}) in
-    let test : nat_lt (length (take i items)) o.events ≡ true = lt-ltb _ _ below in
+-- an event is not refused after those before it, where each is known and they aren't too many
+pub event_taken : (o : Setting) (before after events : List Event) (e : Event) → events ≡ before ++ e ∷ after → list_all (belongs_to o.conns) events ≡ true → length events ≤ o.events
+    → refusal_of o before e ≡ None
+event_taken o before after events e whole known few =
+    let belongs_is : belongs o e ≡ true = belongs_same o e ∙ each_belongs (belongs_to o.conns) before after events e whole known in
+    let below : length before < o.events = omega (arith, ap length whole, length-append before (e ∷ after)) in
+    let test : nat_lt (length before) o.events ≡ true = lt-ltb _ _ below in
     rw (belongs_is, test) refl

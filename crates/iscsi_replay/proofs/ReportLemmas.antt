@@ -1,7 +1,6 @@
 -- The report of a recording, event by event.
-use Rattle.std.proofs.Common.{◌≡◌, ℕ, ◌+◌, ◌<◌, ◌≤◌, List, [], ◌∷◌, ◌++◌, length, take, drop, get_or, Option, None, Some, Result, Ok, Err, IfSome, sym, ap, ap₂, subst, ◌∙◌, take-append-drop, append-nil, append_assoc}
+use Rattle.std.proofs.Common.{◌≡◌, ℕ, List, [], ◌∷◌, ◌++◌, Option, None, Some, Result, Ok, Err, IfSome, sym, ap, ap₂, subst, ◌∙◌, append-nil, append_assoc}
 use Rattle.std.specs.List.{flat_map}
-use Rattle.std.proofs.lemmas.List.{take_more, take_all}
 use Rattle.std.specs.Io.KnownBytes.{Appends}
 use Rattle.std.proofs.KnownBytes.{Keeps-refl}
 use Rattle.iscsi_history.specs.declared.effect.Effect.{Effect}
@@ -32,20 +31,12 @@ report_longer o h (e ∷ es) =
           ∙ append_assoc (report_by o h) lines next.0,
     )
 
--- the report of the events up to the i-th is a front of that of all
-pub report_front : (o : Setting) (events : List Event) (i : ℕ)
-    → (rest : List ℕ) × (report_by o events ≡ report_by o (take i events) ++ rest)
-report_front o events i =
-    let longer = report_longer o (take i events) (drop i events) in
-    (longer.0, ap (report_by o) (sym (take-append-drop i events)) ∙ longer.1)
-
--- a front of the report of the events up to the i-th is one of that of all
-pub front_of_all : (a b : Option (List ℕ)) (o : Setting) (items events : List Event) (i : ℕ) → items ≡ events
-    → AppendsFront a b (report_by o (take i items)) → AppendsFront a b (report_by o events)
-front_of_all a b o items events i same f =
-    let front = report_front o items i in
-    subst (λ es. AppendsFront a b (report_by o es)) same
-    (front_longer a b (report_by o (take i items)) front.0 (report_by o items) front.1 f)
+-- a front of the report of the first events is one of that of all
+pub front_of_all : (a b : Option (List ℕ)) (o : Setting) (before after events : List Event) → events ≡ before ++ after
+    → AppendsFront a b (report_by o before) → AppendsFront a b (report_by o events)
+front_of_all a b o before after events whole f =
+    let longer = report_longer o before after in
+    front_longer a b (report_by o before) longer.0 (report_by o events) (ap (report_by o) whole ∙ longer.1) f
 
 -- the lines of an event and its effects
 entry_lines_are : (entry : Entry) (numbers : Numbers) (effects : List Effect) → numbers ≡ entry.numbers → effects ≡ entry.effects
@@ -53,35 +44,31 @@ entry_lines_are : (entry : Entry) (numbers : Numbers) (effects : List Effect) �
 entry_lines_are entry numbers effects n e =
     ap₂ (λ (ns : Numbers) (es : List Effect). flat_map (λ effect. effect_line effect ns) es) n e
 
--- after the i-th event its lines wait too
-pub waits_next : (a b : Option (List ℕ)) (o : Setting) (events : List Event) (i : ℕ) (d : Event) (waiting longer : List ℕ)
-    (numbers : Numbers) (effects : List Effect) → i < length events
-    → longer ≡ waiting ++ (event_line (get_or events i d) ++ entry_lines (record { numbers = numbers; effects = effects }))
-    → numbers ≡ (next_entry o (take i events) (get_or events i d)).numbers
-    → effects ≡ (next_entry o (take i events) (get_or events i d)).effects
-    → AppendsBut a b waiting (report_by o (take i events))
-    → AppendsBut a b longer (report_by o (take (i + 1) events))
-waits_next a b o events i d waiting longer numbers effects lt is numbers_are effects_are h =
-    let e : Event = get_or events i d in
-    let entry : Entry = next_entry o (take i events) e in
+-- after one more event its lines wait too
+pub waits_next : (a b : Option (List ℕ)) (o : Setting) (before : List Event) (e : Event) (waiting longer : List ℕ)
+    (numbers : Numbers) (effects : List Effect)
+    → longer ≡ waiting ++ (event_line e ++ entry_lines (record { numbers = numbers; effects = effects }))
+    → numbers ≡ (next_entry o before e).numbers
+    → effects ≡ (next_entry o before e).effects
+    → AppendsBut a b waiting (report_by o before)
+    → AppendsBut a b longer (report_by o (before ++ e ∷ []))
+waits_next a b o before e waiting longer numbers effects is numbers_are effects_are h =
+    let entry : Entry = next_entry o before e in
     let lines : List ℕ = event_line e ++ entry_lines entry in
     let longer_is : longer ≡ waiting ++ lines =
     is ∙ ap (λ l. waiting ++ (event_line e ++ l)) (entry_lines_are entry numbers effects numbers_are effects_are) in
-    let next : report_by o (take (i + 1) events) ≡ report_by o (take i events) ++ lines =
-    ap (report_by o) (take_more events i d lt) ∙ report_of-push o (take i events) e in
-    waits_more a b waiting lines longer (report_by o (take i events)) (report_by o (take (i + 1) events)) longer_is next h
+    waits_more a b waiting lines longer (report_by o before) (report_by o (before ++ e ∷ [])) longer_is (report_of-push o before e) h
 
 -- the effects of a step onto a list that is empty
 pub effects_alone : (given out cleared effects : List Effect) → given ≡ out → out ≡ cleared ++ effects → cleared ≡ [] → given ≡ effects
 effects_alone given out cleared effects same more empty = same ∙ more ∙ ap (λ l. l ++ effects) empty
 
 -- the whole report is written
-pub all_written : (a b c : Option (List ℕ)) (o : Setting) (items events : List Event) (i : ℕ) (waiting put : List ℕ)
-    → items ≡ events → length items ≤ i → put ≡ waiting → AppendsBut a b waiting (report_by o (take i items)) → Appends b c put
+pub all_written : (a b c : Option (List ℕ)) (o : Setting) (before events : List Event) (waiting put : List ℕ)
+    → before ≡ events → put ≡ waiting → AppendsBut a b waiting (report_by o before) → Appends b c put
     → Appends a c (report_by o events)
-all_written a b c o items events i waiting put same past is h more =
-    subst (λ es. Appends a c (report_by o es)) (take_all i items past ∙ same)
-    (all_after a b c waiting put (report_by o (take i items)) is h more)
+all_written a b c o before events waiting put all is h more =
+    subst (λ es. Appends a c (report_by o es)) all (all_after a b c waiting put (report_by o before) is h more)
 
 none_reported : (s : Settings) (r : Result Recorded ReplayFault) (a : Option (List ℕ)) → FrontReported s r a a
 none_reported s (Ok r) a = nothing_of a (report_of s r)

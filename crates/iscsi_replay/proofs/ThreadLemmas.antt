@@ -1,10 +1,10 @@
 -- What threads make of a recording.
-use Rattle.std.specs.Prelude.{IsSome, ◌≡◌, ℕ, ◌+◌, ◌<◌, ◌==◌, ◌&&◌, Bool, true, false, nat_lt, nat_eq, List, [], ◌∷◌, ◌++◌, length, map, position, slice_index, Some, None, Vec, refl}
+use Rattle.std.specs.Prelude.{IsSome, ◌≡◌, ℕ, ◌<◌, ◌==◌, ◌&&◌, Bool, true, false, nat_lt, nat_eq, List, [], ◌∷◌, ◌++◌, length, map, position, slice_index, Some, None, Vec, refl}
 use Rattle.std.specs.List.{list_all}
 use Rattle.std.specs.declared.alloc.Global.{Global}
-use Rattle.std.proofs.Common.{ap, sym, subst, ◌∙◌, arith, get_or, take, append-nil, append_assoc}
+use Rattle.std.proofs.Common.{ap, sym, subst, ◌∙◌, arith, get_or, append-nil, append_assoc}
 use Rattle.std.proofs.lemmas.Bool.Decides.{nat_tests}
-use Rattle.std.proofs.lemmas.List.{take_more, get_or-map, length-map, map-append}
+use Rattle.std.proofs.lemmas.List.{get_or-map, length-map, map-append}
 use Rattle.std.proofs.lemmas.List.Quantifiers.{position-Some}
 use Rattle.std.proofs.lemmas.Bool.{eqb-true, false≢true}
 use Rattle.iscsi_history.proofs.ListLemmas.{IsSome-position}
@@ -41,26 +41,22 @@ pub place_some : (conns : List (ℕ × ℕ)) (c : ℕ) → is_known c conns ≡ 
 place_some conns c known none = let some : false ≡ true = subst IsSome none (IsSome-position (λ (k : ℕ × ℕ). k.0 == c) conns known) in absurd (false≢true some)
 
 -- an arrival more
-pub parts_arrive : (conns : List (ℕ × ℕ)) (es : List Event) (i : ℕ) (d : Event) (c f : ℕ) (x : List ℕ) (heads heads' : List (List (List ℕ)))
-    → are_distinct conns ≡ true → i < length es → get_or es i d ≡ Arrive c x → position (λ (k : ℕ × ℕ). k.0 == c) conns ≡ Some f
-    → heads ≡ parts (cids_in conns) (take i es) → heads' ≡ grow heads f x → heads' ≡ parts (cids_in conns) (take (i + 1) es)
-parts_arrive conns es i d c f x heads heads' distinct lt is found same grown =
+pub parts_arrive : (conns : List (ℕ × ℕ)) (before : List Event) (c f : ℕ) (x : List ℕ) (heads heads' : List (List (List ℕ)))
+    → are_distinct conns ≡ true → position (λ (k : ℕ × ℕ). k.0 == c) conns ≡ Some f
+    → heads ≡ parts (cids_in conns) before → heads' ≡ grow heads f x → heads' ≡ parts (cids_in conns) (before ++ Arrive c x ∷ [])
+parts_arrive conns before c f x heads heads' distinct found same grown =
     let cids = cids_in conns in
     let place = place_is conns c f (c, 0) found in
     let below : f < length cids = let l = length-map conns (λ (k : ℕ × ℕ). k.0) in omega (arith, place.0) in
     let there : c ≡ get_or cids f 0 = sym place.1 ∙ sym (get_or-map (λ (k : ℕ × ℕ). k.0) conns f (c, 0) 0 place.0) in
-    let next : take (i + 1) es ≡ take i es ++ Arrive c x ∷ [] = take_more es i d lt ∙ ap (λ (e : Event). take i es ++ e ∷ []) is in
-    heads_after cids (take i es) heads' [] [] (Arrive c x) f (differ_of conns distinct)
+    heads_after cids before heads' [] [] (Arrive c x) f (differ_of conns distinct)
     (below, there, grown ∙ ap (λ (h : List (List (List ℕ))). grow h f x) same, refl)
-    ∙ ap (parts cids) (sym next)
 
 -- a completion more
-pub parts_done : (conns : List (ℕ × ℕ)) (es : List Event) (i : ℕ) (d : Event) (t s : ℕ) (heads : List (List (List ℕ))) → i < length es → get_or es i d ≡ Done t s
-    → heads ≡ parts (cids_in conns) (take i es) → heads ≡ parts (cids_in conns) (take (i + 1) es)
-parts_done conns es i d t s heads lt is same =
-    let cids = cids_in conns in
-    let next : take (i + 1) es ≡ take i es ++ Done t s ∷ [] = take_more es i d lt ∙ ap (λ (e : Event). take i es ++ e ∷ []) is in
-    same ∙ map_same _ _ cids (λ k lo. sym (part_snoc _ (take i es) (Done t s) ∙ append-nil _)) ∙ ap (parts cids) (sym next)
+pub parts_done : (conns : List (ℕ × ℕ)) (before : List Event) (t s : ℕ) (heads : List (List (List ℕ)))
+    → heads ≡ parts (cids_in conns) before → heads ≡ parts (cids_in conns) (before ++ Done t s ∷ [])
+parts_done conns before t s heads same =
+    same ∙ map_same _ _ (cids_in conns) (λ k lo. sym (part_snoc _ before (Done t s) ∙ append-nil _))
 
 -- ---- the journal
 

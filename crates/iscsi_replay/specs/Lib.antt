@@ -7,6 +7,7 @@ pub mod Reading
 pub mod Watched
 pub mod Limits
 pub mod Command
+pub mod Dense
 pub mod Writing
 pub mod Replayed
 pub mod Threaded

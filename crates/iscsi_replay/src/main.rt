@@ -3,6 +3,8 @@
 #![tactic(auto)]
 
 mod command_line;
+mod event_source;
+mod events;
 mod fault;
 mod line;
 mod named;

@@ -5,6 +5,7 @@ ghost use Rattle.iscsi_history.specs.Settings.{is_known};
 ghost use Rattle.iscsi_replay.specs.Recorded.{view, take, read_line, Steps};
 ghost use Rattle.iscsi_replay.specs.declared.fault.ReplayFault.TheVariants.{BadLine};
 
+use crate::events::Events;
 use crate::fault::ReplayFault;
 use crate::line::Line;
 use crate::parse::parse_line;
@@ -24,18 +25,18 @@ const MAX_CONNS: usize = 64;
 pub struct Recording {
     /// The CID and the first StatSN of each connection.
     pub conns: Vec<(u16, u32)>,
-    pub events: Vec<Event>,
+    pub events: Events,
 }
 
 impl Recording {
     /// The recording of no line, without memory.
     pub fn new(alloc: Global) -> Recording
         ensures conns { result.conns.items ≡ [] }
-        ensures events { result.events.items ≡ [] }
+        ensures events { result.events ≡ [] }
     {
         Recording {
             conns: Vec::new(alloc),
-            events: Vec::new(alloc),
+            events: Events::new(alloc),
         }
     }
 
@@ -67,7 +68,7 @@ impl Recording {
                 return Err(ReplayFault::BadLine(number));
             }
         }
-        match self.events.push(event) {
+        match self.events.push(&event) {
             Ok(()) => Ok(()),
             Err(_) => Err(ReplayFault::NoMemory),
         }

@@ -15,6 +15,7 @@ ghost use Rattle.iscsi_replay.specs.Replayed.{setting_with, report_by, Reported,
 ghost use Rattle.iscsi_replay.specs.Writing.{AppendsFront, AppendsBut};
 ghost use Rattle.iscsi_replay.specs.Again.{IsRecordable, IsReadAgain};
 
+use crate::event_source::EventSource;
 use crate::fault::ReplayFault;
 use crate::reading::read_recording;
 use crate::recording::Recording;
@@ -106,32 +107,32 @@ fn write_chunk<W: Sink>(lines: &mut Vec<u8>, writer: &mut W) -> Result<(), Repla
     Ok(())
 }
 
-/// Writes the report of a recording, by a session that takes so many events. On `Err` a front of it is written.
-pub fn write_report<W: Sink>(
+/// Writes the report of events on these connections, by a session that takes so many. On `Err` a front of it is written.
+pub fn write_report<E: EventSource, W: Sink>(
     alloc: Global,
     settings: &Settings,
     most: u64,
-    recording: Recording,
+    conns: Vec<(u16, u32)>,
+    events: &mut E,
     writer: &mut W,
 ) -> Result<(), ReplayFault>
-    requires valid { is_valid (setting_with most settings.now (view recording).conns) ≡ true }
-    requires known { list_all (belongs_to (view recording).conns) (view recording).events ≡ true }
-    requires few { length (view recording).events ≤ most }
+    requires valid { is_valid (setting_with most settings.now conns.items) ≡ true }
+    requires known { list_all (belongs_to conns.items) (E.rest events.old) ≡ true }
+    requires few { length (E.rest events.old) ≤ most }
     requires fresh { W.has_failed writer.old ≡ false }
-    ensures ok { OnOk result (Appends (W.contents writer.old) (W.contents writer.new) (report_by (setting_with most settings.now (view recording).conns) (view recording).events)) }
-    ensures front { AppendsFront (W.contents writer.old) (W.contents writer.new) (report_by (setting_with most settings.now (view recording).conns) (view recording).events) }
+    ensures ok { OnOk result (Appends (W.contents writer.old) (W.contents writer.new) (report_by (setting_with most settings.now conns.items) (E.rest events.old))) }
+    ensures front { AppendsFront (W.contents writer.old) (W.contents writer.new) (report_by (setting_with most settings.now conns.items) (E.rest events.old)) }
     ensures failed { IsErrOf result ReplayFault.Write ↔ (W.has_failed writer.new ≡ true) }
     ensures kinds { IfErr result (λ e. e ≢ ReplayFault.Write → e ≡ ReplayFault.NoMemory) }
-    ensures promises { OnOk result (KeepsPromises (setting_with most settings.now (view recording).conns) (view recording).events (run_of (setting_with most settings.now (view recording).conns) (view recording).events)) }
+    ensures promises { OnOk result (KeepsPromises (setting_with most settings.now conns.items) (E.rest events.old) (run_of (setting_with most settings.now conns.items) (E.rest events.old))) }
 {
-    let Recording { conns, events } = recording;
     let mut session = open(alloc, settings, most, conns)?;
     let mut effects = Vec::new(alloc);
     let mut lines = Vec::new(alloc);
-    for event in &events {
+    'events: while let Some(event) = events.next() {
         effects.clear();
-        match session.step(event, &mut effects) {
-            Ok(numbers) => put_entry(event, numbers, &effects, &mut lines)?,
+        match session.step(&event, &mut effects) {
+            Ok(numbers) => put_entry(&event, numbers, &effects, &mut lines)?,
             Err(fault) => return Err(fault_of(fault)),
         }
         write_chunk(&mut lines, writer)?;
@@ -183,7 +184,15 @@ pub fn replay<R: Source, W: Sink>(
     }
     let mut recording = Recording::new(alloc);
     read_recording(alloc, reader, &mut recording)?;
-    write_report(alloc, settings, MAX_EVENTS, recording, writer)
+    let Recording { conns, events } = recording;
+    write_report(
+        alloc,
+        settings,
+        MAX_EVENTS,
+        conns,
+        &mut events.cursor(),
+        writer,
+    )
 }
 
 #[cfg(test)]

@@ -11,6 +11,8 @@ ghost use Rattle.iscsi_replay.specs.Order.{ReadsInOrder};
 ghost use Rattle.iscsi_replay.specs.Replayed.{ComesOfReading, IsReadWhole};
 ghost use Rattle.iscsi_replay.specs.Threaded.{headers, ComesOfThreads, IsJournalOf, ThreadsReported, FrontOfThreads, ThreadsAnswerAs};
 
+use crate::event_source::{EventSource, Listed};
+use crate::events::Events;
 use crate::fault::ReplayFault;
 use crate::reading::read_recording;
 use crate::recording::Recording;
@@ -82,15 +84,16 @@ fn place_of(conns: &[(u16, u32)], cid: u16) -> Option<usize>
 fn lists_of(
     alloc: Global,
     conns: &[(u16, u32)],
-    events: Vec<Event>,
+    events: Events,
 ) -> Result<Vec<Vec<[u8; 48]>>, AllocError>
     requires distinct { are_distinct conns.now ≡ true }
-    requires known { list_all (belongs_to conns.now) events.items ≡ true }
-    ensures { IfOk result (λ lists. map headers lists.items ≡ parts (cids_in conns.now) events.items) }
+    requires known { list_all (belongs_to conns.now) events ≡ true }
+    ensures { IfOk result (λ lists. map headers lists.items ≡ parts (cids_in conns.now) events) }
 {
     let mut lists = empty_lists(alloc, conns.len())?;
-    for event in &events {
-        let Event::Arrive { conn, header } = *event else {
+    let mut cursor = events.cursor();
+    'events: while let Some(event) = cursor.next() {
+        let Event::Arrive { conn, header } = event else {
             continue;
         };
         let Some(at) = place_of(conns, conn) else {
@@ -101,16 +104,23 @@ fn lists_of(
     Ok(lists)
 }
 
+/// The connections of a recording, and the events that threads made of its arrivals.
+#[derive(Drop)]
+struct Journal {
+    conns: Vec<(u16, u32)>,
+    events: Vec<Event>,
+}
+
 // The journal of the threads, for the headers that arrived.
 fn run_threads<T: Threads + Wait + Sync>(
     rt: &T,
     alloc: Global,
     settings: &Settings,
     recording: Recording,
-) -> Result<Recording, ReplayFault>
+) -> Result<Journal, ReplayFault>
     requires valid { are_valid settings.now ≡ true }
     requires sound { IsSound (view recording) }
-    ensures ok { IfOk result (λ j. IsJournalOf settings.now (view recording) (view j)) }
+    ensures ok { IfOk result (λ j. IsJournalOf settings.now (view recording) (record { conns = j.conns.items; events = j.events.items })) }
     ensures err { IfErr result ComesOfThreads }
 {
     let Recording { conns, events } = recording;
@@ -130,7 +140,7 @@ fn run_threads<T: Threads + Wait + Sync>(
         conns,
     };
     match serve_unlogged(rt, alloc, options, lists, &Good) {
-        Ok(ended) => Ok(Recording {
+        Ok(ended) => Ok(Journal {
             conns: kept,
             events: ended.journal,
         }),
@@ -185,8 +195,15 @@ pub fn replay_threads<T: Threads + Wait + Sync, R: Source, W: Sink>(
     }
     let mut recording = Recording::new(alloc);
     read_recording(alloc, reader, &mut recording)?;
-    let journal = run_threads(rt, alloc, settings, recording)?;
-    write_report(alloc, settings, MAX_EVENTS, journal, writer)
+    let Journal { conns, events } = run_threads(rt, alloc, settings, recording)?;
+    write_report(
+        alloc,
+        settings,
+        MAX_EVENTS,
+        conns,
+        &mut Listed::new(&events),
+        writer,
+    )
 }
 
 #[cfg(test)]

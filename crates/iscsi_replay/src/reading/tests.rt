@@ -1,6 +1,7 @@
 ghost use Rattle.std.specs.Prelude.{None, false};
 
 use super::*;
+use crate::event_source::EventSource;
 use crate::watched::Watched;
 use iscsi_session::Event;
 use std::io;
@@ -118,7 +119,8 @@ fn reads_in_pieces_of_any_size(rt: HostRuntime) -> Result<(), Fail> {
             [(1, 1), (65535, 0xffff_ffff)].as_slice()
         );
         assert_eq!(rt; recording.events.len(), 2001);
-        for (i, event) in recording.events.iter().enumerate() {
+        let mut cursor = recording.events.cursor();
+        for i in 0..2001u32 {
             let want = if i == 2000 {
                 Event::Done {
                     ticket: 0,
@@ -132,7 +134,7 @@ fn reads_in_pieces_of_any_size(rt: HostRuntime) -> Result<(), Fail> {
                     status: 0xa0,
                 }
             };
-            assert_eq!(rt; *event, want, "event {i} at {size}");
+            assert_eq!(rt; cursor.next(), Some(want), "event {i} at {size}");
         }
     }
     Ok(())

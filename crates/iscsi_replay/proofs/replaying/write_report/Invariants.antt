@@ -1,15 +1,21 @@
-use Rattle.std.proofs.Common.{◌≡◌, false, take}
+use Rattle.std.proofs.Common.{◌≡◌, ◌++◌, List, length, false}
+use Rattle.iscsi_history.specs.declared.event.Event.{Event}
 use Rattle.iscsi_history.specs.Flow.{FlowsThrough}
 use Rattle.iscsi_session.specs.Standing.{StandsFor}
 use Rattle.iscsi_replay.specs.Replayed.{setting_with, report_by}
 use Rattle.iscsi_replay.specs.Writing.{AppendsBut}
 use Rattle.iscsi_replay.proofs.replaying.write_report.Given as goal
 
-abbrev pub invariant-loop-event : goal.invariant-loop-event
-invariant-loop-event g l = record {
+abbrev pub invariant-events : goal.invariant-events
+invariant-events g l = record {
+  before : List Event;
+  whole : g.E.EventSource.rest l.initial.events ≡ before ++ g.E.EventSource.rest l.events;
   fresh : g.W.Sink.has_failed l.writer ≡ false;
-  stands : StandsFor (setting_with l.fn.most l.settings l.fn.recording.conns.items) l.session (take l.event-index l.event-items);
-  flow : FlowsThrough (setting_with l.fn.most l.settings l.fn.recording.conns.items) (take l.event-index l.event-items);
+  stands : StandsFor (setting_with l.fn.most l.settings l.fn.conns.items) l.session before;
+  flow : FlowsThrough (setting_with l.fn.most l.settings l.fn.conns.items) before;
   written : AppendsBut (g.W.Sink.contents l.initial.writer) (g.W.Sink.contents l.writer) l.lines.items
-      (report_by (setting_with l.fn.most l.settings l.fn.recording.conns.items) (take l.event-index l.event-items));
+      (report_by (setting_with l.fn.most l.settings l.fn.conns.items) before);
 }
+
+abbrev pub decreases-events : goal.decreases-events
+decreases-events g l = length (g.E.EventSource.rest l.events)

@@ -1,4 +1,4 @@
-use Rattle.std.proofs.Common.{◌≡◌, true, sym, subst}
+use Rattle.std.proofs.Common.{◌≡◌, ◌∙◌, true, sym, subst}
 use Rattle.std.specs.List.{list_all}
 use Rattle.iscsi_replay.specs.Recorded.{belongs_to}
 use Rattle.iscsi_replay.proofs.OrderLemmas.{settings_at_first}
@@ -10,6 +10,7 @@ returns-then-not-are_valid-clause-order g c = settings_at_first _
 
 pub write_report-requires-clause-known : goal.write_report-requires-clause-known
 write_report-requires-clause-known g c =
-    let j = c.in_ok-journal.journal in
-    let of = c.in_ok-journal.ensures.ok in
-    subst (λ conns. list_all (belongs_to conns) j.events.items ≡ true) (sym of.conns) (sources_known _ c.args.settings.now.units j.events.items of.sources of.ran.sourced)
+    let j = c.in_ok-conns.field-0 in
+    let of = c.in_ok-conns.ensures.ok in
+    let known = subst (λ conns. list_all (belongs_to conns) j.events.items ≡ true) (sym of.conns) (sources_known _ c.args.settings.now.units j.events.items of.sources of.ran.sourced) in
+    subst (λ events. list_all (belongs_to j.conns.items) events ≡ true) (sym (c.new.ensures ∙ c.deref.ensures.value)) known

@@ -14,5 +14,5 @@ returns-in-Ok-serve_unlogged-clause-ok g c =
       few = served.few;
       sources = e.from.items;
       ran = ran_of c.args.settings.now (view c.args.recording) c.in-Ok.lists.items e.journal.items e.from.items e.left.items e.untaken.items e.unread.items
-          (subst (λ conns. map headers c.in-Ok.lists.items ≡ parts (cids_in conns) c.args.recording.events.items) c.deref.ensures.value c.in-Ok.ensures) served;
+          (subst (λ conns. map headers c.in-Ok.lists.items ≡ parts (cids_in conns) c.args.recording.events) c.deref.ensures.value c.in-Ok.ensures) served;
     }

@@ -1,0 +1,189 @@
+//! Events that stand one after another in few bytes.
+
+ghost use Rattle.std.specs.Prelude.{◌≡◌, ◌==◌, ◌<◌, ◌^◌, [], ◌∷◌, ◌++◌, length, vec_len, OnOk, OnErr};
+ghost use Rattle.iscsi_replay.specs.Dense.{bytes_of, Fits, first_size, event_in};
+
+use crate::event_source::EventSource;
+use byteorder::{BigEndian, ByteOrder};
+use iscsi_session::Event;
+use std::alloc::{AllocError, Global};
+use std::marker::Model;
+
+/// What stands first in the bytes of an arrival, and in those of a completion.
+const ARRIVAL: u8 = 0;
+
+const COMPLETION: u8 = 1;
+
+/// How many bytes an arrival takes: its kind, the CID and the header.
+const ARRIVAL_SIZE: usize = 51;
+
+/// How many bytes a completion takes: its kind, the ticket and the status.
+const COMPLETION_SIZE: usize = 10;
+
+/// Events in their order, each in as many bytes as its kind needs.
+#[derive(Debug, Drop)]
+pub struct Events {
+    bytes: Vec<u8>,
+    count: usize,
+}
+
+impl Model for Events {
+    ghost use Rattle.std.specs.Prelude.{List};
+    ghost use Rattle.iscsi_history.specs.declared.event.Event.{Event as SpecEvent};
+
+    ghost Value = { List SpecEvent };
+
+    ghost use Rattle.iscsi_replay.specs.Dense.{events_of, IsDense};
+
+    ghost view = { λ e. events_of e.count e.bytes.items };
+
+    ghost invariant = { λ e. IsDense e.count e.bytes.items };
+}
+
+/// The bytes of an arrival.
+fn arrival(conn: u16, header: &[u8; 48]) -> [u8; ARRIVAL_SIZE]
+    ensures { result ≡ bytes_of (Event.Arrive conn header.now) }
+{
+    let mut bytes = [ARRIVAL; ARRIVAL_SIZE];
+    BigEndian::write_u16(&mut bytes[1..3], conn);
+    bytes[3..].copy_from_slice(header);
+    bytes
+}
+
+/// The bytes of a completion.
+fn completion(ticket: u64, status: u8) -> [u8; COMPLETION_SIZE]
+    ensures { result ≡ bytes_of (Event.Done ticket status) }
+{
+    let mut bytes = [COMPLETION; COMPLETION_SIZE];
+    BigEndian::write_u64(&mut bytes[1..9], ticket);
+    bytes[9] = status;
+    bytes
+}
+
+/// Appends the bytes of an event.
+fn put(event: &Event, bytes: &mut Vec<u8>) -> Result<(), AllocError>
+    ensures ok { OnOk result (bytes.new.items ≡ bytes.old.items ++ bytes_of event.now) }
+    ensures err { OnErr result (bytes.new.items ≡ bytes.old.items) }
+    ensures fits { Fits event.now }
+    ensures room { vec_len bytes.old < 2 ^ 63 }
+{
+    match event {
+        Event::Arrive { conn, header } => bytes.extend_from_slice(&arrival(*conn, header)),
+        Event::Done { ticket, status } => bytes.extend_from_slice(&completion(*ticket, *status)),
+    }
+}
+
+/// How many bytes the first event takes.
+fn first_size(bytes: &[u8]) -> usize
+    requires { 0 < length bytes.now }
+    ensures { result ≡ first_size bytes.now }
+{
+    if bytes[0] == ARRIVAL {
+        ARRIVAL_SIZE
+    } else {
+        COMPLETION_SIZE
+    }
+}
+
+/// The event that has these bytes.
+fn event_in(bytes: &[u8]) -> Event
+    requires { length bytes.now ≡ first_size bytes.now }
+    ensures { result ≡ event_in bytes.now }
+{
+    if bytes[0] == ARRIVAL {
+        let mut header = [0u8; 48];
+        header.copy_from_slice(&bytes[3..]);
+        Event::Arrive {
+            conn: BigEndian::read_u16(&bytes[1..]),
+            header,
+        }
+    } else {
+        Event::Done {
+            ticket: BigEndian::read_u64(&bytes[1..]),
+            status: bytes[9],
+        }
+    }
+}
+
+impl Events {
+    /// No events, without memory.
+    pub fn new(alloc: Global) -> Events
+        ensures { result ≡ [] }
+    {
+        Events {
+            bytes: Vec::new(alloc),
+            count: 0,
+        }
+    }
+
+    /// How many there are.
+    pub fn len(&self) -> usize
+        ensures { result ≡ length self.now }
+    {
+        self.count
+    }
+
+    /// Tells whether there are none.
+    pub fn is_empty(&self) -> bool
+        ensures { result ≡ (length self.now == 0) }
+    {
+        self.count == 0
+    }
+
+    /// Puts an event behind the others. On `Err` they stay as they were.
+    pub fn push(&mut self, event: &Event) -> Result<(), AllocError>
+        ensures ok { OnOk result (self.new ≡ self.old ++ event.now ∷ []) }
+        ensures err { OnErr result (self.new ≡ self.old) }
+    {
+        put(event, &mut self.bytes)?;
+        self.count += 1;
+        Ok(())
+    }
+
+    /// A reader of them, from the first on.
+    pub fn cursor(&self) -> Cursor<'_>
+        ensures { result ≡ self.now }
+    {
+        Cursor {
+            left: &self.bytes,
+            count: self.count,
+        }
+    }
+}
+
+/// A reader of events that stand in bytes.
+#[derive(Drop)]
+pub struct Cursor<'a> {
+    left: &'a [u8],
+    count: usize,
+}
+
+impl<'a> Model for Cursor<'a> {
+    ghost use Rattle.std.specs.Prelude.{List};
+    ghost use Rattle.iscsi_history.specs.declared.event.Event.{Event as SpecEvent};
+
+    ghost Value = { List SpecEvent };
+
+    ghost use Rattle.iscsi_replay.specs.Dense.{events_of, IsDense};
+
+    ghost view = { λ c. events_of c.count c.left.now };
+
+    ghost invariant = { λ c. IsDense c.count c.left.now };
+}
+
+impl EventSource for Cursor<'_> {
+    ghost rest = { λ cursor. cursor };
+
+    fn next(&mut self) -> Option<Event> {
+        if self.count == 0 {
+            return None;
+        }
+        let (first, left) = self.left.split_at(first_size(self.left));
+        self.left = left;
+        self.count -= 1;
+        Some(event_in(first))
+    }
+}
+
+#[cfg(test)]
+mod tests;
