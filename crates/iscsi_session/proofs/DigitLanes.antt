@@ -76,6 +76,15 @@ pub first_eight : (front back : List ℕ) (a b c d : ℕ) (rest : List ℕ) → 
 unfolding encode_with
 first_eight front back a b c d rest len e = sym (take-append-le 8 front back (omega (arith, len))) ∙ ap (take 8) e
 
+-- the digits of two numbers of four bytes each are the first of those of 16 bytes
+pub first_sixteen : (front back : List ℕ) (a b c d e f g h : ℕ) (rest : List ℕ) → length front ≡ 16
+    → front ++ back ≡ encode_lower (a ∷ b ∷ c ∷ d ∷ e ∷ f ∷ g ∷ h ∷ rest)
+    → (take 8 front ≡ encode_lower (a ∷ b ∷ c ∷ d ∷ [])) × (take 8 (drop 8 front) ≡ encode_lower (e ∷ f ∷ g ∷ h ∷ []))
+unfolding encode_with
+first_sixteen front back a b c d e f g h rest len is =
+    let whole : front ≡ encode_lower (a ∷ b ∷ c ∷ d ∷ e ∷ f ∷ g ∷ h ∷ []) = sym (take-append-le 16 front back (omega (arith, len)) ∙ take_all 16 front (omega (arith, len))) ∙ ap (take 16) is in
+    (ap (take 8) whole, ap (λ (l : List ℕ). take 8 (drop 8 l)) whole)
+
 in_thirds : (h : List ℕ) → length h ≡ 48 → take 16 h ++ (take 16 (drop 16 h) ++ take 16 (drop 32 h)) ≡ h
 in_thirds h len =
     let last : take 16 (drop 32 h) ≡ drop 32 h = take_all 16 (drop 32 h) (omega (arith, length-drop 32 h)) in

@@ -2,7 +2,7 @@
 //!
 //! Each function writes a text so that it ends at a place of the line, and says where it starts.
 
-ghost use Rattle.std.specs.Prelude.{◌≡◌, ◌+◌, ◌-◌, ◌*◌, ◌<◌, ◌≤◌, ◌∷◌, [], ◌++◌, length, take, drop, slice_index, decimal, vec_len, vec_capacity, OnOk, OnErr, IfErr, IsOk};
+ghost use Rattle.std.specs.Prelude.{◌≡◌, ◌+◌, ◌-◌, ◌*◌, ◌<◌, ◌≤◌, ◌∷◌, [], ◌++◌, length, take, drop, slice_index, codes, decimal, vec_len, vec_capacity, OnOk, OnErr, IfErr, IsOk};
 ghost use Rattle.hex.specs.Hex.{encode_lower, lower_digits};
 ghost use Rattle.iscsi_session.specs.Lines.{eight_digits};
 
@@ -65,6 +65,23 @@ pub fn put_digits(n: u32, line: &mut [u8], end: usize) -> usize
     let [a, b, c, d] = n.to_be_bytes();
     let (front, _) = digits_of(u8x16::from_array([a, b, c, d, 0, 0, 0, 0, 0, 0, 0, 0, 0, 0, 0, 0]));
     put_text(&front.to_array()[..8], line, end)
+}
+
+/// Writes two numbers in eight digits each, with a blank between them.
+#[inline(always)]
+pub fn put_two_digits(first: u32, second: u32, line: &mut [u8], end: usize) -> usize
+    requires { (17 ≤ end) × (end ≤ length line.old) }
+    ensures start { result + 17 ≡ end }
+    ensures written { drop result line.new ≡ eight_digits first ++ (codes " " ++ (eight_digits second ++ drop end line.old)) }
+{
+    let [a, b, c, d] = first.to_be_bytes();
+    let [e, f, g, h] = second.to_be_bytes();
+    let bytes = u8x16::from_array([a, b, c, d, e, f, g, h, 0, 0, 0, 0, 0, 0, 0, 0]);
+    let (digits, _) = digits_of(bytes);
+    let digits = digits.to_array();
+    let at = put_text(&digits[8..], line, end);
+    let at = put_text(b" ", line, at);
+    put_text(&digits[..8], line, at)
 }
 
 /// Writes the digits of a byte.

@@ -5,6 +5,6 @@ use Rattle.iscsi_session.proofs.report.put_request.Goals as goal
 
 pub returns-clause-ok : goal.returns-clause-ok
 returns-clause-ok c =
-    let written : drop c.put_text-at-3.result c.put_text-at-3.new.line ≡ (c.args.word.now ++ (request_fields c.args.request.now ++ codes "\n")) ++ replicate 32 10
-    = rw (c.put_text-at-3.ensures.written, c.put_small-at.ensures.written, c.put_text-at-2.ensures.written, c.put_digits-at-2.ensures.written, c.put_text-at.ensures.written, c.put_digits-at.ensures.written, c.conn.ensures, c.cmd_sn.ensures, c.itt.ensures) (simp append_assoc) in
-    ended c.append_within.result _ c.args.out.now.items c.put_text-at-3.new.line _ _ c.put_text-at-3.result 48 written (omega arith) (omega arith) c.append_within.ensures.ok
+    let written : drop c.put_text-at-2.result c.put_text-at-2.new.line ≡ (c.args.word.now ++ (request_fields c.args.request.now ++ codes "\n")) ++ replicate 32 10
+    = rw (c.put_text-at-2.ensures.written, c.put_small-at.ensures.written, c.put_text-at.ensures.written, c.put_two_digits-at.ensures.written, c.conn.ensures, c.cmd_sn.ensures, c.itt.ensures) (simp append_assoc) in
+    ended c.append_within.result _ c.args.out.now.items c.put_text-at-2.new.line _ _ c.put_text-at-2.result 48 written (omega arith) (omega arith) c.append_within.ensures.ok
