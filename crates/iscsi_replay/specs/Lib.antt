@@ -5,6 +5,7 @@ pub mod Recorded
 pub mod Order
 pub mod Reading
 pub mod Watched
+pub mod Known
 pub mod Limits
 pub mod Command
 pub mod Dense

@@ -17,7 +17,7 @@ pub record Recorded : Type 0 where
   pub events : List Event
 
 abbrev pub view : Recording → Recorded
-view r = record { conns = r.conns.items; events = r.events }
+view r = record { conns = r.conns; events = r.events }
 
 abbrev pub nothing : Recorded
 nothing = record { conns = []; events = [] }

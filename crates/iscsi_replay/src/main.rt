@@ -3,6 +3,7 @@
 #![tactic(auto)]
 
 mod command_line;
+mod conns;
 mod event_source;
 mod events;
 mod fault;

@@ -1,10 +1,10 @@
 //! The connections and events of a recording.
 
 ghost use Rattle.std.specs.Prelude.{◌≡◌, ok_or, [], OnErr};
-ghost use Rattle.iscsi_history.specs.Settings.{is_known};
 ghost use Rattle.iscsi_replay.specs.Recorded.{view, take, read_line, Steps};
 ghost use Rattle.iscsi_replay.specs.declared.fault.ReplayFault.TheVariants.{BadLine};
 
+use crate::conns::Conns;
 use crate::events::Events;
 use crate::fault::ReplayFault;
 use crate::line::Line;
@@ -23,37 +23,30 @@ const MAX_CONNS: usize = 64;
 /// What was recorded.
 #[derive(Debug, Drop)]
 pub struct Recording {
-    /// The CID and the first StatSN of each connection.
-    pub conns: Vec<(u16, u32)>,
+    pub conns: Conns,
     pub events: Events,
 }
 
 impl Recording {
     /// The recording of no line, without memory.
     pub fn new(alloc: Global) -> Recording
-        ensures conns { result.conns.items ≡ [] }
+        ensures conns { result.conns ≡ [] }
         ensures events { result.events ≡ [] }
     {
         Recording {
-            conns: Vec::new(alloc),
+            conns: Conns::new(alloc),
             events: Events::new(alloc),
         }
-    }
-
-    fn knows(&self, cid: u16) -> bool
-        ensures { result ≡ is_known cid self.now.conns.items }
-    {
-        self.conns.iter().any(|conn| conn.0 == cid)
     }
 
     fn take_conn(&mut self, number: u32, cid: u16, stat_sn: u32) -> Result<(), ReplayFault>
         ensures step { Steps result (view self.new) (ok_or (take (view self.old) (Line.Conn cid stat_sn)) (BadLine number)) }
         ensures err { OnErr result (view self.new ≡ view self.old) }
     {
-        if !self.events.is_empty() || self.knows(cid) || self.conns.len() >= MAX_CONNS {
+        if !self.events.is_empty() || self.conns.knows(cid) || self.conns.len() >= MAX_CONNS {
             return Err(ReplayFault::BadLine(number));
         }
-        match self.conns.push((cid, stat_sn)) {
+        match self.conns.push(cid, stat_sn) {
             Ok(()) => Ok(()),
             Err(_) => Err(ReplayFault::NoMemory),
         }
@@ -64,7 +57,7 @@ impl Recording {
         ensures err { OnErr result (view self.new ≡ view self.old) }
     {
         if let Event::Arrive { conn, .. } = event {
-            if !self.knows(conn) {
+            if !self.conns.knows(conn) {
                 return Err(ReplayFault::BadLine(number));
             }
         }

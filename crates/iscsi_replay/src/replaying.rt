@@ -189,7 +189,7 @@ pub fn replay<R: Source, W: Sink>(
         alloc,
         settings,
         MAX_EVENTS,
-        conns,
+        conns.into_list(),
         &mut events.cursor(),
         writer,
     )

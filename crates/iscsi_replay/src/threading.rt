@@ -124,6 +124,7 @@ fn run_threads<T: Threads + Wait + Sync>(
     ensures err { IfErr result ComesOfThreads }
 {
     let Recording { conns, events } = recording;
+    let conns = conns.into_list();
     let Ok(lists) = lists_of(alloc, &conns, events) else {
         return Err(ReplayFault::NoMemory);
     };

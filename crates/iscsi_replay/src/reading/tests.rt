@@ -114,12 +114,11 @@ fn reads_in_pieces_of_any_size(rt: HostRuntime) -> Result<(), Fail> {
         };
         let mut recording = Recording::new(alloc);
         read_recording(alloc, &mut source, &mut recording)?;
-        assert_eq!(rt;
-            recording.conns.as_slice(),
-            [(1, 1), (65535, 0xffff_ffff)].as_slice()
-        );
-        assert_eq!(rt; recording.events.len(), 2001);
-        let mut cursor = recording.events.cursor();
+        let Recording { conns, events } = recording;
+        let list = conns.into_list();
+        assert_eq!(rt; list.as_slice(), [(1, 1), (65535, 0xffff_ffff)].as_slice());
+        assert_eq!(rt; events.len(), 2001);
+        let mut cursor = events.cursor();
         for i in 0..2001u32 {
             let want = if i == 2000 {
                 Event::Done {

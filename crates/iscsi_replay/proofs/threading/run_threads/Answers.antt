@@ -1,7 +1,7 @@
-use Rattle.std.proofs.Common.{◌≡◌, map, subst, rules}
-use Rattle.iscsi_replay.specs.Threaded.{headers}
+use Rattle.std.proofs.Common.{◌≡◌, ℕ, List, map, subst, rules}
+use Rattle.iscsi_replay.specs.Threaded.{headers, IsJournalOf}
 use Rattle.iscsi_threads.specs.Journal.{cids_in, parts}
-use Rattle.iscsi_replay.specs.Recorded.{view}
+use Rattle.iscsi_replay.specs.Recorded.{Recorded}
 use Rattle.iscsi_replay.proofs.ThreadLemmas.{ran_of}
 use Rattle.iscsi_replay.proofs.threading.run_threads.Goals as goal
 
@@ -9,10 +9,13 @@ pub returns-in-Ok-serve_unlogged-clause-ok : goal.returns-in-Ok-serve_unlogged-c
 returns-in-Ok-serve_unlogged-clause-ok g c =
     let served = c.in-Ok-serve_unlogged.ensures.served in
     let e = c.in-Ok-serve_unlogged.ended in
-    record {
+    let given : Recorded = record { conns = c.into_list-conns.result.items; events = c.args.recording.events } in
+    let journal : Recorded = record { conns = c.in-Ok-to_vec.kept.items; events = e.journal.items } in
+    let of : IsJournalOf c.args.settings.now given journal = record {
       conns = search rules;
       few = served.few;
       sources = e.from.items;
-      ran = ran_of c.args.settings.now (view c.args.recording) c.in-Ok.lists.items e.journal.items e.from.items e.left.items e.untaken.items e.unread.items
+      ran = ran_of c.args.settings.now given c.in-Ok.lists.items e.journal.items e.from.items e.left.items e.untaken.items e.unread.items
           (subst (λ conns. map headers c.in-Ok.lists.items ≡ parts (cids_in conns) c.args.recording.events) c.deref.ensures.value c.in-Ok.ensures) served;
-    }
+    } in
+    subst (λ (conns : List (ℕ × ℕ)). IsJournalOf c.args.settings.now (record { conns = conns; events = c.args.recording.events }) journal) c.into_list-conns.ensures of
