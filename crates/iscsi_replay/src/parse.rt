@@ -1,6 +1,6 @@
 //! One line of a recording.
 
-ghost use Rattle.std.specs.Prelude.{◌≡◌, ℕ, ◌+◌, ◌-◌, ◌*◌, ◌<◌, ◌≤◌, true, length, slice_index, MatchOption, option_map, option_and_then, position};
+ghost use Rattle.std.specs.Prelude.{◌≡◌, ℕ, ◌+◌, ◌-◌, ◌*◌, ◌^◌, ◌<◌, ◌≤◌, IfSome, true, length, slice_index, MatchOption, option_map, option_and_then, position};
 ghost use Rattle.std.specs.List.{before_first, after_first};
 ghost use Rattle.std.specs.Int.{w32, from_be_bytes};
 ghost use Rattle.iscsi_replay.specs.Fields.{is_blank, digits_after, is_digit, up_to, decimal_of, hex_of};
@@ -181,22 +181,67 @@ fn cid(text: &[u8]) -> Option<u16>
     u16::try_from(n).ok()
 }
 
+/// The arrival on a connection of the header that these digits say.
+#[inline(always)]
+fn arrival_on(conn: u16, digits: &[u8]) -> Option<Line>
+    ensures { result ≡ option_map Line.Event (option_map (λ header. Event.Arrive conn header) (hex_of 48 digits.now)) }
+{
+    let header = decode_48(digits)?;
+    Some(Line::Event(Event::Arrive { conn, header }))
+}
+
+/// An arrival. Most CIDs are one digit.
 #[inline(never)]
 fn arrival(bytes: &[u8]) -> Option<Line>
     ensures { result ≡ option_map Line.Event (arrival_of bytes.now) }
 {
+    if let [d @ b'0'..=b'9', b' ', rest @ ..] = bytes {
+        return arrival_on(u16::from(*d - b'0'), rest);
+    }
     let (first, rest) = cut(bytes);
-    let conn = cid(first)?;
-    let header = decode_48(rest)?;
-    Some(Line::Event(Event::Arrive { conn, header }))
+    arrival_on(cid(first)?, rest)
+}
+
+/// A number of up to 18 digits at the front of a line, and what stands after the blank that ends it. `None` decides nothing.
+#[inline(always)]
+fn few_first(bytes: &[u8]) -> Option<(u64, &[u8])>
+    ensures { IfSome result (λ r. (decimal_of (2 ^ 64 - 1) (before_first is_blank bytes.now) ≡ Some r.0) × (r.1.now ≡ after_first is_blank bytes.now)) }
+{
+    if let [] | [b'0' | b' ', ..] = bytes {
+        return None;
+    }
+    let mut n = 0u64;
+    'digits: for i in 0..bytes.len().min(19) {
+        let d = bytes[i];
+        if !is_decimal(d) {
+            if d == b' ' {
+                return Some((n, &bytes[i + 1..]));
+            }
+            return None;
+        }
+        n = n * 10 + u64::from(d - b'0');
+    }
+    None
+}
+
+/// The ticket at the front of a line, and what stands after the blank that ends it.
+#[inline(always)]
+fn ticket_first(bytes: &[u8]) -> Option<(u64, &[u8])>
+    ensures { MatchOption result (decimal_of (2 ^ 64 - 1) (before_first is_blank bytes.now) ≡ None) (λ r. (decimal_of (2 ^ 64 - 1) (before_first is_blank bytes.now) ≡ Some r.0) × (r.1.now ≡ after_first is_blank bytes.now)) }
+{
+    if let Some(found) = few_first(bytes) {
+        return Some(found);
+    }
+    let (first, rest) = cut(bytes);
+    let ticket = decimal(first, u64::MAX)?;
+    Some((ticket, rest))
 }
 
 #[inline(never)]
 fn completion(bytes: &[u8]) -> Option<Line>
     ensures { result ≡ option_map Line.Event (completion_of bytes.now) }
 {
-    let (first, rest) = cut(bytes);
-    let ticket = decimal(first, u64::MAX)?;
+    let (ticket, rest) = ticket_first(bytes)?;
     let [status] = hexadecimal::<1>(rest)?;
     Some(Line::Event(Event::Done { ticket, status }))
 }
