@@ -183,17 +183,17 @@ fn cid(text: &[u8]) -> Option<u16>
 
 /// The arrival on a connection of the header that these digits say.
 #[inline(always)]
-fn arrival_on(conn: u16, digits: &[u8]) -> Option<Line>
-    ensures { result ≡ option_map Line.Event (option_map (λ header. Event.Arrive conn header) (hex_of 48 digits.now)) }
+fn arrival_on(conn: u16, digits: &[u8]) -> Option<Event>
+    ensures { result ≡ option_map (λ header. Event.Arrive conn header) (hex_of 48 digits.now) }
 {
     let header = decode_48(digits)?;
-    Some(Line::Event(Event::Arrive { conn, header }))
+    Some(Event::Arrive { conn, header })
 }
 
-/// An arrival. Most CIDs are one digit.
-#[inline(never)]
-fn arrival(bytes: &[u8]) -> Option<Line>
-    ensures { result ≡ option_map Line.Event (arrival_of bytes.now) }
+/// An arrival, without the letter before it. Most CIDs are one digit.
+#[inline(always)]
+pub fn arrival(bytes: &[u8]) -> Option<Event>
+    ensures { result ≡ arrival_of bytes.now }
 {
     if let [d @ b'0'..=b'9', b' ', rest @ ..] = bytes {
         return arrival_on(u16::from(*d - b'0'), rest);
@@ -237,13 +237,14 @@ fn ticket_first(bytes: &[u8]) -> Option<(u64, &[u8])>
     Some((ticket, rest))
 }
 
-#[inline(never)]
-fn completion(bytes: &[u8]) -> Option<Line>
-    ensures { result ≡ option_map Line.Event (completion_of bytes.now) }
+/// A completion, without the letter before it.
+#[inline(always)]
+pub fn completion(bytes: &[u8]) -> Option<Event>
+    ensures { result ≡ completion_of bytes.now }
 {
     let (ticket, rest) = ticket_first(bytes)?;
     let [status] = hexadecimal::<1>(rest)?;
-    Some(Line::Event(Event::Done { ticket, status }))
+    Some(Event::Done { ticket, status })
 }
 
 #[inline(never)]
@@ -261,8 +262,8 @@ fn connection(bytes: &[u8]) -> Option<Line>
 
 /// An event that stands behind the mark that it has in a report.
 #[inline(never)]
-fn marked(bytes: &[u8]) -> Option<Line>
-    ensures { result ≡ option_map Line.Event (event_of bytes.now) }
+fn marked(bytes: &[u8]) -> Option<Event>
+    ensures { result ≡ event_of bytes.now }
 {
     match bytes {
         [b'C', b' ', rest @ ..] => arrival(rest),
@@ -272,14 +273,14 @@ fn marked(bytes: &[u8]) -> Option<Line>
 }
 
 /// What a line says, or `None` where it is no line of a recording.
-#[inline(always)]
+#[inline(never)]
 pub fn parse_line(bytes: &[u8]) -> Option<Line>
     ensures { result ≡ line_of bytes.now }
 {
     match bytes {
-        [b'C', b' ', rest @ ..] => arrival(rest),
-        [b'D', b' ', rest @ ..] => completion(rest),
-        [b'>', b' ', rest @ ..] => marked(rest),
+        [b'C', b' ', rest @ ..] => Some(Line::Event(arrival(rest)?)),
+        [b'D', b' ', rest @ ..] => Some(Line::Event(completion(rest)?)),
+        [b'>', b' ', rest @ ..] => Some(Line::Event(marked(rest)?)),
         [b'c', b'o', b'n', b'n', b' ', rest @ ..] => connection(rest),
         [] | [b'#' | b' ', ..] => Some(Line::Passed),
         _ => None,

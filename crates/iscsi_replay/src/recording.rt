@@ -1,6 +1,7 @@
 //! The connections and events of a recording.
 
-ghost use Rattle.std.specs.Prelude.{◌≡◌, ok_or, [], OnErr};
+ghost use Rattle.std.specs.Prelude.{◌≡◌, ok_or, option_map, option_and_then, [], OnErr};
+ghost use Rattle.iscsi_replay.specs.Grammar.{arrival_of, completion_of};
 ghost use Rattle.iscsi_replay.specs.Recorded.{view, take, read_line, Steps};
 ghost use Rattle.iscsi_replay.specs.declared.fault.ReplayFault.TheVariants.{BadLine};
 
@@ -8,7 +9,7 @@ use crate::conns::Conns;
 use crate::events::Events;
 use crate::fault::ReplayFault;
 use crate::line::Line;
-use crate::parse::parse_line;
+use crate::parse::{arrival, completion, parse_line};
 use iscsi_session::Event;
 use std::alloc::Global;
 
@@ -52,6 +53,7 @@ impl Recording {
         }
     }
 
+    #[inline(always)]
     fn take_event(&mut self, number: u32, event: Event) -> Result<(), ReplayFault>
         ensures step { Steps result (view self.new) (ok_or (take (view self.old) (Line.Event event)) (BadLine number)) }
         ensures err { OnErr result (view self.new ≡ view self.old) }
@@ -79,7 +81,33 @@ impl Recording {
         }
     }
 
+    /// Takes the arrival that these bytes of line `number` say.
+    #[inline(never)]
+    fn take_arrival(&mut self, number: u32, bytes: &[u8]) -> Result<(), ReplayFault>
+        ensures step { Steps result (view self.new) (ok_or (option_and_then (take (view self.old)) (option_map Line.Event (arrival_of bytes.now))) (BadLine number)) }
+        ensures err { OnErr result (view self.new ≡ view self.old) }
+    {
+        match arrival(bytes) {
+            Some(event) => self.take_event(number, event),
+            None => Err(ReplayFault::BadLine(number)),
+        }
+    }
+
+    /// Takes the completion that these bytes of line `number` say.
+    #[inline(never)]
+    fn take_completion(&mut self, number: u32, bytes: &[u8]) -> Result<(), ReplayFault>
+        ensures step { Steps result (view self.new) (ok_or (option_and_then (take (view self.old)) (option_map Line.Event (completion_of bytes.now))) (BadLine number)) }
+        ensures err { OnErr result (view self.new ≡ view self.old) }
+    {
+        match completion(bytes) {
+            Some(event) => self.take_event(number, event),
+            None => Err(ReplayFault::BadLine(number)),
+        }
+    }
+
     /// Takes line `number`, which has these bytes. On `Err` the recording stays as it was.
+    ///
+    /// Most lines are events. They go from their digits into the recording at once.
     #[tactic(auto, unfolding(crate::specs::Recorded::read_line))]
     pub fn take_line(&mut self, number: u32, bytes: &[u8]) -> Result<(), ReplayFault>
         ensures step { Steps result (view self.new) (read_line number (view self.old) bytes.now) }
@@ -91,9 +119,13 @@ impl Recording {
         if bytes.len() > MAX_LINE {
             return Err(ReplayFault::LineTooLong(number));
         }
-        match parse_line(bytes) {
-            Some(line) => self.take(number, line),
-            None => Err(ReplayFault::BadLine(number)),
+        match bytes {
+            [b'C', b' ', rest @ ..] => self.take_arrival(number, rest),
+            [b'D', b' ', rest @ ..] => self.take_completion(number, rest),
+            _ => match parse_line(bytes) {
+                Some(line) => self.take(number, line),
+                None => Err(ReplayFault::BadLine(number)),
+            },
         }
     }
 }
