@@ -3,7 +3,8 @@ use Rattle.std.proofs.Common.{◌≡◌, ℕ, zero, suc, ◌+◌, ◌*◌, ◌/�
 use Rattle.iscsi_session.proofs.LineLemmas.{encode_lower_append}
 use Rattle.std.proofs.lemmas.List.{append_assoc, take_all, take-append-le, take-append-drop, drop-drop, length-drop, get_or-map, length-map, ext_get_or}
 use Rattle.std.proofs.lemmas.Nat.{and_le_r, and_mask}
-use Rattle.std.proofs.lemmas.Simd.{Each1-all, Each1-weaker, Each1-zip2, Each2-splat, below_from_Fits, length-zip2, zip2_splat, swz_l, SwzOk, SwzOk-from_below, length-swz_l, get_or-swz_l_below}
+use Rattle.std.proofs.lemmas.Simd.{pick_l_left, pick_l-range_with_len, Each1-all, Each1-weaker, Each1-zip2, Each2-splat, below_from_Fits, length-zip2, zip2_splat, swz_l, SwzOk, SwzOk-from_below, length-swz_l, get_or-swz_l_below}
+use Rattle.std.specs.List.{range_with_len}
 use lib.Lanes.{zip2, pick_l, Each1}
 use Rattle.hex.specs.Hex.{encode_with, encode_lower, lower_digits}
 
@@ -69,6 +70,10 @@ woven v long fits =
     let high = looked_up lower_digits (λ x. x / 16) v _ long fits (zip2_splat down v 16 4 long) (λ x h. omega arith) in
     let low = looked_up lower_digits (λ x. bit_and x 15) v _ long fits (zip2_splat bit_and v 16 15 long) (λ x h. omega (arith, and_le_r x 15)) in
     rw (high, low) (weave_maps (λ x. slice_index lower_digits (x / 16)) (λ x. slice_index lower_digits (bit_and x 15)) v long ∙ encode-pairs lower_digits v)
+
+-- the first eight of 16 lanes
+pub extracted : (xs : List ℕ) → length xs ≡ 16 → pick_l 0 (xs ++ xs) (range_with_len 0 8) ≡ take 8 xs
+extracted xs len = pick_l_left 0 xs xs 16 (range_with_len 0 8) len tt ∙ pick_l-range_with_len 0 xs 0 8 (omega (arith, len))
 
 -- the digits of a number of four bytes are the first of those of 16 bytes
 pub first_eight : (front back : List ℕ) (a b c d : ℕ) (rest : List ℕ) → length front ≡ 16 → front ++ back ≡ encode_lower (a ∷ b ∷ c ∷ d ∷ rest)

@@ -201,10 +201,12 @@ fn put_send(
     ensures memory { IfErr result (λ e. e ≡ SessionFault.NoMemory) }
     ensures room { vec_len out.old + LONGEST_LINE ≤ vec_capacity out.old → IsOk result }
 {
-    let pdu = reply.encode(stat_sn, numbers.exp, numbers.max);
-    if pdu.tail().len() == 0 {
+    // Most replies are of this kind. Here the compiler knows which, and that there is no tail.
+    if let Reply::Scsi { sense: None, .. } = reply {
+        let pdu = reply.encode(stat_sn, numbers.exp, numbers.max);
         return put_header_alone(conn, pdu.header(), out);
     }
+    let pdu = reply.encode(stat_sn, numbers.exp, numbers.max);
     put_pdu(conn, &pdu, out)
 }
 

@@ -41,6 +41,9 @@ pub fn put_small(n: u16, line: &mut [u8], end: usize) -> usize
     put_decimal(u64::from(n), line, end)
 }
 
+/// The least number of two digits.
+const TWO_DIGITS: u64 = 10;
+
 // A number of one digit, as most connections and units have, is written at once.
 #[inline(always)]
 fn put_decimal(n: u64, line: &mut [u8], end: usize) -> usize
@@ -48,7 +51,7 @@ fn put_decimal(n: u64, line: &mut [u8], end: usize) -> usize
     ensures start { result + length (decimal n) ≡ end }
     ensures written { drop result line.new ≡ decimal n ++ drop end line.old }
 {
-    if n < 10 {
+    if n < TWO_DIGITS {
         line[end - 1] = b'0' + n as u8;
         return end - 1;
     }
@@ -64,7 +67,7 @@ pub fn put_digits(n: u32, line: &mut [u8], end: usize) -> usize
 {
     let [a, b, c, d] = n.to_be_bytes();
     let (front, _) = digits_of(u8x16::from_array([a, b, c, d, 0, 0, 0, 0, 0, 0, 0, 0, 0, 0, 0, 0]));
-    put_text(&front.to_array()[..8], line, end)
+    put_text(&front.extract::<0, 8>().to_array(), line, end)
 }
 
 /// Writes two numbers in eight digits each, with a blank between them.
@@ -118,13 +121,16 @@ pub fn put_bytes(bytes: &[u8], line: &mut [u8], end: usize) -> usize
     put_text(digits, line, end)
 }
 
+/// The hexadecimal digits.
+static DIGITS: [u8; 16] = *b"0123456789abcdef";
+
 /// The hexadecimal digit of a number below 16.
 #[inline(always)]
 fn digit(d: u8) -> u8
     requires { d < 16 }
     ensures { result ≡ slice_index lower_digits d }
 {
-    if d > 9 { d + 87 } else { d + 48 }
+    DIGITS[d as usize]
 }
 
 /// Appends the text from `at` to `end`. It copies a number of bytes that is the same for all lines of a kind, so
@@ -182,10 +188,7 @@ fn digits_of(bytes: u8x16) -> (u8x16, u8x16)
     ensures digits { result.0 ++ result.1 ≡ encode_lower bytes }
     ensures len { length result.0 ≡ 16 }
 {
-    let digits = u8x16::from_array([
-        b'0', b'1', b'2', b'3', b'4', b'5', b'6', b'7', b'8', b'9', b'a', b'b', b'c', b'd', b'e',
-        b'f',
-    ]);
+    let digits = u8x16::from_array(DIGITS);
     let high = digits.swizzle_dyn(bytes >> 4);
     let low = digits.swizzle_dyn(bytes & u8x16::splat(15));
     high.interleave(low)

@@ -1,5 +1,5 @@
-use Rattle.std.proofs.Common.{◌≡◌, refl, List, ℕ, ◌++◌, length, codes, decimal, ap, sym, ◌∙◌, append_assoc}
-use Rattle.std.proofs.lemmas.List.{append-nil, nil_from_length}
+use Rattle.std.proofs.Common.{rules, [], ◌≡◌, refl, List, ℕ, ◌++◌, codes, decimal, ap, sym, ◌∙◌, append_assoc}
+use Rattle.std.proofs.lemmas.List.{append-nil}
 use Rattle.std.proofs.lemmas.Result.{on_ok_weaker}
 use Rattle.iscsi_wire.specs.Pdus.{pdu_header, pdu_tail}
 use Rattle.iscsi_wire.specs.Replies.{header_of, tail_of}
@@ -8,19 +8,20 @@ use Rattle.iscsi_session.proofs.LineLemmas.{encode_lower_append}
 use Rattle.iscsi_session.proofs.report.put_send.Goals as goal
 
 -- the digits, where no bytes follow the header
-alone : (header h tail t : List ℕ) → header ≡ h → tail ≡ t → length tail ≡ 0 → encode_lower header ≡ encode_lower (h ++ t)
-alone header h tail t e f none = ap encode_lower (e ∙ sym (append-nil h) ∙ ap (λ (l : List ℕ). h ++ l) (sym (nil_from_length tail none) ∙ f))
+alone : (header h t : List ℕ) → header ≡ h → t ≡ [] → encode_lower header ≡ encode_lower (h ++ t)
+alone header h t e none = ap encode_lower (e ∙ sym (append-nil h) ∙ ap (λ (l : List ℕ). h ++ l) (sym none))
 
 both : (header h tail t : List ℕ) → header ≡ h → tail ≡ t → encode_lower header ++ (encode_lower tail ++ codes "\n") ≡ encode_lower (h ++ t) ++ codes "\n"
 both header h tail t e f =
     sym (append_assoc (encode_lower header) (encode_lower tail) (codes "\n"))
     ∙ ap (λ (l : List ℕ). l ++ codes "\n") (sym (encode_lower_append header tail) ∙ rw (e, f) refl)
 
-pub returns-then-tail-eq0-clause-ok : goal.returns-then-tail-eq0-clause-ok
-returns-then-tail-eq0-clause-ok c =
+pub returns-in-Scsi-default-default-None-clause-ok : goal.returns-in-Scsi-default-default-None-clause-ok
+returns-in-Scsi-default-default-None-clause-ok c =
     let header : List ℕ = header_of c.args.reply.now c.args.stat_sn c.args.numbers.exp c.args.numbers.max in
     let tail : List ℕ = tail_of c.args.reply.now in
-    let digits = alone c.header.result.now header c.tail.result.now tail (c.header.ensures ∙ c.encode-pdu.ensures.header) (c.tail.ensures ∙ c.encode-pdu.ensures.tail) c.if-tail-eq0.true in
+    let none : tail ≡ [] = search rules in
+    let digits = alone c.header.result.now header tail (c.header.ensures ∙ c.encode-pdu.ensures.header) none in
     let apart = append_assoc (decimal c.args.conn) (codes " " ++ encode_lower (header ++ tail)) (codes "\n") in
     on_ok_weaker c.put_header_alone.result
     (λ e. e ∙ ap (λ (l : List ℕ). c.args.out.now.items ++ (codes "  send " ++ l))
@@ -31,8 +32,8 @@ pub returns-clause-ok : goal.returns-clause-ok
 returns-clause-ok c =
     let header : List ℕ = header_of c.args.reply.now c.args.stat_sn c.args.numbers.exp c.args.numbers.max in
     let tail : List ℕ = tail_of c.args.reply.now in
-    let pdu = c.encode-pdu.result in
-    let digits = both (pdu_header pdu) header (pdu_tail pdu) tail c.encode-pdu.ensures.header c.encode-pdu.ensures.tail in
+    let pdu = c.encode-pdu-2.result in
+    let digits = both (pdu_header pdu) header (pdu_tail pdu) tail c.encode-pdu-2.ensures.header c.encode-pdu-2.ensures.tail in
     let apart = append_assoc (decimal c.args.conn) (codes " " ++ encode_lower (header ++ tail)) (codes "\n") in
     on_ok_weaker c.put_pdu.result
     (λ e. e ∙ ap (λ (l : List ℕ). c.args.out.now.items ++ (codes "  send " ++ l))
