@@ -183,21 +183,18 @@ fn cid(text: &[u8]) -> Option<u16>
 
 /// The arrival on a connection of the header that these digits say.
 #[inline(always)]
-fn arrival_on(conn: u16, digits: &[u8]) -> Option<Event>
+pub fn arrival_on(conn: u16, digits: &[u8]) -> Option<Event>
     ensures { result ≡ option_map (λ header. Event.Arrive conn header) (hex_of 48 digits.now) }
 {
     let header = decode_48(digits)?;
     Some(Event::Arrive { conn, header })
 }
 
-/// An arrival, without the letter before it. Most CIDs are one digit.
-#[inline(always)]
+/// An arrival, without the letter before it.
+#[inline(never)]
 pub fn arrival(bytes: &[u8]) -> Option<Event>
     ensures { result ≡ arrival_of bytes.now }
 {
-    if let [d @ b'0'..=b'9', b' ', rest @ ..] = bytes {
-        return arrival_on(u16::from(*d - b'0'), rest);
-    }
     let (first, rest) = cut(bytes);
     arrival_on(cid(first)?, rest)
 }

@@ -1,7 +1,7 @@
 //! The connections and events of a recording.
 
 ghost use Rattle.std.specs.Prelude.{◌≡◌, ok_or, option_map, option_and_then, [], OnErr};
-ghost use Rattle.iscsi_replay.specs.Grammar.{arrival_of, completion_of};
+ghost use Rattle.iscsi_replay.specs.Grammar.{arrival_of, completion_of, line_of};
 ghost use Rattle.iscsi_replay.specs.Recorded.{view, take, read_line, Steps};
 ghost use Rattle.iscsi_replay.specs.declared.fault.ReplayFault.TheVariants.{BadLine};
 
@@ -9,7 +9,7 @@ use crate::conns::Conns;
 use crate::events::Events;
 use crate::fault::ReplayFault;
 use crate::line::Line;
-use crate::parse::{arrival, completion, parse_line};
+use crate::parse::{arrival, arrival_on, completion, parse_line};
 use iscsi_session::Event;
 use std::alloc::Global;
 
@@ -81,16 +81,37 @@ impl Recording {
         }
     }
 
-    /// Takes the arrival that these bytes of line `number` say.
+    /// Takes the event that line `number` says, if it says one.
+    #[inline(always)]
+    fn take_said(&mut self, number: u32, event: Option<Event>) -> Result<(), ReplayFault>
+        ensures step { Steps result (view self.new) (ok_or (option_and_then (take (view self.old)) (option_map Line.Event event)) (BadLine number)) }
+        ensures err { OnErr result (view self.new ≡ view self.old) }
+    {
+        match event {
+            Some(event) => self.take_event(number, event),
+            None => Err(ReplayFault::BadLine(number)),
+        }
+    }
+
+    /// Takes the arrival that these bytes of line `number` say. Most CIDs are one digit.
     #[inline(never)]
     fn take_arrival(&mut self, number: u32, bytes: &[u8]) -> Result<(), ReplayFault>
         ensures step { Steps result (view self.new) (ok_or (option_and_then (take (view self.old)) (option_map Line.Event (arrival_of bytes.now))) (BadLine number)) }
         ensures err { OnErr result (view self.new ≡ view self.old) }
     {
-        match arrival(bytes) {
-            Some(event) => self.take_event(number, event),
-            None => Err(ReplayFault::BadLine(number)),
+        if let [d @ b'0'..=b'9', b' ', digits @ ..] = bytes {
+            return self.take_said(number, arrival_on(u16::from(*d - b'0'), digits));
         }
+        self.take_any_arrival(number, bytes)
+    }
+
+    /// Takes an arrival whose CID may have any digits.
+    #[inline(never)]
+    fn take_any_arrival(&mut self, number: u32, bytes: &[u8]) -> Result<(), ReplayFault>
+        ensures step { Steps result (view self.new) (ok_or (option_and_then (take (view self.old)) (option_map Line.Event (arrival_of bytes.now))) (BadLine number)) }
+        ensures err { OnErr result (view self.new ≡ view self.old) }
+    {
+        self.take_said(number, arrival(bytes))
     }
 
     /// Takes the completion that these bytes of line `number` say.
@@ -99,15 +120,24 @@ impl Recording {
         ensures step { Steps result (view self.new) (ok_or (option_and_then (take (view self.old)) (option_map Line.Event (completion_of bytes.now))) (BadLine number)) }
         ensures err { OnErr result (view self.new ≡ view self.old) }
     {
-        match completion(bytes) {
-            Some(event) => self.take_event(number, event),
+        self.take_said(number, completion(bytes))
+    }
+
+    /// Takes a line of any kind.
+    #[inline(never)]
+    fn take_any(&mut self, number: u32, bytes: &[u8]) -> Result<(), ReplayFault>
+        ensures step { Steps result (view self.new) (ok_or (option_and_then (take (view self.old)) (line_of bytes.now)) (BadLine number)) }
+        ensures err { OnErr result (view self.new ≡ view self.old) }
+    {
+        match parse_line(bytes) {
+            Some(line) => self.take(number, line),
             None => Err(ReplayFault::BadLine(number)),
         }
     }
 
     /// Takes line `number`, which has these bytes. On `Err` the recording stays as it was.
     ///
-    /// Most lines are events. They go from their digits into the recording at once.
+    /// Most lines are events, which go from their digits into the recording at once.
     #[tactic(auto, unfolding(crate::specs::Recorded::read_line))]
     pub fn take_line(&mut self, number: u32, bytes: &[u8]) -> Result<(), ReplayFault>
         ensures step { Steps result (view self.new) (read_line number (view self.old) bytes.now) }
@@ -122,10 +152,7 @@ impl Recording {
         match bytes {
             [b'C', b' ', rest @ ..] => self.take_arrival(number, rest),
             [b'D', b' ', rest @ ..] => self.take_completion(number, rest),
-            _ => match parse_line(bytes) {
-                Some(line) => self.take(number, line),
-                None => Err(ReplayFault::BadLine(number)),
-            },
+            _ => self.take_any(number, bytes),
         }
     }
 }
