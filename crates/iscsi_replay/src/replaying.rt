@@ -71,6 +71,7 @@ fn open(
 }
 
 /// Appends the lines of an event and of its effects.
+#[inline(always)]
 fn put_entry(
     event: &Event,
     numbers: Numbers,

@@ -20,6 +20,7 @@ mod line;
 pub const LONGEST_LINE: usize = 256;
 
 /// Appends the line of an event. `NoMemory` changes nothing, and doesn't come where there is room for a line.
+#[inline(always)]
 pub fn put_event(event: &Event, out: &mut Vec<u8>) -> Result<(), SessionFault>
     ensures ok { OnOk result (out.new.items ≡ out.old.items ++ event_line event.now) }
     ensures err { OnErr result (out.new.items ≡ out.old.items) }
@@ -34,6 +35,7 @@ pub fn put_event(event: &Event, out: &mut Vec<u8>) -> Result<(), SessionFault>
 
 /// Appends the line of an effect of an event that ended with these numbers. `NoMemory` changes nothing, and
 /// doesn't come where there is room for a line.
+#[inline(always)]
 pub fn put_effect(effect: &Effect, numbers: Numbers, out: &mut Vec<u8>) -> Result<(), SessionFault>
     ensures ok { OnOk result (out.new.items ≡ out.old.items ++ effect_line effect.now numbers) }
     ensures err { OnErr result (out.new.items ≡ out.old.items) }
