@@ -1,11 +1,15 @@
 -- Hexadecimal digits by vectors, where each lane is a byte.
-use Rattle.std.proofs.Common.{◌≡◌, ℕ, zero, suc, ◌+◌, ◌*◌, ◌/◌, ◌%◌, ◌^◌, ◌<◌, List, [], ◌∷◌, ◌++◌, map, length, take, drop, get_or, replicate, slice_index, bit_and, refl, sym, ap, ◌∙◌, arith, w8, Fits}
+use Rattle.std.proofs.Common.{◌≡◌, ℕ, zero, suc, ◌+◌, ◌*◌, ◌/◌, ◌%◌, ◌^◌, ◌<◌, ◌≤◌, List, [], ◌∷◌, ◌++◌, map, length, take, drop, get_or, replicate, slice_index, slice_set, codes, bit_and, refl, sym, ap, ◌∙◌, arith, w8, Fits}
 use Rattle.iscsi_session.proofs.LineLemmas.{encode_lower_append}
-use Rattle.std.proofs.lemmas.List.{append_assoc, take_all, take-append-le, take-append-drop, drop-drop, length-drop, get_or-map, length-map, ext_get_or}
+use Rattle.std.proofs.lemmas.List.{append_assoc, take_all, take-take, drop-take, length-take, get_or-take, get_or-drop, drop_all, take-append-le, drop-append-le, take-append-drop, drop-drop, length-drop, get_or-map, length-map, ext_get_or}
 use Rattle.std.proofs.lemmas.Nat.{and_le_r, and_mask}
 use Rattle.std.proofs.lemmas.Simd.{pick_l_left, pick_l-range_with_len, Each1-all, Each1-weaker, Each1-zip2, Each2-splat, below_from_Fits, length-zip2, zip2_splat, swz_l, SwzOk, SwzOk-from_below, length-swz_l, get_or-swz_l_below}
 use Rattle.std.specs.List.{range_with_len}
+use borrow.Rule.Slice.PartMut.{put_mid}
 use lib.Lanes.{zip2, pick_l, Each1}
+use Rattle.iscsi_wire.specs.Fields.{big_endian_from}
+use Rattle.iscsi_wire.specs.Replies.{bytes_4}
+use Rattle.iscsi_session.specs.Lines.{eight_digits}
 use Rattle.hex.specs.Hex.{encode_with, encode_lower, lower_digits}
 
 abbrev pub down : ℕ → ℕ → ℕ
@@ -81,14 +85,26 @@ pub first_eight : (front back : List ℕ) (a b c d : ℕ) (rest : List ℕ) → 
 unfolding encode_with
 first_eight front back a b c d rest len e = sym (take-append-le 8 front back (omega (arith, len))) ∙ ap (take 8) e
 
--- the digits of two numbers of four bytes each are the first of those of 16 bytes
-pub first_sixteen : (front back : List ℕ) (a b c d e f g h : ℕ) (rest : List ℕ) → length front ≡ 16
-    → front ++ back ≡ encode_lower (a ∷ b ∷ c ∷ d ∷ e ∷ f ∷ g ∷ h ∷ rest)
-    → (take 8 front ≡ encode_lower (a ∷ b ∷ c ∷ d ∷ [])) × (take 8 (drop 8 front) ≡ encode_lower (e ∷ f ∷ g ∷ h ∷ []))
+-- what the digits of two numbers, a blank between them and a newline behind them are, when eight digits more come behind each
+abbrev pub two_numbers : List ℕ → List ℕ → List ℕ
+two_numbers first second = slice_set (put_mid 9 16 (slice_set (first ++ replicate 16 10) 8 32) second) 17 10
+
+two_numbers_are : (first second v : List ℕ) → length second ≡ 16 → length v ≡ 16 → second ++ first ≡ encode_lower v
+    → (length (take 18 (two_numbers first second)) ≡ 18)
+    × (take 18 (two_numbers first second) ≡ encode_lower (take 4 (drop 8 v)) ++ (codes " " ++ (encode_lower (take 4 v) ++ codes "\n")))
 unfolding encode_with
-first_sixteen front back a b c d e f g h rest len is =
-    let whole : front ≡ encode_lower (a ∷ b ∷ c ∷ d ∷ e ∷ f ∷ g ∷ h ∷ []) = sym (take-append-le 16 front back (omega (arith, len)) ∙ take_all 16 front (omega (arith, len))) ∙ ap (take 16) is in
-    (ap (take 8) whole, ap (λ (l : List ℕ). take 8 (drop 8 l)) whole)
+two_numbers_are first second (a ∷ b ∷ c ∷ d ∷ e ∷ f ∷ g ∷ h ∷ i ∷ j ∷ k ∷ l ∷ m ∷ n ∷ o ∷ p ∷ []) len long is =
+    let v : List ℕ = a ∷ b ∷ c ∷ d ∷ e ∷ f ∷ g ∷ h ∷ i ∷ j ∷ k ∷ l ∷ m ∷ n ∷ o ∷ p ∷ [] in
+    let s : second ≡ take 16 (encode_lower v) = sym (take-append-le 16 second first (omega (arith, len)) ∙ take_all 16 second (omega (arith, len))) ∙ ap (take 16) is in
+    let t : first ≡ drop 16 (encode_lower v) = sym (drop-append-le 16 second first (omega (arith, len)) ∙ ap (λ (x : List ℕ). x ++ first) (drop_all 16 second (omega (arith, len)))) ∙ ap (drop 16) is in
+    rw (s, t) (refl, refl)
+two_numbers_are first second _ len long is = absurd (omega arith)
+
+-- the same, of what was copied
+pub two_numbers_copied : (first second front back v : List ℕ) → first ≡ back → second ≡ front → length front ≡ 16 → length v ≡ 16 → front ++ back ≡ encode_lower (take 16 v)
+    → (length (take 18 (two_numbers first second)) ≡ 18)
+    × (take 18 (two_numbers first second) ≡ encode_lower (take 4 (drop 8 v)) ++ (codes " " ++ (encode_lower (take 4 v) ++ codes "\n")))
+two_numbers_copied first second front back v f s len long is = rw (f, s) (two_numbers_are back front v len long (is ∙ ap encode_lower (take_all 16 v (omega (arith, long)))))
 
 in_thirds : (h : List ℕ) → length h ≡ 48 → take 16 h ++ (take 16 (drop 16 h) ++ take 16 (drop 32 h)) ≡ h
 in_thirds h len =
@@ -105,3 +121,36 @@ digits_in_thirds h e len =
     ap (λ (l : List ℕ). encode_lower a ++ l) (sym (append_assoc (encode_lower b) (encode_lower c) e) ∙ ap (λ (l : List ℕ). l ++ e) (sym (encode_lower_append b c)))
     ∙ sym (append_assoc (encode_lower a) (encode_lower (b ++ c)) e)
     ∙ ap (λ (l : List ℕ). l ++ e) (sym (encode_lower_append a (b ++ c)) ∙ ap encode_lower (in_thirds h len))
+
+four_bytes : (bs : List ℕ) → length bs ≡ 4 → ((i : ℕ) → i < 4 → get_or bs i 0 < 256) → bytes_4 (big_endian_from 0 bs) ≡ bs
+four_bytes (a ∷ b ∷ c ∷ d ∷ []) len small =
+    let p : a < 256 = small 0 (omega arith) in
+    let q : b < 256 = small 1 (omega arith) in
+    let r : c < 256 = small 2 (omega arith) in
+    let s : d < 256 = small 3 (omega arith) in
+    let e : (256 * (256 * (256 * (256 * 0 + a) + b) + c) + d) / 16777216 % 256 ≡ a = omega (arith, p, q, r, s) in
+    let f : (256 * (256 * (256 * (256 * 0 + a) + b) + c) + d) / 65536 % 256 ≡ b = omega (arith, p, q, r, s) in
+    let g : (256 * (256 * (256 * (256 * 0 + a) + b) + c) + d) / 256 % 256 ≡ c = omega (arith, p, q, r, s) in
+    let h : (256 * (256 * (256 * (256 * 0 + a) + b) + c) + d) % 256 ≡ d = omega (arith, p, q, r, s) in
+    rw (e, f, g, h) refl
+four_bytes _ len small = absurd (omega arith)
+
+-- the digits of a number that stands in these four bytes
+digits_of_field : (h : List ℕ) (from : ℕ) → from + 4 ≤ length h → ((i : ℕ) → get_or h i 0 < 256)
+    → encode_lower (take 4 (drop from h)) ≡ eight_digits (big_endian_from 0 (take 4 (drop from h)))
+digits_of_field h from within small =
+    let long : length (take 4 (drop from h)) ≡ 4 = omega (arith, length-drop from h, length-take 4 (drop from h)) in
+    ap encode_lower (sym (four_bytes (take 4 (drop from h)) long (λ i lt. rw (get_or-take 4 (drop from h) i 0 lt, get_or-drop from h i 0) (small (from + i)))))
+
+-- what was copied has the digits of the two numbers that stand in these 16 bytes
+pub two_numbers_said : (first second front back v : List ℕ) → first ≡ back → second ≡ front → length front ≡ 16 → length v ≡ 16
+    → ((i : ℕ) → get_or v i 0 < 256) → front ++ back ≡ encode_lower (take 16 v)
+    → take 18 (two_numbers first second) ≡ eight_digits (big_endian_from 0 (take 4 (drop 8 v))) ++ (codes " " ++ (eight_digits (big_endian_from 0 (take 4 v)) ++ codes "\n"))
+two_numbers_said first second front back v f s len long small is =
+    let copied = two_numbers_copied first second front back v f s len long is in
+    rw (sym (digits_of_field v 8 (omega (arith, long)) small), sym (digits_of_field v 0 (omega (arith, long)) small)) copied.1
+
+-- the tag and CmdSN of a header stand in its second third
+pub numbers_of_header : (h : List ℕ) → (take 4 (take 16 (drop 16 h)) ≡ take 4 (drop 16 h)) × (take 4 (drop 8 (take 16 (drop 16 h))) ≡ take 4 (drop 24 h))
+numbers_of_header h =
+    (take-take 4 16 (drop 16 h) (omega arith), ap (take 4) (drop-take 8 8 (drop 16 h)) ∙ take-take 4 8 (drop 8 (drop 16 h)) (omega arith) ∙ ap (take 4) (drop-drop 8 16 h))

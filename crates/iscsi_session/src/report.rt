@@ -11,7 +11,7 @@ use iscsi_tasks::Attr;
 use iscsi_wire::{Pdu, Reply, Request};
 use line::{
     append, append_within, put_byte, put_bytes, put_digits, put_header, put_number, put_small,
-    put_text, put_two_digits,
+    put_text, put_two_numbers,
 };
 
 mod line;
@@ -115,7 +115,7 @@ fn put_request(word: &[u8], request: &Request, out: &mut Vec<u8>) -> Result<(), 
     ensures room { vec_len out.old + LONGEST_LINE ≤ vec_capacity out.old → IsOk result }
 {
     let mut line = [b'\n'; 80];
-    let at = put_two_digits(request.cmd_sn(), request.itt(), &mut line, 47);
+    let at = put_two_numbers(&request.bytes()[16..32], &mut line, 48);
     let at = put_text(b" ", &mut line, at);
     let at = put_small(request.conn(), &mut line, at);
     let at = put_text(word, &mut line, at);

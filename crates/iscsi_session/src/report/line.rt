@@ -4,6 +4,7 @@
 
 ghost use Rattle.std.specs.Prelude.{◌≡◌, ◌+◌, ◌-◌, ◌*◌, ◌<◌, ◌≤◌, ◌∷◌, [], ◌++◌, length, take, drop, slice_index, codes, decimal, vec_len, vec_capacity, OnOk, OnErr, IfErr, IsOk};
 ghost use Rattle.hex.specs.Hex.{encode_lower, lower_digits};
+ghost use Rattle.iscsi_wire.specs.Fields.{big_endian_from};
 ghost use Rattle.iscsi_session.specs.Lines.{eight_digits};
 
 use crate::fault::SessionFault;
@@ -70,21 +71,23 @@ pub fn put_digits(n: u32, line: &mut [u8], end: usize) -> usize
     put_text(&front.extract::<0, 8>().to_array(), line, end)
 }
 
-/// Writes two numbers in eight digits each, with a blank between them.
+/// Writes the end of a line: the number that begins at byte 8 and the one that begins at byte 0, in eight digits each,
+/// with a blank between them and a newline behind them.
+///
+/// A vector has eight digits more than are wanted, which what comes behind them overwrites.
 #[inline(always)]
-pub fn put_two_digits(first: u32, second: u32, line: &mut [u8], end: usize) -> usize
-    requires { (17 ≤ end) × (end ≤ length line.old) }
-    ensures start { result + 17 ≡ end }
-    ensures written { drop result line.new ≡ eight_digits first ++ (codes " " ++ (eight_digits second ++ drop end line.old)) }
+pub fn put_two_numbers(bytes: &[u8], line: &mut [u8], end: usize) -> usize
+    requires { (length bytes.now ≡ 16) × (18 ≤ end) × (end ≤ length line.old) }
+    ensures start { result + 18 ≡ end }
+    ensures written { drop result line.new ≡ eight_digits (big_endian_from 0 (take 4 (drop 8 bytes.now))) ++ (codes " " ++ (eight_digits (big_endian_from 0 (take 4 bytes.now)) ++ (codes "\n" ++ drop end line.old))) }
 {
-    let [a, b, c, d] = first.to_be_bytes();
-    let [e, f, g, h] = second.to_be_bytes();
-    let bytes = u8x16::from_array([a, b, c, d, e, f, g, h, 0, 0, 0, 0, 0, 0, 0, 0]);
-    let (digits, _) = digits_of(bytes);
-    let digits = digits.to_array();
-    let at = put_text(&digits[8..], line, end);
-    let at = put_text(b" ", line, at);
-    put_text(&digits[..8], line, at)
+    let (second, first) = digits_of(u8x16::from_slice(bytes));
+    let mut text = [b'\n'; 32];
+    text[..16].copy_from_slice(&first.to_array());
+    text[8] = b' ';
+    text[9..25].copy_from_slice(&second.to_array());
+    text[17] = b'\n';
+    put_text(&text[..18], line, end)
 }
 
 /// Writes the digits of a byte.
