@@ -20,9 +20,22 @@ pub(crate) fn place_of(members: &Queue, ticket: u64) -> Option<usize>
     requires { InOrder members.now.items }
     ensures { IsPlaceOf members.now.items ticket result }
 {
+    if is_first(members, ticket) {
+        return Some(0);
+    }
     members
         .binary_search_by_key(&ticket, |m| m.task.ticket)
         .ok()
+}
+
+/// Whether the oldest command has this ticket, as most that leave have.
+fn is_first(members: &Queue, ticket: u64) -> bool
+    ensures { result ≡ true → (0 < length members.now.items) × ((d : Member) → (slice_index_or members.now.items 0 d).task.ticket ≡ ticket) }
+{
+    match members.front() {
+        Some(member) => member.task.ticket == ticket,
+        None => false,
+    }
 }
 
 /// The oldest command with this tag. It looks along the set.

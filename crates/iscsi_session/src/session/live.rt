@@ -1,6 +1,6 @@
 //! What a session keeps of its live commands.
 
-ghost use Rattle.std.specs.Prelude.{◌≡◌, ◌≤◌, true, length};
+ghost use Rattle.std.specs.Prelude.{◌≡◌, ◌<◌, ◌≤◌, true, length, slice_index_or};
 ghost use Rattle.std.specs.VecDeque.{deque_capacity};
 ghost use Rattle.iscsi_session.specs.Standing.{are_ascending};
 ghost use Rattle.iscsi_session.specs.Steps.{find_ticket, IsTicketPlace, without_ticket};
@@ -31,8 +31,21 @@ fn ticket_place(live: &VecDeque<Live>, ticket: u64) -> Option<usize>
     requires { are_ascending live.now.items ≡ true }
     ensures { IsTicketPlace live.now.items ticket result }
 {
+    if is_first(live, ticket) {
+        return Some(0);
+    }
     live.binary_search_by_key(&ticket, |command| command.ticket)
         .ok()
+}
+
+/// Whether the oldest command has this ticket, as most that are completed have.
+fn is_first(live: &VecDeque<Live>, ticket: u64) -> bool
+    ensures { result ≡ true → (0 < length live.now.items) × ((d : Live) → (slice_index_or live.now.items 0 d).ticket ≡ ticket) }
+{
+    match live.front() {
+        Some(command) => command.ticket == ticket,
+        None => false,
+    }
 }
 
 /// Takes the command with this ticket out. The later ones close up, or the earlier ones where they are fewer.
