@@ -13,7 +13,7 @@ use Rattle.iscsi_history.specs.declared.event.Event.{Event}
 use Rattle.iscsi_history.specs.declared.event.Event.TheVariants.{Arrive, Done}
 use Rattle.iscsi_history.specs.declared.entry.Entry.{Entry}
 use Rattle.iscsi_history.specs.Settings.{is_known, are_distinct}
-use Rattle.iscsi_session.specs.Lines.{eight_digits, event_line, effect_text, effect_line, entry_lines, report_from}
+use Rattle.iscsi_report.specs.Lines.{eight_digits, event_line, effect_text, effect_line, entry_lines, report_from}
 use Rattle.iscsi_replay.specs.declared.line.Line.TheVariants as line
 use Rattle.iscsi_replay.specs.Fields.{decimal_of, hex_of}
 use Rattle.iscsi_replay.specs.Grammar.{arrival_of, completion_of, connection_of, line_of}

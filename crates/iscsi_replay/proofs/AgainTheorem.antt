@@ -13,7 +13,7 @@ use Rattle.hex.proofs.HexLemmas.{decode_sized-ok, decode_sized-twice, decode_of-
 use Rattle.iscsi_history.specs.declared.event.Event.{Event}
 use Rattle.iscsi_history.specs.declared.event.Event.TheVariants.{Arrive, Done}
 use Rattle.iscsi_history.specs.Settings.{is_known}
-use Rattle.iscsi_session.specs.Lines.{report_from}
+use Rattle.iscsi_report.specs.Lines.{report_from}
 use Rattle.iscsi_history.specs.Run.{run_of}
 use Rattle.iscsi_replay.specs.declared.line.Line.{Line}
 use Rattle.iscsi_replay.specs.declared.line.Line.TheVariants as line

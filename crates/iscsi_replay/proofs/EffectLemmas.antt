@@ -14,7 +14,7 @@ use Rattle.iscsi_history.specs.declared.effect.Why.TheVariants.{Outside, Duplica
 use Rattle.iscsi_history.specs.declared.effect.Effect.{Effect}
 use Rattle.iscsi_history.specs.declared.effect.Effect.TheVariants.{Deliver, Immediate, Wait, Void, Empty, Enter, Enable, Leave, Send, CloseConn, CloseSession, Ignore}
 use Rattle.iscsi_history.specs.declared.effect.Numbers.{Numbers}
-use Rattle.iscsi_session.specs.Lines.{eight_digits, attr_word, why_word, request_fields, enter_fields, effect_text}
+use Rattle.iscsi_report.specs.Lines.{eight_digits, attr_word, why_word, request_fields, enter_fields, effect_text}
 use Rattle.iscsi_replay.specs.Reading.{is_end}
 use Rattle.iscsi_replay.proofs.LineLemmas.{no_end-append}
 use Rattle.iscsi_replay.proofs.FieldLemmas.{decimal_spared, decimal_length, hex_spared, hex_length, ends_spared}

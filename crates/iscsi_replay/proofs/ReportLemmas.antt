@@ -9,8 +9,8 @@ use Rattle.iscsi_history.specs.declared.event.Event.{Event}
 use Rattle.iscsi_history.specs.declared.entry.Entry.{Entry}
 use Rattle.iscsi_history.specs.Settings.{Setting}
 use Rattle.iscsi_history.specs.Run.{next_entry}
-use Rattle.iscsi_session.specs.Lines.{event_line, effect_line, entry_lines}
-use Rattle.iscsi_session.proofs.LineLemmas.{report_of-push}
+use Rattle.iscsi_report.specs.Lines.{event_line, effect_line, entry_lines}
+use Rattle.iscsi_report.proofs.LineLemmas.{report_of-push}
 use Rattle.iscsi_replay.specs.declared.settings.Settings.{Settings}
 use Rattle.iscsi_replay.specs.declared.fault.ReplayFault.{ReplayFault}
 use Rattle.iscsi_replay.specs.Recorded.{Recorded, read_of}

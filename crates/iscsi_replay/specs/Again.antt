@@ -4,7 +4,7 @@ use Rattle.std.specs.List.{All, flat_map}
 use Rattle.hex.specs.Hex.{IsBytes}
 use Rattle.iscsi_history.specs.declared.event.Event.{Event}
 use Rattle.iscsi_history.specs.declared.event.Event.TheVariants.{Arrive, Done}
-use Rattle.iscsi_session.specs.Lines.{eight_digits}
+use Rattle.iscsi_report.specs.Lines.{eight_digits}
 use Rattle.iscsi_replay.specs.Recorded.{Recorded, IsSound, lines_of, read_of}
 use Rattle.iscsi_replay.specs.Replayed.{report_of}
 use Rattle.iscsi_replay.specs.declared.settings.Settings.{Settings}

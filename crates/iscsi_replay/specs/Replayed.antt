@@ -6,7 +6,7 @@ use Rattle.iscsi_history.specs.declared.event.Event.{Event}
 use Rattle.iscsi_history.specs.declared.entry.Entry.{Entry}
 use Rattle.iscsi_history.specs.Promises.{KeepsPromises}
 use Rattle.iscsi_history.specs.Run.{run_of}
-use Rattle.iscsi_session.specs.Lines.{report_from}
+use Rattle.iscsi_report.specs.Lines.{report_from}
 use Rattle.iscsi_replay.specs.Recorded.{Recorded, read_of}
 use Rattle.iscsi_replay.specs.Writing.{AppendsFront}
 use Rattle.iscsi_replay.specs.declared.settings.Settings.{Settings}

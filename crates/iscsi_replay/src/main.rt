@@ -8,6 +8,7 @@ mod event_source;
 mod events;
 mod fault;
 mod line;
+mod line_end;
 mod named;
 mod parse;
 mod program;

@@ -8,9 +8,9 @@ ghost use Rattle.iscsi_replay.specs.Reading.{is_end, IsReading, IsSoundIn, left_
 ghost use Rattle.iscsi_replay.specs.Order.{ReadsInOrder};
 
 use crate::fault::ReplayFault;
+use crate::line_end::line_end;
 use crate::recording::{MAX_LINE, MAX_LINES, Recording};
 use crate::source::Source;
-use memchr::memchr;
 use std::alloc::{AllocError, Global};
 
 /// How many bytes are asked of the reader at once.
@@ -105,7 +105,7 @@ impl Reading {
         ensures more { OnOk result (weight self.old + length chunk.now ≤ weight self.new) }
     {
         let mut left = chunk;
-        'lines: while let Some(at) = memchr(b'\n', left) {
+        'lines: while let Some(at) = line_end(left) {
             self.end_line(&left[..at])?;
             left = &left[at + 1..];
         }

@@ -5,7 +5,7 @@ ghost use Rattle.std.specs.List.{list_all};
 ghost use Rattle.std.specs.Io.KnownBytes.{Appends};
 ghost use Rattle.iscsi_history.specs.Settings.{is_valid};
 ghost use Rattle.iscsi_session.specs.Standing.{StandsFor};
-ghost use Rattle.iscsi_session.specs.Lines.{event_line, entry_lines};
+ghost use Rattle.iscsi_report.specs.Lines.{event_line, entry_lines};
 ghost use Rattle.iscsi_replay.specs.Limits.{are_valid};
 ghost use Rattle.iscsi_replay.specs.Recorded.{Recorded, view, read_of, belongs_to};
 ghost use Rattle.iscsi_replay.specs.Order.{ReadsInOrder};
@@ -22,9 +22,8 @@ use crate::recording::Recording;
 use crate::settings::Settings;
 use crate::sink::{Sink, put_all};
 use crate::source::Source;
-use iscsi_session::{
-    Effect, Event, Numbers, Options, Session, SessionFault, put_effect, put_event,
-};
+use iscsi_report::Lines;
+use iscsi_session::{Effect, Event, Numbers, Options, Session, SessionFault};
 use std::alloc::Global;
 
 /// The most events that a session takes: a recording has no more lines.
@@ -76,34 +75,34 @@ fn put_entry(
     event: &Event,
     numbers: Numbers,
     effects: &[Effect],
-    lines: &mut Vec<u8>,
+    lines: &mut Lines,
 ) -> Result<(), ReplayFault>
-    ensures ok { OnOk result (lines.new.items ≡ lines.old.items ++ (event_line event.now ++ entry_lines (record { numbers = numbers; effects = effects.now }))) }
+    ensures ok { OnOk result (lines.new ≡ lines.old ++ (event_line event.now ++ entry_lines (record { numbers = numbers; effects = effects.now }))) }
     ensures memory { IfErr result (λ e. e ≡ ReplayFault.NoMemory) }
 {
-    if let Err(fault) = put_event(event, lines) {
-        return Err(fault_of(fault));
+    if lines.put_event(event).is_err() {
+        return Err(ReplayFault::NoMemory);
     }
     for effect in effects {
-        if let Err(fault) = put_effect(effect, numbers, lines) {
-            return Err(fault_of(fault));
+        if lines.put_effect(effect, numbers).is_err() {
+            return Err(ReplayFault::NoMemory);
         }
     }
     Ok(())
 }
 
 /// Writes out the lines that wait, once they are many.
-fn write_chunk<W: Sink>(lines: &mut Vec<u8>, writer: &mut W) -> Result<(), ReplayFault>
+fn write_chunk<W: Sink>(lines: &mut Lines, writer: &mut W) -> Result<(), ReplayFault>
     requires { W.has_failed writer.old ≡ false }
-    ensures ok { OnOk result (AppendsBut (W.contents writer.old) (W.contents writer.new) lines.new.items lines.old.items) }
-    ensures few { OnOk result (vec_len lines.new < 65536) }
-    ensures front { AppendsFront (W.contents writer.old) (W.contents writer.new) lines.old.items }
+    ensures ok { OnOk result (AppendsBut (W.contents writer.old) (W.contents writer.new) lines.new lines.old) }
+    ensures few { OnOk result (length lines.new < 65536) }
+    ensures front { AppendsFront (W.contents writer.old) (W.contents writer.new) lines.old }
     ensures failed { MatchResult result (λ _. W.has_failed writer.new ≡ false) (λ e. (e ≡ ReplayFault.Write) × (W.has_failed writer.new ≡ true)) }
 {
     if lines.len() < CHUNK {
         return Ok(());
     }
-    put_all(writer, lines)?;
+    put_all(writer, lines.as_slice())?;
     lines.clear();
     Ok(())
 }
@@ -129,7 +128,7 @@ pub fn write_report<E: EventSource, W: Sink>(
 {
     let mut session = open(alloc, settings, most, conns)?;
     let mut effects = Vec::new(alloc);
-    let mut lines = Vec::new(alloc);
+    let mut lines = Lines::new(alloc);
     'events: while let Some(event) = events.next() {
         effects.clear();
         match session.step(&event, &mut effects) {
@@ -138,7 +137,7 @@ pub fn write_report<E: EventSource, W: Sink>(
         }
         write_chunk(&mut lines, writer)?;
     }
-    put_all(writer, &lines)
+    put_all(writer, lines.as_slice())
 }
 
 /// Reads a recording to its end, and then writes the report of its events.

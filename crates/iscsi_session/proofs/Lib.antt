@@ -1,9 +1,6 @@
 pub mod ListLemmas
 pub mod OpenConns
 pub mod NumberLemmas
-pub mod LineLemmas
-pub mod DigitLanes
-pub mod LineEnds
 pub mod RefusalLemmas
 pub mod ArrivedLemmas
 pub mod ReceiveLemmas

@@ -1,6 +1,5 @@
 pub mod Settings
 pub mod Refusals
-pub mod Lines
 pub mod Standing
 pub mod Steps
 pub mod Functions

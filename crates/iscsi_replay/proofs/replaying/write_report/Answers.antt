@@ -22,7 +22,7 @@ events-init g c = record {
   fresh = search rules;
   stands = c.in_ok-session.ensures.stands;
   flow = FlowsThrough-none _;
-  written = waits_not _ _ c.new-lines.ensures.items;
+  written = waits_not _ _ c.new-lines.ensures;
 }
 
 pub returns-in_err-put_entry-in-Ok-clause-front : goal.returns-in_err-put_entry-in-Ok-clause-front
@@ -53,7 +53,7 @@ returns-in_err-write_chunk-clause-front g c =
     let before = so_far.before in
     let after = g.E.EventSource.rest c.next.new.self in
     let effects_are = effects_alone _ _ _ _ c.deref.ensures.value (c.in-Ok.ensures.effects o before so_far.stands) c.clear.ensures.items in
-    let waits = waits_next _ _ o before c.in-Some.event c.events.lines.items c.put_entry.new.lines.items
+    let waits = waits_next _ _ o before c.in-Some.event c.events.lines c.put_entry.new.lines
     c.in-Ok.numbers c.deref.result.now c.in_ok-put_entry-in-Ok.ensures.ok
     (c.in-Ok.ensures.numbers o before so_far.stands) effects_are so_far.written in
     front_of_all _ _ o (before ++ c.in-Some.event ∷ []) after _ (past_next _ before (g.E.EventSource.rest c.events.events) after c.in-Some.event so_far.whole c.in-Some.ensures)
@@ -66,7 +66,7 @@ events-preserved g c =
     let before = so_far.before in
     let after = g.E.EventSource.rest c.next.new.self in
     let effects_are = effects_alone _ _ _ _ c.deref.ensures.value (c.in-Ok.ensures.effects o before so_far.stands) c.clear.ensures.items in
-    let waits = waits_next _ _ o before c.in-Some.event c.events.lines.items c.put_entry.new.lines.items
+    let waits = waits_next _ _ o before c.in-Some.event c.events.lines c.put_entry.new.lines
     c.in-Ok.numbers c.deref.result.now c.in_ok-put_entry-in-Ok.ensures.ok
     (c.in-Ok.ensures.numbers o before so_far.stands) effects_are so_far.written in
     record {
@@ -82,13 +82,13 @@ pub returns-clause-ok : goal.returns-clause-ok
 returns-clause-ok g c = IfOk-weaker c.put_all.result _ _ (λ x h.
     let so_far = c.events.invariant in
     all_written _ _ _ (setting_with c.args.most c.args.settings.now c.args.conns.items) so_far.before _ _ _
-    (all_came _ so_far.before (g.E.EventSource.rest c.events.events) so_far.whole c.in_default.ensures) c.deref-2.ensures.value so_far.written h) c.put_all.ensures.ok
+    (all_came _ so_far.before (g.E.EventSource.rest c.events.events) so_far.whole c.in_default.ensures) c.as_slice.ensures so_far.written h) c.put_all.ensures.ok
 
 pub returns-clause-front : goal.returns-clause-front
 returns-clause-front g c =
     let so_far = c.events.invariant in
     front_of_all _ _ (setting_with c.args.most c.args.settings.now c.args.conns.items) so_far.before (g.E.EventSource.rest c.events.events) _ so_far.whole
-    (front_after _ _ _ _ _ _ c.deref-2.ensures.value so_far.written c.put_all.ensures.front)
+    (front_after _ _ _ _ _ _ c.as_slice.ensures so_far.written c.put_all.ensures.front)
 
 only_write : {T : Type 0} (x : Result T ReplayFault) (fresh failed : Type 0) → MatchResult x (λ v. fresh) (λ e. (e ≡ Write) × failed) → IfErr x (λ e. e ≢ Write → e ≡ NoMemory)
 only_write (Ok v) fresh failed h = tt

@@ -13,7 +13,7 @@ invariant-events g l = record {
   fresh : g.W.Sink.has_failed l.writer ≡ false;
   stands : StandsFor (setting_with l.fn.most l.settings l.fn.conns.items) l.session before;
   flow : FlowsThrough (setting_with l.fn.most l.settings l.fn.conns.items) before;
-  written : AppendsBut (g.W.Sink.contents l.initial.writer) (g.W.Sink.contents l.writer) l.lines.items
+  written : AppendsBut (g.W.Sink.contents l.initial.writer) (g.W.Sink.contents l.writer) l.lines
       (report_by (setting_with l.fn.most l.settings l.fn.conns.items) before);
 }
 

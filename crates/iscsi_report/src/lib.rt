@@ -1,0 +1,11 @@
+//! The lines of a report: what an event and each of its effects is in text, and a text to which they are put one
+//! after another.
+#![tactic(auto)]
+
+mod effect_line;
+mod event_line;
+mod line;
+mod lines;
+mod vector;
+
+pub use lines::{LONGEST_LINE, Lines, put_effect, put_event};

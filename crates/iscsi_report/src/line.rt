@@ -1,0 +1,141 @@
+//! The pieces of a line.
+//!
+//! Each function writes a text from a place of a slice on, and says where it ends. It may write over places behind
+//! the end, which hold nothing yet.
+
+ghost use Rattle.std.specs.Prelude.{◌≡◌, ◌+◌, ◌*◌, ◌<◌, ◌≤◌, ◌∷◌, [], ◌++◌, length, take, drop, codes, decimal};
+ghost use Rattle.hex.specs.Hex.{encode_lower};
+ghost use Rattle.iscsi_wire.specs.Fields.{big_endian_from};
+ghost use Rattle.iscsi_report.specs.Lines.{eight_digits};
+
+use crate::vector::{digit, digits_of};
+use std::simd::prelude::*;
+
+/// The most digits of a number, which is room that each number needs.
+const MOST_DIGITS: usize = 20;
+
+/// Writes a text as it is.
+#[inline(always)]
+pub fn put_text(text: &[u8], line: &mut [u8], at: usize) -> usize
+    requires { at + length text.now ≤ length line.old }
+    ensures end { result ≡ at + length text.now }
+    ensures written { take result line.new ≡ take at line.old ++ text.now }
+{
+    let end = at + text.len();
+    line[at..end].copy_from_slice(text);
+    end
+}
+
+/// Writes a decimal number.
+#[inline(always)]
+pub fn put_number(n: u64, line: &mut [u8], at: usize) -> usize
+    requires { at + 20 ≤ length line.old }
+    ensures end { (at < result) × (result ≤ at + 20) }
+    ensures written { take result line.new ≡ take at line.old ++ decimal n }
+{
+    let mut digits = [0u8; 2 * MOST_DIGITS];
+    let start = itoa::write_digits(n, &mut digits, MOST_DIGITS);
+    put_text(&digits[start..start + MOST_DIGITS], line, at);
+    at + (MOST_DIGITS - start)
+}
+
+/// The least number of two digits.
+const TWO_DIGITS: u16 = 10;
+
+/// Writes a decimal number that is mostly one digit, as connections and units are.
+#[inline(always)]
+pub fn put_small(n: u16, line: &mut [u8], at: usize) -> usize
+    requires { at + 20 ≤ length line.old }
+    ensures end { (at < result) × (result ≤ at + 20) }
+    ensures written { take result line.new ≡ take at line.old ++ decimal n }
+{
+    if n < TWO_DIGITS {
+        return put_text(&[b'0' + n as u8], line, at);
+    }
+    put_number(u64::from(n), line, at)
+}
+
+/// Writes a number in eight digits.
+#[inline(always)]
+pub fn put_digits(n: u32, line: &mut [u8], at: usize) -> usize
+    requires { at + 16 ≤ length line.old }
+    ensures end { result ≡ at + 8 }
+    ensures written { take result line.new ≡ take at line.old ++ eight_digits n }
+{
+    let [a, b, c, d] = n.to_be_bytes();
+    let (front, _) = digits_of(u8x16::from_array([
+        a, b, c, d, 0, 0, 0, 0, 0, 0, 0, 0, 0, 0, 0, 0,
+    ]));
+    put_eight(front, line, at)
+}
+
+/// Writes the number that begins at byte 8 and the one that begins at byte 0, in eight digits each, with a blank
+/// between them.
+#[inline(always)]
+pub fn put_two_numbers(bytes: &[u8], line: &mut [u8], at: usize) -> usize
+    requires { (length bytes.now ≡ 16) × (at + 25 ≤ length line.old) }
+    ensures end { result ≡ at + 17 }
+    ensures written { take result line.new ≡ take at line.old ++ (eight_digits (big_endian_from 0 (take 4 (drop 8 bytes.now))) ++ (codes " " ++ eight_digits (big_endian_from 0 (take 4 bytes.now)))) }
+{
+    let (second, first) = digits_of(u8x16::from_slice(bytes));
+    let at = put_eight(first, line, at);
+    let at = put_text(b" ", line, at);
+    put_eight(second, line, at)
+}
+
+/// Writes the first eight of these.
+#[inline(always)]
+fn put_eight(digits: u8x16, line: &mut [u8], at: usize) -> usize
+    requires { (length digits ≡ 16) × (at + 16 ≤ length line.old) }
+    ensures end { result ≡ at + 8 }
+    ensures written { take result line.new ≡ take at line.old ++ take 8 digits }
+{
+    put_text(&digits.to_array(), line, at);
+    at + 8
+}
+
+/// Writes the digits of a byte.
+#[inline(always)]
+pub fn put_byte(byte: u8, line: &mut [u8], at: usize) -> usize
+    requires { at + 2 ≤ length line.old }
+    ensures end { result ≡ at + 2 }
+    ensures written { take result line.new ≡ take at line.old ++ encode_lower (byte ∷ []) }
+{
+    put_text(&[digit(byte >> 4), digit(byte & 0x0f)], line, at)
+}
+
+/// Writes the digits of a header.
+#[inline(always)]
+pub fn put_header(header: &[u8; 48], line: &mut [u8], at: usize) -> usize
+    requires { at + 96 ≤ length line.old }
+    ensures end { result ≡ at + 96 }
+    ensures written { take result line.new ≡ take at line.old ++ encode_lower header.now }
+{
+    let at = put_16(&header[..16], line, at);
+    let at = put_16(&header[16..32], line, at);
+    put_16(&header[32..], line, at)
+}
+
+/// Writes the digits of 16 bytes.
+#[inline(always)]
+fn put_16(bytes: &[u8], line: &mut [u8], at: usize) -> usize
+    requires { (length bytes.now ≡ 16) × (at + 32 ≤ length line.old) }
+    ensures end { result ≡ at + 32 }
+    ensures written { take result line.new ≡ take at line.old ++ encode_lower bytes.now }
+{
+    let (front, back) = digits_of(u8x16::from_slice(bytes));
+    let at = put_text(&front.to_array(), line, at);
+    put_text(&back.to_array(), line, at)
+}
+
+/// Writes the digits of at most 48 bytes.
+pub fn put_bytes(bytes: &[u8], line: &mut [u8], at: usize) -> usize
+    requires { (length bytes.now ≤ 48) × (at + 96 ≤ length line.old) }
+    ensures end { (at ≤ result) × (result ≤ at + 96) }
+    ensures written { take result line.new ≡ take at line.old ++ encode_lower bytes.now }
+{
+    let mut digits = [0u8; 96];
+    let digits = &mut digits[..2 * bytes.len()];
+    hex::encode_to_slice(bytes, digits).unwrap();
+    put_text(digits, line, at)
+}
