@@ -1,6 +1,6 @@
 //! A recording and its report.
 
-ghost use Rattle.std.specs.Prelude.{◌≡◌, ◌≢◌, ◌↔◌, ◌⊎◌, ◌++◌, ◌<◌, ◌≤◌, true, false, [], length, vec_len, IfSome, OnOk, IfOk, IfErr, IsErrOf, MatchResult, Ok};
+ghost use Rattle.std.specs.Prelude.{◌≡◌, ◌≢◌, ◌↔◌, ◌⊎◌, ◌++◌, ◌<◌, ◌≤◌, true, false, [], length, IfSome, OnOk, IfOk, IfErr, IsErrOf, MatchResult, Ok};
 ghost use Rattle.std.specs.List.{list_all};
 ghost use Rattle.std.specs.Io.KnownBytes.{Appends};
 ghost use Rattle.iscsi_history.specs.Settings.{is_valid};

@@ -1,11 +1,9 @@
 -- Hexadecimal digits by vectors, where each lane is a byte.
-use Rattle.std.proofs.Common.{◌≡◌, ℕ, zero, suc, ◌+◌, ◌*◌, ◌/◌, ◌%◌, ◌^◌, ◌<◌, ◌≤◌, List, [], ◌∷◌, ◌++◌, map, length, take, drop, get_or, replicate, slice_index, slice_set, codes, bit_and, refl, sym, ap, ◌∙◌, arith, w8, Fits}
+use Rattle.std.proofs.Common.{◌≡◌, ℕ, zero, suc, ◌+◌, ◌*◌, ◌/◌, ◌%◌, ◌^◌, ◌<◌, ◌≤◌, List, [], ◌∷◌, ◌++◌, map, length, take, drop, get_or, replicate, slice_index, bit_and, refl, sym, ap, ◌∙◌, arith, w8, Fits}
 use Rattle.iscsi_report.proofs.LineLemmas.{encode_lower_append}
 use Rattle.std.proofs.lemmas.List.{append_assoc, take_all, take-take, drop-take, length-take, get_or-take, get_or-drop, drop_all, take-append-le, drop-append-le, take-append-drop, drop-drop, length-drop, get_or-map, length-map, ext_get_or}
 use Rattle.std.proofs.lemmas.Nat.{and_le_r, and_mask}
-use Rattle.std.proofs.lemmas.Simd.{pick_l_left, pick_l-range_with_len, Each1-all, Each1-weaker, Each1-zip2, Each2-splat, below_from_Fits, length-zip2, zip2_splat, swz_l, SwzOk, SwzOk-from_below, length-swz_l, get_or-swz_l_below}
-use Rattle.std.specs.List.{range_with_len}
-use borrow.Rule.Slice.PartMut.{put_mid}
+use Rattle.std.proofs.lemmas.Simd.{Each1-all, Each1-weaker, Each1-zip2, Each2-splat, below_from_Fits, length-zip2, zip2_splat, swz_l, SwzOk, SwzOk-from_below, length-swz_l, get_or-swz_l_below}
 use lib.Lanes.{zip2, pick_l, Each1}
 use Rattle.iscsi_wire.specs.Fields.{big_endian_from}
 use Rattle.iscsi_wire.specs.Replies.{bytes_4}

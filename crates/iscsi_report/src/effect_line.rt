@@ -131,7 +131,8 @@ fn put_attr(attr: Attr, line: &mut [u8], at: usize) -> usize
     }
 }
 
-#[inline(always)]
+/// It is apart from the others, since it needs more room on the stack.
+#[inline(never)]
 fn write_send(
     conn: u16,
     stat_sn: u32,

@@ -63,9 +63,7 @@ pub fn put_digits(n: u32, line: &mut [u8], at: usize) -> usize
     ensures written { take result line.new ≡ take at line.old ++ eight_digits n }
 {
     let [a, b, c, d] = n.to_be_bytes();
-    let (front, _) = digits_of(u8x16::from_array([
-        a, b, c, d, 0, 0, 0, 0, 0, 0, 0, 0, 0, 0, 0, 0,
-    ]));
+    let (front, _) = digits_of(u8x16::from_array([a, b, c, d, 0, 0, 0, 0, 0, 0, 0, 0, 0, 0, 0, 0]));
     put_eight(front, line, at)
 }
 

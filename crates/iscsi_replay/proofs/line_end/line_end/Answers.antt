@@ -12,9 +12,11 @@ none_there xs n k within low none is =
 
 pub returns-then-not-has_end : goal.returns-then-not-has_end
 returns-then-not-has_end c =
-    let none : list_any (is_byte 10) (take 100 c.args.bytes.now) ≡ false = sym c.if-not-has_end.ensures in
-    (record {
-      low = omega arith;
-      high = omega arith;
-      before = λ k low high is. none_there c.args.bytes.now 100 k (omega arith) high none is;
-    }, ap (is_byte 10) c.if-bytes-eq10.true)
+    let none : list_any (is_byte 10) (take 100 c.args.bytes.now) ≡ false = sym c.if-not-has_end.ensures in (
+      record {
+        low = omega arith;
+        high = omega arith;
+        before = λ k low high is. none_there c.args.bytes.now 100 k (omega arith) high none is;
+      },
+      ap (is_byte 10) c.if-bytes-eq10.true,
+    )
