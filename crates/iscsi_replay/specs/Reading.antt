@@ -1,5 +1,5 @@
 -- A recording that is being read.
-use Rattle.std.specs.Prelude.{◌≡◌, ℕ, ◌+◌, ◌-◌, ◌*◌, ◌<◌, ◌≤◌, ◌==◌, Bool, true, false, List, ◌++◌, length, Option, Result, Ok, Err, ⊤}
+use Rattle.std.specs.Prelude.{◌≡◌, ℕ, ◌+◌, ◌-◌, ◌*◌, ◌<◌, ◌≤◌, ◌==◌, Bool, true, false, List, ◌++◌, length, drop, Option, Result, Ok, Err, ⊤}
 use Rattle.std.specs.List.{list_any, list_all}
 use Rattle.std.specs.Io.KnownBytes.{Consumes}
 use Rattle.iscsi_history.specs.Settings.{are_distinct}
@@ -34,6 +34,13 @@ left_of w bytes = read_lines w.line (view w.so_far) (lines_of (w.pending.items +
 -- the most bytes that may have come
 abbrev pub weight : Reading → ℕ
 weight w = (w.line - 1) * 257 + length w.pending.items
+
+-- w took the first line of these bytes, which is an arrival on a connection of one digit, with its end, and became v
+pub record HasTakenCommon (w v : Reading) (bytes : List ℕ) : Type 0 where
+  pub long : 101 ≤ length bytes
+  pub ready : IsReading v
+  pub read : (rest : List ℕ) → left_of v (drop 101 bytes ++ rest) ≡ left_of w (bytes ++ rest)
+  pub more : weight w + 101 ≤ weight v
 
 -- the known bytes lost a front that was seen, and with it v became w: whatever comes yet is read to the same answer
 pub record ReadsOn (old new : Option (List ℕ)) (v w : Reading) : Type 0 where

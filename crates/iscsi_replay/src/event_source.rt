@@ -1,18 +1,27 @@
 //! Events that come one after another.
 
-ghost use Rattle.std.specs.Prelude.{◌≡◌, [], ◌∷◌, List, MatchOption};
+ghost use Rattle.std.specs.Prelude.{◌≡◌, [], ◌∷◌, List, true, false};
 ghost use Rattle.iscsi_history.specs.declared.event.Event.{Event};
 
 use iscsi_session::Event;
+
+/// An event, before the first one comes.
+pub const NO_EVENT: Event = Event::Done {
+    ticket: 0,
+    status: 0,
+};
 
 /// Where events come from, one after another.
 pub trait EventSource {
     // The events that come from here on.
     ghost rest: { Self → List Event };
 
-    /// The next event.
-    fn next(&mut self) -> Option<Event>
-        ensures { MatchOption result (rest self.old ≡ []) (λ event. rest self.old ≡ event ∷ rest self.new) };
+    /// Makes `event` the next one, and tells whether there was one. Where there was none, `event` stays as it was.
+    ///
+    /// It is written in place, since each move of an arrival costs.
+    fn next(&mut self, event: &mut Event) -> bool
+        ensures some { result ≡ true → rest self.old ≡ event.new ∷ rest self.new }
+        ensures none { result ≡ false → (rest self.old ≡ []) × (event.new ≡ event.old) };
 }
 
 /// The events of a list, in their order.
@@ -33,9 +42,12 @@ impl<'a> Listed<'a> {
 impl EventSource for Listed<'_> {
     ghost rest = { λ listed. listed.left.now };
 
-    fn next(&mut self) -> Option<Event> {
-        let (first, left) = self.left.split_first()?;
+    fn next(&mut self, event: &mut Event) -> bool {
+        let Some((first, left)) = self.left.split_first() else {
+            return false;
+        };
         self.left = left;
-        Some(*first)
+        *event = *first;
+        true
     }
 }

@@ -1,8 +1,9 @@
 //! Events that stand one after another in few bytes.
 
-ghost use Rattle.std.specs.Prelude.{◌≡◌, ◌==◌, ◌<◌, ◌^◌, [], ◌∷◌, ◌++◌, length, vec_len, OnOk, OnErr};
+ghost use Rattle.std.specs.Prelude.{◌≡◌, ◌==◌, ◌<◌, ◌^◌, [], ◌∷◌, ◌++◌, length, OnOk, OnErr};
 ghost use Rattle.iscsi_replay.specs.Dense.{bytes_of, Fits, first_size, event_in};
 
+use crate::bytes::Bytes;
 use crate::event_source::EventSource;
 use byteorder::{BigEndian, ByteOrder};
 use iscsi_session::Event;
@@ -23,7 +24,7 @@ const COMPLETION_SIZE: usize = 10;
 /// Events in their order, each in as many bytes as its kind needs.
 #[derive(Debug, Drop)]
 pub struct Events {
-    bytes: Vec<u8>,
+    bytes: Bytes,
     count: usize,
 }
 
@@ -35,9 +36,9 @@ impl Model for Events {
 
     ghost use Rattle.iscsi_replay.specs.Dense.{events_of, IsDense};
 
-    ghost view = { λ e. events_of e.count e.bytes.items };
+    ghost view = { λ e. events_of e.count e.bytes };
 
-    ghost invariant = { λ e. IsDense e.count e.bytes.items };
+    ghost invariant = { λ e. IsDense e.count e.bytes };
 }
 
 /// The bytes of an arrival.
@@ -60,16 +61,27 @@ fn completion(ticket: u64, status: u8) -> [u8; COMPLETION_SIZE]
     bytes
 }
 
+/// Appends the bytes of an arrival.
+#[inline(always)]
+fn put_arrival(conn: u16, header: &[u8; 48], bytes: &mut Bytes) -> Result<(), AllocError>
+    ensures ok { OnOk result (bytes.new ≡ bytes.old ++ bytes_of (Event.Arrive conn header.now)) }
+    ensures err { OnErr result (bytes.new ≡ bytes.old) }
+    ensures fits { Fits (Event.Arrive conn header.now) }
+    ensures few { length bytes.old < 2 ^ 63 }
+{
+    bytes.extend(&arrival(conn, header))
+}
+
 /// Appends the bytes of an event.
-fn put(event: &Event, bytes: &mut Vec<u8>) -> Result<(), AllocError>
-    ensures ok { OnOk result (bytes.new.items ≡ bytes.old.items ++ bytes_of event.now) }
-    ensures err { OnErr result (bytes.new.items ≡ bytes.old.items) }
+fn put(event: &Event, bytes: &mut Bytes) -> Result<(), AllocError>
+    ensures ok { OnOk result (bytes.new ≡ bytes.old ++ bytes_of event.now) }
+    ensures err { OnErr result (bytes.new ≡ bytes.old) }
     ensures fits { Fits event.now }
-    ensures room { vec_len bytes.old < 2 ^ 63 }
+    ensures few { length bytes.old < 2 ^ 63 }
 {
     match event {
-        Event::Arrive { conn, header } => bytes.extend_from_slice(&arrival(*conn, header)),
-        Event::Done { ticket, status } => bytes.extend_from_slice(&completion(*ticket, *status)),
+        Event::Arrive { conn, header } => put_arrival(*conn, header, bytes),
+        Event::Done { ticket, status } => bytes.extend(&completion(*ticket, *status)),
     }
 }
 
@@ -85,23 +97,24 @@ fn first_size(bytes: &[u8]) -> usize
     }
 }
 
-/// The event that has these bytes.
-fn event_in(bytes: &[u8]) -> Event
+/// Makes `event` the one that has these bytes.
+#[inline(always)]
+fn read_event(bytes: &[u8], event: &mut Event)
     requires { length bytes.now ≡ first_size bytes.now }
-    ensures { result ≡ event_in bytes.now }
+    ensures { event.new ≡ event_in bytes.now }
 {
     if bytes[0] == ARRIVAL {
         let mut header = [0u8; 48];
         header.copy_from_slice(&bytes[3..]);
-        Event::Arrive {
+        *event = Event::Arrive {
             conn: BigEndian::read_u16(&bytes[1..]),
             header,
-        }
+        };
     } else {
-        Event::Done {
+        *event = Event::Done {
             ticket: BigEndian::read_u64(&bytes[1..]),
             status: bytes[9],
-        }
+        };
     }
 }
 
@@ -111,7 +124,7 @@ impl Events {
         ensures { result ≡ [] }
     {
         Events {
-            bytes: Vec::new(alloc),
+            bytes: Bytes::new(alloc),
             count: 0,
         }
     }
@@ -140,12 +153,23 @@ impl Events {
         Ok(())
     }
 
+    /// Puts an arrival behind the others. On `Err` they stay as they were.
+    #[inline(always)]
+    pub fn push_arrival(&mut self, conn: u16, header: &[u8; 48]) -> Result<(), AllocError>
+        ensures ok { OnOk result (self.new ≡ self.old ++ Event.Arrive conn header.now ∷ []) }
+        ensures err { OnErr result (self.new ≡ self.old) }
+    {
+        put_arrival(conn, header, &mut self.bytes)?;
+        self.count += 1;
+        Ok(())
+    }
+
     /// A reader of them, from the first on.
     pub fn cursor(&self) -> Cursor<'_>
         ensures { result ≡ self.now }
     {
         Cursor {
-            left: &self.bytes,
+            left: self.bytes.as_slice(),
             count: self.count,
         }
     }
@@ -174,14 +198,15 @@ impl<'a> Model for Cursor<'a> {
 impl EventSource for Cursor<'_> {
     ghost rest = { λ cursor. cursor };
 
-    fn next(&mut self) -> Option<Event> {
+    fn next(&mut self, event: &mut Event) -> bool {
         if self.count == 0 {
-            return None;
+            return false;
         }
         let (first, left) = self.left.split_at(first_size(self.left));
         self.left = left;
         self.count -= 1;
-        Some(event_in(first))
+        read_event(first, event);
+        true
     }
 }
 

@@ -2,13 +2,13 @@
 //! output.
 #![tactic(auto)]
 
+mod bytes;
 mod command_line;
 mod conns;
 mod event_source;
 mod events;
 mod fault;
 mod line;
-mod line_end;
 mod named;
 mod parse;
 mod program;

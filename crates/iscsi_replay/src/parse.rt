@@ -1,11 +1,12 @@
 //! One line of a recording.
 
-ghost use Rattle.std.specs.Prelude.{◌≡◌, ℕ, ◌+◌, ◌-◌, ◌*◌, ◌^◌, ◌<◌, ◌≤◌, IfSome, true, length, slice_index, MatchOption, option_map, option_and_then, position};
-ghost use Rattle.std.specs.List.{before_first, after_first};
+ghost use Rattle.std.specs.Prelude.{◌≡◌, ℕ, ◌+◌, ◌-◌, ◌*◌, ◌^◌, ◌<◌, ◌≤◌, IfSome, true, false, length, slice_index, MatchOption, option_map, option_and_then, position};
+ghost use Rattle.std.specs.List.{before_first, after_first, list_any};
 ghost use Rattle.std.specs.Int.{w32, from_be_bytes};
 ghost use Rattle.iscsi_replay.specs.Fields.{is_blank, digits_after, is_digit, up_to, decimal_of, hex_of};
 ghost use Rattle.iscsi_replay.specs.DigitValues.{IsValue, HasNonDigit, AreValues, paired};
 ghost use Rattle.iscsi_replay.specs.Grammar.{arrival_of, completion_of, event_of, connection_of, line_of};
+ghost use Rattle.iscsi_replay.specs.Reading.{is_end};
 
 use crate::line::Line;
 use iscsi_session::Event;
@@ -181,22 +182,28 @@ fn cid(text: &[u8]) -> Option<u16>
     u16::try_from(n).ok()
 }
 
-/// The arrival on a connection of the header that these digits say.
-#[inline(always)]
-pub fn arrival_on(conn: u16, digits: &[u8]) -> Option<Event>
-    ensures { result ≡ option_map (λ header. Event.Arrive conn header) (hex_of 48 digits.now) }
-{
-    let header = decode_48(digits)?;
-    Some(Event::Arrive { conn, header })
-}
-
 /// An arrival, without the letter before it.
 #[inline(never)]
 pub fn arrival(bytes: &[u8]) -> Option<Event>
     ensures { result ≡ arrival_of bytes.now }
 {
     let (first, rest) = cut(bytes);
-    arrival_on(cid(first)?, rest)
+    let conn = cid(first)?;
+    let header = decode_48(rest)?;
+    Some(Event::Arrive { conn, header })
+}
+
+/// The arrival that a line says in its common form: on a connection of one digit. `None` decides nothing.
+#[inline(always)]
+pub fn common_arrival(line: &[u8]) -> Option<(u16, [u8; 48])>
+    ensures said { IfSome result (λ r. line_of line.now ≡ Some (Line.Event (Event.Arrive r.0 r.1))) }
+    ensures one { IfSome result (λ r. list_any is_end line.now ≡ false) }
+{
+    let [b'C', b' ', d @ b'0'..=b'9', b' ', digits @ ..] = line else {
+        return None;
+    };
+    let header = decode_48(digits)?;
+    Some((u16::from(*d - b'0'), header))
 }
 
 /// A number of up to 18 digits at the front of a line, and what stands after the blank that ends it. `None` decides nothing.

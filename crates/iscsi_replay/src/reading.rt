@@ -4,17 +4,21 @@ ghost use Rattle.std.specs.Prelude.{◌≡◌, ◌≢◌, ◌↔◌, ◌+◌, �
 ghost use Rattle.std.specs.List.{list_any};
 ghost use Rattle.iscsi_replay.specs.Recorded.{view, read_line, read_end, read_of, Fails, Steps, IsSound};
 ghost use Rattle.std.specs.Io.KnownBytes.{IsAtEnd};
-ghost use Rattle.iscsi_replay.specs.Reading.{is_end, IsReading, IsSoundIn, left_of, weight, ReadsOn, Answers};
+ghost use Rattle.iscsi_replay.specs.Reading.{is_end, IsReading, IsSoundIn, left_of, weight, HasTakenCommon, ReadsOn, Answers};
 ghost use Rattle.iscsi_replay.specs.Order.{ReadsInOrder};
 
 use crate::fault::ReplayFault;
-use crate::line_end::line_end;
+use crate::parse::common_arrival;
 use crate::recording::{MAX_LINE, MAX_LINES, Recording};
 use crate::source::Source;
+use memchr::memchr;
 use std::alloc::{AllocError, Global};
 
 /// How many bytes are asked of the reader at once.
 const CHUNK: usize = 65536;
+
+/// How many bytes the line of an arrival has where its CID is one digit.
+const COMMON_LINE: usize = 100;
 
 /// A recording of which a front has been read.
 #[derive(Drop)]
@@ -96,6 +100,31 @@ impl Reading {
         Ok(())
     }
 
+    /// Takes the first line of these bytes with its end, where it is a whole arrival in its common form, and tells
+    /// whether it did. Whatever is wrong with a line is left to `end_line`.
+    #[inline(never)]
+    fn take_common(&mut self, left: &[u8]) -> bool
+        requires { IsReading self.old }
+        ensures taken { result ≡ true → HasTakenCommon self.old self.new left.now }
+        ensures not { result ≡ false → self.new ≡ self.old }
+    {
+        if left.len() <= COMMON_LINE || left[COMMON_LINE] != b'\n' || self.line > MAX_LINES {
+            return false;
+        }
+        if !self.pending.is_empty() {
+            return false;
+        }
+        let (line, _) = left.split_at(COMMON_LINE);
+        let Some(found) = common_arrival(line) else {
+            return false;
+        };
+        if !self.so_far.take_common(found.0, &found.1) {
+            return false;
+        }
+        self.line += 1;
+        true
+    }
+
     /// Takes each line that ends in the chunk, and keeps the front of the next.
     fn take_chunk(&mut self, chunk: &[u8]) -> Result<(), ReplayFault>
         requires { IsReading self.old }
@@ -105,7 +134,14 @@ impl Reading {
         ensures more { OnOk result (weight self.old + length chunk.now ≤ weight self.new) }
     {
         let mut left = chunk;
-        'lines: while let Some(at) = line_end(left) {
+        'lines: loop {
+            if self.take_common(left) {
+                left = &left[COMMON_LINE + 1..];
+                continue;
+            }
+            let Some(at) = memchr(b'\n', left) else {
+                break;
+            };
             self.end_line(&left[..at])?;
             left = &left[at + 1..];
         }

@@ -1,6 +1,6 @@
 //! The connections and events of a recording.
 
-ghost use Rattle.std.specs.Prelude.{◌≡◌, ok_or, option_map, option_and_then, [], OnErr};
+ghost use Rattle.std.specs.Prelude.{◌≡◌, true, false, Some, ok_or, option_map, option_and_then, [], OnErr};
 ghost use Rattle.iscsi_replay.specs.Grammar.{arrival_of, completion_of, line_of};
 ghost use Rattle.iscsi_replay.specs.Recorded.{view, take, read_line, Steps};
 ghost use Rattle.iscsi_replay.specs.declared.fault.ReplayFault.TheVariants.{BadLine};
@@ -9,7 +9,7 @@ use crate::conns::Conns;
 use crate::events::Events;
 use crate::fault::ReplayFault;
 use crate::line::Line;
-use crate::parse::{arrival, arrival_on, completion, parse_line};
+use crate::parse::{arrival, completion, parse_line};
 use iscsi_session::Event;
 use std::alloc::Global;
 
@@ -93,21 +93,19 @@ impl Recording {
         }
     }
 
-    /// Takes the arrival that these bytes of line `number` say. Most CIDs are one digit.
-    #[inline(never)]
-    fn take_arrival(&mut self, number: u32, bytes: &[u8]) -> Result<(), ReplayFault>
-        ensures step { Steps result (view self.new) (ok_or (option_and_then (take (view self.old)) (option_map Line.Event (arrival_of bytes.now))) (BadLine number)) }
-        ensures err { OnErr result (view self.new ≡ view self.old) }
+    /// Takes an arrival, if its connection is known and memory isn't wanting, and tells whether it did. Otherwise the
+    /// recording stays as it was.
+    #[inline(always)]
+    pub fn take_common(&mut self, conn: u16, header: &[u8; 48]) -> bool
+        ensures taken { result ≡ true → take (view self.old) (Line.Event (Event.Arrive conn header.now)) ≡ Some (view self.new) }
+        ensures not { result ≡ false → self.new ≡ self.old }
     {
-        if let [d @ b'0'..=b'9', b' ', digits @ ..] = bytes {
-            return self.take_said(number, arrival_on(u16::from(*d - b'0'), digits));
-        }
-        self.take_any_arrival(number, bytes)
+        self.conns.knows(conn) && self.events.push_arrival(conn, header).is_ok()
     }
 
-    /// Takes an arrival whose CID may have any digits.
+    /// Takes the arrival that these bytes of line `number` say.
     #[inline(never)]
-    fn take_any_arrival(&mut self, number: u32, bytes: &[u8]) -> Result<(), ReplayFault>
+    fn take_arrival(&mut self, number: u32, bytes: &[u8]) -> Result<(), ReplayFault>
         ensures step { Steps result (view self.new) (ok_or (option_and_then (take (view self.old)) (option_map Line.Event (arrival_of bytes.now))) (BadLine number)) }
         ensures err { OnErr result (view self.new ≡ view self.old) }
     {

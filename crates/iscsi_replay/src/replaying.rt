@@ -15,7 +15,7 @@ ghost use Rattle.iscsi_replay.specs.Replayed.{setting_with, report_by, Reported,
 ghost use Rattle.iscsi_replay.specs.Writing.{AppendsFront, AppendsBut};
 ghost use Rattle.iscsi_replay.specs.Again.{IsRecordable, IsReadAgain};
 
-use crate::event_source::EventSource;
+use crate::event_source::{EventSource, NO_EVENT};
 use crate::fault::ReplayFault;
 use crate::reading::read_recording;
 use crate::recording::Recording;
@@ -24,7 +24,7 @@ use crate::sink::{Sink, put_all};
 use crate::source::Source;
 use iscsi_report::Lines;
 use iscsi_session::{Effect, Event, Numbers, Options, Session, SessionFault};
-use std::alloc::Global;
+use std::alloc::{AllocError, Global};
 
 /// The most events that a session takes: a recording has no more lines.
 const MAX_EVENTS: u64 = 1_048_576;
@@ -76,17 +76,12 @@ fn put_entry(
     numbers: Numbers,
     effects: &[Effect],
     lines: &mut Lines,
-) -> Result<(), ReplayFault>
+) -> Result<(), AllocError>
     ensures ok { OnOk result (lines.new ≡ lines.old ++ (event_line event.now ++ entry_lines (record { numbers = numbers; effects = effects.now }))) }
-    ensures memory { IfErr result (λ e. e ≡ ReplayFault.NoMemory) }
 {
-    if lines.put_event(event).is_err() {
-        return Err(ReplayFault::NoMemory);
-    }
+    lines.put_event(event)?;
     for effect in effects {
-        if lines.put_effect(effect, numbers).is_err() {
-            return Err(ReplayFault::NoMemory);
-        }
+        lines.put_effect(effect, numbers)?;
     }
     Ok(())
 }
@@ -129,12 +124,16 @@ pub fn write_report<E: EventSource, W: Sink>(
     let mut session = open(alloc, settings, most, conns)?;
     let mut effects = Vec::new(alloc);
     let mut lines = Lines::new(alloc);
-    'events: while let Some(event) = events.next() {
+    let mut event = NO_EVENT;
+    'events: while events.next(&mut event) {
         effects.clear();
-        match session.step(&event, &mut effects) {
-            Ok(numbers) => put_entry(&event, numbers, &effects, &mut lines)?,
+        let numbers = match session.step(&event, &mut effects) {
+            Ok(numbers) => numbers,
             Err(fault) => return Err(fault_of(fault)),
-        }
+        };
+        let Ok(()) = put_entry(&event, numbers, &effects, &mut lines) else {
+            return Err(ReplayFault::NoMemory);
+        };
         write_chunk(&mut lines, writer)?;
     }
     put_all(writer, lines.as_slice())

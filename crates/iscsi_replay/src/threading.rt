@@ -11,7 +11,7 @@ ghost use Rattle.iscsi_replay.specs.Order.{ReadsInOrder};
 ghost use Rattle.iscsi_replay.specs.Replayed.{ComesOfReading, IsReadWhole};
 ghost use Rattle.iscsi_replay.specs.Threaded.{headers, ComesOfThreads, IsJournalOf, ThreadsReported, FrontOfThreads, ThreadsAnswerAs};
 
-use crate::event_source::{EventSource, Listed};
+use crate::event_source::{EventSource, Listed, NO_EVENT};
 use crate::events::Events;
 use crate::fault::ReplayFault;
 use crate::reading::read_recording;
@@ -92,7 +92,8 @@ fn lists_of(
 {
     let mut lists = empty_lists(alloc, conns.len())?;
     let mut cursor = events.cursor();
-    'events: while let Some(event) = cursor.next() {
+    let mut event = NO_EVENT;
+    'events: while cursor.next(&mut event) {
         let Event::Arrive { conn, header } = event else {
             continue;
         };

@@ -1,5 +1,5 @@
 use super::*;
-use crate::event_source::Listed;
+use crate::event_source::{Listed, NO_EVENT};
 use std::test::Fail;
 
 /// Events with the least and the greatest parts, and with a different byte in each place.
@@ -38,13 +38,19 @@ fn gives_back_what_was_pushed(rt: HostRuntime) -> Result<(), Fail> {
     for _ in 0..2u8 {
         let mut cursor = events.cursor();
         let mut listed = Listed::new(&pushed);
-        for event in &pushed {
-            assert_eq!(rt; cursor.next(), Some(*event));
-            assert_eq!(rt; listed.next(), Some(*event));
+        let mut event = NO_EVENT;
+        for want in &pushed {
+            assert!(rt; cursor.next(&mut event));
+            assert_eq!(rt; event, *want);
+            event = NO_EVENT;
+            assert!(rt; listed.next(&mut event));
+            assert_eq!(rt; event, *want);
         }
-        assert_eq!(rt; cursor.next(), None);
-        assert_eq!(rt; cursor.next(), None);
-        assert_eq!(rt; listed.next(), None);
+        event = NO_EVENT;
+        assert!(rt; !cursor.next(&mut event));
+        assert!(rt; !cursor.next(&mut event));
+        assert!(rt; !listed.next(&mut event));
+        assert_eq!(rt; event, NO_EVENT);
     }
     Ok(())
 }
@@ -64,7 +70,8 @@ fn takes_few_bytes(rt: HostRuntime) -> Result<(), Fail> {
         conn: 0x0a0b,
         header: [7; 48],
     })?;
-    assert_eq!(rt; events.bytes.len(), 61);
-    assert_eq!(rt; &events.bytes[10..15], [0, 0x0a, 0x0b, 7, 7].as_slice());
+    let bytes = events.bytes.as_slice();
+    assert_eq!(rt; bytes.len(), 61);
+    assert_eq!(rt; &bytes[10..15], [0, 0x0a, 0x0b, 7, 7].as_slice());
     Ok(())
 }

@@ -1,7 +1,7 @@
 ghost use Rattle.std.specs.Prelude.{None, false};
 
 use super::*;
-use crate::event_source::EventSource;
+use crate::event_source::{EventSource, NO_EVENT};
 use crate::watched::Watched;
 use iscsi_session::Event;
 use std::io;
@@ -119,6 +119,7 @@ fn reads_in_pieces_of_any_size(rt: HostRuntime) -> Result<(), Fail> {
         assert_eq!(rt; list.as_slice(), [(1, 1), (65535, 0xffff_ffff)].as_slice());
         assert_eq!(rt; events.len(), 2001);
         let mut cursor = events.cursor();
+        let mut event = NO_EVENT;
         for i in 0..2001u32 {
             let want = if i == 2000 {
                 Event::Done {
@@ -133,8 +134,10 @@ fn reads_in_pieces_of_any_size(rt: HostRuntime) -> Result<(), Fail> {
                     status: 0xa0,
                 }
             };
-            assert_eq!(rt; cursor.next(), Some(want), "event {i} at {size}");
+            assert!(rt; cursor.next(&mut event));
+            assert_eq!(rt; event, want, "event {i} at {size}");
         }
+        assert!(rt; !cursor.next(&mut event));
     }
     Ok(())
 }

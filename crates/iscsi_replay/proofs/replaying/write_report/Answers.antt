@@ -25,8 +25,8 @@ events-init g c = record {
   written = waits_not _ _ c.new-lines.ensures;
 }
 
-pub returns-in_err-put_entry-in-Ok-clause-front : goal.returns-in_err-put_entry-in-Ok-clause-front
-returns-in_err-put_entry-in-Ok-clause-front g c =
+pub returns-in_default-clause-front : goal.returns-in_default-clause-front
+returns-in_default-clause-front g c =
     let so_far = c.events.invariant in
     front_of_all _ _ (setting_with c.args.most c.args.settings.now c.args.conns.items) so_far.before (g.E.EventSource.rest c.events.events) _ so_far.whole
     (front_before _ _ _ _ so_far.written)
@@ -42,8 +42,8 @@ fault_of-requires g c =
     let o = setting_with c.args.most c.args.settings.now c.args.conns.items in
     let so_far = c.events.invariant in
     let after = g.E.EventSource.rest c.next.new.self in
-    let whole = with_next _ so_far.before (g.E.EventSource.rest c.events.events) after c.in-Some.event so_far.whole c.in-Some.ensures in
-    memory_alone _ _ _ (event_taken o so_far.before after _ c.in-Some.event whole c.requires.known c.requires.few)
+    let whole = with_next _ so_far.before (g.E.EventSource.rest c.events.events) after c.next.new.event so_far.whole (c.next.ensures.some c.events-test.true) in
+    memory_alone _ _ _ (event_taken o so_far.before after _ c.next.new.event whole c.requires.known c.requires.few)
     c.in-Err.is (c.step.ensures.refused o so_far.before so_far.stands)
 
 pub returns-in_err-write_chunk-clause-front : goal.returns-in_err-write_chunk-clause-front
@@ -53,10 +53,10 @@ returns-in_err-write_chunk-clause-front g c =
     let before = so_far.before in
     let after = g.E.EventSource.rest c.next.new.self in
     let effects_are = effects_alone _ _ _ _ c.deref.ensures.value (c.in-Ok.ensures.effects o before so_far.stands) c.clear.ensures.items in
-    let waits = waits_next _ _ o before c.in-Some.event c.events.lines c.put_entry.new.lines
-    c.in-Ok.numbers c.deref.result.now c.in_ok-put_entry-in-Ok.ensures.ok
+    let waits = waits_next _ _ o before c.next.new.event c.events.lines c.put_entry.new.lines
+    c.in-Ok.numbers c.deref.result.now c.in-Ok-put_entry.ensures.ok
     (c.in-Ok.ensures.numbers o before so_far.stands) effects_are so_far.written in
-    front_of_all _ _ o (before ++ c.in-Some.event ∷ []) after _ (past_next _ before (g.E.EventSource.rest c.events.events) after c.in-Some.event so_far.whole c.in-Some.ensures)
+    front_of_all _ _ o (before ++ c.next.new.event ∷ []) after _ (past_next _ before (g.E.EventSource.rest c.events.events) after c.next.new.event so_far.whole (c.next.ensures.some c.events-test.true))
     (front_after _ _ _ _ _ _ refl waits c.in_err-write_chunk.ensures.front)
 
 pub events-preserved : goal.events-preserved
@@ -66,12 +66,12 @@ events-preserved g c =
     let before = so_far.before in
     let after = g.E.EventSource.rest c.next.new.self in
     let effects_are = effects_alone _ _ _ _ c.deref.ensures.value (c.in-Ok.ensures.effects o before so_far.stands) c.clear.ensures.items in
-    let waits = waits_next _ _ o before c.in-Some.event c.events.lines c.put_entry.new.lines
-    c.in-Ok.numbers c.deref.result.now c.in_ok-put_entry-in-Ok.ensures.ok
+    let waits = waits_next _ _ o before c.next.new.event c.events.lines c.put_entry.new.lines
+    c.in-Ok.numbers c.deref.result.now c.in-Ok-put_entry.ensures.ok
     (c.in-Ok.ensures.numbers o before so_far.stands) effects_are so_far.written in
     record {
-      before = before ++ c.in-Some.event ∷ [];
-      whole = past_next _ before (g.E.EventSource.rest c.events.events) after c.in-Some.event so_far.whole c.in-Some.ensures;
+      before = before ++ c.next.new.event ∷ [];
+      whole = past_next _ before (g.E.EventSource.rest c.events.events) after c.next.new.event so_far.whole (c.next.ensures.some c.events-test.true);
       fresh = search rules;
       stands = c.in-Ok.ensures.stands o before so_far.stands;
       flow = FlowsThrough-push o before _ so_far.flow (c.in-Ok.ensures.flow o before so_far.stands);
@@ -82,7 +82,7 @@ pub returns-clause-ok : goal.returns-clause-ok
 returns-clause-ok g c = IfOk-weaker c.put_all.result _ _ (λ x h.
     let so_far = c.events.invariant in
     all_written _ _ _ (setting_with c.args.most c.args.settings.now c.args.conns.items) so_far.before _ _ _
-    (all_came _ so_far.before (g.E.EventSource.rest c.events.events) so_far.whole c.in_default.ensures) c.as_slice.ensures so_far.written h) c.put_all.ensures.ok
+    (all_came _ so_far.before (g.E.EventSource.rest c.events.events) so_far.whole (c.next.ensures.none c.events-test.false).0) c.as_slice.ensures so_far.written h) c.put_all.ensures.ok
 
 pub returns-clause-front : goal.returns-clause-front
 returns-clause-front g c =
@@ -114,5 +114,5 @@ pub returns-clause-promises : goal.returns-clause-promises
 returns-clause-promises g c =
     let o = setting_with c.args.most c.args.settings.now c.args.conns.items in
     let so_far = c.events.invariant in
-    let all = all_came _ so_far.before (g.E.EventSource.rest c.events.events) so_far.whole c.in_default.ensures in
+    let all = all_came _ so_far.before (g.E.EventSource.rest c.events.events) so_far.whole (c.next.ensures.none c.events-test.false).0 in
     whatever c.put_all.result (promises_kept o c.events.session _ (subst (StandsFor o c.events.session) all so_far.stands) (subst (FlowsThrough o) all so_far.flow))

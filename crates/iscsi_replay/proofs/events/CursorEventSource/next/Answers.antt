@@ -10,11 +10,11 @@ invariant_of-self c =
     let next = next_of n c.self.inside.left.now c.if-self-eq0.false c.self.invariant in
     rw (c.split_at.ensures.back, c.first_size.ensures) next.rest
 
-pub returns : goal.returns
-returns c =
+pub returns-clause-some : goal.returns-clause-some
+returns-clause-some c is =
     let n = c.self.inside.count in
     let next = next_of n c.self.inside.left.now c.if-self-eq0.false c.self.invariant in
     sym c.self.view_is ∙ next.is
     ∙ ap₂ (λ x (xs : List Event). x ∷ xs)
-    (ap (λ k. event_in (take k c.self.inside.left.now)) (sym c.first_size.ensures) ∙ ap event_in (sym c.split_at.ensures.front) ∙ sym c.event_in.ensures)
+    (ap (λ k. event_in (take k c.self.inside.left.now)) (sym c.first_size.ensures) ∙ ap event_in (sym c.split_at.ensures.front) ∙ sym c.read_event.ensures)
     (ap (λ k. events_of (n - 1) (drop k c.self.inside.left.now)) (sym c.first_size.ensures) ∙ ap (events_of (n - 1)) (sym c.split_at.ensures.back))

@@ -1,0 +1,94 @@
+//! Bytes that come one after another.
+
+ghost use Rattle.std.specs.Prelude.{◌≡◌, ◌+◌, ◌≤◌, ◌<◌, ◌^◌, [], ◌++◌, length, take, vec_len, max, OnOk, OnErr};
+
+use std::alloc::{AllocError, Global};
+use std::marker::Model;
+
+/// By so many bytes, or more where more are needed, the memory grows.
+const GROWTH: usize = 1024;
+
+/// Bytes at the front of memory that is there already, so that a few more are written in place.
+#[derive(Debug, Drop)]
+pub struct Bytes {
+    memory: Vec<u8>,
+    len: usize,
+}
+
+impl Model for Bytes {
+    ghost use Rattle.std.specs.Prelude.{ℕ, List, ◌≤◌, take, vec_len};
+
+    ghost Value = { List ℕ };
+
+    ghost view = { λ b. take b.len b.memory.items };
+
+    ghost invariant = { λ b. b.len ≤ vec_len b.memory };
+}
+
+/// Writes bytes from a place of a slice on, and says where they end.
+#[inline(always)]
+fn put_at(bytes: &[u8], memory: &mut [u8], at: usize) -> usize
+    requires { at + length bytes.now ≤ length memory.old }
+    ensures end { result ≡ at + length bytes.now }
+    ensures written { take result memory.new ≡ take at memory.old ++ bytes.now }
+{
+    let end = at + bytes.len();
+    memory[at..end].copy_from_slice(bytes);
+    end
+}
+
+/// Sees that there is room for so many bytes behind the first `len`.
+#[inline(always)]
+fn make_room(memory: &mut Vec<u8>, len: usize, more: usize) -> Result<(), AllocError>
+    requires within { len ≤ vec_len memory.old }
+    requires few { more < 2 ^ 63 }
+    ensures room { OnOk result (len + more ≤ vec_len memory.new) }
+    ensures kept { take len memory.new.items ≡ take len memory.old.items }
+    ensures longer { vec_len memory.old ≤ vec_len memory.new }
+{
+    if memory.len() - len < more {
+        grow(memory, more)?;
+    }
+    Ok(())
+}
+
+#[inline(never)]
+fn grow(memory: &mut Vec<u8>, more: usize) -> Result<(), AllocError>
+    requires { more < 2 ^ 63 }
+    ensures ok { OnOk result (vec_len memory.new ≡ vec_len memory.old + max more 1024) }
+    ensures err { OnErr result (vec_len memory.new ≡ vec_len memory.old) }
+    ensures kept { take (vec_len memory.old) memory.new.items ≡ memory.old.items }
+{
+    memory.resize(memory.len() + more.max(GROWTH), 0)
+}
+
+impl Bytes {
+    /// No bytes, without memory.
+    pub fn new(alloc: Global) -> Bytes
+        ensures { result ≡ [] }
+    {
+        Bytes {
+            memory: Vec::new(alloc),
+            len: 0,
+        }
+    }
+
+    /// Them all.
+    pub fn as_slice(&self) -> &[u8]
+        ensures { result.now ≡ self.now }
+    {
+        &self.memory[..self.len]
+    }
+
+    /// Puts more behind the others. On `Err`, where memory is refused, they stay as they were.
+    #[inline(always)]
+    pub fn extend(&mut self, more: &[u8]) -> Result<(), AllocError>
+        ensures ok { OnOk result (self.new ≡ self.old ++ more.now) }
+        ensures err { OnErr result (self.new ≡ self.old) }
+        ensures few { length self.old < 2 ^ 63 }
+    {
+        make_room(&mut self.memory, self.len, more.len())?;
+        self.len = put_at(more, &mut self.memory, self.len);
+        Ok(())
+    }
+}
