@@ -18,6 +18,7 @@ abbrev pub with_turns : Setting → Trace → List Mark → List (List Mark)
 with_turns o t item = let t' = item ∷ t in item ∷ agenda o (exp_of o t) (exp_of o t' - exp_of o t) t'
 
 -- a numbered request
+-- rules: arrival/outside, arrival/duplicate, arrival/held
 abbrev pub numbered : Setting → Trace → Arrival → List (List Mark)
 numbered o t a =
     if nat_lt a.number (exp_of o t) || nat_lt (max_of o t) a.number then ignored Outside
@@ -31,6 +32,7 @@ kind_of r =
     else (if opcode r == 0x00 || opcode r == 0x01 || opcode r == 0x02 || opcode r == 0x04 || opcode r == 0x06 then ExecutesKind
     else Unknown)
 
+-- rules: arrival/data, arrival/unknown-opcode, arrival/immediate
 abbrev pub arrival_as : Setting → Trace → Arrival → Kind → List (List Mark)
 arrival_as o t a PassedOver = ignored Data
 arrival_as o t a Unknown = rejected a ∷ []
@@ -41,6 +43,7 @@ abbrev pub arrival_open : Setting → Trace → Arrival → List (List Mark)
 arrival_open o t a = arrival_as o t a (kind_of a.request)
 
 -- the items of an arrival
+-- rule: arrival/closed
 abbrev pub arrival : Setting → Trace → Arrival → List (List Mark)
 arrival o t a = if is_closed (connection_of a.request) t then ignored Closed else arrival_open o t a
 

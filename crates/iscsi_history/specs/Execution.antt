@@ -49,6 +49,7 @@ abbrev pub no_unit : Sense
 no_unit = record { key = 5; asc = 0x25; ascq = 0 }
 
 -- a SCSI Command to a unit, whose connection may have too many immediate ones, and whose set may be full
+-- rules: command/no-unit, command/crowded, command/full, command/enters
 abbrev pub scsi_to : Request → Bool → Option (ℕ × Bool) → Verdict
 scsi_to r is_crowded None = Answer (Scsi (itt r) 0x02 (Some no_unit))
 scsi_to r is_crowded (Some (unit, is_full)) =
@@ -57,6 +58,7 @@ scsi_to r is_crowded (Some (unit, is_full)) =
     else Enter unit)
 
 -- a SCSI Command, whose tag may be that of a live command
+-- rules: command/no-tag, command/attribute, command/tag-in-use
 abbrev pub scsi_verdict : Request → Bool → Bool → Option (ℕ × Bool) → Verdict
 scsi_verdict r is_used is_crowded place =
     if itt r == NO_TAG then reject r 9
@@ -65,10 +67,12 @@ scsi_verdict r is_used is_crowded place =
     else scsi_to r is_crowded place))
 
 -- a NOP-Out with a tag is answered
+-- rules: nop-out/no-tag, nop-out/answered
 abbrev pub nop_verdict : Request → Verdict
 nop_verdict r = if itt r == NO_TAG then Nothing else Answer (Nop (itt r))
 
 -- a request that executes: a NOP-Out, a Text Request, which is rejected as there is no negotiation, or a SCSI Command
+-- rule: text/rejected
 abbrev pub request_verdict : Request → Bool → Bool → Option (ℕ × Bool) → Verdict
 request_verdict r is_used is_crowded place =
     if opcode r == 0x00 then nop_verdict r
@@ -124,10 +128,12 @@ abbrev pub ignored : Why → List (List Mark)
 ignored why = (Ignores why ∷ []) ∷ []
 
 -- CHECK CONDITION of a unit carries HARDWARE ERROR, INTERNAL TARGET FAILURE
+-- rule: completion/check-condition
 abbrev pub sense_of_status : ℕ → Option Sense
 sense_of_status status = if status == 0x02 then Some (record { key = 4; asc = 0x44; ascq = 0 }) else None
 
 -- the item of a completion, of this command if it is enabled
+-- rules: completion/stale, completion/status
 abbrev pub completion : ℕ → Option Command → List (List Mark)
 completion status None = ignored Stale
 completion status (Some c) = (Leaves c ∷ reply_on c.arrival (Scsi (itt c.arrival.request) status (sense_of_status status))) ∷ []

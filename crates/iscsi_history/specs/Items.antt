@@ -25,6 +25,7 @@ abbrev pub item_of : Setting → Trace → Arrival → List Mark
 item_of o t a = execution o t (Delivers a) a
 
 -- an immediate function that may wait: it is refused, or waits, or executes
+-- rules: function/too-far, function/executes, function/too-many, function/waits
 abbrev pub waiting_item : Setting → Trace → Arrival → List Mark
 waiting_item o t a =
     if nat_lt (max_of o t + 1) a.number then Executes a ∷ reply_on a (Task (itt a.request) 255)

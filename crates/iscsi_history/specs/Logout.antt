@@ -45,6 +45,7 @@ close_conn o t a closing =
     ++ ClosesConn closing ∷ (if is_last_open o t closing then ClosesSession ∷ [] else [])
 
 -- a Logout Request at its turn, or at its arrival where it is immediate
+-- rules: logout/no-tag, logout/session, logout/connection, logout/unknown-cid, logout/recovery, logout/other-reason
 abbrev pub logout_marks : Setting → Trace → Arrival → List Mark
 logout_marks o t a =
     if itt a.request == NO_TAG then reply_on a (Reject 9 (header_of a.request))

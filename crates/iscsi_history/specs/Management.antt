@@ -22,6 +22,7 @@ may_wait r = is_immediate r && (function r == 2 || function r == 4 || function r
 
 -- ---- what a function meets before it executes itself: a reply that refuses it, or none
 
+-- rules: function/no-tag, function/reassign, function/unsupported, function/no-unit
 abbrev pub refusal_to : (level units : ℕ) → Request → Option Reply
 refusal_to level units r =
     if itt r == NO_TAG then Some (Reject 9 (header_of r))
@@ -61,12 +62,14 @@ abbrev pub live_with_tag : Trace → ℕ → ℕ → Option Command
 live_with_tag t tag unit = first_of (filter (λ c. itt c.arrival.request == tag) (live_in unit t))
 
 -- an immediate ABORT TASK of a number in the window, below its own, which may not have come yet
+-- rules: abort-task/missing, abort-task/nothing
 abbrev pub abort_missing : Setting → Trace → Arrival → ℕ → List Mark
 abort_missing o t a n =
     if is_immediate a.request && nat_le (exp_of o t) n && nat_le n (max_of o t) && nat_lt n a.number
     then (if is_received t n then [] else Voids n ∷ []) ++ answer a 0
     else answer a 1
 
+-- rules: abort-task/live, abort-task/held
 abbrev pub abort_task : Setting → Trace → Arrival → ℕ → List Mark
 abort_task o t a unit =
     elim (live_with_tag t (rtt a.request) unit) [
@@ -78,6 +81,7 @@ abort_task o t a unit =
     ]
 
 -- the command was before the function: of a lower number, or immediate, of its number, and there before
+-- rules: abort-set/lower, abort-set/equal
 abbrev pub is_before : Arrival → Command → Bool
 is_before a c = nat_lt c.arrival.number a.number || (is_immediate c.arrival.request && c.arrival.number == a.number && nat_lt c.arrival.event a.event)
 
@@ -87,6 +91,7 @@ abort_all t a unit covers = map Leaves (filter covers (live_in unit t)) ++ answe
 abbrev pub query : Arrival → Bool → List Mark
 query a there = answer a (if there then 7 else 0)
 
+-- rules: reset/all, query-task/live, query-task-set/live
 abbrev pub function_to : Setting → Trace → Arrival → ℕ → List Mark
 function_to o t a unit =
     if function a.request == 1 then abort_task o t a unit

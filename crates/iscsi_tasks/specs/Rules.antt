@@ -21,6 +21,7 @@ is_ordered_of Head = false
 
 -- The other command keeps one with this attribute and ticket from being free. Nothing does that to HEAD OF QUEUE. To
 -- ORDERED every older command and any other HEAD OF QUEUE do it, to SIMPLE every older ORDERED and any HEAD OF QUEUE
+-- rules: free/head-of-queue, free/ordered, free/simple
 unfoldable pub bars_as : Attr → ℕ → Queued → Bool
 bars_as Head ticket other = false
 bars_as Ordered ticket other = nat_lt other.ticket ticket || (is_head_of other.attr && not (other.ticket == ticket))

@@ -36,6 +36,8 @@ impl Counts {
     }
 
     /// Whether a command with this attribute is free, when it enters behind `len` others.
+    ///
+    /// Rules: `free/head-of-queue`, `free/ordered`, `free/simple`.
     pub(crate) fn is_free_behind(&self, len: usize, attr: Attr) -> bool
         ensures { result ≡ is_free_behind self.now len attr }
     {

@@ -27,6 +27,8 @@ use std::collections::VecDeque;
 
 impl Session {
     /// Takes a request that arrived. Nothing is taken on a connection that is closed.
+    ///
+    /// Rule: `arrival/closed`.
     pub(crate) fn arrive(&mut self, request: Request, out: &mut Vec<Effect>)
         requires known { known_in (connection_of request) self.old.conns ≡ true }
         requires counted { self.old.window.turned + count_by is_some self.old.window.places < self.old.taken }
@@ -48,6 +50,8 @@ impl Session {
     }
 
     /// Takes a request that arrived on an open connection.
+    ///
+    /// Rules: `arrival/data`, `arrival/unknown-opcode`, `arrival/immediate`.
     fn take(&mut self, request: Request, out: &mut Vec<Effect>)
         requires known { known_in (connection_of request) self.old.conns ≡ true }
         requires counted { self.old.window.turned + count_by is_some self.old.window.places < self.old.taken }
@@ -76,6 +80,8 @@ impl Session {
     }
 
     /// Takes a numbered request.
+    ///
+    /// Rules: `arrival/outside`, `arrival/duplicate`, `arrival/held`.
     fn receive(&mut self, request: Request, out: &mut Vec<Effect>)
         requires regular { is_immediate request ≡ false }
         requires known { known_in (connection_of request) self.old.conns ≡ true }

@@ -21,6 +21,8 @@ const INTERNAL_FAILURE: Sense = Sense {
 
 impl Session {
     /// Takes a completion: the command leaves and is answered, and others may become enabled.
+    ///
+    /// Rules: `completion/stale`, `completion/status`.
     pub(crate) fn complete(&mut self, ticket: u64, status: u8, out: &mut Vec<Effect>)
         requires room { vec_len out.old + 2 * length self.old.live + 1 ≤ vec_capacity out.old }
         ensures session { self.new ≡ after_completion self.old ticket }
@@ -87,6 +89,8 @@ pub(crate) fn finish(
 }
 
 /// The sense that a unit's status carries.
+///
+/// Rule: `completion/check-condition`.
 fn sense_of(status: u8) -> Option<Sense>
     ensures { result ≡ sense_of_status status }
 {

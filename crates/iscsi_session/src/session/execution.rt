@@ -125,6 +125,8 @@ impl Session {
     }
 
     /// What the execution of a request comes to.
+    ///
+    /// Rule: `text/rejected`.
     fn verdict(&self, request: &Request) -> Verdict
         requires { known_in (connection_of request.now) self.now.conns ≡ true }
         ensures { result ≡ verdict_by self.now request.now }
@@ -137,6 +139,8 @@ impl Session {
     }
 
     /// What a SCSI Command comes to: the first case of its table that fits (SAM-5 section 8).
+    ///
+    /// Rules: `command/no-tag`, `command/attribute`, `command/tag-in-use`.
     fn scsi_verdict(&self, request: &Request) -> Verdict
         requires { known_in (connection_of request.now) self.now.conns ≡ true }
         ensures { result ≡ scsi_verdict request.now (is_tag_kept self.now (tag_of request.now)) (is_crowded_by self.now request.now) (place_in self.now.sets request.now) }
@@ -273,6 +277,8 @@ fn begin(window: &mut Window, immediate: &mut Vec<u8>, conns: &[(u16, u32)], req
 }
 
 /// What a NOP-Out comes to: a NOP-In, where it has a tag (RFC 7143 section 11.18).
+///
+/// Rules: `nop-out/no-tag`, `nop-out/answered`.
 fn nop_verdict(request: &Request) -> Verdict
     ensures { result ≡ nop_verdict request.now }
 {

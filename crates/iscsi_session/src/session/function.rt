@@ -26,6 +26,8 @@ const SUCCEEDED: u8 = 7;
 
 impl Session {
     /// What a function to a unit comes to, of this number less the first CmdSN, that arrived in this event.
+    ///
+    /// Rules: `abort-set/lower`, `abort-set/equal`, `reset/all`, `query-task/live`, `query-task-set/live`.
     pub(crate) fn outcome(&self, request: &Request, unit: u16, number: i64, event: u64) -> Outcome
         requires unit { unit < length self.now.sets }
         ensures { result ≡ outcome_by self.now request.now number event unit }
@@ -40,6 +42,8 @@ impl Session {
     }
 
     /// What ABORT TASK comes to.
+    ///
+    /// Rules: `abort-task/live`, `abort-task/held`.
     fn abort_task(&self, request: &Request, unit: u16) -> Outcome
         ensures { result ≡ abort_by self.now request.now unit }
     {
@@ -54,6 +58,8 @@ impl Session {
 
     /// What ABORT TASK comes to where no command is found: an immediate one voids the number that it refers to,
     /// if that is in the window and below its own.
+    ///
+    /// Rules: `abort-task/missing`, `abort-task/nothing`.
     fn missing(&self, request: &Request) -> Outcome
         ensures { result ≡ missing_at self.now request.now (place_in self.now.window (referenced request.now)) }
     {

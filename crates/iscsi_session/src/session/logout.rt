@@ -59,6 +59,8 @@ impl Session {
     }
 
     /// What a Logout Request comes to: the first case of its table that fits.
+    ///
+    /// Rules: `logout/no-tag`, `logout/session`, `logout/recovery`, `logout/other-reason`.
     fn closing(&self, request: &Request) -> Closing
         ensures { result ≡ closing_by self.now request.now }
     {
@@ -74,6 +76,8 @@ impl Session {
     }
 
     /// What a Logout Request of a connection comes to, which is its own or another one.
+    ///
+    /// Rules: `logout/connection`, `logout/unknown-cid`.
     fn closing_conn(&self, request: &Request) -> Closing
         ensures { result ≡ (if is_among_open (cid_of request.now) self.now.open_conns then Closing.Conn (cid_of request.now) else Closing.Refused (Reply.Logout (tag_of request.now) 1)) }
     {

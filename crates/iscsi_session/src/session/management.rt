@@ -104,6 +104,8 @@ impl Session {
     }
 
     /// Whether a function over a whole set executes at once, by its number.
+    ///
+    /// Rules: `function/too-far`, `function/too-many`, `function/waits`, `function/executes`.
     fn wait_for(&self, request: &Request) -> Patience
         ensures { result ≡ wait_by self.now request.now }
     {
@@ -198,6 +200,8 @@ impl Session {
     }
 
     /// Why a function is refused before it executes itself, as the reply that says so.
+    ///
+    /// Rules: `function/no-tag`, `function/reassign`, `function/unsupported`, `function/no-unit`.
     fn refusal_of_function(&self, request: &Request) -> Option<Reply>
         ensures { result ≡ refusal_to self.now.level (length self.now.sets) request.now }
     {

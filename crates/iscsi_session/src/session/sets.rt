@@ -42,6 +42,8 @@ pub(crate) fn open(alloc: Global, units: u32, depth: u32) -> Option<Vec<TaskSet>
 
 /// What a SCSI Command comes to by the unit that it names, the immediate commands of its connection, and that
 /// unit's set.
+///
+/// Rules: `command/no-unit`, `command/crowded`, `command/full`, `command/enters`.
 pub(crate) fn verdict_in(request: &Request, is_crowded: bool, sets: &[TaskSet]) -> Verdict
     ensures { result ≡ scsi_to request.now is_crowded (place_in sets.now request.now) }
 {
