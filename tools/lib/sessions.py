@@ -163,13 +163,17 @@ class Sessions:
 
     def join(self, connection, response, frame):
         """The session of a connection whose login is done: a new one, or that of its ISID and TSIH. None for one that the
-        capture doesn't have from its beginning."""
+        capture doesn't have from its beginning.
+
+        A target may give a connection that asks to join a session a session of its own; it is what the answer says.
+        """
         isid, asked, tsih = connection.login[8:14], number(connection.login, 14, 15), number(response, 14, 15)
         names = tuple(connection.keys.get(name, "") for name in NAMES)
         found = [session for session in self.sessions if (session.isid, session.tsih, session.names) == (isid, tsih, names)]
-        if asked and not found:
+        joins = asked == tsih
+        if joins and not found:
             return None
-        session = found[-1] if asked else self.open(connection, response, isid, names)
+        session = found[-1] if joins else self.open(connection, response, isid, names)
         if connection.cid in session.connections:
             session.cut(frame, f"connection {connection.cid} logs in a second time")
         else:

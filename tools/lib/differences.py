@@ -1,0 +1,270 @@
+"""Lays what the program sends beside what a real target answered."""
+
+import re
+from bisect import bisect_left
+from collections import Counter
+from dataclasses import dataclass
+
+from . import report
+from .answers import NAMES, kind_of, outcome_of
+from .pdu import DATA_OUT, REJECT, SNACK, TEXT, number
+
+PLACE = re.compile(r"# time (\d+\.\d+) frame (\d+)")
+MISSING, ADDITIONAL, KIND, STATUS, RESPONSE = "missing reply", "additional reply", "another kind", "status", "response"
+STAT_SN, EXP_CMD_SN, MAX_CMD_SN, ORDER = "StatSN", "ExpCmdSN", "MaxCmdSN", "order"
+FIXED_WINDOW = "MaxCmdSN, by the target's fixed window"
+STATUS_KINDS = ("scsi-response", "data-in-status")
+
+
+@dataclass(frozen=True)
+class Place:
+    """Where an event stands in the capture."""
+    frame: int
+    time: float
+
+
+@dataclass(frozen=True)
+class Sent:
+    """A reply of the program's: its order among all of them, its event, and the event of the request that it answers."""
+    order: int
+    event: int
+    cid: int
+    tag: int
+    request: int
+    reply: object
+
+    @property
+    def kind(self):
+        return kind_of(self.reply)
+
+
+@dataclass(frozen=True)
+class Difference:
+    """One difference: its kind, where it stands in the capture, and in words what differs."""
+    kind: str
+    frame: int
+    time: float
+    cid: int
+    words: str
+
+
+def places_of(lines):
+    """The places of a recording's events, by the comment before each."""
+    places, place = [], None
+    for line in lines:
+        found = PLACE.match(line)
+        if found:
+            place = Place(int(found[2]), float(found[1]))
+        elif line.startswith(("C ", "D ")):
+            places.append(place)
+    return places
+
+
+class Replay:
+    """A report of a recording with its places in the capture: the program's replies, and what became of requests."""
+
+    def __init__(self, text, places):
+        self.places = places
+        self.events = list(report.read(text.splitlines()))
+        self.requests = {}
+        self.sent = []
+        self.left = {}
+        for order, event in enumerate(self.events):
+            self.note(order, event)
+
+    def note(self, place, event):
+        """Notes the request of an event, its replies, and the commands that leave by it."""
+        if event.is_arrival and event.request.opcode not in (DATA_OUT, SNACK):
+            self.requests.setdefault((event.cid, event.request.tag), []).append(place)
+        for effect in event.effects:
+            if effect.kind == "send":
+                tag = answered_tag(effect.reply)
+                request = self.requests[effect.cid, tag][-1]
+                self.sent.append(Sent(len(self.sent), place, effect.cid, tag, request, effect.reply))
+            elif effect.kind == "leave":
+                self.left[effect.ticket] = place
+
+    def request_before(self, answer):
+        """The last event before an answer's frame in which its request came, or None."""
+        places = self.requests.get((answer.cid, answer.tag), [])
+        return next((place for place in reversed(places) if self.places[place].frame < answer.frame), None)
+
+    def name(self, place):
+        request = self.events[place].request
+        return f"{request.name} with tag {request.tag:08x}"
+
+    def why_silent(self, answer, place):
+        """Why the program doesn't answer a request that the target answers."""
+        if place is None:
+            return "the recording has no such request"
+        ignored = [effect.why for effect in self.events[place].effects if effect.kind == "ignore"]
+        if ignored:
+            return f"it ignored the request as {ignored[0]}"
+        for event, at in zip(self.events, self.places):
+            if at.frame == answer.frame and event.ticket is not None and event.effects[0].kind == "ignore":
+                return self.why_stale(event.ticket)
+        return "it didn't complete the request before the target answered"
+
+    def why_stale(self, ticket):
+        """Why the program ignores a completion."""
+        if ticket not in self.left:
+            return f"ticket {ticket} isn't enabled yet"
+        place = self.left[ticket]
+        event = self.events[place]
+        by = f", by {self.name(place)}" if event.is_arrival else ""
+        return f"ticket {ticket} left its task set at frame {self.places[place].frame}{by}"
+
+
+def answered_tag(reply):
+    """The tag of the request that a reply answers."""
+    return number(reply.tail, 16, 19) if reply.opcode == REJECT else reply.tag
+
+
+def told(kind, outcome, words=""):
+    """A reply in words, as `SCSI Response 00 (GOOD)`."""
+    return NAMES.get(kind, kind) + ("" if outcome is None else f" {outcome:02x}") + (f" ({words})" if words else "")
+
+
+def pair(replay, answers):
+    """Pairs what answers the same request. Gives the pairs with None where one side has no reply, those of the target in
+    its order and then the program's."""
+    waiting = {}
+    for sent in reversed(replay.sent):
+        waiting.setdefault((sent.cid, sent.tag, sent.request), []).append(sent)
+    for answer in answers:
+        found = waiting.get((answer.cid, answer.tag, replay.request_before(answer)))
+        yield answer, found.pop() if found else None
+    for sent in sorted((sent for rest in waiting.values() for sent in rest), key=lambda sent: sent.order):
+        yield None, sent
+
+
+def longest_rise(values):
+    """The places of a longest rising part of a list of different numbers."""
+    ends, places, before = [], [], []
+    for place, value in enumerate(values):
+        length = bisect_left(ends, value)
+        ends[length:length + 1], places[length:length + 1] = [value], [place]
+        before.append(places[length - 1] if length else None)
+    place, rise = places[-1] if places else None, set()
+    while place is not None:
+        rise.add(place)
+        place = before[place]
+    return rise
+
+
+def out_of_order(pairs):
+    """The program's replies, by their order, that stand elsewhere on their connection than the target's: as few as can be."""
+    connections = {}
+    for answer, sent in pairs:
+        if answer and sent:
+            connections.setdefault(answer.cid, []).append(sent.order)
+    found = set()
+    for orders in connections.values():
+        rise = longest_rise(orders)
+        found.update(order for place, order in enumerate(orders) if place not in rise)
+    return found
+
+
+def fixed_window(answers):
+    """The size of the target's window where all its replies tell the same, or None."""
+    sizes = {(answer.max_cmd_sn - answer.exp_cmd_sn + 1) % 2**32 for answer in answers}
+    return sizes.pop() if len(sizes) == 1 else None
+
+
+class Comparison:
+    """The differences between a replay and the answers of a target."""
+
+    def __init__(self, replay, answers):
+        self.replay = replay
+        self.left_out = Counter(answer.name for answer in answers if answer.is_left_out)
+        self.answers = [answer for answer in answers if not answer.is_left_out]
+        self.rejected_texts = self.leave_out_texts(answers)
+        self.window = fixed_window(self.answers)
+        self.pairs = sorted(pair(replay, self.answers), key=self.frame)
+        self.elsewhere = out_of_order(self.pairs)
+        self.shift = Counter()
+        self.differences = [found for answer, sent in self.pairs for found in self.compare(answer, sent)]
+
+    def frame(self, replies):
+        """Where a pair stands in the capture: by the target's reply, or by the event of the program's."""
+        answer, sent = replies
+        return answer.frame if answer else self.replay.places[sent.event].frame
+
+    def leave_out_texts(self, answers):
+        """Leaves out the program's Rejects of Text Requests to which the target gave a Text Response. How many there are."""
+        texts = {self.replay.request_before(answer) for answer in answers if answer.kind == "text-response"}
+        kept = [sent for sent in self.replay.sent
+                if sent.request not in texts or self.replay.events[sent.request].request.opcode != TEXT]
+        count = len(self.replay.sent) - len(kept)
+        self.replay.sent = kept
+        return count
+
+    def compare(self, answer, sent):
+        """Gives the differences of a pair."""
+        if not sent:
+            yield self.missing(answer)
+        elif not answer:
+            yield self.additional(sent)
+        else:
+            yield from self.outcome(answer, sent)
+            yield from self.numbers(answer, sent)
+
+    def missing(self, answer):
+        self.shift[answer.cid] += 1
+        place = self.replay.request_before(answer)
+        request = self.replay.name(place) if place is not None else f"tag {answer.tag:08x}"
+        return Difference(MISSING, answer.frame, answer.time, answer.cid,
+                          f"{request}: the target answers {told(answer.kind, answer.outcome, answer.words)}, "
+                          f"the program nothing: {self.replay.why_silent(answer, place)}")
+
+    def additional(self, sent):
+        self.shift[sent.cid] -= 1
+        place = self.replay.places[sent.event]
+        return Difference(ADDITIONAL, place.frame, place.time, sent.cid,
+                          f"{self.replay.name(sent.request)}: the program answers "
+                          f"{told(sent.kind, outcome_of(sent.reply), sent.reply.outcome)}, the target nothing")
+
+    def outcome(self, answer, sent):
+        """Gives the difference in what came of a request."""
+        outcome = outcome_of(sent.reply)
+        both_end = answer.kind in STATUS_KINDS and sent.kind in STATUS_KINDS
+        if both_end or answer.kind == sent.kind:
+            kind = None if answer.outcome == outcome else STATUS if both_end else RESPONSE
+        else:
+            kind = KIND
+        if kind:
+            yield self.differ(kind, answer, sent, f"the target answers {told(answer.kind, answer.outcome, answer.words)}, "
+                              f"the program {told(sent.kind, outcome, sent.reply.outcome)}")
+
+    def numbers(self, answer, sent):
+        """Gives the differences in the order and in the three numbers of a reply."""
+        reply = sent.reply
+        if sent.order in self.elsewhere:
+            place = self.replay.places[sent.event]
+            yield self.differ(ORDER, answer, sent, f"the program sends this reply at the event of frame {place.frame}, "
+                              "so it stands elsewhere among the replies of the connection")
+        elif (answer.stat_sn - reply.stat_sn - self.shift[answer.cid]) % 2**32:
+            self.shift[answer.cid] = answer.stat_sn - reply.stat_sn
+            yield self.differ(STAT_SN, answer, sent, numbers_differ(STAT_SN, answer.stat_sn, reply.stat_sn))
+        if answer.exp_cmd_sn != reply.exp_cmd_sn:
+            yield self.differ(EXP_CMD_SN, answer, sent, numbers_differ(EXP_CMD_SN, answer.exp_cmd_sn, reply.exp_cmd_sn))
+        if answer.max_cmd_sn != reply.max_cmd_sn:
+            yield self.differ(FIXED_WINDOW if self.window else MAX_CMD_SN, answer, sent,
+                              numbers_differ(MAX_CMD_SN, answer.max_cmd_sn, reply.max_cmd_sn))
+
+    def differ(self, kind, answer, sent, words):
+        return Difference(kind, answer.frame, answer.time, answer.cid, f"{self.replay.name(sent.request)}: {words}")
+
+    @property
+    def first(self):
+        """The first difference. One that the target's fixed window makes counts where there is no other."""
+        rest = (difference for difference in self.differences if difference.kind != FIXED_WINDOW)
+        return next(rest, self.differences[0] if self.differences else None)
+
+    @property
+    def counts(self):
+        return Counter(difference.kind for difference in self.differences)
+
+
+def numbers_differ(name, target, program):
+    return f"the target says {name} {target:08x}, the program {program:08x}"
