@@ -76,13 +76,16 @@ class Replay:
         """Notes the request of an event, its replies, and the commands that leave by it."""
         if event.is_arrival and event.request.opcode not in (DATA_OUT, SNACK):
             self.requests.setdefault((event.cid, event.request.tag), []).append(place)
+        by = ""
         for effect in event.effects:
-            if effect.kind == "send":
+            if effect.kind in ("deliver", "immediate"):
+                by = f", by {self.name(self.requests[effect.cid, effect.tag][-1])}"
+            elif effect.kind == "send":
                 tag = answered_tag(effect.reply)
                 request = self.requests[effect.cid, tag][-1]
                 self.sent.append(Sent(len(self.sent), place, effect.cid, tag, request, effect.reply))
             elif effect.kind == "leave":
-                self.left[effect.ticket] = place
+                self.left[effect.ticket] = place, by
 
     def request_before(self, answer):
         """The last event before an answer's frame in which its request came, or None."""
@@ -100,18 +103,16 @@ class Replay:
         ignored = [effect.why for effect in self.events[place].effects if effect.kind == "ignore"]
         if ignored:
             return f"it ignored the request as {ignored[0]}"
-        for event, at in zip(self.events, self.places):
-            if at.frame == answer.frame and event.ticket is not None and event.effects[0].kind == "ignore":
-                return self.why_stale(event.ticket)
-        return "it didn't complete the request before the target answered"
+        for completed, event in enumerate(self.events):
+            if self.places[completed].frame == answer.frame and event.effects and event.effects[0].why == "stale":
+                return self.why_stale(completed, event.ticket)
+        return "it has no task for the completion"
 
-    def why_stale(self, ticket):
+    def why_stale(self, completed, ticket):
         """Why the program ignores a completion."""
-        if ticket not in self.left:
+        place, by = self.left.get(ticket, (completed, ""))
+        if place >= completed:
             return f"ticket {ticket} isn't enabled yet"
-        place = self.left[ticket]
-        event = self.events[place]
-        by = f", by {self.name(place)}" if event.is_arrival else ""
         return f"ticket {ticket} left its task set at frame {self.places[place].frame}{by}"
 
 
@@ -154,15 +155,31 @@ def longest_rise(values):
 
 def out_of_order(pairs):
     """The program's replies, by their order, that stand elsewhere on their connection than the target's: as few as can be."""
-    connections = {}
-    for answer, sent in pairs:
-        if answer and sent:
-            connections.setdefault(answer.cid, []).append(sent.order)
     found = set()
-    for orders in connections.values():
-        rise = longest_rise(orders)
-        found.update(order for place, order in enumerate(orders) if place not in rise)
+    for replies in by_connection(sent for answer, sent in pairs if answer and sent).values():
+        rise = longest_rise([sent.order for sent in replies])
+        found.update(sent.order for place, sent in enumerate(replies) if place not in rise)
     return found
+
+
+def by_connection(replies):
+    """The replies of each connection, in their order."""
+    connections = {}
+    for one in replies:
+        connections.setdefault(one.cid, []).append(one)
+    return connections
+
+
+def stat_sn_shifts(answers, sent):
+    """Gives the target's replies whose StatSN differs from that of the program's reply at the same place of the connection,
+    each time by another number, with the program's StatSN."""
+    program = by_connection(sent)
+    for cid, replies in by_connection(answers).items():
+        shift = 0
+        for answer, other in zip(replies, program.get(cid, [])):
+            if (answer.stat_sn - other.reply.stat_sn - shift) % 2**32:
+                shift = answer.stat_sn - other.reply.stat_sn
+                yield answer, other.reply.stat_sn
 
 
 def fixed_window(answers):
@@ -182,8 +199,11 @@ class Comparison:
         self.window = fixed_window(self.answers)
         self.pairs = sorted(pair(replay, self.answers), key=self.frame)
         self.elsewhere = out_of_order(self.pairs)
-        self.shift = Counter()
         self.differences = [found for answer, sent in self.pairs for found in self.compare(answer, sent)]
+        self.differences += (Difference(STAT_SN, answer.frame, answer.time, answer.cid,
+                                        numbers_differ(STAT_SN, answer.stat_sn, stat_sn) + " at this place")
+                             for answer, stat_sn in stat_sn_shifts(self.answers, replay.sent))
+        self.differences.sort(key=lambda difference: difference.frame)
 
     def frame(self, replies):
         """Where a pair stands in the capture: by the target's reply, or by the event of the program's."""
@@ -210,7 +230,6 @@ class Comparison:
             yield from self.numbers(answer, sent)
 
     def missing(self, answer):
-        self.shift[answer.cid] += 1
         place = self.replay.request_before(answer)
         request = self.replay.name(place) if place is not None else f"tag {answer.tag:08x}"
         return Difference(MISSING, answer.frame, answer.time, answer.cid,
@@ -218,7 +237,6 @@ class Comparison:
                           f"the program nothing: {self.replay.why_silent(answer, place)}")
 
     def additional(self, sent):
-        self.shift[sent.cid] -= 1
         place = self.replay.places[sent.event]
         return Difference(ADDITIONAL, place.frame, place.time, sent.cid,
                           f"{self.replay.name(sent.request)}: the program answers "
@@ -237,15 +255,12 @@ class Comparison:
                               f"the program {told(sent.kind, outcome, sent.reply.outcome)}")
 
     def numbers(self, answer, sent):
-        """Gives the differences in the order and in the three numbers of a reply."""
+        """Gives the differences in the order, in ExpCmdSN and in MaxCmdSN."""
         reply = sent.reply
         if sent.order in self.elsewhere:
             place = self.replay.places[sent.event]
-            yield self.differ(ORDER, answer, sent, f"the program sends this reply at the event of frame {place.frame}, "
-                              "so it stands elsewhere among the replies of the connection")
-        elif (answer.stat_sn - reply.stat_sn - self.shift[answer.cid]) % 2**32:
-            self.shift[answer.cid] = answer.stat_sn - reply.stat_sn
-            yield self.differ(STAT_SN, answer, sent, numbers_differ(STAT_SN, answer.stat_sn, reply.stat_sn))
+            yield self.differ(ORDER, answer, sent, "it stands elsewhere among the replies of the connection: the program sends "
+                              f"it at the event of frame {place.frame}")
         if answer.exp_cmd_sn != reply.exp_cmd_sn:
             yield self.differ(EXP_CMD_SN, answer, sent, numbers_differ(EXP_CMD_SN, answer.exp_cmd_sn, reply.exp_cmd_sn))
         if answer.max_cmd_sn != reply.max_cmd_sn:
