@@ -37,7 +37,10 @@ def short(name):
 
 @dataclass(frozen=True)
 class Request:
-    """What arrived: its kind (`command`, `function`, `other`), whether it was ignored, and three short lines."""
+    """What arrived: its kind (`command`, `function`, `other`), whether it was ignored, and three short lines.
+
+    A completion has no CID.
+    """
     cid: int
     kind: str
     ignored: bool
@@ -124,6 +127,13 @@ def request_of(event):
     return Request(event.cid, kind, bool(why), short(request.name), number, note)
 
 
+def completion_of(event):
+    """What a column shows of a completion, in the row of the units."""
+    ignored = any(effect.kind == "ignore" for effect in event.effects)
+    status = short(pdu.STATUSES.get(event.status, f"status {event.status:02x}"))
+    return Request(None, "other", ignored, f"#{event.ticket % 10**7}", status, "stale" if ignored else "")
+
+
 def answer_of(effect):
     """What a column shows of a reply."""
     reply = effect.reply
@@ -152,9 +162,9 @@ class Painter:
         now = self.session.events
         for step in steps:
             self.follow_task(step, now)
-        self.follow_numbers(now)
+        self.follow_numbers(now, [step.effect for step in steps if step.effect])
         answers = [answer_of(effect) for effect in event.effects if effect.kind == "send"]
-        request = request_of(event) if event.is_arrival else None
+        request = request_of(event) if event.is_arrival else completion_of(event)
         self.picture.columns.append(Column(now, time, request, answers, self.session.expected, self.session.greatest,
                                            lines, [head, *words]))
 
@@ -183,10 +193,10 @@ class Painter:
     def leave(self, command, now):
         task = self.tasks.pop(command.ticket)
         task.end, task.completed = now, command.completed
-        task.outcome = short(command.end) if command.completed else "ABORTED"
+        task.outcome = short(command.end) if command.completed else "LOGOUT" if command.end == "Logout" else "ABORTED"
         self.free_lanes[command.unit].append(task.lane)
 
-    def follow_numbers(self, now):
+    def follow_numbers(self, now, effects):
         """Ends the bars of numbers that changed, and begins new ones."""
         state = {number: "held" for number in self.session.held}
         state.update(self.session.gone)
@@ -199,6 +209,9 @@ class Painter:
         for number in sorted(state.keys() - self.numbers.keys()):
             self.numbers[number] = Bar(number, state[number], now)
             self.picture.bars.append(self.numbers[number])
+        # A number that ExpCmdSN passed at once is seen in this column alone.
+        gone = [(self.session.lifted(effect.cmd_sn), effect.kind) for effect in effects if effect.kind in ("void", "empty")]
+        self.picture.bars += [Bar(number, kind, now, now) for number, kind in gone if number not in self.session.gone]
 
     def finish(self):
         """Ends what is open at the last event."""
@@ -215,8 +228,8 @@ def paint(events, lines, times, cids):
         end = event.line + len(event.effects)
         painter.take(event, time, [text.rstrip("\n") for text in lines[event.line - 1:end]])
     picture = painter.finish()
-    seen = {column.request.cid for column in picture.columns if column.request}
-    picture.cids = cids + sorted(seen.difference(cids))
+    seen = {column.request.cid for column in picture.columns}
+    picture.cids = cids + sorted(seen.difference(cids, {None})) + [None] * (None in seen)
     return picture
 
 
@@ -249,7 +262,7 @@ def column_data(column, base):
     request = column.request
     return [
         column.time,
-        request and [request.cid, request.kind, request.ignored, request.name, request.number, request.note],
+        [request.cid, request.kind, request.ignored, request.name, request.number, request.note],
         [[answer.cid, answer.text, answer.good] for answer in column.answers],
         None if column.expected is None else column.expected - base,
         None if column.greatest is None else column.greatest - base,

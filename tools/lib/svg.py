@@ -11,12 +11,13 @@ REQUEST_HEIGHT, ANSWER_HEIGHT = 44, 19
 MOST_ROW, LEAST_ROW, WINDOW_HEIGHT = 17, 3, 340
 TASK_HEIGHT = 20
 CORNER = 7
-LEGEND_GAP = 118
+LEGEND_GAP = 108
 LEGEND = (
-    ("command", "command"), ("function", "function"), ("other", "other request"), ("ignored", "ignored"), ("good", "reply"),
-    ("bad", "reply that refuses"), ("live", "live"), ("held", "held"), ("void", "voided"), ("empty", "taken out"),
-    ("open", "may be sent"), ("expected", "ExpCmdSN"), ("greatest", "MaxCmdSN"), ("dormant", "dormant"), ("enabled", "enabled"),
-    ("completed", "completed"), ("aborted", "aborted"),
+    (("command", "command"), ("function", "function"), ("other", "other event"), ("ignored", "ignored"), ("good", "reply"),
+     ("bad", "reply that refuses")),
+    (("live", "live"), ("held", "held"), ("void", "voided"), ("empty", "taken out"), ("open", "may be sent"),
+     ("expected", "ExpCmdSN"), ("greatest", "MaxCmdSN")),
+    (("dormant", "dormant"), ("enabled", "enabled"), ("completed", "completed"), ("aborted", "aborted")),
 )
 PATTERNS = (
     '<pattern id="hatch" width="7" height="7" patternUnits="userSpaceOnUse" patternTransform="rotate(45)">'
@@ -26,8 +27,9 @@ PATTERNS = (
 )
 
 
-def style():
-    with open(os.path.join(os.path.dirname(os.path.realpath(__file__)), "timeline.css"), encoding="utf-8") as file:
+def part(name):
+    """A style sheet or a script of this folder."""
+    with open(os.path.join(os.path.dirname(os.path.realpath(__file__)), name), encoding="utf-8") as file:
         return file.read()
 
 
@@ -89,9 +91,10 @@ class Drawing:
         grid = [line(self.x(column.event), top, self.x(column.event), self.y, "grid") for column in self.columns]
         self.legend()
         size = f'width="{self.width:g}" height="{self.y:g}" viewBox="0 0 {self.width:g} {self.y:g}"'
-        return (f'<svg xmlns="http://www.w3.org/2000/svg" {size} role="img">\n<title>{escape(self.title)}</title>\n'
-                f'<style>\n{style()}</style>\n<defs>{PATTERNS}</defs>\n<rect width="100%" height="100%" class="paper"/>\n'
-                + "\n".join([*grid, *self.parts]) + "\n</svg>\n")
+        ground = '<rect width="100%" height="100%" class="paper"/>'
+        head = (f'<svg xmlns="http://www.w3.org/2000/svg" {size} role="img">', f"<title>{escape(self.title)}</title>",
+                "<style>\n" + part("timeline.css") + "</style>", f"<defs>{PATTERNS}</defs>", ground)
+        return "\n".join((*head, *grid, *self.parts, "</svg>\n"))
 
     def top(self):
         self.add(text(MARGIN, 24, self.title, "title"))
@@ -109,7 +112,8 @@ class Drawing:
         for cid in self.picture.cids:
             answers = max((sum(answer.cid == cid for answer in column.answers) for column in self.columns), default=0)
             self.add(line(MARGIN, self.y, self.width - MARGIN, self.y, "rule"))
-            self.add(text(MARGIN, self.y + 20, f"connection {cid}", "head"), text(LEFT - 10, self.y + 32, "requests", "small end quiet"))
+            heading, rows = ("units", "completions") if cid is None else (f"connection {cid}", "requests")
+            self.add(text(MARGIN, self.y + 20, heading, "head"), text(LEFT - 10, self.y + 32, rows, "small end quiet"))
             answers_at = self.y + REQUEST_HEIGHT + 8
             if answers:
                 self.add(text(LEFT - 10, answers_at + 13, "replies", "small end quiet"))
@@ -209,13 +213,23 @@ class Drawing:
             yield text(self.x(task.end) + COLUMN / 2, self.y + 14, ("" if task.completed else "✕ ") + task.outcome, "small middle light")
 
     def legend(self):
-        x, self.y = MARGIN, self.y + 10
-        for kind, words in LEGEND:
-            if x + LEGEND_GAP > self.width:
-                x, self.y = MARGIN, self.y + 20
-            self.add(*legend_entry(x, self.y, kind, words))
+        marks, height = legend_marks(self.y + 10, self.width, MARGIN)
+        self.add(*marks)
+        self.y += height + 16
+
+
+def legend_marks(y, width, left=0):
+    """The marks of the legend, a row for each panel, or more where the width is small; and its height."""
+    marks, top = [], y
+    for entries in LEGEND:
+        x = left
+        for kind, words in entries:
+            if x + LEGEND_GAP > width:
+                x, y = left, y + 20
+            marks += legend_entry(x, y, kind, words)
             x += LEGEND_GAP
-        self.y += 26
+        y += 20
+    return marks, y - top
 
 
 def legend_entry(x, y, kind, words):
