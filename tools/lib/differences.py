@@ -154,11 +154,14 @@ def longest_rise(values):
 
 
 def out_of_order(pairs):
-    """The program's replies, by their order, that stand elsewhere on their connection than the target's: as few as can be."""
+    """The program's replies, by their order, that stand elsewhere on their connection than the target's: as few as can be.
+
+    Read from the end, so that of two which changed places the one counts that the target sent later.
+    """
     found = set()
     for replies in by_connection(sent for answer, sent in pairs if answer and sent).values():
-        rise = longest_rise([sent.order for sent in replies])
-        found.update(sent.order for place, sent in enumerate(replies) if place not in rise)
+        rise = longest_rise([-sent.order for sent in reversed(replies)])
+        found.update(sent.order for place, sent in enumerate(reversed(replies)) if place not in rise)
     return found
 
 

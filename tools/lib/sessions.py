@@ -6,7 +6,6 @@ from dataclasses import dataclass, field
 from .pdu import LOGIN, LOGIN_RESPONSE, NO_TAG, NOP_IN, REJECT, SCSI_RESPONSE, Reply, Request, number
 from .streams import Splitter, Stream
 
-OF_TARGET = 0x20
 KEPT_DATA = (SCSI_RESPONSE, REJECT)
 NAMES = ("InitiatorName", "TargetName")
 
@@ -67,7 +66,7 @@ class Connection:
 
     def __init__(self):
         self.streams = {True: Stream(), False: Stream()}
-        self.splitters = {True: Splitter(), False: Splitter()}
+        self.splitters = {side: Splitter(side) for side in (True, False)}
         self.begins_with_syn = False
         self.is_read = True
         self.is_orphan = False
@@ -127,10 +126,15 @@ class Sessions:
         ordered = stream.take(segment.sequence, segment.payload)
         if ordered and not stream.has_gap:
             connection.last_frames[segment.from_initiator] = segment.frame
-        for pdu in connection.splitters[segment.from_initiator].take(ordered):
+        splitter = connection.splitters[segment.from_initiator]
+        for pdu in splitter.take(ordered):
             self.take_pdu(connection, segment, pdu)
             if not connection.is_read:
                 return
+        if splitter.is_lost:
+            connection.is_read = False
+            if connection.session:
+                connection.session.cut(segment.frame - 1, f"no PDU begins in frame {segment.frame}")
 
     def take_pdu(self, connection, segment, pdu):
         """Takes a PDU: one of the login, or one of the Full Feature Phase."""
@@ -151,12 +155,8 @@ class Sessions:
             connection.is_read = False
 
     def take_item(self, connection, segment, pdu):
-        """Takes a PDU of the Full Feature Phase. Where none begins the stream isn't understood any further."""
+        """Takes a PDU of the Full Feature Phase."""
         opcode = pdu.header[0] & 0x3f
-        if segment.from_initiator == bool(opcode & OF_TARGET):
-            connection.session.cut(segment.frame - 1, f"no PDU begins in frame {segment.frame}")
-            connection.is_read = False
-            return
         request = Request(pdu.header) if segment.from_initiator else None
         reply = None if request else Reply(pdu.header, pdu.data if opcode in KEPT_DATA else b"")
         connection.session.add(Item(segment.frame, segment.time, connection.cid, request, reply))

@@ -6,6 +6,7 @@ from dataclasses import dataclass
 from .pdu import HEADER_SIZE, number
 
 DIGEST_SIZE = 4
+OF_TARGET = 0x20
 
 
 @dataclass(frozen=True)
@@ -47,9 +48,14 @@ class Stream:
 
 
 class Splitter:
-    """Splits the bytes of one direction into PDUs. Digests may be set while PDUs are taken from it."""
+    """Splits the bytes of one direction into PDUs. Digests may be set while PDUs are taken from it.
 
-    def __init__(self):
+    All opcodes of the target have a bit that those of the initiator lack. Where a PDU has the wrong one the bytes are lost.
+    """
+
+    def __init__(self, from_initiator):
+        self.opcode_bit = 0 if from_initiator else OF_TARGET
+        self.is_lost = False
         self.waiting = bytearray()
         self.header_digest = False
         self.data_digest = False
@@ -57,7 +63,10 @@ class Splitter:
     def take(self, payload):
         """Takes bytes, and gives the PDUs that are whole with them."""
         self.waiting += payload
-        while len(self.waiting) >= HEADER_SIZE:
+        while len(self.waiting) >= HEADER_SIZE and not self.is_lost:
+            if self.waiting[0] & OF_TARGET != self.opcode_bit:
+                self.is_lost = True
+                return
             length = number(self.waiting, 5, 7)
             begin = HEADER_SIZE + 4 * self.waiting[4] + DIGEST_SIZE * self.header_digest
             end = begin + (length + 3) // 4 * 4 + (DIGEST_SIZE if self.data_digest and length else 0)

@@ -1,0 +1,393 @@
+"""Tests of tools/capture: TCP put together, PDUs split, sessions found, recordings that stand still."""
+
+import os
+import shutil
+import struct
+import subprocess
+import sys
+import tempfile
+import unittest
+
+from helpers import TOP, replay, run_tool
+
+sys.path.insert(0, os.path.join(TOP, "tools"))
+from lib.sessions import find  # noqa: E402
+from lib.streams import Splitter, Stream  # noqa: E402
+from lib.settling import in_taken_order, units_of  # noqa: E402
+from lib.tshark import Segment  # noqa: E402
+
+CAPTURES = os.path.join(TOP, "tests", "tools", "captures")
+HAS_TSHARK = shutil.which("tshark") is not None
+NEEDS_TSHARK = "tshark is missing"
+KEYS = b"InitiatorName=iqn.2026-01.example:i\0TargetName=iqn.2026-01.example:t\0"
+
+
+def pdu(opcode, flags, tag, fields, data=b"", ahs=b"", digests=0):
+    """A PDU with these 32-bit numbers from byte 20 on. Digests are zero bytes: nobody looks at them."""
+    header = struct.pack(">BBxxI8xI", opcode, flags, len(ahs) // 4 << 24 | len(data), tag)
+    header = (header + b"".join(struct.pack(">I", value) for value in fields)).ljust(48, b"\0")
+    header_digest = bytes(4 * (digests & 1))
+    data_digest = bytes(4 * (digests >> 1 & bool(data)))
+    return header + ahs + header_digest + data + bytes(-len(data) % 4) + data_digest
+
+
+def login(cid, tsih, cmd_sn, keys=KEYS):
+    request = bytearray(pdu(0x43, 0x87, 0, (cid << 16, cmd_sn), keys))
+    request[8:16] = bytes.fromhex("800000000001") + tsih.to_bytes(2, "big")
+    return bytes(request)
+
+
+def login_response(tsih, stat_sn, exp, greatest, keys=b"HeaderDigest=None\0"):
+    response = bytearray(pdu(0x23, 0x87, 0, (0, stat_sn, exp, greatest), keys))
+    response[14:16] = tsih.to_bytes(2, "big")
+    return bytes(response)
+
+
+def command(tag, cmd_sn, lun=0, digests=0, ahs=b""):
+    request = bytearray(pdu(0x01, 0x81, tag, (0, cmd_sn), ahs=ahs, digests=digests))
+    request[9] = lun
+    return bytes(request)
+
+
+def response(tag, stat_sn, exp, greatest, status=0, data=b"", digests=0):
+    reply = bytearray(pdu(0x21, 0x80, tag, (0, stat_sn, exp, greatest), data, digests=digests))
+    reply[3] = status
+    return bytes(reply)
+
+
+class Wire:
+    """Segments of connections as they would be captured: one a call, with a frame number each."""
+
+    def __init__(self):
+        self.segments = []
+        self.next = {}
+
+    def open(self, stream, sequence=1000):
+        for side in (True, False):
+            self.next[stream, side] = sequence
+            self.put(stream, side, b"", begins=True)
+
+    def put(self, stream, side, payload, begins=False, at=None):
+        """A segment after the ones before it, or at another place of the stream."""
+        sequence = self.next[stream, side] if at is None else at
+        if at is None:
+            self.next[stream, side] += len(payload)
+        frame = len(self.segments) + 1
+        self.segments.append(Segment(frame, frame / 1000, stream, side, sequence % 2**32, begins, payload))
+
+    def log_in(self, stream, cid=1, asked=0, tsih=7, first=1, **words):
+        self.open(stream)
+        self.put(stream, True, login(cid, asked, first))
+        self.put(stream, False, login_response(tsih, 0, first, first + 31, **words))
+
+
+class Streams(unittest.TestCase):
+    def take(self, *segments, begin=100):
+        stream = Stream()
+        stream.begin(begin)
+        return b"".join(stream.take(sequence, payload) for sequence, payload in segments), stream.has_gap
+
+    def test_in_order(self):
+        self.assertEqual((b"abcdef", False), self.take((100, b"abc"), (103, b"def")))
+
+    def test_out_of_order(self):
+        self.assertEqual((b"abcdefghi", False), self.take((106, b"ghi"), (103, b"def"), (100, b"abc")))
+
+    def test_retransmission(self):
+        self.assertEqual((b"abcdef", False), self.take((100, b"abc"), (100, b"abc"), (103, b"def"), (100, b"abcdef")))
+
+    def test_overlap(self):
+        self.assertEqual((b"abcdefgh", False), self.take((100, b"abcd"), (102, b"cdef"), (105, b"fgh")))
+        self.assertEqual((b"abcdefgh", False), self.take((102, b"cdefgh"), (104, b"ef"), (100, b"abcd")))
+
+    def test_keep_alive(self):
+        self.assertEqual((b"abc", False), self.take((99, b"\0"), (100, b"abc"), (102, b"c")))
+
+    def test_numbers_that_wrap(self):
+        self.assertEqual((b"abcdef", False), self.take((2**32 - 2, b"abc"), (1, b"def"), begin=2**32 - 2))
+
+    def test_gap(self):
+        self.assertEqual((b"abc", True), self.take((100, b"abc"), (104, b"e")))
+
+    def test_without_a_beginning(self):
+        stream = Stream()
+        self.assertEqual(b"def", stream.take(103, b"def"))
+
+
+class Splitting(unittest.TestCase):
+    def test_byte_by_byte(self):
+        whole = response(1, 2, 3, 4, data=b"abcde") + response(2, 3, 3, 4) + response(9, 4, 3, 4)
+        splitter = Splitter(from_initiator=False)
+        found = [one for place in range(len(whole)) for one in splitter.take(whole[place:place + 1])]
+        self.assertEqual([b"abcde", b"", b""], [one.data for one in found])
+        self.assertEqual([1, 2, 9], [one.header[19] for one in found])
+
+    def test_digests_and_additional_headers(self):
+        for digests in range(4):
+            splitter = Splitter(from_initiator=True)
+            splitter.header_digest, splitter.data_digest = bool(digests & 1), bool(digests & 2)
+            whole = command(1, 1, ahs=bytes(8), digests=digests) + pdu(0x05, 0x80, 1, (), b"abc", digests=digests)
+            self.assertEqual([b"", b"abc"], [one.data for one in splitter.take(whole + command(2, 2, digests=digests)[:40])])
+
+    def test_a_reply_among_requests(self):
+        splitter = Splitter(from_initiator=True)
+        self.assertEqual(1, len(list(splitter.take(command(1, 1) + response(1, 1, 2, 3) + command(2, 2)))))
+        self.assertTrue(splitter.is_lost)
+
+
+class Finding(unittest.TestCase):
+    def test_two_connections_of_a_session(self):
+        wire = Wire()
+        wire.log_in(0, cid=1)
+        wire.log_in(1, cid=2, asked=7)
+        wire.put(1, True, command(2, 2))
+        wire.put(0, True, command(1, 1))
+        wire.put(1, False, response(2, 1, 3, 34))
+        (session,), unread = find(wire.segments)
+        self.assertEqual({1: 1, 2: 1}, session.connections)
+        self.assertEqual([(2, 2), (1, 1), (2, 2)], [(item.cid, item.tag) for item in session.items])
+        self.assertFalse(unread)
+
+    def test_a_session_that_the_target_didn_t_join(self):
+        wire = Wire()
+        wire.log_in(0, cid=1)
+        wire.log_in(1, cid=2, asked=7, tsih=8)
+        sessions, _ = find(wire.segments)
+        self.assertEqual([7, 8], [session.tsih for session in sessions])
+
+    def test_digests_from_the_end_of_the_login(self):
+        wire = Wire()
+        wire.log_in(0, keys=b"HeaderDigest=CRC32C\0DataDigest=CRC32C\0")
+        wire.put(0, True, command(5, 1, digests=3) + command(6, 2, digests=3))
+        wire.put(0, False, response(5, 1, 3, 34, data=b"abc", digests=3))
+        (session,), _ = find(wire.segments)
+        self.assertEqual([5, 6, 5], [item.tag for item in session.items])
+
+    def test_retransmitted_and_split_requests_count_once(self):
+        wire = Wire()
+        wire.log_in(0)
+        place, whole = wire.next[0, True], command(5, 1) + command(6, 2)
+        wire.put(0, True, whole[60:], at=place + 60)
+        wire.put(0, True, whole[:48], at=place)
+        wire.put(0, True, whole[:70], at=place)
+        wire.put(0, True, whole, at=place)
+        (session,), _ = find(wire.segments)
+        self.assertEqual([(5, 6), (6, 7)], [(item.tag, item.frame) for item in session.items])
+
+    def test_missing_bytes_cut_the_session(self):
+        wire = Wire()
+        wire.log_in(0)
+        wire.put(0, True, command(5, 1))
+        wire.put(0, True, command(7, 3), at=wire.next[0, True] + 48)
+        wire.put(0, False, response(5, 1, 2, 33))
+        (session,), _ = find(wire.segments)
+        self.assertEqual([5], [item.tag for item in session.items])
+        self.assertEqual(["the capture lacks bytes of connection 1; what follows frame 5 is left out"], session.notes)
+
+    def test_no_pdu_where_one_begins(self):
+        wire = Wire()
+        wire.log_in(0)
+        wire.put(0, True, command(5, 1))
+        wire.put(0, True, b"\xff" * 48)
+        (session,), _ = find(wire.segments)
+        self.assertEqual(([5], 1), ([item.tag for item in session.items], len(session.notes)))
+        self.assertIn("no PDU begins in frame 6", session.notes[0])
+
+    def test_a_second_login_of_a_connection(self):
+        wire = Wire()
+        wire.log_in(0)
+        wire.log_in(1, asked=7)
+        wire.put(1, True, command(5, 1))
+        (session,), _ = find(wire.segments)
+        self.assertEqual([], session.items)
+        self.assertIn("connection 1 logs in a second time", session.notes[0])
+
+    def test_what_is_no_session(self):
+        wire = Wire()
+        wire.next[0, True] = 5
+        wire.put(0, True, command(5, 1))
+        wire.open(1)
+        wire.put(1, True, b"GET / HTTP/1.1\r\nHost: example\r\nAccept: */*\r\nUser-Agent: nobody\r\n\r\n")
+        wire.log_in(2, asked=9, tsih=9)
+        wire.open(3)
+        wire.put(3, True, login(1, 0, 1))
+        sessions, unread = find(wire.segments)
+        self.assertEqual([], sessions)
+        self.assertEqual({"a connection whose beginning isn't in the capture (start it before the login)",
+                          "a connection that isn't iSCSI", "a login that doesn't succeed",
+                          "a connection of a session whose first login isn't in the capture"}, set(unread))
+
+    def test_units_are_those_that_the_target_has(self):
+        wire = Wire()
+        wire.log_in(0)
+        no_unit = b"\0\x12\x70\0\x05\0\0\0\0\x0a" + bytes(4) + b"\x25\0" + bytes(4)
+        for tag, lun, status, data in ((1, 2, 0, b""), (2, 5, 2, no_unit)):
+            wire.put(0, True, command(tag, tag, lun=lun))
+            wire.put(0, False, response(tag, tag, tag + 1, 32 + tag, status, data))
+        (session,), _ = find(wire.segments)
+        self.assertEqual(3, units_of(session.items))
+
+    def test_a_request_stands_behind_replies_that_had_not_seen_it(self):
+        wire = Wire()
+        wire.log_in(0)
+        wire.put(0, True, command(1, 1))
+        wire.put(0, True, command(2, 2))
+        wire.put(0, False, response(1, 1, 2, 33))
+        wire.put(0, False, response(2, 2, 3, 34))
+        (session,), _ = find(wire.segments)
+        self.assertEqual([(True, 1), (False, 1), (True, 2), (False, 2)],
+                         [(bool(item.request), item.tag) for item in in_taken_order(session.items)])
+
+
+def frame_of(segment, addresses, port=3260):
+    """The bytes of an Ethernet frame with a VLAN tag and IPv6."""
+    ports = (40000 + segment.stream, port) if segment.from_initiator else (port, 40000 + segment.stream)
+    sequence = (segment.sequence - segment.begins) % 2**32
+    acknowledged = not segment.begins or not segment.from_initiator
+    tcp = struct.pack(">HHIIBBHHH", *ports, sequence, 1, 5 << 4, 2 * segment.begins | 16 * acknowledged, 8192, 0, 0)
+    source, destination = addresses if segment.from_initiator else addresses[::-1]
+    ip = struct.pack(">IHBB", 6 << 28, len(tcp) + len(segment.payload), 6, 64) + source + destination
+    return bytes(12) + b"\x81\0\0\x05\x86\xdd" + ip + tcp + segment.payload
+
+
+def write_pcap(path, segments, linktype=1):
+    """Writes segments as a capture of the old form (pcap)."""
+    addresses = bytes(15) + b"\1", bytes(15) + b"\2"
+    with open(path, "wb") as file:
+        file.write(struct.pack("<IHHiIII", 0xa1b2c3d4, 2, 4, 0, 0, 65535, linktype))
+        for segment in segments:
+            whole = frame_of(segment, addresses)
+            file.write(struct.pack("<IIII", segment.frame // 1000, segment.frame % 1000 * 1000, len(whole), len(whole)) + whole)
+
+
+@unittest.skipUnless(HAS_TSHARK, NEEDS_TSHARK)
+class Tool(unittest.TestCase):
+    def setUp(self):
+        folder = tempfile.TemporaryDirectory()
+        self.addCleanup(folder.cleanup)
+        self.folder = folder.name
+
+    def file(self, name, data=b""):
+        path = os.path.join(self.folder, name)
+        with open(path, "wb") as file:
+            file.write(data)
+        return path
+
+    def make(self, path, *words):
+        done = run_tool("capture", path, "-o", self.folder, *words)
+        self.assertEqual((0, ""), (done.returncode, done.stderr))
+        return done.stdout
+
+    def lines(self, name):
+        with open(os.path.join(self.folder, name), encoding="utf-8") as file:
+            return file.read().splitlines()
+
+    def refused(self, why, *words):
+        done = run_tool("capture", *words)
+        self.assertEqual((1, ""), (done.returncode, done.stdout))
+        self.assertRegex(done.stderr, rf"\Acapture: .*{why}.*\n\Z")
+
+    def test_every_capture_gives_recordings_that_stand_still(self):
+        captures = sorted(name for name in os.listdir(CAPTURES) if name != "after-login.pcapng")
+        self.assertGreater(len(captures), 5)
+        for name in captures:
+            self.make(os.path.join(CAPTURES, name))
+        recordings = sorted(name for name in os.listdir(self.folder) if name.endswith(".recording"))
+        self.assertGreaterEqual(len(recordings), len(captures))
+        for name in recordings:
+            lines = self.lines(name)
+            self.assertTrue(lines[0].startswith("# iscsi-replay: --first "), name)
+            text = "\n".join(lines) + "\n"
+            report = replay(text, *lines[0].removeprefix("# iscsi-replay: ").split())
+            events = [line for line in lines if line[:2] in ("C ", "D ")]
+            self.assertEqual(events, [line[2:] for line in report.splitlines() if line.startswith("> ")])
+            self.assertLessEqual(max(len(line) for line in lines), 256)
+
+    def test_the_form_of_both_files(self):
+        self.make(os.path.join(CAPTURES, "abort-live.pcapng"))
+        lines = self.lines("abort-live-1.recording")
+        self.assertEqual("# iscsi-replay: --first 00000001 --window 129 --units 2 --depth 1024 --level 1", lines[0])
+        self.assertEqual("conn 1 00000001", next(line for line in lines if not line.startswith("#")))
+        place = next(place for place, line in enumerate(lines) if line.startswith("D 3 "))
+        self.assertRegex(lines[place - 1], r"\A# time \d+\.\d{6} frame 16: GOOD for tag 00000010\Z")
+        answers = [line for line in self.lines("abort-live-1.target") if not line.startswith("#")]
+        self.assertRegex(answers[3], r"\A17 \d+\.\d{6} 1 function-response 00000011 00000004 00000004 00000084 01 task does")
+
+    def test_vlan_ipv6_retransmissions_and_two_connections(self):
+        wire = Wire()
+        wire.log_in(0, cid=1)
+        wire.log_in(1, cid=2, asked=7)
+        wire.put(1, True, command(2, 2))
+        place = wire.next[0, True]
+        wire.put(0, True, command(1, 1)[30:], at=place + 30)
+        wire.put(0, True, command(1, 1)[:40], at=place)
+        wire.put(0, False, response(1, 1, 3, 34))
+        wire.put(1, False, response(2, 1, 3, 34))
+        path = os.path.join(self.folder, "made.pcap")
+        write_pcap(path, wire.segments)
+        self.make(path)
+        events = [line for line in self.lines("made-1.recording") if not line.startswith("#")]
+        self.assertEqual(["conn 1 00000001", "conn 2 00000001", f"C 2 {command(2, 2).hex()}", f"C 1 {command(1, 1).hex()}",
+                          "D 1 00", "D 2 00"], events)
+
+    def test_the_window_grows_where_the_target_s_is_too_narrow(self):
+        told = self.make(os.path.join(CAPTURES, "narrow-window.pcapng"))
+        self.assertIn("window 10 (the target's widest is 5)", told)
+        self.assertIn("--window 10 ", self.lines("narrow-window-1.recording")[0])
+
+    def test_a_capture_that_begins_after_the_login(self):
+        self.refused("no session on port 3260: 1 x a connection whose beginning isn't in the capture",
+                     os.path.join(CAPTURES, "after-login.pcapng"), "-o", self.folder)
+
+    def test_a_capture_without_iscsi(self):
+        wire = Wire()
+        wire.open(0)
+        wire.put(0, True, b"GET / HTTP/1.1\r\nHost: example\r\nAccept: */*\r\n\r\n")
+        path = os.path.join(self.folder, "web.pcap")
+        write_pcap(path, wire.segments)
+        self.refused("a connection that isn't iSCSI", path)
+        self.refused("no session on port 3261: no TCP connection", path, "--port", "3261")
+        write_pcap(path, [])
+        self.refused("no TCP connection", path)
+
+    def test_what_is_no_capture(self):
+        self.refused("No such file", os.path.join(self.folder, "none.pcap"))
+        self.refused("Is a directory", self.folder)
+        self.refused("empty", self.file("empty.pcap"))
+        self.refused("capture", self.file("text.pcap", b"hello, this is a text\n" * 40))
+        self.refused("capture", self.file("binary.pcap", bytes(range(256)) * 9))
+
+    def test_a_capture_cut_in_its_last_packet(self):
+        with open(os.path.join(CAPTURES, "reset.pcapng"), "rb") as file:
+            whole = file.read()
+        self.assertIn("6 requests, 2 completions", self.make(self.file("cut.pcapng", whole[:3300])))
+
+    def test_packets_cut_short(self):
+        wire = Wire()
+        wire.log_in(0)
+        path = os.path.join(self.folder, "short.pcap")
+        write_pcap(path, wire.segments)
+        subprocess.run(["editcap", "-s", "100", path, f"{path}ng"], check=True, capture_output=True)
+        self.refused("capture whole packets", f"{path}ng")
+
+    def test_a_folder_that_can_t_be_written(self):
+        self.refused("exists|directory", os.path.join(CAPTURES, "reset.pcapng"), "-o", self.file("taken"))
+        self.refused("", os.path.join(CAPTURES, "reset.pcapng"), "-o", "/proc/none")
+
+    def test_bad_command_lines(self):
+        for words in ((), ("a.pcap", "--port", "0"), ("a.pcap", "--port", "x"), ("a.pcap", "--port", "65536"), ("a", "b")):
+            self.assertEqual(2, run_tool("capture", *words).returncode, words)
+
+
+class WithoutTshark(unittest.TestCase):
+    def test_it_says_how_to_get_it(self):
+        with tempfile.TemporaryDirectory() as folder:
+            os.symlink(sys.executable, os.path.join(folder, "python3"))
+            done = subprocess.run([os.path.join(folder, "python3"), os.path.join(TOP, "tools", "capture"), "a.pcap"],
+                                  capture_output=True, text=True, env={"PATH": folder})
+        self.assertEqual((1, ""), (done.returncode, done.stdout))
+        self.assertRegex(done.stderr, r"\Acapture: tshark is missing: install it with .*\n\Z")
+
+
+if __name__ == "__main__":
+    unittest.main()
