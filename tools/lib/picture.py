@@ -29,6 +29,14 @@ LOGOUT_RESPONSES = {0: "closed", 1: "no CID", 2: "no recov.", 3: "failed"}
 LONGEST = 9
 
 
+def time_words(time):
+    """A time in seconds, as it fits into a column."""
+    if time is None:
+        return None
+    seconds = float(time)
+    return f"{seconds:.3f} s" if seconds >= 1 else f"{seconds * 1000:.2f} ms"
+
+
 def short(name):
     """A name that fits into a column."""
     name = SHORT.get(name, name)
@@ -165,7 +173,7 @@ class Painter:
         self.follow_numbers(now, [step.effect for step in steps if step.effect])
         answers = [answer_of(effect) for effect in event.effects if effect.kind == "send"]
         request = request_of(event) if event.is_arrival else completion_of(event)
-        self.picture.columns.append(Column(now, time, request, answers, self.session.expected, self.session.greatest,
+        self.picture.columns.append(Column(now, time_words(time), request, answers, self.session.expected, self.session.greatest,
                                            lines, [head, *words]))
 
     def follow_task(self, step, now):

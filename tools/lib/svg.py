@@ -10,7 +10,7 @@ LEFT, COLUMN, MARGIN = 178, 66, 12
 REQUEST_HEIGHT, ANSWER_HEIGHT = 44, 19
 MOST_ROW, LEAST_ROW, WINDOW_HEIGHT = 17, 3, 340
 TASK_HEIGHT = 20
-CORNER = 7
+CORNER = 6
 LEGEND_GAP = 108
 LEGEND = (
     (("command", "command"), ("function", "function"), ("other", "other event"), ("ignored", "ignored"), ("good", "reply"),
@@ -105,7 +105,7 @@ class Drawing:
             middle = self.x(column.event) + COLUMN / 2
             self.add(text(middle, self.y + 6, str(column.event), "small middle"))
             if column.time:
-                self.add(text(middle, self.y - 8, f"{float(column.time):.4g} s", "small middle quiet"))
+                self.add(text(middle, self.y - 8, column.time, "small middle quiet"))
         self.y += 14
 
     def connections(self):
@@ -129,7 +129,7 @@ class Drawing:
         if request and request.cid == cid:
             yield f'<g class="request"><title>{escape(chr(10).join(column.words))}</title>'
             yield shape(x + 2, y, COLUMN - 4, REQUEST_HEIGHT - 2, request.kind, request.ignored)
-            yield text(middle, y + 13, request.name, "middle") + text(middle, y + 25, request.number, "small middle")
+            yield text(middle, y + 14, request.name, "name middle") + text(middle, y + 25, request.number, "small middle")
             yield text(middle, y + 37, request.note, "note middle") + "</g>"
         for place, answer in enumerate(answer for answer in column.answers if answer.cid == cid):
             top = answers_at + place * ANSWER_HEIGHT
@@ -142,6 +142,9 @@ class Drawing:
         if not span:
             return
         lowest, highest = span
+        above = max((column.greatest for column in self.columns if column.greatest is not None), default=highest)
+        if above > highest:
+            self.add(text(LEFT + 4, self.y + 14, f"MaxCmdSN goes up to {shown(above)}, above the picture", "small quiet"))
         self.heading("CmdSNs")
         row = max(LEAST_ROW, min(MOST_ROW, WINDOW_HEIGHT // (highest - lowest + 1)))
         top, height = self.y, (highest - lowest + 1) * row

@@ -41,7 +41,7 @@ const line = (left, y, toLeft, toY, kind) => `<line x1="${left}" y1="${y}" x2="$
 
 // A box without its corners.
 function notched(left, y, width, height, kind) {
-    const right = left + width, low = y + height, cut = 7;
+    const right = left + width, low = y + height, cut = 6;
     const points = [[left + cut, y], [right - cut, y], [right, y + cut], [right, low - cut], [right - cut, low],
         [left + cut, low], [left, low - cut], [left, y + cut]];
     return `<polygon points="${points.join(" ")}" class="${kind}"/>`;
@@ -58,7 +58,7 @@ function requestCell(event, cid, y) {
     const left = x(event), middle = left + COLUMN / 2, look = ignored ? "ignored" : kind;
     const shape = kind === "function" ? notched(left + 2, y, COLUMN - 4, REQUEST - 2, look)
         : box(left + 2, y, COLUMN - 4, REQUEST - 2, look, kind === "other" ? 10 : 2);
-    return shape + text(middle, y + 13, name, "middle") + text(middle, y + 25, number, "small middle")
+    return shape + text(middle, y + 14, name, "name middle") + text(middle, y + 25, number, "small middle")
         + text(middle, y + 37, note, "note middle");
 }
 
@@ -117,6 +117,10 @@ function drawWindow(events, y, marks, labels) {
     labels.push(text(10, y + 16, "CmdSNs", "head"), line(0, y + numbersHeight + 34, drawing.clientWidth, y + numbersHeight + 34, "rule"));
     if (!range) return y + numbersHeight + 34;
     const [lowest, highest] = range, top = y + 24;
+    const above = Math.max(...events.map(event => column(event)[GREATEST] ?? highest));
+    if (above > highest) {
+        marks.push(text(LEFT + 4, y + 16, `MaxCmdSN goes up to ${shownNumber(above).toString(16)}, above the picture`, "small quiet"));
+    }
     const row = Math.min(MOST_ROW, numbersHeight / (highest - lowest + 1));
     for (let number = lowest; number <= highest; number += Math.ceil(12 / row)) {
         labels.push(text(LEFT - 8, top + (highest - number) * row + row / 2 + 4, shownNumber(number).toString(16), "small end quiet"));
@@ -171,7 +175,7 @@ function drawTop(events, marks, labels) {
     for (const event of events) {
         const middle = x(event) + COLUMN / 2, time = column(event)[TIME];
         marks.push(line(x(event), 36, x(event), 100000, "grid"), text(middle, 30, event, "small middle"));
-        if (time !== null) marks.push(text(middle, 15, `${Number(Number(time).toPrecision(4))} s`, "small middle quiet"));
+        if (time !== null) marks.push(text(middle, 15, time, "small middle quiet"));
     }
 }
 
