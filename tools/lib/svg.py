@@ -217,7 +217,7 @@ class Drawing:
 
     def legend(self):
         marks, height = legend_marks(self.y + 10, self.width, MARGIN)
-        self.add(*marks)
+        self.add('<g class="legend">', *marks, "</g>")
         self.y += height + 16
 
 

@@ -1,0 +1,217 @@
+"""Tests of tools/timeline."""
+
+import html
+import json
+import os
+import re
+import shutil
+import subprocess
+import tempfile
+import unittest
+from xml.etree import ElementTree
+
+from helpers import TOP, replay, run_tool
+
+SVG = "{http://www.w3.org/2000/svg}"
+SCSI = "C 1 0181" + "00" * 14 + "{tag:08x}" + "00" * 4 + "{cmd_sn:08x}" + "00" * 20
+
+
+def recording_of(name):
+    with open(os.path.join(TOP, "examples", name + ".recording"), encoding="ascii") as file:
+        return file.read()
+
+
+def long_recording(commands):
+    """Commands one after the other, each with its completion, and with times."""
+    lines = ["conn 1 00000001"]
+    for count in range(1, commands + 1):
+        lines += [f"# t={count / 4} frame {count}", SCSI.format(tag=count, cmd_sn=count), f"D {count} 00"]
+    return "\n".join(lines) + "\n"
+
+
+class Folder(unittest.TestCase):
+    """Tests that write files."""
+
+    def setUp(self):
+        folder = tempfile.TemporaryDirectory()
+        self.addCleanup(folder.cleanup)
+        self.folder = folder.name
+
+    def path(self, name, content=None):
+        path = os.path.join(self.folder, name)
+        if content is not None:
+            with open(path, "w", encoding="ascii") as file:
+                file.write(content)
+        return path
+
+    def draw(self, name, report, *words):
+        """What the tool draws of a report, as text."""
+        done = run_tool("timeline", self.path("made.report", report), "-o", self.path(name), *words)
+        self.assertEqual((0, ""), (done.returncode, done.stderr))
+        with open(self.path(name), encoding="utf-8") as file:
+            return file.read()
+
+    def svg(self, report, *words):
+        return ElementTree.fromstring(self.draw("made.svg", report, *words))
+
+
+def shapes(tree, kind):
+    """The shapes of a class, without those of the legend."""
+    in_legend = set(tree.find(f"{SVG}g[@class='legend']"))
+    return [shape for shape in tree.iter() if shape.get("class") == kind and shape not in in_legend]
+
+
+def texts(tree):
+    """The words in the picture, without those of the legend."""
+    in_legend = set(tree.find(f"{SVG}g[@class='legend']"))
+    return [text.text or "" for text in tree.iter(SVG + "text") if text not in in_legend]
+
+
+def cells(tree):
+    return shapes(tree, "request")
+
+
+class Pictures(Folder):
+    def test_abort(self):
+        tree = self.svg(replay(recording_of("abort-task"), "--window", "4"))
+        self.assertEqual(9, len(cells(tree)))
+        # Two held requests, a voided number, one that is taken out; two live commands.
+        self.assertEqual([2, 1, 1, 2], [len(shapes(tree, kind)) for kind in ("held", "void", "empty", "live")])
+        self.assertEqual(2, len(shapes(tree, "enabled")))
+        self.assertEqual([1, 1], [len(shapes(tree, kind)) for kind in ("completed", "aborted")])
+        found = texts(tree)
+        self.assertEqual([3, 1, 2], [found.count(words) for words in ("complete", "✕ ABORTED", "held")])
+        for words in ("duplicate", "stale", "#2 simple, tag a4", "connection 2", "task set of unit 0"):
+            self.assertIn(words, found)
+
+    def test_bars_stand_over_their_events(self):
+        """CmdSN 3 of the abort is held from event 1 to 4, and taken out at event 5."""
+        tree = self.svg(replay(recording_of("abort-task"), "--window", "4"))
+        columns = {text.text: float(text.get("x")) for text in tree.iter(SVG + "text") if text.get("class") == "small middle"
+                   and (text.text or "").isdecimal()}
+        width = columns["2"] - columns["1"]
+        held = min(shapes(tree, "held"), key=lambda bar: float(bar.get("x")))
+        left, right = float(held.get("x")), float(held.get("x")) + float(held.get("width"))
+        self.assertAlmostEqual(columns["1"] - width / 2, left, delta=2)
+        self.assertAlmostEqual(columns["4"] + width / 2, right, delta=2)
+        empty = shapes(tree, "empty")[0]
+        self.assertEqual(held.get("y"), empty.get("y"))
+        self.assertAlmostEqual(right, float(empty.get("x")), delta=3)
+
+    def test_ranges(self):
+        report = replay(long_recording(100))
+        for words, events in (((), range(1, 61)), (("--from", "41", "--to", "44"), range(41, 45)), (("--from", "199"), (199, 200))):
+            tree = self.svg(report, *words)
+            self.assertEqual(len(events), len(cells(tree)))
+            numbers = [text.text for text in tree.iter(SVG + "text") if text.get("class") == "small middle" and text.text.isdecimal()]
+            self.assertEqual([str(event) for event in events], numbers)
+
+    def test_dormant_commands(self):
+        tree = self.svg(replay(recording_of("attributes")))
+        self.assertGreater(len(shapes(tree, "dormant")), 0)
+        self.assertIn("dormant", texts(tree))
+
+    def test_times(self):
+        recording = long_recording(3)
+        self.path("made.recording", recording)
+        tree = self.svg(replay(recording), "--recording", self.path("made.recording"))
+        self.assertEqual(["250.00 ms", "500.00 ms", "750.00 ms"], [words for words in texts(tree) if words.endswith(" ms")])
+        headed = self.svg("# t=2.5 frame 1\nconn 1 00000001\nconn 9 00000001\n" + replay(recording))
+        self.assertIn("2.500 s", texts(headed))
+        self.assertIn("connection 9", texts(headed))
+
+    def test_all_worked_reports(self):
+        cases = os.path.join(TOP, "tests", "cases")
+        drawn = 0
+        for name in sorted(os.listdir(cases))[::4]:
+            path = os.path.join(cases, name, "report")
+            if os.path.isfile(path) and os.path.getsize(path):
+                with open(path, encoding="ascii") as file:
+                    report = file.read()
+                tree = self.svg(report)
+                events = min(60, sum(line.startswith("> ") for line in report.splitlines()))
+                self.assertEqual(events, len(cells(tree)), name)
+                drawn += 1
+        self.assertGreater(drawn, 15)
+
+
+class Pages(Folder):
+    def data(self, page):
+        return json.loads(re.search(r'<script type="application/json" id="data">(.*?)</script>', page, re.DOTALL).group(1))
+
+    def test_it_needs_no_network(self):
+        page = self.draw("made.html", replay(recording_of("logout"), "--window", "4"))
+        self.assertIsNone(re.search(r"https?:|ftp:|//[a-z0-9]|\bsrc=|\bhref=|@import|url\((?!#)|fetch\(|XMLHttpRequest|<link", page))
+
+    def test_data(self):
+        report = replay(long_recording(1500))
+        data = self.data(self.draw("made.html", report))
+        self.assertEqual(3000, len(data["columns"]))
+        lines = [line for column in data["columns"] for line in column[5]]
+        self.assertEqual(report.splitlines(), lines)
+        explained = run_tool("explain", text=report).stdout.splitlines()
+        self.assertIn("        " + data["columns"][2999][6][-1], explained)
+        self.assertEqual(1500, len(data["tasks"]))
+        self.assertEqual({0}, {task[1] for task in data["tasks"]})
+
+    def test_range(self):
+        data = self.data(self.draw("made.html", replay(long_recording(50)), "--from", "11", "--to", "20"))
+        self.assertEqual((11, 10, 5), (data["first"], len(data["columns"]), len(data["tasks"])))
+
+    def test_name_is_escaped(self):
+        odd = self.path("<b>&.report", replay(recording_of("logout")))
+        self.assertEqual(0, run_tool("timeline", odd, "-o", self.path("odd.html")).returncode)
+        self.assertEqual(0, run_tool("timeline", odd, "-o", self.path("odd.svg")).returncode)
+        with open(self.path("odd.html"), encoding="utf-8") as file:
+            self.assertIn("<title>&lt;b&gt;&amp;.report:", file.read())
+        self.assertIn("<b>&.report:", ElementTree.parse(self.path("odd.svg")).getroot().find(SVG + "title").text)
+
+    @unittest.skipUnless(shutil.which("chromium"), "chromium isn't installed")
+    def test_in_a_browser(self):
+        """The page opened at an event shows its words, and draws no more than what is seen."""
+        self.draw("made.html", replay(long_recording(1500)))
+        done = subprocess.run(["chromium", "--headless", "--no-sandbox", "--disable-gpu", "--window-size=1200,900", "--dump-dom",
+                               f"--user-data-dir={self.path('profile')}", "file://" + self.path("made.html") + "#2000"],
+                              capture_output=True, text=True, timeout=120, check=False)
+        details = html.unescape(re.search(r'<div id="details">(.*?)</div>', done.stdout, re.DOTALL).group(1))
+        self.assertIn("Event 2000: unit 0 completes ticket 1000", details)
+        self.assertIn("> D 1000 00\n  leave 1000", details)
+        marks = re.search(r'<g id="marks">(.*?)</g>', done.stdout, re.DOTALL).group(1)
+        self.assertIn(">2000</text>", marks)
+        self.assertNotIn(">1000</text>", marks)
+        self.assertLess(marks.count("<text"), 300)
+
+
+class Faults(Folder):
+    def assert_fault(self, pattern, *words, text=None):
+        done = run_tool("timeline", *words, text=text)
+        self.assertEqual(1, done.returncode, done)
+        self.assertRegex(done.stderr, r"\Atimeline: " + pattern + r"\n\Z")
+
+    def test_faults(self):
+        output = self.path("made.svg")
+        report = self.path("made.report", replay(long_recording(3)))
+        self.assert_fault(".*none: No such file or directory", self.path("none"), "-o", output)
+        self.assert_fault(".*: Is a directory", self.folder, "-o", output)
+        self.assert_fault("the report has no events", "-", "-o", output, text="")
+        self.assert_fault(r"line 2: not a line of a report \(a recording\?.*\)", "-", "-o", output, text=long_recording(1).replace("# t", "C t"))
+        self.assert_fault("--from 7: the report has 6 events", report, "--from", "7", "-o", output)
+        self.assert_fault(".*: No such file or directory", report, "-o", self.path("none/made.svg"))
+        self.assert_fault(".*other.recording: not the recording of this report", report, "-o", output, "--recording",
+                          self.path("other.recording", long_recording(2)))
+        self.assert_fault(".*: Is a directory", report, "-o", output, "--recording", self.folder)
+        self.assert_fault("a picture has at most 2000 events.*", self.path("long.report", replay(long_recording(1100))), "--to", "2001",
+                          "-o", output)
+        self.assertFalse(os.path.exists(output))
+
+    def test_command_line(self):
+        report = self.path("made.report", replay(long_recording(3)))
+        for words in ((report,), (report, "-o", "made.png"), (report, "-o", "made.svg", "--from", "0"),
+                      (report, "-o", "made.svg", "--from", "3", "--to", "2"), (report, "-o", "made.svg", "--to", "x")):
+            done = run_tool("timeline", *words)
+            self.assertEqual(2, done.returncode, words)
+            self.assertNotIn("Traceback", done.stderr)
+
+
+if __name__ == "__main__":
+    unittest.main()
