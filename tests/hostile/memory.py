@@ -168,7 +168,7 @@ def wrong_of_replay(ran, report):
 
 def replays():
     """The program with each request refused. A run with ample memory behind it gives the whole report."""
-    tally = Tally("memory refused to the program", 1700)
+    tally = Tally("memory refused to the program", 1660)
     for name, words, data in recordings():
         report = run(words, data).out
         for number, ran in refusals(words, data):
