@@ -64,10 +64,11 @@ class Words(unittest.TestCase):
                          explained(replay("conn 1 00000001\n" + command(3, 0xa3) + "\n")))
 
     def test_why_ignored(self):
-        recording = "\n".join(("conn 1 00000001", command(1, 0xa1), command(1, 0xa2), command(0x30, 0xa3), "D 7 00", "D 1 02",
-                               "D 1 00", command(0, 0xa4, first="05"), ""))
+        recording = "\n".join(("conn 1 00000001", command(1, 0xa1), command(1, 0xa2), command(0x30, 0xa3), "D 7 00",
+                               "D 1 02", "D 1 00", command(0, 0xa4, first="05"), ""))
         lines = explained(replay(recording))
-        for end in ("CmdSN 1, tag a2: ignored: CmdSN 1 is below ExpCmdSN 2", "tag a3: ignored: CmdSN 30 is above MaxCmdSN",
+        for end in ("CmdSN 1, tag a2: ignored: CmdSN 1 is below ExpCmdSN 2",
+                    "tag a3: ignored: CmdSN 30 is above MaxCmdSN",
                     "ticket 7 is completed with GOOD: ignored: ticket 7 was never given",
                     "ticket 1 is completed with GOOD: ignored: ticket 1 was completed with CHECK CONDITION",
                     "SCSI Data-Out, tag a4: ignored: SCSI Data-Out has no part in the order of commands"):
@@ -77,19 +78,21 @@ class Words(unittest.TestCase):
         recording = "\n".join(("conn 1 00000001", command(1, 0xa1), command(2, 0xa2, low=2), "D 2 00", "D 1 00", ""))
         lines = explained(replay(recording))
         self.assertIn("        ticket 2 enters unit 0 as ORDERED", lines)
-        self.assertIn("   3  unit 0 completes ticket 2 (READ(10), tag a2, CID 1) with GOOD: ignored: ticket 2 may not start yet", lines)
+        self.assertIn("   3  unit 0 completes ticket 2 (READ(10), tag a2, CID 1) with GOOD: "
+                      "ignored: ticket 2 may not start yet", lines)
         self.assertEqual("        ticket 2 may start", lines[-1])
 
     def test_sense_and_reject(self):
         recording = "\n".join(("conn 1 00000007", command(1, 0xa1, unit=9), command(2, 0xa2, low=5), ""))
         lines = explained(replay(recording))
-        self.assertIn("        answered CHECK CONDITION (ILLEGAL REQUEST, LOGICAL UNIT NOT SUPPORTED) on CID 1, StatSN 7, "
-                      "ExpCmdSN 2, MaxCmdSN 21", lines)
+        self.assertIn("        answered CHECK CONDITION (ILLEGAL REQUEST, LOGICAL UNIT NOT SUPPORTED) on CID 1, "
+                      "StatSN 7, ExpCmdSN 2, MaxCmdSN 21", lines)
         self.assertIn("        rejected (invalid PDU field) on CID 1, StatSN 8, ExpCmdSN 3, MaxCmdSN 22", lines)
 
     def test_function_that_waits_and_executes(self):
         lines = explained(example("function-that-waits", "--window", "4"))
-        self.assertTrue(any(line.endswith("waits for lower CmdSNs: CmdSNs 1 and 2 are missing") for line in lines), lines)
+        waits = "waits for lower CmdSNs: CmdSNs 1 and 2 are missing"
+        self.assertTrue(any(line.endswith(waits) for line in lines), lines)
         self.assertIn("        the function that waited for CmdSN 3 executes: ABORT TASK SET, tag b1, CID 2", lines)
 
     def test_abort_that_finds_nothing(self):
@@ -136,9 +139,13 @@ class Faults(unittest.TestCase):
                 ("", "the report has no events"), (command(1, 0xa1), r"line 1: .*\(a recording\?.*\)"),
                 (f"{arrival}\n  leave 4", "line 2: ticket 4 isn't live"),
                 (f"{arrival}\n  deliver 1 00000002 000000a2", "line 2: no request with CmdSN 00000002 was held"),
-                (f"{arrival}\n  immediate 1 00000002 000000a2", "line 2: no function with CmdSN 00000002 and tag 000000a2 waited"),
+                (f"{arrival}\n  immediate 1 00000002 000000a2",
+                 "line 2: no function with CmdSN 00000002 and tag 000000a2 waited"),
                 (f"{arrival}\n  empty 00000009", "line 2: no request with CmdSN 00000009 was held"),
                 ("> D 1 00\n  enter 1 0 simple", "line 2: no request arrived that could enter"),
+                (f"{arrival}\n  deliver 1 00000001 000000a1\n  enter 1 0 simple\n> D 2 00\n  leave 1",
+                 "line 5: no request arrived that could take a ticket out"),
+                ("> D 1 00\n  ignore outside", "line 2: no event is ignored so"),
                 ("> D 1 00\n  wait 1 00000001 00000001", "line 2: no function arrived")):
             self.assert_fault(pattern, text=text)
 

@@ -67,6 +67,10 @@ def texts(tree):
     return [text.text or "" for text in tree.iter(SVG + "text") if text not in in_legend]
 
 
+def event_numbers(tree):
+    return [text for text in shapes(tree, "small middle") if (text.text or "").isdecimal()]
+
+
 def cells(tree):
     return shapes(tree, "request")
 
@@ -87,8 +91,7 @@ class Pictures(Folder):
     def test_bars_stand_over_their_events(self):
         """CmdSN 3 of the abort is held from event 1 to 4, and taken out at event 5."""
         tree = self.svg(replay(recording_of("abort-task"), "--window", "4"))
-        columns = {text.text: float(text.get("x")) for text in tree.iter(SVG + "text") if text.get("class") == "small middle"
-                   and (text.text or "").isdecimal()}
+        columns = {text.text: float(text.get("x")) for text in event_numbers(tree)}
         width = columns["2"] - columns["1"]
         held = min(shapes(tree, "held"), key=lambda bar: float(bar.get("x")))
         left, right = float(held.get("x")), float(held.get("x")) + float(held.get("width"))
@@ -100,22 +103,29 @@ class Pictures(Folder):
 
     def test_ranges(self):
         report = replay(long_recording(100))
-        for words, events in (((), range(1, 61)), (("--from", "41", "--to", "44"), range(41, 45)), (("--from", "199"), (199, 200))):
+        for words, events in (((), range(1, 61)), (("--from", "41", "--to", "44"), range(41, 45)),
+                              (("--from", "199"), (199, 200))):
             tree = self.svg(report, *words)
             self.assertEqual(len(events), len(cells(tree)))
-            numbers = [text.text for text in tree.iter(SVG + "text") if text.get("class") == "small middle" and text.text.isdecimal()]
-            self.assertEqual([str(event) for event in events], numbers)
+            self.assertEqual([str(event) for event in events], [text.text for text in event_numbers(tree)])
 
     def test_dormant_commands(self):
         tree = self.svg(replay(recording_of("attributes")))
         self.assertGreater(len(shapes(tree, "dormant")), 0)
         self.assertIn("dormant", texts(tree))
 
+    def test_numbers_far_apart(self):
+        """A report that was tampered with: the picture has an end."""
+        report = replay(long_recording(2)).replace("0000000300000022", "3000000330000022")
+        self.assertIn("30000003", report)
+        self.assertEqual(4, len(cells(self.svg(report))))
+
     def test_times(self):
         recording = long_recording(3)
         self.path("made.recording", recording)
         tree = self.svg(replay(recording), "--recording", self.path("made.recording"))
-        self.assertEqual(["250.00 ms", "500.00 ms", "750.00 ms"], [words for words in texts(tree) if words.endswith(" ms")])
+        times = [words for words in texts(tree) if words.endswith(" ms")]
+        self.assertEqual(["250.00 ms", "500.00 ms", "750.00 ms"], times)
         headed = self.svg("# t=2.5 frame 1\nconn 1 00000001\nconn 9 00000001\n" + replay(recording))
         self.assertIn("2.500 s", texts(headed))
         self.assertIn("connection 9", texts(headed))
@@ -137,11 +147,13 @@ class Pictures(Folder):
 
 class Pages(Folder):
     def data(self, page):
-        return json.loads(re.search(r'<script type="application/json" id="data">(.*?)</script>', page, re.DOTALL).group(1))
+        found = re.search(r'<script type="application/json" id="data">(.*?)</script>', page, re.DOTALL)
+        return json.loads(found.group(1))
 
     def test_it_needs_no_network(self):
         page = self.draw("made.html", replay(recording_of("logout"), "--window", "4"))
-        self.assertIsNone(re.search(r"https?:|ftp:|//[a-z0-9]|\bsrc=|\bhref=|@import|url\((?!#)|fetch\(|XMLHttpRequest|<link", page))
+        remote = r"https?:|ftp:|//[a-z0-9]|\bsrc=|\bhref=|@import|url\((?!#)|fetch\(|XMLHttpRequest|<link"
+        self.assertIsNone(re.search(remote, page))
 
     def test_data(self):
         report = replay(long_recording(1500))
@@ -170,8 +182,9 @@ class Pages(Folder):
     def test_in_a_browser(self):
         """The page opened at an event shows its words, and draws no more than what is seen."""
         self.draw("made.html", replay(long_recording(1500)))
-        done = subprocess.run(["chromium", "--headless", "--no-sandbox", "--disable-gpu", "--window-size=1200,900", "--dump-dom",
-                               f"--user-data-dir={self.path('profile')}", "file://" + self.path("made.html") + "#2000"],
+        done = subprocess.run(["chromium", "--headless", "--no-sandbox", "--disable-gpu", "--window-size=1200,900",
+                               "--dump-dom", f"--user-data-dir={self.path('profile')}",
+                               "file://" + self.path("made.html") + "#2000"],
                               capture_output=True, text=True, timeout=120, check=False)
         details = html.unescape(re.search(r'<div id="details">(.*?)</div>', done.stdout, re.DOTALL).group(1))
         self.assertIn("Event 2000: unit 0 completes ticket 1000", details)
@@ -194,14 +207,15 @@ class Faults(Folder):
         self.assert_fault(".*none: No such file or directory", self.path("none"), "-o", output)
         self.assert_fault(".*: Is a directory", self.folder, "-o", output)
         self.assert_fault("the report has no events", "-", "-o", output, text="")
-        self.assert_fault(r"line 2: not a line of a report \(a recording\?.*\)", "-", "-o", output, text=long_recording(1).replace("# t", "C t"))
+        self.assert_fault(r"line 2: not a line of a report \(a recording\?.*\)", "-", "-o", output,
+                          text=long_recording(1).replace("# t", "C t"))
         self.assert_fault("--from 7: the report has 6 events", report, "--from", "7", "-o", output)
         self.assert_fault(".*: No such file or directory", report, "-o", self.path("none/made.svg"))
         self.assert_fault(".*other.recording: not the recording of this report", report, "-o", output, "--recording",
                           self.path("other.recording", long_recording(2)))
         self.assert_fault(".*: Is a directory", report, "-o", output, "--recording", self.folder)
-        self.assert_fault("a picture has at most 2000 events.*", self.path("long.report", replay(long_recording(1100))), "--to", "2001",
-                          "-o", output)
+        long_report = self.path("long.report", replay(long_recording(1100)))
+        self.assert_fault("a picture has at most 2000 events.*", long_report, "--to", "2001", "-o", output)
         self.assertFalse(os.path.exists(output))
 
     def test_command_line(self):

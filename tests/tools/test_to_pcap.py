@@ -28,7 +28,8 @@ REPORTS = {
     "logout": replay(example("logout"), "--window", "4"),
     "abort": replay(example("abort-task"), "--window", "4"),
     "refused": replay(example("refused-commands")),
-    "lengths": replay(f"conn 1 fffffffe\n{WRITE.format(cmd_sn=1)}\nD 1 02\n{UNKNOWN}\n{WRITE.format(cmd_sn=2)}\nD 2 00\n"),
+    "lengths": replay(f"conn 1 fffffffe\n{WRITE.format(cmd_sn=1)}\nD 1 02\n{UNKNOWN}\n"
+                      f"{WRITE.format(cmd_sn=2)}\nD 2 00\n"),
 }
 
 
@@ -58,7 +59,8 @@ def frames(content):
 
 def ones_sum(content):
     """The sum of words that is ffff where the checksum among them is right."""
-    total = sum(content[at] << 8 | (content[at + 1] if at + 1 < len(content) else 0) for at in range(0, len(content), 2))
+    content += bytes(len(content) % 2)
+    total = sum(content[at] << 8 | content[at + 1] for at in range(0, len(content), 2))
     while total > 0xffff:
         total = total // 0x10000 + total % 0x10000
     return total
@@ -87,7 +89,7 @@ class Bytes(unittest.TestCase):
                 self.check_frame(frame, following)
 
     def check_frame(self, frame, following):
-        """The checksums of a frame, and its numbers against those of the frames before. `following` has the next ones."""
+        """The checksums of a frame, and its numbers against `following`, the next ones by the frames before."""
         packet = frame[14:]
         self.assertEqual((b"\x08\x00", 0x45, 6), (frame[12:14], packet[0], packet[9]))
         self.assertEqual(len(packet), struct.unpack_from(">H", packet, 2)[0])
@@ -127,16 +129,16 @@ class Bytes(unittest.TestCase):
 class Decoded(unittest.TestCase):
     def fields(self, report):
         """The opcode, StatSN, ExpCmdSN and MaxCmdSN of each PDU that tshark finds, and what it complains about."""
-        names = ("iscsi.opcode", "iscsi.statsn", "iscsi.expcmdsn", "iscsi.maxcmdsn", "iscsi.initiatortasktag", "_ws.malformed",
-                 "tcp.analysis.flags", "tcp.checksum.status", "ip.checksum.status")
+        names = ("iscsi.opcode", "iscsi.statsn", "iscsi.expcmdsn", "iscsi.maxcmdsn", "iscsi.initiatortasktag",
+                 "_ws.malformed", "tcp.analysis.flags", "tcp.checksum.status", "ip.checksum.status")
         with tempfile.TemporaryDirectory() as folder:
             path = os.path.join(folder, "made.pcap")
             with open(path, "wb") as file:
                 file.write(captured(report))
             words = [word for name in names for word in ("-e", name)]
             checks = ("-o", "tcp.check_checksum:TRUE", "-o", "ip.check_checksum:TRUE")
-            done = subprocess.run(["tshark", "-r", path, *checks, "-T", "fields", "-E", "occurrence=f", *words], capture_output=True,
-                                  text=True, timeout=120, check=True)
+            done = subprocess.run(["tshark", "-r", path, *checks, "-T", "fields", "-E", "occurrence=f", *words],
+                                  capture_output=True, text=True, timeout=120, check=True)
         rows = [text.split("\t") for text in done.stdout.splitlines()]
         for row in rows:
             self.assertEqual(["", "", "1", "1"], row[5:9], row)
@@ -149,7 +151,8 @@ class Decoded(unittest.TestCase):
                 if event.is_arrival and event.request.name != "opcode 1e":
                     expected.append((event.request.opcode, None, None, None, event.request.tag))
                 replies = [effect.reply for effect in event.effects if effect.reply]
-                expected += [(reply.opcode, reply.stat_sn, reply.exp_cmd_sn, reply.max_cmd_sn, reply.tag) for reply in replies]
+                expected += [(reply.opcode, reply.stat_sn, reply.exp_cmd_sn, reply.max_cmd_sn, reply.tag)
+                             for reply in replies]
             found = [row for row in self.fields(report) if row[0] != 0x1e]
             # A Reject has no tag in Wireshark's eyes.
             shown = [row[:4] + (None,) if row[0] == 0x3f else row for row in found]
@@ -168,7 +171,8 @@ class Faults(unittest.TestCase):
             self.assert_fault(".*none: No such file or directory", os.path.join(folder, "none"), "-o", output)
             self.assert_fault(".*: Is a directory", folder, "-o", output)
             self.assert_fault("the report has no requests and no replies", "-", "-o", output, text="")
-            self.assert_fault("line 1: not a line of a report.*", "-", "-o", output, text=example("logout").replace("#", "C "))
+            self.assert_fault("line 1: not a line of a report.*", "-", "-o", output,
+                              text=example("logout").replace("#", "C "))
             self.assertEqual([], os.listdir(folder))
             self.assert_fault(".*: Is a directory", "-", "-o", folder, text=REPORTS["logout"])
             self.assert_fault("/dev/full: No space left on device", "-", "-o", "/dev/full", text=REPORTS["logout"])

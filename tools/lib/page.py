@@ -37,6 +37,6 @@ def page(picture, start, end, title):
     # No text of the data can end the element that they stand in.
     data = json.dumps(as_data(picture, start, end), separators=(",", ":")).replace("<", "\\u003c")
     marks, height = legend_marks(0, LEGEND_WIDTH)
-    return PAGE.format(title=escape(title), style=part("page.css") + part("timeline.css"), start=start, end=end, data=data,
-                       script=part("timeline.js"), patterns=PATTERNS, legend="".join(marks), legend_width=LEGEND_WIDTH,
-                       legend_height=height)
+    return PAGE.format(title=escape(title), style=part("page.css") + part("timeline.css"), start=start, end=end,
+                       data=data, script=part("timeline.js"), patterns=PATTERNS,
+                       legend="".join(marks), legend_width=LEGEND_WIDTH, legend_height=height)

@@ -30,7 +30,8 @@ class Side:
 def segment(source, target, flags, payload):
     """A TCP segment with its checksum, that of the pseudo header too."""
     acknowledged = target.sequence if flags & ACK else 0
-    head = struct.pack(">HHIIBBHHH", source.port, target.port, source.sequence, acknowledged, 5 << 4, flags, WINDOW, 0, 0)
+    head = struct.pack(">HHIIBBHHH", source.port, target.port, source.sequence, acknowledged, 5 << 4,
+                       flags, WINDOW, 0, 0)
     pseudo = source.address + target.address + struct.pack(">BBH", 0, TCP, len(head) + len(payload))
     return head[:16] + struct.pack(">H", checksum(pseudo + head + payload)) + head[18:] + payload
 

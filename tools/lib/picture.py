@@ -9,24 +9,28 @@ from .words import shown, tell
 
 TIME = re.compile(r"# t=([0-9]{1,12}(?:\.[0-9]{1,12})?)(?: |$)")
 SHORT = {
-    "TEST UNIT READY": "TUR", "REQUEST SENSE": "SENSE", "FORMAT UNIT": "FORMAT", "MODE SELECT(6)": "MODE SEL", "RESERVE(6)": "RESERVE",
-    "RELEASE(6)": "RELEASE", "MODE SENSE(6)": "MODE SNS", "START STOP UNIT": "START ST", "SEND DIAGNOSTIC": "DIAG",
-    "PREVENT ALLOW MEDIUM REMOVAL": "PREVENT", "READ CAPACITY(10)": "CAPACITY", "WRITE AND VERIFY(10)": "WRT+VER",
-    "VERIFY(10)": "VERIFY", "SYNCHRONIZE CACHE(10)": "SYNC", "WRITE SAME(10)": "WR SAME", "LOG SENSE": "LOG SNS",
+    "TEST UNIT READY": "TUR", "REQUEST SENSE": "SENSE", "FORMAT UNIT": "FORMAT", "MODE SELECT(6)": "MODE SEL",
+    "RESERVE(6)": "RESERVE", "RELEASE(6)": "RELEASE", "MODE SENSE(6)": "MODE SNS", "START STOP UNIT": "START ST",
+    "SEND DIAGNOSTIC": "DIAG", "PREVENT ALLOW MEDIUM REMOVAL": "PREVENT", "READ CAPACITY(10)": "CAPACITY",
+    "WRITE AND VERIFY(10)": "WRT+VER", "VERIFY(10)": "VERIFY", "SYNCHRONIZE CACHE(10)": "SYNC",
+    "WRITE SAME(10)": "WR SAME", "LOG SENSE": "LOG SNS",
     "MODE SELECT(10)": "MODE SEL", "MODE SENSE(10)": "MODE SNS", "PERSISTENT RESERVE IN": "PR IN",
-    "PERSISTENT RESERVE OUT": "PR OUT", "COMPARE AND WRITE": "CMP+WRT", "VERIFY(16)": "VERIFY", "SYNCHRONIZE CACHE(16)": "SYNC",
-    "WRITE SAME(16)": "WR SAME", "SERVICE ACTION IN(16)": "SVC IN", "REPORT LUNS": "REP LUNS", "MAINTENANCE IN": "MAINT IN",
+    "PERSISTENT RESERVE OUT": "PR OUT", "COMPARE AND WRITE": "CMP+WRT", "VERIFY(16)": "VERIFY",
+    "SYNCHRONIZE CACHE(16)": "SYNC", "WRITE SAME(16)": "WR SAME", "SERVICE ACTION IN(16)": "SVC IN",
+    "REPORT LUNS": "REP LUNS", "MAINTENANCE IN": "MAINT IN",
     "MAINTENANCE OUT": "MAINT OUT", "ABORT TASK": "ABORT", "ABORT TASK SET": "ABORT SET", "CLEAR TASK SET": "CLEAR SET",
-    "LOGICAL UNIT RESET": "LU RESET", "TARGET WARM RESET": "WARM RST", "TARGET COLD RESET": "COLD RST", "TASK REASSIGN": "REASSIGN",
-    "QUERY TASK": "QUERY", "QUERY TASK SET": "QUERY SET", "I_T NEXUS RESET": "IT RESET", "QUERY ASYNCHRONOUS EVENT": "QUERY EV",
+    "LOGICAL UNIT RESET": "LU RESET", "TARGET WARM RESET": "WARM RST", "TARGET COLD RESET": "COLD RST",
+    "TASK REASSIGN": "REASSIGN", "QUERY TASK": "QUERY", "QUERY TASK SET": "QUERY SET", "I_T NEXUS RESET": "IT RESET",
+    "QUERY ASYNCHRONOUS EVENT": "QUERY EV",
     "Text Request": "Text", "SCSI Data-Out": "Data-Out", "SNACK Request": "SNACK", "Login Request": "Login",
     "CHECK CONDITION": "CHECK", "CONDITION MET": "MET", "RESERVATION CONFLICT": "RES CONF", "TASK SET FULL": "FULL",
     "TASK ABORTED": "ABORTED", "ACA ACTIVE": "ACA",
 }
-RESPONSES = {0: "complete", 1: "no task", 2: "no LUN", 3: "allegiant", 4: "no reass.", 5: "unsupp.", 6: "denied", 7: "succeeded",
-             255: "rejected"}
+RESPONSES = {0: "complete", 1: "no task", 2: "no LUN", 3: "allegiant", 4: "no reass.", 5: "unsupp.", 6: "denied",
+             7: "succeeded", 255: "rejected"}
 LOGOUT_RESPONSES = {0: "closed", 1: "no CID", 2: "no recov.", 3: "failed"}
 LONGEST = 9
+LEAST_ROWS, MOST_ROWS = 24, 2048
 
 
 def time_words(time):
@@ -114,7 +118,7 @@ def connections(lines):
 
 
 def event_texts(lines):
-    """The event lines of a recording or a report, in the form of a recording and in lower case, each with its time or None."""
+    """The event lines of a recording or a report, as a recording has them, each with its time or None."""
     time = None
     for text in lines:
         found = TIME.match(text)
@@ -130,8 +134,11 @@ def request_of(event):
     request = event.request
     kind = {pdu.SCSI_COMMAND: "command", pdu.TASK_MANAGEMENT: "function"}.get(request.opcode, "other")
     why = next((effect.why for effect in event.effects if effect.kind == "ignore"), "")
-    note = why or ("waits" if any(effect.kind == "wait" for effect in event.effects) else "" if event.effects else "held")
-    number = "" if request.opcode in (pdu.DATA_OUT, pdu.SNACK) else ("imm " if request.immediate else "SN ") + shown(request.cmd_sn)[-5:]
+    waits = any(effect.kind == "wait" for effect in event.effects)
+    note = why or ("waits" if waits else "" if event.effects else "held")
+    number = ("imm " if request.immediate else "SN ") + shown(request.cmd_sn)[-5:]
+    if request.opcode in (pdu.DATA_OUT, pdu.SNACK):
+        number = ""
     return Request(event.cid, kind, bool(why), short(request.name), number, note)
 
 
@@ -146,7 +153,8 @@ def answer_of(effect):
     """What a column shows of a reply."""
     reply = effect.reply
     if reply.opcode == pdu.SCSI_RESPONSE:
-        return Answer(effect.cid, short(pdu.STATUSES.get(reply.status, f"status {reply.status:02x}")), reply.status == 0)
+        status = pdu.STATUSES.get(reply.status, f"status {reply.status:02x}")
+        return Answer(effect.cid, short(status), reply.status == 0)
     if reply.opcode == pdu.NOP_IN:
         return Answer(effect.cid, "NOP-In", True)
     if reply.opcode == pdu.REJECT:
@@ -173,8 +181,8 @@ class Painter:
         self.follow_numbers(now, [step.effect for step in steps if step.effect])
         answers = [answer_of(effect) for effect in event.effects if effect.kind == "send"]
         request = request_of(event) if event.is_arrival else completion_of(event)
-        self.picture.columns.append(Column(now, time_words(time), request, answers, self.session.expected, self.session.greatest,
-                                           lines, [head, *words]))
+        self.picture.columns.append(Column(now, time_words(time), request, answers, self.session.expected,
+                                           self.session.greatest, lines, [head, *words]))
 
     def follow_task(self, step, now):
         kind = step.effect.kind if step.effect else None
@@ -218,7 +226,8 @@ class Painter:
             self.numbers[number] = Bar(number, state[number], now)
             self.picture.bars.append(self.numbers[number])
         # A number that ExpCmdSN passed at once is seen in this column alone.
-        gone = [(self.session.lifted(effect.cmd_sn), effect.kind) for effect in effects if effect.kind in ("void", "empty")]
+        gone = [(self.session.lifted(effect.cmd_sn), effect.kind) for effect in effects
+                if effect.kind in ("void", "empty")]
         self.picture.bars += [Bar(number, kind, now, now) for number, kind in gone if number not in self.session.gone]
 
     def finish(self):
@@ -250,7 +259,8 @@ def number_range(picture, start, end):
         return None
     lowest, highest = min(numbers), max(numbers)
     greatest = max((column.greatest for column in columns if column.greatest is not None), default=highest)
-    return lowest, max(highest, min(greatest, max(lowest + 23, highest + 2)))
+    highest = max(highest, min(greatest, max(lowest + LEAST_ROWS - 1, highest + 2)))
+    return lowest, min(highest, lowest + MOST_ROWS - 1)
 
 
 def as_data(picture, start, end):
@@ -260,8 +270,10 @@ def as_data(picture, start, end):
     return {
         "first": start, "base": base % MODULUS, "cids": picture.cids,
         "columns": [column_data(column, base) for column in picture.columns[start - 1:end]],
-        "bars": [[bar.number - base, bar.kind, bar.start, bar.end] for bar in picture.bars if bar.start <= end and bar.end >= start],
-        "tasks": [[task.unit, task.lane, task.ticket, task.label, task.start, task.enabled, task.end, task.outcome, task.completed]
+        "bars": [[bar.number - base, bar.kind, bar.start, bar.end]
+                 for bar in picture.bars if bar.start <= end and bar.end >= start],
+        "tasks": [[task.unit, task.lane, task.ticket, task.label, task.start, task.enabled, task.end,
+                   task.outcome, task.completed]
                   for task in picture.tasks if task.start <= end and (task.end is None or task.end >= start)],
     }
 

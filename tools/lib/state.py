@@ -74,7 +74,8 @@ def read_first(events):
             break
     if near is None:
         return None, iter(ahead)
-    return min(lift(number, near) for number in chain.from_iterable(map(numbers_of, ahead))) % MODULUS, chain(ahead, events)
+    first = min(lift(number, near) for number in chain.from_iterable(map(numbers_of, ahead)))
+    return first % MODULUS, chain(ahead, events)
 
 
 def numbers_of(event):
@@ -133,10 +134,14 @@ class Session:
             return Step(effect, self.empty(effect))
         if effect.kind == "enter":
             return Step(effect, arrival, self.enter(effect, arrival))
-        if effect.kind in ("enable", "leave"):
-            return Step(effect, arrival, self.enable(effect) if effect.kind == "enable" else self.leave(event, effect, arrival))
+        if effect.kind == "enable":
+            return Step(effect, arrival, self.enable(effect))
+        if effect.kind == "leave":
+            return Step(effect, arrival, self.leave(event, effect, arrival))
         if effect.kind in ("close-conn", "close-session"):
             return Step(effect, arrival, dropped=self.close(effect))
+        if effect.kind == "ignore" and event.is_arrival == (effect.why == "stale"):
+            raise BadReport(f"line {effect.line}: no event is ignored so")
         if effect.kind == "void":
             self.gone[self.lifted(effect.cmd_sn)] = "void"
         elif effect.kind == "send":
@@ -164,7 +169,8 @@ class Session:
             request = waiting.request
             if (waiting.cid, request.cmd_sn, request.tag) == (effect.cid, effect.cmd_sn, effect.tag):
                 return self.waiting.pop(place)
-        raise BadReport(f"line {effect.line}: no function with CmdSN {effect.cmd_sn:08x} and tag {effect.tag:08x} waited")
+        raise BadReport(f"line {effect.line}: no function with CmdSN {effect.cmd_sn:08x} and tag {effect.tag:08x} "
+                        "waited")
 
     def wait(self, event, effect, arrival):
         if not arrival:
@@ -196,7 +202,12 @@ class Session:
         del self.live[effect.ticket]
         command.left = self.events
         command.completed = event.ticket == effect.ticket
-        command.end = STATUSES.get(event.status, f"status {event.status:02x}") if command.completed else arrival.request.name
+        if command.completed:
+            command.end = STATUSES.get(event.status, f"status {event.status:02x}")
+        elif arrival:
+            command.end = arrival.request.name
+        else:
+            raise BadReport(f"line {effect.line}: no request arrived that could take a ticket out")
         self.ended[effect.ticket] = ("was completed with " if command.completed else "was taken out by ") + command.end
         return command
 

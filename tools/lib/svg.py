@@ -13,8 +13,8 @@ TASK_HEIGHT = 20
 CORNER = 6
 LEGEND_GAP = 108
 LEGEND = (
-    (("command", "command"), ("function", "function"), ("other", "other event"), ("ignored", "ignored"), ("good", "reply"),
-     ("bad", "reply that refuses")),
+    (("command", "command"), ("function", "function"), ("other", "other event"), ("ignored", "ignored"),
+     ("good", "reply"), ("bad", "reply that refuses")),
     (("live", "live"), ("held", "held"), ("void", "voided"), ("empty", "taken out"), ("open", "may be sent"),
      ("expected", "ExpCmdSN"), ("greatest", "MaxCmdSN")),
     (("dormant", "dormant"), ("enabled", "enabled"), ("completed", "completed"), ("aborted", "aborted")),
@@ -129,7 +129,8 @@ class Drawing:
         if request and request.cid == cid:
             yield f'<g class="request"><title>{escape(chr(10).join(column.words))}</title>'
             yield shape(x + 2, y, COLUMN - 4, REQUEST_HEIGHT - 2, request.kind, request.ignored)
-            yield text(middle, y + 14, request.name, "name middle") + text(middle, y + 25, request.number, "small middle")
+            yield text(middle, y + 14, request.name, "name middle")
+            yield text(middle, y + 25, request.number, "small middle")
             yield text(middle, y + 37, request.note, "note middle") + "</g>"
         for place, answer in enumerate(answer for answer in column.answers if answer.cid == cid):
             top = answers_at + place * ANSWER_HEIGHT
@@ -144,7 +145,8 @@ class Drawing:
         lowest, highest = span
         above = max((column.greatest for column in self.columns if column.greatest is not None), default=highest)
         if above > highest:
-            self.add(text(LEFT + 4, self.y + 14, f"MaxCmdSN goes up to {shown(above)}, above the picture", "small quiet"))
+            self.add(text(LEFT + 4, self.y + 14, f"MaxCmdSN goes up to {shown(above)}, above the picture",
+                          "small quiet"))
         self.heading("CmdSNs")
         row = max(LEAST_ROW, min(MOST_ROW, WINDOW_HEIGHT // (highest - lowest + 1)))
         top, height = self.y, (highest - lowest + 1) * row
@@ -165,7 +167,8 @@ class Drawing:
         """The ground of the numbers from ExpCmdSN to MaxCmdSN."""
         if column.expected is not None and column.greatest is not None and column.greatest >= column.expected:
             upper = min(column.greatest, highest)
-            yield box(self.x(column.event), top + (highest - upper) * row, COLUMN, max(0, upper - column.expected + 1) * row, "open", 0)
+            height = max(0, upper - column.expected + 1) * row
+            yield box(self.x(column.event), top + (highest - upper) * row, COLUMN, height, "open", 0)
 
     def number_bar(self, bar, y, row):
         start, end = max(bar.start, self.start), min(bar.end, self.end)
@@ -213,7 +216,8 @@ class Drawing:
             kind = "completed" if task.completed else "aborted"
             draw = box if task.completed else notched
             yield draw(self.x(task.end) + 1, self.y + 2, COLUMN - 3, TASK_HEIGHT - 4, kind)
-            yield text(self.x(task.end) + COLUMN / 2, self.y + 14, ("" if task.completed else "✕ ") + task.outcome, "small middle light")
+            outcome = ("" if task.completed else "✕ ") + task.outcome
+            yield text(self.x(task.end) + COLUMN / 2, self.y + 14, outcome, "small middle light")
 
     def legend(self):
         marks, height = legend_marks(self.y + 10, self.width, MARGIN)

@@ -27,7 +27,9 @@ function lanesOfUnits() {
 function heightOfNumbers() {
     let lowest = Infinity, highest = -Infinity;
     for (const [number] of data.bars) [lowest, highest] = [Math.min(lowest, number), Math.max(highest, number)];
-    for (const column of data.columns) highest = Math.max(highest, column[EXPECTED] ?? highest, column[GREATEST] ?? highest);
+    for (const column of data.columns) {
+        highest = Math.max(highest, column[EXPECTED] ?? highest, column[GREATEST] ?? highest);
+    }
     return Math.min(WINDOW, MOST_ROW * Math.max(3, highest - lowest + 1));
 }
 
@@ -37,7 +39,8 @@ const x = event => LEFT + (event - data.first) * COLUMN - scroller.scrollLeft;
 const text = (left, y, words, kind) => `<text x="${left}" y="${y}" class="${kind}">${escaped(words)}</text>`;
 const box = (left, y, width, height, kind, round = 2) =>
     `<rect x="${left}" y="${y}" width="${width}" height="${height}" rx="${round}" class="${kind}"/>`;
-const line = (left, y, toLeft, toY, kind) => `<line x1="${left}" y1="${y}" x2="${toLeft}" y2="${toY}" class="${kind}"/>`;
+const line = (left, y, toLeft, toY, kind) =>
+    `<line x1="${left}" y1="${y}" x2="${toLeft}" y2="${toY}" class="${kind}"/>`;
 
 // A box without its corners.
 function notched(left, y, width, height, kind) {
@@ -70,7 +73,8 @@ function answerCells(event, cid, y) {
         box(left + 3, y + place * ANSWER, COLUMN - 6, ANSWER - 3, good ? "good" : "bad", 8)
         + text(left + COLUMN / 2, y + place * ANSWER + 12, words, "small middle"));
     if (answers.length > room) {
-        cells.push(text(left + COLUMN / 2, y + room * ANSWER + 12, `+ ${answers.length - room} more`, "small middle quiet"));
+        cells.push(text(left + COLUMN / 2, y + room * ANSWER + 12, `+ ${answers.length - room} more`,
+            "small middle quiet"));
     }
     return cells.join("");
 }
@@ -90,7 +94,8 @@ function drawConnections(events, y, marks, labels) {
 
 // The lowest and the highest number of what is seen.
 function numberRange(events, bars) {
-    const seen = events.map(event => column(event)[EXPECTED]).filter(value => value !== null).concat(bars.map(bar => bar[0]));
+    const seen = events.map(event => column(event)[EXPECTED]).filter(value => value !== null)
+        .concat(bars.map(bar => bar[0]));
     if (!seen.length) return null;
     const lowest = Math.min(...seen), highest = Math.max(...seen);
     const told = events.map(event => column(event)[GREATEST]).filter(value => value !== null);
@@ -104,7 +109,8 @@ function steps(events, field, kind, top, row, highest, above) {
     for (const event of events) {
         const value = column(event)[field];
         const drawn = value !== null && value <= highest;
-        if (drawn) path += `${joined ? "L" : "M"}${x(event)} ${top + (highest - value + 1 - above) * row}H${x(event) + COLUMN}`;
+        const y = top + (highest - value + 1 - above) * row;
+        if (drawn) path += `${joined ? "L" : "M"}${x(event)} ${y}H${x(event) + COLUMN}`;
         joined = drawn;
     }
     return path ? `<path d="${path}" class="${kind}"/>` : "";
@@ -114,30 +120,36 @@ function drawWindow(events, y, marks, labels) {
     const [from, to] = [events[0], events[events.length - 1]];
     const bars = data.bars.filter(bar => bar[2] <= to && bar[3] >= from);
     const range = numberRange(events, bars);
-    labels.push(text(10, y + 16, "CmdSNs", "head"), line(0, y + numbersHeight + 34, drawing.clientWidth, y + numbersHeight + 34, "rule"));
-    if (!range) return y + numbersHeight + 34;
+    const low = y + numbersHeight + 34;
+    labels.push(text(10, y + 16, "CmdSNs", "head"), line(0, low, drawing.clientWidth, low, "rule"));
+    if (!range) return low;
     const [lowest, highest] = range, top = y + 24;
     const above = Math.max(...events.map(event => column(event)[GREATEST] ?? highest));
     if (above > highest) {
-        marks.push(text(LEFT + 4, y + 16, `MaxCmdSN goes up to ${shownNumber(above).toString(16)}, above the picture`, "small quiet"));
+        const words = `MaxCmdSN goes up to ${shownNumber(above).toString(16)}, above the picture`;
+        marks.push(text(LEFT + 4, y + 16, words, "small quiet"));
     }
     const row = Math.min(MOST_ROW, numbersHeight / (highest - lowest + 1));
     for (let number = lowest; number <= highest; number += Math.ceil(12 / row)) {
-        labels.push(text(LEFT - 8, top + (highest - number) * row + row / 2 + 4, shownNumber(number).toString(16), "small end quiet"));
+        const middle = top + (highest - number) * row + row / 2;
+        labels.push(text(LEFT - 8, middle + 4, shownNumber(number).toString(16), "small end quiet"));
     }
     for (const event of events) {
         const expected = column(event)[EXPECTED], greatest = column(event)[GREATEST];
         if (expected === null || greatest === null || greatest < expected) continue;
         const upper = Math.min(greatest, highest);
-        marks.push(box(x(event), top + (highest - upper) * row, COLUMN, Math.max(0, upper - expected + 1) * row, "open", 0));
+        const height = Math.max(0, upper - expected + 1) * row;
+        marks.push(box(x(event), top + (highest - upper) * row, COLUMN, height, "open", 0));
     }
     for (const [number, kind, start, end] of bars) {
         const begin = Math.max(start, from), stop = Math.min(end, to);
         const gap = row > 5 ? 1 : 0;
-        marks.push(box(x(begin) + 1, top + (highest - number) * row + gap, (stop - begin + 1) * COLUMN - 2, row - 2 * gap, kind));
+        const barTop = top + (highest - number) * row + gap;
+        marks.push(box(x(begin) + 1, barTop, (stop - begin + 1) * COLUMN - 2, row - 2 * gap, kind));
     }
-    marks.push(steps(events, EXPECTED, "expected", top, row, highest, 0), steps(events, GREATEST, "greatest", top, row, highest, 1));
-    return y + numbersHeight + 34;
+    marks.push(steps(events, EXPECTED, "expected", top, row, highest, 0));
+    marks.push(steps(events, GREATEST, "greatest", top, row, highest, 1));
+    return low;
 }
 
 function taskMarks(task, y, from, to) {
@@ -213,7 +225,8 @@ function show(event) {
     const [head, ...words] = column(event)[WORDS];
     const list = document.createElement("ul");
     list.append(...words.map(words => element("li", words)));
-    details.replaceChildren(element("h2", `Event ${event}: ${head}`), list, element("pre", column(event)[LINES].join("\n")));
+    const lines = element("pre", column(event)[LINES].join("\n"));
+    details.replaceChildren(element("h2", `Event ${event}: ${head}`), list, lines);
 }
 
 function eventAt(position) {

@@ -1,4 +1,4 @@
-"""Events and effects of a report in words. Tags and sequence numbers are hexadecimal, as there, without leading zeros."""
+"""Events and effects of a report in words. Tags and sequence numbers are hexadecimal, without leading zeros."""
 
 from . import pdu
 from .state import MODULUS
@@ -109,9 +109,11 @@ def turn_words(session, event, step):
     if step.effect.kind == "wait":
         runs = session.missing(session.lifted(step.effect.cmd_sn))
         return "waits for lower CmdSNs" + (f": {missing_words(runs)}" if runs else "")
-    if step.effect.kind == "immediate":
-        return "executes at once" if own else f"the function that waited for CmdSN {number} executes: {short_words(step.arrival)}"
-    return f"CmdSN {number} executes" if own else f"CmdSN {number}, which was held, executes: {short_words(step.arrival)}"
+    if own:
+        return "executes at once" if step.effect.kind == "immediate" else f"CmdSN {number} executes"
+    waited = step.effect.kind == "immediate"
+    before = f"the function that waited for CmdSN {number}" if waited else f"CmdSN {number}, which was held,"
+    return f"{before} executes: {short_words(step.arrival)}"
 
 
 def leave_words(command):
@@ -137,7 +139,8 @@ def step_words(session, event, step):
     if effect.kind == "void":
         return f"CmdSN {shown(effect.cmd_sn)} counts as received, without a request"
     if effect.kind == "empty":
-        return f"CmdSN {shown(effect.cmd_sn)}, which was held, is taken out, and isn't answered: {short_words(step.arrival)}"
+        return (f"CmdSN {shown(effect.cmd_sn)}, which was held, is taken out, and isn't answered: "
+                f"{short_words(step.arrival)}")
     if effect.kind == "enter":
         return f"ticket {effect.ticket} enters unit {effect.unit} as {ATTRIBUTES[effect.attribute]}"
     if effect.kind == "enable":
@@ -160,8 +163,8 @@ def steps_words(session, event, steps):
         if kind in ("deliver", "immediate", "wait"):
             taken = 0
         taken += kind in ("void", "empty", "leave")
-        if kind == "send" and not taken and step.effect.reply.opcode == pdu.TASK_MANAGEMENT_RESPONSE \
-                and step.arrival.request.name in ABORTS:
+        if kind == "send" and not taken and step.arrival and step.arrival.request.name in ABORTS \
+                and step.effect.reply.opcode == pdu.TASK_MANAGEMENT_RESPONSE:
             text += "; nothing was taken out"
         words.append(text)
     return words
