@@ -25,7 +25,7 @@ def long_recording(commands):
     """Commands one after the other, each with its completion, and with times."""
     lines = ["conn 1 00000001"]
     for count in range(1, commands + 1):
-        lines += [f"# t={count / 4} frame {count}", SCSI.format(tag=count, cmd_sn=count), f"D {count} 00"]
+        lines += [f"# time {count / 4} frame {count}", SCSI.format(tag=count, cmd_sn=count), f"D {count} 00"]
     return "\n".join(lines) + "\n"
 
 
@@ -126,7 +126,7 @@ class Pictures(Folder):
         tree = self.svg(replay(recording), "--recording", self.path("made.recording"))
         times = [words for words in texts(tree) if words.endswith(" ms")]
         self.assertEqual(["250.00 ms", "500.00 ms", "750.00 ms"], times)
-        headed = self.svg("# t=2.5 frame 1\nconn 1 00000001\nconn 9 00000001\n" + replay(recording))
+        headed = self.svg("# time 2.5 frame 1\nconn 1 00000001\nconn 9 00000001\n" + replay(recording))
         self.assertIn("2.500 s", texts(headed))
         self.assertIn("connection 9", texts(headed))
 

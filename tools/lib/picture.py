@@ -7,7 +7,7 @@ from . import pdu
 from .state import MODULUS, Session, read_first
 from .words import shown, tell
 
-TIME = re.compile(r"# t=([0-9]{1,12}(?:\.[0-9]{1,12})?)(?: |$)")
+TIME = re.compile(r"# time ([0-9]{1,12}(?:\.[0-9]{1,12})?)(?: |$)")
 SHORT = {
     "TEST UNIT READY": "TUR", "REQUEST SENSE": "SENSE", "FORMAT UNIT": "FORMAT", "MODE SELECT(6)": "MODE SEL",
     "RESERVE(6)": "RESERVE", "RELEASE(6)": "RELEASE", "MODE SENSE(6)": "MODE SNS", "START STOP UNIT": "START ST",
