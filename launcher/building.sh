@@ -48,7 +48,7 @@ prove() {
     local statuses
     : > "$crate/out/build.begun"
     SECONDS=0
-    (cd "$crate" && trap - PIPE && exec rt run "${options[@]}" -- --help) 2>&1 < /dev/null | tee "$log" | follow
+    (cd "$crate" && trap - PIPE && exec rt run "${options[@]}" -- --help) 2>&1 < /dev/null | tee "$log" | follow 60
     statuses=("${PIPESTATUS[@]}")
     if [ "${statuses[0]}" != 0 ] || [ ! -x "$program" ]; then
         tail -n 20 "$log" >&2
@@ -57,25 +57,48 @@ prove() {
     touch -r "$crate/out/build.begun" "$program"
 }
 
-# Tells of each crate that rt begins with and has proved, from its lines, and every minute that it is still at work.
+# Reads rt's lines and tells how far it is: of each crate that it begins with and has proved, and what it is at whenever
+# nothing was told for this many seconds.
 follow() {
-    local line crate="the sources" count=0 of
+    local line="" part status of count=0 crate="" at="reading the sources" told=$SECONDS
     of=$(count_crates)
     while true; do
-        if IFS= read -r -t 60 line; then
-            if [[ $line =~ ^rt:\ chose\ --jobs\ [0-9]+\ for\ ([a-z_]+) || $line =~ ^crate\ ([a-z_]+):\ modules ]]; then
-                [ "$crate" = "${BASH_REMATCH[1]}" ] || tell "proving ${BASH_REMATCH[1]} ($(minutes))"
-                crate=${BASH_REMATCH[1]}
-            elif [[ $line == logic=proved\ * ]]; then
-                count=$((count + 1))
-                tell "$crate is proved, $count of $of crates ($(minutes))"
-            fi
-        elif (($? > 128)); then
-            tell "still proving $crate ($(minutes))"
-        else
+        IFS= read -r -t 1 part
+        status=$?
+        line+=$part
+        if [ "$status" = 0 ]; then
+            hear "$line"
+            line=""
+        elif ((status < 128)); then
             return
         fi
+        ((SECONDS - told < $1)) || tell_of "still $at"
     done
+}
+
+# Takes in one line of rt, in the variables of follow.
+hear() {
+    if [[ $1 =~ ^rt:\ chose\ --jobs\ [0-9]+\ for\ ([a-z_]+) || $1 =~ ^crate\ ([a-z_]+):\ modules ]]; then
+        [ "$crate" != "${BASH_REMATCH[1]}" ] || return
+        crate=${BASH_REMATCH[1]} at="proving ${BASH_REMATCH[1]}"
+        tell_of "$at"
+    elif [[ $1 =~ ^so\ far:\ ([0-9]+\ of\ [0-9]+)\ functions\ checked ]]; then
+        at="proving $crate, ${BASH_REMATCH[1]} functions checked"
+    elif [[ $1 == logic=proved\ * ]]; then
+        count=$((count + 1))
+        tell_of "$crate is proved, $count of $of crates"
+        at="making the library $crate"
+        [ "$crate" != iscsi_replay ] || at="compiling the program"
+    elif [[ $1 == "rt: waiting for another rt to finish"* ]]; then
+        at="waiting for the end of another rt, as that of the gate"
+        tell_of "$at"
+    fi
+}
+
+# Tells something, and how long the build has gone on.
+tell_of() {
+    tell "$1 ($((SECONDS / 60)) min $((SECONDS % 60)) s)"
+    told=$SECONDS
 }
 
 # How many crates of the repository the program is made of, itself among them. crates.txt has the lowest first.
@@ -84,9 +107,4 @@ count_crates() {
         /^#/ { next }
         $1 == "iscsi_replay" || $1 in used { count++; split($2, names, " "); for (at in names) used[names[at]] }
         END { print count + 0 }'
-}
-
-# How long the proofs have gone on.
-minutes() {
-    echo "$((SECONDS / 60)) min $((SECONDS % 60)) s"
 }
