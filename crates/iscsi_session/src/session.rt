@@ -164,9 +164,11 @@ impl Session {
         ensures in_order { (o : Setting) (h : List Event) → StandsFor o self.old h → let all = h ++ event.now ∷ [] in OnOk result (KeepsOrder (run_of o all)) }
         ensures meaning { (o : Setting) (h : List Event) → StandsFor o self.old h → OnOk result (MeansWhatItSays o (trace_of o (h ++ event.now ∷ []))) }
 
-        // No event gives more effects than the bound, and with that much room memory isn't wanting.
+        // No event gives more effects than the bound, and with that much room memory isn't wanting. `out` keeps its room.
         ensures bound { (o : Setting) (h : List Event) → StandsFor o self.old h → OnOk result (length (next_entry o h event.now).effects ≤ effect_bound_of o (trace_of o h)) }
         ensures room { (o : Setting) (h : List Event) → StandsFor o self.old h → vec_len out.old + effect_bound_of o (trace_of o h) ≤ vec_capacity out.old → result ≢ Err SessionFault.NoMemory }
+        ensures room_for_most { (o : Setting) (h : List Event) → StandsFor o self.old h → vec_len out.old + most_effects o ≤ vec_capacity out.old → result ≢ Err SessionFault.NoMemory }
+        ensures capacity { vec_capacity out.old ≤ vec_capacity out.new }
     {
         if let Some(fault) = self.refusal(event) {
             return Err(fault);
@@ -194,6 +196,7 @@ impl Session {
         ensures taken { self.new.taken ≡ self.old.taken }
         ensures pace { KeepsPace self.old.window self.new.window }
         ensures spent { vec_len out.new ≤ vec_len out.old + 12 * (count_by is_held self.old.window.places + length self.old.waiting + 1) + 2 * length self.old.live }
+        ensures capacity { vec_capacity out.new ≡ vec_capacity out.old }
     {
         match *event {
             Event::Arrive { conn, header } => self.arrive(Request::read(conn, &header), out),
@@ -201,8 +204,8 @@ impl Session {
         }
     }
 
-    /// Why an event is refused, memory aside.
-    fn refusal(&self, event: &Event) -> Option<SessionFault>
+    /// Why `step` would refuse this event, memory aside.
+    pub fn refusal(&self, event: &Event) -> Option<SessionFault>
         ensures { result ≡ refusal_by self.now event.now }
     {
         if let Event::Arrive { conn, .. } = event {

@@ -41,6 +41,7 @@ impl Session {
         ensures taken { self.new.taken ≡ self.old.taken }
         ensures pace { KeepsPace self.old.window self.new.window }
         ensures spent { vec_len out.new ≤ vec_len out.old + owed self.old.live self.old.sets + 6 * (count_by is_held self.old.window.places + length self.old.waiting + 1) + 1 }
+        ensures capacity { vec_capacity out.new ≡ vec_capacity out.old }
     {
         if self.is_open(request.conn()) {
             self.take(request, out);
@@ -64,6 +65,7 @@ impl Session {
         ensures taken { self.new.taken ≡ self.old.taken }
         ensures pace { KeepsPace self.old.window self.new.window }
         ensures spent { vec_len out.new ≤ vec_len out.old + owed self.old.live self.old.sets + 6 * (count_by is_held self.old.window.places + length self.old.waiting + 1) + 1 }
+        ensures capacity { vec_capacity out.new ≡ vec_capacity out.old }
     {
         match kind_of(&request) {
             Kind::PassedOver => out.push_reserved(Effect::Ignore { why: Why::Data }),
@@ -94,6 +96,7 @@ impl Session {
         ensures taken { self.new.taken ≡ self.old.taken }
         ensures pace { KeepsPace self.old.window self.new.window }
         ensures spent { vec_len out.new ≤ vec_len out.old + owed self.old.live self.old.sets + 6 * (count_by is_held self.old.window.places + length self.old.waiting + 1) }
+        ensures capacity { vec_capacity out.new ≡ vec_capacity out.old }
     {
         match self.offer(&request) {
             Offer::Held => self.take_turns(out),
@@ -133,6 +136,7 @@ impl Session {
         ensures taken { self.new.taken ≡ self.old.taken }
         ensures pace { KeepsPace self.old.window self.new.window }
         ensures spent { vec_len out.new ≤ vec_len out.old + owed self.old.live self.old.sets + 6 * (count_by is_held self.old.window.places + length self.old.waiting) }
+        ensures capacity { vec_capacity out.new ≡ vec_capacity out.old }
     {
         self.take_functions(out);
         while self.turn_next(out) {

@@ -28,6 +28,7 @@ impl Session {
         ensures session { self.new ≡ after_completion self.old ticket }
         ensures effects { out.new.items ≡ out.old.items ++ completion_effects self.old ticket status }
         ensures spent { vec_len out.new ≤ vec_len out.old + 2 * length self.old.live + 1 }
+        ensures capacity { vec_capacity out.new ≡ vec_capacity out.old }
     {
         let Some(command) = self.find_enabled(ticket) else {
             out.push_reserved(Effect::Ignore { why: Why::Stale });

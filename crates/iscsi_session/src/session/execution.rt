@@ -78,6 +78,7 @@ impl Session {
         ensures session { self.new ≡ with_reply self.old (connection_of request.now) }
         ensures effects { out.new.items ≡ out.old.items ++ reply_effects self.old (connection_of request.now) (Reply.Reject 5 (header_of request.now)) }
         ensures len { vec_len out.new ≡ vec_len out.old + 1 }
+        ensures capacity { vec_capacity out.new ≡ vec_capacity out.old }
     {
         let reply = rejection(request, NOT_SUPPORTED);
         self.reply(request.conn(), reply, out);

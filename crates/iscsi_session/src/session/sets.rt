@@ -111,6 +111,7 @@ pub(crate) fn leave(sets: &mut [TaskSet], command: &Live, out: &mut Vec<Effect>)
     ensures sets { sets.new ≡ slice_set sets.old command.now.unit (all_given (set_without command.now sets.old)) }
     ensures effects { out.new.items ≡ out.old.items ++ enable_effects command.now.unit (set_without command.now sets.old).list }
     ensures spent { vec_len out.new ≤ vec_len out.old + length (set_without command.now sets.old).list }
+    ensures capacity { vec_capacity out.new ≡ vec_capacity out.old }
 {
     let set = &mut sets[usize::from(command.unit)];
     set.leave(command.ticket);

@@ -1,0 +1,4 @@
+pub mod AnswerLemmas
+pub mod AsBox
+pub mod EffectLemmas
+pub mod ServingLemmas

@@ -1,0 +1,16 @@
+-- What a handle owns: the box of its host, or nothing where it is closed.
+use Rattle.std.specs.Prelude.{Option, Some, None}
+use base.Fml.{Fml, ftrue}
+use base.Stored.{Coded}
+use denote.RawPtr.{Ptr}
+use Rattle.std.specs.Box.Ownership.{box_owns}
+use Rattle.std.specs.Coded.{coded_option}
+use Rattle.libc.specs.Heap.{chunk}
+use Rattle.iscsi_host.specs.contracts.host.Host.{the_row}
+
+abbrev pub owned_by : Option the_row.Denot → Ptr → Fml
+owned_by (Some host) p = box_owns chunk the_row p host
+owned_by None p = ftrue
+
+abbrev pub host_coded : Coded (Option the_row.Denot)
+host_coded = coded_option the_row.coded

@@ -1,0 +1,137 @@
+//! A session with the effects of its last event.
+
+ghost use Rattle.std.specs.Prelude.{◌≡◌, ◌+◌, ◌*◌, ℕ, List, [], ◌∷◌, ◌++◌, OnOk, OnErr, IfOk, Option, Some, None, true, length, take, vec_capacity};
+ghost use Rattle.iscsi_history.specs.Settings.{Setting, is_valid};
+ghost use Rattle.iscsi_session.specs.Settings.{setting_of};
+ghost use Rattle.iscsi_session.specs.Refusals.{RefusesAs, refusal_of, refusal_of_options};
+ghost use Rattle.iscsi_session.specs.Standing.{most_effects};
+ghost use Rattle.iscsi_host.specs.Serving.{Serves, fault_of};
+ghost use Rattle.iscsi_host.specs.Plain.{plain_at, executing as executing_in, last_executing, plain_numbers};
+
+use crate::plain::{PlainEffect, PlainNumbers, plain};
+use iscsi_history::{Effect, Event, Numbers};
+use iscsi_session::{Options, Session, SessionFault};
+use iscsi_wire::Request;
+use std::alloc::Global;
+use std::marker::Model;
+
+/// A session, the effects of its last event, and room for those of any event to come.
+#[derive(Drop)]
+pub struct Host {
+    session: Session,
+    effects: Vec<Effect>,
+    numbers: Numbers,
+}
+
+impl Model for Host {
+    ghost use Rattle.std.specs.Prelude.{vec_capacity};
+    ghost use Rattle.iscsi_host.specs.Serving.{Hosted};
+
+    ghost Value = { Hosted };
+
+    ghost view = { λ h. record { session = h.session; effects = h.effects.items; numbers = h.numbers; room = vec_capacity h.effects } };
+}
+
+impl Host {
+    /// Opens a session, and takes all the memory that it will need.
+    ///
+    /// `BadOptions` where an option is outside its limits or a CID stands twice, then `NoMemory`.
+    pub fn open(alloc: Global, options: Options) -> Result<Host, SessionFault>
+        ensures serves { IfOk result (λ host. Serves (setting_of options) host []) }
+        ensures refused { RefusesAs (refusal_of_options (setting_of options)) result }
+    {
+        if !options.is_valid() {
+            return Err(SessionFault::BadOptions);
+        }
+        let room = room_of(&options);
+        let session = Session::open(alloc, options)?;
+        let Ok(effects) = Vec::with_capacity(alloc, room) else {
+            return Err(SessionFault::NoMemory);
+        };
+        let numbers = session.numbers();
+        Ok(Host {
+            session,
+            effects,
+            numbers,
+        })
+    }
+
+    /// Takes an event. Its effects take the place of those of the last one.
+    ///
+    /// Refusals, in order: `UnknownConnection`, `Exhausted`. Each leaves the host as it was. Memory isn't asked for.
+    pub fn step(&mut self, event: &Event) -> Result<(), SessionFault>
+        ensures serves { (o : Setting) (h : List Event) → Serves o self.old h → OnOk result (Serves o self.new (h ++ event.now ∷ [])) }
+        ensures refused { (o : Setting) (h : List Event) → Serves o self.old h → fault_of result ≡ refusal_of o h event.now }
+        ensures err { (o : Setting) (h : List Event) → Serves o self.old h → OnErr result (self.new ≡ self.old) }
+    {
+        if let Some(fault) = self.session.refusal(event) {
+            return Err(fault);
+        }
+        self.effects.clear();
+        self.numbers = self.session.step(event, &mut self.effects)?;
+        Ok(())
+    }
+
+    /// How many effects the last event had: none before the first event.
+    pub fn effect_count(&self) -> usize
+        ensures { result ≡ length self.now.effects }
+    {
+        self.effects.len()
+    }
+
+    /// The effect of the last event with this index, from 0, in plain form.
+    pub fn effect(&self, index: usize) -> Option<PlainEffect>
+        ensures { result ≡ plain_at self.now.effects self.now.numbers index }
+    {
+        let effect = self.effects.get(index)?;
+        let request = match effect {
+            Effect::Enter { .. } => last_request(&self.effects[..index]),
+            _ => None,
+        };
+        Some(plain(effect, request, self.numbers))
+    }
+
+    /// ExpCmdSN and MaxCmdSN after the last event (RFC 7143 section 4.2.2.1).
+    pub fn numbers(&self) -> PlainNumbers
+        ensures { result ≡ plain_numbers self.now.numbers }
+    {
+        PlainNumbers {
+            exp_cmd_sn: self.numbers.exp,
+            max_cmd_sn: self.numbers.max,
+        }
+    }
+}
+
+/// The most effects that an event of a session with these options has.
+fn room_of(options: &Options) -> usize
+    requires { is_valid (setting_of options.now) ≡ true }
+    ensures { result ≡ most_effects (setting_of options.now) }
+{
+    let window = options.window as usize;
+    let connections = options.conns.len();
+    12 * (window + 4 * connections + 1) + 2 * (window + 8 * connections)
+}
+
+/// The last request that executes among the effects.
+fn last_request(effects: &[Effect]) -> Option<Request>
+    ensures { result ≡ last_executing effects.now }
+{
+    let mut before = effects.len();
+    while before > 0 {
+        before -= 1;
+        if let Some(request) = executing(&effects[before]) {
+            return Some(request);
+        }
+    }
+    None
+}
+
+/// The request that executes, where the effect says that one does.
+fn executing(effect: &Effect) -> Option<Request>
+    ensures { result ≡ executing_in effect.now }
+{
+    match effect {
+        Effect::Deliver { request } | Effect::Immediate { request } => Some(*request),
+        _ => None,
+    }
+}
