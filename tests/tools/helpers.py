@@ -8,12 +8,14 @@ TOP = os.path.abspath(os.path.join(os.path.dirname(__file__), "..", ".."))
 
 def run_tool(name, *words, text=None):
     """Runs a tool with these words, and `text` as its standard input."""
-    return subprocess.run([os.path.join(TOP, "tools", name), *words], input=text, capture_output=True, text=True, timeout=120)
+    return subprocess.run([os.path.join(TOP, "tools", name), *words], input=text, capture_output=True,
+                          text=True, timeout=120)
 
 
 def replay(recording, *words):
     """The report of a recording, as text."""
-    done = subprocess.run([os.path.join(TOP, "iscsi-replay"), *words], input=recording, capture_output=True, text=True, timeout=120)
+    done = subprocess.run([os.path.join(TOP, "iscsi-replay"), *words], input=recording, capture_output=True,
+                          text=True, timeout=120)
     if done.returncode:
         raise AssertionError(done.stderr)
     return done.stdout

@@ -127,7 +127,8 @@ class Splitting(unittest.TestCase):
             splitter = Splitter(from_initiator=True)
             splitter.header_digest, splitter.data_digest = bool(digests & 1), bool(digests & 2)
             whole = command(1, 1, ahs=bytes(8), digests=digests) + pdu(0x05, 0x80, 1, (), b"abc", digests=digests)
-            self.assertEqual([b"", b"abc"], [one.data for one in splitter.take(whole + command(2, 2, digests=digests)[:40])])
+            whole += command(2, 2, digests=digests)[:40]
+            self.assertEqual([b"", b"abc"], [one.data for one in splitter.take(whole)])
 
     def test_a_reply_among_requests(self):
         splitter = Splitter(from_initiator=True)
@@ -257,7 +258,8 @@ def write_pcap(path, segments, linktype=1):
         file.write(struct.pack("<IHHiIII", 0xa1b2c3d4, 2, 4, 0, 0, 65535, linktype))
         for segment in segments:
             whole = frame_of(segment, addresses)
-            file.write(struct.pack("<IIII", segment.frame // 1000, segment.frame % 1000 * 1000, len(whole), len(whole)) + whole)
+            time = segment.frame // 1000, segment.frame % 1000 * 1000
+            file.write(struct.pack("<IIII", *time, len(whole), len(whole)) + whole)
 
 
 @unittest.skipUnless(HAS_TSHARK, NEEDS_TSHARK)
@@ -311,7 +313,8 @@ class Tool(unittest.TestCase):
         place = next(place for place, line in enumerate(lines) if line.startswith("D 3 "))
         self.assertRegex(lines[place - 1], r"\A# time \d+\.\d{6} frame 16: GOOD for tag 00000010\Z")
         answers = [line for line in self.lines("abort-live-1.target") if not line.startswith("#")]
-        self.assertRegex(answers[3], r"\A17 \d+\.\d{6} 1 function-response 00000011 00000004 00000004 00000084 01 task does")
+        self.assertRegex(answers[3], r"\A17 \d+\.\d{6} 1 function-response 00000011 00000004 00000004 00000084 01 "
+                                     r"task does not exist\Z")
 
     def test_vlan_ipv6_retransmissions_and_two_connections(self):
         wire = Wire()
@@ -327,7 +330,8 @@ class Tool(unittest.TestCase):
         write_pcap(path, wire.segments)
         self.make(path)
         events = [line for line in self.lines("made-1.recording") if not line.startswith("#")]
-        self.assertEqual(["conn 1 00000001", "conn 2 00000001", f"C 2 {command(2, 2).hex()}", f"C 1 {command(1, 1).hex()}",
+        self.assertEqual(["conn 1 00000001", "conn 2 00000001",
+                          f"C 2 {command(2, 2).hex()}", f"C 1 {command(1, 1).hex()}",
                           "D 1 00", "D 2 00"], events)
 
     def test_the_window_grows_where_the_target_s_is_too_narrow(self):
@@ -375,7 +379,8 @@ class Tool(unittest.TestCase):
         self.refused("", os.path.join(CAPTURES, "reset.pcapng"), "-o", "/proc/none")
 
     def test_bad_command_lines(self):
-        for words in ((), ("a.pcap", "--port", "0"), ("a.pcap", "--port", "x"), ("a.pcap", "--port", "65536"), ("a", "b")):
+        for words in ((), ("a.pcap", "--port", "0"), ("a.pcap", "--port", "x"), ("a.pcap", "--port", "65536"),
+                      ("a", "b")):
             self.assertEqual(2, run_tool("capture", *words).returncode, words)
 
 

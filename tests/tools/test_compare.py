@@ -91,17 +91,19 @@ class Kinds(Session):
 
     def test_status(self):
         told = self.changed(("one", "00 GOOD", "08 BUSY"))
-        self.assertIn("frame 51 (0.510000 s), connection 1, status:\n  TEST UNIT READY with tag 00000001: the target answers "
-                      "SCSI Response 08 (BUSY), the program SCSI Response 00 (GOOD)\n", told)
+        self.assertIn("frame 51 (0.510000 s), connection 1, status:\n  TEST UNIT READY with tag 00000001: the target "
+                      "answers SCSI Response 08 (BUSY), the program SCSI Response 00 (GOOD)\n", told)
         self.assertIn("Differences: 1 x status.\n", told)
 
     def test_response(self):
         told = self.changed(("abort", "01 task does not exist", "00 function complete"))
-        self.assertRegex(told, r"frame 61 .* response:\n  ABORT TASK .* 00 \(function complete\), .* 01 \(task does not exist\)")
+        self.assertRegex(told, r"frame 61 .* response:\n  ABORT TASK .* 00 \(function complete\), "
+                               r".* 01 \(task does not exist\)")
 
     def test_another_kind(self):
         told = self.changed(("abort", "function-response", "reject"))
-        self.assertRegex(told, r"frame 61 .* another kind:\n.* Reject 01 .*, the program Task Management Function Response 01")
+        self.assertRegex(told, r"frame 61 .* another kind:\n.* Reject 01 .*, "
+                               r"the program Task Management Function Response 01")
 
     def test_exp_cmd_sn(self):
         told = self.changed(("one", "00000004 00000022", "00000003 00000022"))
@@ -121,16 +123,18 @@ class Kinds(Session):
         self.assertIn("The first difference: frame 52 ", self.compare())
 
     def test_stat_sn_counts_once_where_it_stays_shifted(self):
-        told = self.changed(("two", "00000003 00000004", "00000009 00000004"), ("abort", "00000004 00000004", "0000000a 00000004"))
-        self.assertIn("the target says StatSN 00000009, the program 00000003 at this place\nDifferences: 1 x StatSN.\n", told)
+        told = self.changed(("two", "00000003 00000004", "00000009 00000004"),
+                            ("abort", "00000004 00000004", "0000000a 00000004"))
+        self.assertIn("the target says StatSN 00000009, the program 00000003 at this place\n"
+                      "Differences: 1 x StatSN.\n", told)
 
     def test_missing_reply_of_a_command_that_was_aborted(self):
         abort = (f"C 1 {header(0x42, 0x81, 6, 4, referenced=1)}", 45)
         self.write(ANSWERS.values(), (*COMMANDS, NOP, abort, *DONE))
         told = self.compare()
-        self.assertIn("The first difference: frame 51 (0.510000 s), connection 1, missing reply:\n  TEST UNIT READY with tag "
-                      "00000001: the target answers SCSI Response 00 (GOOD), the program nothing: ticket 1 left its task set at "
-                      "frame 45, by ABORT TASK with tag 00000006\n", told)
+        self.assertIn("The first difference: frame 51 (0.510000 s), connection 1, missing reply:\n  TEST UNIT READY "
+                      "with tag 00000001: the target answers SCSI Response 00 (GOOD), the program nothing: ticket 1 "
+                      "left its task set at frame 45, by ABORT TASK with tag 00000006\n", told)
 
     def test_missing_reply_of_a_command_that_is_not_enabled(self):
         ordered = (f"C 1 {header(0x01, 0x82, 1, 1)}", 10)
@@ -145,13 +149,14 @@ class Kinds(Session):
 
     def test_missing_reply_without_a_request(self):
         self.write([*ANSWERS.values(), ANSWERS["abort"].replace("00000006", "00000077")])
-        self.assertIn("tag 00000077: the target answers Task Management Function Response 01 (task does not exist), the program "
-                      "nothing: the recording has no such request", self.compare())
+        self.assertIn("tag 00000077: the target answers Task Management Function Response 01 (task does not exist), "
+                      "the program nothing: the recording has no such request", self.compare())
 
     def test_additional_reply(self):
         self.write([answer for name, answer in ANSWERS.items() if name != "abort"])
-        self.assertRegex(self.compare(), r"frame 60 .* additional reply:\n  ABORT TASK with tag 00000006: the program answers "
-                                         r"Task Management Function Response 01 \(task does not exist\), the target nothing")
+        self.assertRegex(self.compare(), r"frame 60 .* additional reply:\n  ABORT TASK with tag 00000006: the program "
+                                         r"answers Task Management Function Response 01 \(task does not exist\), "
+                                         r"the target nothing")
 
     def test_order(self):
         late = ANSWERS["nop"].replace("31 0.310000", "55 0.550000").replace("00000001 00000004", "00000003 00000004")
@@ -159,7 +164,8 @@ class Kinds(Session):
         two = ANSWERS["two"].replace("00000003 00000004", "00000002 00000004")
         self.write([one, two, late, ANSWERS["abort"]])
         told = self.compare("--all")
-        self.assertRegex(told, r"frame 55 .* order:\n  NOP-Out with tag 00000003: it stands elsewhere .* event of frame 30\n")
+        self.assertRegex(told, r"frame 55 .* order:\n  NOP-Out with tag 00000003: it stands elsewhere .* "
+                               r"event of frame 30\n")
         self.assertIn("Differences: 1 x order.\n", told)
 
     def test_a_tag_that_is_used_again(self):
@@ -179,10 +185,10 @@ class Kinds(Session):
                  "52 0.520000 1 scsi-response 00000002 00000004 00000005 00000024 00 GOOD"]
         self.write([ANSWERS["nop"], *others, *later], (*COMMANDS, NOP, TEXT, *DONE))
         told = self.compare()
-        self.assertIn("Left out, since the program sends none: 1 x Data-In without status; 1 x NOP-In of the target's own; "
-                      "1 x R2T; 1 x Text Response.\n", told)
-        self.assertIn("the program's Rejects of the requests, 1.\nCompared: 3 replies of the target, 3 of the program.\n"
-                      "No difference.", told)
+        self.assertIn("Left out, since the program sends none: 1 x Data-In without status; "
+                      "1 x NOP-In of the target's own; 1 x R2T; 1 x Text Response.\n", told)
+        self.assertIn("the program's Rejects of the requests, 1.\n"
+                      "Compared: 3 replies of the target, 3 of the program.\nNo difference.", told)
 
 
 class Faults(Session):

@@ -90,19 +90,22 @@ class Initiator(unittest.TestCase):
         self.play("--connections", "2", "--first", "fffffffe", "2 test sn=2 tag=9", "wait 9", "1 test sn=0", "wait 10",
                   "1 nop sn=1 now=1", "wait 11")
         self.assertEqual([(2, 9, 0, False), (1, 10, 0xfffffffe, False), (1, 11, 0xffffffff, True)],
-                         [(cid, request.tag, request.cmd_sn, request.immediate) for cid, request, _ in self.target.came])
+                         [(cid, request.tag, request.cmd_sn, request.immediate)
+                          for cid, request, _ in self.target.came])
         self.assertEqual([(1, 0), (2, 7)], [(number(pdu.header, 20, 21), number(pdu.header, 14, 15))
                                             for pdu in self.target.logins])
 
     def test_script_from_standard_input(self):
         told = self.play(text="# a comment\n\n1 inquiry lun=3\nwait 1\n1 read block=5 count=2 attr=2\nwait 2\n")
         self.assertEqual([("INQUIRY", 3, 1, 1), ("READ(10)", 1, 2, 2)],
-                         [(request.name, request.unit, request.attribute, request.cmd_sn) for request in self.requests()])
+                         [(request.name, request.unit, request.attribute, request.cmd_sn)
+                          for request in self.requests()])
         self.assertEqual("28000000000500000200", self.requests()[1].cdb[:10].hex())
         self.assertEqual(2, told.count("SCSI Response GOOD"))
 
     def test_functions_and_logouts(self):
-        self.play("1 abort-task ref=0x10 refsn=3 now=1", "1 reset lun=2", "1 function-9", "1 logout reason=1 cid=5", "wait 4")
+        self.play("1 abort-task ref=0x10 refsn=3 now=1", "1 reset lun=2", "1 function-9", "1 logout reason=1 cid=5",
+                  "wait 4")
         abort, reset, query, logout = self.requests()
         self.assertEqual((1, 0x10, 4, True), (abort.function, abort.referenced_tag, abort.ref_cmd_sn, abort.immediate))
         self.assertEqual((5, 2, 9), (reset.function, reset.unit, query.function))
@@ -142,7 +145,8 @@ class Initiator(unittest.TestCase):
         self.refused("no request is called hello", "1 hello")
         self.refused("test: no name lum", "1 test lum=2")
         self.refused("the target asked for no data for tag 4", "1 data 4")
-        for line in ("1", "hello", "wait", "wait x", "1 test tag", "1 test tag=x", "1 function-x", "1 test tag=0x100000000"):
+        for line in ("1", "hello", "wait", "wait x", "1 test tag", "1 test tag=x", "1 function-x",
+                     "1 test tag=0x100000000"):
             self.refused("not a line of a script", line)
 
     def test_targets_that_do_not_take_it(self):
@@ -155,7 +159,8 @@ class Initiator(unittest.TestCase):
 
     def test_bad_command_lines(self):
         for words in ((), ("host",), ("host", NAME), ("host:x", NAME), ("host:1", NAME, "--connections", "x")):
-            self.assertEqual(2, subprocess.run([PROGRAM, *words], capture_output=True, stdin=subprocess.DEVNULL).returncode, words)
+            done = subprocess.run([PROGRAM, *words], capture_output=True, stdin=subprocess.DEVNULL)
+            self.assertEqual(2, done.returncode, words)
 
 
 if __name__ == "__main__":

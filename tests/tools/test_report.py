@@ -34,14 +34,16 @@ class Reports(unittest.TestCase):
         arrival, done = read(report.splitlines())
         self.assertEqual(["deliver", "enter", "enable"], [effect.kind for effect in arrival.effects])
         self.assertEqual((7, 0xa1), (arrival.effects[0].cmd_sn, arrival.effects[0].tag))
-        self.assertEqual((1, 2, "ordered"), (arrival.effects[1].ticket, arrival.effects[1].unit, arrival.effects[1].attribute))
+        enter = arrival.effects[1]
+        self.assertEqual((1, 2, "ordered"), (enter.ticket, enter.unit, enter.attribute))
         self.assertEqual((1, 0), (done.ticket, done.status))
         self.assertEqual(("GOOD", 8), (done.effects[1].reply.outcome, done.effects[1].reply.exp_cmd_sn))
 
     def test_sense(self):
         report = replay(f"conn 1 00000001\nC 1 {HEADER}\n", "--first", "00000007")
         (arrival,) = read(report.splitlines())
-        self.assertEqual("CHECK CONDITION (ILLEGAL REQUEST, LOGICAL UNIT NOT SUPPORTED)", arrival.effects[-1].reply.outcome)
+        self.assertEqual("CHECK CONDITION (ILLEGAL REQUEST, LOGICAL UNIT NOT SUPPORTED)",
+                         arrival.effects[-1].reply.outcome)
 
     def test_other_lines_are_refused(self):
         for text, why in ((f"C 1 {HEADER}", "line 1: .*a recording"), ("> C 1 00", "line 1: not an event"),
