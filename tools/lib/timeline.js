@@ -10,7 +10,8 @@ const last = data.first + data.columns.length - 1;
 const answersOf = new Map(data.cids.map(cid => [cid, mostAnswers(cid)]));
 const lanes = lanesOfUnits();
 const numbersHeight = heightOfNumbers();
-let pinned = null, pointed = null, frame = 0;
+const NOWHERE = { clientX: -1, clientY: -1 };
+let pinned = null, pointed = null, mouse = NOWHERE, leads = false, frame = 0;
 
 function mostAnswers(cid) {
     const counts = data.columns.map(column => column[ANSWERS].filter(answer => answer[0] === cid).length);
@@ -242,9 +243,22 @@ function point(event) {
     drawSoon();
 }
 
+// The mouse leads when it moves, until one goes to another event. Browsers also tell of a mouse that stands still while
+// the page scrolls below it.
+function lead(position) {
+    if (position.clientX === mouse.clientX && position.clientY === mouse.clientY) return;
+    [mouse, leads] = [position, true];
+    point(eventAt(position));
+}
+
+function leave() {
+    [mouse, leads] = [NOWHERE, false];
+    point(null);
+}
+
 // Goes to an event, and keeps its words.
 function goTo(event) {
-    pinned = Math.min(last, Math.max(data.first, event));
+    [pinned, pointed, leads] = [Math.min(last, Math.max(data.first, Math.trunc(event))), null, false];
     const left = (pinned - data.first) * COLUMN, seen = drawing.clientWidth - LEFT - COLUMN;
     if (left < scroller.scrollLeft || left > scroller.scrollLeft + seen) scroller.scrollLeft = left - seen / 2;
     document.getElementById("event").value = pinned;
@@ -252,18 +266,30 @@ function goTo(event) {
     drawSoon();
 }
 
+// The event beside the one that is shown, or the first one that is wholly seen.
+function neighbour(step) {
+    const from = pinned ?? pointed;
+    return from === null ? data.first + Math.ceil(scroller.scrollLeft / COLUMN) : from + step;
+}
+
 document.getElementById("width").style.width = `${LEFT + data.columns.length * COLUMN + 20}px`;
-drawing.addEventListener("mousemove", position => point(eventAt(position)));
-drawing.addEventListener("mouseleave", () => point(null));
+drawing.addEventListener("mousemove", lead);
+drawing.addEventListener("mouseleave", leave);
 drawing.addEventListener("click", position => { const event = eventAt(position); if (event !== null) goTo(event); });
-document.getElementById("event").addEventListener("change", change => goTo(Number(change.target.value) || data.first));
+document.getElementById("event").addEventListener("change", change => {
+    goTo(Number(change.target.value) || data.first);
+    change.target.blur();
+});
 document.addEventListener("keydown", key => {
     const step = { ArrowLeft: -1, ArrowRight: 1 }[key.key];
-    if (!step || key.target.tagName === "INPUT") return;
+    if (!step || key.altKey || key.ctrlKey || key.metaKey || key.target.tagName === "INPUT") return;
     key.preventDefault();
-    goTo((pinned ?? data.first - step) + step);
+    goTo(neighbour(step));
 });
-scroller.addEventListener("scroll", drawSoon);
+scroller.addEventListener("scroll", () => {
+    if (leads) point(eventAt(mouse));
+    drawSoon();
+});
 window.addEventListener("resize", drawSoon);
 window.addEventListener("hashchange", () => goTo(Number(location.hash.slice(1)) || data.first));
 if (location.hash) goTo(Number(location.hash.slice(1)) || data.first);
