@@ -18,7 +18,14 @@ from lib.streams import Splitter  # noqa: E402
 
 PROGRAM = os.path.join(TOP, "tests", "initiator")
 NAME = "iqn.2026-01.example:disk"
+RESETTING = 0x66
 ANSWERS = {0x00: 0x20, 0x01: 0x21, 0x02: 0x22, 0x06: 0x26}
+
+
+def reset(connection):
+    """Closes a connection by a reset, and not by its end."""
+    connection.setsockopt(socket.SOL_SOCKET, socket.SO_LINGER, struct.pack("ii", 1, 0))
+    connection.close()
 
 
 class Target:
@@ -50,6 +57,9 @@ class Target:
                     self.log_in(connection, pdu)
                 else:
                     self.came.append((cid, Request(pdu.header), pdu.data))
+                    if number(pdu.header, 16, 19) == RESETTING:
+                        reset(connection)
+                        return
                     self.answer(connection, pdu.header)
         connection.close()
 
@@ -131,6 +141,12 @@ class Initiator(unittest.TestCase):
             sys.dont_write_bytecode = before
         self.assertEqual("e3069283", module.crc32c(b"123456789")[::-1].hex())
         self.assertEqual("aa36918a", module.crc32c(bytes(32)).hex())
+
+    def test_connections_that_the_target_ends(self):
+        told = self.play("--connections", "2", f"2 test tag={RESETTING}", f"wait {RESETTING} 0.5", "1 test tag=1",
+                         "wait 1")
+        self.assertRegex(told, r"\A2 closed\nno reply to tag 00000066\n1 SCSI Response GOOD: tag 00000001")
+        self.refused("no connection 2", "--connections", "2", f"2 test tag={RESETTING}", "pause 0.5", "2 test")
 
     def test_no_reply(self):
         self.assertIn("no reply to tag 00000077\n", self.play("wait 0x77 0.1"))
