@@ -71,8 +71,9 @@ def outcome_of(reply):
 def line_of(item):
     """The line of a reply of a capture."""
     reply, outcome = item.reply, outcome_of(item.reply)
-    fields = (f"{item.frame} {item.time:.6f} {item.cid} {kind_of(reply, item.is_ping)} {item.tag:08x} {reply.stat_sn:08x} "
-              f"{reply.exp_cmd_sn:08x} {reply.max_cmd_sn:08x} {'--' if outcome is None else format(outcome, '02x')}")
+    fields = (f"{item.frame} {item.time:.6f} {item.cid} {kind_of(reply, item.is_ping)} {item.tag:08x} "
+              f"{reply.stat_sn:08x} {reply.exp_cmd_sn:08x} {reply.max_cmd_sn:08x} "
+              f"{'--' if outcome is None else format(outcome, '02x')}")
     return f"{fields} {reply.outcome}".rstrip()
 
 

@@ -25,7 +25,7 @@ class Place:
 
 @dataclass(frozen=True)
 class Sent:
-    """A reply of the program's: its order among all of them, its event, and the event of the request that it answers."""
+    """A reply of the program's: its order among all of them, its event, and the event of the request it answers."""
     order: int
     event: int
     cid: int
@@ -127,8 +127,8 @@ def told(kind, outcome, words=""):
 
 
 def pair(replay, answers):
-    """Pairs what answers the same request. Gives the pairs with None where one side has no reply, those of the target in
-    its order and then the program's."""
+    """Pairs what answers the same request. Gives the pairs with None where one side has no reply, those of the target
+    in its order and then the program's."""
     waiting = {}
     for sent in reversed(replay.sent):
         waiting.setdefault((sent.cid, sent.tag, sent.request), []).append(sent)
@@ -154,7 +154,8 @@ def longest_rise(values):
 
 
 def out_of_order(pairs):
-    """The program's replies, by their order, that stand elsewhere on their connection than the target's: as few as can be.
+    """The program's replies, by their order, that stand elsewhere on their connection than the target's: as few as
+    can be.
 
     Read from the end, so that of two which changed places the one counts that the target sent later.
     """
@@ -174,8 +175,8 @@ def by_connection(replies):
 
 
 def stat_sn_shifts(answers, sent):
-    """Gives the target's replies whose StatSN differs from that of the program's reply at the same place of the connection,
-    each time by another number, with the program's StatSN."""
+    """Gives the target's replies whose StatSN differs from that of the program's reply at the same place of the
+    connection, each time by another number, with the program's StatSN."""
     program = by_connection(sent)
     for cid, replies in by_connection(answers).items():
         shift = 0
@@ -214,7 +215,8 @@ class Comparison:
         return answer.frame if answer else self.replay.places[sent.event].frame
 
     def leave_out_texts(self, answers):
-        """Leaves out the program's Rejects of Text Requests to which the target gave a Text Response. How many there are."""
+        """Leaves out the program's Rejects of Text Requests to which the target gave a Text Response. How many it left
+        out."""
         texts = {self.replay.request_before(answer) for answer in answers if answer.kind == "text-response"}
         kept = [sent for sent in self.replay.sent
                 if sent.request not in texts or self.replay.events[sent.request].request.opcode != TEXT]
@@ -254,7 +256,8 @@ class Comparison:
         else:
             kind = KIND
         if kind:
-            yield self.differ(kind, answer, sent, f"the target answers {told(answer.kind, answer.outcome, answer.words)}, "
+            yield self.differ(kind, answer, sent,
+                              f"the target answers {told(answer.kind, answer.outcome, answer.words)}, "
                               f"the program {told(sent.kind, outcome, sent.reply.outcome)}")
 
     def numbers(self, answer, sent):
@@ -262,8 +265,8 @@ class Comparison:
         reply = sent.reply
         if sent.order in self.elsewhere:
             place = self.replay.places[sent.event]
-            yield self.differ(ORDER, answer, sent, "it stands elsewhere among the replies of the connection: the program sends "
-                              f"it at the event of frame {place.frame}")
+            yield self.differ(ORDER, answer, sent, "it stands elsewhere among the replies of the connection: "
+                              f"the program sends it at the event of frame {place.frame}")
         if answer.exp_cmd_sn != reply.exp_cmd_sn:
             yield self.differ(EXP_CMD_SN, answer, sent, numbers_differ(EXP_CMD_SN, answer.exp_cmd_sn, reply.exp_cmd_sn))
         if answer.max_cmd_sn != reply.max_cmd_sn:

@@ -162,14 +162,15 @@ class Sessions:
         connection.session.add(Item(segment.frame, segment.time, connection.cid, request, reply))
 
     def join(self, connection, response, frame):
-        """The session of a connection whose login is done: a new one, or that of its ISID and TSIH. None for one that the
-        capture doesn't have from its beginning.
+        """The session of a connection whose login is done: a new one, or that of its ISID and TSIH. None for one that
+        the capture doesn't have from its beginning.
 
         A target may give a connection that asks to join a session a session of its own; it is what the answer says.
         """
         isid, asked, tsih = connection.login[8:14], number(connection.login, 14, 15), number(response, 14, 15)
         names = tuple(connection.keys.get(name, "") for name in NAMES)
-        found = [session for session in self.sessions if (session.isid, session.tsih, session.names) == (isid, tsih, names)]
+        found = [session for session in self.sessions
+                 if (session.isid, session.tsih, session.names) == (isid, tsih, names)]
         joins = asked == tsih
         if joins and not found:
             return None

@@ -1,7 +1,7 @@
 """Makes a recording of a session: its options, its events in their order, and the tickets of its completions.
 
-The rules of the session are the program's. It says by its reports which ticket a command got, and which numbers its window
-let in; a recording is replayed until nothing of it changes.
+The rules of the session are the program's. It says by its reports which ticket a command got, and which numbers its
+window let in; a recording is replayed until nothing of it changes.
 """
 
 import os
@@ -58,8 +58,8 @@ def run_program(recording, words):
 
 
 def arrival_limit(queue, reply):
-    """How many of these requests the target can have taken before this reply: those before the number that it still expects.
-    What it answers it took."""
+    """How many of these requests the target can have taken before this reply: those before the number that it still
+    expects. What it answers it took."""
     waiting = (place for place, item in enumerate(queue)
                if item.request.is_numbered and item.request.cmd_sn == reply.exp_cmd_sn)
     return next(waiting, len(queue))
@@ -96,7 +96,7 @@ def in_taken_order(items):
 
 
 def units_of(items):
-    """How many units the session has: up to the greatest that a request names and the target doesn't refuse by its sense."""
+    """How many units the session has: up to the greatest that a request names and the target's sense doesn't refuse."""
     named, units = {}, [0]
     for item in items:
         if item.request and item.request.opcode in (SCSI_COMMAND, TASK_MANAGEMENT) and item.request.unit is not None:
@@ -110,8 +110,8 @@ def units_of(items):
 
 def place_of(item):
     """The comment that stands before an event."""
-    what = f"{item.request.name}, tag {item.tag:08x}" if item.request else f"{item.reply.outcome} for tag {item.tag:08x}"
-    return f"# time {item.time:.6f} frame {item.frame}: {what}"
+    what = f"{item.request.name}, tag" if item.request else f"{item.reply.outcome} for tag"
+    return f"# time {item.time:.6f} frame {item.frame}: {what} {item.tag:08x}"
 
 
 def event_lines(steps, tickets):
@@ -169,7 +169,8 @@ def settle(session, steps, options):
         found = tickets_of(steps, tickets, report.read(text.splitlines()))
         if found == tickets:
             answers = sum(1 for item in steps if item.reply and item.reply.ends_command)
-            return Recording(options, lines, len(found), answers - len(found), text.count("\n  ignore outside\n"), passes)
+            outside = text.count("\n  ignore outside\n")
+            return Recording(options, lines, len(found), answers - len(found), outside, passes)
         tickets = found
     raise BadReplay(f"the tickets don't stand still after {MOST_PASSES} replays")
 
@@ -190,7 +191,8 @@ def record(session):
         raise BadCapture(f"{len(session.connections)} connections; a recording has {MOST_CONNECTIONS} at the most")
     shorten(session)
     steps = list(in_taken_order(session.items))
-    options = Options(session.first, min(WIDEST, max(1, advertised_window(session))), units_of(session.items), session.level)
+    window = min(WIDEST, max(1, advertised_window(session)))
+    options = Options(session.first, window, units_of(session.items), session.level)
     recording = settle(session, steps, options)
     if not recording.outside:
         return recording

@@ -50,7 +50,8 @@ class Stream:
 class Splitter:
     """Splits the bytes of one direction into PDUs. Digests may be set while PDUs are taken from it.
 
-    All opcodes of the target have a bit that those of the initiator lack. Where a PDU has the wrong one the bytes are lost.
+    All opcodes of the target have a bit that those of the initiator lack. Where a PDU has the wrong one the bytes are
+    lost.
     """
 
     def __init__(self, from_initiator):

@@ -31,7 +31,8 @@ def segment_of(line, port):
     begins = begins in ("1", "True")
     payload = bytes.fromhex(payload)
     if len(payload) < int(length):
-        raise BadCapture(f"frame {frame} has {len(payload)} of its {length} bytes (capture whole packets: dumpcap -s 0)")
+        raise BadCapture(f"frame {frame} has {len(payload)} of its {length} bytes "
+                         "(capture whole packets: dumpcap -s 0)")
     return Segment(int(frame), float(time), int(stream), int(destination) == port,
                    (int(sequence) + begins) % 2**32, begins, payload)
 
@@ -56,7 +57,8 @@ def segments(path, port):
     A capture whose last packet was cut off is read up to it.
     """
     if not shutil.which("tshark"):
-        raise BadCapture("tshark is missing: install it with 'apt-get install tshark' (or your system's Wireshark package)")
+        raise BadCapture("tshark is missing: install it with 'apt-get install tshark' "
+                         "(or your system's Wireshark package)")
     with open(path, "rb") as capture:
         if not capture.read(1):
             raise BadCapture(f"{path}: an empty file")
