@@ -316,6 +316,19 @@ class Tool(unittest.TestCase):
         self.assertRegex(answers[3], r"\A17 \d+\.\d{6} 1 function-response 00000011 00000004 00000004 00000084 01 "
                                      r"task does not exist\Z")
 
+    def test_a_real_session_of_three_connections(self):
+        told = self.make(os.path.join(CAPTURES, "istgt-connections.pcapng"))
+        self.assertEqual(f"{self.folder}/istgt-connections-1.recording: 3 connection(s), 13 requests, 8 completions\n",
+                         told)
+        lines = [line for line in self.lines("istgt-connections-1.recording") if not line.startswith("#")]
+        self.assertEqual([f"conn {cid} 00000001" for cid in (1, 2, 3)], lines[:3])
+        # The connection, tag and CmdSN of each request, and the tickets. CmdSN 4 comes before CmdSN 3.
+        events = [line.split() for line in lines[3:]]
+        requests = [f"{words[1]} {words[2][38:40]} {int(words[2][48:56], 16)}" for words in events if words[0] == "C"]
+        self.assertEqual(["1 01 1", "2 02 2", "2 10 4", "1 11 3", "1 20 5", "2 21 6", "3 22 7", "1 20 0", "2 23 7",
+                          "2 30 8", "1 31 8", "3 32 9", "1 33 10"], requests)
+        self.assertEqual(list("12345789"), [words[1] for words in events if words[0] == "D"])
+
     def test_vlan_ipv6_retransmissions_and_two_connections(self):
         wire = Wire()
         wire.log_in(0, cid=1)

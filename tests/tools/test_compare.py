@@ -1,6 +1,7 @@
 """Tests of tools/compare: each kind of difference, and what is left out."""
 
 import os
+import re
 import shutil
 import subprocess
 import sys
@@ -118,6 +119,12 @@ class Kinds(Session):
         self.assertIn("The target holds MaxCmdSN at ExpCmdSN + 31 in all its replies", told)
         self.assertIn("Differences: 2 x MaxCmdSN, by the target's fixed window.\n", told)
 
+    def test_max_cmd_sn_that_differs_with_exp_cmd_sn(self):
+        """The program's window is as wide as the target's fixed one there, so that one doesn't explain it."""
+        told = self.changed(("nop", "00000021", "00000023"), ("one", "00000022", "00000023"),
+                            ("abort", "00000004 00000023", "00000005 00000024"))
+        self.assertIn("Differences: 1 x ExpCmdSN; 1 x MaxCmdSN; 2 x MaxCmdSN, by the target's fixed window.\n", told)
+
     def test_what_the_fixed_window_makes_is_not_the_first_difference(self):
         self.changed(("nop", "00000021", "00000023"), ("one", "00000022", "00000023"), ("two", "00 GOOD", "08 BUSY"))
         self.assertIn("The first difference: frame 52 ", self.compare())
@@ -127,6 +134,14 @@ class Kinds(Session):
                             ("abort", "00000004 00000004", "0000000a 00000004"))
         self.assertIn("the target says StatSN 00000009, the program 00000003 at this place\n"
                       "Differences: 1 x StatSN.\n", told)
+
+    def test_stat_sn_of_two_replies_that_changed_places(self):
+        """The replies behind them, whose StatSNs are the program's again, are no difference."""
+        told = self.changed(("nop", "00000001 00000004", "00000002 00000004"),
+                            ("one", "00000002 00000004", "00000001 00000004"))
+        self.assertIn("the target says StatSN 00000002, the program 00000001 at this place\n", told)
+        self.assertIn("the target says StatSN 00000001, the program 00000002 at this place\n"
+                      "Differences: 2 x StatSN.\n", told)
 
     def test_missing_reply_of_a_command_that_was_aborted(self):
         abort = (f"C 1 {header(0x42, 0x81, 6, 4, referenced=1)}", 45)
@@ -146,6 +161,15 @@ class Kinds(Session):
         self.write([ANSWERS["nop"]], (far,))
         self.assertIn("NOP-Out with tag 00000003: the target answers NOP-In, the program nothing: "
                       "it ignored the request as outside", self.compare())
+
+    def test_missing_reply_of_a_request_that_waits_for_its_turn(self):
+        self.write([ANSWERS["two"]], (COMMANDS[1],))
+        self.assertIn("TEST UNIT READY with tag 00000002: the target answers Data-In with status 00 (GOOD), "
+                      "the program nothing: the request waits for a lower CmdSN\n", self.compare())
+        self.write([ANSWERS["abort"]], (COMMANDS[1], (f"C 1 {header(0x42, 0x82, 6, 4)}", 60), COMMANDS[0]))
+        self.assertIn("ABORT TASK SET with tag 00000006: the target answers Task Management Function Response 01 "
+                      "(task does not exist), the program nothing: the request waits for a lower CmdSN\n",
+                      self.compare())
 
     def test_missing_reply_without_a_request(self):
         self.write([*ANSWERS.values(), ANSWERS["abort"].replace("00000006", "00000077")])
@@ -244,11 +268,19 @@ class RealCases(unittest.TestCase):
         "abort-live-1": "1 x missing reply; 1 x response",
         "abort-write-1": "1 x missing reply; 1 x response",
         "reset-1": "1 x MaxCmdSN, by the target's fixed window; 2 x missing reply; 1 x order",
-        "out-of-order-1": "1 x ExpCmdSN; 3 x MaxCmdSN, by the target's fixed window; 1 x missing reply",
+        "out-of-order-1": "1 x ExpCmdSN; 1 x MaxCmdSN; 2 x MaxCmdSN, by the target's fixed window; 1 x missing reply",
         "attributes-1": "3 x MaxCmdSN, by the target's fixed window; 1 x missing reply",
         "narrow-window-1": "9 x MaxCmdSN, by the target's fixed window",
         "two-connections-1": None, "two-connections-2": None, "digests-1": None,
         "libiscsi-1": None, "libiscsi-2": None, "libiscsi-3": None,
+        "istgt-connections-1": "1 x ExpCmdSN; 7 x MaxCmdSN",
+        "istgt-abort-1": "2 x MaxCmdSN; 4 x StatSN; 1 x additional reply; 2 x missing reply; 1 x response",
+        "istgt-reset-1": "1 x MaxCmdSN",
+        "istgt-reset-live-1": "2 x missing reply",
+        "istgt-out-of-order-1": "1 x missing reply",
+        "istgt-attributes-1": None,
+        "istgt-libiscsi-1": None,
+        "istgt-libiscsi-2": "1 x ExpCmdSN; 1 x MaxCmdSN", "istgt-libiscsi-3": "1 x ExpCmdSN; 1 x MaxCmdSN",
     }
 
     def test_counts(self):
@@ -258,6 +290,21 @@ class RealCases(unittest.TestCase):
                 self.assertEqual(0, run_tool("capture", capture, "-o", folder).returncode)
                 last = run_tool("compare", os.path.join(folder, f"{name}.recording")).stdout.splitlines()[-1]
                 self.assertEqual(f"Differences: {counts}." if counts else "No difference.", last, name)
+
+    def test_every_session_of_every_capture_is_counted(self):
+        captures = {name.removesuffix(".pcapng") for name in os.listdir(CAPTURES)} - {"after-login"}
+        self.assertEqual(captures, {name.rpartition("-")[0] for name in self.COUNTS})
+
+    def test_an_aborted_command_s_place_of_the_window(self):
+        """istgt never gives it back, so MaxCmdSN is one lower from the abort on, on all connections."""
+        with tempfile.TemporaryDirectory() as folder:
+            run_tool("capture", os.path.join(CAPTURES, "istgt-connections.pcapng"), "-o", folder)
+            told = run_tool("compare", os.path.join(folder, "istgt-connections-1"), "--all").stdout
+        found = re.findall(r"^frame (\d+) .*, connection (\d), MaxCmdSN:\n"
+                           r".*says MaxCmdSN ([0-9a-f]{8}), the program ([0-9a-f]{8})", told, re.MULTILINE)
+        self.assertEqual([("41", "3"), ("44", "1"), ("48", "2"), ("51", "2"), ("58", "1"), ("61", "3"), ("64", "1")],
+                         [(frame, cid) for frame, cid, _, _ in found])
+        self.assertEqual([1] * 6 + [2], [int(ours, 16) - int(theirs, 16) for _, _, theirs, ours in found])
 
 
 if __name__ == "__main__":

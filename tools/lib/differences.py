@@ -100,13 +100,24 @@ class Replay:
         """Why the program doesn't answer a request that the target answers."""
         if place is None:
             return "the recording has no such request"
-        ignored = [effect.why for effect in self.events[place].effects if effect.kind == "ignore"]
+        effects = self.events[place].effects
+        ignored = [effect.why for effect in effects if effect.kind == "ignore"]
         if ignored:
             return f"it ignored the request as {ignored[0]}"
+        if not self.has_turn(place, answer.frame):
+            return "the request waits for a lower CmdSN"
         for completed, event in enumerate(self.events):
             if self.places[completed].frame == answer.frame and event.effects and event.effects[0].why == "stale":
                 return self.why_stale(completed, event.ticket)
         return "it has no task for the completion"
+
+    def has_turn(self, place, frame):
+        """Whether a request was delivered before this frame, or executed as an immediate one that doesn't wait."""
+        request = self.events[place].request
+        wanted = self.events[place].cid, request.tag, request.cmd_sn
+        return any((effect.cid, effect.tag, effect.cmd_sn) == wanted
+                   for event, at in zip(self.events[place:], self.places[place:]) if at.frame < frame
+                   for effect in event.effects if effect.kind in ("deliver", "immediate"))
 
     def why_stale(self, completed, ticket):
         """Why the program ignores a completion."""
@@ -181,8 +192,8 @@ def stat_sn_shifts(answers, sent):
     for cid, replies in by_connection(answers).items():
         shift = 0
         for answer, other in zip(replies, program.get(cid, [])):
-            if (answer.stat_sn - other.reply.stat_sn - shift) % 2**32:
-                shift = answer.stat_sn - other.reply.stat_sn
+            before, shift = shift, (answer.stat_sn - other.reply.stat_sn) % 2**32
+            if shift not in (0, before):
                 yield answer, other.reply.stat_sn
 
 
@@ -270,7 +281,8 @@ class Comparison:
         if answer.exp_cmd_sn != reply.exp_cmd_sn:
             yield self.differ(EXP_CMD_SN, answer, sent, numbers_differ(EXP_CMD_SN, answer.exp_cmd_sn, reply.exp_cmd_sn))
         if answer.max_cmd_sn != reply.max_cmd_sn:
-            yield self.differ(FIXED_WINDOW if self.window else MAX_CMD_SN, answer, sent,
+            is_as_wide = (reply.max_cmd_sn - reply.exp_cmd_sn + 1) % 2**32 == self.window
+            yield self.differ(FIXED_WINDOW if self.window and not is_as_wide else MAX_CMD_SN, answer, sent,
                               numbers_differ(MAX_CMD_SN, answer.max_cmd_sn, reply.max_cmd_sn))
 
     def differ(self, kind, answer, sent, words):
