@@ -206,7 +206,7 @@ class LongPage(Page):
     def test_how_long_a_scroll_step_takes(self):
         times = [self.browser.wait(TIMED_SCROLL, 5 * COLUMN) for _ in range(STEPS)]
         median = statistics.median(times)
-        print(f"a scroll step over {2 * COMMANDS} events: {median:.1f} ms, at most {max(times):.1f} ms", flush=True)
+        print(f"\na scroll step over {2 * COMMANDS} events: {median:.1f} ms, at most {max(times):.1f} ms", flush=True)
         self.assertGreater(self.shown()["scrolled"], (STEPS - 1) * 5 * COLUMN)
         self.assertLess(median, LONGEST_STEP)
 
