@@ -407,5 +407,20 @@ class WithoutTshark(unittest.TestCase):
         self.assertRegex(done.stderr, r"\Acapture: tshark is missing: install it with .*\n\Z")
 
 
+class Building(unittest.TestCase):
+    """A program that has yet to be built."""
+
+    def test_the_news_of_a_build_is_shown(self):
+        with tempfile.TemporaryDirectory() as folder:
+            script = os.path.join(folder, "iscsi-replay")
+            with open(script, "w", encoding="ascii") as file:
+                file.write("#!/bin/sh\n[ \"$1\" = --help ] && echo 'iscsi-replay: proving iscsi_wire' >&2\nexit 0\n")
+            os.chmod(script, 0o755)
+            code = f"from lib import settling; settling.TOP = {folder!r}; settling.run_program('', [])"
+            done = subprocess.run([sys.executable, "-c", code], capture_output=True, text=True, timeout=60,
+                                  env={**os.environ, "PYTHONPATH": os.path.join(TOP, "tools")})
+        self.assertEqual((done.returncode, done.stderr), (0, "iscsi-replay: proving iscsi_wire\n"))
+
+
 if __name__ == "__main__":
     unittest.main()
