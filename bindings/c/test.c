@@ -266,8 +266,11 @@ static void test_functions(cundarrix_session *session) {
     CHECK(effect_of(session, 2, CUNDARRIX_SEND).header[0] == 0x22);
     CHECK(effect_of(session, 3, CUNDARRIX_DELIVER).sn == 4);
     CHECK(effect_of(session, 4, CUNDARRIX_ENTER).attribute == CUNDARRIX_SIMPLE);
-    CHECK(effect_of(session, 5, CUNDARRIX_IMMEDIATE).sn == 5);
-    CHECK(effect_of(session, 6, CUNDARRIX_LEAVE).ticket == 2);
+    CHECK(effect_of(session, 5, CUNDARRIX_ENABLE).ticket == 2);
+    CHECK(effect_of(session, 6, CUNDARRIX_IMMEDIATE).sn == 5);
+    CHECK(effect_of(session, 7, CUNDARRIX_LEAVE).ticket == 2);
+    CHECK(effect_of(session, 8, CUNDARRIX_SEND).header[19] == TAG + 5);
+    test_end_of_effects(session, 9);
     CHECK(arrive(session, 2, 0x01, 0x81, 0, 6) == CUNDARRIX_OK);
     CHECK(arrive(session, 1, 0x46, 0x80, 0, 7) == CUNDARRIX_OK);
     CHECK(effect_of(session, 0, CUNDARRIX_IMMEDIATE).sn == 7);

@@ -11,6 +11,13 @@ extern "C" {
     fn __libc_realloc(block: *mut c_void, size: usize) -> *mut c_void;
 }
 
+/// An immediate NOP-Out that asks for an answer.
+const NOP_OUT: [u8; 48] = {
+    let mut header = [0; 48];
+    (header[0], header[1]) = (0x40, 0x80);
+    header
+};
+
 /// How many more requests are granted. Below zero all are.
 static LEFT: AtomicI64 = AtomicI64::new(-1);
 
@@ -55,7 +62,7 @@ fn each_refused_request_for_memory_refuses_the_opening() {
             Ok(mut session) => {
                 // No call after the opening asks for memory.
                 LEFT.store(0, Ordering::SeqCst);
-                let taken = session.arrive(1, &[0; 48]);
+                let taken = session.arrive(1, &NOP_OUT);
                 let count = session.effects().count();
                 LEFT.store(-1, Ordering::SeqCst);
                 assert_eq!((taken, count), (Ok(()), 2));
