@@ -1,5 +1,5 @@
 -- The last request that executes among effects, and the last entry of a log.
-use Rattle.std.proofs.Common.{◌≡◌, ◌∙◌, ◌<◌, ◌≤◌, ◌-◌, ℕ, suc, arith, refl, ap, sym, List, [], ◌∷◌, ◌++◌, take, length, slice_index_or, Option, Some, None}
+use Rattle.std.proofs.Common.{◌≡◌, ◌∙◌, ◌<◌, ◌≤◌, ◌-◌, ℕ, suc, arith, refl, ap, List, [], ◌∷◌, ◌++◌, take, length, slice_index_or, Option, Some, None}
 use Rattle.std.proofs.Math.Seq.{take-suc}
 use Rattle.std.specs.List.{cons_option, filter_map, last_or}
 use Rattle.std.proofs.lemmas.List.Elements.{filter_map-append}

@@ -4,7 +4,7 @@ use Rattle.iscsi_history.specs.declared.effect.Effect.{Effect}
 use Rattle.iscsi_history.specs.declared.effect.Numbers.{Numbers}
 use Rattle.iscsi_history.specs.declared.event.Event.{Event}
 use Rattle.iscsi_history.specs.Settings.{Setting}
-use Rattle.iscsi_history.specs.Run.{run_of, trace_of, next_entry, numbers_of}
+use Rattle.iscsi_history.specs.Run.{run_of, next_entry, numbers_of}
 use Rattle.iscsi_history.proofs.RunLemmas.{run_of-push, trace_of-push}
 use Rattle.iscsi_session.specs.declared.fault.SessionFault.{SessionFault}
 use Rattle.iscsi_session.specs.declared.fault.SessionFault.TheVariants.{NoMemory}

@@ -1,4 +1,3 @@
-use Rattle.std.proofs.Common.{rules}
 use Rattle.iscsi_session.specs.Settings.{setting_of}
 use Rattle.iscsi_host.specs.Plain.{plain_setting}
 use Rattle.iscsi_host.proofs.AnswerLemmas.{valid_as_opened}

@@ -1,4 +1,4 @@
-use Rattle.std.proofs.Common.{◌≡◌, ◌∙◌, ◌≤◌, ◌<◌, ◌-◌, ℕ, sym, ap, arith, rules, length}
+use Rattle.std.proofs.Common.{◌∙◌, ◌≤◌, ◌<◌, ◌-◌, sym, arith, rules, length}
 use Rattle.iscsi_host.proofs.EffectLemmas.{found_back, passed_back}
 use Rattle.iscsi_host.proofs.host.last_request.Goals as goal
 

@@ -1,4 +1,4 @@
-use Rattle.std.proofs.Common.{◌≡◌, ◌∙◌, ◌≤◌, sym, arith, false, nat_lt, List, ℕ, length, take, rules}
+use Rattle.std.proofs.Common.{◌≡◌, ◌∙◌, false, nat_lt, length, take, rules}
 use Rattle.iscsi_host.proofs.AnswerLemmas.{long_enough}
 use Rattle.iscsi_host.proofs.handle.Handle.arrive.Goals as goal
 

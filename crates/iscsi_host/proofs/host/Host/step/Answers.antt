@@ -1,4 +1,4 @@
-use Rattle.std.proofs.Common.{◌≡◌, ◌≤◌, ◌∙◌, sym, ap, subst, arith, List, Some, None, vec_len, vec_capacity}
+use Rattle.std.proofs.Common.{◌≤◌, ◌∙◌, sym, subst, arith, vec_len, vec_capacity}
 use Rattle.iscsi_host.specs.Serving.{Hosted, Serves}
 use Rattle.iscsi_host.proofs.ServingLemmas.{refusal_here, never_refused, serves_more}
 use Rattle.iscsi_host.proofs.host.Host.step.Goals as goal
