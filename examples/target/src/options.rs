@@ -1,0 +1,90 @@
+//! The words of the command line.
+
+use std::path::PathBuf;
+use std::time::Duration;
+
+pub const HELP: &str = "\
+target [--listen ADDRESS:PORT] [--size MIB] [--workers N] [--delay MS] [--window N] [--name IQN] [--trace FILE]
+
+An iSCSI target with two units in RAM. There is no authentication, and nothing outlasts the program.
+
+  --listen  where it listens (127.0.0.1:3260)
+  --size    the MiB of each unit, 1 to 4096 (64)
+  --workers the threads of each unit, 1 to 64 (2)
+  --delay   the milliseconds that each command takes longer, up to 3600000 (0)
+  --window  the commands that a session may have outstanding, 1 to 256 (32)
+  --name    the target's name (iqn.2026-01.example.cundarrix:ram)
+  --trace   a file to which the workers write a line for each command
+";
+
+#[derive(Debug, PartialEq, Eq)]
+pub struct Options {
+    pub listen: String,
+    pub size: usize,
+    pub workers: u32,
+    pub delay: Duration,
+    pub window: u32,
+    pub name: String,
+    pub trace: Option<PathBuf>,
+}
+
+impl Default for Options {
+    fn default() -> Options {
+        Options {
+            listen: "127.0.0.1:3260".to_string(),
+            size: 64 << 20,
+            workers: 2,
+            delay: Duration::ZERO,
+            window: 32,
+            name: "iqn.2026-01.example.cundarrix:ram".to_string(),
+            trace: None,
+        }
+    }
+}
+
+impl Options {
+    /// The options that these words say, or the line that says what is wrong.
+    pub fn read(mut words: impl Iterator<Item = String>) -> Result<Options, String> {
+        let mut options = Options::default();
+        while let Some(word) = words.next() {
+            let value = words.next().ok_or_else(|| format!("{word} has no value, or is unknown; see --help"))?;
+            match word.as_str() {
+                "--listen" => options.listen = value,
+                "--size" => options.size = (number(&word, &value, 1, 4096)? as usize) << 20,
+                "--workers" => options.workers = number(&word, &value, 1, 64)?,
+                "--delay" => options.delay = Duration::from_millis(number(&word, &value, 0, 3_600_000)?.into()),
+                "--window" => options.window = number(&word, &value, 1, 256)?,
+                "--name" => options.name = value,
+                "--trace" => options.trace = Some(PathBuf::from(value)),
+                _ => return Err(format!("there is no option {word}; see --help")),
+            }
+        }
+        Ok(options)
+    }
+}
+
+fn number(word: &str, value: &str, least: u32, most: u32) -> Result<u32, String> {
+    let number = value.parse().ok().filter(|number| (least..=most).contains(number));
+    number.ok_or_else(|| format!("{word} takes {least} to {most}"))
+}
+
+#[cfg(test)]
+mod tests {
+    use super::*;
+
+    fn read(words: &str) -> Result<Options, String> {
+        Options::read(words.split_whitespace().map(str::to_string))
+    }
+
+    #[test]
+    fn options_have_defaults_and_limits() {
+        assert_eq!(read(""), Ok(Options::default()));
+        assert_eq!(
+            read("--size 1 --delay 20").map(|options| (options.size, options.delay.as_millis())),
+            Ok((1 << 20, 20))
+        );
+        for wrong in ["--size 0", "--size", "--workers x", "--window 257", "--port 1"] {
+            assert!(read(wrong).is_err(), "{wrong}");
+        }
+    }
+}

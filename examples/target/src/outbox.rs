@@ -1,0 +1,128 @@
+//! What goes out on a connection: PDUs in a queue, which a thread writes to the socket.
+
+use crate::command::Command;
+use crate::pdu::Pdu;
+use crate::sync::{lock, wait};
+use std::collections::VecDeque;
+use std::io::{self, Write};
+use std::net::{Shutdown, TcpStream};
+use std::sync::{Condvar, Mutex};
+
+/// Data waits for room once so many bytes are queued.
+const MOST_QUEUED: usize = 1 << 20;
+
+/// The PDUs of a connection that wait to be sent.
+#[derive(Default)]
+pub struct Outbox {
+    queue: Mutex<Queue>,
+    changed: Condvar,
+}
+
+#[derive(Default)]
+struct Queue {
+    items: VecDeque<Item>,
+    length: usize,
+    /// Nothing is added any more.
+    is_closed: bool,
+}
+
+struct Item {
+    pdu: Pdu,
+    /// The command that it belongs to, where it must not go out once that has left.
+    ticket: Option<u64>,
+}
+
+impl Outbox {
+    /// Queues a reply. It never waits.
+    pub fn post(&self, pdu: Pdu) {
+        self.add(&mut lock(&self.queue), Item { pdu, ticket: None });
+    }
+
+    /// Queues an R2T of a command. It never waits.
+    pub fn post_for(&self, command: &Command, pdu: Pdu) {
+        self.add(&mut lock(&self.queue), Item { pdu, ticket: Some(command.ticket) });
+    }
+
+    /// Queues data of a command, once there is room. `false`, and nothing is queued, where the command was stopped or
+    /// the connection closed.
+    ///
+    /// A command is stopped before `discard` takes the queue's lock. So its data is either queued before, and then
+    /// taken out by that, or it isn't queued.
+    pub fn post_data(&self, command: &Command, pdu: Pdu) -> bool {
+        let mut queue = lock(&self.queue);
+        while queue.length > MOST_QUEUED && !queue.is_closed && !command.is_stopped() {
+            queue = wait(&self.changed, queue);
+        }
+        let is_wanted = !queue.is_closed && !command.is_stopped();
+        if is_wanted {
+            self.add(&mut queue, Item { pdu, ticket: Some(command.ticket) });
+        }
+        is_wanted
+    }
+
+    fn add(&self, queue: &mut Queue, item: Item) {
+        if !queue.is_closed {
+            queue.length += item.pdu.length();
+            queue.items.push_back(item);
+            self.changed.notify_all();
+        }
+    }
+
+    /// Takes out what is queued for a command that left. A PDU of it that is being written is finished, as a stream
+    /// can't take it back; it began before.
+    pub fn discard(&self, ticket: u64) {
+        let mut queue = lock(&self.queue);
+        queue.items.retain(|item| item.ticket != Some(ticket));
+        queue.length = queue.items.iter().map(|item| item.pdu.length()).sum();
+        self.changed.notify_all();
+    }
+
+    /// Sends what is queued, and then closes the connection.
+    pub fn finish(&self) {
+        lock(&self.queue).is_closed = true;
+        self.changed.notify_all();
+    }
+
+    /// Closes the connection without what is queued.
+    pub fn abandon(&self) {
+        let mut queue = lock(&self.queue);
+        *queue = Queue { is_closed: true, ..Queue::default() };
+        self.changed.notify_all();
+    }
+
+    /// Waits until there is room, so that an initiator that reads no replies isn't read from either.
+    pub fn wait_for_room(&self) {
+        let mut queue = lock(&self.queue);
+        while queue.length > MOST_QUEUED && !queue.is_closed {
+            queue = wait(&self.changed, queue);
+        }
+    }
+
+    /// Writes what is queued to the socket until the outbox is closed, and then closes the socket.
+    pub fn run(&self, stream: &TcpStream) {
+        if self.write_all(stream).is_err() {
+            self.abandon();
+        }
+        // Where the initiator has closed it already, there is nothing left to close.
+        let _ = stream.shutdown(Shutdown::Both);
+    }
+
+    fn write_all(&self, mut stream: &TcpStream) -> io::Result<()> {
+        while let Some(pdu) = self.next() {
+            stream.write_all(&pdu.to_bytes())?;
+        }
+        Ok(())
+    }
+
+    /// Waits for the next PDU. `None` once the outbox is closed and empty.
+    fn next(&self) -> Option<Pdu> {
+        let mut queue = lock(&self.queue);
+        while queue.items.is_empty() && !queue.is_closed {
+            queue = wait(&self.changed, queue);
+        }
+        let item = queue.items.pop_front()?;
+        queue.length -= item.pdu.length();
+        self.changed.notify_all();
+        Some(item.pdu)
+    }
+}

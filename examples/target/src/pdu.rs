@@ -1,0 +1,180 @@
+//! PDUs: their headers, and how they come from a stream (RFC 7143 section 11.2). Without digests.
+
+use std::io::{self, ErrorKind, Read};
+
+/// The opcodes that the target names.
+pub mod opcode {
+    pub const NOP_OUT: u8 = 0x00;
+    pub const SCSI_COMMAND: u8 = 0x01;
+    pub const LOGIN: u8 = 0x03;
+    pub const TEXT: u8 = 0x04;
+    pub const DATA_OUT: u8 = 0x05;
+    pub const LOGOUT: u8 = 0x06;
+    pub const SCSI_RESPONSE: u8 = 0x21;
+    pub const LOGIN_RESPONSE: u8 = 0x23;
+    pub const TEXT_RESPONSE: u8 = 0x24;
+    pub const DATA_IN: u8 = 0x25;
+    pub const R2T: u8 = 0x31;
+    pub const REJECT: u8 = 0x3f;
+}
+
+/// The places of the numbers that stand in headers.
+pub mod place {
+    pub const TAG: usize = 16;
+    pub const EXPECTED_LENGTH: usize = 20;
+    pub const TRANSFER_TAG: usize = 20;
+    pub const CMD_SN: usize = 24;
+    pub const STAT_SN: usize = 24;
+    pub const EXP_CMD_SN: usize = 28;
+    pub const MAX_CMD_SN: usize = 32;
+    pub const DATA_SN: usize = 36;
+    pub const OFFSET: usize = 40;
+    pub const RESIDUAL: usize = 44;
+    pub const ASKED_LENGTH: usize = 44;
+}
+
+/// The F bit of byte 1.
+pub const FINAL: u8 = 0x80;
+
+/// The tag that names no task, and no transfer.
+pub const NO_TAG: u32 = 0xffff_ffff;
+
+/// The longest data segment that the target takes.
+pub const LONGEST_DATA: usize = 262_144;
+
+/// A basic header segment.
+#[derive(Clone, Copy, Debug, PartialEq, Eq)]
+pub struct Header(pub [u8; 48]);
+
+impl Header {
+    pub fn new(opcode: u8, flags: u8) -> Header {
+        let mut bytes = [0; 48];
+        bytes[0] = opcode;
+        bytes[1] = flags;
+        Header(bytes)
+    }
+
+    pub fn opcode(&self) -> u8 {
+        self.0[0] & 0x3f
+    }
+
+    pub fn is_immediate(&self) -> bool {
+        self.0[0] & 0x40 != 0
+    }
+
+    pub fn is_final(&self) -> bool {
+        self.0[1] & FINAL != 0
+    }
+
+    pub fn number(&self, at: usize) -> u32 {
+        u32::from_be_bytes([self.0[at], self.0[at + 1], self.0[at + 2], self.0[at + 3]])
+    }
+
+    pub fn set(&mut self, at: usize, number: u32) {
+        self.0[at..at + 4].copy_from_slice(&number.to_be_bytes());
+    }
+
+    pub fn half(&self, at: usize) -> u16 {
+        u16::from_be_bytes([self.0[at], self.0[at + 1]])
+    }
+
+    pub fn tag(&self) -> u32 {
+        self.number(place::TAG)
+    }
+
+    pub fn lun(&self) -> [u8; 8] {
+        let mut lun = [0; 8];
+        lun.copy_from_slice(&self.0[8..16]);
+        lun
+    }
+
+    pub fn set_lun(&mut self, lun: [u8; 8]) {
+        self.0[8..16].copy_from_slice(&lun);
+    }
+
+    pub fn set_numbers(&mut self, numbers: cundarrix::Numbers) {
+        self.set(place::EXP_CMD_SN, numbers.exp_cmd_sn);
+        self.set(place::MAX_CMD_SN, numbers.max_cmd_sn);
+    }
+
+    /// The bytes of the additional header segments, and of the data segment.
+    fn lengths(&self) -> (usize, usize) {
+        let ahs = usize::from(self.0[4]) * 4;
+        (ahs, usize::from(self.0[5]) << 16 | usize::from(self.0[6]) << 8 | usize::from(self.0[7]))
+    }
+}
+
+/// A PDU: its header, and its data segment without the bytes that pad it.
+#[derive(Clone, Debug, PartialEq, Eq)]
+pub struct Pdu {
+    pub header: Header,
+    pub data: Vec<u8>,
+}
+
+impl Pdu {
+    /// The next PDU of a stream. `None` at its end. Additional header segments are passed over.
+    pub fn read(stream: &mut impl Read) -> io::Result<Option<Pdu>> {
+        let mut header = Header([0; 48]);
+        if stream.read(&mut header.0[..1])? == 0 {
+            return Ok(None);
+        }
+        stream.read_exact(&mut header.0[1..])?;
+        let (ahs, length) = header.lengths();
+        if length > LONGEST_DATA {
+            return Err(io::Error::new(ErrorKind::InvalidData, "a data segment that is too long"));
+        }
+        stream.read_exact(&mut vec![0; ahs])?;
+        let mut data = vec![0; length.next_multiple_of(4)];
+        stream.read_exact(&mut data)?;
+        data.truncate(length);
+        Ok(Some(Pdu { header, data }))
+    }
+
+    /// What goes on the wire, with the length of the data segment in the header.
+    pub fn to_bytes(&self) -> Vec<u8> {
+        let mut bytes = Vec::with_capacity(self.length());
+        bytes.extend_from_slice(&self.header.0);
+        bytes[4..8].copy_from_slice(&(self.data.len() as u32 & 0x00ff_ffff).to_be_bytes());
+        bytes.extend_from_slice(&self.data);
+        bytes.resize(self.length(), 0);
+        bytes
+    }
+
+    /// How many bytes it takes on the wire.
+    pub fn length(&self) -> usize {
+        self.header.0.len() + self.data.len().next_multiple_of(4)
+    }
+}
+
+#[cfg(test)]
+mod tests {
+    use super::*;
+
+    #[test]
+    fn a_pdu_is_read_as_it_was_written() {
+        let mut header = Header::new(opcode::TEXT, FINAL);
+        header.set(place::TAG, 0x1234_5678);
+        header.set(4, 5);
+        let pdu = Pdu { header, data: b"a=b\0c".to_vec() };
+        let wire = pdu.to_bytes();
+        assert_eq!((wire.len(), pdu.length()), (56, 56));
+        let mut stream = &wire[..];
+        assert_eq!(Pdu::read(&mut stream).expect("a PDU"), Some(pdu));
+        assert_eq!(Pdu::read(&mut stream).expect("the end"), None);
+    }
+
+    #[test]
+    fn additional_header_segments_are_passed_over() {
+        let mut wire = [0; 56];
+        (wire[4], wire[7], wire[52]) = (1, 1, 9);
+        assert_eq!(Pdu::read(&mut &wire[..]).expect("a PDU").map(|pdu| pdu.data), Some(vec![9]));
+    }
+
+    #[test]
+    fn a_pdu_that_breaks_off_or_is_too_long_is_an_error() {
+        assert!(Pdu::read(&mut &[0; 47][..]).is_err());
+        let mut long = [0; 48];
+        long[5] = 0xff;
+        assert!(Pdu::read(&mut &long[..]).is_err());
+    }
+}

@@ -1,0 +1,79 @@
+//! The trace of the workers: a line for each command that one of them took.
+
+use crate::pdu::place;
+use crate::sync::lock;
+use crate::unit::Job;
+use std::fs::File;
+use std::io::{self, Write};
+use std::path::Path;
+use std::sync::Mutex;
+use std::time::{SystemTime, UNIX_EPOCH};
+
+/// A moment by two clocks, in nanoseconds: CLOCK_MONOTONIC, and the time since 1970, which a capture has.
+#[derive(Clone, Copy)]
+pub struct Moment {
+    monotonic: u128,
+    wall: u128,
+}
+
+#[repr(C)]
+struct Timespec {
+    seconds: i64,
+    nanoseconds: i64,
+}
+
+extern "C" {
+    fn clock_gettime(clock: i32, time: *mut Timespec) -> i32;
+}
+
+/// The number of this clock on Linux.
+const CLOCK_MONOTONIC: i32 = 1;
+
+impl Moment {
+    pub fn now() -> Moment {
+        let mut time = Timespec { seconds: 0, nanoseconds: 0 };
+        // SAFETY: the pointer is that of a struct as the C library of 64-bit Linux has it. The clock is always there.
+        unsafe { clock_gettime(CLOCK_MONOTONIC, &mut time) };
+        let monotonic = time.seconds as u128 * 1_000_000_000 + time.nanoseconds as u128;
+        let wall = SystemTime::now().duration_since(UNIX_EPOCH).map_or(0, |since| since.as_nanos());
+        Moment { monotonic, wall }
+    }
+}
+
+/// The file of the trace, if one is wanted.
+pub struct Trace(Option<Mutex<File>>);
+
+impl Trace {
+    pub fn open(path: Option<&Path>) -> io::Result<Trace> {
+        let Some(path) = path else {
+            return Ok(Trace(None));
+        };
+        let mut file = File::create(path)?;
+        writeln!(file, "# ticket tag cmdsn lun start end start-wall end-wall outcome tsih")?;
+        Ok(Trace(Some(Mutex::new(file))))
+    }
+
+    /// Writes the line of a command. A trace that can't be written any more stops no command.
+    pub fn write(&self, job: &Job, begin: Moment, end: Moment, is_completed: bool) {
+        let Some(file) = &self.0 else {
+            return;
+        };
+        let header = &job.command.header;
+        let line = format!(
+            "{} {:08x} {:08x} {} {} {} {} {} {} {:04x}\n",
+            job.command.ticket,
+            header.tag(),
+            header.number(place::CMD_SN),
+            header.0[9],
+            begin.monotonic,
+            end.monotonic,
+            begin.wall,
+            end.wall,
+            if is_completed { "completed" } else { "stopped" },
+            job.session.tsih,
+        );
+        if let Err(why) = lock(file).write_all(line.as_bytes()) {
+            eprintln!("target: the trace can't be written: {why}");
+        }
+    }
+}
