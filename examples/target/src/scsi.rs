@@ -195,7 +195,8 @@ fn carry_out(unit: &Unit, cdb: &Cdb, data: &[u8]) -> Result<Vec<u8>, Sense> {
         Cdb::ReportLuns { most } => (pages::luns(unit.count), most),
         Cdb::Read(blocks) => (unit.read(moved_range(unit, blocks)?), usize::MAX),
         Cdb::Write(blocks) => {
-            unit.write(moved_range(unit, blocks)?.start, whole_blocks(data));
+            let range = moved_range(unit, blocks)?;
+            unit.write(range.start, whole_blocks(data, range.len()));
             (Vec::new(), 0)
         }
         Cdb::Verify { blocks, compares } => (verify_blocks(unit, blocks, compares, data)?, 0),
@@ -205,14 +206,14 @@ fn carry_out(unit: &Unit, cdb: &Cdb, data: &[u8]) -> Result<Vec<u8>, Sense> {
     Ok(answer)
 }
 
-/// What came without a last part that is no whole block: an initiator may announce less than its CDB says.
-fn whole_blocks(data: &[u8]) -> &[u8] {
-    &data[..data.len() / BLOCK * BLOCK]
+/// The whole blocks that came, and no more than the CDB says: an initiator may announce less than that, or more.
+fn whole_blocks(data: &[u8], most: usize) -> &[u8] {
+    &data[..data.len().min(most) / BLOCK * BLOCK]
 }
 
 fn verify_blocks(unit: &Unit, blocks: Blocks, compares: bool, data: &[u8]) -> Result<Vec<u8>, Sense> {
     let range = if compares { moved_range(unit, blocks)? } else { range_of(unit, blocks)? };
-    let data = whole_blocks(data);
+    let data = whole_blocks(data, range.len());
     match compares && unit.read(range.start..range.start + data.len()) != data {
         true => Err(Sense::MISCOMPARE),
         false => Ok(Vec::new()),
