@@ -78,8 +78,8 @@ pub fn is_read(header: &Header) -> bool {
     header.0[1] & READ != 0
 }
 
-/// Completes the library's SCSI Response by what the library doesn't know: the residual count, and the unit's sense data
-/// in place of the library's. The status, the numbers and the tag stay as they are.
+/// Completes the library's SCSI Response by what the library doesn't know: the residual count, and the unit's sense
+/// data in place of the library's. The status, the numbers and the tag stay as they are.
 pub fn complete_response(response: &mut Pdu, command: &Header, outcome: &Outcome) {
     let expected = expected_length(command);
     let (bit, residual) = match outcome.length {

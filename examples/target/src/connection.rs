@@ -3,6 +3,7 @@
 use crate::login;
 use crate::outbox::Outbox;
 use crate::pdu::Pdu;
+use crate::session::Session;
 use crate::target::Target;
 use std::fmt;
 use std::io::{self, BufReader, Read};
@@ -66,19 +67,25 @@ pub fn serve(stream: &TcpStream, target: &Arc<Target>) -> Result<(), Fault> {
         return Ok(());
     };
     stream.set_read_timeout(None)?;
-    let connection = &member.connection;
+    let connection = member.connection.clone();
     thread::scope(|scope| {
+        // It is dropped before the scope waits for the writer, which ends with it.
+        let member = member;
         scope.spawn(|| connection.outbox.run(stream));
-        let ended = take_requests(&mut requests, &member);
-        member.session.lose(connection);
-        ended
+        take_requests(&mut requests, &member)
     })
 }
 
-/// A connection, and the session that it is part of.
+/// A connection, and the session that it is part of, until it ends.
 pub struct Member {
-    pub session: Arc<crate::session::Session>,
+    pub session: Arc<Session>,
     pub connection: Arc<Connection>,
+}
+
+impl Drop for Member {
+    fn drop(&mut self) {
+        self.session.lose(&self.connection);
+    }
 }
 
 fn take_requests(requests: &mut impl Read, member: &Member) -> Result<(), Fault> {

@@ -148,10 +148,11 @@ impl Login<'_> {
         if !session.attach(&connection, self.stat_sn.wrapping_add(1)) {
             return Err(Refused::NotIncluded);
         }
+        let member = Member { session, connection };
         let mut response = self.response(header, header.0[1] & 0x8f, answers);
-        response.header.0[TSIH..TSIH + 2].copy_from_slice(&session.tsih.to_be_bytes());
-        response.header.set_numbers(session.numbers().map_err(|_| Refused::OutOfResources)?);
-        Ok(Answer::Done(response, Member { session, connection }))
+        response.header.0[TSIH..TSIH + 2].copy_from_slice(&member.session.tsih.to_be_bytes());
+        response.header.set_numbers(member.session.numbers().map_err(|_| Refused::OutOfResources)?);
+        Ok(Answer::Done(response, member))
     }
 
     /// A new session. It takes the place of the one that the same initiator port has.

@@ -11,6 +11,9 @@ use std::sync::{Condvar, Mutex};
 /// Data waits for room once so many bytes are queued.
 const MOST_QUEUED: usize = 1 << 20;
 
+/// And so do requests, at a number that data alone doesn't reach: an abort is read while data waits.
+const MOST_REPLIES: usize = 1 << 22;
+
 /// The PDUs of a connection that wait to be sent.
 #[derive(Default)]
 pub struct Outbox {
@@ -93,7 +96,7 @@ impl Outbox {
     /// Waits until there is room, so that an initiator that reads no replies isn't read from either.
     pub fn wait_for_room(&self) {
         let mut queue = lock(&self.queue);
-        while queue.length > MOST_QUEUED && !queue.is_closed {
+        while queue.length > MOST_REPLIES && !queue.is_closed {
             queue = wait(&self.changed, queue);
         }
     }

@@ -17,8 +17,8 @@ use cundarrix::{Effect, Numbers, Options, Reply};
 use std::collections::HashMap;
 use std::sync::{Arc, Mutex, Weak};
 
-/// A session's connections are fixed when the library opens it; so it is opened with the CID of the first one and so many
-/// of 0, 1, 2 .. that there are 64, and a connection that joins has one of these.
+/// A session's connections are fixed when the library opens it; so it is opened with the CID of the first one and so
+/// many of 0, 1, 2 .. that there are 64, and a connection that joins has one of these.
 const MOST_CONNECTIONS: usize = 64;
 
 /// The most commands of a unit's task set.
@@ -236,10 +236,9 @@ impl Session {
         true
     }
 
-    /// A connection broke, or its initiator closed it. Where that wasn't after a Logout, the session ends with it, as it
-    /// does without error recovery (RFC 7143 section 7.2.1).
+    /// A connection broke, or its initiator closed it. Where that wasn't after a Logout, the session ends with it, as
+    /// it does without error recovery.
     pub fn lose(&self, connection: &Arc<Connection>) {
-        connection.outbox.abandon();
         let mut state = lock(&self.state);
         let attached = state.connections.get(&connection.cid);
         if attached.is_some_and(|attached| Arc::ptr_eq(&attached.connection, connection)) {
@@ -403,6 +402,7 @@ impl State {
             let stat_sn = reply.stat_sn.wrapping_add(attached.stat_sn_offset);
             attached.next_stat_sn = stat_sn.wrapping_add(1);
             pdu.header.set(place::STAT_SN, stat_sn);
+            pdu.data.truncate(attached.connection.longest_data);
             attached.connection.outbox.post(pdu);
         }
     }
@@ -430,9 +430,9 @@ impl State {
 }
 
 impl Session {
-    /// Puts into a reply of the library's what the library doesn't know: the residual count and the unit's sense data of a
-    /// SCSI Response, the ping's data of a NOP-In, and the Text Response in place of the Reject, as the library has no
-    /// negotiation. Its numbers, its tag, its status and its place in the order stay the library's.
+    /// Puts into a reply of the library's what the library doesn't know: the residual count and the unit's sense data
+    /// of a SCSI Response, the ping's data of a NOP-In, and the Text Response in place of the Reject, as the library has
+    /// no negotiation. Its numbers, its tag, its status and its place in the order stay the library's.
     fn complete_reply(&self, pdu: &mut Pdu, cause: &Cause) {
         if let Some((command, outcome)) = &cause.completed {
             return complete_response(pdu, &command.header, outcome);

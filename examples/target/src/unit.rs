@@ -74,7 +74,8 @@ impl Unit {
         }
     }
 
-    /// Executes a command and answers it, unless it was stopped. When the work on it ended, and whether it was answered.
+    /// Executes a command and answers it, unless it was stopped. Gives when the work on it ended, and whether it was
+    /// answered.
     fn finish(&self, job: &Job, delay: Duration) -> (Moment, bool) {
         let outcome = match job.command.is_stopped_within(delay) {
             true => None,
