@@ -52,7 +52,10 @@ fn there(file: PathBuf) -> Result<PathBuf, String> {
 
 /// The kit's folder: `rt doc` prints the path of its first page.
 fn kit() -> Result<PathBuf, String> {
-    let absent = format!("no Rattle kit was found (`rt doc` doesn't answer), and {FOLDER} has no {HEAP}");
+    let absent = format!(
+        "{HEAP} of the Rattle kit isn't found, as `rt doc` doesn't answer; put `rt` on the PATH, or set {FOLDER} to a \
+         folder with {ARCHIVE} and {HEAP}"
+    );
     let answer = Command::new("rt").arg("doc").output().map_err(|_| absent.clone())?;
     let page = PathBuf::from(String::from_utf8_lossy(&answer.stdout).trim());
     page.parent().filter(|_| page.is_file()).map(Path::to_path_buf).ok_or(absent)

@@ -81,11 +81,16 @@ pub fn is_read(header: &Header) -> bool {
 /// Completes the library's SCSI Response by what the library doesn't know: the residual count, and the unit's sense
 /// data in place of the library's. The status, the numbers and the tag stay as they are.
 pub fn complete_response(response: &mut Pdu, command: &Header, outcome: &Outcome) {
-    let expected = expected_length(command);
+    let is_moved = match outcome.data.is_empty() {
+        _ if outcome.length == 0 => true,
+        true => is_write(command),
+        false => is_read(command),
+    };
+    // Data that the CDB moves in a direction that the command's bits don't allow isn't moved at all.
+    let expected = if is_moved { expected_length(command) } else { 0 };
     let (bit, residual) = match outcome.length {
         length if length > expected => (OVERFLOW, length - expected),
-        length if length < expected => (UNDERFLOW, expected - length),
-        _ => (0, 0),
+        length => (if length < expected { UNDERFLOW } else { 0 }, expected - length),
     };
     response.header.0[1] |= bit;
     response.header.set(place::RESIDUAL, u32::try_from(residual).unwrap_or(u32::MAX));
@@ -203,6 +208,22 @@ mod tests {
         header.set(place::OFFSET, offset);
         header.set(place::DATA_SN, data_sn);
         Pdu { header, data: vec![7; length] }
+    }
+
+    #[test]
+    fn residuals_say_what_was_not_moved() {
+        let outcome = |length, data: &[u8]| Outcome { status: 0, sense: None, data: data.to_vec(), length };
+        let residual = |header: &Header, outcome: &Outcome| {
+            let mut response = Pdu { header: Header::new(opcode::SCSI_RESPONSE, FINAL), data: Vec::new() };
+            complete_response(&mut response, header, outcome);
+            (response.header.0[1] & !FINAL, response.header.number(place::RESIDUAL))
+        };
+        let write = write_of(40, FINAL);
+        assert_eq!(residual(&write, &outcome(40, &[])), (0, 0));
+        assert_eq!(residual(&write, &outcome(30, &[])), (UNDERFLOW, 10));
+        assert_eq!(residual(&write, &outcome(50, &[])), (OVERFLOW, 10));
+        assert_eq!(residual(&write, &outcome(0, &[])), (UNDERFLOW, 40));
+        assert_eq!(residual(&write, &outcome(30, &[7; 30])), (OVERFLOW, 30));
     }
 
     #[test]
