@@ -431,8 +431,8 @@ impl State {
 
 impl Session {
     /// Puts into a reply of the library's what the library doesn't know: the residual count and the unit's sense data
-    /// of a SCSI Response, the ping's data of a NOP-In, and the Text Response in place of the Reject, as the library has
-    /// no negotiation. Its numbers, its tag, its status and its place in the order stay the library's.
+    /// of a SCSI Response, the ping's data of a NOP-In, and the Text Response in place of the Reject, as the library
+    /// has no negotiation. Its numbers, its tag, its status and its place in the order stay the library's.
     fn complete_reply(&self, pdu: &mut Pdu, cause: &Cause) {
         if let Some((command, outcome)) = &cause.completed {
             return complete_response(pdu, &command.header, outcome);
