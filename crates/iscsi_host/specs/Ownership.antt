@@ -5,12 +5,13 @@ use base.Stored.{Coded}
 use denote.RawPtr.{Ptr}
 use Rattle.std.specs.Box.Ownership.{box_owns}
 use Rattle.std.specs.Coded.{coded_option}
-use Rattle.libc.specs.Heap.{chunk}
+use Rattle.std.specs.Global.{Global}
+use Rattle.std_heap.specs.contracts.GlobalAllocator.TheImpl.{ghosts}
 use Rattle.iscsi_host.specs.contracts.host.Host.{the_row}
 
-abbrev pub owned_by : Option the_row.Denot → Ptr → Fml
-owned_by (Some host) p = box_owns chunk the_row p host
-owned_by None p = ftrue
+abbrev pub owned_by : Global → Option the_row.Denot → Ptr → Fml
+owned_by alloc (Some host) p = box_owns (ghosts.dealloc_token alloc) the_row p host
+owned_by alloc None p = ftrue
 
 abbrev pub host_coded : Coded (Option the_row.Denot)
 host_coded = coded_option the_row.coded

@@ -19,7 +19,7 @@ pub(super) struct Owner {
 }
 
 impl Model for Owner {
-    ghost also_owns = { λ o. owned_by o.host o.at };
+    ghost also_owns = { λ o. owned_by o.alloc o.host o.at };
 }
 
 impl Owner {

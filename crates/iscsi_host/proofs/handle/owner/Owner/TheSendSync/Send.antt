@@ -18,7 +18,7 @@ use Rattle.iscsi_host.proofs.host.Host.TheSendSync.{the_send as host}
 use Rattle.iscsi_host.specs.contracts.handle.owner.Owner.{the_row, the_type}
 
 -- what it owns names no lifetime that only one thread has
-keyless : (alloc : Global) (owned : Option Hosted) (p : Ptr) → Keyless (owned_by owned p)
+keyless : (alloc : Global) (owned : Option Hosted) (p : Ptr) → Keyless (owned_by alloc owned p)
 keyless alloc None p = tt
 keyless alloc (Some value) p = (lies Host.the_row host p value, heap.frees.frees alloc (raw (lone Host.the_row.mir)) p)
 
