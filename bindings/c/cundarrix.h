@@ -3,15 +3,15 @@
  *
  * One cundarrix_session is one iSCSI session in its Full Feature Phase. The target hands it the 48 byte header of each
  * request PDU that arrives (cundarrix_arrive) and each command that a logical unit completes (cundarrix_complete), and
- * after each of these two it reads the effects of that event, in order, and carries them out: it starts a command only at
- * CUNDARRIX_ENABLE, stops it at CUNDARRIX_LEAVE, and sends each reply of CUNDARRIX_SEND on its connection, in order.
+ * after each of these two it reads the effects of that event, in order, and carries them out: it starts a command only
+ * at CUNDARRIX_ENABLE, stops it at CUNDARRIX_LEAVE, and sends each reply of CUNDARRIX_SEND on its connection, in order.
  *
  * Memory: cundarrix_open takes all that the session ever needs, from malloc; cundarrix_close frees it. No other call
  * allocates, and none but cundarrix_open answers CUNDARRIX_NO_MEMORY.
  *
- * Threads: a session may be handed from thread to thread, and takes one call at a time; the caller sees to it, by a lock
- * or by a thread of its own. Sessions share nothing. No call blocks. No call may be made from a signal handler, nor in the
- * forked child of a process with threads.
+ * Threads: a session may be handed from thread to thread, and takes one call at a time; the caller sees to it, by a
+ * lock or by a thread of its own. Sessions share nothing. No call blocks. No call may be made from a signal handler,
+ * nor in the forked child of a process with threads.
  *
  * What the caller owes, since nothing can test it:
  *   - a cundarrix_session begins as CUNDARRIX_CLOSED, and C never writes nor copies its fields;
@@ -75,7 +75,7 @@ typedef enum cundarrix_kind {
     CUNDARRIX_WAIT = 3,              /* an immediate task management function waits for lower CmdSNs: sn, cid, header */
     CUNDARRIX_VOID = 4,              /* a CmdSN is received without a request: sn */
     CUNDARRIX_EMPTY = 5,             /* the request that was held at this CmdSN is discarded: sn */
-    CUNDARRIX_ENTER = 6,             /* a command enters the task set of its unit: ticket, unit, attribute; sn, cid, header of it */
+    CUNDARRIX_ENTER = 6,             /* a command enters its task set: ticket, unit, attribute, sn, cid, header */
     CUNDARRIX_ENABLE = 7,            /* the unit may start the command: ticket, unit */
     CUNDARRIX_LEAVE = 8,             /* the command left its task set; a unit that works on it stops: ticket, unit */
     CUNDARRIX_SEND = 9,              /* a reply goes out: cid, sn (its StatSN), header, tail, tail_length */
@@ -160,7 +160,7 @@ static inline size_t cundarrix_effect_count(cundarrix_session *session) {
     return session ? iscsi_c_effect_count(session) : 0;
 }
 
-/* Writes the effect at an index, from 0, of the last event to `effect`, and nothing where it answers otherwise than OK. */
+/* Writes the effect at an index, from 0, of the last event to `effect`; nothing where it answers otherwise than OK. */
 static inline cundarrix_result cundarrix_effect_at(cundarrix_session *session, size_t index, cundarrix_effect *effect) {
     if (!session || !effect)
         return CUNDARRIX_NULL_POINTER;
