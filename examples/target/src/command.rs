@@ -1,15 +1,12 @@
 //! A command that is in a task set, and the data that it is sent.
 
 use crate::connection::Connection;
-use crate::pdu::{place, Header, Pdu};
+use crate::pdu::{opcode, place, Header, Pdu, NO_TAG};
 use crate::scsi::{Outcome, Sense};
 use crate::sync::lock;
+use crate::unit::Unit;
 use std::sync::{Arc, Condvar, Mutex, PoisonError};
 use std::time::Duration;
-
-/// The R and W bits of a SCSI Command.
-const READ: u8 = 0x40;
-const WRITE: u8 = 0x20;
 
 /// The residual's bits in byte 1 of a SCSI Response.
 const OVERFLOW: u8 = 0x04;
@@ -18,7 +15,7 @@ const UNDERFLOW: u8 = 0x02;
 /// A command that entered a task set.
 pub struct Command {
     pub ticket: u64,
-    pub unit: u16,
+    pub unit: Arc<Unit>,
     pub header: Header,
     /// The connection that brought it, and on which its data and its response go.
     pub connection: Arc<Connection>,
@@ -27,14 +24,8 @@ pub struct Command {
 }
 
 impl Command {
-    pub fn new(ticket: u64, unit: u16, header: Header, connection: Arc<Connection>) -> Command {
+    pub fn new(ticket: u64, unit: Arc<Unit>, header: Header, connection: Arc<Connection>) -> Command {
         Command { ticket, unit, header, connection, is_stopped: Mutex::new(false), stopped: Condvar::new() }
-    }
-
-    pub fn cdb(&self) -> [u8; 16] {
-        let mut cdb = [0; 16];
-        cdb.copy_from_slice(&self.header.0[32..]);
-        cdb
     }
 
     /// It left its task set without being completed. Where its unit changes blocks by it just now, this waits for that;
@@ -62,32 +53,33 @@ impl Command {
     }
 }
 
-/// How much data the initiator has room for, or has ready.
-pub fn expected_length(header: &Header) -> usize {
-    match header.0[1] & (READ | WRITE) {
-        0 => 0,
-        _ => header.number(place::EXPECTED_LENGTH) as usize,
+/// How much data the initiator has room for.
+pub fn read_length(header: &Header) -> usize {
+    if header.is_read() {
+        header.number(place::EXPECTED_LENGTH) as usize
+    } else {
+        0
     }
 }
 
-pub fn is_write(header: &Header) -> bool {
-    header.0[1] & WRITE != 0
-}
-
-pub fn is_read(header: &Header) -> bool {
-    header.0[1] & READ != 0
+/// How much data the initiator has ready.
+pub fn written_length(header: &Header) -> usize {
+    if header.is_write() {
+        header.number(place::EXPECTED_LENGTH) as usize
+    } else {
+        0
+    }
 }
 
 /// Completes the library's SCSI Response by what the library doesn't know: the residual count, and the unit's sense
 /// data in place of the library's. The status, the numbers and the tag stay as they are.
 pub fn complete_response(response: &mut Pdu, command: &Header, outcome: &Outcome) {
-    let is_moved = match outcome.data.is_empty() {
-        _ if outcome.length == 0 => true,
-        true => is_write(command),
-        false => is_read(command),
-    };
     // Data that the CDB moves in a direction that the command's bits don't allow isn't moved at all.
-    let expected = if is_moved { expected_length(command) } else { 0 };
+    let expected = match outcome.data.is_empty() {
+        _ if outcome.length == 0 => read_length(command).max(written_length(command)),
+        true => written_length(command),
+        false => read_length(command),
+    };
     let (bit, residual) = match outcome.length {
         length if length > expected => (OVERFLOW, length - expected),
         length => (if length < expected { UNDERFLOW } else { 0 }, expected - length),
@@ -126,18 +118,13 @@ pub enum Next {
 }
 
 impl Transfer {
-    /// Of a request with this data segment. `unsolicited` is how far the initiator may go without being asked.
-    pub fn new(header: &Header, data: Vec<u8>, unsolicited: Option<usize>, no_tag: u32) -> Transfer {
-        let expected = if is_write(header) { expected_length(header) } else { 0 };
-        let burst_end = unsolicited.unwrap_or(0).min(expected);
-        let is_wrong = data.len() > expected;
-        let burst = (unsolicited.is_some() && !header.is_final()).then_some(no_tag);
+    /// Of a request with this data segment. `unsolicited` is how far the initiator of a WRITE may go without being
+    /// asked; any other request comes whole.
+    pub fn new(header: &Header, data: Vec<u8>, unsolicited: Option<usize>) -> Transfer {
+        let burst_end = unsolicited.unwrap_or(0).min(written_length(header));
+        let is_wrong = header.opcode() == opcode::SCSI_COMMAND && data.len() > written_length(header);
+        let burst = (unsolicited.is_some() && !header.is_final()).then_some(NO_TAG);
         Transfer { buffer: data, burst_end, burst, is_wrong, ..Transfer::default() }
-    }
-
-    /// A text or a ping, which come whole.
-    pub fn whole(data: Vec<u8>) -> Transfer {
-        Transfer { buffer: data, ..Transfer::default() }
     }
 
     /// What came so far.
@@ -187,73 +174,6 @@ impl Transfer {
         match self.is_wrong {
             true => Err(Sense::WRONG_DATA),
             false => Ok(self.buffer),
-        }
-    }
-}
-
-#[cfg(test)]
-mod tests {
-    use super::*;
-    use crate::pdu::{opcode, FINAL, NO_TAG};
-
-    fn write_of(length: u32, flags: u8) -> Header {
-        let mut header = Header::new(opcode::SCSI_COMMAND, WRITE | flags);
-        header.set(place::EXPECTED_LENGTH, length);
-        header
-    }
-
-    fn data_out(tag: u32, offset: u32, data_sn: u32, flags: u8, length: usize) -> Pdu {
-        let mut header = Header::new(opcode::DATA_OUT, flags);
-        header.set(place::TRANSFER_TAG, tag);
-        header.set(place::OFFSET, offset);
-        header.set(place::DATA_SN, data_sn);
-        Pdu { header, data: vec![7; length] }
-    }
-
-    #[test]
-    fn residuals_say_what_was_not_moved() {
-        let outcome = |length, data: &[u8]| Outcome { status: 0, sense: None, data: data.to_vec(), length };
-        let residual = |header: &Header, outcome: &Outcome| {
-            let mut response = Pdu { header: Header::new(opcode::SCSI_RESPONSE, FINAL), data: Vec::new() };
-            complete_response(&mut response, header, outcome);
-            (response.header.0[1] & !FINAL, response.header.number(place::RESIDUAL))
-        };
-        let write = write_of(40, FINAL);
-        assert_eq!(residual(&write, &outcome(40, &[])), (0, 0));
-        assert_eq!(residual(&write, &outcome(30, &[])), (UNDERFLOW, 10));
-        assert_eq!(residual(&write, &outcome(50, &[])), (OVERFLOW, 10));
-        assert_eq!(residual(&write, &outcome(0, &[])), (UNDERFLOW, 40));
-        assert_eq!(residual(&write, &outcome(30, &[7; 30])), (OVERFLOW, 30));
-    }
-
-    #[test]
-    fn data_comes_unsolicited_and_then_as_it_is_asked_for() {
-        let mut transfer = Transfer::new(&write_of(40, 0), vec![7; 8], Some(16), NO_TAG);
-        assert_eq!(transfer.next(40, 16), Next::Data);
-        transfer.take(&data_out(NO_TAG, 8, 0, FINAL, 8));
-        assert_eq!(transfer.next(40, 16), Next::Ask { offset: 16, length: 16, r2t_sn: 0 });
-        transfer.ask(5, 16);
-        transfer.take(&data_out(5, 16, 0, 0, 8));
-        transfer.take(&data_out(5, 24, 1, FINAL, 8));
-        assert_eq!(transfer.next(40, 16), Next::Ask { offset: 32, length: 8, r2t_sn: 1 });
-        assert_eq!(transfer.next(32, 16), Next::Done);
-        assert_eq!(transfer.data().map(|data| data.len()).ok(), Some(32));
-    }
-
-    #[test]
-    fn data_that_is_not_the_next_spoils_the_transfer() {
-        for wrong in [
-            data_out(5, 4, 0, FINAL, 16),
-            data_out(5, 0, 1, FINAL, 16),
-            data_out(6, 0, 0, FINAL, 16),
-            data_out(5, 0, 0, FINAL, 20),
-            data_out(5, 0, 0, FINAL, 12),
-        ] {
-            let mut transfer = Transfer::new(&write_of(16, FINAL), Vec::new(), None, NO_TAG);
-            transfer.ask(5, 16);
-            transfer.take(&wrong);
-            assert_eq!(transfer.next(16, 16), Next::Done);
-            assert!(transfer.data().is_err());
         }
     }
 }

@@ -5,8 +5,8 @@ use crate::outbox::Outbox;
 use crate::pdu::Pdu;
 use crate::session::Session;
 use crate::target::Target;
-use std::fmt;
-use std::io::{self, BufReader, Read};
+use std::error::Error;
+use std::io::{BufReader, Read};
 use std::net::TcpStream;
 use std::sync::Arc;
 use std::thread;
@@ -23,39 +23,8 @@ pub struct Connection {
     pub longest_data: usize,
 }
 
-/// Why a connection is closed by the target.
-#[derive(Debug)]
-pub enum Fault {
-    Socket(io::Error),
-    /// The initiator did what it must not do.
-    Protocol(&'static str),
-    /// The library refused an event.
-    Refused(cundarrix::Refusal),
-}
-
-impl fmt::Display for Fault {
-    fn fmt(&self, f: &mut fmt::Formatter<'_>) -> fmt::Result {
-        match self {
-            Fault::Socket(why) => why.fmt(f),
-            Fault::Protocol(why) => f.write_str(why),
-            Fault::Refused(why) => why.fmt(f),
-        }
-    }
-}
-
-impl std::error::Error for Fault {}
-
-impl From<io::Error> for Fault {
-    fn from(why: io::Error) -> Fault {
-        Fault::Socket(why)
-    }
-}
-
-impl From<cundarrix::Refusal> for Fault {
-    fn from(why: cundarrix::Refusal) -> Fault {
-        Fault::Refused(why)
-    }
-}
+/// Why a connection is closed by the target: its socket, the library's refusal, or what the initiator must not do.
+pub type Fault = Box<dyn Error + Send + Sync>;
 
 /// Serves a connection to its end.
 pub fn serve(stream: &TcpStream, target: &Arc<Target>) -> Result<(), Fault> {
@@ -90,7 +59,7 @@ impl Drop for Member {
 
 fn take_requests(requests: &mut impl Read, member: &Member) -> Result<(), Fault> {
     while let Some(request) = Pdu::read(requests)? {
-        member.session.take(&member.connection, request)?;
+        member.session.take(member.connection.cid, request)?;
         member.connection.outbox.wait_for_room();
     }
     Ok(())

@@ -4,7 +4,7 @@ use crate::command::Command;
 use crate::pdu::Pdu;
 use crate::sync::{lock, wait};
 use std::collections::VecDeque;
-use std::io::{self, Write};
+use std::io::Write;
 use std::net::{Shutdown, TcpStream};
 use std::sync::{Condvar, Mutex};
 
@@ -36,14 +36,9 @@ struct Item {
 }
 
 impl Outbox {
-    /// Queues a reply. It never waits.
-    pub fn post(&self, pdu: Pdu) {
-        self.add(&mut lock(&self.queue), Item { pdu, ticket: None });
-    }
-
-    /// Queues an R2T of a command. It never waits.
-    pub fn post_for(&self, command: &Command, pdu: Pdu) {
-        self.add(&mut lock(&self.queue), Item { pdu, ticket: Some(command.ticket) });
+    /// Queues a reply, or an R2T of the command with this ticket. It never waits.
+    pub fn post(&self, pdu: Pdu, ticket: Option<u64>) {
+        self.add(&mut lock(&self.queue), Item { pdu, ticket });
     }
 
     /// Queues data of a command, once there is room. `false`, and nothing is queued, where the command was stopped or
@@ -80,16 +75,13 @@ impl Outbox {
         self.changed.notify_all();
     }
 
-    /// Sends what is queued, and then closes the connection.
-    pub fn finish(&self) {
-        lock(&self.queue).is_closed = true;
-        self.changed.notify_all();
-    }
-
-    /// Closes the connection without what is queued.
-    pub fn abandon(&self) {
+    /// Adds no more, and closes the connection once what is queued is sent; or at once, without it.
+    pub fn close(&self, is_at_once: bool) {
         let mut queue = lock(&self.queue);
-        *queue = Queue { is_closed: true, ..Queue::default() };
+        queue.is_closed = true;
+        if is_at_once {
+            queue.items.clear();
+        }
         self.changed.notify_all();
     }
 
@@ -102,19 +94,14 @@ impl Outbox {
     }
 
     /// Writes what is queued to the socket until the outbox is closed, and then closes the socket.
-    pub fn run(&self, stream: &TcpStream) {
-        if self.write_all(stream).is_err() {
-            self.abandon();
+    pub fn run(&self, mut stream: &TcpStream) {
+        while let Some(pdu) = self.next() {
+            if stream.write_all(&pdu.to_bytes()).is_err() {
+                self.close(true);
+            }
         }
         // Where the initiator has closed it already, there is nothing left to close.
         let _ = stream.shutdown(Shutdown::Both);
-    }
-
-    fn write_all(&self, mut stream: &TcpStream) -> io::Result<()> {
-        while let Some(pdu) = self.next() {
-            stream.write_all(&pdu.to_bytes())?;
-        }
-        Ok(())
     }
 
     /// Waits for the next PDU. `None` once the outbox is closed and empty.

@@ -20,13 +20,18 @@ pub mod opcode {
 
 /// The places of the numbers that stand in headers.
 pub mod place {
+    pub const LUN: usize = 8;
+    pub const TSIH: usize = 14;
     pub const TAG: usize = 16;
+    pub const CID: usize = 20;
     pub const EXPECTED_LENGTH: usize = 20;
     pub const TRANSFER_TAG: usize = 20;
     pub const CMD_SN: usize = 24;
     pub const STAT_SN: usize = 24;
     pub const EXP_CMD_SN: usize = 28;
     pub const MAX_CMD_SN: usize = 32;
+    pub const CDB: usize = 32;
+    pub const STATUS: usize = 36;
     pub const DATA_SN: usize = 36;
     pub const OFFSET: usize = 40;
     pub const RESIDUAL: usize = 44;
@@ -67,29 +72,47 @@ impl Header {
     }
 
     pub fn number(&self, at: usize) -> u32 {
-        u32::from_be_bytes([self.0[at], self.0[at + 1], self.0[at + 2], self.0[at + 3]])
+        u32::from_be_bytes(self.part(at))
     }
 
     pub fn set(&mut self, at: usize, number: u32) {
         self.0[at..at + 4].copy_from_slice(&number.to_be_bytes());
     }
 
-    pub fn half(&self, at: usize) -> u16 {
-        u16::from_be_bytes([self.0[at], self.0[at + 1]])
+    /// So many bytes from a place on.
+    pub fn part<const N: usize>(&self, at: usize) -> [u8; N] {
+        std::array::from_fn(|index| self.0[at + index])
     }
 
     pub fn tag(&self) -> u32 {
         self.number(place::TAG)
     }
 
-    pub fn lun(&self) -> [u8; 8] {
-        let mut lun = [0; 8];
-        lun.copy_from_slice(&self.0[8..16]);
-        lun
+    /// The R bit of a SCSI Command.
+    pub fn is_read(&self) -> bool {
+        self.opcode() == opcode::SCSI_COMMAND && self.0[1] & 0x40 != 0
     }
 
-    pub fn set_lun(&mut self, lun: [u8; 8]) {
-        self.0[8..16].copy_from_slice(&lun);
+    /// The W bit of a SCSI Command.
+    pub fn is_write(&self) -> bool {
+        self.opcode() == opcode::SCSI_COMMAND && self.0[1] & 0x20 != 0
+    }
+
+    pub fn cdb(&self) -> [u8; 16] {
+        self.part(place::CDB)
+    }
+
+    /// The ISID, the TSIH and the CID of a Login request.
+    pub fn isid(&self) -> [u8; 6] {
+        self.part(place::LUN)
+    }
+
+    pub fn tsih(&self) -> u16 {
+        u16::from_be_bytes(self.part(place::TSIH))
+    }
+
+    pub fn cid(&self) -> u16 {
+        u16::from_be_bytes(self.part(place::CID))
     }
 
     pub fn set_numbers(&mut self, numbers: cundarrix::Numbers) {
@@ -143,38 +166,5 @@ impl Pdu {
     /// How many bytes it takes on the wire.
     pub fn length(&self) -> usize {
         self.header.0.len() + self.data.len().next_multiple_of(4)
-    }
-}
-
-#[cfg(test)]
-mod tests {
-    use super::*;
-
-    #[test]
-    fn a_pdu_is_read_as_it_was_written() {
-        let mut header = Header::new(opcode::TEXT, FINAL);
-        header.set(place::TAG, 0x1234_5678);
-        header.set(4, 5);
-        let pdu = Pdu { header, data: b"a=b\0c".to_vec() };
-        let wire = pdu.to_bytes();
-        assert_eq!((wire.len(), pdu.length()), (56, 56));
-        let mut stream = &wire[..];
-        assert_eq!(Pdu::read(&mut stream).expect("a PDU"), Some(pdu));
-        assert_eq!(Pdu::read(&mut stream).expect("the end"), None);
-    }
-
-    #[test]
-    fn additional_header_segments_are_passed_over() {
-        let mut wire = [0; 56];
-        (wire[4], wire[7], wire[52]) = (1, 1, 9);
-        assert_eq!(Pdu::read(&mut &wire[..]).expect("a PDU").map(|pdu| pdu.data), Some(vec![9]));
-    }
-
-    #[test]
-    fn a_pdu_that_breaks_off_or_is_too_long_is_an_error() {
-        assert!(Pdu::read(&mut &[0; 47][..]).is_err());
-        let mut long = [0; 48];
-        long[5] = 0xff;
-        assert!(Pdu::read(&mut &long[..]).is_err());
     }
 }

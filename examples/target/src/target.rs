@@ -1,5 +1,6 @@
 //! What all sessions share: the target's name, its units, and which sessions there are.
 
+use crate::connection::Fault;
 use crate::session::Session;
 use crate::sync::lock;
 use crate::unit::Unit;
@@ -32,20 +33,18 @@ impl Target {
     /// The session of an initiator's port, which is its name and the ISID.
     pub fn session_of(&self, initiator: &str, isid: [u8; 6]) -> Option<Arc<Session>> {
         let sessions = lock(&self.sessions);
-        sessions.by_tsih.values().find(|one| one.initiator == initiator && one.isid == isid).cloned()
+        sessions.by_tsih.values().find(|one| one.keys.initiator == initiator && one.isid == isid).cloned()
     }
 
     /// Adds the session that is made for a new TSIH. `None` where all are taken, or none was made.
-    pub fn add<E>(&self, make: impl FnOnce(u16) -> Result<Session, E>) -> Option<Result<Arc<Session>, E>> {
+    pub fn add(&self, make: impl FnOnce(u16) -> Result<Session, Fault>) -> Option<Arc<Session>> {
         let mut sessions = lock(&self.sessions);
-        let next = (1..=u16::MAX).map(|step| sessions.last.wrapping_add(step));
-        let tsih = next.into_iter().find(|tsih| *tsih != 0 && !sessions.by_tsih.contains_key(tsih))?;
+        let mut next = (1..=u16::MAX).map(|step| sessions.last.wrapping_add(step));
+        let tsih = next.find(|tsih| *tsih != 0 && !sessions.by_tsih.contains_key(tsih))?;
         sessions.last = tsih;
-        Some(make(tsih).map(|session| {
-            let session = Arc::new(session);
-            sessions.by_tsih.insert(tsih, session.clone());
-            session
-        }))
+        let session = Arc::new(make(tsih).ok()?);
+        sessions.by_tsih.insert(tsih, session.clone());
+        Some(session)
     }
 
     pub fn remove(&self, tsih: u16) {

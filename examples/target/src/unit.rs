@@ -88,8 +88,8 @@ impl Unit {
 
     fn execute(&self, job: &Job) -> Outcome {
         match &job.data {
-            Ok(data) => scsi::execute(self, &job.command.cdb(), data),
-            Err(sense) => Outcome::from(*sense),
+            Ok(data) => scsi::execute(self, &job.command.header.cdb(), data),
+            Err(sense) => Outcome::failed(Some(*sense)),
         }
     }
 }

@@ -1,0 +1,31 @@
+//! PDUs, as they come from a stream.
+
+use target::pdu::{opcode, place, Header, Pdu, FINAL};
+
+#[test]
+fn a_pdu_is_read_as_it_was_written() {
+    let mut header = Header::new(opcode::TEXT, FINAL);
+    header.set(place::TAG, 0x1234_5678);
+    header.set(4, 5);
+    let pdu = Pdu { header, data: b"a=b\0c".to_vec() };
+    let wire = pdu.to_bytes();
+    assert_eq!((wire.len(), pdu.length()), (56, 56));
+    let mut stream = &wire[..];
+    assert_eq!(Pdu::read(&mut stream).expect("a PDU"), Some(pdu));
+    assert_eq!(Pdu::read(&mut stream).expect("the end"), None);
+}
+
+#[test]
+fn additional_header_segments_are_passed_over() {
+    let mut wire = [0; 56];
+    (wire[4], wire[7], wire[52]) = (1, 1, 9);
+    assert_eq!(Pdu::read(&mut &wire[..]).expect("a PDU").map(|pdu| pdu.data), Some(vec![9]));
+}
+
+#[test]
+fn a_pdu_that_breaks_off_or_is_too_long_is_an_error() {
+    assert!(Pdu::read(&mut &[0; 47][..]).is_err());
+    let mut long = [0; 48];
+    long[5] = 0xff;
+    assert!(Pdu::read(&mut &long[..]).is_err());
+}
