@@ -5,16 +5,6 @@ use std::time::Duration;
 
 pub const HELP: &str = "\
 target [--listen ADDRESS:PORT] [--size MIB] [--workers N] [--delay MS] [--window N] [--name IQN] [--trace FILE]
-
-An iSCSI target with two units in RAM. There is no authentication, and nothing outlasts the program.
-
-  --listen  where it listens (127.0.0.1:3260)
-  --size    the MiB of each unit, 1 to 4096 (64)
-  --workers the threads of each unit, 1 to 64 (2)
-  --delay   the milliseconds that each command takes longer, up to 3600000 (0)
-  --window  the commands that a session may have outstanding, 1 to 256 (32)
-  --name    the target's name (iqn.2026-01.example.cundarrix:ram)
-  --trace   a file to which the workers write a line for each command
 ";
 
 #[derive(Debug, PartialEq, Eq)]

@@ -20,6 +20,8 @@ pub mod opcode {
 
 /// The places of the numbers that stand in headers.
 pub mod place {
+    /// That of additional header segments, by words, and that of the data segment.
+    pub const LENGTHS: usize = 4;
     pub const LUN: usize = 8;
     pub const TSIH: usize = 14;
     pub const TAG: usize = 16;
@@ -119,12 +121,6 @@ impl Header {
         self.set(place::EXP_CMD_SN, numbers.exp_cmd_sn);
         self.set(place::MAX_CMD_SN, numbers.max_cmd_sn);
     }
-
-    /// The bytes of the additional header segments, and of the data segment.
-    fn lengths(&self) -> (usize, usize) {
-        let ahs = usize::from(self.0[4]) * 4;
-        (ahs, usize::from(self.0[5]) << 16 | usize::from(self.0[6]) << 8 | usize::from(self.0[7]))
-    }
 }
 
 /// A PDU: its header, and its data segment without the bytes that pad it.
@@ -142,11 +138,11 @@ impl Pdu {
             return Ok(None);
         }
         stream.read_exact(&mut header.0[1..])?;
-        let (ahs, length) = header.lengths();
+        let length = (header.number(place::LENGTHS) & 0x00ff_ffff) as usize;
         if length > LONGEST_DATA {
             return Err(io::Error::new(ErrorKind::InvalidData, "a data segment that is too long"));
         }
-        stream.read_exact(&mut vec![0; ahs])?;
+        stream.read_exact(&mut vec![0; usize::from(header.0[place::LENGTHS]) * 4])?;
         let mut data = vec![0; length.next_multiple_of(4)];
         stream.read_exact(&mut data)?;
         data.truncate(length);

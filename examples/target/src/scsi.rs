@@ -135,8 +135,10 @@ fn inquiry(unit: &Unit, cdb: &[u8; 16]) -> Result<Vec<u8>, Sense> {
             data.resize(96, 0);
             return Ok(data);
         }
-        (1, 0x00) => vec![0x00, 0x80, 0x83],
+        (1, 0x00) => vec![0x00, 0x80, 0x83, 0xb0],
         (1, 0x80) => serial_number,
+        // Block Limits.
+        (1, 0xb0) => [&[0; 4], &(MOST_BLOCKS as u32).to_be_bytes()[..], &[0; 52]].concat(),
         // The names of the unit: one by its vendor, in ASCII, and one of NAA's locally assigned form.
         (1, 0x83) => {
             let naa = 0x3000_0000_c0da_0000 + u64::from(unit.number);

@@ -235,7 +235,7 @@ impl State {
                 Effect::Wait { .. } | Effect::Void { .. } | Effect::Ignore { .. } => {}
                 Effect::Empty { cmd_sn } => drop(self.held.remove(&(false, cmd_sn))),
                 Effect::Enter { ticket, unit, .. } => self.enter(session, ticket, unit, current.take()),
-                Effect::Enable { ticket, .. } => self.enable(session, ticket),
+                Effect::Enable { ticket, .. } => self.advance(session, ticket, true),
                 Effect::Leave { ticket, .. } => self.leave(ticket, completed.as_ref()),
                 Effect::Send(reply) => self.send(session, reply, completed.as_ref(), current.as_ref()),
                 Effect::CloseConnection { cid } => {
@@ -264,18 +264,15 @@ impl State {
         }
     }
 
-    fn enable(&mut self, session: &Arc<Session>, ticket: u64) {
-        if let Some(live) = self.live.get_mut(&ticket) {
-            live.is_enabled = true;
-            self.advance(session, ticket);
-        }
-    }
-
     /// Asks for the data that an enabled command needs next, or gives the command to its unit once all is there.
-    fn advance(&mut self, session: &Arc<Session>, ticket: u64) {
-        let Some(live) = self.live.get_mut(&ticket).filter(|live| live.is_enabled) else {
+    fn advance(&mut self, session: &Arc<Session>, ticket: u64, is_enabled_now: bool) {
+        let Some(live) = self.live.get_mut(&ticket) else {
             return;
         };
+        live.is_enabled |= is_enabled_now;
+        if !live.is_enabled {
+            return;
+        }
         match live.transfer.next(live.wanted, session.keys.max_burst as usize) {
             Next::Data => {}
             Next::Ask { offset, length, r2t_sn } => self.ask(ticket, offset, length, r2t_sn),
@@ -326,7 +323,7 @@ impl State {
             let ticket = live.command.ticket;
             if pdu.header.is_final() {
                 self.transfers.remove(&transfer_tag);
-                self.advance(session, ticket);
+                self.advance(session, ticket, false);
             }
         } else if let Some(held) = self.held.values_mut().find(|held| held.header.tag() == tag && held.cid == cid) {
             held.transfer.take(pdu);

@@ -12,31 +12,23 @@ use std::time::{SystemTime, UNIX_EPOCH};
 /// A moment by two clocks, in nanoseconds: CLOCK_MONOTONIC, and the time since 1970, which a capture has.
 #[derive(Clone, Copy)]
 pub struct Moment {
-    monotonic: u128,
+    monotonic: i64,
     wall: u128,
 }
 
-#[repr(C)]
-struct Timespec {
-    seconds: i64,
-    nanoseconds: i64,
-}
-
 extern "C" {
-    fn clock_gettime(clock: i32, time: *mut Timespec) -> i32;
+    /// Seconds and nanoseconds, as 64-bit Linux has them.
+    fn clock_gettime(clock: i32, time: *mut [i64; 2]) -> i32;
 }
-
-/// The number of this clock on Linux.
-const CLOCK_MONOTONIC: i32 = 1;
 
 impl Moment {
     pub fn now() -> Moment {
-        let mut time = Timespec { seconds: 0, nanoseconds: 0 };
-        // SAFETY: the pointer is that of a struct as the C library of 64-bit Linux has it. The clock is always there.
+        const CLOCK_MONOTONIC: i32 = 1;
+        let mut time = [0; 2];
+        // SAFETY: the pointer is that of as many bytes as the C library writes. The clock is always there.
         unsafe { clock_gettime(CLOCK_MONOTONIC, &mut time) };
-        let monotonic = time.seconds as u128 * 1_000_000_000 + time.nanoseconds as u128;
         let wall = SystemTime::now().duration_since(UNIX_EPOCH).map_or(0, |since| since.as_nanos());
-        Moment { monotonic, wall }
+        Moment { monotonic: time[0] * 1_000_000_000 + time[1], wall }
     }
 }
 
