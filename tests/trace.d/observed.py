@@ -1,0 +1,71 @@
+"""What a capture and a target's trace have: requests and replies with their moments, and the commands that workers took."""
+
+import os
+import re
+import subprocess
+import sys
+from dataclasses import dataclass
+
+TOP = os.path.abspath(os.path.join(os.path.dirname(os.path.realpath(__file__)), "..", ".."))
+sys.path.insert(0, os.path.join(TOP, "tools"))
+from lib.sessions import find  # noqa: E402
+from lib.tshark import BadCapture, segments  # noqa: E402
+
+LINE = re.compile(r"(\d+) ([0-9a-f]{8}) ([0-9a-f]{8}) (\d+) (\d+) (\d+) (\d+) (\d+) (completed|stopped) ([0-9a-f]{4})")
+NANOSECONDS = 10**9
+
+
+class BadTrace(Exception):
+    """A trace that can't be read, in one line."""
+
+
+@dataclass(frozen=True)
+class Work:
+    """A line of the trace: a command that a worker took. `began` and `ended` are of the clock that never goes back,
+    `began_at` of the one that the capture has, all in nanoseconds."""
+    line: int
+    ticket: int
+    tag: int
+    cmd_sn: int
+    unit: int
+    began: int
+    ended: int
+    began_at: int
+    is_completed: bool
+    tsih: int
+
+
+def read_trace(text):
+    """The lines of a trace."""
+    works = []
+    for place, line in enumerate(text.splitlines(), 1):
+        if line.startswith("#"):
+            continue
+        found = LINE.fullmatch(line)
+        if not found:
+            raise BadTrace(f"line {place} of the trace: not a line of a trace")
+        ticket, tag, cmd_sn, unit, began, ended, began_at, _, outcome, tsih = found.groups()
+        works.append(Work(place, int(ticket), int(tag, 16), int(cmd_sn, 16), int(unit), int(began), int(ended),
+                          int(began_at), outcome == "completed", int(tsih, 16)))
+    return works
+
+
+def first_moment(path):
+    """The moment of a capture's first frame, in nanoseconds since 1970."""
+    done = subprocess.run(["tshark", "-n", "-r", path, "-c", "1", "-T", "fields", "-e", "frame.time_epoch"],
+                          capture_output=True, text=True)
+    found = re.match(r"(\d+)\.(\d{9})", done.stdout)
+    if not found:
+        raise BadCapture(f"{path}: its first frame has no time")
+    return int(found[1]) * NANOSECONDS + int(found[2])
+
+
+def read_capture(path, port):
+    """The sessions of a capture, and the moment from which their items count. `BadCapture` where it isn't whole."""
+    sessions, unread = find(segments(path, port))
+    for session in sessions:
+        if session.notes:
+            raise BadCapture(f"{path}: {session.notes[0]}")
+    if unread:
+        raise BadCapture(f"{path}: {'; '.join(unread)}")
+    return sessions, first_moment(path) if sessions else 0

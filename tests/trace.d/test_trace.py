@@ -1,0 +1,303 @@
+"""Tests of tests/trace: a small run of two connections that has no fault, and tampered ones, each of which is found."""
+
+import os
+import re
+import shutil
+import subprocess
+import sys
+import tempfile
+import unittest
+
+HERE = os.path.dirname(os.path.realpath(__file__))
+TOP = os.path.abspath(os.path.join(HERE, "..", ".."))
+sys.path[:0] = [HERE, os.path.join(TOP, "tools")]
+from lib.pcap import ACK, PUSH, Side, file_header, frame, handshake, record  # noqa: E402
+from lib.pdu import lun_of  # noqa: E402
+from lib.sessions import find  # noqa: E402
+from lib.tshark import Segment  # noqa: E402
+from checks import judge  # noqa: E402
+from observed import read_trace  # noqa: E402
+
+PROGRAM = os.path.join(TOP, "tests", "trace")
+PORT, FIRST, TSIH, BEGIN = 3260, 0xfffffffe, 7, 1_700_000_000
+COMPLETE, NO_TASK = 0, 1
+ABORT_TASK, ABORT_TASK_SET, LOGICAL_UNIT_RESET = 1, 2, 5
+SIMPLE, ORDERED, HEAD = 1, 2, 3
+
+
+def header(opcode, flags, tag, **places):
+    """A header: fields stand by their place, `at_8=bytes`."""
+    content = bytearray(48)
+    content[0:2], content[16:20] = bytes((opcode, flags)), tag.to_bytes(4, "big")
+    for place, value in places.items():
+        begin = int(place.removeprefix("at_"))
+        content[begin:begin + len(value)] = value
+    return bytes(content)
+
+
+def four(number):
+    return (number % 2**32).to_bytes(4, "big")
+
+
+class Run:
+    """A capture and a trace, put together event by event. Each event takes a millisecond."""
+
+    def __init__(self):
+        self.frames, self.segments, self.milliseconds, self.lines, self.sides = [], [], 0, ["# a trace"], {}
+        for cid in (1, 2):
+            self.sides[cid] = (Side(b"\2" * 6, b"\x7f\0\0\1", 40000 + cid), Side(b"\3" * 6, b"\x7f\0\0\1", PORT))
+            for content in handshake(*self.sides[cid]):
+                self.add(content)
+            self.log_in(cid)
+
+    def add(self, content):
+        self.milliseconds += 1
+        self.frames.append((BEGIN * 1_000_000 + self.milliseconds * 1000, content))
+
+    def put(self, cid, content, from_initiator):
+        opener, listener = self.sides[cid]
+        ways = (opener, listener) if from_initiator else (listener, opener)
+        sequence = ways[0].sequence
+        self.add(frame(*ways, PUSH | ACK, content))
+        self.segments.append(Segment(len(self.frames), self.milliseconds / 1000, cid, from_initiator, sequence, False,
+                                     content))
+
+    def log_in(self, cid):
+        tsih = (0 if cid == 1 else TSIH).to_bytes(2, "big")
+        isid = b"\x80\0\0\0\0\1"
+        self.put(cid, header(0x43, 0x87, 1, at_8=isid + tsih, at_20=cid.to_bytes(2, "big"), at_24=four(FIRST)), True)
+        self.put(cid, header(0x23, 0x87, 1, at_8=isid + TSIH.to_bytes(2, "big"), at_28=four(FIRST),
+                             at_32=four(FIRST + 31)), False)
+
+    def command(self, cid, number, tag, attribute=SIMPLE, unit=0, opcode=0x01):
+        self.put(cid, header(opcode, 0xc0 | attribute, tag, at_8=lun_of(unit), at_24=four(FIRST + number),
+                             at_32=b"\x28"), True)
+
+    def function(self, cid, number, tag, function, unit=0, ref=0xffffffff, refsn=0):
+        self.put(cid, header(0x42, 0x80 | function, tag, at_8=lun_of(unit), at_20=four(ref),
+                             at_24=four(FIRST + number), at_32=four(FIRST + refsn)), True)
+
+    def reply(self, cid, opcode, tag, response=0, flags=0x80, exp=1, greatest=32):
+        self.put(cid, header(opcode, flags, tag, at_2=bytes((response,)), at_28=four(FIRST + exp),
+                             at_32=four(FIRST + greatest)), False)
+
+    def answer(self, cid, tag, **numbers):
+        self.reply(cid, 0x21, tag, **numbers)
+
+    def data(self, cid, tag, **numbers):
+        self.reply(cid, 0x25, tag, flags=0, **numbers)
+
+    def complete(self, cid, tag, response=COMPLETE, **numbers):
+        self.reply(cid, 0x22, tag, response=response, **numbers)
+
+    def work(self, ticket, tag, number, unit=0, outcome="completed", took=1, before=0):
+        """A worker takes a command now, or so many milliseconds before."""
+        began = (self.milliseconds - before) * 1_000_000
+        at = BEGIN * 10**9 + began
+        self.lines.append(f"{ticket} {tag:08x} {(FIRST + number) % 2**32:08x} {unit} {began} {began + took * 10**6} "
+                          f"{at} {at + took * 10**6} {outcome} {TSIH:04x}")
+        self.milliseconds += took
+
+    @property
+    def capture(self):
+        return file_header() + b"".join(record(*one) for one in self.frames)
+
+    @property
+    def trace(self):
+        return "".join(f"{line}\n" for line in self.lines)
+
+    def faults(self, has_fence=False):
+        """What the checks find of it, without tshark."""
+        return judge(find(self.segments)[0], BEGIN * 10**9, read_trace(self.trace), has_fence)[1]
+
+
+def good_run():
+    """Held and missing commands, an abort of a live command, one of a missing command, and a reset."""
+    run = Run()
+    run.command(2, 1, 0x11)
+    run.command(1, 0, 0x10)
+    run.work(1, 0x10, 0)
+    run.work(2, 0x11, 1)
+    run.data(1, 0x10)
+    run.answer(1, 0x10)
+    run.answer(2, 0x11)
+    run.command(1, 2, 0x12)
+    run.function(1, 3, 0x20, ABORT_TASK, ref=0x12, refsn=2)
+    run.work(3, 0x12, 2, outcome="stopped")
+    run.complete(1, 0x20)
+    run.function(2, 4, 0x21, ABORT_TASK, ref=0x13, refsn=3)
+    run.complete(2, 0x21)
+    run.command(1, 4, 0x14, ORDERED)
+    run.work(4, 0x14, 4)
+    run.answer(1, 0x14)
+    run.command(2, 3, 0x13)
+    run.command(1, 5, 0x15, unit=1)
+    run.function(1, 6, 0x22, LOGICAL_UNIT_RESET, unit=1)
+    run.complete(1, 0x22)
+    run.command(1, 6, 0x16, unit=1)
+    run.work(5, 0x16, 6, unit=1)
+    run.answer(1, 0x16)
+    return run
+
+
+class Checks(unittest.TestCase):
+    """Each kind of fault, by the checks themselves."""
+
+    def found(self, run, why, has_fence=False):
+        self.assertRegex("\n".join(run.faults(has_fence)), why)
+
+    def test_no_fault(self):
+        self.assertEqual([], good_run().faults(has_fence=True))
+
+    def test_a_line_twice(self):
+        run = good_run()
+        run.lines.append(re.sub(r"^2 ", "9 ", run.lines[2]))
+        self.found(run, r"line 7 .* tag 00000011, .* was started already")
+        run.lines[-1] = run.lines[2]
+        self.found(run, r"line 7 .*: ticket 2 was started in line 3 already")
+
+    def test_a_command_that_never_came(self):
+        run = good_run()
+        run.work(6, 0x99, 9)
+        self.found(run, r"tag 00000099, CmdSN 00000007 and unit 0 isn't in the capture")
+        run = good_run()
+        run.lines[1] = run.lines[1].replace(f" {TSIH:04x}", " 0008")
+        self.found(run, r"line 2 of the trace: no session 0008 is in the capture")
+
+    def test_started_before_it_came(self):
+        run = Run()
+        run.command(1, 0, 0x10)
+        run.work(1, 0x10, 0, before=1)
+        run.answer(1, 0x10)
+        self.found(run, r"tag 00000010 and CmdSN fffffffe was started before it came")
+
+    def test_started_while_a_number_was_missing(self):
+        run = Run()
+        run.command(2, 1, 0x11)
+        run.work(1, 0x11, 1)
+        run.command(1, 0, 0x10)
+        run.answer(2, 0x11)
+        self.found(run, r"tag 00000011 and CmdSN ffffffff was started while a lower CmdSN was missing")
+        run = Run()
+        run.command(2, 1, 0x11)
+        run.work(1, 0x11, 1)
+        run.answer(2, 0x11)
+        self.found(run, r"was started while a lower CmdSN was missing")
+
+    def test_a_missing_number_that_no_abort_voids(self):
+        for response in (COMPLETE, NO_TASK):
+            run = Run()
+            run.command(1, 1, 0x11)
+            run.function(1, 2, 0x20, ABORT_TASK, ref=0x10, refsn=0)
+            run.work(1, 0x11, 1)
+            run.complete(1, 0x20, response)
+            run.answer(1, 0x11)
+            self.assertEqual(response != COMPLETE, bool(run.faults()))
+
+    def aborted(self, answer_on=1, function=ABORT_TASK, **numbers):
+        run = Run()
+        run.command(answer_on, 0, 0x10)
+        run.work(1, 0x10, 0)
+        run.function(1, 1, 0x20, function, ref=0x10)
+        run.complete(1, 0x20, exp=1, greatest=33)
+        run.data(answer_on, 0x10, **numbers)
+        run.answer(answer_on, 0x10, **numbers)
+        return run
+
+    def test_an_answer_after_the_abort(self):
+        for function in (ABORT_TASK, ABORT_TASK_SET, LOGICAL_UNIT_RESET):
+            run = self.aborted(function=function)
+            self.found(run, r"SCSI Data-In of READ\(10\) with tag 00000010 .* after the abort of it was answered in frame")
+            self.found(run, r"SCSI Response of READ\(10\) with tag 00000010 .* after the abort of it was answered in frame")
+        self.found(self.aborted(answer_on=2, greatest=34), r"SCSI Response .* after the abort of it was answered")
+
+    def test_an_answer_that_was_overtaken(self):
+        run = self.aborted(answer_on=2, function=ABORT_TASK_SET, greatest=33)
+        self.assertEqual([], run.faults())
+        self.assertEqual(2, len(run.faults(has_fence=True)))
+        self.found(run, r"SCSI Response .* after the abort of it was answered", has_fence=True)
+
+    def test_a_command_that_comes_after_its_abort(self):
+        run = good_run()
+        run.work(6, 0x13, 3)
+        self.found(run, r"tag 00000013 .* was started, and came after the abort of it was answered")
+        run = good_run()
+        run.answer(2, 0x13)
+        self.found(run, r"SCSI Response of READ\(10\) with tag 00000013 .* after the abort of it was answered")
+
+    def test_answers_twice_or_of_no_command(self):
+        run = good_run()
+        run.answer(1, 0x14)
+        self.found(run, r"tag 00000014 and CmdSN 00000002 after it was answered in frame")
+        run = good_run()
+        run.complete(1, 0x20)
+        self.found(run, r"a function with tag 00000020 is answered that isn't there, or twice")
+        run = good_run()
+        run.answer(1, 0x98)
+        self.found(run, r"SCSI Response for tag 00000098, which no command has")
+
+    def test_an_answer_of_what_a_worker_stopped(self):
+        run = Run()
+        run.command(1, 0, 0x10)
+        run.work(1, 0x10, 0, outcome="stopped")
+        run.answer(1, 0x10)
+        self.found(run, r"tag 00000010 .* was stopped, and is answered in frame")
+
+    def overlapping(self, *attributes):
+        run = Run()
+        for number, attribute in enumerate(attributes):
+            run.command(1, number, 0x10 + number, attribute)
+        for number in range(len(attributes)):
+            run.work(number + 1, 0x10 + number, number, took=20)
+            run.milliseconds -= 19
+            run.answer(1, 0x10 + number)
+        return run
+
+    def test_the_order_of_attributes(self):
+        for bad in ((SIMPLE, ORDERED), (ORDERED, SIMPLE), (ORDERED, ORDERED), (HEAD, ORDERED)):
+            self.found(self.overlapping(*bad), rf"\(attribute {bad[1]}\) was started before the end of .*tag 00000010 ")
+        for right in ((SIMPLE, SIMPLE), (SIMPLE, HEAD), (ORDERED, HEAD)):
+            self.assertEqual([], self.overlapping(*right).faults(), right)
+
+@unittest.skipUnless(shutil.which("tshark"), "there is no tshark")
+class Script(unittest.TestCase):
+    """The script over files: a run without a fault, and tampered ones."""
+
+    def play(self, run, *words, trace=None):
+        with tempfile.TemporaryDirectory() as folder:
+            paths = [os.path.join(folder, name) for name in ("trace", "capture.pcap")]
+            for path, content in zip(paths, ((trace or run.trace).encode(), run.capture)):
+                with open(path, "wb") as file:
+                    file.write(content)
+            return subprocess.run([sys.executable, "-B", PROGRAM, *paths, *words], capture_output=True, text=True)
+
+    def test_no_fault(self):
+        done = self.play(good_run(), "--fence")
+        self.assertEqual((0, ""), (done.returncode, done.stderr), done.stdout)
+        self.assertRegex(done.stdout,
+                         r"7 commands, 5 started, 4 answered, 3 aborted by number or tag, 0 others, 3 aborts")
+        self.assertTrue(done.stdout.endswith("5 lines of the trace, 0 faults\n"), done.stdout)
+
+    def test_tampered_files(self):
+        run = good_run()
+        done = self.play(run, trace=run.trace + run.lines[2] + "\n")
+        self.assertEqual((1, ""), (done.returncode, done.stderr))
+        self.assertRegex(done.stdout, r"ticket 2 was started in line 3 already[^$]*6 lines of the trace, 2 faults\n\Z")
+        run.answer(1, 0x12)
+        done = self.play(run)
+        self.assertEqual((1, ""), (done.returncode, done.stderr))
+        self.assertRegex(done.stdout, r"SCSI Response of .* tag 00000012 .* after the abort of it was answered")
+
+    def test_what_can_not_be_read(self):
+        run = good_run()
+        for trace, why in (("hello\n", "line 1 of the trace: not a line of a trace"),
+                           (run.lines[1].replace("completed", "done") + "\n", "line 1 of the trace")):
+            done = self.play(run, trace=trace)
+            self.assertEqual(2, done.returncode)
+            self.assertRegex(done.stderr, rf"\Atrace: {why}")
+        run.frames = run.frames[5:]
+        self.assertEqual(2, self.play(run).returncode)
+
+
+if __name__ == "__main__":
+    unittest.main()
