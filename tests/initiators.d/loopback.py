@@ -110,9 +110,9 @@ class Background:
 class Target(Background):
     """The target on a free port of 127.0.0.1, with a trace in its folder."""
 
-    def __init__(self, folder, *options, under=()):
+    def __init__(self, folder, *options, under=(), program=PROGRAM):
         self.trace = os.path.join(folder, "trace")
-        words = [*under, PROGRAM, "--listen", "127.0.0.1:0", "--name", NAME, "--trace", self.trace, *options]
+        words = [*under, program, "--listen", "127.0.0.1:0", "--name", NAME, "--trace", self.trace, *options]
         super().__init__(words, os.path.join(folder, "target.log"))
         try:
             self.port = int(self.wait_for(TOLD, WAIT_START)[1])

@@ -183,7 +183,8 @@ def tickets(works):
     lines = {}
     for work in works:
         if work.ticket in lines:
-            yield f"line {work.line} of the trace: ticket {work.ticket} was started in line {lines[work.ticket]} already"
+            yield (f"line {work.line} of the trace: ticket {work.ticket} was started in line {lines[work.ticket]} "
+                   "already")
         lines.setdefault(work.ticket, work.line)
 
 
@@ -200,8 +201,8 @@ def matched(session, works):
             free.works.append(work)
         else:
             words = "was started already" if known else "isn't in the capture"
-            yield (f"line {work.line} of the trace: the command with tag {work.tag:08x}, CmdSN {work.cmd_sn:08x} and unit "
-                   f"{work.unit} {words}")
+            yield (f"line {work.line} of the trace: the command with tag {work.tag:08x}, CmdSN {work.cmd_sn:08x} and "
+                   f"unit {work.unit} {words}")
 
 
 def in_order(session):
@@ -230,8 +231,8 @@ def by_attribute(session):
         everything, ordered = lasts.get(work.unit, ((-1, None), (-1, None)))
         limit, before = everything if attribute == ORDERED else ordered
         if attribute != HEAD_OF_QUEUE and work.began < limit:
-            yield (f"line {work.line} of the trace: {command.name} (attribute {attribute}) was started before the end of "
-                   f"{before.name} (attribute {before.request.attribute})")
+            yield (f"line {work.line} of the trace: {command.name} (attribute {attribute}) was started before the end "
+                   f"of {before.name} (attribute {before.request.attribute})")
         if work.is_completed:
             end = work.ended, command
             lasts[work.unit] = (max(everything, end, key=lambda one: one[0]),

@@ -1,4 +1,4 @@
-"""What a capture and a target's trace have: requests and replies with their moments, and the commands that workers took."""
+"""What a capture and a target's trace have: requests and replies with their moments, and what workers took."""
 
 import os
 import re

@@ -207,8 +207,8 @@ class Checks(unittest.TestCase):
     def test_an_answer_after_the_abort(self):
         for function in (ABORT_TASK, ABORT_TASK_SET, LOGICAL_UNIT_RESET):
             run = self.aborted(function=function)
-            self.found(run, r"SCSI Data-In of READ\(10\) with tag 00000010 .* after the abort of it was answered in frame")
-            self.found(run, r"SCSI Response of READ\(10\) with tag 00000010 .* after the abort of it was answered in frame")
+            for name in ("SCSI Data-In", "SCSI Response"):
+                self.found(run, rf"{name} of READ\(10\) with tag 00000010 .* after the abort of it was answered")
         self.found(self.aborted(answer_on=2, greatest=34), r"SCSI Response .* after the abort of it was answered")
 
     def test_an_answer_that_was_overtaken(self):
