@@ -7,18 +7,19 @@ import os
 from loopback import TOP, Capture, Target, last_line, run
 from scripts import play as play_lines
 
-# Slow commands on three connections, out of order; aborts of live, held and missing ones; a reset of each kind of unit;
-# what comes after. Each reply is waited for where the next request would race with it.
+# Slow commands on three connections, out of order; aborts of live, held and missing ones; an immediate reset and a
+# numbered one; what comes after. No two commands end at the same time on two connections, which have no order between
+# them.
 LINES = (
-    "3 read sn=2 tag=3 lun=0", "2 read sn=1 tag=2 lun=1", "pause 0.1", "1 test sn=0 tag=1 lun=0", "pause 0.1",
-    "3 abort-task now=1 tag=20 ref=3 refsn=2 lun=0", "wait 20", "wait 1", "wait 2",
+    "3 read sn=2 tag=3 lun=1", "2 read sn=1 tag=2 lun=0", "pause 0.1", "1 test sn=0 tag=1 lun=0 attr=2", "pause 0.1",
+    "3 abort-task now=1 tag=20 ref=3 refsn=2 lun=1", "wait 20", "wait 1", "wait 2",
     "1 read sn=3 tag=4 lun=1", "2 read sn=4 tag=5 lun=1", "3 test sn=5 tag=6 lun=0", "pause 0.1",
     "2 reset now=1 tag=21 lun=1", "wait 21", "wait 6",
     "2 test sn=7 tag=8 lun=0", "pause 0.1", "2 abort-task now=1 tag=22 ref=8 refsn=7 lun=0", "wait 22",
     "1 abort-task now=1 tag=23 ref=7 refsn=6 lun=0", "wait 23", "1 test sn=6 tag=7 lun=0", "pause 0.1",
     "1 write sn=8 tag=9 lun=0", "pause 0.1", "1 reset sn=9 tag=24 lun=0", "wait 24",
-    "1 test sn=10 tag=10 lun=0 attr=2", "2 test sn=11 tag=11 lun=0", "3 test sn=12 tag=12 lun=0 attr=3", "wait 10",
-    "wait 11", "wait 12", "1 nop tag=13", "wait 13", "3 logout reason=1 cid=3 tag=14", "wait 14",
+    "1 test sn=10 tag=10 lun=0 attr=2", "2 test sn=11 tag=11 lun=0", "pause 0.15", "3 test sn=12 tag=12 lun=0 attr=3",
+    "wait 10", "wait 11", "wait 12", "1 nop tag=13", "wait 13", "3 logout reason=1 cid=3 tag=14", "wait 14",
     "2 test tag=15 lun=1", "wait 15", "1 logout tag=16", "wait 16")
 WANTED = ("tag 00000014, ", "tag 00000015, ", "tag 00000016, ", "tag 00000017, ", "tag 00000018, ", "tag 00000010, ")
 CONNECTIONS, DELAY = 3, "400"
