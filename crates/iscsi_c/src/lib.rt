@@ -83,13 +83,7 @@ pub extern "C" fn iscsi_c_effect(
     ensures effect { effect.new ≡ effect_after (inside session.old) index effect.old }
     ensures same { inside session.new ≡ inside session.old }
 {
-    match session.effect(alloc, index) {
-        Ok(shown) => {
-            *effect = shown;
-            0
-        }
-        Err(answer) => answer.code(),
-    }
+    session.effect(alloc, index, effect).code()
 }
 
 /// Writes ExpCmdSN and MaxCmdSN after the last event; nothing where the session isn't open.

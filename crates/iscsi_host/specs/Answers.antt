@@ -71,9 +71,12 @@ MayRefuseAs valid (Err fault) = (fault ≡ faults.NoMemory) ⊎ ((valid ≡ fals
 abbrev pub OpensWith : Option Hosted → Bool → ℕ → Type 0
 OpensWith old valid code = (answer : Answer) × ((code ≡ code_of answer) × OpensAs old valid answer)
 
+abbrev pub answer_in : {A : Type 0} → Result A Answer → Answer
+answer_in (Ok x) = Done
+answer_in (Err answer) = answer
+
 abbrev pub code_after : {A : Type 0} → Result A Answer → ℕ
-code_after (Ok x) = 0
-code_after (Err answer) = code_of answer
+code_after r = code_of (answer_in r)
 
 -- what stands in a place that a result is written to
 abbrev pub written_over : {A : Type 0} → A → Result A Answer → A

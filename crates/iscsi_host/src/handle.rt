@@ -4,7 +4,7 @@ ghost use Rattle.std.specs.Prelude.{◌≡◌, ◌≢◌, List, [], ◌∷◌, �
 ghost use Rattle.iscsi_history.specs.Settings.{Setting, is_valid};
 ghost use Rattle.iscsi_session.specs.Refusals.{refusal_of};
 ghost use Rattle.iscsi_host.specs.Serving.{Serves, ServesIn, effects_in};
-ghost use Rattle.iscsi_host.specs.Answers.{answer_of, arrival_answer, closing_answer, effect_in, numbers_in, MayRefuseAs, OpensAs};
+ghost use Rattle.iscsi_host.specs.Answers.{answer_of, arrival_answer, closing_answer, answer_in, effect_in, written_over, numbers_in, MayRefuseAs, OpensAs};
 ghost use Rattle.iscsi_host.specs.Plain.{plain_setting};
 
 mod owner;
@@ -114,17 +114,22 @@ impl Handle {
         count
     }
 
-    /// The effect of the last event with this index, from 0. `NotOpen`, `NoEffect`.
-    pub fn effect(&mut self, alloc: Global, index: usize) -> Result<PlainEffect, Answer>
-        ensures effect { result ≡ effect_in (inside self.old) index }
+    /// Writes the effect of the last event with this index, from 0. `NotOpen`, `NoEffect`: nothing is written then.
+    pub fn effect(&mut self, alloc: Global, index: usize, out: &mut PlainEffect) -> Answer
+        ensures answer { result ≡ answer_in (effect_in (inside self.old) index) }
+        ensures out { out.new ≡ written_over out.old (effect_in (inside self.old) index) }
         ensures same { inside self.new ≡ inside self.old }
     {
         let Some(host) = self.take(alloc) else {
-            return Err(Answer::NotOpen);
+            return Answer::NotOpen;
         };
-        let effect = host.effect(index);
+        let is_there = host.effect(index, out);
         self.put(host);
-        effect.ok_or(Answer::NoEffect)
+        if is_there {
+            Answer::Done
+        } else {
+            Answer::NoEffect
+        }
     }
 
     /// ExpCmdSN and MaxCmdSN after the last event. `NotOpen`.

@@ -1,6 +1,6 @@
 //! A session with the effects of its last event.
 
-ghost use Rattle.std.specs.Prelude.{◌≡◌, ◌+◌, ◌*◌, ℕ, List, [], ◌∷◌, ◌++◌, OnOk, OnErr, IfOk, Option, Some, None, true, length, take, vec_capacity};
+ghost use Rattle.std.specs.Prelude.{◌≡◌, ◌+◌, ◌*◌, ℕ, List, [], ◌∷◌, ◌++◌, OnOk, OnErr, IfOk, Option, Some, None, true, is_some, unwrap_or, length, take, vec_capacity};
 ghost use Rattle.iscsi_history.specs.Settings.{Setting, is_valid};
 ghost use Rattle.iscsi_session.specs.Settings.{setting_of};
 ghost use Rattle.iscsi_session.specs.Refusals.{RefusesAs, refusal_of, refusal_of_options};
@@ -8,7 +8,7 @@ ghost use Rattle.iscsi_session.specs.Standing.{most_effects};
 ghost use Rattle.iscsi_host.specs.Serving.{Serves, fault_of};
 ghost use Rattle.iscsi_host.specs.Plain.{plain_at, executing as executing_in, last_executing, plain_numbers};
 
-use crate::plain::{PlainEffect, PlainNumbers, plain};
+use crate::plain::{PlainEffect, PlainNumbers, write_plain};
 use iscsi_history::{Effect, Event, Numbers};
 use iscsi_session::{Options, Session, SessionFault};
 use iscsi_wire::Request;
@@ -79,16 +79,20 @@ impl Host {
         self.effects.len()
     }
 
-    /// The effect of the last event with this index, from 0, in plain form.
-    pub fn effect(&self, index: usize) -> Option<PlainEffect>
-        ensures { result ≡ plain_at self.now.effects self.now.numbers index }
+    /// Writes the effect of the last event with this index, from 0, in plain form, and tells whether there is one.
+    pub fn effect(&self, index: usize, out: &mut PlainEffect) -> bool
+        ensures answer { result ≡ is_some (plain_at self.now.effects self.now.numbers index) }
+        ensures out { out.new ≡ unwrap_or (plain_at self.now.effects self.now.numbers index) out.old }
     {
-        let effect = self.effects.get(index)?;
+        let Some(effect) = self.effects.get(index) else {
+            return false;
+        };
         let request = match effect {
             Effect::Enter { .. } => last_request(&self.effects[..index]),
             _ => None,
         };
-        Some(plain(effect, request, self.numbers))
+        write_plain(effect, request, self.numbers, out);
+        true
     }
 
     /// ExpCmdSN and MaxCmdSN after the last event (RFC 7143 section 4.2.2.1).

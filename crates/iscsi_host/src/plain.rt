@@ -54,12 +54,17 @@ const NOTHING: PlainEffect = PlainEffect {
     reserved: [0; 4],
 };
 
-/// The plain form of an effect of an event that ended with these numbers; `request` is the one that executed last
-/// before it.
-pub(crate) fn plain(effect: &Effect, request: Option<Request>, numbers: Numbers) -> PlainEffect
-    ensures { result ≡ plain_of effect.now request numbers }
+/// Writes the plain form of an effect of an event that ended with these numbers; `request` is the one that executed
+/// last before it.
+pub(crate) fn write_plain(
+    effect: &Effect,
+    request: Option<Request>,
+    numbers: Numbers,
+    out: &mut PlainEffect,
+)
+    ensures { out.new ≡ plain_of effect.now request numbers }
 {
-    match *effect {
+    *out = match *effect {
         Effect::Deliver { request } => of_request(1, &request),
         Effect::Immediate { request } => of_request(2, &request),
         Effect::Wait { request } => of_request(3, &request),
@@ -87,9 +92,10 @@ pub(crate) fn plain(effect: &Effect, request: Option<Request>, numbers: Numbers)
             reason: code_of_reason(why),
             ..NOTHING
         },
-    }
+    };
 }
 
+#[inline(always)]
 fn of_request(kind: u8, request: &Request) -> PlainEffect
     ensures { result ≡ request_form kind request.now }
 {
@@ -102,6 +108,7 @@ fn of_request(kind: u8, request: &Request) -> PlainEffect
     }
 }
 
+#[inline(always)]
 fn of_number(kind: u8, sn: u32) -> PlainEffect
     ensures { result ≡ number_form kind sn }
 {
@@ -112,6 +119,7 @@ fn of_number(kind: u8, sn: u32) -> PlainEffect
     }
 }
 
+#[inline(always)]
 fn of_command(kind: u8, ticket: u64, unit: u16) -> PlainEffect
     ensures { result ≡ command_form kind ticket unit }
 {
@@ -123,6 +131,7 @@ fn of_command(kind: u8, ticket: u64, unit: u16) -> PlainEffect
     }
 }
 
+#[inline(always)]
 fn entering(ticket: u64, unit: u16, attr: Attr, request: Option<Request>) -> PlainEffect
     ensures { result ≡ enter_form ticket unit attr request }
 {
@@ -138,6 +147,7 @@ fn entering(ticket: u64, unit: u16, attr: Attr, request: Option<Request>) -> Pla
     }
 }
 
+#[inline(always)]
 fn of_reply(cid: u16, stat_sn: u32, reply: &Reply, numbers: Numbers) -> PlainEffect
     ensures { result ≡ reply_form cid stat_sn reply.now numbers }
 {

@@ -17,6 +17,20 @@ const CONNECTION: PlainConnection = PlainConnection {
     cid: 3,
 };
 
+const NOTHING: PlainEffect = PlainEffect {
+    ticket: 0,
+    sn: 0,
+    cid: 0,
+    unit: 0,
+    kind: 0,
+    attribute: 0,
+    reason: 0,
+    tail_length: 0,
+    header: [0; 48],
+    tail: [0; 48],
+    reserved: [0; 4],
+};
+
 /// A SCSI Command: HEAD OF QUEUE, for unit 1.
 fn command(tag: u8, cmd_sn: u8) -> [u8; 48] {
     let mut header = [0; 48];
@@ -61,12 +75,15 @@ fn a_command_and_its_end(rt: HostRuntime) -> Result<(), Fail> {
         tail: [0; 48],
         reserved: [0; 4],
     };
-    assert_eq!(rt; session.effect(alloc, 1), Ok(entering));
-    assert_eq!(rt; session.effect(alloc, 3), Err(Answer::NoEffect));
+    let mut effect = NOTHING;
+    assert_eq!(rt; session.effect(alloc, 1, &mut effect), Answer::Done);
+    assert_eq!(rt; effect, entering);
+    assert_eq!(rt; session.effect(alloc, 3, &mut effect), Answer::NoEffect);
+    assert_eq!(rt; effect, entering);
     assert_eq!(rt; session.complete(alloc, 1, 0x08), Answer::Done);
-    let reply = session.effect(alloc, 1).unwrap_or(entering);
-    assert_eq!(rt; (reply.kind, reply.cid, reply.sn), (9, 3, 7));
-    assert_eq!(rt; (reply.header[0], reply.header[3]), (0x21, 0x08));
+    assert_eq!(rt; session.effect(alloc, 1, &mut effect), Answer::Done);
+    assert_eq!(rt; (effect.kind, effect.cid, effect.sn), (9, 3, 7));
+    assert_eq!(rt; (effect.header[0], effect.header[3]), (0x21, 0x08));
     assert_eq!(rt; session.close(alloc), Answer::Done);
     Ok(())
 }
