@@ -1,12 +1,13 @@
 //! What goes out on a connection: PDUs in a queue, which a thread writes to the socket.
 
 use crate::command::Command;
+use crate::connection::Connection;
 use crate::pdu::Pdu;
 use crate::sync::{lock, wait};
 use std::collections::VecDeque;
 use std::io::Write;
 use std::net::{Shutdown, TcpStream};
-use std::sync::{Condvar, Mutex};
+use std::sync::{Arc, Condvar, Mutex};
 
 /// Data waits for room once so many bytes are queued.
 const MOST_QUEUED: usize = 1 << 20;
@@ -25,20 +26,42 @@ pub struct Outbox {
 struct Queue {
     items: VecDeque<Item>,
     length: usize,
+    /// The number of the last PDU that was queued, from 1 on, and of the one that is being written, or 0.
+    last: u64,
+    writing: u64,
     /// Nothing is added any more.
     is_closed: bool,
 }
 
 struct Item {
+    number: u64,
     pdu: Pdu,
     /// The command that it belongs to, where it must not go out once that has left.
     ticket: Option<u64>,
+    fence: Fence,
 }
+
+/// Other connections, and the last PDU that was queued on each: these PDUs go out first. All of them were queued
+/// earlier, so fences don't wait for each other in a circle.
+pub type Fence = Vec<(Arc<Connection>, u64)>;
 
 impl Outbox {
     /// Queues a reply, or an R2T of the command with this ticket. It never waits.
-    pub fn post(&self, pdu: Pdu, ticket: Option<u64>) {
-        self.add(&mut lock(&self.queue), Item { pdu, ticket });
+    pub fn post(&self, pdu: Pdu, ticket: Option<u64>, fence: Fence) {
+        self.add(&mut lock(&self.queue), pdu, ticket, fence);
+    }
+
+    /// The number of the last PDU that was queued.
+    pub fn last(&self) -> u64 {
+        lock(&self.queue).last
+    }
+
+    /// Waits until no PDU up to this one is queued or being written any more.
+    fn wait_for(&self, number: u64) {
+        let mut queue = lock(&self.queue);
+        while queue.items.front().is_some_and(|item| item.number <= number) || (1..=number).contains(&queue.writing) {
+            queue = wait(&self.changed, queue);
+        }
     }
 
     /// Queues data of a command, once there is room. `false`, and nothing is queued, where the command was stopped or
@@ -53,15 +76,16 @@ impl Outbox {
         }
         let is_wanted = !queue.is_closed && !command.is_stopped();
         if is_wanted {
-            self.add(&mut queue, Item { pdu, ticket: Some(command.ticket) });
+            self.add(&mut queue, pdu, Some(command.ticket), Fence::new());
         }
         is_wanted
     }
 
-    fn add(&self, queue: &mut Queue, item: Item) {
+    fn add(&self, queue: &mut Queue, pdu: Pdu, ticket: Option<u64>, fence: Fence) {
         if !queue.is_closed {
-            queue.length += item.pdu.length();
-            queue.items.push_back(item);
+            queue.length += pdu.length();
+            queue.last += 1;
+            queue.items.push_back(Item { number: queue.last, pdu, ticket, fence });
             self.changed.notify_all();
         }
     }
@@ -95,7 +119,8 @@ impl Outbox {
 
     /// Writes what is queued to the socket until the outbox is closed, and then closes the socket.
     pub fn run(&self, mut stream: &TcpStream) {
-        while let Some(pdu) = self.next() {
+        while let Some(Item { pdu, fence, .. }) = self.next() {
+            fence.iter().for_each(|(other, last)| other.outbox.wait_for(*last));
             if stream.write_all(&pdu.to_bytes()).is_err() {
                 self.close(true);
             }
@@ -104,15 +129,18 @@ impl Outbox {
         let _ = stream.shutdown(Shutdown::Both);
     }
 
-    /// Waits for the next PDU. `None` once the outbox is closed and empty.
-    fn next(&self) -> Option<Pdu> {
+    /// Waits for the next PDU; the one before is written. `None` once the outbox is closed and empty.
+    fn next(&self) -> Option<Item> {
         let mut queue = lock(&self.queue);
+        queue.writing = 0;
+        self.changed.notify_all();
         while queue.items.is_empty() && !queue.is_closed {
             queue = wait(&self.changed, queue);
         }
         let item = queue.items.pop_front()?;
         queue.length -= item.pdu.length();
+        queue.writing = item.number;
         self.changed.notify_all();
-        Some(item.pdu)
+        Some(item)
     }
 }

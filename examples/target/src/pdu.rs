@@ -11,6 +11,7 @@ pub mod opcode {
     pub const DATA_OUT: u8 = 0x05;
     pub const LOGOUT: u8 = 0x06;
     pub const SCSI_RESPONSE: u8 = 0x21;
+    pub const FUNCTION_RESPONSE: u8 = 0x22;
     pub const LOGIN_RESPONSE: u8 = 0x23;
     pub const TEXT_RESPONSE: u8 = 0x24;
     pub const DATA_IN: u8 = 0x25;

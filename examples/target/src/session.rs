@@ -7,6 +7,7 @@
 use crate::command::{complete_response, read_length, written_length, Command, Next, Transfer};
 use crate::connection::{Connection, Fault};
 use crate::keys::{add_pair, pairs, Keys};
+use crate::outbox::Fence;
 use crate::pdu::{opcode, place, Header, Pdu, FINAL, NO_TAG};
 use crate::scsi::{wanted_length, Outcome};
 use crate::sync::lock;
@@ -305,7 +306,7 @@ impl State {
         header.set(place::ASKED_LENGTH, length as u32);
         if let Some(attached) = self.connections.get(&command.connection.cid) {
             header.set(place::STAT_SN, attached.next_stat_sn);
-            attached.connection.outbox.post(Pdu { header, data: Vec::new() }, Some(ticket));
+            attached.connection.outbox.post(Pdu { header, data: Vec::new() }, Some(ticket), Fence::new());
         }
     }
 
@@ -344,13 +345,25 @@ impl State {
     fn send(&mut self, session: &Session, reply: Reply, completed: Option<&Completed>, current: Option<&Incoming>) {
         let mut pdu = Pdu { header: Header(reply.header), data: reply.data.to_vec() };
         session.complete_reply(&mut pdu, completed, current);
+        let fence = self.fence(&pdu.header, current);
         if let Some(attached) = self.connections.get_mut(&reply.cid) {
             let stat_sn = reply.stat_sn.wrapping_add(attached.stat_sn_offset);
             attached.next_stat_sn = stat_sn.wrapping_add(1);
             pdu.header.set(place::STAT_SN, stat_sn);
             pdu.data.truncate(attached.connection.longest_data);
-            attached.connection.outbox.post(pdu, None);
+            attached.connection.outbox.post(pdu, None, fence);
         }
+    }
+
+    /// What goes out before a reply: where an abort of several tasks is complete, all that the session's connections
+    /// have queued (the response fence of RFC 7143 section 4.2.3.3).
+    fn fence(&self, reply: &Header, current: Option<&Incoming>) -> Fence {
+        const FUNCTION_COMPLETE: u8 = 0;
+        let is_fenced = reply.opcode() == opcode::FUNCTION_RESPONSE
+            && reply.0[2] == FUNCTION_COMPLETE
+            && current.is_some_and(|current| [0x82, 0x84, 0x85].contains(&current.header.0[1]));
+        let others = self.connections.values().map(|attached| &attached.connection).filter(|_| is_fenced);
+        others.map(|other| (other.clone(), other.outbox.last())).collect()
     }
 
     /// The session is over: its commands stop, and its connections are closed.
