@@ -17,9 +17,6 @@ pub struct Keys {
     /// The longest data segment that the initiator takes.
     pub longest_data: u32,
     pub max_burst: u32,
-    pub first_burst: u32,
-    pub initial_r2t: bool,
-    pub immediate_data: bool,
     pub connections: u32,
     pub level: u32,
 }
@@ -32,9 +29,6 @@ impl Default for Keys {
             is_discovery: false,
             longest_data: 8192,
             max_burst: LONGEST_BURST,
-            first_burst: LONGEST_FIRST_BURST,
-            initial_r2t: true,
-            immediate_data: true,
             connections: 1,
             level: 1,
         }
@@ -76,32 +70,28 @@ impl Keys {
                     self.longest_data = length;
                 }
                 (_, Some(offered)) => add_pair(&mut answers, key, &self.choose_number(key, offered)),
-                (_, None) => add_pair(&mut answers, key, self.choose_word(key, value)),
+                (_, None) => add_pair(&mut answers, key, Self::choose_word(key, value)),
             }
         }
         Some(answers)
     }
 
     /// The answer to a key with a word, or with a list of them.
-    fn choose_word(&mut self, key: &str, value: &str) -> &'static str {
+    fn choose_word(key: &str, value: &str) -> &'static str {
         let only = |supported| if value.split(',').any(|one| one == supported) { supported } else { "Reject" };
-        let kept = match key {
-            "AuthMethod" | "HeaderDigest" | "DataDigest" => return only("None"),
-            "TaskReporting" => return only("RFC3720"),
-            "DataPDUInOrder" | "DataSequenceInOrder" => return "Yes",
-            "IFMarker" | "OFMarker" => return "No",
-            "InitialR2T" => &mut self.initial_r2t,
-            "ImmediateData" => &mut self.immediate_data,
-            _ => return "NotUnderstood",
-        };
-        match value {
-            "Yes" | "No" => *kept = value == "Yes",
-            _ => return "Reject",
-        }
-        if *kept {
-            "Yes"
-        } else {
-            "No"
+        match key {
+            "AuthMethod" | "HeaderDigest" | "DataDigest" => only("None"),
+            "TaskReporting" => only("RFC3720"),
+            "DataPDUInOrder" | "DataSequenceInOrder" | "InitialR2T" => "Yes",
+            "IFMarker" | "OFMarker" => "No",
+            "ImmediateData" => {
+                if value == "Yes" {
+                    "Yes"
+                } else {
+                    "No"
+                }
+            }
+            _ => "NotUnderstood",
         }
     }
 
@@ -110,7 +100,7 @@ impl Keys {
         let (kept, chosen) = match key {
             "MaxConnections" => (&mut self.connections, offered.clamp(1, MOST_CONNECTIONS)),
             "MaxBurstLength" if offered >= LEAST_LENGTH => (&mut self.max_burst, offered.min(LONGEST_BURST)),
-            "FirstBurstLength" if offered >= LEAST_LENGTH => (&mut self.first_burst, offered.min(LONGEST_FIRST_BURST)),
+            "FirstBurstLength" if offered >= LEAST_LENGTH => return offered.min(LONGEST_FIRST_BURST).to_string(),
             "iSCSIProtocolLevel" => (&mut self.level, offered.clamp(1, GREATEST_LEVEL)),
             "DefaultTime2Wait" => return offered.to_string(),
             "MaxOutstandingR2T" => return "1".to_string(),

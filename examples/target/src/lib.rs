@@ -9,7 +9,6 @@ mod outbox;
 pub mod pdu;
 pub mod scsi;
 mod session;
-mod sync;
 mod target;
 mod trace;
 pub mod unit;
@@ -17,7 +16,7 @@ pub mod unit;
 use options::Options;
 use std::io;
 use std::net::{TcpListener, TcpStream};
-use std::sync::Arc;
+use std::sync::{Arc, Condvar, Mutex, MutexGuard, PoisonError};
 use std::thread;
 use target::Target;
 use trace::Trace;
@@ -54,4 +53,13 @@ fn start(stream: TcpStream, target: Arc<Target>) -> io::Result<()> {
         }
     })?;
     Ok(())
+}
+
+/// Locks. A holder leaves no half-made state behind: a thread that panicked with one doesn't spoil it.
+fn lock<T>(mutex: &Mutex<T>) -> MutexGuard<'_, T> {
+    mutex.lock().unwrap_or_else(PoisonError::into_inner)
+}
+
+fn wait<'a, T>(condition: &Condvar, guard: MutexGuard<'a, T>) -> MutexGuard<'a, T> {
+    condition.wait(guard).unwrap_or_else(PoisonError::into_inner)
 }

@@ -83,11 +83,11 @@ impl Login<'_> {
             return Err(Refused::InvalidRequest);
         }
         let answers = self.negotiate(stage, text)?;
-        match next {
-            Some(FULL_FEATURE) => self.finish(header, answers),
-            Some(_) => Ok((self.response(header, flags & (TRANSIT | STAGE | NEXT_STAGE), answers), None)),
-            None => Ok((self.response(header, flags & STAGE, answers), None)),
+        if next == Some(FULL_FEATURE) {
+            return self.finish(header, answers);
         }
+        let mask = if next.is_some() { TRANSIT | STAGE | NEXT_STAGE } else { STAGE };
+        Ok((self.response(header, flags & mask, answers), None))
     }
 
     fn negotiate(&mut self, stage: u8, text: &[u8]) -> Result<Vec<u8>, Refused> {
@@ -106,12 +106,13 @@ impl Login<'_> {
 
     /// The connection goes to the Full Feature Phase: in a new session, or in the one that the TSIH names.
     fn finish(&mut self, header: &Header, answers: Vec<u8>) -> Result<(Pdu, Option<Member>), Refused> {
-        let session = match header.tsih() {
+        let session = match header.short(place::TSIH) {
             0 => self.open(header)?,
             tsih => self.find(header, tsih).ok_or(Refused::NoSession)?,
         };
         let longest_data = self.keys.longest_data as usize;
-        let connection = Arc::new(Connection { cid: header.cid(), outbox: Outbox::default(), longest_data });
+        let connection =
+            Arc::new(Connection { cid: header.short(place::CID), outbox: Outbox::default(), longest_data });
         if !session.attach(&connection, self.stat_sn.wrapping_add(1)) {
             return Err(Refused::NotIncluded);
         }
@@ -124,7 +125,7 @@ impl Login<'_> {
 
     /// A new session. It takes the place of the one that the same initiator port has.
     fn open(&self, header: &Header) -> Result<Arc<Session>, Refused> {
-        if let Some(former) = self.target.session_of(&self.keys.initiator, header.isid()) {
+        if let Some(former) = self.target.session_of(&self.keys.initiator, header.part(place::ISID)) {
             former.abandon();
         }
         let address = self.stream.local_addr().map_err(|_| Refused::OutOfResources)?.to_string();
@@ -134,7 +135,9 @@ impl Login<'_> {
 
     fn find(&self, header: &Header, tsih: u16) -> Option<Arc<Session>> {
         let is_its_own = |session: &Arc<Session>| {
-            session.keys.initiator == self.keys.initiator && session.isid == header.isid() && !session.keys.is_discovery
+            session.keys.initiator == self.keys.initiator
+                && session.isid == header.part(place::ISID)
+                && !session.keys.is_discovery
         };
         self.target.session(tsih).filter(is_its_own)
     }
@@ -142,9 +145,9 @@ impl Login<'_> {
     /// A response that echoes what a response must echo. Login requests are immediate: ExpCmdSN is their own CmdSN.
     fn response(&self, request: &Header, flags: u8, text: Vec<u8>) -> Pdu {
         let first = request.number(place::CMD_SN);
-        let mut header = Header::new(opcode::LOGIN_RESPONSE, flags);
+        let mut header = Header::of_task(opcode::LOGIN_RESPONSE, flags, request.tag());
         header.0[8..16].copy_from_slice(&request.0[8..16]);
-        header.set(place::TAG, request.tag());
+        header.set(place::TRANSFER_TAG, 0);
         header.set(place::STAT_SN, self.stat_sn);
         header.set(place::EXP_CMD_SN, first);
         header.set(place::MAX_CMD_SN, first.wrapping_add(self.target.window - 1));

@@ -4,17 +4,14 @@ use std::process::ExitCode;
 use target::options::{Options, HELP};
 
 fn main() -> ExitCode {
-    let words: Vec<String> = std::env::args().skip(1).collect();
-    if words.iter().any(|word| word == "--help") {
+    if std::env::args().any(|word| word == "--help") {
         print!("{HELP}");
         return ExitCode::SUCCESS;
     }
-    let done = Options::read(words.into_iter()).and_then(|options| target::run(options).map_err(|why| why.to_string()));
-    match done {
-        Ok(()) => ExitCode::SUCCESS,
-        Err(why) => {
-            eprintln!("target: {why}");
-            ExitCode::FAILURE
-        }
+    let options = Options::read(std::env::args().skip(1));
+    if let Err(why) = options.and_then(|options| target::run(options).map_err(|why| why.to_string())) {
+        eprintln!("target: {why}");
+        return ExitCode::FAILURE;
     }
+    ExitCode::SUCCESS
 }

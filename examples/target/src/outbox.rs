@@ -3,7 +3,7 @@
 use crate::command::Command;
 use crate::connection::Connection;
 use crate::pdu::Pdu;
-use crate::sync::{lock, wait};
+use crate::{lock, wait};
 use std::collections::VecDeque;
 use std::io::Write;
 use std::net::{Shutdown, TcpStream};

@@ -23,7 +23,7 @@ pub mod opcode {
 pub mod place {
     /// That of additional header segments, by words, and that of the data segment.
     pub const LENGTHS: usize = 4;
-    pub const LUN: usize = 8;
+    pub const ISID: usize = 8;
     pub const TSIH: usize = 14;
     pub const TAG: usize = 16;
     pub const CID: usize = 20;
@@ -41,8 +41,10 @@ pub mod place {
     pub const ASKED_LENGTH: usize = 44;
 }
 
-/// The F bit of byte 1.
+/// Bits of byte 1.
 pub const FINAL: u8 = 0x80;
+pub const READ: u8 = 0x40;
+pub const WRITE: u8 = 0x20;
 
 /// The tag that names no task, and no transfer.
 pub const NO_TAG: u32 = 0xffff_ffff;
@@ -60,6 +62,14 @@ impl Header {
         bytes[0] = opcode;
         bytes[1] = flags;
         Header(bytes)
+    }
+
+    /// Of a PDU that the target sends for a task, without a transfer tag.
+    pub fn of_task(opcode: u8, flags: u8, tag: u32) -> Header {
+        let mut header = Header::new(opcode, flags);
+        header.set(place::TAG, tag);
+        header.set(place::TRANSFER_TAG, NO_TAG);
+        header
     }
 
     pub fn opcode(&self) -> u8 {
@@ -91,31 +101,18 @@ impl Header {
         self.number(place::TAG)
     }
 
-    /// The R bit of a SCSI Command.
-    pub fn is_read(&self) -> bool {
-        self.opcode() == opcode::SCSI_COMMAND && self.0[1] & 0x40 != 0
-    }
-
-    /// The W bit of a SCSI Command.
-    pub fn is_write(&self) -> bool {
-        self.opcode() == opcode::SCSI_COMMAND && self.0[1] & 0x20 != 0
+    /// How much data the initiator of a SCSI Command with this bit, `READ` or `WRITE`, has room for or has ready.
+    pub fn data_length(&self, bit: u8) -> usize {
+        let is_meant = self.opcode() == opcode::SCSI_COMMAND && self.0[1] & bit != 0;
+        usize::from(is_meant) * self.number(place::EXPECTED_LENGTH) as usize
     }
 
     pub fn cdb(&self) -> [u8; 16] {
         self.part(place::CDB)
     }
 
-    /// The ISID, the TSIH and the CID of a Login request.
-    pub fn isid(&self) -> [u8; 6] {
-        self.part(place::LUN)
-    }
-
-    pub fn tsih(&self) -> u16 {
-        u16::from_be_bytes(self.part(place::TSIH))
-    }
-
-    pub fn cid(&self) -> u16 {
-        u16::from_be_bytes(self.part(place::CID))
+    pub fn short(&self, at: usize) -> u16 {
+        u16::from_be_bytes(self.part(at))
     }
 
     pub fn set_numbers(&mut self, numbers: cundarrix::Numbers) {

@@ -9,16 +9,11 @@ const MOST_BLOCKS: u64 = 16_384;
 const GOOD: u8 = 0x00;
 const CHECK_CONDITION: u8 = 0x02;
 
-const VENDOR: &[u8; 8] = b"CUNDARRX";
-const PRODUCT: &[u8; 16] = b"RAM unit        ";
-const REVISION: &[u8; 4] = b"0001";
-
 /// Why a command fails: sense key, additional sense code and its qualifier.
 #[derive(Clone, Copy, Debug, PartialEq, Eq)]
 pub struct Sense(u8, u8, u8);
 
 impl Sense {
-    const NO_SENSE: Sense = Sense(0x0, 0x00, 0x00);
     pub const INVALID_OPCODE: Sense = Sense(0x5, 0x20, 0x00);
     pub const OUT_OF_RANGE: Sense = Sense(0x5, 0x21, 0x00);
     pub const INVALID_FIELD: Sense = Sense(0x5, 0x24, 0x00);
@@ -94,18 +89,14 @@ pub fn execute(unit: &Unit, cdb: &[u8; 16], data: &[u8]) -> Outcome {
 
 /// Gives the data for the initiator, no more than the CDB allows.
 fn carry_out(unit: &Unit, cdb: &[u8; 16], data: &[u8]) -> Result<Vec<u8>, Sense> {
+    let (last, block) = (unit.block_count() - 1, (BLOCK as u32).to_be_bytes());
     let (mut answer, most) = match cdb[0] {
-        // TEST UNIT READY.
-        0x00 => (Vec::new(), 0),
-        // REQUEST SENSE: a command's sense data came with its response.
-        0x03 => (Sense::NO_SENSE.data(), cdb[4].into()),
         0x12 => (inquiry(unit, cdb)?, number(&cdb[3..5])),
         // MODE SENSE.
-        0x1a => (mode_sense(cdb, 4)?, cdb[4].into()),
-        0x5a => (mode_sense(cdb, 8)?, number(&cdb[7..9])),
+        0x1a => (mode_sense(cdb)?, cdb[4].into()),
         // READ CAPACITY.
-        0x25 => (capacity_10(unit), u64::MAX),
-        0x9e if cdb[1] & 0x1f == 0x10 => (capacity_16(unit), number(&cdb[10..14])),
+        0x25 => ([(last.min(0xffff_ffff) as u32).to_be_bytes(), block].concat(), u64::MAX),
+        0x9e if cdb[1] & 0x1f == 0x10 => ([&last.to_be_bytes()[..], &block, &[0; 20]].concat(), number(&cdb[10..14])),
         // READ and WRITE. An initiator may have less data than the CDB says, or more.
         0x28 | 0x88 | 0xa8 => (unit.read(range_of(unit, cdb)?), u64::MAX),
         0x2a | 0x8a | 0xaa => {
@@ -113,8 +104,8 @@ fn carry_out(unit: &Unit, cdb: &[u8; 16], data: &[u8]) -> Result<Vec<u8>, Sense>
             unit.write(range.start, &data[..data.len().min(range.len()) / BLOCK * BLOCK]);
             (Vec::new(), 0)
         }
-        // SYNCHRONIZE CACHE: the units have none.
-        0x35 | 0x91 => (Vec::new(), 0),
+        // TEST UNIT READY, and SYNCHRONIZE CACHE: the units have none.
+        0x00 | 0x35 | 0x91 => (Vec::new(), 0),
         0xa0 => (luns(unit.count), number(&cdb[6..10])),
         _ => return Err(Sense::INVALID_OPCODE),
     };
@@ -126,56 +117,35 @@ fn carry_out(unit: &Unit, cdb: &[u8; 16], data: &[u8]) -> Result<Vec<u8>, Sense>
 /// data.
 fn inquiry(unit: &Unit, cdb: &[u8; 16]) -> Result<Vec<u8>, Sense> {
     let page = cdb[2];
-    let serial_number = format!("RAM{:05}", unit.number).into_bytes();
+    let serial = [b"RAM0000", &[b'0' + unit.number][..]].concat();
     let body = match (cdb[1] & 0x01, page) {
         (0, 0) => {
-            let mut data = [&[0x00, 0x00, 0x06, 0x02, 91, 0x00, 0x00, 0x02], &VENDOR[..], PRODUCT, REVISION].concat();
-            data.resize(58, 0);
-            data.extend_from_slice(&[0x00, 0xa0, 0x04, 0x60, 0x04, 0xc0, 0x09, 0x60]);
-            data.resize(96, 0);
-            return Ok(data);
+            let (head, text) = ([0x00, 0x00, 0x06, 0x02, 91, 0x00, 0x00, 0x02], b"CUNDARRXRAM unit        0001");
+            let versions = [0x00, 0xa0, 0x04, 0x60, 0x04, 0xc0, 0x09, 0x60];
+            return Ok([&head, &text[..], &[0; 22], &versions, &[0; 30]].concat());
         }
         (1, 0x00) => vec![0x00, 0x80, 0x83, 0xb0],
-        (1, 0x80) => serial_number,
+        (1, 0x80) => serial,
         // Block Limits.
         (1, 0xb0) => [&[0; 4], &(MOST_BLOCKS as u32).to_be_bytes()[..], &[0; 52]].concat(),
         // The names of the unit: one by its vendor, in ASCII, and one of NAA's locally assigned form.
         (1, 0x83) => {
-            let naa = 0x3000_0000_c0da_0000 + u64::from(unit.number);
-            let length = (VENDOR.len() + serial_number.len()) as u8;
-            let ascii = [&[0x02, 0x01, 0x00, length], &VENDOR[..], &serial_number].concat();
-            [&ascii[..], &[0x01, 0x03, 0x00, 8], &naa.to_be_bytes()].concat()
+            let naa = [0x01, 0x03, 0x00, 8, 0x30, 0x00, 0x00, 0x00, 0xc0, 0xda, 0x00, unit.number];
+            [&[0x02, 0x01, 0x00, 16], &b"CUNDARRX"[..], &serial, &naa].concat()
         }
         _ => return Err(Sense::INVALID_FIELD),
     };
     Ok([&[0x00, page, 0x00, body.len() as u8], &body[..]].concat())
 }
 
-/// The Control mode page with a header of so many bytes: each session has task sets of its own (TST 1), and commands
-/// may be reordered. None of it can be changed.
-fn mode_sense(cdb: &[u8; 16], header: usize) -> Result<Vec<u8>, Sense> {
-    const DPO_AND_FUA: u8 = 0x10;
-    let (control, page) = (cdb[2] >> 6, cdb[2] & 0x3f);
-    if control == 3 || ![0x0a, 0x3f].contains(&page) {
-        return Err(Sense::INVALID_FIELD);
+/// The Control mode page: each session has task sets of its own (TST 1), and commands may be reordered. None of it can
+/// be changed. The header says that DPO and FUA are taken.
+fn mode_sense(cdb: &[u8; 16]) -> Result<Vec<u8>, Sense> {
+    match (cdb[2] >> 6, cdb[2] & 0x3f) {
+        (0 | 2, 0x0a | 0x3f) => Ok(vec![15, 0, 0x10, 0, 0x0a, 10, 0x20, 0x10, 0, 0, 0, 0, 0, 0, 0, 0]),
+        (1, 0x0a | 0x3f) => Ok(vec![15, 0, 0x10, 0, 0x0a, 10, 0, 0, 0, 0, 0, 0, 0, 0, 0, 0]),
+        _ => Err(Sense::INVALID_FIELD),
     }
-    let values = if control == 1 { [0, 0] } else { [0x20, 0x10] };
-    let mut data = vec![0; header];
-    let (length, parameter) = if header == 4 { (0, 2) } else { (1, 3) };
-    (data[length], data[parameter]) = ((header - length + 11) as u8, DPO_AND_FUA);
-    data.extend_from_slice(&[0x0a, 10, values[0], values[1], 0, 0, 0, 0, 0, 0, 0, 0]);
-    Ok(data)
-}
-
-fn capacity_10(unit: &Unit) -> Vec<u8> {
-    let last = u32::try_from(unit.block_count() - 1).unwrap_or(u32::MAX);
-    [last.to_be_bytes(), (BLOCK as u32).to_be_bytes()].concat()
-}
-
-fn capacity_16(unit: &Unit) -> Vec<u8> {
-    let mut data = [&(unit.block_count() - 1).to_be_bytes()[..], &(BLOCK as u32).to_be_bytes()].concat();
-    data.resize(32, 0);
-    data
 }
 
 /// The LUNs 0 to `count - 1`.

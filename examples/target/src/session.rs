@@ -4,13 +4,13 @@
 //! library alone. The target's own part is the data of commands (immediate data, Data-Out, R2T and Data-In), what its
 //! units answer, and four things that it puts into the library's replies (`complete_reply`).
 
-use crate::command::{complete_response, read_length, written_length, Command, Next, Transfer};
+use crate::command::{complete_response, Command, Transfer};
 use crate::connection::{Connection, Fault};
 use crate::keys::{add_pair, pairs, Keys};
+use crate::lock;
 use crate::outbox::Fence;
-use crate::pdu::{opcode, place, Header, Pdu, FINAL, NO_TAG};
+use crate::pdu::{opcode, place, Header, Pdu, FINAL, NO_TAG, READ, WRITE};
 use crate::scsi::{wanted_length, Outcome};
-use crate::sync::lock;
 use crate::target::Target;
 use crate::unit::Job;
 use cundarrix::{Effect, Numbers, Options, Reply};
@@ -41,7 +41,7 @@ struct State {
     /// The CIDs that a connection may still have.
     free_cids: Vec<u16>,
     /// What came with the requests that haven't executed, by the I bit and CmdSN.
-    held: HashMap<(bool, u32), Incoming>,
+    held: HashMap<(bool, u32), Pdu>,
     live: HashMap<u64, Live>,
     /// The command of each transfer tag that an R2T gave out.
     transfers: HashMap<u32, u64>,
@@ -56,18 +56,10 @@ struct Attached {
     next_stat_sn: u32,
 }
 
-/// A request with its data.
-struct Incoming {
-    cid: u16,
-    header: Header,
-    transfer: Transfer,
-}
-
 /// A command in a task set.
 struct Live {
     command: Arc<Command>,
     transfer: Transfer,
-    is_enabled: bool,
     /// How many bytes it takes from the initiator.
     wanted: usize,
 }
@@ -92,8 +84,9 @@ impl Session {
             level: keys.level,
             ..Options::default()
         };
-        let others = (0..=u16::MAX).filter(|cid| *cid != login.cid());
-        let free_cids: Vec<u16> = std::iter::once(login.cid()).chain(others).take(MOST_CONNECTIONS).collect();
+        let first = login.short(place::CID);
+        let others = (0..=u16::MAX).filter(|cid| *cid != first);
+        let free_cids: Vec<u16> = std::iter::once(first).chain(others).take(MOST_CONNECTIONS).collect();
         let connections: Vec<_> =
             free_cids.iter().map(|&cid| cundarrix::Connection { cid, first_stat_sn: 0 }).collect();
         let library = cundarrix::Session::open(&options, &connections)?;
@@ -107,7 +100,7 @@ impl Session {
             next_transfer_tag: 0,
             is_over: false,
         });
-        Ok(Session { tsih, isid: login.isid(), keys, address, target: target.clone(), state })
+        Ok(Session { tsih, isid: login.part(place::ISID), keys, address, target: target.clone(), state })
     }
 
     /// A connection joins. `false` where the session can't take it.
@@ -143,29 +136,20 @@ impl Session {
             state.take_data(self, cid, &pdu);
             return Ok(());
         }
-        let Pdu { header, data } = pdu;
-        state.library.arrive(cid, &header.0)?;
+        state.library.arrive(cid, &pdu.header.0)?;
         let effects: Vec<Effect> = state.library.effects().collect();
         let is_taken = !matches!(effects[..], [Effect::Ignore { .. }]);
         if is_taken && [opcode::SCSI_COMMAND, opcode::NOP_OUT, opcode::TEXT].contains(&opcode) {
-            let transfer = Transfer::new(&header, data, self.unsolicited(&header));
-            let key = (header.is_immediate(), header.number(place::CMD_SN));
-            state.held.insert(key, Incoming { cid, header, transfer });
+            state.held.insert((pdu.header.is_immediate(), pdu.header.number(place::CMD_SN)), pdu);
         }
         state.carry_out(self, effects, None);
         Ok(())
     }
 
-    /// How far the data of a WRITE may go without being asked for, by what was negotiated.
-    fn unsolicited(&self, header: &Header) -> Option<usize> {
-        let is_allowed = self.keys.immediate_data || !self.keys.initial_r2t;
-        (is_allowed && header.is_write()).then_some(self.keys.first_burst as usize)
-    }
-
     /// Sends the data of a READ, which carries no status and takes no StatSN. `false` where the command was stopped, or
     /// its connection closed: then nothing more of it goes out.
     pub fn send_data(&self, command: &Command, data: &[u8]) -> bool {
-        let data = &data[..data.len().min(read_length(&command.header))];
+        let data = &data[..data.len().min(command.header.data_length(READ))];
         let burst = self.keys.max_burst as usize;
         let longest = command.connection.longest_data.min(burst);
         let mut offset = 0;
@@ -173,9 +157,7 @@ impl Session {
         while offset < data.len() {
             let end = (offset + longest).min(data.len()).min(offset - offset % burst + burst);
             let is_last = end == data.len() || end % burst == 0;
-            let mut header = Header::new(opcode::DATA_IN, if is_last { FINAL } else { 0 });
-            header.set(place::TAG, command.header.tag());
-            header.set(place::TRANSFER_TAG, NO_TAG);
+            let mut header = Header::of_task(opcode::DATA_IN, u8::from(is_last) * FINAL, command.header.tag());
             header.set(place::DATA_SN, data_sn);
             header.set(place::OFFSET, offset as u32);
             let Ok(numbers) = self.numbers() else {
@@ -228,15 +210,15 @@ impl State {
         let mut current = None;
         for effect in effects {
             match effect {
-                Effect::Deliver { cid, cmd_sn, header } | Effect::Immediate { cid, cmd_sn, header } => {
+                Effect::Deliver { cmd_sn, header, .. } | Effect::Immediate { cmd_sn, header, .. } => {
                     let header = Header(header);
                     let held = self.held.remove(&(header.is_immediate(), cmd_sn));
-                    current = held.or(Some(Incoming { cid, header, transfer: Transfer::default() }));
+                    current = held.or(Some(Pdu { header, data: Vec::new() }));
                 }
                 Effect::Wait { .. } | Effect::Void { .. } | Effect::Ignore { .. } => {}
                 Effect::Empty { cmd_sn } => drop(self.held.remove(&(false, cmd_sn))),
-                Effect::Enter { ticket, unit, .. } => self.enter(session, ticket, unit, current.take()),
-                Effect::Enable { ticket, .. } => self.advance(session, ticket, true),
+                Effect::Enter { ticket, unit, cid, .. } => self.enter(session, ticket, unit, cid, current.take()),
+                Effect::Enable { ticket, .. } => self.advance(session, ticket),
                 Effect::Leave { ticket, .. } => self.leave(ticket, completed.as_ref()),
                 Effect::Send(reply) => self.send(session, reply, completed.as_ref(), current.as_ref()),
                 Effect::CloseConnection { cid } => {
@@ -253,57 +235,36 @@ impl State {
         }
     }
 
-    fn enter(&mut self, session: &Session, ticket: u64, unit: u16, current: Option<Incoming>) {
-        let (Some(Incoming { cid, header, transfer }), Some(unit)) = (current, session.target.units.get(unit as usize))
-        else {
-            return;
-        };
-        if let Some(attached) = self.connections.get(&cid) {
+    fn enter(&mut self, session: &Session, ticket: u64, unit: u16, cid: u16, current: Option<Pdu>) {
+        let places = (self.connections.get(&cid), session.target.units.get(unit as usize));
+        if let (Some(Pdu { header, data }), (Some(attached), Some(unit))) = (current, places) {
+            let wanted = wanted_length(unit, &header.cdb()).min(header.data_length(WRITE));
             let command = Arc::new(Command::new(ticket, unit.clone(), header, attached.connection.clone()));
-            let wanted = wanted_length(unit, &header.cdb()).min(written_length(&header));
-            self.live.insert(ticket, Live { command, transfer, is_enabled: false, wanted });
+            self.live.insert(ticket, Live { command, transfer: Transfer::new(&header, data), wanted });
         }
     }
 
-    /// Asks for the data that an enabled command needs next, or gives the command to its unit once all is there.
-    fn advance(&mut self, session: &Arc<Session>, ticket: u64, is_enabled_now: bool) {
-        let Some(live) = self.live.get_mut(&ticket) else {
-            return;
-        };
-        live.is_enabled |= is_enabled_now;
-        if !live.is_enabled {
-            return;
-        }
-        match live.transfer.next(live.wanted, session.keys.max_burst as usize) {
-            Next::Data => {}
-            Next::Ask { offset, length, r2t_sn } => self.ask(ticket, offset, length, r2t_sn),
-            Next::Done => {
-                live.is_enabled = false;
-                let data = std::mem::take(&mut live.transfer).data();
-                let command = live.command.clone();
-                command.unit.clone().push(Job { session: session.clone(), command, data });
-            }
-        }
-    }
-
-    /// Sends an R2T. It carries the next StatSN and takes none.
-    fn ask(&mut self, ticket: u64, offset: usize, length: usize, r2t_sn: u32) {
+    /// Asks for the data that an enabled command needs next, or gives the command to its unit once all is there. An
+    /// R2T carries the next StatSN and takes none.
+    fn advance(&mut self, session: &Arc<Session>, ticket: u64) {
         let (Some(live), Ok(numbers)) = (self.live.get_mut(&ticket), self.library.numbers()) else {
             return;
         };
+        let command = live.command.clone();
         let transfer_tag = self.next_transfer_tag;
+        let Some(asked) = live.transfer.ask(transfer_tag, live.wanted, session.keys.max_burst as usize) else {
+            let data = std::mem::take(&mut live.transfer).data();
+            return command.unit.clone().push(Job { session: session.clone(), command, data });
+        };
         self.next_transfer_tag = (transfer_tag + 1) % NO_TAG;
         self.transfers.insert(transfer_tag, ticket);
-        live.transfer.ask(transfer_tag, length);
-        let command = &live.command;
-        let mut header = Header::new(opcode::R2T, FINAL);
+        let mut header = Header::of_task(opcode::R2T, FINAL, command.header.tag());
         header.0[8..16].copy_from_slice(&command.header.0[8..16]);
-        header.set(place::TAG, command.header.tag());
         header.set(place::TRANSFER_TAG, transfer_tag);
         header.set_numbers(numbers);
-        header.set(place::DATA_SN, r2t_sn);
-        header.set(place::OFFSET, offset as u32);
-        header.set(place::ASKED_LENGTH, length as u32);
+        header.set(place::DATA_SN, asked.r2t_sn);
+        header.set(place::OFFSET, asked.offset as u32);
+        header.set(place::ASKED_LENGTH, asked.length as u32);
         if let Some(attached) = self.connections.get(&command.connection.cid) {
             header.set(place::STAT_SN, attached.next_stat_sn);
             attached.connection.outbox.post(Pdu { header, data: Vec::new() }, Some(ticket), Fence::new());
@@ -313,21 +274,15 @@ impl State {
     /// A Data-Out arrived. The library doesn't look at it. What is for no command any more is discarded.
     fn take_data(&mut self, session: &Arc<Session>, cid: u16, pdu: &Pdu) {
         let transfer_tag = pdu.header.number(place::TRANSFER_TAG);
-        let tag = pdu.header.tag();
-        let of_tag = |live: &&Live| live.command.header.tag() == tag && live.command.connection.cid == cid;
-        let ticket = match transfer_tag {
-            NO_TAG => self.live.values().find(of_tag).map(|live| live.command.ticket),
-            _ => self.transfers.get(&transfer_tag).copied(),
+        let live = self.transfers.get(&transfer_tag).and_then(|ticket| self.live.get_mut(ticket));
+        let Some(live) = live.filter(|live| live.command.is_of(cid, pdu.header.tag())) else {
+            return;
         };
-        if let Some(live) = ticket.and_then(|ticket| self.live.get_mut(&ticket)).filter(|live| of_tag(&&**live)) {
-            live.transfer.take(pdu);
+        live.transfer.take(pdu);
+        if pdu.header.is_final() {
             let ticket = live.command.ticket;
-            if pdu.header.is_final() {
-                self.transfers.remove(&transfer_tag);
-                self.advance(session, ticket, false);
-            }
-        } else if let Some(held) = self.held.values_mut().find(|held| held.header.tag() == tag && held.cid == cid) {
-            held.transfer.take(pdu);
+            self.transfers.remove(&transfer_tag);
+            self.advance(session, ticket);
         }
     }
 
@@ -342,7 +297,7 @@ impl State {
     }
 
     /// Sends a reply, with the connection's own StatSN.
-    fn send(&mut self, session: &Session, reply: Reply, completed: Option<&Completed>, current: Option<&Incoming>) {
+    fn send(&mut self, session: &Session, reply: Reply, completed: Option<&Completed>, current: Option<&Pdu>) {
         let mut pdu = Pdu { header: Header(reply.header), data: reply.data.to_vec() };
         session.complete_reply(&mut pdu, completed, current);
         let fence = self.fence(&pdu.header, current);
@@ -357,7 +312,7 @@ impl State {
 
     /// What goes out before a reply: where an abort of several tasks is complete, all that the session's connections
     /// have queued (the response fence of RFC 7143 section 4.2.3.3).
-    fn fence(&self, reply: &Header, current: Option<&Incoming>) -> Fence {
+    fn fence(&self, reply: &Header, current: Option<&Pdu>) -> Fence {
         const FUNCTION_COMPLETE: u8 = 0;
         let is_fenced = reply.opcode() == opcode::FUNCTION_RESPONSE
             && reply.0[2] == FUNCTION_COMPLETE
@@ -386,7 +341,7 @@ impl Session {
     /// Puts into a reply of the library's what the library doesn't know: the residual count and the unit's sense data
     /// of a SCSI Response, the ping's data of a NOP-In, and the Text Response in place of the Reject, as the library
     /// has no negotiation. Its numbers, its tag, its status and its place in the order stay the library's.
-    fn complete_reply(&self, pdu: &mut Pdu, completed: Option<&Completed>, current: Option<&Incoming>) {
+    fn complete_reply(&self, pdu: &mut Pdu, completed: Option<&Completed>, current: Option<&Pdu>) {
         if let Some((command, outcome)) = completed {
             return complete_response(pdu, &command.header, outcome);
         }
@@ -397,13 +352,12 @@ impl Session {
             (opcode::SCSI_COMMAND, opcode::SCSI_RESPONSE) => {
                 complete_response(pdu, &current.header, &Outcome::failed(None));
             }
-            (opcode::NOP_OUT, _) => pdu.data = current.transfer.buffer().to_vec(),
+            (opcode::NOP_OUT, _) => pdu.data = current.data.clone(),
             (opcode::TEXT, opcode::REJECT) if current.header.tag() != NO_TAG => {
-                if let Some(text) = self.text_answer(&current.header, current.transfer.buffer()) {
-                    let mut header = Header::new(opcode::TEXT_RESPONSE, FINAL);
-                    header.set(place::TAG, current.header.tag());
-                    header.set(place::TRANSFER_TAG, NO_TAG);
-                    header.0[24..36].copy_from_slice(&pdu.header.0[24..36]);
+                if let Some(text) = self.text_answer(&current.header, &current.data) {
+                    let numbers = pdu.header.part::<12>(place::STAT_SN);
+                    let mut header = Header::of_task(opcode::TEXT_RESPONSE, FINAL, current.header.tag());
+                    header.0[place::STAT_SN..][..12].copy_from_slice(&numbers);
                     *pdu = Pdu { header, data: text };
                 }
             }
@@ -420,13 +374,11 @@ impl Session {
         let mut answer = Vec::new();
         for (key, value) in pairs(text)? {
             let name = &self.target.name;
-            match key {
-                "SendTargets" if ["All", "", name].contains(&value) => {
-                    add_pair(&mut answer, "TargetName", name);
-                    add_pair(&mut answer, "TargetAddress", &format!("{},1", self.address));
-                }
-                "SendTargets" => {}
-                _ => add_pair(&mut answer, key, "NotUnderstood"),
+            if key != "SendTargets" {
+                add_pair(&mut answer, key, "NotUnderstood");
+            } else if ["All", "", name].contains(&value) {
+                add_pair(&mut answer, "TargetName", name);
+                add_pair(&mut answer, "TargetAddress", &format!("{},1", self.address));
             }
         }
         Some(answer)

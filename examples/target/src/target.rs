@@ -1,8 +1,8 @@
 //! What all sessions share: the target's name, its units, and which sessions there are.
 
 use crate::connection::Fault;
+use crate::lock;
 use crate::session::Session;
-use crate::sync::lock;
 use crate::unit::Unit;
 use std::collections::HashMap;
 use std::sync::{Arc, Mutex};

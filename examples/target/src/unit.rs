@@ -3,8 +3,8 @@
 use crate::command::Command;
 use crate::scsi::{self, Outcome, Sense};
 use crate::session::Session;
-use crate::sync::{lock, wait};
-use crate::trace::{Moment, Trace};
+use crate::trace::{now, Moment, Trace};
+use crate::{lock, wait};
 use std::collections::VecDeque;
 use std::ops::Range;
 use std::sync::{Arc, Condvar, Mutex, PoisonError, RwLock};
@@ -54,21 +54,18 @@ impl Unit {
         self.is_wanted.notify_one();
     }
 
-    fn next_job(&self) -> Job {
-        let mut jobs = lock(&self.jobs);
-        loop {
-            match jobs.pop_front() {
-                Some(job) => return job,
-                None => jobs = wait(&self.is_wanted, jobs),
-            }
-        }
-    }
-
     /// Works on one command after another, for ever. Each takes `delay` longer than it needs.
     pub fn work(&self, delay: Duration, trace: &Trace) {
         loop {
-            let job = self.next_job();
-            let begin = Moment::now();
+            let mut jobs = lock(&self.jobs);
+            while jobs.is_empty() {
+                jobs = wait(&self.is_wanted, jobs);
+            }
+            let Some(job) = jobs.pop_front() else {
+                continue;
+            };
+            drop(jobs);
+            let begin = now();
             let (end, is_completed) = self.finish(&job, delay);
             trace.write(&job, begin, end, is_completed);
         }
@@ -79,17 +76,13 @@ impl Unit {
     fn finish(&self, job: &Job, delay: Duration) -> (Moment, bool) {
         let outcome = match job.command.is_stopped_within(delay) {
             true => None,
-            false => job.command.unless_stopped(|| self.execute(job)),
+            false => job.command.unless_stopped(|| match &job.data {
+                Ok(data) => scsi::execute(self, &job.command.header.cdb(), data),
+                Err(sense) => Outcome::failed(Some(*sense)),
+            }),
         };
         let outcome = outcome.filter(|outcome| job.session.send_data(&job.command, &outcome.data));
-        let end = Moment::now();
+        let end = now();
         (end, outcome.is_some_and(|outcome| job.session.complete(&job.command, outcome)))
-    }
-
-    fn execute(&self, job: &Job) -> Outcome {
-        match &job.data {
-            Ok(data) => scsi::execute(self, &job.command.header.cdb(), data),
-            Err(sense) => Outcome::failed(Some(*sense)),
-        }
     }
 }

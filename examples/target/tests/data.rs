@@ -1,7 +1,7 @@
 //! The data of a command: how it comes, and the residuals.
 
-use target::command::{complete_response, Next, Transfer};
-use target::pdu::{opcode, place, Header, Pdu, FINAL, NO_TAG};
+use target::command::{complete_response, Asked, Transfer};
+use target::pdu::{opcode, place, Header, Pdu, FINAL};
 use target::scsi::Outcome;
 
 fn write_of(length: u32, flags: u8) -> Header {
@@ -35,17 +35,15 @@ fn residuals_say_what_was_not_moved() {
 }
 
 #[test]
-fn data_comes_unsolicited_and_then_as_it_is_asked_for() {
-    let mut transfer = Transfer::new(&write_of(40, 0), vec![7; 8], Some(16));
-    assert_eq!(transfer.next(40, 16), Next::Data);
-    transfer.take(&data_out(NO_TAG, 8, 0, FINAL, 8));
-    assert_eq!(transfer.next(40, 16), Next::Ask { offset: 16, length: 16, r2t_sn: 0 });
-    transfer.ask(5, 16);
+fn data_comes_with_the_command_and_then_as_it_is_asked_for() {
+    let mut transfer = Transfer::new(&write_of(40, FINAL), vec![7; 16]);
+    assert_eq!(transfer.ask(5, 40, 16), Some(Asked { offset: 16, length: 16, r2t_sn: 0 }));
     transfer.take(&data_out(5, 16, 0, 0, 8));
     transfer.take(&data_out(5, 24, 1, FINAL, 8));
-    assert_eq!(transfer.next(40, 16), Next::Ask { offset: 32, length: 8, r2t_sn: 1 });
-    assert_eq!(transfer.next(32, 16), Next::Done);
-    assert_eq!(transfer.data().map(|data| data.len()).ok(), Some(32));
+    assert_eq!(transfer.ask(6, 40, 16), Some(Asked { offset: 32, length: 8, r2t_sn: 1 }));
+    transfer.take(&data_out(6, 32, 0, FINAL, 8));
+    assert_eq!(transfer.ask(7, 40, 16), None);
+    assert_eq!(transfer.data().map(|data| data.len()).ok(), Some(40));
 }
 
 #[test]
@@ -57,10 +55,10 @@ fn data_that_is_not_the_next_spoils_the_transfer() {
         data_out(5, 0, 0, FINAL, 20),
         data_out(5, 0, 0, FINAL, 12),
     ] {
-        let mut transfer = Transfer::new(&write_of(16, FINAL), Vec::new(), None);
-        transfer.ask(5, 16);
+        let mut transfer = Transfer::new(&write_of(16, FINAL), Vec::new());
+        assert!(transfer.ask(5, 16, 16).is_some());
         transfer.take(&wrong);
-        assert_eq!(transfer.next(16, 16), Next::Done);
+        assert_eq!(transfer.ask(6, 16, 16), None);
         assert!(transfer.data().is_err());
     }
 }

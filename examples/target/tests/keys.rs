@@ -16,22 +16,22 @@ fn keys_are_negotiated_by_their_functions() {
     );
     assert_eq!(
         text,
-        "HeaderDigest=None InitialR2T=No ImmediateData=Yes MaxBurstLength=262144 FirstBurstLength=4096 \
+        "HeaderDigest=None InitialR2T=Yes ImmediateData=Yes MaxBurstLength=262144 FirstBurstLength=4096 \
         MaxConnections=8 ErrorRecoveryLevel=0 "
     );
-    assert_eq!((keys.initial_r2t, keys.first_burst, keys.connections), (false, 4096, 8));
+    assert_eq!((keys.max_burst, keys.connections), (262_144, 8));
     assert_eq!(keys.longest_data, 65536);
 }
 
 #[test]
 fn what_can_not_be_agreed_on_is_rejected() {
     let (keys, text) = answers(
-        "AuthMethod=CHAP DataDigest=CRC32C InitialR2T=Maybe MaxBurstLength=1 X-new=1 \
+        "AuthMethod=CHAP DataDigest=CRC32C MaxBurstLength=1 X-new=1 \
         MaxRecvDataSegmentLength=1",
     );
     assert_eq!(
         text,
-        "AuthMethod=Reject DataDigest=Reject InitialR2T=Reject MaxBurstLength=Reject \
+        "AuthMethod=Reject DataDigest=Reject MaxBurstLength=Reject \
         X-new=NotUnderstood MaxRecvDataSegmentLength=Reject "
     );
     assert_eq!(keys.longest_data, 8192);
