@@ -18,7 +18,8 @@ def build_over_pthreads(folder):
     shutil.copytree(os.path.join(TOP, "examples", "target"), copy, ignore=shutil.ignore_patterns("target"))
     for name in os.listdir(os.path.join(copy, "src")):
         rewrite(os.path.join(copy, "src", name), lambda text: USE.sub("use crate::pthreads::", text))
-    rewrite(os.path.join(copy, "src", "main.rs"), lambda text: text.replace("\nmod pdu;", "\nmod pdu;\nmod pthreads;"))
+    rewrite(os.path.join(copy, "src", "lib.rs"),
+            lambda text: text.replace("\npub mod pdu;", "\npub mod pdu;\nmod pthreads;"))
     rewrite(os.path.join(copy, "Cargo.toml"), lambda text: text.replace("../../bindings", f"{TOP}/bindings"))
     shutil.copy(os.path.join(HERE, "pthreads.rs"), os.path.join(copy, "src"))
     done = run(["cargo", "build", "--release", "--offline"], WAIT_BUILD, cwd=copy,
