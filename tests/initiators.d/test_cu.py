@@ -5,9 +5,9 @@ from dataclasses import dataclass
 
 # Each with the seconds that it may take. In iSCSIcmdsn commands aren't answered, and it waits for its own time-out.
 FAMILIES = {
-    "iSCSIcmdsn": 30, "iSCSIdatasn": 15, "iSCSITMF": 15, "iSCSIResiduals": 15, "Read6": 15, "Read10": 20, "Read12": 20,
-    "Read16": 20, "Write10": 20, "Write12": 20, "Write16": 20, "Verify10": 20, "Verify12": 20, "Verify16": 20,
-    "ReadCapacity10": 10, "ReadCapacity16": 10, "Inquiry": 10, "Mandatory": 10, "TestUnitReady": 10, "ModeSense6": 10,
+    "iSCSIcmdsn": 30, "iSCSIdatasn": 15, "iSCSITMF": 15, "iSCSIResiduals": 15, "Read10": 20, "Read12": 20, "Read16": 20,
+    "Write10": 20, "Write12": 20, "Write16": 20, "ReadCapacity10": 10, "ReadCapacity16": 10, "Inquiry": 10,
+    "Mandatory": 10, "TestUnitReady": 10, "ModeSense6": 10,
 }
 
 # What is known of tests that don't pass against the target, by their names FAMILY.TEST, each with the reason: that they
@@ -18,7 +18,6 @@ NO_LIST = "the target has no REPORT SUPPORTED OPERATION CODES, by which the test
 KNOWN_SKIPS = {
     **{f"iSCSIResiduals.WriteVerify{size}Residuals": NO_WRITE_VERIFY for size in (10, 12, 16)},
     **{f"{kind}{size}.DpoFua": NO_LIST for kind in ("Read", "Write") for size in (10, 12, 16)},
-    **{f"Verify{size}.Dpo": NO_LIST for size in (10, 12, 16)},
     "Inquiry.BlockLimits": "the limits of UNMAP are for thin provisioned units, and the units are in RAM as a whole",
 }
 
