@@ -123,7 +123,7 @@ impl Transfer {
         self.next_data_sn = self.next_data_sn.wrapping_add(1);
     }
 
-    /// Begins the next burst, by this transfer tag, where the command takes `wanted` bytes. `None` where it needs no more.
+    /// Begins the next burst, by this transfer tag, where the command takes `wanted` bytes. `None`: it needs no more.
     pub fn ask(&mut self, transfer_tag: u32, wanted: usize, max_burst: usize) -> Option<Asked> {
         let offset = self.buffer.len();
         if self.is_wrong || offset >= wanted {
