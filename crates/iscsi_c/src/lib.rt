@@ -9,10 +9,10 @@ ghost use Rattle.iscsi_session.specs.Refusals.{refusal_of};
 ghost use Rattle.iscsi_host.specs.Inside.{inside};
 ghost use Rattle.iscsi_host.specs.Plain.{plain_setting};
 ghost use Rattle.iscsi_host.specs.Serving.{ServesIn, effects_in};
-ghost use Rattle.iscsi_host.specs.Answers.{code_of, answer_of, arrival_answer, closing_answer, effect_code, effect_after, numbers_code, numbers_after, OpensWith};
+ghost use Rattle.iscsi_host.specs.Answers.{code_of, answer_of, arrival_answer, closed_arrival_answer, closing_answer, effect_code, effect_after, numbers_code, numbers_after, OpensWith};
 
 use iscsi_history::Event;
-use iscsi_host::{Handle, PlainConnection, PlainEffect, PlainNumbers, PlainOptions};
+use iscsi_host::{Answer, Handle, PlainConnection, PlainEffect, PlainNumbers, PlainOptions};
 use std::alloc::Global;
 
 /// Opens a session.
@@ -41,7 +41,7 @@ pub extern "C" fn iscsi_c_arrive(
     ensures serves { (o : Setting) (h : List Event) → ServesIn o (inside session.old) h → result ≡ 0 → ServesIn o (inside session.new) (h ++ Event.Arrive cid (take 48 header.now) ∷ []) }
     ensures answer { (o : Setting) (h : List Event) → ServesIn o (inside session.old) h → result ≡ code_of (arrival_answer o h cid header.now) }
     ensures unchanged { (o : Setting) (h : List Event) → ServesIn o (inside session.old) h → result ≢ 0 → inside session.new ≡ inside session.old }
-    ensures not_open { inside session.old ≡ None → (inside session.new ≡ None) × (result ≢ 0) }
+    ensures not_open { inside session.old ≡ None → (inside session.new ≡ None) × (result ≡ code_of (closed_arrival_answer header.now)) }
 {
     session.arrive(alloc, cid, header).code()
 }
@@ -57,7 +57,7 @@ pub extern "C" fn iscsi_c_complete(
     ensures serves { (o : Setting) (h : List Event) → ServesIn o (inside session.old) h → result ≡ 0 → ServesIn o (inside session.new) (h ++ Event.Done ticket status ∷ []) }
     ensures answer { (o : Setting) (h : List Event) → ServesIn o (inside session.old) h → result ≡ code_of (answer_of (refusal_of o h (Event.Done ticket status))) }
     ensures unchanged { (o : Setting) (h : List Event) → ServesIn o (inside session.old) h → result ≢ 0 → inside session.new ≡ inside session.old }
-    ensures not_open { inside session.old ≡ None → (inside session.new ≡ None) × (result ≢ 0) }
+    ensures not_open { inside session.old ≡ None → (inside session.new ≡ None) × (result ≡ code_of Answer.NotOpen) }
 {
     session.complete(alloc, ticket, status).code()
 }

@@ -47,6 +47,10 @@ OpensAs None false answer = answer ≡ BadOptions
 abbrev pub arrival_answer : Setting → List Event → ℕ → List ℕ → Answer
 arrival_answer o h cid header = if nat_lt (length header) 48 then ShortHeader else answer_of (refusal_of o h (Arrive cid (take 48 header)))
 
+-- the answer to an arrival where the handle is closed
+abbrev pub closed_arrival_answer : List ℕ → Answer
+closed_arrival_answer header = if nat_lt (length header) 48 then ShortHeader else NotOpen
+
 -- the plain form of the effect with this index
 abbrev pub effect_in : Option Hosted → ℕ → Result PlainEffect Answer
 effect_in None index = Err NotOpen

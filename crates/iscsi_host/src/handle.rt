@@ -4,7 +4,7 @@ ghost use Rattle.std.specs.Prelude.{◌≡◌, ◌≢◌, List, [], ◌∷◌, �
 ghost use Rattle.iscsi_history.specs.Settings.{Setting, is_valid};
 ghost use Rattle.iscsi_session.specs.Refusals.{refusal_of};
 ghost use Rattle.iscsi_host.specs.Serving.{Serves, ServesIn, effects_in};
-ghost use Rattle.iscsi_host.specs.Answers.{answer_of, arrival_answer, closing_answer, answer_in, effect_in, written_over, numbers_in, MayRefuseAs, OpensAs};
+ghost use Rattle.iscsi_host.specs.Answers.{answer_of, arrival_answer, closed_arrival_answer, closing_answer, answer_in, effect_in, written_over, numbers_in, MayRefuseAs, OpensAs};
 ghost use Rattle.iscsi_host.specs.Plain.{plain_setting};
 
 mod owner;
@@ -77,7 +77,7 @@ impl Handle {
         ensures serves { (o : Setting) (h : List Event) → ServesIn o (inside self.old) h → result ≡ Answer.Done → ServesIn o (inside self.new) (h ++ Event.Arrive cid (take 48 header.now) ∷ []) }
         ensures answer { (o : Setting) (h : List Event) → ServesIn o (inside self.old) h → result ≡ arrival_answer o h cid header.now }
         ensures unchanged { (o : Setting) (h : List Event) → ServesIn o (inside self.old) h → result ≢ Answer.Done → inside self.new ≡ inside self.old }
-        ensures not_open { inside self.old ≡ None → (inside self.new ≡ None) × (result ≢ Answer.Done) }
+        ensures not_open { inside self.old ≡ None → (inside self.new ≡ None) × (result ≡ closed_arrival_answer header.now) }
     {
         match header.first_chunk::<48>() {
             Some(header) => {
