@@ -1,5 +1,5 @@
 -- Lists of connections and commands.
-use Rattle.std.proofs.Common.{◌≡◌, ℕ, zero, suc, ◌+◌, ◌<◌, ◌==◌, ◌&&◌, not, cond, true, false, List, [], ◌∷◌, length, map, get_or, set, Option, Some, None, refl, ap, sym, ◌∙◌, arith}
+use Rattle.std.proofs.Common.{◌≡◌, ℕ, ◌+◌, ◌==◌, ◌&&◌, not, cond, true, false, List, [], ◌∷◌, map, Option, Some, None, refl, ap, ◌∙◌}
 use Rattle.std.specs.List.{list_all}
 use Rattle.iscsi_wire.specs.Serial.{wire}
 use Rattle.iscsi_session.specs.declared.session.live.Live.{Live}
@@ -7,30 +7,11 @@ use Rattle.iscsi_session.specs.declared.session.waiting.Waiting.{Waiting}
 use Rattle.iscsi_history.specs.Settings.{is_known}
 use Rattle.iscsi_wire.specs.declared.request.Request.{Request}
 use Rattle.iscsi_wire.specs.Fields.{connection_of, is_immediate}
-use Rattle.iscsi_session.specs.Standing.{stat_sn_on, are_known, is_place_known}
+use Rattle.iscsi_session.specs.Standing.{are_known, is_place_known}
 use Rattle.iscsi_session.specs.Steps.{count_reply, without_ticket}
 use Rattle.iscsi_history.proofs.ListLemmas.{is_known-cids, list_all-filter, list_all-same}
 
 -- ---- StatSNs
-
--- the first connection with the CID, by its place
-pub count_reply-at : (conns : List (ℕ × ℕ)) (cid i : ℕ) (d : ℕ × ℕ) → i < length conns → ((get_or conns i d).0 == cid) ≡ true
-    → ((k : ℕ) → k < i → ((get_or conns k d).0 == cid) ≡ false)
-    → set conns i ((get_or conns i d).0, wire ((get_or conns i d).1 + 1)) ≡ count_reply cid conns
-count_reply-at [] cid i d lt here before = absurd (omega arith)
-count_reply-at (c ∷ conns) cid zero d lt here before = sym (ap (λ b. cond b ((c.0, wire (c.1 + 1)) ∷ conns) (c ∷ count_reply cid conns)) here)
-count_reply-at (c ∷ conns) cid (suc i) d lt here before =
-    ap (λ cs. c ∷ cs) (count_reply-at conns cid i d (omega arith) here (λ k h. before (suc k) (omega arith)))
-    ∙ sym (ap (λ b. cond b ((c.0, wire (c.1 + 1)) ∷ conns) (c ∷ count_reply cid conns)) (before 0 (omega arith)))
-
-pub stat_sn_on-at : (conns : List (ℕ × ℕ)) (cid i : ℕ) (d : ℕ × ℕ) → i < length conns → ((get_or conns i d).0 == cid) ≡ true
-    → ((k : ℕ) → k < i → ((get_or conns k d).0 == cid) ≡ false)
-    → stat_sn_on cid conns ≡ wire (get_or conns i d).1
-stat_sn_on-at [] cid i d lt here before = absurd (omega arith)
-stat_sn_on-at (c ∷ conns) cid zero d lt here before = ap (λ b. cond b (wire c.1) (stat_sn_on cid conns)) here
-stat_sn_on-at (c ∷ conns) cid (suc i) d lt here before =
-    ap (λ b. cond b (wire c.1) (stat_sn_on cid conns)) (before 0 (omega arith))
-    ∙ stat_sn_on-at conns cid i d (omega arith) here (λ k h. before (suc k) (omega arith))
 
 -- a reply changes no CID
 pub cids-count_reply : (cid : ℕ) (conns : List (ℕ × ℕ)) → map (λ (c : ℕ × ℕ). c.0) (count_reply cid conns) ≡ map (λ (c : ℕ × ℕ). c.0) conns

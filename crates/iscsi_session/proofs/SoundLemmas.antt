@@ -116,6 +116,14 @@ commands_sound {s} inv {w} {count} {live} {tickets} {immediate} {sets} {live_roo
   units = omega (arith, inv.units, units);
 }
 
+-- the same, where the connections are written as others that are the same
+pub commands_sound_on : {s : Inner} → IsSessionSound s → {w : Received} {count : ℕ} {live : List Live} {tickets : ℕ → Option ℕ} {immediate : List ℕ} {sets : List Members} {live_room tag_room : ℕ} {conns : List (ℕ × ℕ)} → conns ≡ s.conns
+    → IsWindowSound w s.held count s.taken s.conns → AreCommandsSound w.unfinished count s.conns tickets immediate sets live → w.places ≡ s.window.places → length sets ≡ length s.sets → s.live_room ≤ live_room → s.tag_room ≤ tag_room
+    → IsSessionSound (record s { window = w; conns = conns; entered = count; live = live; tickets = tickets; immediate = immediate; sets = sets; live_room = live_room; tag_room = tag_room })
+commands_sound_on {s} inv {w} {count} {live} {tickets} {immediate} {sets} {live_room} {tag_room} {conns} same window commands places units more_live more_tags =
+    subst (λ (cs : List (ℕ × ℕ)). IsSessionSound (record s { window = w; conns = cs; entered = count; live = live; tickets = tickets; immediate = immediate; sets = sets; live_room = live_room; tag_room = tag_room }))
+    (sym same) (commands_sound inv window commands places units more_live more_tags)
+
 -- the sets have become others, of the same commands
 pub sets_sound : {s : Inner} → IsSessionSound s → {sets new : List Members} → sets ≡ new → length new ≡ length s.sets → Match new s.live → IsSessionSound (record s { sets = sets })
 sets_sound {s} inv {sets} {new} is long match =

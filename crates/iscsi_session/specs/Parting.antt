@@ -1,6 +1,6 @@
 -- What a session keeps when a Logout Request executes, and the effects, by what it keeps before. For private contracts alone.
 use Rattle.std.specs.Prelude.{ℕ, ◌+◌, ◌==◌, not, Bool, List, [], ◌∷◌, ◌++◌, length, map, take, filter, Option, Some, None, if◌then◌else◌}
-use Rattle.std.specs.List.{list_any, list_all, flat_map, range_with_len}
+use Rattle.std.specs.List.{list_all, flat_map, range_with_len}
 use Rattle.iscsi_wire.specs.declared.reply.Reply.TheVariants.{Logout, Reject}
 use Rattle.iscsi_wire.specs.declared.request.Request.{Request}
 use Rattle.iscsi_wire.specs.Serial.{wire}
@@ -17,13 +17,11 @@ use Rattle.iscsi_session.specs.declared.closing.Closing.TheVariants.{Refused, Se
 use Rattle.iscsi_session.specs.declared.session.waiting.Waiting.{Waiting}
 use Rattle.iscsi_history.specs.Execution.{NO_TAG}
 use Rattle.iscsi_session.specs.Standing.{Core}
+pub use Rattle.iscsi_connections.specs.Connected.{is_among_open, still_open}
 use Rattle.iscsi_session.specs.Steps.{set_at, all_given, enable_effects, with_reply, reply_effects}
 use Rattle.iscsi_session.specs.Functions.{with_left, leaving_effects}
 
 -- ---- what it comes to
-
-abbrev pub is_among_open : ℕ → List ℕ → Bool
-is_among_open conn conns = list_any (λ c. c == conn) conns
 
 abbrev pub closing_by : Core → Request → Closing
 closing_by s r =
@@ -75,9 +73,6 @@ abbrev pub with_dropped : Core → Option ℕ → Core
 with_dropped s whose = record s { waiting = filter (λ w. not (is_asked whose (connection_of w.request))) s.waiting }
 
 -- ---- the close
-
-abbrev pub still_open : Option ℕ → List ℕ → List ℕ
-still_open whose conns = filter (λ c. not (is_asked whose c)) conns
 
 -- where none is open, nothing waits
 abbrev pub waiting_then : List ℕ → List Waiting → List Waiting

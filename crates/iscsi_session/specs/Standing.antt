@@ -20,6 +20,7 @@ use Rattle.iscsi_history.specs.Agenda.{belongs}
 use Rattle.iscsi_history.specs.Run.{trace_of, stat_sn_of}
 use Rattle.iscsi_history.specs.Executed.{executed_below, delivers}
 use Rattle.iscsi_history.specs.Enabling.{EnabledSoFar}
+pub use Rattle.iscsi_connections.specs.Connected.{stat_sn_on}
 
 -- what a session keeps
 pub record Core : Type 0 where
@@ -49,11 +50,6 @@ is_held (Some (Some r)) = true
 abbrev pub is_place_known : List (ℕ × ℕ) → Option (Option Request) → Bool
 is_place_known conns (Some (Some r)) = not (is_immediate r) && is_known (connection_of r) conns
 is_place_known conns _ = true
-
--- the next StatSN of a connection
-abbrev pub stat_sn_on : ℕ → List (ℕ × ℕ) → ℕ
-stat_sn_on cid [] = 0
-stat_sn_on cid (conn ∷ conns) = if conn.0 == cid then wire conn.1 else stat_sn_on cid conns
 
 -- what is kept of a live command
 abbrev pub kept : Command → Live

@@ -28,6 +28,7 @@ use Rattle.iscsi_history.specs.declared.verdict.Verdict.TheVariants.{Nothing, An
 use Rattle.iscsi_history.specs.Settings.{is_known}
 use Rattle.iscsi_history.specs.Execution.{sense_of_status, unit_named, attr_of, MOST_IMMEDIATE, request_verdict}
 use Rattle.iscsi_session.specs.Standing.{Core, stat_sn_on}
+pub use Rattle.iscsi_connections.specs.Connected.{count_reply, counted_on}
 
 -- ---- refusals
 
@@ -54,13 +55,6 @@ noted_at w place arrived event = if is_received_at w place then arrived else not
 
 abbrev pub with_offered : Core → Request → Core
 with_offered s r = record s { window = offered_to s.window r; arrived = noted_at s.window (window_place s.window (cmd_sn r)) s.arrived (s.taken - 1) }
-
--- ---- replies
-
--- the connections, after a reply went out on one
-abbrev pub count_reply : ℕ → List (ℕ × ℕ) → List (ℕ × ℕ)
-count_reply cid [] = []
-count_reply cid (conn ∷ conns) = if conn.0 == cid then (conn.0, wire (conn.1 + 1)) ∷ conns else conn ∷ count_reply cid conns
 
 -- ---- task sets
 
@@ -112,12 +106,6 @@ abbrev pub verdict_by : Core → Request → Verdict
 verdict_by s r = request_verdict r (is_tag_kept s (itt r)) (is_crowded_by s r) (place_in s.sets r)
 
 -- ---- counts of immediate commands
-
--- what is counted for a connection, at the place of the first one with its CID
-abbrev pub counted_on : ℕ → List (ℕ × ℕ) → List ℕ → ℕ
-counted_on cid [] counts = 0
-counted_on cid (conn ∷ conns) [] = 0
-counted_on cid (conn ∷ conns) (n ∷ counts) = if conn.0 == cid then n else counted_on cid conns counts
 
 -- the counts are those of the live commands
 pub record AreCounted (counts : List ℕ) (conns : List (ℕ × ℕ)) (live : List Live) : Type 0 where

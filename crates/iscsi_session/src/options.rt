@@ -81,7 +81,7 @@ fn is_within(number: u64, most: u64) -> bool
 }
 
 /// Whether one of the connections has this CID.
-pub(crate) fn is_known(cid: u16, conns: &[(u16, u32)]) -> bool
+fn is_known(cid: u16, conns: &[(u16, u32)]) -> bool
     ensures { result ≡ known_in cid conns.now }
 {
     conns.iter().any(|conn| conn.0 == cid)

@@ -4,6 +4,7 @@ ghost use Rattle.std.specs.Prelude.{IfSome, Err, ◌*◌, ◌≡◌, ◌≢◌, 
 ghost use Rattle.std.specs.List.{list_all};
 ghost use Rattle.iscsi_history.specs.Settings.{Setting, is_valid};
 ghost use Rattle.iscsi_session.specs.Settings.{setting_of};
+ghost use Rattle.iscsi_connections.specs.Connected.{opened};
 ghost use Rattle.iscsi_history.specs.Trace.{Trace, after_items, received, live};
 ghost use Rattle.std.specs.VecDeque.{deque_capacity};
 ghost use Rattle.iscsi_history.specs.Agenda.{arrival, items_of};
@@ -24,10 +25,11 @@ ghost use Rattle.iscsi_session.specs.Steps.{refusal_by, comes_on, KeepsPace, cou
 ghost use Rattle.iscsi_session.specs.Functions.{owed};
 
 use crate::fault::SessionFault;
-use crate::options::{Options, is_known};
+use crate::options::Options;
 use crate::session::live::Live;
 use crate::session::tags::Tags;
 use crate::session::waiting::Waiting;
+use iscsi_connections::{Connections, MOST_IMMEDIATE};
 use iscsi_history::{Effect, Event, Numbers};
 use iscsi_tasks::TaskSet;
 use iscsi_window::Window;
@@ -40,7 +42,6 @@ mod arrival;
 mod completion;
 mod execution;
 mod function;
-mod immediate;
 mod leaving;
 mod live;
 mod logout;
@@ -58,17 +59,15 @@ pub struct Session {
     window: Window,
     held: u32,
     events: u64,
-    conns: Vec<(u16, u32)>,
+    connections: Connections,
     entered: u64,
     taken: u64,
     live: VecDeque<Live>,
     tags: Tags,
-    immediate: Vec<u8>,
     sets: Vec<TaskSet>,
     level: u32,
     arrived: VecDeque<u64>,
     waiting: Vec<Waiting>,
-    open_conns: Vec<u16>,
 }
 
 impl Model for Session {
@@ -81,9 +80,9 @@ impl Model for Session {
 
     ghost Value = { Core };
 
-    ghost view = { λ s. record { window = s.window; events = s.events; conns = s.conns.items; entered = s.entered; taken = s.taken; live = s.live.items; sets = s.sets.items; level = s.level; arrived = s.arrived.items; waiting = s.waiting.items; open_conns = s.open_conns.items } };
+    ghost view = { λ s. record { window = s.window; events = s.events; conns = s.connections.conns; entered = s.entered; taken = s.taken; live = s.live.items; sets = s.sets.items; level = s.level; arrived = s.arrived.items; waiting = s.waiting.items; open_conns = s.connections.open_conns } };
 
-    ghost invariant = { λ s. IsSessionSound (record { window = s.window; held = s.held; events = s.events; conns = s.conns.items; entered = s.entered; taken = s.taken; live = s.live.items; tickets = get nat_eq s.tags; immediate = s.immediate.items; sets = s.sets.items; arrived = s.arrived.items; waiting = s.waiting.items; live_room = deque_capacity s.live; tag_room = tag_room s.tags; arrived_room = deque_capacity s.arrived; waiting_room = vec_capacity s.waiting }) };
+    ghost invariant = { λ s. IsSessionSound (record { window = s.window; held = s.held; events = s.events; conns = s.connections.conns; entered = s.entered; taken = s.taken; live = s.live.items; tickets = get nat_eq s.tags; immediate = s.connections.immediate; sets = s.sets.items; arrived = s.arrived.items; waiting = s.waiting.items; live_room = deque_capacity s.live; tag_room = tag_room s.tags; arrived_room = deque_capacity s.arrived; waiting_room = vec_capacity s.waiting }) };
 }
 
 impl Session {
@@ -209,7 +208,7 @@ impl Session {
         ensures { result ≡ refusal_by self.now event.now }
     {
         if let Event::Arrive { conn, .. } = event {
-            if !is_known(*conn, &self.conns) {
+            if !self.connections.knows(*conn) {
                 return Some(SessionFault::UnknownConnection);
             }
         }
@@ -226,6 +225,16 @@ fn make(alloc: Global, options: Options) -> Option<Session>
     requires { is_valid (setting_of options) ≡ true }
     ensures { IfSome result (λ s. StandsFor (setting_of options) s []) }
 {
+    let connections = Connections::open(alloc, &options.conns)?;
+    make_on(alloc, options, connections)
+}
+
+/// A session by valid options, with its connections. None where memory is refused.
+fn make_on(alloc: Global, options: Options, connections: Connections) -> Option<Session>
+    requires valid { is_valid (setting_of options) ≡ true }
+    requires connections { connections ≡ opened options.conns.items }
+    ensures { IfSome result (λ s. StandsFor (setting_of options) s []) }
+{
     let Options {
         first,
         window: size,
@@ -235,21 +244,19 @@ fn make(alloc: Global, options: Options) -> Option<Session>
         events,
         conns,
     } = options;
-    let most_live = size as usize + usize::from(immediate::MOST) * conns.len();
+    let most_live = size as usize + usize::from(MOST_IMMEDIATE) * conns.len();
     Some(Session {
         window: Window::open(alloc, first, size).ok()?,
         held: 0,
         events,
+        connections,
         entered: 0,
         taken: 0,
         live: VecDeque::with_capacity(alloc, most_live).ok()?,
         tags: tags::open(alloc, most_live)?,
-        immediate: immediate::open(alloc, conns.len())?,
         sets: sets::open(alloc, units, depth)?,
         level,
         arrived: arrival::open(alloc, size)?,
         waiting: Vec::with_capacity(alloc, waiting::MOST * conns.len()).ok()?,
-        open_conns: logout::open(alloc, &conns)?,
-        conns,
     })
 }

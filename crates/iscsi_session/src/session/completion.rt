@@ -7,7 +7,8 @@ ghost use Rattle.iscsi_session.specs.Steps.{find_enabled, after_completion, comp
 
 use crate::session::live::{Live, find, remove};
 use crate::session::sets::CHECK_CONDITION;
-use crate::session::{Session, immediate, sets};
+use crate::session::{Session, sets};
+use iscsi_connections::Connections;
 use iscsi_history::{Effect, Why};
 use iscsi_window::Window;
 use iscsi_wire::{Reply, Sense};
@@ -35,7 +36,7 @@ impl Session {
             return;
         };
         let stat_sn = self.next_stat_sn(command.conn);
-        finish(&mut self.window, &mut self.immediate, &self.conns, &command);
+        finish(&mut self.window, &mut self.connections, &command);
         remove(&mut self.live, command.ticket);
         out.push_reserved(Effect::Leave {
             ticket: command.ticket,
@@ -68,22 +69,17 @@ impl Session {
 }
 
 /// A command is over: it gives its place of the window back, or counts no more among the immediate ones.
-pub(crate) fn finish(
-    window: &mut Window,
-    immediate: &mut Vec<u8>,
-    conns: &[(u16, u32)],
-    command: &Live,
-)
+pub(crate) fn finish(window: &mut Window, connections: &mut Connections, command: &Live)
     requires numbered { command.now.immediate ≡ false → 0 < window.old.unfinished }
-    requires long { length immediate.old.items ≡ length conns.now }
-    requires known { known_in command.now.conn conns.now ≡ true }
-    requires some { command.now.immediate ≡ true → 0 < counted_on command.now.conn conns.now immediate.old.items }
+    requires known { known_in command.now.conn connections.old.conns ≡ true }
+    requires some { command.now.immediate ≡ true → 0 < counted_on command.now.conn connections.old.conns connections.old.immediate }
     ensures window { window.new ≡ finished window.old command.now }
-    ensures long { length immediate.new.items ≡ length immediate.old.items }
-    ensures counted { (cid : ℕ) → counted_on cid conns.now immediate.new.items + (if command.now.immediate && command.now.conn == cid then 1 else 0) ≡ counted_on cid conns.now immediate.old.items }
+    ensures connections { connections.new ≡ record connections.old { immediate = connections.new.immediate } }
+    ensures long { length connections.new.immediate ≡ length connections.old.immediate }
+    ensures counted { (cid : ℕ) → counted_on cid connections.old.conns connections.new.immediate + (if command.now.immediate && command.now.conn == cid then 1 else 0) ≡ counted_on cid connections.old.conns connections.old.immediate }
 {
     if command.immediate {
-        immediate::count_down(immediate, conns, command.conn);
+        connections.finish_immediate(command.conn);
     } else {
         window.finish_one();
     }

@@ -14,7 +14,8 @@ ghost use Rattle.iscsi_session.specs.Turning.{with_executed, executed_effects};
 use crate::kind::{LOGOUT, NOP_OUT, TASK_MANAGEMENT, TEXT};
 use crate::session::live::Live;
 use crate::session::tags::{is_tag_live, take_up};
-use crate::session::{Session, immediate, sets};
+use crate::session::{Session, sets};
+use iscsi_connections::Connections;
 use iscsi_history::{Effect, Verdict};
 use iscsi_tasks::{Attr, Task};
 use iscsi_window::Window;
@@ -161,7 +162,7 @@ impl Session {
         requires { known_in (connection_of request.now) self.now.conns ≡ true }
         ensures { result ≡ is_crowded_by self.now request.now }
     {
-        request.immediate() && immediate::is_full(&self.immediate, &self.conns, request.conn())
+        request.immediate() && self.connections.is_crowded(request.conn())
     }
 
     /// A reply goes out on a connection.
@@ -187,10 +188,7 @@ impl Session {
         ensures number { result ≡ stat_sn_on cid self.old.conns }
         ensures session { self.new ≡ record self.old { conns = count_reply cid self.old.conns } }
     {
-        let place = place_of(&self.conns, cid).unwrap();
-        let (cid, stat_sn) = self.conns[place];
-        self.conns[place] = (cid, stat_sn.wrapping_add(1));
-        stat_sn
+        self.connections.take_stat_sn(cid)
     }
 
     /// A command enters the set of a unit, which has room for it. No live command has its tag.
@@ -210,7 +208,7 @@ impl Session {
     {
         let pos = self.position(request);
         let event = self.event(request);
-        begin(&mut self.window, &mut self.immediate, &self.conns, request);
+        begin(&mut self.window, &mut self.connections, request);
         self.entered += 1;
         let ticket = self.entered;
         let attr = attr_of(request.attr());
@@ -261,17 +259,17 @@ impl Session {
 }
 
 /// A command begins: it takes a place of the window, or counts among the immediate ones of its connection.
-fn begin(window: &mut Window, immediate: &mut Vec<u8>, conns: &[(u16, u32)], request: &Request)
+fn begin(window: &mut Window, connections: &mut Connections, request: &Request)
     requires space { is_immediate request.now ≡ false → HasRoom window.old }
-    requires long { length immediate.old.items ≡ length conns.now }
-    requires known { known_in (connection_of request.now) conns.now ≡ true }
-    requires few { is_immediate request.now ≡ true → counted_on (connection_of request.now) conns.now immediate.old.items < 255 }
+    requires known { known_in (connection_of request.now) connections.old.conns ≡ true }
+    requires few { is_immediate request.now ≡ true → counted_on (connection_of request.now) connections.old.conns connections.old.immediate < 255 }
     ensures window { window.new ≡ started window.old request.now }
-    ensures long { length immediate.new.items ≡ length immediate.old.items }
-    ensures counted { (cid : ℕ) → counted_on cid conns.now immediate.new.items ≡ counted_on cid conns.now immediate.old.items + (if is_immediate request.now && connection_of request.now == cid then 1 else 0) }
+    ensures connections { connections.new ≡ record connections.old { immediate = connections.new.immediate } }
+    ensures long { length connections.new.immediate ≡ length connections.old.immediate }
+    ensures counted { (cid : ℕ) → counted_on cid connections.old.conns connections.new.immediate ≡ counted_on cid connections.old.conns connections.old.immediate + (if is_immediate request.now && connection_of request.now == cid then 1 else 0) }
 {
     if request.immediate() {
-        immediate::count_up(immediate, conns, request.conn());
+        connections.begin_immediate(request.conn());
     } else {
         window.start_one();
     }
@@ -317,11 +315,4 @@ fn attr_of(code: u8) -> Attr
         3 => Attr::Head,
         _ => Attr::Simple,
     }
-}
-
-/// The place of the first connection with this CID.
-pub(crate) fn place_of(conns: &[(u16, u32)], cid: u16) -> Option<usize>
-    ensures { result ≡ position (λ conn. conn.0 == cid) conns.now }
-{
-    conns.iter().position(|conn| conn.0 == cid)
 }

@@ -10,6 +10,7 @@ ghost use Rattle.iscsi_session.specs.Functions.{finished_by, with_left, leaving_
 use crate::session::completion::finish;
 use crate::session::live::{Live, find as find_live, remove};
 use crate::session::{Session, sets};
+use iscsi_connections::Connections;
 use iscsi_history::Effect;
 use iscsi_tasks::{Cover, TaskSet};
 use iscsi_window::Window;
@@ -83,8 +84,7 @@ impl Session {
         let ticket = take(&mut self.sets, unit, choice)?;
         end(
             &mut self.window,
-            &mut self.immediate,
-            &self.conns,
+            &mut self.connections,
             &mut self.live,
             ticket,
         );
@@ -109,24 +109,19 @@ fn take(sets: &mut [TaskSet], unit: u16, choice: &Choice) -> Option<u64>
 }
 
 /// The live command with this ticket is over.
-fn end(
-    window: &mut Window,
-    immediate: &mut Vec<u8>,
-    conns: &[(u16, u32)],
-    live: &mut VecDeque<Live>,
-    ticket: u64,
-)
+fn end(window: &mut Window, connections: &mut Connections, live: &mut VecDeque<Live>, ticket: u64)
     requires ascending { are_ascending live.old.items ≡ true }
     requires there { IsSome (find_ticket ticket live.old.items) }
     requires numbered { count_by is_numbered live.old.items ≤ window.old.unfinished }
-    requires known { are_known live.old.items conns.now ≡ true }
-    requires counted { AreCounted immediate.old.items conns.now live.old.items }
+    requires known { are_known live.old.items connections.old.conns ≡ true }
+    requires counted { AreCounted connections.old.immediate connections.old.conns live.old.items }
     ensures window { window.new ≡ finished_by window.old live.old.items (without_ticket ticket live.old.items) }
     ensures live { live.new.items ≡ without_ticket ticket live.old.items }
-    ensures counted { AreCounted immediate.new.items conns.now live.new.items }
+    ensures connections { connections.new ≡ record connections.old { immediate = connections.new.immediate } }
+    ensures counted { AreCounted connections.new.immediate connections.old.conns live.new.items }
     ensures capacity { deque_capacity live.new ≡ deque_capacity live.old }
 {
     let command = find_live(live, ticket).unwrap();
-    finish(window, immediate, conns, &command);
+    finish(window, connections, &command);
     remove(live, ticket);
 }

@@ -39,7 +39,7 @@ impl Session {
     pub(crate) fn is_open(&self, conn: u16) -> bool
         ensures { result ≡ is_among_open conn self.now.open_conns }
     {
-        self.open_conns.contains(&conn)
+        self.connections.is_open(conn)
     }
 
     /// Executes a Logout Request.
@@ -170,7 +170,7 @@ impl Session {
         ensures spent { vec_len out.new ≤ vec_len out.old + 2 }
         ensures capacity { vec_capacity out.new ≡ vec_capacity out.old }
     {
-        self.open_conns.retain(|conn| !is_of(whose, *conn));
+        self.connections.close(whose);
         if let Some(conn) = whose {
             out.push_reserved(Effect::CloseConn { conn });
         }
@@ -185,7 +185,7 @@ impl Session {
         ensures spent { vec_len out.new ≤ vec_len out.old + 1 }
         ensures capacity { vec_capacity out.new ≡ vec_capacity out.old }
     {
-        if !self.open_conns.is_empty() {
+        if !self.connections.are_closed() {
             return;
         }
         self.waiting.clear();
@@ -239,15 +239,4 @@ fn cover_of(whose: Option<u16>) -> Cover
         Some(conn) => Cover::Conn(conn),
         None => Cover::All,
     }
-}
-
-/// The CIDs of the connections, all open. None where memory is refused.
-pub(crate) fn open(alloc: Global, conns: &[(u16, u32)]) -> Option<Vec<u16>>
-    ensures { IfSome result (λ cids. cids.items ≡ map (λ (c : ℕ × ℕ). c.0) conns.now) }
-{
-    let mut cids = Vec::with_capacity(alloc, conns.len()).ok()?;
-    for conn in conns {
-        cids.push_reserved(conn.0);
-    }
-    Some(cids)
 }

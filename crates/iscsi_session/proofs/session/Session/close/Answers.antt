@@ -1,8 +1,8 @@
-use Rattle.std.proofs.Common.{sym, rules, ◌≡◌, ℕ, ◌∙◌, ◌++◌, ap, refl, append_assoc, List, [], ◌∷◌, Option, Some, None}
-use Rattle.std.proofs.lemmas.Fn.{filter_same}
+use Rattle.std.proofs.Common.{sym, ◌≡◌, ℕ, ◌∙◌, ◌++◌, ap, refl, append_assoc, List, [], ◌∷◌, Option, Some, None}
 use Rattle.std.proofs.lemmas.List.{append-nil}
 use Rattle.iscsi_history.specs.declared.effect.Effect.{Effect}
 use Rattle.iscsi_history.specs.declared.effect.Effect.TheVariants.{CloseConn}
+use Rattle.iscsi_connections.specs.Connected.{Connected}
 use Rattle.iscsi_session.specs.Standing.{Core}
 use Rattle.iscsi_session.specs.Parting.{still_open, session_closes, ended_if, with_closed, close_effects}
 use Rattle.iscsi_session.proofs.session.Session.close.Goals.{in-Some, in_default}
@@ -27,20 +27,19 @@ effects_are s (Some conn) = refl
 
 pub returns-clause-session : goal.returns-clause-session
 returns-clause-session c =
-    let s : Core = record { window = c.self.inside.window; events = c.self.inside.events; conns = c.self.inside.conns.items; entered = c.self.inside.entered; taken = c.self.inside.taken; live = c.self.inside.live.items; sets = c.self.inside.sets.items; level = c.self.inside.level; arrived = c.self.inside.arrived.items; waiting = c.self.inside.waiting.items; open_conns = c.self.inside.open_conns.items } in
-    let rest : c.retain.new.self.items ≡ still_open c.args.whose c.self.inside.open_conns.items = filter_same _ _ _ (λ x b f' k. search rules) _ _ c.retain.ensures.filtered in
-    c.end_if_last.ensures.session ∙ ap (λ (cs : List ℕ). ended_if (record s { open_conns = cs })) rest ∙ ap (λ (u : Core). with_closed u c.args.whose) c.self.view_is
+    let s : Core = record { window = c.self.inside.window; events = c.self.inside.events; conns = c.self.inside.connections.conns; entered = c.self.inside.entered; taken = c.self.inside.taken; live = c.self.inside.live.items; sets = c.self.inside.sets.items; level = c.self.inside.level; arrived = c.self.inside.arrived.items; waiting = c.self.inside.waiting.items; open_conns = c.self.inside.connections.open_conns } in
+    c.end_if_last.ensures.session ∙ ap (λ (x : Connected). ended_if (record s { conns = x.conns; open_conns = x.open_conns })) c.close.ensures ∙ ap (λ (u : Core). with_closed u c.args.whose) c.self.view_is
 
 pub returns-clause-effects : goal.returns-clause-effects
 returns-clause-effects c =
     let out : List Effect = c.args.out.now.items in
-    let conns : List ℕ = still_open c.args.whose c.self.inside.open_conns.items in
-    let rest : c.retain.new.self.items ≡ conns = filter_same _ _ _ (λ x b f' k. search rules) _ _ c.retain.ensures.filtered in
+    let conns : List ℕ = still_open c.args.whose c.self.inside.connections.open_conns in
+    let rest : c.close.new.self.open_conns ≡ conns = ap (λ (x : Connected). x.open_conns) c.close.ensures in
     let first : c.match-whose.out.items ≡ out ++ told c.args.whose = elim c.match-whose.branch [
       | in-Some w ↦ ap (λ v. v.items) w.out-is ∙ w.push_reserved.ensures.items ∙ ap (λ x. out ++ told x) (sym w.in-Some.is)
       | in_default w ↦ ap (λ v. v.items) w.out-is ∙ sym (append-nil out) ∙ ap (λ x. out ++ told x) (sym w.in_default.is)
     ] in
     c.end_if_last.ensures.effects ∙ ap (λ cs. c.match-whose.out.items ++ session_closes cs) rest
     ∙ ap (λ (es : List Effect). es ++ session_closes conns) first ∙ append_assoc out (told c.args.whose) (session_closes conns)
-    ∙ ap (λ (es : List Effect). out ++ es) (both c.args.whose c.self.inside.open_conns.items ∙ effects_are (record { window = c.self.inside.window; events = c.self.inside.events; conns = c.self.inside.conns.items; entered = c.self.inside.entered; taken = c.self.inside.taken; live = c.self.inside.live.items; sets = c.self.inside.sets.items; level = c.self.inside.level; arrived = c.self.inside.arrived.items; waiting = c.self.inside.waiting.items; open_conns = c.self.inside.open_conns.items }) c.args.whose)
+    ∙ ap (λ (es : List Effect). out ++ es) (both c.args.whose c.self.inside.connections.open_conns ∙ effects_are (record { window = c.self.inside.window; events = c.self.inside.events; conns = c.self.inside.connections.conns; entered = c.self.inside.entered; taken = c.self.inside.taken; live = c.self.inside.live.items; sets = c.self.inside.sets.items; level = c.self.inside.level; arrived = c.self.inside.arrived.items; waiting = c.self.inside.waiting.items; open_conns = c.self.inside.connections.open_conns }) c.args.whose)
     ∙ ap (λ (u : Core). out ++ close_effects u c.args.whose) c.self.view_is

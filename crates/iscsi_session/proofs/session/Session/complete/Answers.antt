@@ -4,6 +4,7 @@ use Rattle.std.proofs.lemmas.Bool.Decides.{nat_tests}
 use Rattle.iscsi_window.specs.Windows.{Received, with_unfinished}
 use Rattle.iscsi_tasks.specs.Sets.{Members}
 use Rattle.iscsi_session.specs.declared.session.live.Live.{Live}
+use Rattle.iscsi_connections.specs.Connected.{Connected}
 use Rattle.iscsi_session.specs.Standing.{Core, Match, are_within}
 use Rattle.iscsi_session.specs.Steps.{AreIndexed, AreCounted, is_numbered, counted_on, finished, find_ticket, without_ticket, set_without, all_given}
 use Rattle.iscsi_history.proofs.BoolLemmas.{and_second}
@@ -12,7 +13,7 @@ use Rattle.iscsi_session.proofs.WindowLemmas.{fewer, find-found}
 use Rattle.iscsi_history.specs.Settings.{is_known}
 use Rattle.iscsi_session.proofs.CountLemmas.{count-left, some_counted, AreCounted-left}
 use Rattle.iscsi_session.proofs.KeptLemmas.{enabled_found, Match-left, few_left, written}
-use Rattle.iscsi_session.proofs.SoundLemmas.{places_sound, left_sound, commands_sound}
+use Rattle.iscsi_session.proofs.SoundLemmas.{places_sound, left_sound, commands_sound_on}
 use Rattle.iscsi_session.proofs.session.Session.complete.Goals as goal
 
 -- the command that is completed, as the session keeps it
@@ -58,16 +59,16 @@ finish-requires-clause-some c = λ yes.
     let lives : c.self.inside.live.items ≡ c.args.self.now.live = ap (λ (s : Core). s.live) c.self.view_is ∙ ap (λ (s : Core). s.live) c.next_stat_sn-stat_sn.ensures.session in
     let f = found_command c.self.inside.entered c.args.self.now c.self.inside.sets.items c.self.inside.live.items c.args.ticket c.in-Some.command (sym c.find_enabled.ensures.command ∙ c.in-Some.is) lives c.self.invariant.commands.within in
     let l : Live = c.in-Some.command in
-    let known : is_known l.conn c.self.inside.conns.items ≡ true = find-passes (λ (x : Live). x.ticket == l.ticket) (λ (x : Live). is_known x.conn c.self.inside.conns.items) c.self.inside.live.items l c.self.invariant.commands.known f.found in
-    subst (λ (cs : List (ℕ × ℕ)). 0 < counted_on l.conn cs c.self.inside.immediate.items) (sym c.deref.ensures.value) (some_counted c.self.inside.immediate.items c.self.inside.conns.items c.self.inside.live.items l c.self.invariant.commands.counted c.self.invariant.commands.ascending f.found known yes)
+    let known : is_known l.conn c.self.inside.connections.conns ≡ true = find-passes (λ (x : Live). x.ticket == l.ticket) (λ (x : Live). is_known x.conn c.self.inside.connections.conns) c.self.inside.live.items l c.self.invariant.commands.known f.found in
+    some_counted c.self.inside.connections.immediate c.self.inside.connections.conns c.self.inside.live.items l c.self.invariant.commands.counted c.self.invariant.commands.ascending f.found known yes
 
 pub finish-requires-clause-known : goal.finish-requires-clause-known
 finish-requires-clause-known c =
     let lives : c.self.inside.live.items ≡ c.args.self.now.live = ap (λ (s : Core). s.live) c.self.view_is ∙ ap (λ (s : Core). s.live) c.next_stat_sn-stat_sn.ensures.session in
     let f = found_command c.self.inside.entered c.args.self.now c.self.inside.sets.items c.self.inside.live.items c.args.ticket c.in-Some.command (sym c.find_enabled.ensures.command ∙ c.in-Some.is) lives c.self.invariant.commands.within in
     let l : Live = c.in-Some.command in
-    let known : is_known l.conn c.self.inside.conns.items ≡ true = find-passes (λ (x : Live). x.ticket == l.ticket) (λ (x : Live). is_known x.conn c.self.inside.conns.items) c.self.inside.live.items l c.self.invariant.commands.known f.found in
-    ap (is_known l.conn) c.deref.ensures.value ∙ known
+    let known : is_known l.conn c.self.inside.connections.conns ≡ true = find-passes (λ (x : Live). x.ticket == l.ticket) (λ (x : Live). is_known x.conn c.self.inside.connections.conns) c.self.inside.live.items l c.self.invariant.commands.known f.found in
+    known
 
 pub leave-requires-clause-unit : goal.leave-requires-clause-unit
 leave-requires-clause-unit c =
@@ -102,9 +103,6 @@ invariant_of-self c =
     let turned : c.finish.new.window.turned ≡ w.turned = ap (λ (x : Received). x.turned) is ∙ finished_turned w l in
     let places : c.finish.new.window.places ≡ w.places = ap (λ (x : Received). x.places) is ∙ finished_places w l in
     let counted : count_by is_numbered (without_ticket l.ticket c.self.inside.live.items) + cond (not l.immediate) 1 0 ≡ count_by is_numbered c.self.inside.live.items = count-left is_numbered l.ticket c.self.inside.live.items l inv.commands.ascending f.found in
-    let value : c.deref.result.now ≡ c.self.inside.conns.items = c.deref.ensures.value in
-    let counts : (cid : ℕ) → counted_on cid c.self.inside.conns.items c.finish.new.immediate.items + cond (l.immediate && l.conn == cid) 1 0 ≡ counted_on cid c.self.inside.conns.items c.self.inside.immediate.items = λ cid.
-    subst (λ (cs : List (ℕ × ℕ)). counted_on cid cs c.finish.new.immediate.items + cond (l.immediate && l.conn == cid) 1 0 ≡ counted_on cid cs c.self.inside.immediate.items) value (c.finish.ensures.counted cid) in
     let lent : List Members = c.deref_mut.result.now in
     let new : List Members = set c.self.inside.sets.items c.in-Some.command.unit (all_given (set_without c.in-Some.command c.self.inside.sets.items)) in
     let value : lent ≡ c.self.inside.sets.items = c.deref_mut.ensures.value in
@@ -113,5 +111,5 @@ invariant_of-self c =
     let now : take c.self.inside.sets.len (c.leave.new.sets ++ drop (length c.leave.new.sets) c.self.inside.sets.items) ≡ new = written c.self.inside.sets.len c.leave.new.sets c.self.inside.sets.items (ap length returned ∙ long) c.self.inside.sets.ok.0 ∙ returned in
     let commands = left_sound inv.commands l.ticket c.remove.ensures.items (omega (arith, ap (λ (x : Received). x.unfinished) is, finished_numbered w l (count_by is_numbered (without_ticket l.ticket c.self.inside.live.items)) (count_by is_numbered c.self.inside.live.items) counted inv.commands.numbered)) (ap length now ∙ long)
     (subst (λ (ms : List Members). Match ms (without_ticket l.ticket c.self.inside.live.items)) (sym now) (Match-left c.self.inside.sets.items c.self.inside.live.items l inv.commands.in_sets inv.commands.ascending f.found f.inside))
-    (AreCounted-left c.self.inside.immediate.items c.finish.new.immediate.items c.self.inside.conns.items c.self.inside.live.items l inv.commands.counted c.finish.ensures.long counts inv.commands.ascending f.found) in
-    commands_sound inv (places_sound inv.window places turned (omega (arith, inv.window.fits, ap (λ (x : Received). x.unfinished) is, finished_fewer w l)) inv.window.entered) commands places (ap length now ∙ long) (omega (arith, c.remove.ensures.capacity)) (omega arith)
+    (AreCounted-left c.self.inside.connections.immediate c.finish.new.connections.immediate c.self.inside.connections.conns c.self.inside.live.items l inv.commands.counted c.finish.ensures.long c.finish.ensures.counted inv.commands.ascending f.found) in
+    commands_sound_on inv (ap (λ (x : Connected). x.conns) c.finish.ensures.connections) (places_sound inv.window places turned (omega (arith, inv.window.fits, ap (λ (x : Received). x.unfinished) is, finished_fewer w l)) inv.window.entered) commands places (ap length now ∙ long) (omega (arith, c.remove.ensures.capacity)) (omega arith)

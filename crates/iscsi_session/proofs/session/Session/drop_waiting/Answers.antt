@@ -17,7 +17,7 @@ invariant_of-self c =
 
 pub returns : goal.returns
 returns c =
-    let s : Core = record { window = c.self.inside.window; events = c.self.inside.events; conns = c.self.inside.conns.items; entered = c.self.inside.entered; taken = c.self.inside.taken; live = c.self.inside.live.items; sets = c.self.inside.sets.items; level = c.self.inside.level; arrived = c.self.inside.arrived.items; waiting = c.self.inside.waiting.items; open_conns = c.self.inside.open_conns.items } in
+    let s : Core = record { window = c.self.inside.window; events = c.self.inside.events; conns = c.self.inside.connections.conns; entered = c.self.inside.entered; taken = c.self.inside.taken; live = c.self.inside.live.items; sets = c.self.inside.sets.items; level = c.self.inside.level; arrived = c.self.inside.arrived.items; waiting = c.self.inside.waiting.items; open_conns = c.self.inside.connections.open_conns } in
     let stays = λ (w : Waiting). not (is_asked c.args.whose (connection_of w.request)) in
     let rest : c.retain.new.self.items ≡ filter stays c.self.inside.waiting.items = filter_same _ _ _ (λ x b f' k. search rules) _ _ c.retain.ensures.filtered in
     record { session = ap (λ (ws : List Waiting). let t : Core = record s { waiting = ws } in t) rest ∙ ap (λ (u : Core). with_dropped u c.args.whose) c.self.view_is }

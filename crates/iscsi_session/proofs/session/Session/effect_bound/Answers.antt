@@ -10,14 +10,14 @@ use Rattle.iscsi_session.proofs.session.Session.effect_bound.Goals as goal
 pub overflow_mul-result : goal.overflow_mul-result
 overflow_mul-result c =
     let inv = c.self.invariant in
-    let waits : length c.self.inside.waiting.items ≤ 4 * length c.self.inside.conns.items = few_waiting c.self.inside.conns.items c.self.inside.waiting.items inv.functions.few inv.functions.known in
+    let waits : length c.self.inside.waiting.items ≤ 4 * length c.self.inside.connections.conns = few_waiting c.self.inside.connections.conns c.self.inside.waiting.items inv.functions.few inv.functions.known in
     omega (arith, c.len.ensures, c.self.inside.waiting.ok.0, waits, inv.conns, inv.window.most, inv.window.held_is, few_counted is_held c.self.inside.window.places)
 
 pub overflow_add-result-3 : goal.overflow_add-result-3
 overflow_add-result-3 c =
     let inv = c.self.invariant in
-    let waits : length c.self.inside.waiting.items ≤ 4 * length c.self.inside.conns.items = few_waiting c.self.inside.conns.items c.self.inside.waiting.items inv.functions.few inv.functions.known in
-    let few : length c.self.inside.live.items ≤ c.self.inside.window.unfinished + 8 * length c.self.inside.conns.items = few_live c.self.inside.window.unfinished c.self.inside.conns.items c.self.inside.live.items inv.commands.numbered inv.commands.counted.few inv.commands.known in
+    let waits : length c.self.inside.waiting.items ≤ 4 * length c.self.inside.connections.conns = few_waiting c.self.inside.connections.conns c.self.inside.waiting.items inv.functions.few inv.functions.known in
+    let few : length c.self.inside.live.items ≤ c.self.inside.window.unfinished + 8 * length c.self.inside.connections.conns = few_live c.self.inside.window.unfinished c.self.inside.connections.conns c.self.inside.live.items inv.commands.numbered inv.commands.counted.few inv.commands.known in
     let lives : length c.self.inside.live.items ≡ length c.args.self.now.live = ap (λ (s : Core). length s.live) c.self.view_is in
     omega (arith, c.len.ensures, c.self.inside.waiting.ok.0, c.live_len.ensures.value, lives, waits, few, inv.conns, inv.window.fits, inv.window.most, inv.window.held_is, few_counted is_held c.self.inside.window.places)
 
@@ -33,9 +33,9 @@ returns-clause-most c = λ o h stands.
     let inv = c.self.invariant in
     let a = stands.settled.agrees in
     let size : length c.self.inside.window.places ≡ o.window = ap (λ (s : Core). length s.window.places) c.self.view_is ∙ a.window.size in
-    let conns : length c.self.inside.conns.items ≡ length o.conns =
+    let conns : length c.self.inside.connections.conns ≡ length o.conns =
     ap (λ (s : Core). length s.conns) c.self.view_is ∙ sym (length-map c.args.self.now.conns (λ (k : ℕ × ℕ). k.0)) ∙ ap length a.replies.cids ∙ length-map o.conns (λ (k : ℕ × ℕ). k.0) in
-    let waits : length c.self.inside.waiting.items ≤ 4 * length c.self.inside.conns.items = few_waiting c.self.inside.conns.items c.self.inside.waiting.items inv.functions.few inv.functions.known in
-    let few : length c.self.inside.live.items ≤ c.self.inside.window.unfinished + 8 * length c.self.inside.conns.items = few_live c.self.inside.window.unfinished c.self.inside.conns.items c.self.inside.live.items inv.commands.numbered inv.commands.counted.few inv.commands.known in
+    let waits : length c.self.inside.waiting.items ≤ 4 * length c.self.inside.connections.conns = few_waiting c.self.inside.connections.conns c.self.inside.waiting.items inv.functions.few inv.functions.known in
+    let few : length c.self.inside.live.items ≤ c.self.inside.window.unfinished + 8 * length c.self.inside.connections.conns = few_live c.self.inside.window.unfinished c.self.inside.connections.conns c.self.inside.live.items inv.commands.numbered inv.commands.counted.few inv.commands.known in
     let lives : length c.self.inside.live.items ≡ length c.args.self.now.live = ap (λ (s : Core). length s.live) c.self.view_is in
     omega (arith, c.len.ensures, c.self.inside.waiting.ok.0, c.live_len.ensures.value, lives, waits, few, conns, size, inv.window.fits, inv.window.held_is, few_counted is_held c.self.inside.window.places)

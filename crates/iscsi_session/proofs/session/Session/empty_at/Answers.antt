@@ -27,7 +27,7 @@ returns-in-Some-clause-session c =
     let found = answered_some w c.args.whose c.args.ahead c.in-Some.sn (sym c.drop_at.ensures.answer ∙ c.in-Some.is) in
     let clear : is_clear_below c.args.whose c.args.ahead w.places ≡ true = ap (λ (u : Core). is_clear_below c.args.whose c.args.ahead u.window.places) c.self.view_is ∙ c.requires.lowest in
     let d : DroppedOne w c.drop_at.new.self c.args.whose c.args.ahead = subst (λ (v : Received). DroppedOne w v c.args.whose c.args.ahead) (sym c.drop_at.ensures.state) (dropped_one w c.args.whose c.args.ahead clear found.0) in
-    let s : Core = record { window = c.self.inside.window; events = c.self.inside.events; conns = c.self.inside.conns.items; entered = c.self.inside.entered; taken = c.self.inside.taken; live = c.self.inside.live.items; sets = c.self.inside.sets.items; level = c.self.inside.level; arrived = c.self.inside.arrived.items; waiting = c.self.inside.waiting.items; open_conns = c.self.inside.open_conns.items } in
+    let s : Core = record { window = c.self.inside.window; events = c.self.inside.events; conns = c.self.inside.connections.conns; entered = c.self.inside.entered; taken = c.self.inside.taken; live = c.self.inside.live.items; sets = c.self.inside.sets.items; level = c.self.inside.level; arrived = c.self.inside.arrived.items; waiting = c.self.inside.waiting.items; open_conns = c.self.inside.connections.open_conns } in
     let made : ℕ → ℕ → ℕ → List (Option (Option Request)) → Core = λ first turned unfinished ps. record s { window = record { first = first; turned = turned; unfinished = unfinished; places = ps } } in
     ap (λ n. made n c.drop_at.new.self.turned c.drop_at.new.self.unfinished (map (emptied_place c.args.whose) c.drop_at.new.self.places)) d.first
     ∙ ap (λ n. made w.first n c.drop_at.new.self.unfinished (map (emptied_place c.args.whose) c.drop_at.new.self.places)) d.turned

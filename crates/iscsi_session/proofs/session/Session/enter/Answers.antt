@@ -14,12 +14,13 @@ use Rattle.iscsi_history.specs.declared.effect.Effect.TheVariants.{Enter}
 use Rattle.iscsi_session.specs.declared.session.live.Live.{Live}
 use Rattle.iscsi_history.specs.Settings.{is_known}
 use Rattle.iscsi_history.specs.Execution.{attr_of}
+use Rattle.iscsi_connections.specs.Connected.{Connected}
 use Rattle.iscsi_session.specs.Standing.{Core, are_known, Match}
 use Rattle.iscsi_session.specs.Steps.{is_numbered, immediate_in, counted_on, started, number_by, event_by, new_live, new_task, with_command, enable_effect, entry_effects}
 use Rattle.iscsi_session.proofs.CountLemmas.{AreCounted-entered, room_for_one}
 use Rattle.iscsi_session.proofs.KeptLemmas.{newest_in, Match-entered, written}
 use Rattle.iscsi_session.proofs.PaceLemmas.{started_turned}
-use Rattle.iscsi_session.proofs.SoundLemmas.{places_sound, commands_sound, entered_sound}
+use Rattle.iscsi_session.proofs.SoundLemmas.{places_sound, commands_sound_on, entered_sound}
 use Rattle.iscsi_session.proofs.session.Session.enter.Goals as goal
 
 started_unfinished : (w : Received) (r : Request) → (started w r).unfinished ≡ w.unfinished + cond (not (is_immediate r)) 1 0
@@ -75,7 +76,7 @@ room_in s r unit numbered fit few known this begins room = room_for_one s.window
 pub take_up-requires-clause-room : goal.take_up-requires-clause-room
 take_up-requires-clause-room c =
     let inv = c.self.invariant in
-    let s : Core = record { window = c.self.inside.window; events = c.self.inside.events; conns = c.self.inside.conns.items; entered = c.self.inside.entered; taken = c.self.inside.taken; live = c.self.inside.live.items; sets = c.self.inside.sets.items; level = c.self.inside.level; arrived = c.self.inside.arrived.items; waiting = c.self.inside.waiting.items; open_conns = c.self.inside.open_conns.items } in
+    let s : Core = record { window = c.self.inside.window; events = c.self.inside.events; conns = c.self.inside.connections.conns; entered = c.self.inside.entered; taken = c.self.inside.taken; live = c.self.inside.live.items; sets = c.self.inside.sets.items; level = c.self.inside.level; arrived = c.self.inside.arrived.items; waiting = c.self.inside.waiting.items; open_conns = c.self.inside.connections.open_conns } in
     let room = room_in s c.args.request.now c.args.unit inv.commands.numbered inv.window.fits inv.commands.counted.few inv.commands.known (ap (λ (t : Core). is_known (connection_of c.args.request.now) t.conns) c.self.view_is ∙ c.requires.known)
     (λ is. subst (λ (t : Core). t.window.unfinished < length t.window.places) (sym c.self.view_is) (c.requires.space is).not_full) (λ is. subst (λ (t : Core). immediate_in t.live (connection_of c.args.request.now) < 8) (sym c.self.view_is) (c.requires.few is)) in
     omega (arith, room, inv.rooms.tags)
@@ -83,7 +84,7 @@ take_up-requires-clause-room c =
 pub push_back_reserved-requires : goal.push_back_reserved-requires
 push_back_reserved-requires c =
     let inv = c.self.invariant in
-    let s : Core = record { window = c.self.inside.window; events = c.self.inside.events; conns = c.self.inside.conns.items; entered = c.self.inside.entered; taken = c.self.inside.taken; live = c.self.inside.live.items; sets = c.self.inside.sets.items; level = c.self.inside.level; arrived = c.self.inside.arrived.items; waiting = c.self.inside.waiting.items; open_conns = c.self.inside.open_conns.items } in
+    let s : Core = record { window = c.self.inside.window; events = c.self.inside.events; conns = c.self.inside.connections.conns; entered = c.self.inside.entered; taken = c.self.inside.taken; live = c.self.inside.live.items; sets = c.self.inside.sets.items; level = c.self.inside.level; arrived = c.self.inside.arrived.items; waiting = c.self.inside.waiting.items; open_conns = c.self.inside.connections.open_conns } in
     let room = room_in s c.args.request.now c.args.unit inv.commands.numbered inv.window.fits inv.commands.counted.few inv.commands.known (ap (λ (t : Core). is_known (connection_of c.args.request.now) t.conns) c.self.view_is ∙ c.requires.known)
     (λ is. subst (λ (t : Core). t.window.unfinished < length t.window.places) (sym c.self.view_is) (c.requires.space is).not_full) (λ is. subst (λ (t : Core). immediate_in t.live (connection_of c.args.request.now) < 8) (sym c.self.view_is) (c.requires.few is)) in
     omega (arith, room, inv.rooms.live, c.self.inside.live.ok.0)
@@ -109,24 +110,23 @@ invariant_of-self c =
     let now : take c.self.inside.sets.len (c.enter.new.sets ++ drop (length c.enter.new.sets) old) ≡ new = written c.self.inside.sets.len c.enter.new.sets old (ap length returned ∙ long) c.self.inside.sets.ok.0 ∙ returned in
     let lives : c.push_back_reserved.new.self.items ≡ c.self.inside.live.items ++ l ∷ [] = c.push_back_reserved.ensures.items in
     let immediate_is : c.immediate.result ≡ is_immediate r = c.immediate.ensures in
-    let value : c.deref.result.now ≡ c.self.inside.conns.items = c.deref.ensures.value in
-    let counts : (cid : ℕ) → counted_on cid c.self.inside.conns.items c.begin.new.immediate.items ≡ counted_on cid c.self.inside.conns.items c.self.inside.immediate.items + cond (l.immediate && l.conn == cid) 1 0 = λ cid.
-    subst (λ (cs : List (ℕ × ℕ)). counted_on cid cs c.begin.new.immediate.items ≡ counted_on cid cs c.self.inside.immediate.items + cond (is_immediate r && connection_of r == cid) 1 0) value (c.begin.ensures.counted cid)
-    ∙ ap (λ b. counted_on cid c.self.inside.conns.items c.self.inside.immediate.items + cond (b && connection_of r == cid) 1 0) (sym immediate_is)
-    ∙ ap (λ k. counted_on cid c.self.inside.conns.items c.self.inside.immediate.items + cond (c.immediate.result && k == cid) 1 0) (sym c.conn.ensures) in
+    let counts : (cid : ℕ) → counted_on cid c.self.inside.connections.conns c.begin.new.connections.immediate ≡ counted_on cid c.self.inside.connections.conns c.self.inside.connections.immediate + cond (l.immediate && l.conn == cid) 1 0 = λ cid.
+    c.begin.ensures.counted cid
+    ∙ ap (λ b. counted_on cid c.self.inside.connections.conns c.self.inside.connections.immediate + cond (b && connection_of r == cid) 1 0) (sym immediate_is)
+    ∙ ap (λ k. counted_on cid c.self.inside.connections.conns c.self.inside.connections.immediate + cond (c.immediate.result && k == cid) 1 0) (sym c.conn.ensures) in
     let room : c.immediate.result ≡ true → immediate_in c.self.inside.live.items c.conn.result < 8 = λ yes.
     subst (λ k. immediate_in c.self.inside.live.items k < 8) (sym c.conn.ensures) (subst (λ (s : Core). immediate_in s.live (connection_of r) < 8) (sym c.self.view_is) (c.requires.few (sym immediate_is ∙ yes))) in
-    let known : is_known c.conn.result c.self.inside.conns.items ≡ true = ap (λ n. is_known n c.self.inside.conns.items) c.conn.ensures ∙ ap (λ (s : Core). is_known (connection_of r) s.conns) c.self.view_is ∙ c.requires.known in
+    let known : is_known c.conn.result c.self.inside.connections.conns ≡ true = ap (λ n. is_known n c.self.inside.connections.conns) c.conn.ensures ∙ ap (λ (s : Core). is_known (connection_of r) s.conns) c.self.view_is ∙ c.requires.known in
     let commands = entered_sound inv.commands (get nat_eq c.take_up.new.tags) l lives refl inside known (omega (arith, inv.commands.numbered, unfinished, ap {B = ℕ} (λ b. cond (not b) 1 0) immediate_is)) (ap length now ∙ long)
     (subst (λ (ms : List Members). Match ms (c.self.inside.live.items ++ l ∷ [])) (sym now) (Match-entered old c.self.inside.live.items l task inv.commands.in_sets inside refl))
     c.take_up.ensures.indexed (ap (get nat_eq c.take_up.new.tags) (c.itt-2.ensures ∙ sym c.itt.ensures) ∙ c.take_up.ensures.taken)
-    (AreCounted-entered c.self.inside.immediate.items c.begin.new.immediate.items c.self.inside.conns.items c.self.inside.live.items l inv.commands.counted c.begin.ensures.long counts room) in
-    commands_sound inv (places_sound inv.window places turned fits (omega (arith, counted))) commands places (ap length now ∙ long) (omega (arith, c.push_back_reserved.ensures.capacity)) (omega (arith, c.take_up.ensures.room))
+    (AreCounted-entered c.self.inside.connections.immediate c.begin.new.connections.immediate c.self.inside.connections.conns c.self.inside.live.items l inv.commands.counted c.begin.ensures.long counts room) in
+    commands_sound_on inv (ap (λ (x : Connected). x.conns) c.begin.ensures.connections) (places_sound inv.window places turned fits (omega (arith, counted))) commands places (ap length now ∙ long) (omega (arith, c.push_back_reserved.ensures.capacity)) (omega (arith, c.take_up.ensures.room))
 
 pub returns-clause-session : goal.returns-clause-session
 returns-clause-session c =
     let r : Request = c.args.request.now in
-    let s : Core = record { window = c.self.inside.window; events = c.self.inside.events; conns = c.self.inside.conns.items; entered = c.self.inside.entered; taken = c.self.inside.taken; live = c.self.inside.live.items; sets = c.self.inside.sets.items; level = c.self.inside.level; arrived = c.self.inside.arrived.items; waiting = c.self.inside.waiting.items; open_conns = c.self.inside.open_conns.items } in
+    let s : Core = record { window = c.self.inside.window; events = c.self.inside.events; conns = c.self.inside.connections.conns; entered = c.self.inside.entered; taken = c.self.inside.taken; live = c.self.inside.live.items; sets = c.self.inside.sets.items; level = c.self.inside.level; arrived = c.self.inside.arrived.items; waiting = c.self.inside.waiting.items; open_conns = c.self.inside.connections.open_conns } in
     let old : List Members = c.self.inside.sets.items in
     let task : Task = task_of (c.self.inside.entered + 1) c.conn-2.result c.itt-3.result c.attr_of-attr.result c.immediate-2.result (to_z w64 (of_z w64 c.position-pos.result)) c.event-event.result in
     let new : List Members = set old c.args.unit (given_by (entered_to (get_or old c.args.unit (opened 0)) task)) in
@@ -136,8 +136,10 @@ returns-clause-session c =
     let same : task ≡ new_task s r = task_is s r c.conn-2.result c.itt-3.result c.attr_of-attr.result c.immediate-2.result (to_z w64 (of_z w64 c.position-pos.result)) c.event-event.result c.conn-2.ensures c.itt-3.ensures (c.attr_of-attr.ensures ∙ ap attr_of c.attr.ensures) c.immediate-2.ensures
     (to_z-of_z w64 c.position-pos.result (search rules) ∙ c.position-pos.ensures ∙ ap (λ (t : Core). pos (number_by t r) -ℤ pos (number_of_first t.window.first)) (sym c.self.view_is)) (c.event-event.ensures ∙ ap (λ (t : Core). event_by t r) (sym c.self.view_is)) in
     let lives : c.push_back_reserved.new.self.items ≡ s.live ++ new_live s r c.args.unit ∷ [] = c.push_back_reserved.ensures.items ∙ ap (λ (l : Live). s.live ++ l ∷ []) (live_is s r c.args.unit c.conn.result c.itt-2.result c.immediate.result c.conn.ensures c.itt-2.ensures c.immediate.ensures) in
-    let made : Received → List Live → List Members → Core = λ w ls ms. record { window = w; events = s.events; conns = s.conns; entered = s.entered + 1; taken = s.taken; live = ls; sets = ms; level = s.level; arrived = s.arrived; waiting = s.waiting; open_conns = s.open_conns } in
-    ap (λ (w : Received). made w c.push_back_reserved.new.self.items (take c.self.inside.sets.len (c.enter.new.sets ++ drop (length c.enter.new.sets) old))) c.begin.ensures.window
+    let made_on : Connected → Received → List Live → List Members → Core = λ x w ls ms. record { window = w; events = s.events; conns = x.conns; entered = s.entered + 1; taken = s.taken; live = ls; sets = ms; level = s.level; arrived = s.arrived; waiting = s.waiting; open_conns = x.open_conns } in
+    let made : Received → List Live → List Members → Core = made_on c.self.inside.connections in
+    ap (λ (x : Connected). made_on x c.begin.new.window c.push_back_reserved.new.self.items (take c.self.inside.sets.len (c.enter.new.sets ++ drop (length c.enter.new.sets) old))) c.begin.ensures.connections
+    ∙ ap (λ (w : Received). made w c.push_back_reserved.new.self.items (take c.self.inside.sets.len (c.enter.new.sets ++ drop (length c.enter.new.sets) old))) c.begin.ensures.window
     ∙ ap (λ (ls : List Live). made (started s.window r) ls (take c.self.inside.sets.len (c.enter.new.sets ++ drop (length c.enter.new.sets) old))) lives
     ∙ ap (made (started s.window r) (s.live ++ new_live s r c.args.unit ∷ [])) (now ∙ ap (λ (t : Task). set old c.args.unit (given_by (entered_to (get_or old c.args.unit (opened 0)) t))) same)
     ∙ ap (λ (t : Core). with_command t r c.args.unit) c.self.view_is
@@ -145,7 +147,7 @@ returns-clause-session c =
 pub returns-clause-effects : goal.returns-clause-effects
 returns-clause-effects c =
     let r : Request = c.args.request.now in
-    let s : Core = record { window = c.self.inside.window; events = c.self.inside.events; conns = c.self.inside.conns.items; entered = c.self.inside.entered; taken = c.self.inside.taken; live = c.self.inside.live.items; sets = c.self.inside.sets.items; level = c.self.inside.level; arrived = c.self.inside.arrived.items; waiting = c.self.inside.waiting.items; open_conns = c.self.inside.open_conns.items } in
+    let s : Core = record { window = c.self.inside.window; events = c.self.inside.events; conns = c.self.inside.connections.conns; entered = c.self.inside.entered; taken = c.self.inside.taken; live = c.self.inside.live.items; sets = c.self.inside.sets.items; level = c.self.inside.level; arrived = c.self.inside.arrived.items; waiting = c.self.inside.waiting.items; open_conns = c.self.inside.connections.open_conns } in
     let old : List Members = c.self.inside.sets.items in
     let task : Task = task_of (c.self.inside.entered + 1) c.conn-2.result c.itt-3.result c.attr_of-attr.result c.immediate-2.result (to_z w64 (of_z w64 c.position-pos.result)) c.event-event.result in
     let same : task ≡ new_task s r = task_is s r c.conn-2.result c.itt-3.result c.attr_of-attr.result c.immediate-2.result (to_z w64 (of_z w64 c.position-pos.result)) c.event-event.result c.conn-2.ensures c.itt-3.ensures (c.attr_of-attr.ensures ∙ ap attr_of c.attr.ensures) c.immediate-2.ensures

@@ -26,7 +26,7 @@ enabled_there s ticket i l set found at read inside said =
 
 pub returns-then-is_enabled : goal.returns-then-is_enabled
 returns-then-is_enabled c =
-    let kept : Core = record { window = c.self.inside.window; events = c.self.inside.events; conns = c.self.inside.conns.items; entered = c.self.inside.entered; taken = c.self.inside.taken; live = c.self.inside.live.items; sets = c.self.inside.sets.items; level = c.self.inside.level; arrived = c.self.inside.arrived.items; waiting = c.self.inside.waiting.items; open_conns = c.self.inside.open_conns.items } in
+    let kept : Core = record { window = c.self.inside.window; events = c.self.inside.events; conns = c.self.inside.connections.conns; entered = c.self.inside.entered; taken = c.self.inside.taken; live = c.self.inside.live.items; sets = c.self.inside.sets.items; level = c.self.inside.level; arrived = c.self.inside.arrived.items; waiting = c.self.inside.waiting.items; open_conns = c.self.inside.connections.open_conns } in
     let found : find_ticket c.args.ticket c.self.inside.live.items ≡ Some c.in_ok-command.command = sym c.find.ensures ∙ c.in_ok-command.was in
     let within = find-passes (λ (l : Live). l.ticket == c.args.ticket) (λ (l : Live). nat_le l.ticket c.self.inside.entered && nat_lt l.unit (length c.self.inside.sets.items)) c.self.inside.live.items c.in_ok-command.command c.self.invariant.commands.within found in
     let test : nat_lt c.in_ok-command.command.unit (length c.self.inside.sets.items) ≡ true = and_second (nat_le c.in_ok-command.command.ticket c.self.inside.entered) (nat_lt c.in_ok-command.command.unit (length c.self.inside.sets.items)) within in
@@ -34,5 +34,5 @@ returns-then-is_enabled c =
     let at : c.from.result ≡ c.in_ok-command.command.unit = c.from.ensures in
     record {
       command = enabled_there kept c.args.ticket c.from.result c.in_ok-command.command c.index.result.now found at c.index.ensures (omega (arith, lt, at)) (sym c.is_enabled.ensures.answer ∙ c.if-is_enabled.true) ∙ ap (λ (s : Core). find_enabled s c.args.ticket) c.self.view_is;
-      known = ap (λ (s : Core). is_known c.in_ok-command.command.conn s.conns) (sym c.self.view_is) ∙ find-passes (λ (l : Live). l.ticket == c.args.ticket) (λ (l : Live). is_known l.conn c.self.inside.conns.items) c.self.inside.live.items c.in_ok-command.command c.self.invariant.commands.known found;
+      known = ap (λ (s : Core). is_known c.in_ok-command.command.conn s.conns) (sym c.self.view_is) ∙ find-passes (λ (l : Live). l.ticket == c.args.ticket) (λ (l : Live). is_known l.conn c.self.inside.connections.conns) c.self.inside.live.items c.in_ok-command.command c.self.invariant.commands.known found;
     }

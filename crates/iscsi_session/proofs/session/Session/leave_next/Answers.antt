@@ -9,6 +9,7 @@ use Rattle.iscsi_history.specs.declared.effect.Effect.{Effect}
 use Rattle.iscsi_history.specs.declared.effect.Effect.TheVariants.{Leave}
 use Rattle.iscsi_session.specs.declared.session.leaving.Choice.{Choice}
 use Rattle.iscsi_session.specs.declared.session.live.Live.{Live}
+use Rattle.iscsi_connections.specs.Connected.{Connected}
 use Rattle.iscsi_session.specs.Standing.{Core, Match, are_ascending}
 use Rattle.iscsi_session.specs.Steps.{AreCounted, is_numbered, set_at, without_ticket}
 use Rattle.iscsi_session.specs.Functions.{finished_by, with_left, leaving_effects, has_covered, chosen, later, covers_ticket, owed}
@@ -17,7 +18,7 @@ use Rattle.iscsi_session.proofs.WindowLemmas.{find-found}
 use Rattle.iscsi_session.proofs.KeptLemmas.{written}
 use Rattle.iscsi_session.proofs.LeavingParts.{none_found, less, one_less, stepped, Leaving, leaving_one}
 use Rattle.iscsi_session.proofs.LaterParts.{left_alike, effects_alike, later_agrees}
-use Rattle.iscsi_session.proofs.SoundLemmas.{places_sound, left_sound, commands_sound}
+use Rattle.iscsi_session.proofs.SoundLemmas.{places_sound, left_sound, commands_sound_on}
 use Rattle.iscsi_session.proofs.session.Session.leave_next.Goals as goal
 
 some_task : (x : Option Task) (k : ℕ) → option_map (λ (t : Task). t.ticket) x ≡ Some k → (task : Task) × ((x ≡ Some task) × (task.ticket ≡ k))
@@ -63,12 +64,15 @@ same_chosen : (s : Core) (unit : ℕ) (choice : Choice) (k : ℕ) (sets : List M
 same_chosen s unit choice k sets t =
     subst (λ n. (x : Task) → (nat_lt n x.ticket || not (chosen choice x)) ≡ true → chosen (later choice (Some n)) x ≡ chosen choice x) t.ticket_is (later_agrees choice t.task t.covered)
 
-core_is : (s : Core) (unit k : ℕ) (w : Received) (lives : List Live) (sets : List Members) → w ≡ finished_by s.window s.live (without_ticket k s.live) → lives ≡ without_ticket k s.live → sets ≡ set s.sets unit (less (set_at s unit) k)
-    → record s { window = w; live = lives; sets = sets } ≡ stepped s unit k
-core_is s unit k w lives sets window_is live_is sets_are =
-    ap (λ (v : Received). let x : Core = record s { window = v; live = lives; sets = sets } in x) window_is
-    ∙ ap (λ (ls : List Live). let x : Core = record s { window = finished_by s.window s.live (without_ticket k s.live); live = ls; sets = sets } in x) live_is
-    ∙ ap (λ (ms : List Members). let x : Core = record s { window = finished_by s.window s.live (without_ticket k s.live); live = without_ticket k s.live; sets = ms } in x) sets_are
+core_is : (s : Core) (unit k : ℕ) (x : Connected) (w : Received) (lives : List Live) (sets : List Members) → x.conns ≡ s.conns → x.open_conns ≡ s.open_conns
+    → w ≡ finished_by s.window s.live (without_ticket k s.live) → lives ≡ without_ticket k s.live → sets ≡ set s.sets unit (less (set_at s unit) k)
+    → record s { window = w; conns = x.conns; live = lives; sets = sets; open_conns = x.open_conns } ≡ stepped s unit k
+core_is s unit k x w lives sets conns_are open_are window_is live_is sets_are =
+    ap (λ (cs : List (ℕ × ℕ)). let y : Core = record s { window = w; conns = cs; live = lives; sets = sets; open_conns = x.open_conns } in y) conns_are
+    ∙ ap (λ (os : List ℕ). let y : Core = record s { window = w; live = lives; sets = sets; open_conns = os } in y) open_are
+    ∙ ap (λ (v : Received). let y : Core = record s { window = v; live = lives; sets = sets } in y) window_is
+    ∙ ap (λ (ls : List Live). let y : Core = record s { window = finished_by s.window s.live (without_ticket k s.live); live = ls; sets = sets } in y) live_is
+    ∙ ap (λ (ms : List Members). let y : Core = record s { window = finished_by s.window s.live (without_ticket k s.live); live = without_ticket k s.live; sets = ms } in y) sets_are
 
 -- where none was taken, none is chosen, and the sets are as they were
 none_taken : (unit : ℕ) (covers : Task → Bool) (n : ℕ) (old lent sets : List Members) (r : Option ℕ) → n ≡ length old → lent ≡ old
@@ -91,7 +95,7 @@ returns-in_err-ticket-clause-one c = λ k is.
 
 pub end-requires-clause-there : goal.end-requires-clause-there
 end-requires-clause-there c =
-    let s : Core = record { window = c.self.inside.window; events = c.self.inside.events; conns = c.self.inside.conns.items; entered = c.self.inside.entered; taken = c.self.inside.taken; live = c.self.inside.live.items; sets = c.self.inside.sets.items; level = c.self.inside.level; arrived = c.self.inside.arrived.items; waiting = c.self.inside.waiting.items; open_conns = c.self.inside.open_conns.items } in
+    let s : Core = record { window = c.self.inside.window; events = c.self.inside.events; conns = c.self.inside.connections.conns; entered = c.self.inside.entered; taken = c.self.inside.taken; live = c.self.inside.live.items; sets = c.self.inside.sets.items; level = c.self.inside.level; arrived = c.self.inside.arrived.items; waiting = c.self.inside.waiting.items; open_conns = c.self.inside.connections.open_conns } in
     let u : ℕ = c.args.unit in
     let k : ℕ = c.in_ok-ticket.ticket in
     let covers : Task → Bool = chosen c.args.choice.now in
@@ -102,7 +106,7 @@ end-requires-clause-there c =
 
 pub returns-clause-session : goal.returns-clause-session
 returns-clause-session c =
-    let s : Core = record { window = c.self.inside.window; events = c.self.inside.events; conns = c.self.inside.conns.items; entered = c.self.inside.entered; taken = c.self.inside.taken; live = c.self.inside.live.items; sets = c.self.inside.sets.items; level = c.self.inside.level; arrived = c.self.inside.arrived.items; waiting = c.self.inside.waiting.items; open_conns = c.self.inside.open_conns.items } in
+    let s : Core = record { window = c.self.inside.window; events = c.self.inside.events; conns = c.self.inside.connections.conns; entered = c.self.inside.entered; taken = c.self.inside.taken; live = c.self.inside.live.items; sets = c.self.inside.sets.items; level = c.self.inside.level; arrived = c.self.inside.arrived.items; waiting = c.self.inside.waiting.items; open_conns = c.self.inside.connections.open_conns } in
     let u : ℕ = c.args.unit in
     let k : ℕ = c.in_ok-ticket.ticket in
     let covers : Task → Bool = chosen c.args.choice.now in
@@ -110,7 +114,7 @@ returns-clause-session c =
     let inside : u < length s.sets = omega (arith, c.requires.unit, ap (λ (x : Core). length x.sets) view) in
     let t : Taken s u covers k c.take.new.sets = taken s u covers k c.deref_mut.result.now c.take.new.sets c.take.result c.deref_mut.ensures.value c.take.ensures.ticket c.in_ok-ticket.was c.take.ensures.sets inside c.self.invariant.commands.in_sets c.self.invariant.commands.ascending c.self.invariant.commands.numbered in
     let now : take c.self.inside.sets.len (c.take.new.sets ++ drop (length c.take.new.sets) c.self.inside.sets.items) ≡ set s.sets u (less (set_at s u) k) = written c.self.inside.sets.len c.take.new.sets c.self.inside.sets.items t.same_length c.self.inside.sets.ok.0 ∙ t.sets_are in
-    let is = core_is s u k c.end.new.window c.end.new.live.items (take c.self.inside.sets.len (c.take.new.sets ++ drop (length c.take.new.sets) c.self.inside.sets.items)) c.end.ensures.window c.end.ensures.live now in
+    let is = core_is s u k c.end.new.connections c.end.new.window c.end.new.live.items (take c.self.inside.sets.len (c.take.new.sets ++ drop (length c.take.new.sets) c.self.inside.sets.items)) (ap (λ (x : Connected). x.conns) c.end.ensures.connections) (ap (λ (x : Connected). x.open_conns) c.end.ensures.connections) c.end.ensures.window c.end.ensures.live now in
     let rest : Task → Bool = chosen (later c.args.choice.now (Some k)) in
     ap (λ (x : Core). with_left x u rest) is
     ∙ left_alike (stepped s u k) u rest covers (λ x. nat_lt k x.ticket || not (covers x)) t.leaving.later (same_chosen s u c.args.choice.now k c.take.new.sets t)
@@ -118,7 +122,7 @@ returns-clause-session c =
 
 pub returns-clause-effects : goal.returns-clause-effects
 returns-clause-effects c =
-    let s : Core = record { window = c.self.inside.window; events = c.self.inside.events; conns = c.self.inside.conns.items; entered = c.self.inside.entered; taken = c.self.inside.taken; live = c.self.inside.live.items; sets = c.self.inside.sets.items; level = c.self.inside.level; arrived = c.self.inside.arrived.items; waiting = c.self.inside.waiting.items; open_conns = c.self.inside.open_conns.items } in
+    let s : Core = record { window = c.self.inside.window; events = c.self.inside.events; conns = c.self.inside.connections.conns; entered = c.self.inside.entered; taken = c.self.inside.taken; live = c.self.inside.live.items; sets = c.self.inside.sets.items; level = c.self.inside.level; arrived = c.self.inside.arrived.items; waiting = c.self.inside.waiting.items; open_conns = c.self.inside.connections.open_conns } in
     let u : ℕ = c.args.unit in
     let k : ℕ = c.in_ok-ticket.ticket in
     let covers : Task → Bool = chosen c.args.choice.now in
@@ -126,7 +130,7 @@ returns-clause-effects c =
     let inside : u < length s.sets = omega (arith, c.requires.unit, ap (λ (x : Core). length x.sets) view) in
     let t : Taken s u covers k c.take.new.sets = taken s u covers k c.deref_mut.result.now c.take.new.sets c.take.result c.deref_mut.ensures.value c.take.ensures.ticket c.in_ok-ticket.was c.take.ensures.sets inside c.self.invariant.commands.in_sets c.self.invariant.commands.ascending c.self.invariant.commands.numbered in
     let now : take c.self.inside.sets.len (c.take.new.sets ++ drop (length c.take.new.sets) c.self.inside.sets.items) ≡ set s.sets u (less (set_at s u) k) = written c.self.inside.sets.len c.take.new.sets c.self.inside.sets.items t.same_length c.self.inside.sets.ok.0 ∙ t.sets_are in
-    let is = core_is s u k c.end.new.window c.end.new.live.items (take c.self.inside.sets.len (c.take.new.sets ++ drop (length c.take.new.sets) c.self.inside.sets.items)) c.end.ensures.window c.end.ensures.live now in
+    let is = core_is s u k c.end.new.connections c.end.new.window c.end.new.live.items (take c.self.inside.sets.len (c.take.new.sets ++ drop (length c.take.new.sets) c.self.inside.sets.items)) (ap (λ (x : Connected). x.conns) c.end.ensures.connections) (ap (λ (x : Connected). x.open_conns) c.end.ensures.connections) c.end.ensures.window c.end.ensures.live now in
     let rest : Task → Bool = chosen (later c.args.choice.now (Some k)) in
     ap (λ (x : Core). c.push_reserved.new.self.items ++ leaving_effects x u rest) is
     ∙ ap (λ (es : List Effect). c.push_reserved.new.self.items ++ es) (effects_alike (stepped s u k) u rest covers (λ x. nat_lt k x.ticket || not (covers x)) t.leaving.later (same_chosen s u c.args.choice.now k c.take.new.sets t))
@@ -137,7 +141,7 @@ returns-clause-effects c =
 
 pub returns-clause-one : goal.returns-clause-one
 returns-clause-one c = λ ticket chose.
-    let s : Core = record { window = c.self.inside.window; events = c.self.inside.events; conns = c.self.inside.conns.items; entered = c.self.inside.entered; taken = c.self.inside.taken; live = c.self.inside.live.items; sets = c.self.inside.sets.items; level = c.self.inside.level; arrived = c.self.inside.arrived.items; waiting = c.self.inside.waiting.items; open_conns = c.self.inside.open_conns.items } in
+    let s : Core = record { window = c.self.inside.window; events = c.self.inside.events; conns = c.self.inside.connections.conns; entered = c.self.inside.entered; taken = c.self.inside.taken; live = c.self.inside.live.items; sets = c.self.inside.sets.items; level = c.self.inside.level; arrived = c.self.inside.arrived.items; waiting = c.self.inside.waiting.items; open_conns = c.self.inside.connections.open_conns } in
     let u : ℕ = c.args.unit in
     let k : ℕ = c.in_ok-ticket.ticket in
     let covers : Task → Bool = chosen c.args.choice.now in
@@ -145,7 +149,7 @@ returns-clause-one c = λ ticket chose.
     let inside : u < length s.sets = omega (arith, c.requires.unit, ap (λ (x : Core). length x.sets) view) in
     let t : Taken s u covers k c.take.new.sets = taken s u covers k c.deref_mut.result.now c.take.new.sets c.take.result c.deref_mut.ensures.value c.take.ensures.ticket c.in_ok-ticket.was c.take.ensures.sets inside c.self.invariant.commands.in_sets c.self.invariant.commands.ascending c.self.invariant.commands.numbered in
     let now : take c.self.inside.sets.len (c.take.new.sets ++ drop (length c.take.new.sets) c.self.inside.sets.items) ≡ set s.sets u (less (set_at s u) k) = written c.self.inside.sets.len c.take.new.sets c.self.inside.sets.items t.same_length c.self.inside.sets.ok.0 ∙ t.sets_are in
-    let is = core_is s u k c.end.new.window c.end.new.live.items (take c.self.inside.sets.len (c.take.new.sets ++ drop (length c.take.new.sets) c.self.inside.sets.items)) c.end.ensures.window c.end.ensures.live now in
+    let is = core_is s u k c.end.new.connections c.end.new.window c.end.new.live.items (take c.self.inside.sets.len (c.take.new.sets ++ drop (length c.take.new.sets) c.self.inside.sets.items)) (ap (λ (x : Connected). x.conns) c.end.ensures.connections) (ap (λ (x : Connected). x.open_conns) c.end.ensures.connections) c.end.ensures.window c.end.ensures.live now in
     let same : k ≡ ticket = sym t.ticket_is ∙ eqb-true t.task.ticket ticket (ap (λ (x : Choice). chosen x t.task) (sym chose) ∙ t.covered) in
     ap (λ (x : Core). has_covered covers (set_at x u)) is
     ∙ ap (has_covered covers) (get_or-set_same s.sets u (less (set_at s u) k) (opened 0) inside)
@@ -155,7 +159,7 @@ returns-clause-one c = λ ticket chose.
 
 pub returns-clause-fewer : goal.returns-clause-fewer
 returns-clause-fewer c = λ yes.
-    let s : Core = record { window = c.self.inside.window; events = c.self.inside.events; conns = c.self.inside.conns.items; entered = c.self.inside.entered; taken = c.self.inside.taken; live = c.self.inside.live.items; sets = c.self.inside.sets.items; level = c.self.inside.level; arrived = c.self.inside.arrived.items; waiting = c.self.inside.waiting.items; open_conns = c.self.inside.open_conns.items } in
+    let s : Core = record { window = c.self.inside.window; events = c.self.inside.events; conns = c.self.inside.connections.conns; entered = c.self.inside.entered; taken = c.self.inside.taken; live = c.self.inside.live.items; sets = c.self.inside.sets.items; level = c.self.inside.level; arrived = c.self.inside.arrived.items; waiting = c.self.inside.waiting.items; open_conns = c.self.inside.connections.open_conns } in
     let u : ℕ = c.args.unit in
     let k : ℕ = c.in_ok-ticket.ticket in
     let covers : Task → Bool = chosen c.args.choice.now in
@@ -163,12 +167,12 @@ returns-clause-fewer c = λ yes.
     let inside : u < length s.sets = omega (arith, c.requires.unit, ap (λ (x : Core). length x.sets) view) in
     let t : Taken s u covers k c.take.new.sets = taken s u covers k c.deref_mut.result.now c.take.new.sets c.take.result c.deref_mut.ensures.value c.take.ensures.ticket c.in_ok-ticket.was c.take.ensures.sets inside c.self.invariant.commands.in_sets c.self.invariant.commands.ascending c.self.invariant.commands.numbered in
     let now : take c.self.inside.sets.len (c.take.new.sets ++ drop (length c.take.new.sets) c.self.inside.sets.items) ≡ set s.sets u (less (set_at s u) k) = written c.self.inside.sets.len c.take.new.sets c.self.inside.sets.items t.same_length c.self.inside.sets.ok.0 ∙ t.sets_are in
-    let is = core_is s u k c.end.new.window c.end.new.live.items (take c.self.inside.sets.len (c.take.new.sets ++ drop (length c.take.new.sets) c.self.inside.sets.items)) c.end.ensures.window c.end.ensures.live now in
+    let is = core_is s u k c.end.new.connections c.end.new.window c.end.new.live.items (take c.self.inside.sets.len (c.take.new.sets ++ drop (length c.take.new.sets) c.self.inside.sets.items)) (ap (λ (x : Connected). x.conns) c.end.ensures.connections) (ap (λ (x : Connected). x.open_conns) c.end.ensures.connections) c.end.ensures.window c.end.ensures.live now in
     omega (arith, t.leaving.fewer, ap (λ (x : Core). length (set_at x u).list) is, ap (λ (x : Core). length (set_at x u).list) view)
 
 pub returns-clause-spent : goal.returns-clause-spent
 returns-clause-spent c =
-    let s : Core = record { window = c.self.inside.window; events = c.self.inside.events; conns = c.self.inside.conns.items; entered = c.self.inside.entered; taken = c.self.inside.taken; live = c.self.inside.live.items; sets = c.self.inside.sets.items; level = c.self.inside.level; arrived = c.self.inside.arrived.items; waiting = c.self.inside.waiting.items; open_conns = c.self.inside.open_conns.items } in
+    let s : Core = record { window = c.self.inside.window; events = c.self.inside.events; conns = c.self.inside.connections.conns; entered = c.self.inside.entered; taken = c.self.inside.taken; live = c.self.inside.live.items; sets = c.self.inside.sets.items; level = c.self.inside.level; arrived = c.self.inside.arrived.items; waiting = c.self.inside.waiting.items; open_conns = c.self.inside.connections.open_conns } in
     let u : ℕ = c.args.unit in
     let k : ℕ = c.in_ok-ticket.ticket in
     let covers : Task → Bool = chosen c.args.choice.now in
@@ -180,7 +184,7 @@ returns-clause-spent c =
 
 pub invariant_of-self-2 : goal.invariant_of-self-2
 invariant_of-self-2 c =
-    let s : Core = record { window = c.self.inside.window; events = c.self.inside.events; conns = c.self.inside.conns.items; entered = c.self.inside.entered; taken = c.self.inside.taken; live = c.self.inside.live.items; sets = c.self.inside.sets.items; level = c.self.inside.level; arrived = c.self.inside.arrived.items; waiting = c.self.inside.waiting.items; open_conns = c.self.inside.open_conns.items } in
+    let s : Core = record { window = c.self.inside.window; events = c.self.inside.events; conns = c.self.inside.connections.conns; entered = c.self.inside.entered; taken = c.self.inside.taken; live = c.self.inside.live.items; sets = c.self.inside.sets.items; level = c.self.inside.level; arrived = c.self.inside.arrived.items; waiting = c.self.inside.waiting.items; open_conns = c.self.inside.connections.open_conns } in
     let u : ℕ = c.args.unit in
     let k : ℕ = c.in_ok-ticket.ticket in
     let covers : Task → Bool = chosen c.args.choice.now in
@@ -197,5 +201,5 @@ invariant_of-self-2 c =
     let new : List Members = set s.sets u (less (set_at s u) k) in
     let long : length new ≡ length c.self.inside.sets.items = length-set s.sets u (less (set_at s u) k) in
     let commands = left_sound inv.commands k c.end.ensures.live (omega (arith, ap (λ (x : Received). x.unfinished) c.end.ensures.window, inv.commands.numbered)) (ap length now ∙ long) (subst (λ (ms : List Members). Match ms (without_ticket k lives)) (sym now) t.leaving.matches)
-    (subst (λ (ls : List Live). AreCounted c.end.new.immediate.items c.self.inside.conns.items ls) c.end.ensures.live (subst (λ (cs : List (ℕ × ℕ)). AreCounted c.end.new.immediate.items cs c.end.new.live.items) c.deref.ensures.value c.end.ensures.counted)) in
-    commands_sound inv (places_sound inv.window places turned (omega (arith, inv.window.fits, ap (λ (x : Received). x.unfinished) c.end.ensures.window, less_numbered)) inv.window.entered) commands places (ap length now ∙ long) (omega (arith, c.end.ensures.capacity)) (omega arith)
+    (subst (λ (ls : List Live). AreCounted c.end.new.connections.immediate c.self.inside.connections.conns ls) c.end.ensures.live c.end.ensures.counted) in
+    commands_sound_on inv (ap (λ (x : Connected). x.conns) c.end.ensures.connections) (places_sound inv.window places turned (omega (arith, inv.window.fits, ap (λ (x : Received). x.unfinished) c.end.ensures.window, less_numbered)) inv.window.entered) commands places (ap length now ∙ long) (omega (arith, c.end.ensures.capacity)) (omega arith)

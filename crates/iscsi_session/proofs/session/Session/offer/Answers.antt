@@ -44,14 +44,14 @@ invariant_of-self c =
     let inv = c.self.invariant in
     let room : c.self.inside.window.turned + count_by is_some c.self.inside.window.places < c.self.inside.taken = subst (λ (s : Core). s.window.turned + count_by is_some s.window.places < s.taken) (sym c.self.view_is) c.requires.counted in
     let entered : c.self.inside.entered + count_by is_some c.self.inside.window.places < c.self.inside.taken = subst (λ (s : Core). s.entered + count_by is_some s.window.places < s.taken) (sym c.self.view_is) c.requires.entered in
-    let known : is_known (connection_of c.args.request.now) c.self.inside.conns.items ≡ true = ap (λ (s : Core). is_known (connection_of c.args.request.now) s.conns) c.self.view_is ∙ c.requires.known in
-    let window : IsWindowSound c.offer-offer.new.self (c.self.inside.held + 1) c.self.inside.entered c.self.inside.taken c.self.inside.conns.items = record {
+    let known : is_known (connection_of c.args.request.now) c.self.inside.connections.conns ≡ true = ap (λ (s : Core). is_known (connection_of c.args.request.now) s.conns) c.self.view_is ∙ c.requires.known in
+    let window : IsWindowSound c.offer-offer.new.self (c.self.inside.held + 1) c.self.inside.entered c.self.inside.taken c.self.inside.connections.conns = record {
       fits = omega (arith, inv.window.fits, g.unfinished, g.long);
       most = omega (arith, inv.window.most, g.long);
       held_is = omega (arith, inv.window.held_is, g.held);
       turned = omega (arith, room, g.turned, g.counted);
       entered = omega (arith, entered, g.counted);
-      known = g.known c.self.inside.conns.items inv.window.known (ap (λ b. not b && is_known (connection_of c.args.request.now) c.self.inside.conns.items) c.requires.regular ∙ known);
+      known = g.known c.self.inside.connections.conns inv.window.known (ap (λ b. not b && is_known (connection_of c.args.request.now) c.self.inside.connections.conns) c.requires.regular ∙ known);
     } in
     arrivals_sound (window_sound inv g.unfinished g.long window) (ap length c.note.ensures.events ∙ length-noted c.place-place.result c.self.inside.arrived.items (c.self.inside.taken - 1)) (omega (arith, c.note.ensures.capacity))
 

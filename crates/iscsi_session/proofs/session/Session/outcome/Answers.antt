@@ -53,7 +53,7 @@ returns-in-10 c =
     let s : Core = c.args.self.now in
     let r : Request = c.args.request.now in
     let f : function r ≡ 10 = search rules in
-    let kept : Core = record { window = c.self.inside.window; events = c.self.inside.events; conns = c.self.inside.conns.items; entered = c.self.inside.entered; taken = c.self.inside.taken; live = c.self.inside.live.items; sets = c.self.inside.sets.items; level = c.self.inside.level; arrived = c.self.inside.arrived.items; waiting = c.self.inside.waiting.items; open_conns = c.self.inside.open_conns.items } in
+    let kept : Core = record { window = c.self.inside.window; events = c.self.inside.events; conns = c.self.inside.connections.conns; entered = c.self.inside.entered; taken = c.self.inside.taken; live = c.self.inside.live.items; sets = c.self.inside.sets.items; level = c.self.inside.level; arrived = c.self.inside.arrived.items; waiting = c.self.inside.waiting.items; open_conns = c.self.inside.connections.open_conns } in
     let inside : c.args.unit < length kept.sets = omega (arith, c.requires.unit, ap (λ (x : Core). length x.sets) c.self.view_is) in
     let there : nat_lt 0 c.len.result ≡ list_any (λ l. l.unit == c.args.unit) s.live =
     ap (nat_lt 0) c.len.ensures.len ∙ any_in_set kept c.args.unit c.from.result c.index.result.now c.self.invariant.commands.in_sets c.from.ensures c.index.ensures inside ∙ ap (λ (x : Core). list_any (λ l. l.unit == c.args.unit) x.live) c.self.view_is in

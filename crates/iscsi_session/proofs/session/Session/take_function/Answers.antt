@@ -48,7 +48,7 @@ invariant_of-self c =
 pub perform-requires-clause-known : goal.perform-requires-clause-known
 perform-requires-clause-known c =
     let inv = c.self.invariant in
-    let s : Core = record { window = c.self.inside.window; events = c.self.inside.events; conns = c.self.inside.conns.items; entered = c.self.inside.entered; taken = c.self.inside.taken; live = c.self.inside.live.items; sets = c.self.inside.sets.items; level = c.self.inside.level; arrived = c.self.inside.arrived.items; waiting = c.self.inside.waiting.items; open_conns = c.self.inside.open_conns.items } in
+    let s : Core = record { window = c.self.inside.window; events = c.self.inside.events; conns = c.self.inside.connections.conns; entered = c.self.inside.entered; taken = c.self.inside.taken; live = c.self.inside.live.items; sets = c.self.inside.sets.items; level = c.self.inside.level; arrived = c.self.inside.arrived.items; waiting = c.self.inside.waiting.items; open_conns = c.self.inside.connections.open_conns } in
     let f : Waiting = c.in-Some.function in
     let found : find (λ w. w.turn == s.window.turned) s.waiting ≡ Some f = ap (λ n. find (λ w. w.turn == n) s.waiting) (sym c.turned-number.ensures) ∙ ap (find (λ w. w.turn == c.turned-number.result)) (sym c.deref.ensures.value) ∙ sym c.first_at.ensures ∙ c.in-Some.is in
     find-passes (λ w. w.turn == s.window.turned) (λ w. is_known (connection_of w.request) s.conns) s.waiting f inv.functions.known found
@@ -56,7 +56,7 @@ perform-requires-clause-known c =
 pub perform-requires-clause-voids : goal.perform-requires-clause-voids
 perform-requires-clause-voids c = λ waits_not immediate.
     let inv = c.self.invariant in
-    let s : Core = record { window = c.self.inside.window; events = c.self.inside.events; conns = c.self.inside.conns.items; entered = c.self.inside.entered; taken = c.self.inside.taken; live = c.self.inside.live.items; sets = c.self.inside.sets.items; level = c.self.inside.level; arrived = c.self.inside.arrived.items; waiting = c.self.inside.waiting.items; open_conns = c.self.inside.open_conns.items } in
+    let s : Core = record { window = c.self.inside.window; events = c.self.inside.events; conns = c.self.inside.connections.conns; entered = c.self.inside.entered; taken = c.self.inside.taken; live = c.self.inside.live.items; sets = c.self.inside.sets.items; level = c.self.inside.level; arrived = c.self.inside.arrived.items; waiting = c.self.inside.waiting.items; open_conns = c.self.inside.connections.open_conns } in
     let f : Waiting = c.in-Some.function in
     let found : find (λ w. w.turn == s.window.turned) s.waiting ≡ Some f = ap (λ n. find (λ w. w.turn == n) s.waiting) (sym c.turned-number.ensures) ∙ ap (find (λ w. w.turn == c.turned-number.result)) (sym c.deref.ensures.value) ∙ sym c.first_at.ensures ∙ c.in-Some.is in
     absurd (false≢true (sym waits_not ∙ find-passes (λ w. w.turn == s.window.turned) (λ w. may_wait w.request) s.waiting f inv.functions.may found))
@@ -64,7 +64,7 @@ perform-requires-clause-voids c = λ waits_not immediate.
 pub returns-clause-session : goal.returns-clause-session
 returns-clause-session c =
     let inv = c.self.invariant in
-    let s : Core = record { window = c.self.inside.window; events = c.self.inside.events; conns = c.self.inside.conns.items; entered = c.self.inside.entered; taken = c.self.inside.taken; live = c.self.inside.live.items; sets = c.self.inside.sets.items; level = c.self.inside.level; arrived = c.self.inside.arrived.items; waiting = c.self.inside.waiting.items; open_conns = c.self.inside.open_conns.items } in
+    let s : Core = record { window = c.self.inside.window; events = c.self.inside.events; conns = c.self.inside.connections.conns; entered = c.self.inside.entered; taken = c.self.inside.taken; live = c.self.inside.live.items; sets = c.self.inside.sets.items; level = c.self.inside.level; arrived = c.self.inside.arrived.items; waiting = c.self.inside.waiting.items; open_conns = c.self.inside.connections.open_conns } in
     let f : Waiting = c.in-Some.function in
     let found : find (λ w. w.turn == s.window.turned) s.waiting ≡ Some f = ap (λ n. find (λ w. w.turn == n) s.waiting) (sym c.turned-number.ensures) ∙ ap (find (λ w. w.turn == c.turned-number.result)) (sym c.deref.ensures.value) ∙ sym c.first_at.ensures ∙ c.in-Some.is in
     let waits : c.take_out.new.waiting.items ≡ filter (λ v. not (v.event == f.event)) s.waiting = c.take_out.ensures.items in
@@ -74,21 +74,21 @@ returns-clause-session c =
 pub returns-clause-effects : goal.returns-clause-effects
 returns-clause-effects c =
     let inv = c.self.invariant in
-    let s : Core = record { window = c.self.inside.window; events = c.self.inside.events; conns = c.self.inside.conns.items; entered = c.self.inside.entered; taken = c.self.inside.taken; live = c.self.inside.live.items; sets = c.self.inside.sets.items; level = c.self.inside.level; arrived = c.self.inside.arrived.items; waiting = c.self.inside.waiting.items; open_conns = c.self.inside.open_conns.items } in
+    let s : Core = record { window = c.self.inside.window; events = c.self.inside.events; conns = c.self.inside.connections.conns; entered = c.self.inside.entered; taken = c.self.inside.taken; live = c.self.inside.live.items; sets = c.self.inside.sets.items; level = c.self.inside.level; arrived = c.self.inside.arrived.items; waiting = c.self.inside.waiting.items; open_conns = c.self.inside.connections.open_conns } in
     let f : Waiting = c.in-Some.function in
     let found : find (λ w. w.turn == s.window.turned) s.waiting ≡ Some f = ap (λ n. find (λ w. w.turn == n) s.waiting) (sym c.turned-number.ensures) ∙ ap (find (λ w. w.turn == c.turned-number.result)) (sym c.deref.ensures.value) ∙ sym c.first_at.ensures ∙ c.in-Some.is in
     let waits : c.take_out.new.waiting.items ≡ filter (λ v. not (v.event == f.event)) s.waiting = c.take_out.ensures.items in
     let number : to_z w64 c.turned-number.result ≡ next_position s = next_is s c.turned-number.result c.turned-number.ensures (omega (arith, inv.window.turned, inv.taken, inv.events)) in
     c.perform.ensures.effects
-    ∙ ap (λ (es : List Effect). es ++ performed_effects (let u : Core = record s { waiting = c.take_out.new.waiting.items; open_conns = c.self.inside.open_conns.items } in u) f.request (to_z w64 c.turned-number.result) f.event) c.push_reserved.ensures.items
-    ∙ append_assoc c.args.out.now.items (Immediate f.request ∷ []) (performed_effects (let u : Core = record s { waiting = c.take_out.new.waiting.items; open_conns = c.self.inside.open_conns.items } in u) f.request (to_z w64 c.turned-number.result) f.event)
+    ∙ ap (λ (es : List Effect). es ++ performed_effects (let u : Core = record s { waiting = c.take_out.new.waiting.items; open_conns = c.self.inside.connections.open_conns } in u) f.request (to_z w64 c.turned-number.result) f.event) c.push_reserved.ensures.items
+    ∙ append_assoc c.args.out.now.items (Immediate f.request ∷ []) (performed_effects (let u : Core = record s { waiting = c.take_out.new.waiting.items; open_conns = c.self.inside.connections.open_conns } in u) f.request (to_z w64 c.turned-number.result) f.event)
     ∙ ap (λ (es : List Effect). c.args.out.now.items ++ es) (effects_are s f c.take_out.new.waiting.items (to_z w64 c.turned-number.result) found waits number)
     ∙ ap (λ (u : Core). c.args.out.now.items ++ function_effects u (next_waiting u)) c.self.view_is
 
 pub returns-clause-spent : goal.returns-clause-spent
 returns-clause-spent c =
     let inv = c.self.invariant in
-    let s : Core = record { window = c.self.inside.window; events = c.self.inside.events; conns = c.self.inside.conns.items; entered = c.self.inside.entered; taken = c.self.inside.taken; live = c.self.inside.live.items; sets = c.self.inside.sets.items; level = c.self.inside.level; arrived = c.self.inside.arrived.items; waiting = c.self.inside.waiting.items; open_conns = c.self.inside.open_conns.items } in
+    let s : Core = record { window = c.self.inside.window; events = c.self.inside.events; conns = c.self.inside.connections.conns; entered = c.self.inside.entered; taken = c.self.inside.taken; live = c.self.inside.live.items; sets = c.self.inside.sets.items; level = c.self.inside.level; arrived = c.self.inside.arrived.items; waiting = c.self.inside.waiting.items; open_conns = c.self.inside.connections.open_conns } in
     let f : Waiting = c.in-Some.function in
     let found : find (λ w. w.turn == s.window.turned) s.waiting ≡ Some f = ap (λ n. find (λ w. w.turn == n) s.waiting) (sym c.turned-number.ensures) ∙ ap (find (λ w. w.turn == c.turned-number.result)) (sym c.deref.ensures.value) ∙ sym c.first_at.ensures ∙ c.in-Some.is in
     let waits : c.take_out.new.waiting.items ≡ filter (λ v. not (v.event == f.event)) s.waiting = c.take_out.ensures.items in
@@ -99,7 +99,7 @@ returns-clause-spent c =
 pub returns-clause-fewer : goal.returns-clause-fewer
 returns-clause-fewer c = λ said.
     let inv = c.self.invariant in
-    let s : Core = record { window = c.self.inside.window; events = c.self.inside.events; conns = c.self.inside.conns.items; entered = c.self.inside.entered; taken = c.self.inside.taken; live = c.self.inside.live.items; sets = c.self.inside.sets.items; level = c.self.inside.level; arrived = c.self.inside.arrived.items; waiting = c.self.inside.waiting.items; open_conns = c.self.inside.open_conns.items } in
+    let s : Core = record { window = c.self.inside.window; events = c.self.inside.events; conns = c.self.inside.connections.conns; entered = c.self.inside.entered; taken = c.self.inside.taken; live = c.self.inside.live.items; sets = c.self.inside.sets.items; level = c.self.inside.level; arrived = c.self.inside.arrived.items; waiting = c.self.inside.waiting.items; open_conns = c.self.inside.connections.open_conns } in
     let f : Waiting = c.in-Some.function in
     let found : find (λ w. w.turn == s.window.turned) s.waiting ≡ Some f = ap (λ n. find (λ w. w.turn == n) s.waiting) (sym c.turned-number.ensures) ∙ ap (find (λ w. w.turn == c.turned-number.result)) (sym c.deref.ensures.value) ∙ sym c.first_at.ensures ∙ c.in-Some.is in
     let waits : c.take_out.new.waiting.items ≡ filter (λ v. not (v.event == f.event)) s.waiting = c.take_out.ensures.items in
@@ -110,7 +110,7 @@ returns-clause-fewer c = λ said.
 pub returns-clause-places : goal.returns-clause-places
 returns-clause-places c =
     let inv = c.self.invariant in
-    let s : Core = record { window = c.self.inside.window; events = c.self.inside.events; conns = c.self.inside.conns.items; entered = c.self.inside.entered; taken = c.self.inside.taken; live = c.self.inside.live.items; sets = c.self.inside.sets.items; level = c.self.inside.level; arrived = c.self.inside.arrived.items; waiting = c.self.inside.waiting.items; open_conns = c.self.inside.open_conns.items } in
+    let s : Core = record { window = c.self.inside.window; events = c.self.inside.events; conns = c.self.inside.connections.conns; entered = c.self.inside.entered; taken = c.self.inside.taken; live = c.self.inside.live.items; sets = c.self.inside.sets.items; level = c.self.inside.level; arrived = c.self.inside.arrived.items; waiting = c.self.inside.waiting.items; open_conns = c.self.inside.connections.open_conns } in
     let f : Waiting = c.in-Some.function in
     let found : find (λ w. w.turn == s.window.turned) s.waiting ≡ Some f = ap (λ n. find (λ w. w.turn == n) s.waiting) (sym c.turned-number.ensures) ∙ ap (find (λ w. w.turn == c.turned-number.result)) (sym c.deref.ensures.value) ∙ sym c.first_at.ensures ∙ c.in-Some.is in
     let may : may_wait f.request ≡ true = find-passes (λ w. w.turn == s.window.turned) (λ w. may_wait w.request) s.waiting f inv.functions.may found in

@@ -46,8 +46,8 @@ pub deliver-requires-clause-numbered : goal.deliver-requires-clause-numbered
 deliver-requires-clause-numbered c =
     let request : c.in-Some.turned.request ≡ Some c.in-Some-request.request = search rules in
     let n : Advanced c.self.inside.window (Some c.in-Some-request.request) = subst (Advanced c.self.inside.window) request (advanced_at c.self.inside.window c.in-Some.turned (sym c.advance.ensures.answer ∙ c.in-Some.is)) in
-    let known = (n.known c.self.inside.conns.items c.self.invariant.window.known).0 in
-    let numbered : is_immediate c.in-Some-request.request ≡ false = not_true (is_immediate c.in-Some-request.request) (and_first (not (is_immediate c.in-Some-request.request)) (is_known (connection_of c.in-Some-request.request) c.self.inside.conns.items) known) in
+    let known = (n.known c.self.inside.connections.conns c.self.invariant.window.known).0 in
+    let numbered : is_immediate c.in-Some-request.request ≡ false = not_true (is_immediate c.in-Some-request.request) (and_first (not (is_immediate c.in-Some-request.request)) (is_known (connection_of c.in-Some-request.request) c.self.inside.connections.conns) known) in
     numbered
 
 pub deliver-requires-clause-counted : goal.deliver-requires-clause-counted
@@ -61,7 +61,7 @@ pub returns-in-Some-request-clause-session : goal.returns-in-Some-request-clause
 returns-in-Some-request-clause-session c =
     let request : c.in-Some.turned.request ≡ Some c.in-Some-request.request = search rules in
     let n : Advanced c.self.inside.window (Some c.in-Some-request.request) = subst (Advanced c.self.inside.window) request (advanced_at c.self.inside.window c.in-Some.turned (sym c.advance.ensures.answer ∙ c.in-Some.is)) in
-    let s : Core = record { window = c.self.inside.window; events = c.self.inside.events; conns = c.self.inside.conns.items; entered = c.self.inside.entered; taken = c.self.inside.taken; live = c.self.inside.live.items; sets = c.self.inside.sets.items; level = c.self.inside.level; arrived = c.self.inside.arrived.items; waiting = c.self.inside.waiting.items; open_conns = c.self.inside.open_conns.items } in
+    let s : Core = record { window = c.self.inside.window; events = c.self.inside.events; conns = c.self.inside.connections.conns; entered = c.self.inside.entered; taken = c.self.inside.taken; live = c.self.inside.live.items; sets = c.self.inside.sets.items; level = c.self.inside.level; arrived = c.self.inside.arrived.items; waiting = c.self.inside.waiting.items; open_conns = c.self.inside.connections.open_conns } in
     let t : Core = record s { window = c.advance.new.self; arrived = c.pass-event.new.arrived.items } in
     c.deliver.ensures.session ∙ ap (λ (u : Core). with_executed u c.in-Some-request.request c.pass-event.result) (advanced_core s c.advance.new.self c.pass-event.new.arrived.items c.advance.ensures.state c.pass-event.ensures.events)
     ∙ ap (with_executed (with_advanced s) c.in-Some-request.request) c.pass-event.ensures.event
@@ -72,7 +72,7 @@ pub returns-in-Some-request-clause-effects : goal.returns-in-Some-request-clause
 returns-in-Some-request-clause-effects c =
     let request : c.in-Some.turned.request ≡ Some c.in-Some-request.request = search rules in
     let n : Advanced c.self.inside.window (Some c.in-Some-request.request) = subst (Advanced c.self.inside.window) request (advanced_at c.self.inside.window c.in-Some.turned (sym c.advance.ensures.answer ∙ c.in-Some.is)) in
-    let s : Core = record { window = c.self.inside.window; events = c.self.inside.events; conns = c.self.inside.conns.items; entered = c.self.inside.entered; taken = c.self.inside.taken; live = c.self.inside.live.items; sets = c.self.inside.sets.items; level = c.self.inside.level; arrived = c.self.inside.arrived.items; waiting = c.self.inside.waiting.items; open_conns = c.self.inside.open_conns.items } in
+    let s : Core = record { window = c.self.inside.window; events = c.self.inside.events; conns = c.self.inside.connections.conns; entered = c.self.inside.entered; taken = c.self.inside.taken; live = c.self.inside.live.items; sets = c.self.inside.sets.items; level = c.self.inside.level; arrived = c.self.inside.arrived.items; waiting = c.self.inside.waiting.items; open_conns = c.self.inside.connections.open_conns } in
     let t : Core = record s { window = c.advance.new.self; arrived = c.pass-event.new.arrived.items } in
     let r : Request = c.in-Some-request.request in
     c.deliver.ensures.effects
@@ -99,9 +99,9 @@ pub returns-in-Some-request-clause-fewer : goal.returns-in-Some-request-clause-f
 returns-in-Some-request-clause-fewer c = λ said.
     let request : c.in-Some.turned.request ≡ Some c.in-Some-request.request = search rules in
     let n : Advanced c.self.inside.window (Some c.in-Some-request.request) = subst (Advanced c.self.inside.window) request (advanced_at c.self.inside.window c.in-Some.turned (sym c.advance.ensures.answer ∙ c.in-Some.is)) in
-    let known = (n.known c.self.inside.conns.items c.self.invariant.window.known).0 in
-    let numbered : is_immediate c.in-Some-request.request ≡ false = not_true (is_immediate c.in-Some-request.request) (and_first (not (is_immediate c.in-Some-request.request)) (is_known (connection_of c.in-Some-request.request) c.self.inside.conns.items) known) in
-    let s : Core = record { window = c.self.inside.window; events = c.self.inside.events; conns = c.self.inside.conns.items; entered = c.self.inside.entered; taken = c.self.inside.taken; live = c.self.inside.live.items; sets = c.self.inside.sets.items; level = c.self.inside.level; arrived = c.self.inside.arrived.items; waiting = c.self.inside.waiting.items; open_conns = c.self.inside.open_conns.items } in
+    let known = (n.known c.self.inside.connections.conns c.self.invariant.window.known).0 in
+    let numbered : is_immediate c.in-Some-request.request ≡ false = not_true (is_immediate c.in-Some-request.request) (and_first (not (is_immediate c.in-Some-request.request)) (is_known (connection_of c.in-Some-request.request) c.self.inside.connections.conns) known) in
+    let s : Core = record { window = c.self.inside.window; events = c.self.inside.events; conns = c.self.inside.connections.conns; entered = c.self.inside.entered; taken = c.self.inside.taken; live = c.self.inside.live.items; sets = c.self.inside.sets.items; level = c.self.inside.level; arrived = c.self.inside.arrived.items; waiting = c.self.inside.waiting.items; open_conns = c.self.inside.connections.open_conns } in
     let t : Core = record s { window = c.advance.new.self; arrived = c.pass-event.new.arrived.items } in
     let g : Placed c.advance.new.self c.deliver.new.self.window = subst (λ (u : Core). Placed c.advance.new.self u.window) (sym c.deliver.ensures.session) (placed_executed t c.in-Some-request.request c.pass-event.result numbered) in
     let counted : count_by is_some c.advance.new.self.places + 1 ≡ count_by is_some c.self.inside.window.places = ap (λ (w : Received). count_by is_some w.places + 1) c.advance.ensures.state ∙ n.counted in
@@ -109,7 +109,7 @@ returns-in-Some-request-clause-fewer c = λ said.
 
 pub returns-in-Some-request-clause-waiting : goal.returns-in-Some-request-clause-waiting
 returns-in-Some-request-clause-waiting c =
-    let s : Core = record { window = c.self.inside.window; events = c.self.inside.events; conns = c.self.inside.conns.items; entered = c.self.inside.entered; taken = c.self.inside.taken; live = c.self.inside.live.items; sets = c.self.inside.sets.items; level = c.self.inside.level; arrived = c.self.inside.arrived.items; waiting = c.self.inside.waiting.items; open_conns = c.self.inside.open_conns.items } in
+    let s : Core = record { window = c.self.inside.window; events = c.self.inside.events; conns = c.self.inside.connections.conns; entered = c.self.inside.entered; taken = c.self.inside.taken; live = c.self.inside.live.items; sets = c.self.inside.sets.items; level = c.self.inside.level; arrived = c.self.inside.arrived.items; waiting = c.self.inside.waiting.items; open_conns = c.self.inside.connections.open_conns } in
     let t : Core = record s { window = c.advance.new.self; arrived = c.pass-event.new.arrived.items } in
     omega (arith, ap (λ (u : Core). length u.waiting) c.deliver.ensures.session, waiting_executed t c.in-Some-request.request c.pass-event.result, ap (λ (u : Core). length u.waiting) c.self.view_is)
 

@@ -21,7 +21,7 @@ waiting_of r turn event = record { request = r; turn = turn; event = event }
 pub push_reserved-requires-2 : goal.push_reserved-requires-2
 push_reserved-requires-2 c =
     let inv = c.self.invariant in
-    let s : Core = record { window = c.self.inside.window; events = c.self.inside.events; conns = c.self.inside.conns.items; entered = c.self.inside.entered; taken = c.self.inside.taken; live = c.self.inside.live.items; sets = c.self.inside.sets.items; level = c.self.inside.level; arrived = c.self.inside.arrived.items; waiting = c.self.inside.waiting.items; open_conns = c.self.inside.open_conns.items } in
+    let s : Core = record { window = c.self.inside.window; events = c.self.inside.events; conns = c.self.inside.connections.conns; entered = c.self.inside.entered; taken = c.self.inside.taken; live = c.self.inside.live.items; sets = c.self.inside.sets.items; level = c.self.inside.level; arrived = c.self.inside.arrived.items; waiting = c.self.inside.waiting.items; open_conns = c.self.inside.connections.open_conns } in
     let r : Request = c.args.request in
     let l : Later s r = subst (λ (t : Core). Later t r) (sym c.self.view_is) (later c.args.self.now r c.requires.later) in
     let known : is_known (connection_of r) s.conns ≡ true = ap (λ (t : Core). is_known (connection_of r) t.conns) c.self.view_is ∙ c.requires.known in
@@ -31,7 +31,7 @@ push_reserved-requires-2 c =
 pub invariant_of-self : goal.invariant_of-self
 invariant_of-self c =
     let inv = c.self.invariant in
-    let s : Core = record { window = c.self.inside.window; events = c.self.inside.events; conns = c.self.inside.conns.items; entered = c.self.inside.entered; taken = c.self.inside.taken; live = c.self.inside.live.items; sets = c.self.inside.sets.items; level = c.self.inside.level; arrived = c.self.inside.arrived.items; waiting = c.self.inside.waiting.items; open_conns = c.self.inside.open_conns.items } in
+    let s : Core = record { window = c.self.inside.window; events = c.self.inside.events; conns = c.self.inside.connections.conns; entered = c.self.inside.entered; taken = c.self.inside.taken; live = c.self.inside.live.items; sets = c.self.inside.sets.items; level = c.self.inside.level; arrived = c.self.inside.arrived.items; waiting = c.self.inside.waiting.items; open_conns = c.self.inside.connections.open_conns } in
     let r : Request = c.args.request in
     let l : Later s r = subst (λ (t : Core). Later t r) (sym c.self.view_is) (later c.args.self.now r c.requires.later) in
     let known : is_known (connection_of r) s.conns ≡ true = ap (λ (t : Core). is_known (connection_of r) t.conns) c.self.view_is ∙ c.requires.known in
@@ -49,7 +49,7 @@ invariant_of-self c =
 
 pub returns-clause-session : goal.returns-clause-session
 returns-clause-session c =
-    let s : Core = record { window = c.self.inside.window; events = c.self.inside.events; conns = c.self.inside.conns.items; entered = c.self.inside.entered; taken = c.self.inside.taken; live = c.self.inside.live.items; sets = c.self.inside.sets.items; level = c.self.inside.level; arrived = c.self.inside.arrived.items; waiting = c.self.inside.waiting.items; open_conns = c.self.inside.open_conns.items } in
+    let s : Core = record { window = c.self.inside.window; events = c.self.inside.events; conns = c.self.inside.connections.conns; entered = c.self.inside.entered; taken = c.self.inside.taken; live = c.self.inside.live.items; sets = c.self.inside.sets.items; level = c.self.inside.level; arrived = c.self.inside.arrived.items; waiting = c.self.inside.waiting.items; open_conns = c.self.inside.connections.open_conns } in
     let r : Request = c.args.request in
     let e : ℕ = number_expected s.window in
     let l : Later s r = subst (λ (t : Core). Later t r) (sym c.self.view_is) (later c.args.self.now r c.requires.later) in

@@ -26,14 +26,14 @@ finish-requires-clause-numbered c = λ no.
 
 pub finish-requires-clause-known : goal.finish-requires-clause-known
 finish-requires-clause-known c =
-    find-passes (λ (x : Live). x.ticket == c.args.ticket) (λ (x : Live). is_known x.conn c.args.conns.now) c.args.live.now.items c.unwrap-command.result c.requires.known (sym c.find.ensures ∙ c.unwrap-command.ensures)
+    find-passes (λ (x : Live). x.ticket == c.args.ticket) (λ (x : Live). is_known x.conn c.args.connections.now.conns) c.args.live.now.items c.unwrap-command.result c.requires.known (sym c.find.ensures ∙ c.unwrap-command.ensures)
 
 pub finish-requires-clause-some : goal.finish-requires-clause-some
 finish-requires-clause-some c = λ yes.
     let there : find_ticket c.args.ticket c.args.live.now.items ≡ Some c.unwrap-command.result = sym c.find.ensures ∙ c.unwrap-command.ensures in
     let e : Ended c.args.live.now.items c.args.ticket c.unwrap-command.result = ended c.args.live.now.items c.args.ticket c.unwrap-command.result there in
-    let known : is_known c.unwrap-command.result.conn c.args.conns.now ≡ true = find-passes (λ (x : Live). x.ticket == c.args.ticket) (λ (x : Live). is_known x.conn c.args.conns.now) c.args.live.now.items c.unwrap-command.result c.requires.known there in
-    some_counted c.args.immediate.now.items c.args.conns.now c.args.live.now.items c.unwrap-command.result c.requires.counted c.requires.ascending e.found known yes
+    let known : is_known c.unwrap-command.result.conn c.args.connections.now.conns ≡ true = find-passes (λ (x : Live). x.ticket == c.args.ticket) (λ (x : Live). is_known x.conn c.args.connections.now.conns) c.args.live.now.items c.unwrap-command.result c.requires.known there in
+    some_counted c.args.connections.now.immediate c.args.connections.now.conns c.args.live.now.items c.unwrap-command.result c.requires.counted c.requires.ascending e.found known yes
 
 -- a numbered command gives its place back
 finished_is : (w : Received) (l : Live) (left all : ℕ) → left + cond (not l.immediate) 1 0 ≡ all → all ≤ w.unfinished → finished w l ≡ with_unfinished w (w.unfinished + left - all)
@@ -55,5 +55,5 @@ returns-clause-counted c =
     let l : Live = c.unwrap-command.result in
     let lives : List Live = c.args.live.now.items in
     let e : Ended lives c.args.ticket l = ended lives c.args.ticket l (sym c.find.ensures ∙ c.unwrap-command.ensures) in
-    subst (λ (ls : List Live). AreCounted c.finish.new.immediate.items c.args.conns.now ls) (ap (λ k. without_ticket k lives) e.is ∙ sym c.remove.ensures.items)
-    (AreCounted-left c.args.immediate.now.items c.finish.new.immediate.items c.args.conns.now lives l c.requires.counted c.finish.ensures.long c.finish.ensures.counted c.requires.ascending e.found)
+    subst (λ (ls : List Live). AreCounted c.finish.new.connections.immediate c.args.connections.now.conns ls) (ap (λ k. without_ticket k lives) e.is ∙ sym c.remove.ensures.items)
+    (AreCounted-left c.args.connections.now.immediate c.finish.new.connections.immediate c.args.connections.now.conns lives l c.requires.counted c.finish.ensures.long c.finish.ensures.counted c.requires.ascending e.found)

@@ -1,0 +1,24 @@
+use Rattle.std.proofs.Common.{◌∙◌, ◌++◌, ◌≤◌, List, map, drop, length, set, refl, ap, arith}
+use Rattle.std.proofs.lemmas.List.{take_all, drop_all, append-nil}
+use Rattle.std.proofs.lemmas.List.Edits.{map_over_more}
+use Rattle.iscsi_connections.specs.declared.connections.Connection.{Connection}
+use Rattle.iscsi_connections.specs.Placed.{closed_in}
+use Rattle.iscsi_connections.proofs.connections.close_in.Goals as goal
+
+pub loop-place-init : goal.loop-place-init
+loop-place-init c = record { items = refl; len = refl }
+
+pub loop-place-preserved : goal.loop-place-preserved
+loop-place-preserved c = record {
+  items = ap (λ (x : Connection). set c.loop-place.list.items c.loop-place.place x) c.closed.ensures
+      ∙ map_over_more (closed_in c.args.cid) c.args.list.now.items c.loop-place.list.items c.loop-place.place c.index.result.now (omega (arith, c.len-place-end.ensures, c.args.list.now.ok.0, c.loop-place-test.true)) c.loop-place.invariant.items c.index.ensures;
+  len = c.loop-place.invariant.len;
+}
+
+pub returns : goal.returns
+returns c =
+    let past : length c.args.list.now.items ≤ c.loop-place.place = omega (arith, c.len-place-end.ensures, c.args.list.now.ok.0, c.loop-place-test.false) in
+    c.loop-place.invariant.items
+    ∙ ap (λ (xs : List Connection). map (closed_in c.args.cid) xs ++ drop c.loop-place.place c.args.list.now.items) (take_all c.loop-place.place c.args.list.now.items past)
+    ∙ ap (λ (xs : List Connection). map (closed_in c.args.cid) c.args.list.now.items ++ xs) (drop_all c.loop-place.place c.args.list.now.items past)
+    ∙ append-nil (map (closed_in c.args.cid) c.args.list.now.items)

@@ -1,0 +1,18 @@
+use Rattle.std.proofs.Common.{◌≡◌, ℕ, List, length, subst, sym, arith}
+use Rattle.iscsi_connections.specs.Placed.{TellsPlaces}
+use Rattle.iscsi_connections.proofs.PlaceLemmas.{told_more}
+use Rattle.iscsi_connections.proofs.connections.places_of.Goals as goal
+
+pub loop-place-init : goal.loop-place-init
+loop-place-init c = subst (λ (ps : List ℕ). TellsPlaces ps c.args.list.now 0) (sym c.new-places.ensures.items) (record {
+  placed = λ k d before. absurd (omega (arith, before));
+  meant = λ cid d some. absurd (omega (arith, some));
+})
+
+pub loop-place-preserved : goal.loop-place-preserved
+loop-place-preserved c = told_more c.loop-place.places.items c.put.new.places.items c.args.list.now c.loop-place.place _ c.loop-place.invariant c.requires.distinct c.loop-place-test.true c.requires.few (λ other. c.in_ok-put.ensures other)
+
+pub returns : goal.returns
+returns c =
+    let last : c.loop-place.place ≡ length c.args.list.now = omega (arith, c.loop-place-test.false, c.loop-place.auto.place-end) in
+    subst (λ n. TellsPlaces c.loop-place.places.items c.args.list.now n) last c.loop-place.invariant
