@@ -9,3 +9,4 @@ pub mod CountLemmas
 pub mod RuleLemmas
 pub mod EnterLemmas
 pub mod CoverLemmas
+pub mod CoveredFromLemmas

@@ -1,11 +1,15 @@
 -- What a set keeps beside its commands, so that none of them is tested again.
-use Rattle.std.specs.Prelude.{◌≡◌, ℕ, ◌+◌, ◌-◌, ◌<◌, ◌≤◌, ◌==◌, ◌&&◌, ◌||◌, not, max, min, nat_lt, Bool, true, false, List, length, All, slice_index_or, count_by, Option, MatchOption, if◌then◌else◌}
-use Rattle.std.specs.List.{position_or_len}
+use Rattle.std.specs.Prelude.{◌≡◌, ℕ, ℤ, pos, ◌+ℤ◌, int_lt, map, ◌+◌, ◌-◌, ◌^◌, ◌<◌, ◌≤◌, ◌==◌, ◌&&◌, ◌||◌, not, max, min, nat_lt, Bool, true, false, List, length, All, slice_index_or, count_by, Option, MatchOption, if◌then◌else◌}
+use Rattle.std.specs.Int.{int_min}
+use Rattle.std.specs.List.{position_or_len, fold}
 use Rattle.iscsi_tasks.specs.declared.task.Attr.{Attr}
 use Rattle.iscsi_tasks.specs.declared.task.Attr.TheVariants.{Simple, Ordered, Head}
+use Rattle.iscsi_tasks.specs.declared.task.Task.{Task}
+use Rattle.iscsi_tasks.specs.declared.cover.Cover.{Cover}
+use Rattle.iscsi_tasks.specs.declared.cover.Cover.TheVariants.{All as AllOfThem, Conn, Below}
 use Rattle.iscsi_tasks.specs.declared.member.Member.{Member}
 use Rattle.iscsi_tasks.specs.declared.counts.Counts.{Counts}
-use Rattle.iscsi_tasks.specs.Sets.{is_head_of, is_ordered_of, is_new, InOrder, is_free_among}
+use Rattle.iscsi_tasks.specs.Sets.{is_head_of, is_ordered_of, is_new, is_covered, InOrder, is_free_among}
 
 abbrev pub is_head_in : Member → Bool
 is_head_in m = is_head_of m.task.attr
@@ -32,14 +36,26 @@ pub record IsCounted (c : Counts) (list : List Member) : Type 0 where
 abbrev pub IsSettled : List Member → Type 0
 IsSettled list = All (λ m. (m.enabled || is_free_among m.task list) ≡ m.enabled) list
 
--- what holds of every set: it holds no more than its depth, whose room it has, and no command waits to be enabled
-pub record IsKept (depth room : ℕ) (c : Counts) (list : List Member) : Type 0 where
+-- the commands before a function with a number below this one
+abbrev pub is_below : ℤ → Cover → Bool
+is_below number AllOfThem = false
+is_below number (Conn cid) = false
+is_below number (Below at event) = int_lt at number
+
+-- no function with a number below this one covers one of the commands
+abbrev pub IsCoveredFrom : ℤ → List Task → Type 0
+IsCoveredFrom number ts = (cover : Cover) → is_below number cover ≡ true → All (λ t. is_covered cover t ≡ false) ts
+
+-- what holds of every set: it holds no more than its depth, whose room it has, no command waits to be enabled, and none
+-- is covered by a function with a number below the one that the set keeps
+pub record IsKept (depth room : ℕ) (number : ℤ) (c : Counts) (list : List Member) : Type 0 where
   pub least : 1 ≤ depth
   pub within : length list ≤ depth
   pub room_left : depth ≤ room
   pub most : depth ≤ 1024
   pub counted : IsCounted c list
   pub settled : IsSettled list
+  pub covered_from : IsCoveredFrom number (map (λ m. m.task) list)
 
 -- a command that enters behind so many others is free
 abbrev pub is_free_behind : Counts → ℕ → Attr → Bool
@@ -103,3 +119,27 @@ enabled_now m = record { task = m.task; enabled = true; given = m.given }
 -- a member whose ticket is given from now on
 abbrev pub given_now : Member → Member
 given_now m = record { task = m.task; enabled = m.enabled; given = true }
+
+-- ---- from which number on functions may cover commands
+
+-- the greatest number of a function
+abbrev pub greatest_number : ℤ
+greatest_number = pos (2 ^ 63 - 1)
+
+-- the least number of a function that may cover this one
+abbrev pub covered_from : Task → ℤ
+covered_from t = if t.immediate then t.pos else int_min (t.pos +ℤ pos 1) greatest_number
+
+-- that of the set, once the command entered behind so many others
+abbrev pub covered_from_with : ℤ → ℕ → Task → ℤ
+covered_from_with number len t = if len == 0 then covered_from t else int_min number (covered_from t)
+
+-- the least one of these commands
+abbrev pub covered_from_in : List Member → ℤ
+covered_from_in list = fold (λ n m. int_min n (covered_from m.task)) greatest_number list
+
+-- that of the set, of which this covered nothing
+abbrev pub covered_from_after : ℤ → Cover → List Member → ℤ
+covered_from_after number AllOfThem list = number
+covered_from_after number (Conn cid) list = number
+covered_from_after number (Below at event) list = covered_from_in list

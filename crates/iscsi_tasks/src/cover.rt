@@ -2,6 +2,7 @@
 
 ghost use Rattle.std.specs.Prelude.{◌≡◌};
 ghost use Rattle.iscsi_tasks.specs.Sets.{is_covered};
+ghost use Rattle.iscsi_tasks.specs.Counted.{is_below};
 
 use crate::task::Task;
 
@@ -33,6 +34,16 @@ impl Cover {
             Cover::Below { pos, event } => {
                 task.pos < pos || task.immediate && task.pos == pos && task.event < event
             }
+        }
+    }
+
+    /// Whether they are those before a function with a number below this one.
+    pub(crate) fn is_below(&self, number: i64) -> bool
+        ensures { result ≡ is_below number self.now }
+    {
+        match *self {
+            Cover::Below { pos, .. } => pos < number,
+            _ => false,
         }
     }
 }

@@ -4,7 +4,7 @@ ghost use Rattle.std.specs.Prelude.{◌≡◌, ℕ, ◌+◌, ◌<◌, ◌≤◌,
 ghost use Rattle.std.specs.List.{position_or_len, remove};
 ghost use Rattle.std.specs.VecDeque.{deque_len, deque_capacity};
 ghost use Rattle.iscsi_tasks.specs.Sets.{InOrder, after_moment, is_head_of, is_covered, is_covered_after, is_new, next_in, given_in};
-ghost use Rattle.iscsi_tasks.specs.Counted.{IsPlaceOf, IsCounted, is_ordered_in, free_to, enabled_now};
+ghost use Rattle.iscsi_tasks.specs.Counted.{IsPlaceOf, IsCounted, is_ordered_in, free_to, enabled_now, covered_from_in};
 
 use crate::counts::{Counts, shifted_by};
 use crate::cover::Cover;
@@ -84,6 +84,17 @@ fn place_after(members: &Queue, ticket: u64) -> usize
         Ok(at) => at + 1,
         Err(at) => at,
     }
+}
+
+/// From which number on functions may cover one of the commands. It looks at each of them.
+pub(crate) fn covered_from_in(members: &Queue) -> i64
+    ensures { result ≡ covered_from_in members.now.items }
+{
+    let mut least = i64::MAX;
+    for k in 0..members.len() {
+        least = least.min(members[k].task.covered_from());
+    }
+    least
 }
 
 /// The command enters behind all others.

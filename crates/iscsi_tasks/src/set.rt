@@ -3,14 +3,15 @@
 ghost use Rattle.std.specs.Prelude.{Err, ◌≡◌, ◌+◌, ◌<◌, ◌≤◌, ◌⊎◌, ◌↔◌, List, [], ◌∷◌, length, slice_index_or, Option, Some, IsTrue, IfOk, IfErr, OnOk, OnErr};
 ghost use Rattle.iscsi_tasks.specs.Sets.{tasks_in, opened, InOrder, IsNewest, entered_to, refused_by, left_by, with_ticket, with_tag, first_covered, next_covered, is_enabled_in, next_in, given_by, StaysFree};
 ghost use Rattle.iscsi_tasks.specs.Changes.{Change, Entered, AllBelow, StandsFor, live, IsEnabled, next_after, after_giving, after_leaving};
-ghost use Rattle.iscsi_tasks.specs.Counted.{is_free_behind};
+ghost use Rattle.iscsi_tasks.specs.Counted.{is_free_behind, covered_from_with, covered_from_after};
 
 use crate::counts::Counts;
 use crate::cover::Cover;
 use crate::fault::TaskFault;
 use crate::member::Member;
 use crate::queue::{
-    Queue, enable_free, first_covered, give_next, next_covered, place_of, push, remove, with_tag,
+    Queue, covered_from_in, enable_free, first_covered, give_next, next_covered, place_of, push,
+    remove, with_tag,
 };
 use crate::task::{Attr, Task};
 use std::alloc::Global;
@@ -31,11 +32,14 @@ const MOST_TASKS: u32 = 1024;
 /// enabled until it leaves.
 ///
 /// The set tests no command twice. Counts and the order of entering tell what a leaving enables, and tickets, which go
-/// up along the set, are found by halving.
+/// up along the set, are found by halving. And it keeps a number below which no function covers a command, so that a
+/// function with a lower one looks at none.
 #[derive(Drop)]
 pub struct TaskSet {
     depth: u32,
     looked: u32,
+    /// No function with a number below this one covers a command of the set.
+    covered_from: i64,
     counts: Counts,
     members: Queue,
 }
@@ -50,7 +54,7 @@ impl Model for TaskSet {
 
     ghost view = { λ s. record { depth = s.depth; looked = s.looked; list = s.members.items } };
 
-    ghost invariant = { λ s. IsKept s.depth (deque_capacity s.members) s.counts s.members.items };
+    ghost invariant = { λ s. IsKept s.depth (deque_capacity s.members) s.covered_from s.counts s.members.items };
 }
 
 impl TaskSet {
@@ -69,6 +73,7 @@ impl TaskSet {
         Ok(TaskSet {
             depth,
             looked: 0,
+            covered_from: i64::MAX,
             counts: Counts::new(),
             members,
         })
@@ -116,6 +121,7 @@ impl TaskSet {
             return Err(task);
         }
         let enabled = test_free(&mut self.looked, &self.counts, len, task.attr);
+        self.covered_from = covered_from_with(self.covered_from, len, &task);
         push(&mut self.members, &mut self.counts, task, enabled);
         Ok(())
     }
@@ -136,25 +142,35 @@ impl TaskSet {
 
     /// The oldest of the covered commands leaves. Where none is covered, nothing changes.
     ///
-    /// It looks along the set: aborts are rare, and what they cover is no part of its order.
+    /// It looks along the set: aborts are rare, and what they cover is no part of its order. For a function whose number
+    /// is below all that the set held since one last covered nothing, or since it was empty, it looks at none.
     pub fn leave_first(&mut self, cover: &Cover) -> Option<Task>
         ensures answer { result ≡ first_covered cover.now (tasks_in self.old) }
         ensures state { self.new ≡ left_by self.old (first_covered cover.now (tasks_in self.old)) }
         ensures stands { (h : List Change) → StandsFor self.old h → (result ≡ first_covered cover.now (live h)) × StandsFor self.new (after_leaving result h) }
     {
-        let at = first_covered(&self.members, cover)?;
+        if cover.is_below(self.covered_from) {
+            return None;
+        }
+        let Some(at) = first_covered(&self.members, cover) else {
+            self.covered_from = covered_from_after(self.covered_from, cover, &self.members);
+            return None;
+        };
         Some(self.take_out(at))
     }
 
     /// The oldest of the covered commands with a greater ticket leaves. Where there is none, nothing changes.
     ///
     /// It finds the ticket by halving, and looks along the set from there on. So a caller who takes out one covered command
-    /// after another looks at each command once.
+    /// after another looks at each command once. It looks at none where `leave_first` looks at none.
     pub fn leave_next(&mut self, cover: &Cover, ticket: u64) -> Option<Task>
         ensures answer { result ≡ next_covered cover.now ticket (tasks_in self.old) }
         ensures state { self.new ≡ left_by self.old (next_covered cover.now ticket (tasks_in self.old)) }
         ensures stands { (h : List Change) → StandsFor self.old h → (result ≡ next_covered cover.now ticket (live h)) × StandsFor self.new (after_leaving result h) }
     {
+        if cover.is_below(self.covered_from) {
+            return None;
+        }
         let at = next_covered(&self.members, cover, ticket)?;
         Some(self.take_out(at))
     }
@@ -212,4 +228,26 @@ fn test_free(looked: &mut u32, counts: &Counts, len: usize, attr: Attr) -> bool
 {
     *looked += 1;
     counts.is_free_behind(len, attr)
+}
+
+/// From which number on functions may cover commands of a set, once this one has entered it behind `len` others.
+fn covered_from_with(covered_from: i64, len: usize, task: &Task) -> i64
+    ensures { result ≡ covered_from_with covered_from len task.now }
+{
+    if len == 0 {
+        task.covered_from()
+    } else {
+        covered_from.min(task.covered_from())
+    }
+}
+
+/// From which number on functions may cover commands of a set, once this has covered none of them. For a function it is
+/// determined anew, so that the next one like it needn't look along the set.
+fn covered_from_after(covered_from: i64, cover: &Cover, members: &Queue) -> i64
+    ensures { result ≡ covered_from_after covered_from cover.now members.now.items }
+{
+    match *cover {
+        Cover::Below { .. } => covered_from_in(members),
+        _ => covered_from,
+    }
 }

@@ -2,6 +2,7 @@
 
 ghost use Rattle.std.specs.Prelude.{◌≡◌};
 ghost use Rattle.iscsi_tasks.specs.Rules.{is_head_of, is_ordered_of};
+ghost use Rattle.iscsi_tasks.specs.Counted.{covered_from};
 
 /// The task attribute of a command (SAM-5 section 8).
 #[derive(Clone, Copy, Debug, PartialEq, Eq)]
@@ -51,4 +52,18 @@ pub struct Task {
     pub pos: i64,
     /// The place of its arrival among the session's events.
     pub event: u64,
+}
+
+impl Task {
+    /// From which number on functions may cover it: from its own on where it is immediate, since one of that number may
+    /// have arrived later.
+    pub(crate) fn covered_from(&self) -> i64
+        ensures { result ≡ covered_from self.now }
+    {
+        if self.immediate {
+            self.pos
+        } else {
+            self.pos.saturating_add(1)
+        }
+    }
 }

@@ -161,6 +161,51 @@ fn covered_commands_leave_oldest_first(rt: HostRuntime) -> Result<(), Fail> {
     Ok(())
 }
 
+#[test]
+fn a_function_that_covers_nothing_hides_no_command(rt: HostRuntime) -> Result<(), Fail> {
+    let mut set = TaskSet::open(rt.alloc(), 4)?;
+    let placed = |ticket: u64, immediate: bool, pos: i64, event: u64| Task {
+        immediate,
+        pos,
+        event,
+        ..task(ticket, Attr::Simple)
+    };
+    assert_eq!(rt; enter(&rt, &mut set, placed(1, false, 5, 1)), Ok(()));
+    assert_eq!(rt; enter(&rt, &mut set, placed(2, true, 5, 7)), Ok(()));
+    for (pos, event, left) in [
+        (4, 9, None),
+        (5, 7, None),
+        (5, 7, None),
+        (5, 8, Some(2)),
+        (5, 9, None),
+        (5, 9, None),
+    ] {
+        let answer = set.leave_first(&Cover::Below { pos, event });
+        assert_eq!(rt; answer.map(|t| t.ticket), left, "of {pos} {event}");
+    }
+    // An immediate command of lower number lowers the bound again.
+    assert_eq!(rt; enter(&rt, &mut set, placed(3, true, 2, 10)), Ok(()));
+    for (pos, event, left) in [
+        (1, 11, None),
+        (2, 11, Some(3)),
+        (2, 11, None),
+        (6, 0, Some(1)),
+    ] {
+        let answer = set.leave_next(&Cover::Below { pos, event }, 0);
+        assert_eq!(rt; answer.map(|t| t.ticket), left, "of {pos} {event}");
+    }
+    // No function has a number above the greatest.
+    let last = placed(4, false, i64::MAX, 12);
+    assert_eq!(rt; enter(&rt, &mut set, last), Ok(()));
+    let most = Cover::Below {
+        pos: i64::MAX,
+        event: u64::MAX,
+    };
+    assert_eq!(rt; set.leave_first(&most), None);
+    assert_eq!(rt; set.leave_first(&Cover::All), Some(last));
+    Ok(())
+}
+
 /// A command as the plain scan keeps it.
 #[derive(Clone, Copy)]
 struct Plain {

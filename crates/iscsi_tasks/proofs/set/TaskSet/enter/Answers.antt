@@ -1,10 +1,13 @@
-use Rattle.std.proofs.Common.{◌≡◌, ◌<◌, ◌+◌, ◌∷◌, ◌++◌, [], ◌∙◌, false, length, ap, sym, subst, arith}
-use Rattle.std.proofs.lemmas.List.{length_push}
+use Rattle.std.proofs.Common.{◌≡◌, ◌<◌, ◌+◌, ◌∷◌, ◌++◌, [], ◌∙◌, false, ℤ, List, w64, to_z, of_z, length, map, rules, ap, sym, subst, arith}
+use Rattle.std.proofs.lemmas.List.{length_push, length-map, map-append}
+use Rattle.std.proofs.lemmas.Int.{to_z-of_z}
+use Rattle.iscsi_tasks.specs.declared.task.Task.{Task}
 use Rattle.iscsi_tasks.specs.Sets.{Members, IsNewest, entered_to, after_moment}
-use Rattle.iscsi_tasks.specs.Counted.{IsSettled, is_free_behind}
+use Rattle.iscsi_tasks.specs.Counted.{IsSettled, IsCoveredFrom, is_free_behind, covered_from_with}
 use Rattle.iscsi_tasks.specs.Changes.{Entered, StandsFor}
 use Rattle.iscsi_tasks.proofs.MomentLemmas.{settled_after}
 use Rattle.iscsi_tasks.proofs.EnterLemmas.{moment_entered}
+use Rattle.iscsi_tasks.proofs.CoveredFromLemmas.{covered_from_push}
 use Rattle.iscsi_tasks.proofs.HistoryLemmas.{StandsFor-entered}
 use Rattle.iscsi_tasks.proofs.set.TaskSet.enter.Goals as goal
 
@@ -21,6 +24,22 @@ after c =
 room : (c : goal.After-push) → (length c.self.inside.members.items < c.self.inside.depth) × (length c.push.new.members.items ≡ length c.self.inside.members.items + 1)
 room c = (omega (arith, c.self.invariant.within, c.self.inside.members.ok.0), ap length c.push.ensures.items ∙ length_push c.self.inside.members.items (record { task = c.args.task; enabled = c.test_free-enabled.result; given = false }))
 
+-- no function with a number below the new one covers a command
+covered_on : (c : goal.After-push) → IsCoveredFrom (to_z w64 (of_z w64 c.covered_from_with-self-inside.result)) (map (λ m. m.task) c.push.new.members.items)
+covered_on c =
+    let i = c.self.inside in
+    let tasks : List Task = map (λ m. m.task) i.members.items in
+    let same : to_z w64 (of_z w64 i.covered_from) ≡ i.covered_from = to_z-of_z w64 i.covered_from (search rules) in
+    let len : c.len-len.result ≡ length tasks = c.len-len.ensures ∙ i.members.ok.0 ∙ sym (length-map i.members.items (λ m. m.task)) in
+    let number : to_z w64 (of_z w64 c.covered_from_with-self-inside.result) ≡ covered_from_with i.covered_from (length tasks) c.args.task =
+    to_z-of_z w64 c.covered_from_with-self-inside.result (search rules) ∙ c.covered_from_with-self-inside.ensures
+    ∙ ap (λ n. covered_from_with n c.len-len.result c.args.task) same ∙ ap (λ n. covered_from_with i.covered_from n c.args.task) len in
+    let more : map (λ m. m.task) c.push.new.members.items ≡ tasks ++ c.args.task ∷ [] =
+    ap (map (λ m. m.task)) c.push.ensures.items ∙ map-append (λ m. m.task) i.members.items (record { task = c.args.task; enabled = c.test_free-enabled.result; given = false } ∷ []) in
+    subst (λ (ts : List Task). IsCoveredFrom (to_z w64 (of_z w64 c.covered_from_with-self-inside.result)) ts) (sym more)
+    (subst (λ (n : ℤ). IsCoveredFrom n (tasks ++ c.args.task ∷ [])) (sym number)
+    (covered_from_push i.covered_from tasks c.args.task c.self.invariant.covered_from))
+
 pub invariant_of-self-2 : goal.invariant_of-self-2
 invariant_of-self-2 c = record {
   least = c.self.invariant.least;
@@ -29,6 +48,7 @@ invariant_of-self-2 c = record {
   most = c.self.invariant.most;
   counted = c.push.ensures.counted;
   settled = subst IsSettled (after c) (settled_after (c.self.inside.members.items ++ record { task = c.args.task; enabled = false; given = false } ∷ []));
+  covered_from = covered_on c;
 }
 
 pub returns-clause-ok : goal.returns-clause-ok

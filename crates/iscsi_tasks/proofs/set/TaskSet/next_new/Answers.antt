@@ -1,8 +1,8 @@
-use Rattle.std.proofs.Common.{◌≡◌, ◌∙◌, Option, List, ℕ, length, ap, sym, subst, arith}
+use Rattle.std.proofs.Common.{◌≡◌, ◌∙◌, Option, List, ℕ, length, map, ap, sym, subst, arith}
 use Rattle.std.proofs.lemmas.List.{length-map}
 use Rattle.iscsi_tasks.specs.declared.member.Member.{Member}
 use Rattle.iscsi_tasks.specs.Sets.{Members, given_by, given_in}
-use Rattle.iscsi_tasks.specs.Counted.{IsSettled}
+use Rattle.iscsi_tasks.specs.Counted.{IsSettled, IsCoveredFrom}
 use Rattle.iscsi_tasks.specs.Changes.{StandsFor, after_giving}
 use Rattle.iscsi_tasks.proofs.GivingLemmas.{tasks-given, settled-given, StandsFor-giving}
 use Rattle.iscsi_tasks.proofs.set.TaskSet.next_new.Goals as goal
@@ -19,6 +19,7 @@ invariant_of-self c =
       most = c.self.invariant.most;
       counted = c.give_next.ensures.counted;
       settled = subst IsSettled (sym c.give_next.ensures.items) (settled-given list c.self.invariant.settled);
+      covered_from = subst (IsCoveredFrom c.self.inside.covered_from) (sym (ap (map (λ m. m.task)) c.give_next.ensures.items ∙ tasks-given list)) c.self.invariant.covered_from;
     }
 
 pub returns-clause-stands : goal.returns-clause-stands
