@@ -3,3 +3,4 @@ pub mod LowestLemmas
 pub mod PlaceLemmas
 pub mod SinceLemmas
 pub mod SoundLemmas
+pub mod TagLemmas

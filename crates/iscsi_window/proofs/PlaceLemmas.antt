@@ -1,5 +1,5 @@
 -- Places that are read and written, also beyond the last one.
-use Rattle.std.proofs.Common.{◌≡◌, ℕ, zero, suc, List, [], ◌∷◌, get_or, set, slice_get, Option, None, ap, refl}
+use Rattle.std.proofs.Common.{◌≡◌, ℕ, zero, suc, ◌<◌, length, arith, List, [], ◌∷◌, get_or, set, slice_get, Option, None, ap, refl}
 use Rattle.std.specs.Option.{option_flatten}
 
 pub option_flatten-slice_get : {X : Type 0} (xs : List (Option X)) (k : ℕ) → option_flatten (slice_get xs k) ≡ get_or xs k None
@@ -11,3 +11,7 @@ pub past_from_slice_get : {X : Type 0} (xs : List X) (k : ℕ) (y : X) → slice
 past_from_slice_get [] k y none = refl
 past_from_slice_get (x ∷ xs) zero y none = cc
 past_from_slice_get (x ∷ xs) (suc k) y none = ap (λ zs. x ∷ zs) (past_from_slice_get xs k y none)
+
+pub first_is : {X : Type 0} (xs : List X) → 0 < length xs → slice_get xs 0 ≡ None → ⊥
+first_is [] some none = omega arith
+first_is (x ∷ xs) some none = cc

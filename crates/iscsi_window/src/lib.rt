@@ -6,6 +6,8 @@
 
 mod answer;
 mod fault;
+mod places;
+mod tags;
 mod window;
 
 pub use answer::{Offer, Place, Turned};

@@ -10,9 +10,11 @@ ghost use Rattle.iscsi_window.specs.History.{Change, Started, Finished, is_recei
 
 use crate::answer::{Offer, Place, Turned};
 use crate::fault::WindowFault;
-use circular_buffer::HeapCircularBuffer;
-use iscsi_wire::{Request, serial_lt, unit_of};
-use std::alloc::{AllocError, Global};
+use crate::places::{
+    Places, at, empty_places, first_command, first_held, holds_from, put, turn_first,
+};
+use iscsi_wire::{Request, serial_lt};
+use std::alloc::Global;
 use std::marker::Model;
 
 #[cfg(test)]
@@ -20,15 +22,6 @@ mod tests;
 
 /// The most places of a window.
 const MOST_PLACES: u32 = 1024;
-
-/// The opcode of a SCSI Command.
-const SCSI_COMMAND: u8 = 0x01;
-
-/// None for a number that wasn't received, and Some of what is held for one that was.
-type Received = Option<Option<Request>>;
-
-/// As many places as the window has, at every time.
-type Places = HeapCircularBuffer<Received>;
 
 /// The numbers that a session has received and not yet turned, and the requests that it holds for them.
 ///
@@ -172,6 +165,9 @@ impl Window {
 
     /// The lowest number, below the one that the wire shows as `below`, for which a SCSI Command with this
     /// tag and to this unit is held.
+    ///
+    /// It looks at no place where no request is held whose tag leaves the same remainder by 1,021. An initiator
+    /// that chooses its tags so that many leave the same one makes it look at each place.
     pub fn find_held(&self, itt: u32, unit: u16, below: u32) -> Option<u32>
         ensures answer { result ≡ option_map (number_shown self.now) (find_command self.now itt unit below) }
         ensures answer_since { (h : List Change) → StandsFor self.now h → ShowsLowest (is_command_below h itt unit (number_of self.now.first h below)) result }
@@ -239,8 +235,7 @@ impl Window {
     {
         let sn = self.exp();
         let request = at(&self.places, 0)?;
-        // The ring is full, so its first place makes way.
-        self.places.push_back(None);
+        turn_first(&mut self.places);
         self.turned += 1;
         Some(Turned { sn, request })
     }
@@ -264,33 +259,6 @@ impl Window {
     }
 }
 
-/// So many places, and nothing received.
-fn empty_places(alloc: Global, size: u32) -> Result<Places, AllocError>
-    ensures { IfOk result (λ places. places ≡ buffer (replicate size None) size) }
-{
-    let mut places = HeapCircularBuffer::with_capacity(alloc, size as usize)?;
-    for _ in 0..size {
-        places.push_back(None);
-    }
-    Ok(places)
-}
-
-/// What place `k` has. None beyond the last place.
-fn at(places: &Places, k: u32) -> Received
-    ensures { result ≡ slice_index_or places.now.items k None }
-{
-    places.get(k as usize).copied().flatten()
-}
-
-/// Writes place `k`. Beyond the last place nothing is written.
-fn put(places: &mut Places, k: u32, received: Received)
-    ensures { places.new ≡ buffer (slice_set places.old.items k received) places.old.capacity }
-{
-    if let Some(place) = places.get_mut(k as usize) {
-        *place = received;
-    }
-}
-
 /// How far the number that the wire shows as `below` is above the expected one, and 0 for one below it.
 fn ahead_of(exp: u32, below: u32) -> u32
     ensures { (e : ℕ) → 2 ^ 31 ≤ e → wire e ≡ exp → result ≡ lift e below - e }
@@ -300,51 +268,4 @@ fn ahead_of(exp: u32, below: u32) -> u32
     } else {
         0
     }
-}
-
-/// Whether a SCSI Command with this tag and to this unit is held.
-fn holds_command(received: &Received, itt: u32, unit: u16) -> bool
-    ensures { result ≡ is_command itt unit received.now }
-{
-    match received {
-        Some(Some(request)) => {
-            request.opcode() == SCSI_COMMAND
-                && request.itt() == itt
-                && unit_of(&request.lun()) == Some(unit)
-        }
-        _ => false,
-    }
-}
-
-/// Whether a request is held that came on connection `conn`, or on any for None.
-fn holds_from(received: &Received, conn: Option<u16>) -> bool
-    ensures { result ≡ is_held_from conn received.now }
-{
-    match received {
-        Some(Some(request)) => conn.is_none_or(|conn| request.conn() == conn),
-        _ => false,
-    }
-}
-
-/// The first of the places below `end` where such a command is held.
-fn first_command(places: &Places, end: u32, itt: u32, unit: u16) -> Option<u32>
-    requires { length places.now.items ≤ 1024 }
-    ensures { result ≡ position (is_command itt unit) (take end places.now.items) }
-{
-    let k = places
-        .iter()
-        .take(end as usize)
-        .position(|received| holds_command(received, itt, unit))?;
-    Some(k as u32)
-}
-
-/// The first place where a request is held that came on connection `conn`, or on any for None.
-fn first_held(places: &Places, conn: Option<u16>) -> Option<u32>
-    requires { length places.now.items ≤ 1024 }
-    ensures { result ≡ position (is_held_from conn) places.now.items }
-{
-    let k = places
-        .iter()
-        .position(|received| holds_from(received, conn))?;
-    Some(k as u32)
 }

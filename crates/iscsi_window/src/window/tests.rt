@@ -4,12 +4,12 @@ use std::process::Abort;
 use std::test::Fail;
 
 /// A SCSI Command to the unit.
-fn command(conn: u16, unit: u8, itt: u8, cmd_sn: u32) -> Request {
+fn command(conn: u16, unit: u8, itt: u32, cmd_sn: u32) -> Request {
     let mut header = [0; 48];
     header[0] = 0x01;
     header[1] = 0x81;
     header[9] = unit;
-    header[19] = itt;
+    header[16..20].copy_from_slice(&itt.to_be_bytes());
     header[24..28].copy_from_slice(&cmd_sn.to_be_bytes());
     Request::read(conn, &header)
 }
@@ -132,6 +132,36 @@ fn held_requests_are_found_and_taken_out(rt: HostRuntime) -> Result<(), Fail> {
     assert_eq!(rt; window.drop_at(8, None), None);
     // The numbers stay received.
     assert_eq!(rt; window.offer(&fourth), Offer::Duplicate);
+    Ok(())
+}
+
+#[test]
+fn tags_of_one_group_are_told_apart(rt: HostRuntime) -> Result<(), Fail> {
+    let mut window = Window::open(rt.alloc(), 1, 8)?;
+    let (tag, other) = (0xa1, 0xa1 + 1021);
+    assert_eq!(rt; window.find_held(tag, 0, 9), None);
+    assert_eq!(rt; window.offer(&command(1, 0, tag, 1)), Offer::Held);
+    assert_eq!(rt; window.find_held(other, 0, 9), None);
+    assert_eq!(rt; window.offer(&command(1, 0, other, 2)), Offer::Held);
+    assert_eq!(rt; window.find_held(tag, 0, 9), Some(1));
+    assert_eq!(rt; window.find_held(other, 0, 9), Some(2));
+    assert_eq!(rt; window.empty(1).is_some(), true);
+    assert_eq!(rt; window.find_held(tag, 0, 9), None);
+    assert_eq!(rt; window.find_held(other, 0, 9), Some(2));
+    Ok(())
+}
+
+#[test]
+fn turned_requests_are_found_no_more(rt: HostRuntime) -> Result<(), Fail> {
+    let mut window = Window::open(rt.alloc(), 0xffff_ffff, 2)?;
+    // The places are gone round more than once.
+    for sn in [0xffff_ffff, 0, 1, 2, 3] {
+        assert_eq!(rt; window.find_held(0xa1, 0, 8), None);
+        assert_eq!(rt; window.offer(&command(1, 0, 0xa1, sn)), Offer::Held);
+        assert_eq!(rt; window.find_held(0xa1, 0, 8), Some(sn));
+        assert_eq!(rt; advance(&rt, &mut window).is_some(), true);
+    }
+    assert_eq!(rt; window.find_held(0xa1, 0, 8), None);
     Ok(())
 }
 

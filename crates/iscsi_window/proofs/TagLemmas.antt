@@ -1,0 +1,204 @@
+-- The counters stay right where a place is written, and where the first one turns.
+use Rattle.std.proofs.Common.{◌≡◌, ◌∙◌, ℕ, ◌+◌, ◌-◌, ◌%◌, ◌<◌, ◌≤◌, ◌==◌, ◌&&◌, ◌++◌, true, false, cond, List, [], ◌∷◌, length, take, drop, replicate, set, get_or, position, count_by, Option, Some, None, arith, ap, sym, refl, subst, ⊎_elim, zero, suc, length-set, length-append, get_or-set_same, get_or-set_other}
+use Rattle.std.proofs.lemmas.Bool.{cases_eq, cases_lt, eq-eqb, ne_eqb, eqb-true, and_parts}
+use Rattle.std.specs.List.{slice_get}
+use Rattle.std.proofs.lemmas.Option.{slice_get_within, get_or_from_slice_get}
+use Rattle.std.proofs.lemmas.List.{get_or_past, get_or-take, get_or-replicate, length-take, length-replicate, set-set}
+use Rattle.std.proofs.lemmas.List.Quantifiers.{position-Some}
+use Rattle.std.proofs.lemmas.List.Sums.{sum_by-set, sum_by-cons, sum_by_push, count_by-le-length, get_or-le-sum_by}
+use Rattle.circular_buffer.specs.Buffer.{Buffer, buffer, keep_last}
+use Rattle.iscsi_wire.specs.Fields.{opcode, itt, lun, unit_of}
+use Rattle.iscsi_wire.specs.declared.request.Request.{Request}
+use Rattle.iscsi_window.specs.Windows.{is_unit, is_command}
+use Rattle.iscsi_window.specs.Tags.{group_of, is_group, is_of, raised, lowered, IsCounted}
+
+-- ---- one place is written
+
+count_set : (g : ℕ) (xs : List (Option (Option Request))) (k : ℕ) (v : Option (Option Request)) → k < length xs → count_by (is_of g) (set xs k v) + cond (is_of g (get_or xs k None)) 1 0 ≡ count_by (is_of g) xs + cond (is_of g v) 1 0
+count_set g xs k v within = sum_by-set (λ x. cond (is_of g x) 1 0) xs k v None within
+
+-- a group that a place has is counted there, and no other one
+one_of : (g : ℕ) (x : Option ℕ) (h : ℕ) → x ≡ Some h → g ≡ h → is_group g x ≡ true
+one_of g x h is same = ap (is_group g) is ∙ eq-eqb h g (sym same)
+
+none_of : (g : ℕ) (x : Option ℕ) (h : ℕ) → x ≡ Some h → (g ≡ h → ⊥) → is_group g x ≡ false
+none_of g x h is other = ap (is_group g) is ∙ ne_eqb h g (λ e. other (sym e))
+
+group_of_true : (g : ℕ) (x : Option ℕ) → is_group g x ≡ true → x ≡ Some g
+group_of_true g None passes = cc
+group_of_true g (Some h) passes = ap Some (eqb-true h g passes)
+
+-- a counter that a group of a place has stands in the table
+pub group_within : (place : Option (Option Request)) (g : ℕ) → group_of place ≡ Some g → g < 1021
+group_within None g is = cc
+group_within (Some None) g is = cc
+group_within (Some (Some r)) g is = let same : Some (itt r % 1021) ≡ Some g = is in let eq : itt r % 1021 ≡ g = cc in omega (arith, eq)
+
+pub is_held : (counts : List ℕ) (xs : List (Option (Option Request))) (k g : ℕ) → IsCounted counts xs → k < length xs → group_of (get_or xs k None) ≡ Some g → 0 < get_or counts g 0
+is_held counts xs k g c within is =
+    let least : cond (is_of g (get_or xs k None)) 1 0 ≤ count_by (is_of g) xs = get_or-le-sum_by (λ x. cond (is_of g x) 1 0) xs k None within in
+    let one : ◌≡◌ {A = ℕ} (cond (is_of g (get_or xs k None)) 1 0) 1 = ap (λ b. cond b 1 0) (one_of g (group_of (get_or xs k None)) g is refl) in
+    omega (arith, least, one, c.exact g)
+
+pub is_few : (counts : List ℕ) (xs : List (Option (Option Request))) (g : ℕ) → IsCounted counts xs → get_or counts g 0 ≤ 1024
+is_few counts xs g c = omega (arith, c.exact g, c.few, count_by-le-length (is_of g) xs)
+
+-- what was there is taken back
+pub lowered_counted : (counts : List ℕ) (xs : List (Option (Option Request))) (k : ℕ) → IsCounted counts xs → k < length xs → IsCounted (lowered counts (group_of (get_or xs k None))) (set xs k None)
+lowered_counted counts xs k c within = by_group (group_of (get_or xs k None)) refl
+  where
+    left : (g : ℕ) → count_by (is_of g) (set xs k None) + cond (is_group g (group_of (get_or xs k None))) 1 0 ≡ get_or counts g 0
+    left g = let z = count_set g xs k None within in omega (arith, z, c.exact g)
+
+    few : length (set xs k None) ≤ 1024
+    few = simp length-set c.few
+
+    by_group : (x : Option ℕ) → group_of (get_or xs k None) ≡ x → IsCounted (lowered counts x) (set xs k None)
+    by_group None is = record {
+      as_many = c.as_many;
+      few = few;
+      exact = λ g. let none : ◌≡◌ {A = ℕ} (cond (is_group g (group_of (get_or xs k None))) 1 0) 0 = ap (λ x. cond (is_group g x) 1 0) is in omega (arith, left g, none);
+    }
+    by_group (Some h) is = record {
+      as_many = length-set counts h (get_or counts h 0 - 1) ∙ c.as_many;
+      few = few;
+      exact = λ g. ⊎_elim
+          (λ same.
+          let here : get_or (set counts h (get_or counts h 0 - 1)) g 0 ≡ get_or counts h 0 - 1 = subst (λ i. get_or (set counts h (get_or counts h 0 - 1)) i 0 ≡ get_or counts h 0 - 1) (sym same) (get_or-set_same counts h (get_or counts h 0 - 1) 0 (let low = group_within (get_or xs k None) h is in omega (arith, low, c.as_many))) in
+          let one : ◌≡◌ {A = ℕ} (cond (is_group g (group_of (get_or xs k None))) 1 0) 1 = ap (λ b. cond b 1 0) (one_of g (group_of (get_or xs k None)) h is same) in
+          let at : get_or counts g 0 ≡ get_or counts h 0 = ap (λ i. get_or counts i 0) same in
+          omega (arith, left g, one, here, at))
+          (λ other.
+          let there : get_or (set counts h (get_or counts h 0 - 1)) g 0 ≡ get_or counts g 0 = get_or-set_other counts h g (get_or counts h 0 - 1) 0 other in
+          let none : ◌≡◌ {A = ℕ} (cond (is_group g (group_of (get_or xs k None))) 1 0) 0 = ap (λ b. cond b 1 0) (none_of g (group_of (get_or xs k None)) h is other) in
+          omega (arith, left g, none, there))
+          (cases_eq g h);
+    }
+
+-- what comes there is counted, where nothing was
+raised_counted : (counts : List ℕ) (xs : List (Option (Option Request))) (k : ℕ) (v : Option (Option Request)) → IsCounted counts xs → k < length xs → get_or xs k None ≡ None → IsCounted (raised counts (group_of v)) (set xs k v)
+raised_counted counts xs k v c within free = by_group (group_of v) refl
+  where
+    more : (g : ℕ) → count_by (is_of g) (set xs k v) ≡ get_or counts g 0 + cond (is_group g (group_of v)) 1 0
+    more g =
+        let z = count_set g xs k v within in
+        let none : ◌≡◌ {A = ℕ} (cond (is_of g (get_or xs k None)) 1 0) 0 = ap (λ x. cond (is_of g x) 1 0) free in
+        omega (arith, z, none, c.exact g)
+
+    few : length (set xs k v) ≤ 1024
+    few = simp length-set c.few
+
+    by_group : (x : Option ℕ) → group_of v ≡ x → IsCounted (raised counts x) (set xs k v)
+    by_group None is = record {
+      as_many = c.as_many;
+      few = few;
+      exact = λ g. let none : ◌≡◌ {A = ℕ} (cond (is_group g (group_of v)) 1 0) 0 = ap (λ x. cond (is_group g x) 1 0) is in omega (arith, more g, none);
+    }
+    by_group (Some h) is = record {
+      as_many = length-set counts h (get_or counts h 0 + 1) ∙ c.as_many;
+      few = few;
+      exact = λ g. ⊎_elim
+          (λ same.
+          let here : get_or (set counts h (get_or counts h 0 + 1)) g 0 ≡ get_or counts h 0 + 1 = subst (λ i. get_or (set counts h (get_or counts h 0 + 1)) i 0 ≡ get_or counts h 0 + 1) (sym same) (get_or-set_same counts h (get_or counts h 0 + 1) 0 (let low = group_within v h is in omega (arith, low, c.as_many))) in
+          let one : ◌≡◌ {A = ℕ} (cond (is_group g (group_of v)) 1 0) 1 = ap (λ b. cond b 1 0) (one_of g (group_of v) h is same) in
+          let at : get_or counts g 0 ≡ get_or counts h 0 = ap (λ i. get_or counts i 0) same in
+          omega (arith, more g, one, here, at))
+          (λ other.
+          let there : get_or (set counts h (get_or counts h 0 + 1)) g 0 ≡ get_or counts g 0 = get_or-set_other counts h g (get_or counts h 0 + 1) 0 other in
+          let none : ◌≡◌ {A = ℕ} (cond (is_group g (group_of v)) 1 0) 0 = ap (λ b. cond b 1 0) (none_of g (group_of v) h is other) in
+          omega (arith, more g, none, there))
+          (cases_eq g h);
+    }
+
+put_within : (counts : List ℕ) (xs : List (Option (Option Request))) (k : ℕ) (v : Option (Option Request)) → IsCounted counts xs → k < length xs → IsCounted (raised (lowered counts (group_of (get_or xs k None))) (group_of v)) (set xs k v)
+put_within counts xs k v c within =
+    subst (IsCounted (raised (lowered counts (group_of (get_or xs k None))) (group_of v))) (set-set xs k None v)
+    (raised_counted (lowered counts (group_of (get_or xs k None))) (set xs k None) k v (lowered_counted counts xs k c within) (simp length-set within) (get_or-set_same xs k None None within))
+
+-- ---- as it is read before the write
+
+pub read_held : (counts : List ℕ) (xs : List (Option (Option Request))) (k : ℕ) (x : Option (Option Request)) → IsCounted counts xs → slice_get xs k ≡ Some x → (g : ℕ) → group_of x ≡ Some g → 0 < get_or counts g 0
+read_held counts xs k x c read g is = is_held counts xs k g c (slice_get_within xs k x read) (ap group_of (get_or_from_slice_get xs k x None read) ∙ is)
+
+pub read_few : (counts : List ℕ) (xs : List (Option (Option Request))) (k : ℕ) (x : Option (Option Request)) → IsCounted counts xs → slice_get xs k ≡ Some x → (g : ℕ) → get_or (lowered counts (group_of x)) g 0 < 65535
+read_few counts xs k x c read g =
+    let less = lowered_counted counts xs k c (slice_get_within xs k x read) in
+    let few : get_or (lowered counts (group_of (get_or xs k None))) g 0 ≤ 1024 = is_few (lowered counts (group_of (get_or xs k None))) (set xs k None) g less in
+    subst (λ y. get_or (lowered counts (group_of y)) g 0 < 65535) (get_or_from_slice_get xs k x None read) (omega (arith, few))
+
+pub put_counted : (counts : List ℕ) (xs : List (Option (Option Request))) (k : ℕ) (x v : Option (Option Request)) → IsCounted counts xs → slice_get xs k ≡ Some x → IsCounted (raised (lowered counts (group_of x)) (group_of v)) (set xs k v)
+put_counted counts xs k x v c read = subst (λ y. IsCounted (raised (lowered counts (group_of y)) (group_of v)) (set xs k v)) (get_or_from_slice_get xs k x None read) (put_within counts xs k v c (slice_get_within xs k x read))
+
+-- ---- the first place turns
+
+pub turned_counted : (counts : List ℕ) (xs : List (Option (Option Request))) (x : Option (Option Request)) → IsCounted counts xs → slice_get xs 0 ≡ Some x → IsCounted (lowered counts (group_of x)) (drop 1 xs ++ None ∷ [])
+turned_counted counts xs x c read = by_list xs c read
+  where
+    by_list : (ys : List (Option (Option Request))) → IsCounted counts ys → slice_get ys 0 ≡ Some x → IsCounted (lowered counts (group_of x)) (drop 1 ys ++ None ∷ [])
+    by_list [] d is = cc
+    by_list (y ∷ ys) d is =
+        let set_first : IsCounted (lowered counts (group_of x)) (None ∷ ys) = subst (λ z. IsCounted (lowered counts (group_of z)) (None ∷ ys)) (let same : y ≡ x = cc in same) (lowered_counted counts (y ∷ ys) 0 d (slice_get_within (y ∷ ys) 0 x is)) in record {
+          as_many = set_first.as_many;
+          few = simp length-append (omega (arith, set_first.few));
+          exact = λ g. set_first.exact g ∙ sum_by-cons (λ x. cond (is_of g x) 1 0) None ys ∙ (let z = sum_by_push (λ x. cond (is_of g x) 1 0) ys None in omega (arith, z));
+        }
+
+-- a full ring that gets a place more gives its first one up
+keep_full : (xs : List (Option (Option Request))) (capacity : ℕ) → 0 < length xs → length xs ≡ capacity → keep_last capacity (xs ++ None ∷ []) ≡ drop 1 xs ++ None ∷ []
+keep_full [] capacity some full = absurd (omega arith)
+keep_full (x ∷ xs) capacity some full =
+    let one : length (x ∷ xs ++ None ∷ []) - capacity ≡ 1 = omega (arith, full, length-append (x ∷ xs) (let y : List (Option (Option Request)) = None ∷ [] in y)) in
+    ap (λ n. drop n (x ∷ xs ++ None ∷ [])) one
+
+pub turn_counted : (counts tags : List ℕ) (old new : Buffer (Option (Option Request))) (x : Option (Option Request)) → IsCounted counts old.items → slice_get old.items 0 ≡ Some x → length old.items ≡ old.capacity
+    → tags ≡ lowered counts (group_of x) → new ≡ buffer (keep_last old.capacity (old.items ++ None ∷ [])) old.capacity → IsCounted tags new.items
+turn_counted counts tags old new x c read full less put =
+    subst (λ b. IsCounted tags b.items) (sym put)
+    (subst (λ t. IsCounted t (keep_last old.capacity (old.items ++ None ∷ []))) (sym less)
+    (subst (IsCounted (lowered counts (group_of x))) (sym (keep_full old.items old.capacity (slice_get_within old.items 0 x read) full)) (turned_counted counts old.items x c read)))
+
+pub turned_places : (old : Buffer (Option (Option Request))) → 0 < length old.items → length old.items ≡ old.capacity → buffer (keep_last old.capacity (old.items ++ None ∷ [])) old.capacity ≡ buffer (drop 1 old.items ++ None ∷ []) old.capacity
+turned_places old some full = ap (λ xs. buffer xs old.capacity) (keep_full old.items old.capacity some full)
+
+-- ---- at the opening
+
+pub opened_counted : (size : ℕ) → size ≤ 1024 → IsCounted (replicate 1021 0) (replicate size None)
+opened_counted size few = record {
+  as_many = length-replicate {A = ℕ} 1021 0;
+  few = simp length-replicate few;
+  exact = λ g. get_or-zeros 1021 g ∙ sym (none_held g size);
+}
+  where
+    get_or-zeros : (n g : ℕ) → get_or {A = ℕ} (replicate n 0) g 0 ≡ 0
+    get_or-zeros n g = ⊎_elim (λ lt. get_or-replicate n g 0 0 lt) (λ ge. get_or_past (replicate n 0) g 0 (simp length-replicate ge)) (cases_lt g n)
+
+    none_held : (g n : ℕ) → count_by (is_of g) (let xs : List (Option (Option Request)) = replicate n None in xs) ≡ 0
+    none_held g zero = refl
+    none_held g (suc n) = sum_by-cons (λ x. cond (is_of g x) 1 0) None (replicate n None) ∙ (let z = none_held g n in omega (arith, z))
+
+-- ---- a search
+
+-- a command with a tag is of the tag's group
+command_of : (tag unit : ℕ) (x : Option (Option Request)) → is_command tag unit x ≡ true → is_of (tag % 1021) x ≡ true
+command_of tag unit None is = is
+command_of tag unit (Some None) is = is
+command_of tag unit (Some (Some r)) is =
+    let parts = and_parts (opcode r == 1 && itt r == tag) (is_unit unit (unit_of (lun r))) is in
+    let named : (itt r == tag) ≡ true = (and_parts (opcode r == 1) (itt r == tag) parts.0).1 in
+    let same : itt r ≡ tag = eqb-true (itt r) tag named in
+    eq-eqb (itt r % 1021) (tag % 1021) (ap (λ t. t % 1021) same)
+
+-- where none of the group is held the search finds nothing
+pub none_found : (counts : List ℕ) (xs : List (Option (Option Request))) (tag unit end : ℕ) → IsCounted counts xs → get_or counts (tag % 1021) 0 ≡ 0 → position (is_command tag unit) (take end xs) ≡ None
+none_found counts xs tag unit end c none = by_place (position (is_command tag unit) (take end xs)) refl
+  where
+    by_place : (p : Option ℕ) → position (is_command tag unit) (take end xs) ≡ p → p ≡ None
+    by_place None is = refl
+    by_place (Some k) is =
+        let found = position-Some (is_command tag unit) (take end xs) k None is in
+        let within : k < length (take end xs) = found.0 in
+        let short : k < end = omega (arith, within, length-take end xs) in
+        let there : k < length xs = omega (arith, within, length-take end xs) in
+        let passes : is_of (tag % 1021) (get_or xs k None) ≡ true = command_of tag unit (get_or xs k None) (subst (λ x. is_command tag unit x ≡ true) (get_or-take end xs k None short) found.1) in
+        let some : 0 < get_or counts (tag % 1021) 0 = is_held counts xs k (tag % 1021) c there (group_of_true (tag % 1021) (group_of (get_or xs k None)) passes) in
+        absurd (omega (arith, some, none))

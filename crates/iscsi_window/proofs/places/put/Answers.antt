@@ -1,0 +1,21 @@
+use Rattle.std.proofs.Common.{◌∙◌, ap, sym}
+use Rattle.circular_buffer.specs.Buffer.{buffer}
+use Rattle.std.specs.List.{slice_get}
+use Rattle.std.specs.Option.{option_copied_mut}
+use Rattle.iscsi_window.proofs.PlaceLemmas.{past_from_slice_get}
+use Rattle.iscsi_window.proofs.TagLemmas.{read_held, read_few, put_counted}
+use Rattle.iscsi_window.proofs.places.put.Goals as goal
+
+pub lower-requires : goal.lower-requires
+lower-requires c = read_held c.places.inside.tags c.places.inside.ring.items c.args.k _ c.places.invariant (sym c.get_mut.ensures.value ∙ ap option_copied_mut c.in-Some.is)
+
+pub raise-requires : goal.raise-requires
+raise-requires c = rw c.lower.ensures (read_few c.places.inside.tags c.places.inside.ring.items c.args.k _ c.places.invariant (sym c.get_mut.ensures.value ∙ ap option_copied_mut c.in-Some.is))
+
+pub invariant_of-places : goal.invariant_of-places
+invariant_of-places c = rw (c.raise.ensures, c.lower.ensures) (put_counted c.places.inside.tags c.places.inside.ring.items c.args.k _ c.args.received c.places.invariant (sym c.get_mut.ensures.value ∙ ap option_copied_mut c.in-Some.is))
+
+pub returns-in_default : goal.returns-in_default
+returns-in_default c =
+    let none = ap (λ b. slice_get b.items c.args.k) (sym c.places.view_is) ∙ sym c.get_mut.ensures.value ∙ ap option_copied_mut c.in_default.is in
+    c.places.view_is ∙ ap (λ xs. buffer xs c.args.places.now.capacity) (sym (past_from_slice_get c.args.places.now.items c.args.k c.args.received none))

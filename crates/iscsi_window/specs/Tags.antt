@@ -1,0 +1,32 @@
+-- Held requests, counted by groups of tags: a group has the tags that leave the same remainder by 1021.
+use Rattle.std.specs.Prelude.{◌≡◌, ℕ, ◌+◌, ◌-◌, ◌%◌, ◌≤◌, ◌==◌, Bool, false, List, length, count_by, slice_set, slice_index, Option, Some, None}
+use Rattle.iscsi_wire.specs.Fields.{itt}
+use Rattle.iscsi_wire.specs.declared.request.Request.{Request}
+
+-- the group of the request that a place holds
+abbrev pub group_of : Option (Option Request) → Option ℕ
+group_of None = None
+group_of (Some None) = None
+group_of (Some (Some r)) = Some (itt r % 1021)
+
+abbrev pub is_group : ℕ → Option ℕ → Bool
+is_group g None = false
+is_group g (Some h) = h == g
+
+-- a request of the group is held
+abbrev pub is_of : ℕ → Option (Option Request) → Bool
+is_of g place = is_group g (group_of place)
+
+abbrev pub raised : List ℕ → Option ℕ → List ℕ
+raised counts None = counts
+raised counts (Some g) = slice_set counts g (slice_index counts g + 1)
+
+abbrev pub lowered : List ℕ → Option ℕ → List ℕ
+lowered counts None = counts
+lowered counts (Some g) = slice_set counts g (slice_index counts g - 1)
+
+-- each counter is how many requests of its group are held
+pub record IsCounted (counts : List ℕ) (places : List (Option (Option Request))) : Type 0 where
+  pub as_many : length counts ≡ 1021
+  pub few : length places ≤ 1024
+  pub exact : (g : ℕ) → slice_index counts g ≡ count_by (is_of g) places
