@@ -29,22 +29,22 @@ group_of_true g None passes = cc
 group_of_true g (Some h) passes = ap Some (eqb-true h g passes)
 
 -- a counter that a group of a place has stands in the table
-pub group_within : (place : Option (Option Request)) (g : ℕ) → group_of place ≡ Some g → g < 1021
+group_within : (place : Option (Option Request)) (g : ℕ) → group_of place ≡ Some g → g < 1021
 group_within None g is = cc
 group_within (Some None) g is = cc
 group_within (Some (Some r)) g is = let same : Some (itt r % 1021) ≡ Some g = is in let eq : itt r % 1021 ≡ g = cc in omega (arith, eq)
 
-pub is_held : (counts : List ℕ) (xs : List (Option (Option Request))) (k g : ℕ) → IsCounted counts xs → k < length xs → group_of (get_or xs k None) ≡ Some g → 0 < get_or counts g 0
+is_held : (counts : List ℕ) (xs : List (Option (Option Request))) (k g : ℕ) → IsCounted counts xs → k < length xs → group_of (get_or xs k None) ≡ Some g → 0 < get_or counts g 0
 is_held counts xs k g c within is =
     let least : cond (is_of g (get_or xs k None)) 1 0 ≤ count_by (is_of g) xs = get_or-le-sum_by (λ x. cond (is_of g x) 1 0) xs k None within in
     let one : ◌≡◌ {A = ℕ} (cond (is_of g (get_or xs k None)) 1 0) 1 = ap (λ b. cond b 1 0) (one_of g (group_of (get_or xs k None)) g is refl) in
     omega (arith, least, one, c.exact g)
 
-pub is_few : (counts : List ℕ) (xs : List (Option (Option Request))) (g : ℕ) → IsCounted counts xs → get_or counts g 0 ≤ 1024
+is_few : (counts : List ℕ) (xs : List (Option (Option Request))) (g : ℕ) → IsCounted counts xs → get_or counts g 0 ≤ 1024
 is_few counts xs g c = omega (arith, c.exact g, c.few, count_by-le-length (is_of g) xs)
 
 -- what was there is taken back
-pub lowered_counted : (counts : List ℕ) (xs : List (Option (Option Request))) (k : ℕ) → IsCounted counts xs → k < length xs → IsCounted (lowered counts (group_of (get_or xs k None))) (set xs k None)
+lowered_counted : (counts : List ℕ) (xs : List (Option (Option Request))) (k : ℕ) → IsCounted counts xs → k < length xs → IsCounted (lowered counts (group_of (get_or xs k None))) (set xs k None)
 lowered_counted counts xs k c within = by_group (group_of (get_or xs k None)) refl
   where
     left : (g : ℕ) → count_by (is_of g) (set xs k None) + cond (is_group g (group_of (get_or xs k None))) 1 0 ≡ get_or counts g 0
@@ -131,7 +131,7 @@ put_counted counts xs k x v c read = subst (λ y. IsCounted (raised (lowered cou
 
 -- ---- the first place turns
 
-pub turned_counted : (counts : List ℕ) (xs : List (Option (Option Request))) (x : Option (Option Request)) → IsCounted counts xs → slice_get xs 0 ≡ Some x → IsCounted (lowered counts (group_of x)) (drop 1 xs ++ None ∷ [])
+turned_counted : (counts : List ℕ) (xs : List (Option (Option Request))) (x : Option (Option Request)) → IsCounted counts xs → slice_get xs 0 ≡ Some x → IsCounted (lowered counts (group_of x)) (drop 1 xs ++ None ∷ [])
 turned_counted counts xs x c read = by_list xs c read
   where
     by_list : (ys : List (Option (Option Request))) → IsCounted counts ys → slice_get ys 0 ≡ Some x → IsCounted (lowered counts (group_of x)) (drop 1 ys ++ None ∷ [])
@@ -156,9 +156,6 @@ turn_counted counts tags old new x c read full less put =
     subst (λ b. IsCounted tags b.items) (sym put)
     (subst (λ t. IsCounted t (keep_last old.capacity (old.items ++ None ∷ []))) (sym less)
     (subst (IsCounted (lowered counts (group_of x))) (sym (keep_full old.items old.capacity (slice_get_within old.items 0 x read) full)) (turned_counted counts old.items x c read)))
-
-pub turned_places : (old : Buffer (Option (Option Request))) → 0 < length old.items → length old.items ≡ old.capacity → buffer (keep_last old.capacity (old.items ++ None ∷ [])) old.capacity ≡ buffer (drop 1 old.items ++ None ∷ []) old.capacity
-turned_places old some full = ap (λ xs. buffer xs old.capacity) (keep_full old.items old.capacity some full)
 
 -- ---- at the opening
 

@@ -78,7 +78,7 @@ pub(crate) fn put(places: &mut Places, k: u32, received: Received)
     }
 }
 
-/// Takes the first place off, and puts one where nothing was received at the end.
+/// Takes the first place off, and adds one at the end, where nothing was received.
 pub(crate) fn turn_first(places: &mut Places)
     requires some { 0 < length places.old.items }
     requires full { length places.old.items ≡ places.old.capacity }
