@@ -29,10 +29,10 @@ group_of_true g None passes = cc
 group_of_true g (Some h) passes = ap Some (eqb-true h g passes)
 
 -- a counter that a group of a place has stands in the table
-group_within : (place : Option (Option Request)) (g : ℕ) → group_of place ≡ Some g → g < 1021
+group_within : (place : Option (Option Request)) (g : ℕ) → group_of place ≡ Some g → g < 4093
 group_within None g is = cc
 group_within (Some None) g is = cc
-group_within (Some (Some r)) g is = let same : Some (itt r % 1021) ≡ Some g = is in let eq : itt r % 1021 ≡ g = cc in omega (arith, eq)
+group_within (Some (Some r)) g is = let same : Some (itt r % 4093) ≡ Some g = is in let eq : itt r % 4093 ≡ g = cc in omega (arith, eq)
 
 is_held : (counts : List ℕ) (xs : List (Option (Option Request))) (k g : ℕ) → IsCounted counts xs → k < length xs → group_of (get_or xs k None) ≡ Some g → 0 < get_or counts g 0
 is_held counts xs k g c within is =
@@ -159,11 +159,11 @@ turn_counted counts tags old new x c read full less put =
 
 -- ---- at the opening
 
-pub opened_counted : (size : ℕ) → size ≤ 1024 → IsCounted (replicate 1021 0) (replicate size None)
+pub opened_counted : (size : ℕ) → size ≤ 1024 → IsCounted (replicate 4093 0) (replicate size None)
 opened_counted size few = record {
-  as_many = length-replicate {A = ℕ} 1021 0;
+  as_many = length-replicate {A = ℕ} 4093 0;
   few = simp length-replicate few;
-  exact = λ g. get_or-zeros 1021 g ∙ sym (none_held g size);
+  exact = λ g. get_or-zeros 4093 g ∙ sym (none_held g size);
 }
   where
     get_or-zeros : (n g : ℕ) → get_or {A = ℕ} (replicate n 0) g 0 ≡ 0
@@ -176,17 +176,17 @@ opened_counted size few = record {
 -- ---- a search
 
 -- a command with a tag is of the tag's group
-command_of : (tag unit : ℕ) (x : Option (Option Request)) → is_command tag unit x ≡ true → is_of (tag % 1021) x ≡ true
+command_of : (tag unit : ℕ) (x : Option (Option Request)) → is_command tag unit x ≡ true → is_of (tag % 4093) x ≡ true
 command_of tag unit None is = is
 command_of tag unit (Some None) is = is
 command_of tag unit (Some (Some r)) is =
     let parts = and_parts (opcode r == 1 && itt r == tag) (is_unit unit (unit_of (lun r))) is in
     let named : (itt r == tag) ≡ true = (and_parts (opcode r == 1) (itt r == tag) parts.0).1 in
     let same : itt r ≡ tag = eqb-true (itt r) tag named in
-    eq-eqb (itt r % 1021) (tag % 1021) (ap (λ t. t % 1021) same)
+    eq-eqb (itt r % 4093) (tag % 4093) (ap (λ t. t % 4093) same)
 
 -- where none of the group is held the search finds nothing
-pub none_found : (counts : List ℕ) (xs : List (Option (Option Request))) (tag unit end : ℕ) → IsCounted counts xs → get_or counts (tag % 1021) 0 ≡ 0 → position (is_command tag unit) (take end xs) ≡ None
+pub none_found : (counts : List ℕ) (xs : List (Option (Option Request))) (tag unit end : ℕ) → IsCounted counts xs → get_or counts (tag % 4093) 0 ≡ 0 → position (is_command tag unit) (take end xs) ≡ None
 none_found counts xs tag unit end c none = by_place (position (is_command tag unit) (take end xs)) refl
   where
     by_place : (p : Option ℕ) → position (is_command tag unit) (take end xs) ≡ p → p ≡ None
@@ -196,6 +196,6 @@ none_found counts xs tag unit end c none = by_place (position (is_command tag un
         let within : k < length (take end xs) = found.0 in
         let short : k < end = omega (arith, within, length-take end xs) in
         let there : k < length xs = omega (arith, within, length-take end xs) in
-        let passes : is_of (tag % 1021) (get_or xs k None) ≡ true = command_of tag unit (get_or xs k None) (subst (λ x. is_command tag unit x ≡ true) (get_or-take end xs k None short) found.1) in
-        let some : 0 < get_or counts (tag % 1021) 0 = is_held counts xs k (tag % 1021) c there (group_of_true (tag % 1021) (group_of (get_or xs k None)) passes) in
+        let passes : is_of (tag % 4093) (get_or xs k None) ≡ true = command_of tag unit (get_or xs k None) (subst (λ x. is_command tag unit x ≡ true) (get_or-take end xs k None short) found.1) in
+        let some : 0 < get_or counts (tag % 4093) 0 = is_held counts xs k (tag % 4093) c there (group_of_true (tag % 4093) (group_of (get_or xs k None)) passes) in
         absurd (omega (arith, some, none))

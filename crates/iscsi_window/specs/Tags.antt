@@ -1,4 +1,4 @@
--- Held requests, counted by groups of tags: a group has the tags that leave the same remainder by 1021.
+-- Held requests, counted by groups of tags: a group has the tags that leave the same remainder by 4093.
 use Rattle.std.specs.Prelude.{◌≡◌, ℕ, ◌+◌, ◌-◌, ◌%◌, ◌≤◌, ◌==◌, Bool, false, List, length, count_by, slice_set, slice_index, Option, Some, None}
 use Rattle.iscsi_wire.specs.Fields.{itt}
 use Rattle.iscsi_wire.specs.declared.request.Request.{Request}
@@ -7,7 +7,7 @@ use Rattle.iscsi_wire.specs.declared.request.Request.{Request}
 abbrev pub group_of : Option (Option Request) → Option ℕ
 group_of None = None
 group_of (Some None) = None
-group_of (Some (Some r)) = Some (itt r % 1021)
+group_of (Some (Some r)) = Some (itt r % 4093)
 
 abbrev pub is_group : ℕ → Option ℕ → Bool
 is_group g None = false
@@ -27,6 +27,6 @@ lowered counts (Some g) = slice_set counts g (slice_index counts g - 1)
 
 -- each counter is how many requests of its group are held
 pub record IsCounted (counts : List ℕ) (places : List (Option (Option Request))) : Type 0 where
-  pub as_many : length counts ≡ 1021
+  pub as_many : length counts ≡ 4093
   pub few : length places ≤ 1024
   pub exact : (g : ℕ) → slice_index counts g ≡ count_by (is_of g) places

@@ -10,8 +10,9 @@ use std::marker::Model;
 /// A group has the tags that leave the same remainder by this number.
 ///
 /// It is a prime, since initiators count their tags up in different bytes: some write the lowest byte first. The
-/// low bits alone would then put all tags into one group.
-const GROUPS: u32 = 1021;
+/// low bits alone would then put all tags into one group. It is some times the most places of a window, so that a
+/// full one leaves most groups empty.
+const GROUPS: u32 = 4093;
 
 /// A counter for each group.
 #[derive(Drop)]
@@ -26,13 +27,13 @@ impl Model for TagCounts {
 
     ghost view = { λ t. t.counts.items };
 
-    ghost invariant = { λ t. length t.counts.items ≡ 1021 };
+    ghost invariant = { λ t. length t.counts.items ≡ 4093 };
 }
 
 impl TagCounts {
     /// Counters that are all 0.
     pub(crate) fn open(alloc: Global) -> Result<TagCounts, AllocError>
-        ensures { IfOk result (λ t. t ≡ replicate 1021 0) }
+        ensures { IfOk result (λ t. t ≡ replicate 4093 0) }
     {
         let counts = vec![in alloc; 0; GROUPS as usize]?;
         Ok(TagCounts { counts })
@@ -40,7 +41,7 @@ impl TagCounts {
 
     /// Whether the tag's counter is 0.
     pub(crate) fn is_none(&self, itt: u32) -> bool
-        ensures { result ≡ (slice_index self.now (itt % 1021) == 0) }
+        ensures { result ≡ (slice_index self.now (itt % 4093) == 0) }
     {
         self.counts[(itt % GROUPS) as usize] == 0
     }

@@ -138,7 +138,7 @@ fn held_requests_are_found_and_taken_out(rt: HostRuntime) -> Result<(), Fail> {
 #[test]
 fn tags_of_one_group_are_told_apart(rt: HostRuntime) -> Result<(), Fail> {
     let mut window = Window::open(rt.alloc(), 1, 8)?;
-    let (tag, other) = (0xa1, 0xa1 + 1021);
+    let (tag, other) = (0xa1, 0xa1 + 4093);
     assert_eq!(rt; window.find_held(tag, 0, 9), None);
     assert_eq!(rt; window.offer(&command(1, 0, tag, 1)), Offer::Held);
     assert_eq!(rt; window.find_held(other, 0, 9), None);

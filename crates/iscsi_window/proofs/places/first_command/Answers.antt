@@ -21,6 +21,6 @@ returns c =
 
 pub returns-then-is_none : goal.returns-then-is_none
 returns-then-is_none c =
-    let zero : get_or c.places.inside.tags (c.args.itt % 1021) 0 ≡ 0 = eqb-true (get_or c.places.inside.tags (c.args.itt % 1021) 0) 0 (sym c.is_none.ensures ∙ c.if-is_none.true) in
+    let zero : get_or c.places.inside.tags (c.args.itt % 4093) 0 ≡ 0 = eqb-true (get_or c.places.inside.tags (c.args.itt % 4093) 0) 0 (sym c.is_none.ensures ∙ c.if-is_none.true) in
     sym (none_found c.places.inside.tags c.places.inside.ring.items c.args.itt c.args.unit c.args.end c.places.invariant zero)
     ∙ ap (λ b. position (is_command c.args.itt c.args.unit) (take c.args.end b.items)) c.places.view_is
