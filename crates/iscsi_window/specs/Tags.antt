@@ -1,4 +1,4 @@
--- Held requests, counted by groups of tags: a group has the tags that leave the same remainder by 4093.
+-- Held requests, counted by groups of tags: those of one group leave the same remainder on division by 4093.
 use Rattle.std.specs.Prelude.{◌≡◌, ℕ, ◌+◌, ◌-◌, ◌%◌, ◌≤◌, ◌==◌, Bool, false, List, length, count_by, slice_set, slice_index, Option, Some, None}
 use Rattle.iscsi_wire.specs.Fields.{itt}
 use Rattle.iscsi_wire.specs.declared.request.Request.{Request}

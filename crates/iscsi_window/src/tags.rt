@@ -7,7 +7,7 @@ use crate::places::Received;
 use std::alloc::{AllocError, Global};
 use std::marker::Model;
 
-/// A group has the tags that leave the same remainder by this number.
+/// A group has the tags that leave the same remainder on division by this number.
 ///
 /// It is a prime, since initiators count their tags up in different bytes: some write the lowest byte first. The
 /// low bits alone would then put all tags into one group. It is some times the most places of a window, so that a

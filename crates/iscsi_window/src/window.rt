@@ -166,8 +166,8 @@ impl Window {
     /// The lowest number, below the one that the wire shows as `below`, for which a SCSI Command with this
     /// tag and to this unit is held.
     ///
-    /// Where no request is held whose tag leaves the same remainder by 4,093, it looks at no place. An initiator
-    /// that chooses its tags to leave the same one makes it look at each place below `below`.
+    /// Where no request is held whose tag leaves the same remainder on division by 4,093, it looks at no place.
+    /// An initiator that chooses its tags to leave the same one makes it look at each place below `below`.
     pub fn find_held(&self, itt: u32, unit: u16, below: u32) -> Option<u32>
         ensures answer { result ≡ option_map (number_shown self.now) (find_command self.now itt unit below) }
         ensures answer_since { (h : List Change) → StandsFor self.now h → ShowsLowest (is_command_below h itt unit (number_of self.now.first h below)) result }
