@@ -103,8 +103,14 @@ impl Condvar {
         unsafe { pthread_cond_broadcast(self.0) };
     }
 
-    pub fn wait<'a, T>(&self, guard: MutexGuard<'a, T>) -> LockResult<MutexGuard<'a, T>> {
-        unsafe { pthread_cond_wait(self.0, guard.0.raw) };
+    pub fn wait_while<'a, T>(
+        &self,
+        mut guard: MutexGuard<'a, T>,
+        mut is_waiting: impl FnMut(&mut T) -> bool,
+    ) -> LockResult<MutexGuard<'a, T>> {
+        while is_waiting(&mut guard) {
+            unsafe { pthread_cond_wait(self.0, guard.0.raw) };
+        }
         Ok(guard)
     }
 

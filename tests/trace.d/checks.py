@@ -215,9 +215,9 @@ def in_order(session):
         numbered = command.request.is_numbered
         since = complete.get(command.offset, NEVER) if numbered else session.moment(command.item)
         for work in command.works:
-            if work.began_at < session.moment(command.item):
+            if work.began < session.moment(command.item):
                 yield f"line {work.line} of the trace: {command.name} was started before it came"
-            elif work.began_at < since:
+            elif work.began < since:
                 yield f"line {work.line} of the trace: {command.name} was started while a lower CmdSN was missing"
 
 

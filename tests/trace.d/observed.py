@@ -11,7 +11,7 @@ sys.path.insert(0, os.path.join(TOP, "tools"))
 from lib.sessions import find  # noqa: E402
 from lib.tshark import BadCapture, segments  # noqa: E402
 
-LINE = re.compile(r"(\d+) ([0-9a-f]{8}) ([0-9a-f]{8}) (\d+) (\d+) (\d+) (\d+) (\d+) (completed|stopped) ([0-9a-f]{4})")
+LINE = re.compile(r"(\d+) ([0-9a-f]{8}) ([0-9a-f]{8}) (\d+) (\d+) (\d+) (completed|stopped) ([0-9a-f]{4})")
 NANOSECONDS = 10**9
 
 
@@ -21,8 +21,8 @@ class BadTrace(Exception):
 
 @dataclass(frozen=True)
 class Work:
-    """A line of the trace: a command that a worker took. `began` and `ended` are of the clock that never goes back,
-    `began_at` of the one that the capture has, all in nanoseconds."""
+    """A line of the trace: a command that a worker took. `began` and `ended` are nanoseconds since 1970, as the moments
+    of a capture are."""
     line: int
     ticket: int
     tag: int
@@ -30,7 +30,6 @@ class Work:
     unit: int
     began: int
     ended: int
-    began_at: int
     is_completed: bool
     tsih: int
 
@@ -44,9 +43,9 @@ def read_trace(text):
         found = LINE.fullmatch(line)
         if not found:
             raise BadTrace(f"line {place} of the trace: not a line of a trace")
-        ticket, tag, cmd_sn, unit, began, ended, began_at, _, outcome, tsih = found.groups()
+        ticket, tag, cmd_sn, unit, began, ended, outcome, tsih = found.groups()
         works.append(Work(place, int(ticket), int(tag, 16), int(cmd_sn, 16), int(unit), int(began), int(ended),
-                          int(began_at), outcome == "completed", int(tsih, 16)))
+                          outcome == "completed", int(tsih, 16)))
     return works
 
 

@@ -92,10 +92,9 @@ class Run:
 
     def work(self, ticket, tag, number, unit=0, outcome="completed", took=1, before=0):
         """A worker takes a command now, or so many milliseconds before."""
-        began = (self.milliseconds - before) * 1_000_000
-        at = BEGIN * 10**9 + began
+        began = BEGIN * 10**9 + (self.milliseconds - before) * 10**6
         self.lines.append(f"{ticket} {tag:08x} {(FIRST + number) % 2**32:08x} {unit} {began} {began + took * 10**6} "
-                          f"{at} {at + took * 10**6} {outcome} {TSIH:04x}")
+                          f"{outcome} {TSIH:04x}")
         self.milliseconds += took
 
     @property

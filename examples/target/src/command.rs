@@ -2,7 +2,7 @@
 
 use crate::connection::Connection;
 use crate::lock;
-use crate::pdu::{place, Header, Pdu, READ, WRITE};
+use crate::pdu::{opcode, place, Header, Pdu, FINAL, READ, WRITE};
 use crate::scsi::{Outcome, Sense};
 use crate::unit::Unit;
 use std::sync::{Arc, Condvar, Mutex, PoisonError};
@@ -28,32 +28,23 @@ impl Command {
         Command { ticket, unit, header, connection, is_stopped: Mutex::new(false), stopped: Condvar::new() }
     }
 
-    /// Whether this connection brought it, with this tag.
-    pub fn is_of(&self, cid: u16, tag: u32) -> bool {
-        self.connection.cid == cid && self.header.tag() == tag
-    }
-
     /// It left its task set without being completed. Where its unit changes blocks by it just now, this waits for that;
-    /// from then on the unit does nothing more for it.
+    /// from then on the unit does nothing more for it, and what is queued of it doesn't go out.
     pub fn stop(&self) {
         *lock(&self.is_stopped) = true;
         self.stopped.notify_all();
+        self.connection.discard(self.ticket);
     }
 
     pub fn is_stopped(&self) -> bool {
         *lock(&self.is_stopped)
     }
 
-    /// Waits for so long. Whether the command was stopped meanwhile.
-    pub fn is_stopped_within(&self, delay: Duration) -> bool {
+    /// Executes the command after so long, unless it was stopped. It isn't stopped halfway.
+    pub fn execute<T>(&self, delay: Duration, execute: impl FnOnce() -> T) -> Option<T> {
         let guard = lock(&self.is_stopped);
         let waited = self.stopped.wait_timeout_while(guard, delay, |is_stopped| !*is_stopped);
-        *waited.unwrap_or_else(PoisonError::into_inner).0
-    }
-
-    /// Executes the command, unless it was stopped. It isn't stopped halfway.
-    pub fn unless_stopped<T>(&self, execute: impl FnOnce() -> T) -> Option<T> {
-        let is_stopped = lock(&self.is_stopped);
+        let is_stopped = waited.unwrap_or_else(PoisonError::into_inner).0;
         (!*is_stopped).then(execute)
     }
 }
@@ -68,12 +59,9 @@ pub fn complete_response(response: &mut Pdu, command: &Header, outcome: &Outcome
         true => ready,
         false => room,
     };
-    let (bit, residual) = match outcome.length {
-        length if length > expected => (OVERFLOW, length - expected),
-        length => (if length < expected { UNDERFLOW } else { 0 }, expected - length),
-    };
-    response.header.0[1] |= bit;
-    response.header.set(place::RESIDUAL, u32::try_from(residual).unwrap_or(u32::MAX));
+    let (over, under) = (u8::from(outcome.length > expected), u8::from(outcome.length < expected));
+    response.header.0[1] |= (over * OVERFLOW) | (under * UNDERFLOW);
+    response.header.set(place::RESIDUAL, outcome.length.abs_diff(expected) as u32);
     if let Some(sense) = outcome.sense {
         let data = sense.data();
         response.data = [&(data.len() as u16).to_be_bytes()[..], &data].concat();
@@ -84,6 +72,8 @@ pub fn complete_response(response: &mut Pdu, command: &Header, outcome: &Outcome
 #[derive(Default)]
 pub struct Transfer {
     buffer: Vec<u8>,
+    /// How many bytes the command takes.
+    wanted: usize,
     /// The transfer tag of the burst that is under way, and up to where it brings data.
     burst: Option<(u32, usize)>,
     next_data_sn: u32,
@@ -91,21 +81,19 @@ pub struct Transfer {
     is_wrong: bool,
 }
 
-/// What an R2T asks for.
-#[derive(Debug, PartialEq, Eq)]
-pub struct Asked {
-    pub offset: usize,
-    pub length: usize,
-    pub r2t_sn: u32,
-}
-
 impl Transfer {
-    /// Of a SCSI Command with this immediate data.
-    pub fn new(header: &Header, data: Vec<u8>) -> Transfer {
-        Transfer { is_wrong: data.len() > header.data_length(WRITE), buffer: data, ..Transfer::default() }
+    /// Of a SCSI Command that takes `wanted` bytes, with this immediate data, which is no longer than `first_burst`.
+    pub fn new(header: &Header, data: Vec<u8>, wanted: usize, first_burst: usize) -> Transfer {
+        let is_wrong = data.len() > header.data_length(WRITE).min(first_burst);
+        Transfer { buffer: data, wanted, is_wrong, ..Transfer::default() }
     }
 
-    /// Takes a Data-Out. One that isn't the next part of its burst spoils the transfer.
+    /// Whether the burst with this transfer tag is under way.
+    pub fn awaits(&self, transfer_tag: u32) -> bool {
+        self.burst.is_some_and(|(tag, _)| tag == transfer_tag)
+    }
+
+    /// Takes a Data-Out. One that isn't the next part of its burst spoils the transfer. The final one ends the burst.
     pub fn take(&mut self, data_out: &Pdu) {
         let header = &data_out.header;
         let end = self.buffer.len() + data_out.data.len();
@@ -121,26 +109,31 @@ impl Transfer {
             self.buffer.extend_from_slice(&data_out.data);
         }
         self.next_data_sn = self.next_data_sn.wrapping_add(1);
+        self.burst = self.burst.filter(|_| !header.is_final());
     }
 
-    /// Begins the next burst, by this transfer tag, where the command takes `wanted` bytes. `None`: it needs no more.
-    pub fn ask(&mut self, transfer_tag: u32, wanted: usize, max_burst: usize) -> Option<Asked> {
+    /// Begins the next burst of a command, by this transfer tag. Gives the header of the R2T, which has no numbers of
+    /// the session's yet. `None`: the command needs no more data.
+    pub fn ask(&mut self, command: &Header, transfer_tag: u32, max_burst: usize) -> Option<Header> {
         let offset = self.buffer.len();
-        if self.is_wrong || offset >= wanted {
+        if self.is_wrong || offset >= self.wanted {
             return None;
         }
-        let asked = Asked { offset, length: (wanted - offset).min(max_burst), r2t_sn: self.next_r2t_sn };
-        self.burst = Some((transfer_tag, offset + asked.length));
+        let length = (self.wanted - offset).min(max_burst);
+        let mut header = Header::new(opcode::R2T, FINAL, command.tag());
+        header.0[8..16].copy_from_slice(&command.0[8..16]);
+        header.set(place::TRANSFER_TAG, transfer_tag);
+        header.set(place::DATA_SN, self.next_r2t_sn);
+        header.set(place::OFFSET, offset as u32);
+        header.set(place::ASKED_LENGTH, length as u32);
+        self.burst = Some((transfer_tag, offset + length));
         self.next_data_sn = 0;
         self.next_r2t_sn += 1;
-        Some(asked)
+        Some(header)
     }
 
     /// What came. An error where some of it was not what had to come.
     pub fn data(self) -> Result<Vec<u8>, Sense> {
-        match self.is_wrong {
-            true => Err(Sense::WRONG_DATA),
-            false => Ok(self.buffer),
-        }
+        (!self.is_wrong).then_some(self.buffer).ok_or(Sense::WRONG_DATA)
     }
 }

@@ -3,9 +3,8 @@
 /// What the target accepts at most.
 const MOST_CONNECTIONS: u32 = 8;
 const LONGEST_BURST: u32 = 262_144;
-const LONGEST_FIRST_BURST: u32 = 65_536;
+const FIRST_BURST: u32 = 65_536;
 const LEAST_LENGTH: u32 = 512;
-const GREATEST_LENGTH: u32 = 0xff_ffff;
 const GREATEST_LEVEL: u32 = 2;
 
 /// What the negotiation of a connection has come to. It begins with the defaults of RFC 7143 section 13.
@@ -17,6 +16,8 @@ pub struct Keys {
     /// The longest data segment that the initiator takes.
     pub longest_data: u32,
     pub max_burst: u32,
+    /// The most immediate data that a command brings, as all other data is asked for.
+    pub first_burst: u32,
     pub connections: u32,
     pub level: u32,
 }
@@ -29,6 +30,7 @@ impl Default for Keys {
             is_discovery: false,
             longest_data: 8192,
             max_burst: LONGEST_BURST,
+            first_burst: FIRST_BURST,
             connections: 1,
             level: 1,
         }
@@ -66,46 +68,30 @@ impl Keys {
                 }
                 ("SessionType", _) => self.is_discovery = value == "Discovery",
                 ("InitiatorAlias", _) => {}
-                ("MaxRecvDataSegmentLength", Some(length @ LEAST_LENGTH..=GREATEST_LENGTH)) => {
-                    self.longest_data = length;
-                }
-                (_, Some(offered)) => add_pair(&mut answers, key, &self.choose_number(key, offered)),
-                (_, None) => add_pair(&mut answers, key, Self::choose_word(key, value)),
+                ("MaxRecvDataSegmentLength", Some(length @ LEAST_LENGTH..=0xff_ffff)) => self.longest_data = length,
+                _ => add_pair(&mut answers, key, &self.choose(key, value)),
             }
         }
         Some(answers)
     }
 
-    /// The answer to a key with a word, or with a list of them.
-    fn choose_word(key: &str, value: &str) -> &'static str {
-        let only = |supported| if value.split(',').any(|one| one == supported) { supported } else { "Reject" };
-        match key {
-            "AuthMethod" | "HeaderDigest" | "DataDigest" => only("None"),
-            "TaskReporting" => only("RFC3720"),
-            "DataPDUInOrder" | "DataSequenceInOrder" | "InitialR2T" => "Yes",
-            "IFMarker" | "OFMarker" => "No",
-            "ImmediateData" => {
-                if value == "Yes" {
-                    "Yes"
-                } else {
-                    "No"
-                }
-            }
-            _ => "NotUnderstood",
-        }
-    }
-
-    /// The answer to a key with a number.
-    fn choose_number(&mut self, key: &str, offered: u32) -> String {
-        let (kept, chosen) = match key {
-            "MaxConnections" => (&mut self.connections, offered.clamp(1, MOST_CONNECTIONS)),
-            "MaxBurstLength" if offered >= LEAST_LENGTH => (&mut self.max_burst, offered.min(LONGEST_BURST)),
-            "FirstBurstLength" if offered >= LEAST_LENGTH => return offered.min(LONGEST_FIRST_BURST).to_string(),
-            "iSCSIProtocolLevel" => (&mut self.level, offered.clamp(1, GREATEST_LEVEL)),
-            "DefaultTime2Wait" => return offered.to_string(),
-            "MaxOutstandingR2T" => return "1".to_string(),
-            "ErrorRecoveryLevel" | "DefaultTime2Retain" => return "0".to_string(),
-            "MaxBurstLength" | "FirstBurstLength" | "MaxRecvDataSegmentLength" => return "Reject".to_string(),
+    /// The answer to a key with a number, a word, or a list of words.
+    fn choose(&mut self, key: &str, value: &str) -> String {
+        let only = |word: &str| if value.split(',').any(|one| one == word) { word } else { "Reject" }.to_string();
+        let (kept, chosen) = match (key, number(value)) {
+            ("MaxConnections", Some(offered)) => (&mut self.connections, offered.clamp(1, MOST_CONNECTIONS)),
+            ("MaxBurstLength", Some(offered @ LEAST_LENGTH..)) => (&mut self.max_burst, offered.min(LONGEST_BURST)),
+            ("FirstBurstLength", Some(offered @ LEAST_LENGTH..)) => (&mut self.first_burst, offered.min(FIRST_BURST)),
+            ("iSCSIProtocolLevel", Some(offered)) => (&mut self.level, offered.clamp(1, GREATEST_LEVEL)),
+            ("DefaultTime2Wait", Some(offered)) => return offered.to_string(),
+            ("MaxOutstandingR2T", Some(_)) => return "1".to_string(),
+            ("ErrorRecoveryLevel" | "DefaultTime2Retain", Some(_)) => return "0".to_string(),
+            ("AuthMethod" | "HeaderDigest" | "DataDigest", _) => return only("None"),
+            ("TaskReporting", _) => return only("RFC3720"),
+            ("DataPDUInOrder" | "DataSequenceInOrder" | "InitialR2T", _) => return "Yes".to_string(),
+            ("ImmediateData", _) => return if value == "Yes" { "Yes" } else { "No" }.to_string(),
+            ("IFMarker" | "OFMarker", _) => return "No".to_string(),
+            ("MaxBurstLength" | "FirstBurstLength" | "MaxRecvDataSegmentLength", _) => return "Reject".to_string(),
             _ => return "NotUnderstood".to_string(),
         };
         *kept = chosen;

@@ -57,18 +57,10 @@ pub const LONGEST_DATA: usize = 262_144;
 pub struct Header(pub [u8; 48]);
 
 impl Header {
-    pub fn new(opcode: u8, flags: u8) -> Header {
-        let mut bytes = [0; 48];
-        bytes[0] = opcode;
-        bytes[1] = flags;
-        Header(bytes)
-    }
-
-    /// Of a PDU that the target sends for a task, without a transfer tag.
-    pub fn of_task(opcode: u8, flags: u8, tag: u32) -> Header {
-        let mut header = Header::new(opcode, flags);
+    pub fn new(opcode: u8, flags: u8, tag: u32) -> Header {
+        let mut header = Header([0; 48]);
+        header.0[..2].copy_from_slice(&[opcode, flags]);
         header.set(place::TAG, tag);
-        header.set(place::TRANSFER_TAG, NO_TAG);
         header
     }
 
@@ -105,10 +97,6 @@ impl Header {
     pub fn data_length(&self, bit: u8) -> usize {
         let is_meant = self.opcode() == opcode::SCSI_COMMAND && self.0[1] & bit != 0;
         usize::from(is_meant) * self.number(place::EXPECTED_LENGTH) as usize
-    }
-
-    pub fn cdb(&self) -> [u8; 16] {
-        self.part(place::CDB)
     }
 
     pub fn short(&self, at: usize) -> u16 {
@@ -149,16 +137,9 @@ impl Pdu {
 
     /// What goes on the wire, with the length of the data segment in the header.
     pub fn to_bytes(&self) -> Vec<u8> {
-        let mut bytes = Vec::with_capacity(self.length());
-        bytes.extend_from_slice(&self.header.0);
+        let mut bytes = [&self.header.0[..], &self.data].concat();
         bytes[4..8].copy_from_slice(&(self.data.len() as u32 & 0x00ff_ffff).to_be_bytes());
-        bytes.extend_from_slice(&self.data);
-        bytes.resize(self.length(), 0);
+        bytes.resize(bytes.len().next_multiple_of(4), 0);
         bytes
-    }
-
-    /// How many bytes it takes on the wire.
-    pub fn length(&self) -> usize {
-        self.header.0.len() + self.data.len().next_multiple_of(4)
     }
 }

@@ -1,6 +1,7 @@
 //! What a CDB means (SPC-4, SBC-3), and what the units answer to it.
 
 use crate::unit::{Unit, BLOCK};
+use crate::UNITS;
 use std::ops::Range;
 
 /// The most blocks that a command may move.
@@ -106,7 +107,7 @@ fn carry_out(unit: &Unit, cdb: &[u8; 16], data: &[u8]) -> Result<Vec<u8>, Sense>
         }
         // TEST UNIT READY, and SYNCHRONIZE CACHE: the units have none.
         0x00 | 0x35 | 0x91 => (Vec::new(), 0),
-        0xa0 => (luns(unit.count), number(&cdb[6..10])),
+        0xa0 => (luns(), number(&cdb[6..10])),
         _ => return Err(Sense::INVALID_OPCODE),
     };
     answer.truncate(most as usize);
@@ -148,9 +149,9 @@ fn mode_sense(cdb: &[u8; 16]) -> Result<Vec<u8>, Sense> {
     }
 }
 
-/// The LUNs 0 to `count - 1`.
-fn luns(count: u8) -> Vec<u8> {
-    let mut data = (u64::from(count) << 35).to_be_bytes().to_vec();
-    data.extend((0..count).flat_map(|number| [0, number, 0, 0, 0, 0, 0, 0]));
+/// The LUNs of all units.
+fn luns() -> Vec<u8> {
+    let mut data = (u64::from(UNITS) << 35).to_be_bytes().to_vec();
+    data.extend((0..UNITS).flat_map(|number| [0, number, 0, 0, 0, 0, 0, 0]));
     data
 }

@@ -1,10 +1,11 @@
 //! The logical units: RAM, and threads that work on the commands that are enabled.
 
 use crate::command::Command;
+use crate::pdu::place;
 use crate::scsi::{self, Outcome, Sense};
 use crate::session::Session;
-use crate::trace::{now, Moment, Trace};
-use crate::{lock, wait};
+use crate::trace::{now, Trace};
+use crate::{lock, lock_after};
 use std::collections::VecDeque;
 use std::ops::Range;
 use std::sync::{Arc, Condvar, Mutex, PoisonError, RwLock};
@@ -22,8 +23,6 @@ pub struct Job {
 
 pub struct Unit {
     pub number: u8,
-    /// How many units the target has.
-    pub count: u8,
     length: usize,
     memory: RwLock<Vec<u8>>,
     jobs: Mutex<VecDeque<Job>>,
@@ -31,9 +30,9 @@ pub struct Unit {
 }
 
 impl Unit {
-    pub fn new(number: u8, count: u8, length: usize) -> Unit {
+    pub fn new(number: u8, length: usize) -> Unit {
         let memory = RwLock::new(vec![0; length]);
-        Unit { number, count, length, memory, jobs: Mutex::default(), is_wanted: Condvar::new() }
+        Unit { number, length, memory, jobs: Mutex::default(), is_wanted: Condvar::new() }
     }
 
     pub fn block_count(&self) -> u64 {
@@ -57,32 +56,23 @@ impl Unit {
     /// Works on one command after another, for ever. Each takes `delay` longer than it needs.
     pub fn work(&self, delay: Duration, trace: &Trace) {
         loop {
-            let mut jobs = lock(&self.jobs);
-            while jobs.is_empty() {
-                jobs = wait(&self.is_wanted, jobs);
+            let next = lock_after(&self.jobs, &self.is_wanted, |jobs| jobs.is_empty()).pop_front();
+            if let Some(job) = next {
+                let begin = now();
+                let outcome = self.execute(&job, delay);
+                let end = now();
+                let is_completed = outcome.is_some_and(|outcome| job.session.complete(&job.command, &outcome));
+                trace.write(&job, begin, end, is_completed);
             }
-            let Some(job) = jobs.pop_front() else {
-                continue;
-            };
-            drop(jobs);
-            let begin = now();
-            let (end, is_completed) = self.finish(&job, delay);
-            trace.write(&job, begin, end, is_completed);
         }
     }
 
-    /// Executes a command and answers it, unless it was stopped. Gives when the work on it ended, and whether it was
-    /// answered.
-    fn finish(&self, job: &Job, delay: Duration) -> (Moment, bool) {
-        let outcome = match job.command.is_stopped_within(delay) {
-            true => None,
-            false => job.command.unless_stopped(|| match &job.data {
-                Ok(data) => scsi::execute(self, &job.command.header.cdb(), data),
-                Err(sense) => Outcome::failed(Some(*sense)),
-            }),
-        };
-        let outcome = outcome.filter(|outcome| job.session.send_data(&job.command, &outcome.data));
-        let end = now();
-        (end, outcome.is_some_and(|outcome| job.session.complete(&job.command, outcome)))
+    /// Executes a command, and sends the data of a READ. `None` where the command was stopped.
+    fn execute(&self, job: &Job, delay: Duration) -> Option<Outcome> {
+        let outcome = job.command.execute(delay, || match &job.data {
+            Ok(data) => scsi::execute(self, &job.command.header.part(place::CDB), data),
+            Err(sense) => Outcome::failed(Some(*sense)),
+        })?;
+        job.session.send_data(&job.command, &outcome.data).then_some(outcome)
     }
 }

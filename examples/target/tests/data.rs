@@ -1,28 +1,35 @@
 //! The data of a command: how it comes, and the residuals.
 
-use target::command::{complete_response, Asked, Transfer};
+use target::command::{complete_response, Transfer};
 use target::pdu::{opcode, place, Header, Pdu, FINAL};
 use target::scsi::Outcome;
 
 fn write_of(length: u32, flags: u8) -> Header {
-    let mut header = Header::new(opcode::SCSI_COMMAND, 0x20 | flags);
+    let mut header = Header::new(opcode::SCSI_COMMAND, 0x20 | flags, 9);
     header.set(place::EXPECTED_LENGTH, length);
     header
 }
 
 fn data_out(tag: u32, offset: u32, data_sn: u32, flags: u8, length: usize) -> Pdu {
-    let mut header = Header::new(opcode::DATA_OUT, flags);
+    let mut header = Header::new(opcode::DATA_OUT, flags, 9);
     header.set(place::TRANSFER_TAG, tag);
     header.set(place::OFFSET, offset);
     header.set(place::DATA_SN, data_sn);
     Pdu { header, data: vec![7; length] }
 }
 
+/// What the R2T asks for: its offset, its length and its R2TSN.
+fn asked(transfer: &mut Transfer, transfer_tag: u32) -> Option<(u32, u32, u32)> {
+    let header = transfer.ask(&write_of(40, FINAL), transfer_tag, 16)?;
+    assert_eq!((header.opcode(), header.tag(), header.number(place::TRANSFER_TAG)), (opcode::R2T, 9, transfer_tag));
+    Some((header.number(place::OFFSET), header.number(place::ASKED_LENGTH), header.number(place::DATA_SN)))
+}
+
 #[test]
 fn residuals_say_what_was_not_moved() {
     let outcome = |length, data: &[u8]| Outcome { status: 0, sense: None, data: data.to_vec(), length };
     let residual = |header: &Header, outcome: &Outcome| {
-        let mut response = Pdu { header: Header::new(opcode::SCSI_RESPONSE, FINAL), data: Vec::new() };
+        let mut response = Pdu { header: Header::new(opcode::SCSI_RESPONSE, FINAL, 9), data: Vec::new() };
         complete_response(&mut response, header, outcome);
         (response.header.0[1] & !FINAL, response.header.number(place::RESIDUAL))
     };
@@ -36,13 +43,15 @@ fn residuals_say_what_was_not_moved() {
 
 #[test]
 fn data_comes_with_the_command_and_then_as_it_is_asked_for() {
-    let mut transfer = Transfer::new(&write_of(40, FINAL), vec![7; 16]);
-    assert_eq!(transfer.ask(5, 40, 16), Some(Asked { offset: 16, length: 16, r2t_sn: 0 }));
+    let mut transfer = Transfer::new(&write_of(40, FINAL), vec![7; 16], 40, 16);
+    assert_eq!(asked(&mut transfer, 5), Some((16, 16, 0)));
     transfer.take(&data_out(5, 16, 0, 0, 8));
+    assert!(transfer.awaits(5) && !transfer.awaits(6));
     transfer.take(&data_out(5, 24, 1, FINAL, 8));
-    assert_eq!(transfer.ask(6, 40, 16), Some(Asked { offset: 32, length: 8, r2t_sn: 1 }));
+    assert!(!transfer.awaits(5));
+    assert_eq!(asked(&mut transfer, 6), Some((32, 8, 1)));
     transfer.take(&data_out(6, 32, 0, FINAL, 8));
-    assert_eq!(transfer.ask(7, 40, 16), None);
+    assert_eq!(asked(&mut transfer, 7), None);
     assert_eq!(transfer.data().map(|data| data.len()).ok(), Some(40));
 }
 
@@ -55,10 +64,19 @@ fn data_that_is_not_the_next_spoils_the_transfer() {
         data_out(5, 0, 0, FINAL, 20),
         data_out(5, 0, 0, FINAL, 12),
     ] {
-        let mut transfer = Transfer::new(&write_of(16, FINAL), Vec::new());
-        assert!(transfer.ask(5, 16, 16).is_some());
+        let mut transfer = Transfer::new(&write_of(16, FINAL), Vec::new(), 16, 16);
+        assert!(asked(&mut transfer, 5).is_some());
         transfer.take(&wrong);
-        assert_eq!(transfer.ask(6, 16, 16), None);
+        assert_eq!(asked(&mut transfer, 6), None);
         assert!(transfer.data().is_err());
+    }
+}
+
+#[test]
+fn immediate_data_is_no_longer_than_the_command_and_the_first_burst_allow() {
+    for (length, first_burst, is_right) in [(16, 16, true), (16, 15, false), (40, 65_536, true), (41, 65_536, false)] {
+        let mut transfer = Transfer::new(&write_of(40, FINAL), vec![7; length], 40, first_burst);
+        assert_eq!(asked(&mut transfer, 5).is_some(), is_right && length < 40, "{length} of {first_burst}");
+        assert_eq!(transfer.data().is_ok(), is_right, "{length} of {first_burst}");
     }
 }

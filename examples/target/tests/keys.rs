@@ -19,7 +19,7 @@ fn keys_are_negotiated_by_their_functions() {
         "HeaderDigest=None InitialR2T=Yes ImmediateData=Yes MaxBurstLength=262144 FirstBurstLength=4096 \
         MaxConnections=8 ErrorRecoveryLevel=0 "
     );
-    assert_eq!((keys.max_burst, keys.connections), (262_144, 8));
+    assert_eq!((keys.max_burst, keys.first_burst, keys.connections), (262_144, 4096, 8));
     assert_eq!(keys.longest_data, 65536);
 }
 
@@ -34,7 +34,7 @@ fn what_can_not_be_agreed_on_is_rejected() {
         "AuthMethod=Reject DataDigest=Reject MaxBurstLength=Reject \
         X-new=NotUnderstood MaxRecvDataSegmentLength=Reject "
     );
-    assert_eq!(keys.longest_data, 8192);
+    assert_eq!((keys.longest_data, keys.first_burst), (8192, 65_536));
 }
 
 #[test]

@@ -1,15 +1,14 @@
 //! PDUs, as they come from a stream.
 
-use target::pdu::{opcode, place, Header, Pdu, FINAL};
+use target::pdu::{opcode, Header, Pdu, FINAL};
 
 #[test]
 fn a_pdu_is_read_as_it_was_written() {
-    let mut header = Header::new(opcode::TEXT, FINAL);
-    header.set(place::TAG, 0x1234_5678);
+    let mut header = Header::new(opcode::TEXT, FINAL, 0x1234_5678);
     header.set(4, 5);
     let pdu = Pdu { header, data: b"a=b\0c".to_vec() };
     let wire = pdu.to_bytes();
-    assert_eq!((wire.len(), pdu.length()), (56, 56));
+    assert_eq!(wire.len(), 56);
     let mut stream = &wire[..];
     assert_eq!(Pdu::read(&mut stream).expect("a PDU"), Some(pdu));
     assert_eq!(Pdu::read(&mut stream).expect("the end"), None);

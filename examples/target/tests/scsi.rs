@@ -10,7 +10,7 @@ fn cdb(bytes: &[u8]) -> [u8; 16] {
 }
 
 fn unit() -> Unit {
-    Unit::new(1, 2, 4 * BLOCK)
+    Unit::new(1, 4 * BLOCK)
 }
 
 #[test]
