@@ -8,7 +8,7 @@ use Rattle.iscsi_window.proofs.places.turn_first.Goals as goal
 use Rattle.iscsi_window.proofs.places.turn_first.Goals.{in-Some, in_default}
 
 pub lower-requires : goal.lower-requires
-lower-requires c = read_held c.places.inside.tags c.places.inside.ring.items 0 _ c.places.invariant (sym c.get.ensures ∙ ap option_copied c.in-Some.is)
+lower-requires c = read_held c.places.inside.tags c.places.inside.ring.items _ _ c.places.invariant (sym c.get.ensures ∙ ap option_copied c.in-Some.is)
 
 pub invariant_of-places : goal.invariant_of-places
 invariant_of-places c =
