@@ -33,10 +33,7 @@ window_sound {s} inv {w} {held} unfinished long sound = record {
   functions = inv.functions;
   rooms = subst (λ n. HasRooms n (length s.conns) s.live_room s.tag_room s.arrived_room s.waiting_room) (sym long) inv.rooms;
   arrivals = inv.arrivals ∙ sym long;
-  taken = inv.taken;
-  events = inv.events;
-  conns = inv.conns;
-  units = inv.units;
+  limits = inv.limits;
 }
 
 -- it has stayed the same
@@ -87,10 +84,7 @@ arrivals_sound {s} inv {arrived} {room} long more = record {
   functions = inv.functions;
   rooms = record { live = inv.rooms.live; tags = inv.rooms.tags; arrived = omega (arith, inv.rooms.arrived, more); waiting = inv.rooms.waiting };
   arrivals = long ∙ inv.arrivals;
-  taken = inv.taken;
-  events = inv.events;
-  conns = inv.conns;
-  units = inv.units;
+  limits = inv.limits;
 }
 
 -- ---- the commands
@@ -110,10 +104,7 @@ commands_sound {s} inv {w} {count} {live} {tickets} {immediate} {sets} {live_roo
     waiting = inv.rooms.waiting;
   };
   arrivals = inv.arrivals ∙ ap length (sym places);
-  taken = inv.taken;
-  events = inv.events;
-  conns = inv.conns;
-  units = omega (arith, inv.units, units);
+  limits = record { taken = inv.limits.taken; events = inv.limits.events; conns = inv.limits.conns; units = omega (arith, inv.limits.units, units) };
 }
 
 -- the same, where the connections are written as others that are the same
@@ -142,10 +133,7 @@ sets_sound {s} inv {sets} {new} is long match =
       functions = inv.functions;
       rooms = inv.rooms;
       arrivals = inv.arrivals;
-      taken = inv.taken;
-      events = inv.events;
-      conns = inv.conns;
-      units = omega (arith, inv.units, units);
+      limits = record { taken = inv.limits.taken; events = inv.limits.events; conns = inv.limits.conns; units = omega (arith, inv.limits.units, units) };
     }
 
 -- one more, of the next ticket, has entered
@@ -188,10 +176,7 @@ functions_sound {s} inv {waiting} {room} sound more = record {
   functions = sound;
   rooms = record { live = inv.rooms.live; tags = inv.rooms.tags; arrived = inv.rooms.arrived; waiting = omega (arith, inv.rooms.waiting, more) };
   arrivals = inv.arrivals;
-  taken = inv.taken;
-  events = inv.events;
-  conns = inv.conns;
-  units = inv.units;
+  limits = inv.limits;
 }
 
 -- some of them don't wait any longer
@@ -224,10 +209,7 @@ taken_sound {s} inv one =
       functions = record { before = before; known = f.known; may = f.may; few = f.few };
       rooms = inv.rooms;
       arrivals = inv.arrivals;
-      taken = omega (arith, one);
-      events = inv.events;
-      conns = inv.conns;
-      units = inv.units;
+      limits = record { taken = omega (arith, one); events = inv.limits.events; conns = inv.limits.conns; units = inv.limits.units };
     }
 
 -- a reply went out on a connection
@@ -252,8 +234,5 @@ replied_sound {s} inv cid is =
       functions = record { before = f.before; known = are_waiting_known-replied cid s.waiting s.conns f.known; may = f.may; few = f.few };
       rooms = record { live = omega (arith, r.live, long); tags = omega (arith, r.tags, long); arrived = r.arrived; waiting = omega (arith, r.waiting, long) };
       arrivals = inv.arrivals;
-      taken = inv.taken;
-      events = inv.events;
-      conns = omega (arith, inv.conns, long);
-      units = inv.units;
+      limits = record { taken = inv.limits.taken; events = inv.limits.events; conns = omega (arith, inv.limits.conns, long); units = inv.limits.units };
     })

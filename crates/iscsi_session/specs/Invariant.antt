@@ -64,6 +64,13 @@ pub record HasRooms (places conns live_room tag_room arrived_room waiting_room :
   pub arrived : places ≤ arrived_room  -- for the event of arrival of each place
   pub waiting : 4 * conns ≤ waiting_room  -- for the functions that may wait on each connection
 
+-- the limits of the options, by the numbers of events, connections and units
+pub record IsWithinLimits (count most cids sets : ℕ) : Type 0 where
+  pub taken : count ≤ most  -- no more events were taken than the options allow
+  pub events : most ≤ 2 ^ 48
+  pub conns : cids ≤ 64
+  pub units : sets ≤ 256
+
 -- what holds of every session
 pub record IsSessionSound (s : Inner) : Type 0 where
   pub window : IsWindowSound s.window s.held s.entered s.taken s.conns
@@ -71,7 +78,4 @@ pub record IsSessionSound (s : Inner) : Type 0 where
   pub functions : AreFunctionsSound s.taken s.conns s.waiting
   pub rooms : HasRooms (length s.window.places) (length s.conns) s.live_room s.tag_room s.arrived_room s.waiting_room
   pub arrivals : length s.arrived ≡ length s.window.places  -- the events of arrival stand beside the places
-  pub taken : s.taken ≤ s.events  -- no more events were taken than the options allow
-  pub events : s.events ≤ 2 ^ 48
-  pub conns : length s.conns ≤ 64
-  pub units : length s.sets ≤ 256
+  pub limits : IsWithinLimits s.taken s.events (length s.conns) (length s.sets)

@@ -74,10 +74,12 @@ invariant_of-result-2 c =
         waiting = omega (arith, ap length conns, waits_room, c.len-2.ensures, c.args.options.conns.ok.0);
       };
       arrivals = ap length c.in_ok-open-3.ensures.events ∙ so_many c.args.options.window 0 ∙ sym size;
-      taken = omega arith;
-      events = search rules;
-      conns = omega (arith, ap length conns, (let few : length c.args.options.conns.items ≤ 64 = search rules in few));
-      units = omega (arith, ap length sets, so_many c.args.options.units (opened_set c.args.options.depth), few_units);
+      limits = record {
+        taken = omega arith;
+        events = search rules;
+        conns = omega (arith, ap length conns, (let few : length c.args.options.conns.items ≤ 64 = search rules in few));
+        units = omega (arith, ap length sets, so_many c.args.options.units (opened_set c.args.options.depth), few_units);
+      };
     }
 
 pub returns : goal.returns

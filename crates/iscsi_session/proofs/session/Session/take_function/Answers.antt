@@ -68,7 +68,7 @@ returns-clause-session c =
     let f : Waiting = c.in-Some.function in
     let found : find (λ w. w.turn == s.window.turned) s.waiting ≡ Some f = ap (λ n. find (λ w. w.turn == n) s.waiting) (sym c.turned-number.ensures) ∙ ap (find (λ w. w.turn == c.turned-number.result)) (sym c.deref.ensures.value) ∙ sym c.first_at.ensures ∙ c.in-Some.is in
     let waits : c.take_out.new.waiting.items ≡ filter (λ v. not (v.event == f.event)) s.waiting = c.take_out.ensures.items in
-    let number : to_z w64 c.turned-number.result ≡ next_position s = next_is s c.turned-number.result c.turned-number.ensures (omega (arith, inv.window.turned, inv.taken, inv.events)) in
+    let number : to_z w64 c.turned-number.result ≡ next_position s = next_is s c.turned-number.result c.turned-number.ensures (omega (arith, inv.window.turned, inv.limits.taken, inv.limits.events)) in
     c.perform.ensures.session ∙ function_is s f c.take_out.new.waiting.items _ found waits number ∙ ap (λ (u : Core). function_if u (next_waiting u)) c.self.view_is
 
 pub returns-clause-effects : goal.returns-clause-effects
@@ -78,7 +78,7 @@ returns-clause-effects c =
     let f : Waiting = c.in-Some.function in
     let found : find (λ w. w.turn == s.window.turned) s.waiting ≡ Some f = ap (λ n. find (λ w. w.turn == n) s.waiting) (sym c.turned-number.ensures) ∙ ap (find (λ w. w.turn == c.turned-number.result)) (sym c.deref.ensures.value) ∙ sym c.first_at.ensures ∙ c.in-Some.is in
     let waits : c.take_out.new.waiting.items ≡ filter (λ v. not (v.event == f.event)) s.waiting = c.take_out.ensures.items in
-    let number : to_z w64 c.turned-number.result ≡ next_position s = next_is s c.turned-number.result c.turned-number.ensures (omega (arith, inv.window.turned, inv.taken, inv.events)) in
+    let number : to_z w64 c.turned-number.result ≡ next_position s = next_is s c.turned-number.result c.turned-number.ensures (omega (arith, inv.window.turned, inv.limits.taken, inv.limits.events)) in
     c.perform.ensures.effects
     ∙ ap (λ (es : List Effect). es ++ performed_effects (let u : Core = record s { waiting = c.take_out.new.waiting.items; open_conns = c.self.inside.connections.open_conns } in u) f.request (to_z w64 c.turned-number.result) f.event) c.push_reserved.ensures.items
     ∙ append_assoc c.args.out.now.items (Immediate f.request ∷ []) (performed_effects (let u : Core = record s { waiting = c.take_out.new.waiting.items; open_conns = c.self.inside.connections.open_conns } in u) f.request (to_z w64 c.turned-number.result) f.event)
