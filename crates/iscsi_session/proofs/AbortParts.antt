@@ -13,7 +13,7 @@ use Rattle.iscsi_tasks.specs.declared.cover.Cover.TheVariants.{All as AllOfThem,
 use Rattle.iscsi_history.specs.declared.effect.Effect.TheVariants.{Void}
 use Rattle.iscsi_session.specs.declared.outcome.Outcome.{Outcome}
 use Rattle.iscsi_session.specs.declared.outcome.Outcome.TheVariants.{Respond, Abort, AbortAll, Empty as EmptyNumber, Void as VoidNumber}
-use Rattle.iscsi_session.specs.declared.session.live.Live.{Live}
+use Rattle.iscsi_commands.specs.declared.live.Live.{Live}
 use Rattle.iscsi_history.specs.Settings.{Setting, is_known}
 use Rattle.iscsi_history.specs.Trace.{Arrival, Command, Mark, Delivers, Executes, Voids, Empties, Leaves, Trace, first_of, contains, waiting, is_received, is_among, held, live, live_in}
 use Rattle.iscsi_history.specs.Execution.{exp_of, max_of, unfinished}

@@ -9,7 +9,7 @@ use Rattle.iscsi_history.specs.declared.effect.Effect.{Effect}
 use Rattle.iscsi_history.specs.declared.effect.Effect.TheVariants.{Ignore}
 use Rattle.iscsi_history.specs.declared.effect.Numbers.{Numbers}
 use Rattle.iscsi_history.specs.declared.effect.Why.{Why}
-use Rattle.iscsi_session.specs.declared.session.live.Live.{Live}
+use Rattle.iscsi_commands.specs.declared.live.Live.{Live}
 use Rattle.iscsi_history.specs.Settings.{Setting, is_known}
 use Rattle.iscsi_history.specs.Trace.{Arrival, Command, Mark, Admits, Ignores, Trace, after_items, has, entered, leaves_ticket, live, is_received}
 use Rattle.iscsi_history.specs.Execution.{exp_of, max_of, unfinished, ignored}

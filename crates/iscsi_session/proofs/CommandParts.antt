@@ -6,7 +6,7 @@ use Rattle.std.proofs.lemmas.Bool.Decides.{nat_tests}
 use Rattle.std.proofs.lemmas.List.{append-nil, length_push, map-append}
 use Rattle.std.proofs.lemmas.List.Elements.{filter-append}
 use Rattle.std.proofs.lemmas.List.Folds.{list_any-append, list_all-append}
-use Rattle.iscsi_session.specs.declared.session.live.Live.{Live}
+use Rattle.iscsi_commands.specs.declared.live.Live.{Live}
 use Rattle.iscsi_history.specs.Settings.{Setting}
 use Rattle.iscsi_history.specs.Trace.{Command, Mark, Trace, has, enters, entered, leaves_ticket, live, live_in, is_among, first_of}
 use Rattle.iscsi_session.specs.Standing.{kept, is_regular, CommandsAgree}

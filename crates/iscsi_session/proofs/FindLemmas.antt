@@ -7,7 +7,7 @@ use Rattle.iscsi_wire.specs.declared.request.Request.{Request}
 use Rattle.iscsi_wire.specs.Serial.{lift}
 use Rattle.iscsi_wire.specs.Fields.{opcode, itt, lun, unit_of}
 use Rattle.iscsi_window.specs.Windows.{Received, number_expected, is_unit, is_command, find_command}
-use Rattle.iscsi_session.specs.declared.session.live.Live.{Live}
+use Rattle.iscsi_commands.specs.declared.live.Live.{Live}
 use Rattle.iscsi_history.specs.Settings.{Setting}
 use Rattle.iscsi_history.specs.Trace.{Arrival, Command, Trace, first_of, is_received, held, held_among, live}
 use Rattle.iscsi_history.specs.Execution.{exp_of}

@@ -8,7 +8,7 @@ use Rattle.iscsi_window.specs.declared.answer.Place.{Place}
 use Rattle.iscsi_window.specs.declared.answer.Place.TheVariants.{Inside, Outside as NoPlace}
 use Rattle.iscsi_window.specs.Windows.{Received, number_expected, at_place, place_in, received_at, offered_to, with_place, with_unfinished}
 use Rattle.iscsi_history.specs.declared.event.Event.{Event}
-use Rattle.iscsi_session.specs.declared.session.live.Live.{Live}
+use Rattle.iscsi_commands.specs.declared.live.Live.{Live}
 use Rattle.iscsi_history.specs.Settings.{Setting}
 use Rattle.iscsi_history.specs.Trace.{Arrival, Trace, received, contains, is_received, held}
 use Rattle.iscsi_history.specs.Execution.{exp_of, max_of}

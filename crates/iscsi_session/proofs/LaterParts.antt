@@ -10,7 +10,7 @@ use Rattle.iscsi_tasks.specs.Sets.{Members, after_moment, is_covered}
 use Rattle.iscsi_history.specs.declared.effect.Effect.TheVariants.{Leave}
 use Rattle.iscsi_session.specs.declared.session.leaving.Choice.{Choice}
 use Rattle.iscsi_session.specs.declared.session.leaving.Choice.TheVariants.{Covered, After, Ticket}
-use Rattle.iscsi_session.specs.declared.session.live.Live.{Live}
+use Rattle.iscsi_commands.specs.declared.live.Live.{Live}
 use Rattle.iscsi_session.specs.Standing.{Core}
 use Rattle.iscsi_session.specs.Steps.{set_at}
 use Rattle.iscsi_session.specs.Functions.{is_gone, staying, set_staying, finished_by, with_left, leaving_effects, has_covered, chosen, later}

@@ -12,7 +12,7 @@ use Rattle.iscsi_tasks.specs.declared.member.Member.{Member}
 use Rattle.iscsi_tasks.specs.Sets.{Members, opened, after_moment, is_new}
 use Rattle.iscsi_history.specs.declared.effect.Effect.{Effect}
 use Rattle.iscsi_history.specs.declared.effect.Effect.TheVariants.{Enable, Leave, Send}
-use Rattle.iscsi_session.specs.declared.session.live.Live.{Live}
+use Rattle.iscsi_commands.specs.declared.live.Live.{Live}
 use Rattle.iscsi_history.specs.Settings.{Setting}
 use Rattle.iscsi_history.specs.Trace.{first_of, Arrival, Command, Mark, Leaves, Trace, waiting, waiting_by, waiting_through, enters, entered, has, leaves_ticket, live, live_in, is_among, was_free, sent_on}
 use Rattle.iscsi_history.specs.Execution.{unfinished, reply_on}

@@ -12,7 +12,7 @@ use Rattle.iscsi_tasks.specs.declared.member.Member.{Member}
 use Rattle.iscsi_tasks.specs.Sets.{Members, opened, tasks_in, without, looked_at, after_moment, is_new}
 use Rattle.iscsi_history.specs.declared.effect.Effect.{Effect}
 use Rattle.iscsi_history.specs.declared.effect.Effect.TheVariants.{Leave}
-use Rattle.iscsi_session.specs.declared.session.live.Live.{Live}
+use Rattle.iscsi_commands.specs.declared.live.Live.{Live}
 use Rattle.iscsi_session.specs.Standing.{Core, Match, are_ascending, tickets_of, tickets_in}
 use Rattle.iscsi_session.specs.Steps.{set_at, all_given, as_given, is_numbered, find_ticket, without_ticket}
 use Rattle.iscsi_session.specs.Functions.{is_gone, staying, set_staying, finished_by, with_left, leaving_effects, has_covered, covers_ticket, ungiven, ungiven_in, owed}

@@ -22,7 +22,6 @@ pub mod ExecutionLemmas
 pub mod SetParts
 pub mod KeptLemmas
 pub mod GroupLemmas
-pub mod SearchLemmas
 pub mod TagLemmas
 pub mod GivingLemmas
 pub mod EnablingLemmas

@@ -23,7 +23,7 @@ use Rattle.iscsi_tasks.specs.declared.cover.Cover.TheVariants.{All as AllOfThem,
 use Rattle.iscsi_tasks.specs.Sets.{Members, opened, is_covered, entered_to, looked_at, is_new, given_in, given_by}
 use Rattle.iscsi_session.specs.declared.outcome.Outcome.{Outcome}
 use Rattle.iscsi_session.specs.declared.outcome.Outcome.TheVariants.{Respond, Abort, AbortAll, Empty as EmptyNumber, Void as VoidNumber}
-use Rattle.iscsi_session.specs.declared.session.live.Live.{Live}
+use Rattle.iscsi_commands.specs.declared.live.Live.{Live}
 use Rattle.iscsi_session.specs.declared.session.waiting.Waiting.{Waiting}
 use Rattle.iscsi_history.specs.declared.verdict.Verdict.{Verdict}
 use Rattle.iscsi_history.specs.declared.verdict.Verdict.TheVariants.{Nothing, Answer, Enter}

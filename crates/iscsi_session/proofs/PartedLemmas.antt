@@ -12,7 +12,7 @@ use Rattle.iscsi_session.specs.declared.closing.Closing.{Closing}
 use Rattle.iscsi_session.specs.declared.closing.Closing.TheVariants.{Refused, Session, Conn}
 use Rattle.iscsi_history.specs.declared.effect.Effect.{Effect}
 use Rattle.iscsi_history.specs.declared.effect.Effect.TheVariants.{Send, CloseConn}
-use Rattle.iscsi_session.specs.declared.session.live.Live.{Live}
+use Rattle.iscsi_commands.specs.declared.live.Live.{Live}
 use Rattle.iscsi_session.specs.declared.session.waiting.Waiting.{Waiting}
 use Rattle.iscsi_session.specs.Standing.{Core, is_held, stat_sn_on}
 use Rattle.iscsi_session.specs.Steps.{set_at, is_numbered, reply_effects}

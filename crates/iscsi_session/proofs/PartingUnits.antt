@@ -7,7 +7,7 @@ use Rattle.iscsi_tasks.specs.declared.task.Task.{Task}
 use Rattle.iscsi_tasks.specs.declared.member.Member.{Member}
 use Rattle.iscsi_tasks.specs.Sets.{Members, opened}
 use Rattle.iscsi_history.specs.declared.effect.Effect.TheVariants.{Leave}
-use Rattle.iscsi_session.specs.declared.session.live.Live.{Live}
+use Rattle.iscsi_commands.specs.declared.live.Live.{Live}
 use Rattle.iscsi_session.specs.Standing.{Core}
 use Rattle.iscsi_session.specs.Steps.{set_at, is_numbered}
 use Rattle.iscsi_session.specs.Functions.{is_gone, set_staying, with_left, leaving_effects}

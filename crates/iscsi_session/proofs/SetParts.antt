@@ -6,7 +6,7 @@ use Rattle.std.proofs.lemmas.List.{get_or-set_same, get_or-set_other}
 use Rattle.iscsi_tasks.specs.declared.task.Task.{Task}
 use Rattle.iscsi_tasks.specs.declared.member.Member.{Member}
 use Rattle.iscsi_tasks.specs.Sets.{Members, opened, tasks_in, entered_to, left_by, with_ticket, without, after_moment, next_in, given_by}
-use Rattle.iscsi_session.specs.declared.session.live.Live.{Live}
+use Rattle.iscsi_commands.specs.declared.live.Live.{Live}
 use Rattle.iscsi_history.specs.Settings.{Setting}
 use Rattle.iscsi_history.specs.Trace.{Command, Mark, Trace, live, live_in, is_among}
 use Rattle.iscsi_history.specs.Run.{newly_enabled}

@@ -8,7 +8,7 @@ use Rattle.iscsi_wire.specs.Fields.{connection_of}
 use Rattle.iscsi_wire.specs.declared.request.Request.{Request}
 use Rattle.iscsi_window.specs.Windows.{Received, advanced}
 use Rattle.iscsi_tasks.specs.Sets.{Members}
-use Rattle.iscsi_session.specs.declared.session.live.Live.{Live}
+use Rattle.iscsi_commands.specs.declared.live.Live.{Live}
 use Rattle.iscsi_session.specs.declared.session.waiting.Waiting.{Waiting}
 use Rattle.iscsi_history.specs.Settings.{is_known}
 use Rattle.iscsi_history.specs.Management.{may_wait}
@@ -29,9 +29,9 @@ pub window_sound : {s : Inner} → IsSessionSound s → {w : Received} {held : �
     → IsWindowSound w held s.entered s.taken s.conns → IsSessionSound (record s { window = w; held = held })
 window_sound {s} inv {w} {held} unfinished long sound = record {
   window = sound;
-  commands = subst (λ n. AreCommandsSound n s.entered s.conns s.tickets s.immediate s.sets s.live) (sym unfinished) inv.commands;
+  commands = subst (λ n. AreCommandsSound n s.entered s.conns s.immediate s.sets s.live) (sym unfinished) inv.commands;
   functions = inv.functions;
-  rooms = subst (λ n. HasRooms n (length s.conns) s.live_room s.tag_room s.arrived_room s.waiting_room) (sym long) inv.rooms;
+  rooms = subst (λ n. HasRooms n (length s.conns) s.live_room s.arrived_room s.waiting_room) (sym long) inv.rooms;
   arrivals = inv.arrivals ∙ sym long;
   limits = inv.limits;
 }
@@ -82,7 +82,7 @@ arrivals_sound {s} inv {arrived} {room} long more = record {
   window = inv.window;
   commands = inv.commands;
   functions = inv.functions;
-  rooms = record { live = inv.rooms.live; tags = inv.rooms.tags; arrived = omega (arith, inv.rooms.arrived, more); waiting = inv.rooms.waiting };
+  rooms = record { live = inv.rooms.live; arrived = omega (arith, inv.rooms.arrived, more); waiting = inv.rooms.waiting };
   arrivals = long ∙ inv.arrivals;
   limits = inv.limits;
 }
@@ -90,16 +90,15 @@ arrivals_sound {s} inv {arrived} {room} long more = record {
 -- ---- the commands
 
 -- a command has entered or left: the window counts it, and the room is no less
-pub commands_sound : {s : Inner} → IsSessionSound s → {w : Received} {count : ℕ} {live : List Live} {tickets : ℕ → Option ℕ} {immediate : List ℕ} {sets : List Members} {live_room tag_room : ℕ} → IsWindowSound w s.held count s.taken s.conns
-    → AreCommandsSound w.unfinished count s.conns tickets immediate sets live → w.places ≡ s.window.places → length sets ≡ length s.sets → s.live_room ≤ live_room → s.tag_room ≤ tag_room
-    → IsSessionSound (record s { window = w; entered = count; live = live; tickets = tickets; immediate = immediate; sets = sets; live_room = live_room; tag_room = tag_room })
-commands_sound {s} inv {w} {count} {live} {tickets} {immediate} {sets} {live_room} {tag_room} window commands places units more_live more_tags = record {
+pub commands_sound : {s : Inner} → IsSessionSound s → {w : Received} {count : ℕ} {live : List Live} {immediate : List ℕ} {sets : List Members} {live_room : ℕ} → IsWindowSound w s.held count s.taken s.conns
+    → AreCommandsSound w.unfinished count s.conns immediate sets live → w.places ≡ s.window.places → length sets ≡ length s.sets → s.live_room ≤ live_room
+    → IsSessionSound (record s { window = w; entered = count; live = live; immediate = immediate; sets = sets; live_room = live_room })
+commands_sound {s} inv {w} {count} {live} {immediate} {sets} {live_room} window commands places units more_live = record {
   window = window;
   commands = commands;
   functions = inv.functions;
   rooms = record {
     live = omega (arith, inv.rooms.live, more_live, ap length places);
-    tags = omega (arith, inv.rooms.tags, more_tags, ap length places);
     arrived = omega (arith, inv.rooms.arrived, ap length places);
     waiting = inv.rooms.waiting;
   };
@@ -108,12 +107,12 @@ commands_sound {s} inv {w} {count} {live} {tickets} {immediate} {sets} {live_roo
 }
 
 -- the same, where the connections are written as others that are the same
-pub commands_sound_on : {s : Inner} → IsSessionSound s → {w : Received} {count : ℕ} {live : List Live} {tickets : ℕ → Option ℕ} {immediate : List ℕ} {sets : List Members} {live_room tag_room : ℕ} {conns : List (ℕ × ℕ)} → conns ≡ s.conns
-    → IsWindowSound w s.held count s.taken s.conns → AreCommandsSound w.unfinished count s.conns tickets immediate sets live → w.places ≡ s.window.places → length sets ≡ length s.sets → s.live_room ≤ live_room → s.tag_room ≤ tag_room
-    → IsSessionSound (record s { window = w; conns = conns; entered = count; live = live; tickets = tickets; immediate = immediate; sets = sets; live_room = live_room; tag_room = tag_room })
-commands_sound_on {s} inv {w} {count} {live} {tickets} {immediate} {sets} {live_room} {tag_room} {conns} same window commands places units more_live more_tags =
-    subst (λ (cs : List (ℕ × ℕ)). IsSessionSound (record s { window = w; conns = cs; entered = count; live = live; tickets = tickets; immediate = immediate; sets = sets; live_room = live_room; tag_room = tag_room }))
-    (sym same) (commands_sound inv window commands places units more_live more_tags)
+pub commands_sound_on : {s : Inner} → IsSessionSound s → {w : Received} {count : ℕ} {live : List Live} {immediate : List ℕ} {sets : List Members} {live_room : ℕ} {conns : List (ℕ × ℕ)} → conns ≡ s.conns
+    → IsWindowSound w s.held count s.taken s.conns → AreCommandsSound w.unfinished count s.conns immediate sets live → w.places ≡ s.window.places → length sets ≡ length s.sets → s.live_room ≤ live_room
+    → IsSessionSound (record s { window = w; conns = conns; entered = count; live = live; immediate = immediate; sets = sets; live_room = live_room })
+commands_sound_on {s} inv {w} {count} {live} {immediate} {sets} {live_room} {conns} same window commands places units more_live =
+    subst (λ (cs : List (ℕ × ℕ)). IsSessionSound (record s { window = w; conns = cs; entered = count; live = live; immediate = immediate; sets = sets; live_room = live_room }))
+    (sym same) (commands_sound inv window commands places units more_live)
 
 -- the sets have become others, of the same commands
 pub sets_sound : {s : Inner} → IsSessionSound s → {sets new : List Members} → sets ≡ new → length new ≡ length s.sets → Match new s.live → IsSessionSound (record s { sets = sets })
@@ -127,7 +126,6 @@ sets_sound {s} inv {sets} {new} is long match =
         in_sets = subst (λ (ms : List Members). Match ms s.live) (sym is) match;
         ascending = c.ascending;
         within = ap (λ n. are_within s.entered n s.live) units ∙ c.within;
-        indexed = c.indexed;
         counted = c.counted;
       };
       functions = inv.functions;
@@ -137,32 +135,30 @@ sets_sound {s} inv {sets} {new} is long match =
     }
 
 -- one more, of the next ticket, has entered
-pub entered_sound : {unfinished now count : ℕ} {conns : List (ℕ × ℕ)} {tickets : ℕ → Option ℕ} {immediate counts : List ℕ} {sets new : List Members} {live entered : List Live} → AreCommandsSound unfinished count conns tickets immediate sets live
-    → (index : ℕ → Option ℕ) (l : Live) → entered ≡ live ++ l ∷ [] → l.ticket ≡ count + 1 → l.unit < length sets → is_known l.conn conns ≡ true → count_by is_numbered live + cond (not l.immediate) 1 0 ≤ now
-    → length new ≡ length sets → Match new (live ++ l ∷ []) → All (λ x. index x.itt ≡ Some x.ticket) live → index l.itt ≡ Some l.ticket → AreCounted counts conns (live ++ l ∷ []) → AreCommandsSound now (count + 1) conns index counts new entered
-entered_sound {unfinished} {now} {count} {conns} {tickets} {immediate} {counts} {sets} {new} {live} c index l is next inside known numbered long match others this counted =
-    subst (AreCommandsSound now (count + 1) conns index counts new) (sym is) (record {
+pub entered_sound : {unfinished now count : ℕ} {conns : List (ℕ × ℕ)} {immediate counts : List ℕ} {sets new : List Members} {live entered : List Live} → AreCommandsSound unfinished count conns immediate sets live
+    → (l : Live) → entered ≡ live ++ l ∷ [] → l.ticket ≡ count + 1 → l.unit < length sets → is_known l.conn conns ≡ true → count_by is_numbered live + cond (not l.immediate) 1 0 ≤ now
+    → length new ≡ length sets → Match new (live ++ l ∷ []) → AreCounted counts conns (live ++ l ∷ []) → AreCommandsSound now (count + 1) conns counts new entered
+entered_sound {unfinished} {now} {count} {conns} {immediate} {counts} {sets} {new} {live} c l is next inside known numbered long match counted =
+    subst (AreCommandsSound now (count + 1) conns counts new) (sym is) (record {
       numbered = omega (arith, numbered, count_by-push is_numbered live l);
       known = list_all-append (λ (x : Live). is_known x.conn conns) live (l ∷ []) ∙ ap (λ b. b && (is_known l.conn conns && true)) c.known ∙ ap (λ b. b && true) known;
       in_sets = match;
       ascending = ascending-push count (length sets) live l c.ascending c.within (omega (arith, next));
       within = ap (λ n. are_within (count + 1) n (live ++ l ∷ [])) long ∙ within-push count (length sets) live l c.within next inside;
-      indexed = All-append (λ (x : Live). index x.itt ≡ Some x.ticket) live (l ∷ []) others (All-cons (λ (x : Live). index x.itt ≡ Some x.ticket) l [] this (λ k d within. absurd (omega arith)));
       counted = counted;
     })
 
 -- those that are left once the command of a ticket has left
-pub left_sound : {unfinished now count : ℕ} {conns : List (ℕ × ℕ)} {tickets : ℕ → Option ℕ} {immediate counts : List ℕ} {sets new : List Members} {live left : List Live} → AreCommandsSound unfinished count conns tickets immediate sets live
+pub left_sound : {unfinished now count : ℕ} {conns : List (ℕ × ℕ)} {immediate counts : List ℕ} {sets new : List Members} {live left : List Live} → AreCommandsSound unfinished count conns immediate sets live
     → (k : ℕ) → left ≡ without_ticket k live → count_by is_numbered (without_ticket k live) ≤ now → length new ≡ length sets → Match new (without_ticket k live) → AreCounted counts conns (without_ticket k live)
-    → AreCommandsSound now count conns tickets counts new left
-left_sound {unfinished} {now} {count} {conns} {tickets} {immediate} {counts} {sets} {new} {live} c k is numbered long match counted =
-    subst (AreCommandsSound now count conns tickets counts new) (sym is) (record {
+    → AreCommandsSound now count conns counts new left
+left_sound {unfinished} {now} {count} {conns} {immediate} {counts} {sets} {new} {live} c k is numbered long match counted =
+    subst (AreCommandsSound now count conns counts new) (sym is) (record {
       numbered = numbered;
       known = are_known-left k live conns c.known;
       in_sets = match;
       ascending = ascending-left k live c.ascending;
       within = ap (λ n. are_within count n (without_ticket k live)) long ∙ within-left k count (length sets) live c.within;
-      indexed = All-filter (λ (l : Live). not (l.ticket == k)) (λ (l : Live). tickets l.itt ≡ Some l.ticket) live c.indexed;
       counted = counted;
     })
 
@@ -174,7 +170,7 @@ functions_sound {s} inv {waiting} {room} sound more = record {
   window = inv.window;
   commands = inv.commands;
   functions = sound;
-  rooms = record { live = inv.rooms.live; tags = inv.rooms.tags; arrived = inv.rooms.arrived; waiting = omega (arith, inv.rooms.waiting, more) };
+  rooms = record { live = inv.rooms.live; arrived = inv.rooms.arrived; waiting = omega (arith, inv.rooms.waiting, more) };
   arrivals = inv.arrivals;
   limits = inv.limits;
 }
@@ -228,11 +224,10 @@ replied_sound {s} inv cid is =
         in_sets = c.in_sets;
         ascending = c.ascending;
         within = c.within;
-        indexed = c.indexed;
         counted = AreCounted-replied cid s.immediate s.conns s.live c.counted;
       };
       functions = record { before = f.before; known = are_waiting_known-replied cid s.waiting s.conns f.known; may = f.may; few = f.few };
-      rooms = record { live = omega (arith, r.live, long); tags = omega (arith, r.tags, long); arrived = r.arrived; waiting = omega (arith, r.waiting, long) };
+      rooms = record { live = omega (arith, r.live, long); arrived = r.arrived; waiting = omega (arith, r.waiting, long) };
       arrivals = inv.arrivals;
       limits = record { taken = inv.limits.taken; events = inv.limits.events; conns = omega (arith, inv.limits.conns, long); units = inv.limits.units };
     })

@@ -20,7 +20,7 @@ use Rattle.iscsi_history.specs.declared.effect.Effect.TheVariants.{Leave, Send, 
 use Rattle.iscsi_history.specs.declared.effect.Why.TheVariants.{Outside, Duplicate, Stale}
 use Rattle.iscsi_history.specs.declared.event.Event.{Event}
 use Rattle.iscsi_history.specs.declared.event.Event.TheVariants.{Arrive, Done}
-use Rattle.iscsi_session.specs.declared.session.live.Live.{Live}
+use Rattle.iscsi_commands.specs.declared.live.Live.{Live}
 use Rattle.iscsi_session.specs.declared.fault.SessionFault.TheVariants.{UnknownConnection, Exhausted}
 use Rattle.iscsi_history.specs.Settings.{Setting, is_known}
 use Rattle.iscsi_history.specs.Trace.{Arrival, Command, Mark, Admits, Leaves, Trace, first_of, is_received, held, live, live_in, was_free, is_among}

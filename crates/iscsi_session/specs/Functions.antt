@@ -18,7 +18,7 @@ use Rattle.iscsi_session.specs.declared.outcome.Outcome.{Outcome}
 use Rattle.iscsi_session.specs.declared.outcome.Outcome.TheVariants.{Respond, Abort, AbortAll, Empty as EmptyNumber, Void as VoidNumber}
 use Rattle.iscsi_session.specs.declared.session.leaving.Choice.{Choice}
 use Rattle.iscsi_session.specs.declared.session.leaving.Choice.TheVariants.{Covered, After, Ticket}
-use Rattle.iscsi_session.specs.declared.session.live.Live.{Live}
+use Rattle.iscsi_commands.specs.declared.live.Live.{Live}
 use Rattle.iscsi_session.specs.Standing.{Core}
 use Rattle.iscsi_session.specs.Steps.{set_at, with_set, all_given, enable_effects, is_numbered, with_reply, reply_effects}
 

@@ -4,7 +4,7 @@ use Rattle.std.specs.List.{list_all}
 use Rattle.iscsi_wire.specs.Fields.{connection_of}
 use Rattle.iscsi_window.specs.Received.{Received}
 use Rattle.iscsi_tasks.specs.Sets.{Members}
-use Rattle.iscsi_session.specs.declared.session.live.Live.{Live}
+use Rattle.iscsi_commands.specs.declared.live.Live.{Live}
 use Rattle.iscsi_session.specs.declared.session.waiting.Waiting.{Waiting}
 use Rattle.iscsi_history.specs.Settings.{is_known}
 use Rattle.iscsi_history.specs.Management.{may_wait}
@@ -21,13 +21,11 @@ pub record Inner : Type 0 where
   pub entered : ℕ
   pub taken : ℕ
   pub live : List Live
-  pub tickets : ℕ → Option ℕ  -- the index of the tags: the ticket of the last command that had the tag
   pub immediate : List ℕ  -- the count of immediate commands, for each connection
   pub sets : List Members
   pub arrived : List ℕ
   pub waiting : List Waiting
   pub live_room : ℕ  -- how many elements each of these has memory for
-  pub tag_room : ℕ
   pub arrived_room : ℕ
   pub waiting_room : ℕ
 
@@ -41,13 +39,12 @@ pub record IsWindowSound (w : Received) (held count taken : ℕ) (conns : List (
   pub known : list_all (is_place_known conns) w.places ≡ true  -- each held request is numbered, and came on a connection of the session
 
 -- the live commands
-pub record AreCommandsSound (unfinished count : ℕ) (conns : List (ℕ × ℕ)) (tickets : ℕ → Option ℕ) (immediate : List ℕ) (sets : List Members) (live : List Live) : Type 0 where
+pub record AreCommandsSound (unfinished count : ℕ) (conns : List (ℕ × ℕ)) (immediate : List ℕ) (sets : List Members) (live : List Live) : Type 0 where
   pub numbered : count_by is_numbered live ≤ unfinished  -- the window counts the numbered ones
   pub known : are_known live conns ≡ true  -- each came on a connection of the session
   pub in_sets : Match sets live  -- the task sets have them
   pub ascending : are_ascending live ≡ true  -- they are in the order in which they entered
   pub within : are_within count (length sets) live ≡ true  -- each has a ticket that was given, and a unit of the session
-  pub indexed : All (λ l. tickets l.itt ≡ Some l.ticket) live  -- each is found by its tag
   pub counted : AreCounted immediate conns live  -- the immediate ones are counted
 
 -- the functions that wait
@@ -58,9 +55,8 @@ pub record AreFunctionsSound (taken : ℕ) (conns : List (ℕ × ℕ)) (waiting 
   pub few : (cid : ℕ) → waiting_in waiting cid ≤ 4  -- and is one of few on its connection
 
 -- the containers' rooms, by the numbers of places and connections
-pub record HasRooms (places conns live_room tag_room arrived_room waiting_room : ℕ) : Type 0 where
+pub record HasRooms (places conns live_room arrived_room waiting_room : ℕ) : Type 0 where
   pub live : places + 8 * conns ≤ live_room  -- for a command at each place, and the immediate ones of each connection
-  pub tags : places + 8 * conns ≤ tag_room  -- and for their tags
   pub arrived : places ≤ arrived_room  -- for the event of arrival of each place
   pub waiting : 4 * conns ≤ waiting_room  -- for the functions that may wait on each connection
 
@@ -74,8 +70,8 @@ pub record IsWithinLimits (count most cids sets : ℕ) : Type 0 where
 -- what holds of every session
 pub record IsSessionSound (s : Inner) : Type 0 where
   pub window : IsWindowSound s.window s.held s.entered s.taken s.conns
-  pub commands : AreCommandsSound s.window.unfinished s.entered s.conns s.tickets s.immediate s.sets s.live
+  pub commands : AreCommandsSound s.window.unfinished s.entered s.conns s.immediate s.sets s.live
   pub functions : AreFunctionsSound s.taken s.conns s.waiting
-  pub rooms : HasRooms (length s.window.places) (length s.conns) s.live_room s.tag_room s.arrived_room s.waiting_room
+  pub rooms : HasRooms (length s.window.places) (length s.conns) s.live_room s.arrived_room s.waiting_room
   pub arrivals : length s.arrived ≡ length s.window.places  -- the events of arrival stand beside the places
   pub limits : IsWithinLimits s.taken s.events (length s.conns) (length s.sets)

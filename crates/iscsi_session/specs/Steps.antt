@@ -1,7 +1,6 @@
 -- What a session keeps after a part of an event, and the effects, by what it keeps before. For private contracts alone.
 use Rattle.std.specs.Prelude.{All, ◌≡◌, false, ◌<◌, ℕ, pos, ◌-ℤ◌, ◌+◌, ◌-◌, ◌≤◌, ◌==◌, ◌&&◌, ◌||◌, not, count_by, nat_lt, nat_le, nat_eq, Bool, true, List, [], ◌∷◌, ◌++◌, length, map, filter, find, slice_index_or, slice_set, Option, Some, None, option_map, if◌then◌else◌}
 use Rattle.std.specs.Option.{MatchOption}
-use Rattle.std.specs.HashMap.{HashMap, get, hash_map_len, spare}
 use Rattle.std.specs.List.{list_any}
 use Rattle.iscsi_wire.specs.declared.request.Request.{Request}
 use Rattle.iscsi_wire.specs.declared.reply.Reply.{Reply}
@@ -22,13 +21,14 @@ use Rattle.iscsi_history.specs.declared.event.Event.{Event}
 use Rattle.iscsi_history.specs.declared.event.Event.TheVariants.{Arrive, Done}
 use Rattle.iscsi_session.specs.declared.fault.SessionFault.{SessionFault}
 use Rattle.iscsi_session.specs.declared.fault.SessionFault.TheVariants.{UnknownConnection, Exhausted}
-use Rattle.iscsi_session.specs.declared.session.live.Live.{Live}
+use Rattle.iscsi_commands.specs.declared.live.Live.{Live}
 use Rattle.iscsi_history.specs.declared.verdict.Verdict.{Verdict}
 use Rattle.iscsi_history.specs.declared.verdict.Verdict.TheVariants.{Nothing, Answer, Enter as EnterUnit}
 use Rattle.iscsi_history.specs.Settings.{is_known}
 use Rattle.iscsi_history.specs.Execution.{sense_of_status, unit_named, attr_of, MOST_IMMEDIATE, request_verdict}
 use Rattle.iscsi_session.specs.Standing.{Core, stat_sn_on}
 pub use Rattle.iscsi_connections.specs.Connected.{count_reply, counted_on}
+pub use Rattle.iscsi_commands.specs.Commands.{find_ticket, without_ticket}
 
 -- ---- refusals
 
@@ -173,30 +173,12 @@ execution_effects s r (EnterUnit unit) = entry_effects s r unit
 
 -- ---- a completion
 
-abbrev pub find_ticket : ℕ → List Live → Option Live
-find_ticket ticket live = find (λ l. l.ticket == ticket) live
-
--- the place of the command with this ticket, or none has it
-abbrev pub IsTicketPlace : List Live → ℕ → Option ℕ → Type 0
-IsTicketPlace live ticket r = MatchOption r (All (λ l. (l.ticket == ticket) ≡ false) live) (λ k. (k < length live) × ((d : Live) → (slice_index_or live k d).ticket ≡ ticket))
-
--- the index of tags has the ticket of each live command. It may have those of commands that left
-abbrev pub AreIndexed : {S : Type 0} → HashMap ℕ ℕ S → List Live → Type 0
-AreIndexed tags live = All (λ l. get nat_eq tags l.itt ≡ Some l.ticket) live
-
--- how many tags the index can have
-abbrev pub tag_room : {S : Type 0} → HashMap ℕ ℕ S → ℕ
-tag_room tags = hash_map_len tags + spare tags
-
 -- the command with this ticket, if it is enabled
 abbrev pub enabled_of : Core → ℕ → Option Live → Option Live
 enabled_of s ticket x = elim x [ Some l ↦ if is_enabled_in ticket (set_at s l.unit).list then Some l else None | None ↦ None ]
 
 abbrev pub find_enabled : Core → ℕ → Option Live
 find_enabled s ticket = enabled_of s ticket (find_ticket ticket s.live)
-
-abbrev pub without_ticket : ℕ → List Live → List Live
-without_ticket ticket live = filter (λ l. not (l.ticket == ticket)) live
 
 -- the set of its unit without it
 abbrev pub set_without : Live → List Members → Members

@@ -26,9 +26,8 @@ ghost use Rattle.iscsi_session.specs.Functions.{owed};
 
 use crate::fault::SessionFault;
 use crate::options::Options;
-use crate::session::live::Live;
-use crate::session::tags::Tags;
 use crate::session::waiting::Waiting;
+use iscsi_commands::Commands;
 use iscsi_connections::{Connections, MOST_IMMEDIATE};
 use iscsi_history::{Effect, Event, Numbers};
 use iscsi_tasks::TaskSet;
@@ -43,11 +42,9 @@ mod completion;
 mod execution;
 mod function;
 mod leaving;
-mod live;
 mod logout;
 mod management;
 mod sets;
-mod tags;
 mod waiting;
 
 /// The most effects of one item.
@@ -62,8 +59,7 @@ pub struct Session {
     connections: Connections,
     entered: u64,
     taken: u64,
-    live: VecDeque<Live>,
-    tags: Tags,
+    live: Commands,
     sets: Vec<TaskSet>,
     level: u32,
     arrived: VecDeque<u64>,
@@ -71,18 +67,16 @@ pub struct Session {
 }
 
 impl Model for Session {
-    ghost use Rattle.std.specs.Prelude.{nat_eq, vec_capacity};
+    ghost use Rattle.std.specs.Prelude.{vec_capacity};
     ghost use Rattle.std.specs.VecDeque.{deque_capacity};
-    ghost use Rattle.std.specs.HashMap.{get};
     ghost use Rattle.iscsi_session.specs.Standing.{Core};
-    ghost use Rattle.iscsi_session.specs.Steps.{tag_room};
     ghost use Rattle.iscsi_session.specs.Invariant.{IsSessionSound};
 
     ghost Value = { Core };
 
     ghost view = { λ s. record { window = s.window; events = s.events; conns = s.connections.conns; entered = s.entered; taken = s.taken; live = s.live.items; sets = s.sets.items; level = s.level; arrived = s.arrived.items; waiting = s.waiting.items; open_conns = s.connections.open_conns } };
 
-    ghost invariant = { λ s. IsSessionSound (record { window = s.window; held = s.held; events = s.events; conns = s.connections.conns; entered = s.entered; taken = s.taken; live = s.live.items; tickets = get nat_eq s.tags; immediate = s.connections.immediate; sets = s.sets.items; arrived = s.arrived.items; waiting = s.waiting.items; live_room = deque_capacity s.live; tag_room = tag_room s.tags; arrived_room = deque_capacity s.arrived; waiting_room = vec_capacity s.waiting }) };
+    ghost invariant = { λ s. IsSessionSound (record { window = s.window; held = s.held; events = s.events; conns = s.connections.conns; entered = s.entered; taken = s.taken; live = s.live.items; immediate = s.connections.immediate; sets = s.sets.items; arrived = s.arrived.items; waiting = s.waiting.items; live_room = s.live.room; arrived_room = deque_capacity s.arrived; waiting_room = vec_capacity s.waiting }) };
 }
 
 impl Session {
@@ -252,8 +246,7 @@ fn make_on(alloc: Global, options: Options, connections: Connections) -> Option<
         connections,
         entered: 0,
         taken: 0,
-        live: VecDeque::with_capacity(alloc, most_live).ok()?,
-        tags: tags::open(alloc, most_live)?,
+        live: Commands::with_room(alloc, most_live).ok()?,
         sets: sets::open(alloc, units, depth)?,
         level,
         arrived: arrival::open(alloc, size)?,

@@ -5,9 +5,9 @@ ghost use Rattle.iscsi_history.specs.Settings.{is_known as known_in};
 ghost use Rattle.iscsi_history.specs.Execution.{sense_of_status};
 ghost use Rattle.iscsi_session.specs.Steps.{find_enabled, after_completion, completion_effects, counted_on, finished};
 
-use crate::session::live::{Live, find, remove};
 use crate::session::sets::CHECK_CONDITION;
 use crate::session::{Session, sets};
+use iscsi_commands::Live;
 use iscsi_connections::Connections;
 use iscsi_history::{Effect, Why};
 use iscsi_window::Window;
@@ -37,7 +37,7 @@ impl Session {
         };
         let stat_sn = self.next_stat_sn(command.conn);
         finish(&mut self.window, &mut self.connections, &command);
-        remove(&mut self.live, command.ticket);
+        self.live.remove(command.ticket);
         out.push_reserved(Effect::Leave {
             ticket: command.ticket,
             unit: command.unit,
@@ -59,7 +59,7 @@ impl Session {
         ensures command { result ≡ find_enabled self.now ticket }
         ensures known { IfSome result (λ l. known_in l.conn self.now.conns ≡ true) }
     {
-        let command = find(&self.live, ticket)?;
+        let command = self.live.find(ticket)?;
         if self.sets[usize::from(command.unit)].is_enabled(ticket) {
             Some(command)
         } else {

@@ -12,9 +12,8 @@ ghost use Rattle.iscsi_session.specs.Functions.{owed};
 ghost use Rattle.iscsi_session.specs.Turning.{with_executed, executed_effects};
 
 use crate::kind::{LOGOUT, NOP_OUT, TASK_MANAGEMENT, TEXT};
-use crate::session::live::Live;
-use crate::session::tags::{is_tag_live, take_up};
 use crate::session::{Session, sets};
+use iscsi_commands::Live;
 use iscsi_connections::Connections;
 use iscsi_history::{Effect, Verdict};
 use iscsi_tasks::{Attr, Task};
@@ -150,11 +149,18 @@ impl Session {
         let itt = request.itt();
         if itt == NO_TAG || request.attr() > GREATEST_ATTR {
             reject(request, INVALID_FIELD)
-        } else if is_tag_live(itt, &self.tags, &self.live) {
+        } else if self.is_tag_live(itt) {
             reject(request, TASK_IN_PROGRESS)
         } else {
             sets::verdict_in(request, self.is_crowded(request), &self.sets)
         }
+    }
+
+    /// Whether a live command has this tag.
+    fn is_tag_live(&self, itt: u32) -> bool
+        ensures { result ≡ is_tag_kept self.now itt }
+    {
+        self.live.find_tagged(itt).is_some()
     }
 
     /// Whether a request is immediate, and its connection has as many live immediate commands as it may.
@@ -212,8 +218,7 @@ impl Session {
         self.entered += 1;
         let ticket = self.entered;
         let attr = attr_of(request.attr());
-        take_up(&mut self.tags, &self.live, request.itt(), ticket);
-        self.live.push_back_reserved(Live {
+        self.live.push(Live {
             ticket,
             unit,
             conn: request.conn(),

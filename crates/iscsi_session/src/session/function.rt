@@ -8,11 +8,10 @@ ghost use Rattle.iscsi_session.specs.Functions.{tagged_in, abort_by, missing_at,
 
 use crate::outcome::Outcome;
 use crate::session::Session;
-use crate::session::live::Live;
 use crate::session::management::{
     ABORT_TASK, COMPLETE, LOGICAL_UNIT_RESET, QUERY_TASK, QUERY_TASK_SET,
 };
-use crate::session::tags::find_tagged;
+use iscsi_commands::Live;
 use iscsi_history::Effect;
 use iscsi_tasks::Cover;
 use iscsi_window::Place;
@@ -78,7 +77,7 @@ impl Session {
     fn tagged(&self, itt: u32, unit: u16) -> Option<Live>
         ensures { result ≡ tagged_in self.now itt unit }
     {
-        let command = find_tagged(itt, &self.tags, &self.live)?;
+        let command = self.live.find_tagged(itt)?;
         if command.unit == unit {
             Some(command)
         } else {

@@ -1,20 +1,18 @@
 //! Commands of a unit that leave before they are completed.
 
 ghost use Rattle.std.specs.Prelude.{ℕ, ◌≡◌, ◌+◌, ◌<◌, ◌≤◌, ◌++◌, None, true, false, find, length, count_by, option_map, slice_index_or, slice_set, IsSome, vec_len, vec_capacity};
-ghost use Rattle.std.specs.VecDeque.{deque_capacity};
 ghost use Rattle.iscsi_tasks.specs.Sets.{tasks_in, opened, left_by, is_covered};
 ghost use Rattle.iscsi_session.specs.Standing.{are_ascending, are_known};
 ghost use Rattle.iscsi_session.specs.Steps.{AreCounted, is_numbered, find_ticket, without_ticket, enable_effects, set_at};
 ghost use Rattle.iscsi_session.specs.Functions.{finished_by, with_left, leaving_effects, with_given, covers_ticket, chosen, later, has_covered, owed};
 
 use crate::session::completion::finish;
-use crate::session::live::{Live, find as find_live, remove};
 use crate::session::{Session, sets};
+use iscsi_commands::Commands;
 use iscsi_connections::Connections;
 use iscsi_history::Effect;
 use iscsi_tasks::{Cover, TaskSet};
 use iscsi_window::Window;
-use std::collections::VecDeque;
 
 /// Which commands of a set leave.
 #[derive(Clone, Copy)]
@@ -109,7 +107,7 @@ fn take(sets: &mut [TaskSet], unit: u16, choice: &Choice) -> Option<u64>
 }
 
 /// The live command with this ticket is over.
-fn end(window: &mut Window, connections: &mut Connections, live: &mut VecDeque<Live>, ticket: u64)
+fn end(window: &mut Window, connections: &mut Connections, live: &mut Commands, ticket: u64)
     requires ascending { are_ascending live.old.items ≡ true }
     requires there { IsSome (find_ticket ticket live.old.items) }
     requires numbered { count_by is_numbered live.old.items ≤ window.old.unfinished }
@@ -119,9 +117,9 @@ fn end(window: &mut Window, connections: &mut Connections, live: &mut VecDeque<L
     ensures live { live.new.items ≡ without_ticket ticket live.old.items }
     ensures connections { connections.new ≡ record connections.old { immediate = connections.new.immediate } }
     ensures counted { AreCounted connections.new.immediate connections.old.conns live.new.items }
-    ensures capacity { deque_capacity live.new ≡ deque_capacity live.old }
+    ensures room { live.new.room ≡ live.old.room }
 {
-    let command = find_live(live, ticket).unwrap();
+    let command = live.find(ticket).unwrap();
     finish(window, connections, &command);
-    remove(live, ticket);
+    live.remove(ticket);
 }

@@ -6,7 +6,7 @@ ghost use Rattle.iscsi_history.specs.Execution.{scsi_to, unit_named};
 ghost use Rattle.iscsi_session.specs.Steps.{is_set_full, place_in, all_given, enable_effect, enable_effects, set_without};
 
 use crate::session::execution::reject;
-use crate::session::live::Live;
+use iscsi_commands::Live;
 use iscsi_history::{Effect, Verdict};
 use iscsi_tasks::{Task, TaskSet};
 use iscsi_wire::{Reply, Request, Sense, unit_of};

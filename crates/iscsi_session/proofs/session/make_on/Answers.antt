@@ -6,7 +6,7 @@ use Rattle.iscsi_connections.specs.Connected.{Connected}
 use Rattle.iscsi_connections.specs.Placed.{connected}
 use Rattle.iscsi_session.specs.Settings.{setting_of}
 use Rattle.iscsi_session.specs.Standing.{are_known, is_held, is_place_known, tickets_of, tickets_in, are_ascending, are_within}
-use Rattle.iscsi_session.specs.declared.session.live.Live.{Live}
+use Rattle.iscsi_commands.specs.declared.live.Live.{Live}
 use Rattle.iscsi_wire.specs.Fields.{connection_of}
 use Rattle.iscsi_session.specs.declared.session.waiting.Waiting.{Waiting}
 use Rattle.iscsi_history.specs.Settings.{is_known}
@@ -28,11 +28,10 @@ invariant_of-result-2 c =
     let window : Received = c.in_ok-ok.field-0 in
     let is : window ≡ opened c.args.options.first c.args.options.window = search rules in
     let none : c.in_ok-ok-2.field-0.items ≡ [] = search rules in
-    let live_room : c.args.options.window + c.from.result * c.len.result ≤ deque_capacity c.in_ok-ok-2.field-0 = search rules in
-    let tag_space = c.in_ok-open.ensures in
+    let live_room : c.args.options.window + c.from.result * c.len.result ≤ (c.in_ok-ok-2.field-0).room = search rules in
     let conns : seen_conns ≡ c.args.options.conns.items = ap (λ (x : Connected). x.conns) (c.connections.view_is ∙ c.requires.connections) in
     let counts : seen_counts ≡ replicate (length c.args.options.conns.items) 0 = ap (λ (x : Connected). x.immediate) (c.connections.view_is ∙ c.requires.connections) in
-    let sets : c.in_ok-open-2.field-0.items ≡ replicate c.args.options.units (opened_set c.args.options.depth) = c.in_ok-open-2.ensures in
+    let sets : c.in_ok-open.field-0.items ≡ replicate c.args.options.units (opened_set c.args.options.depth) = c.in_ok-open.ensures in
     let waits : c.in_ok-ok-3.field-0.items ≡ [] = search rules in
     let waits_room : 4 * c.len-2.result ≤ vec_capacity c.in_ok-ok-3.field-0 = search rules in
     let unfinished : window.unfinished ≡ 0 = ap (λ (w : Received). w.unfinished) is in
@@ -56,8 +55,7 @@ invariant_of-result-2 c =
         known = ap (λ ls. are_known ls seen_conns) none;
         in_sets = λ u lt. ap (λ (ms : List Members). tickets_of (get_or ms u (opened_set 0))) sets ∙ ap tickets_of (set_opened c.args.options.units u c.args.options.depth (omega (arith, ap length sets, so_many c.args.options.units (opened_set c.args.options.depth), lt))) ∙ sym (ap (tickets_in u) none);
         ascending = ap are_ascending none;
-        within = ap (are_within 0 (length c.in_ok-open-2.field-0.items)) none;
-        indexed = λ k d within. absurd (omega (arith, ap length none, within));
+        within = ap (are_within 0 (length c.in_ok-open.field-0.items)) none;
         counted = subst (λ (ns : List ℕ). AreCounted ns seen_conns c.in_ok-ok-2.field-0.items) (sym counts)
             (subst (λ (ls : List Live). AreCounted (replicate (length c.args.options.conns.items) 0) seen_conns ls) (sym none) (AreCounted-opened (length c.args.options.conns.items) seen_conns (ap length (sym conns))));
       };
@@ -69,11 +67,10 @@ invariant_of-result-2 c =
       };
       rooms = record {
         live = omega (arith, ap length conns, size, live_room, c.len.ensures, c.args.options.conns.ok.0, ap (λ n. n * c.len.result) c.from.ensures);
-        tags = omega (arith, ap length conns, size, tag_space, c.len.ensures, c.args.options.conns.ok.0, ap (λ n. n * c.len.result) c.from.ensures);
-        arrived = omega (arith, size, c.in_ok-open-3.ensures.capacity);
+        arrived = omega (arith, size, c.in_ok-open-2.ensures.capacity);
         waiting = omega (arith, ap length conns, waits_room, c.len-2.ensures, c.args.options.conns.ok.0);
       };
-      arrivals = ap length c.in_ok-open-3.ensures.events ∙ so_many c.args.options.window 0 ∙ sym size;
+      arrivals = ap length c.in_ok-open-2.ensures.events ∙ so_many c.args.options.window 0 ∙ sym size;
       limits = record {
         taken = omega arith;
         events = search rules;
@@ -88,7 +85,7 @@ returns c = record {
       let is : c.in_ok-ok.field-0 ≡ opened c.args.options.first c.args.options.window = search rules in
       let none : c.in_ok-ok-2.field-0.items ≡ [] = search rules in
       let waits : c.in_ok-ok-3.field-0.items ≡ [] = search rules in
-      Settled-opened (setting_of c.args.options) _ is refl (ap (λ (x : Connected). x.conns) (c.connections.view_is ∙ c.requires.connections)) refl none c.in_ok-open-2.ensures refl c.in_ok-open-3.ensures.events waits (ap (λ (x : Connected). x.open_conns) (c.connections.view_is ∙ c.requires.connections));
+      Settled-opened (setting_of c.args.options) _ is refl (ap (λ (x : Connected). x.conns) (c.connections.view_is ∙ c.requires.connections)) refl none c.in_ok-open.ensures refl c.in_ok-open-2.ensures.events waits (ap (λ (x : Connected). x.open_conns) (c.connections.view_is ∙ c.requires.connections));
   taken = refl;
   belong = refl;
 }

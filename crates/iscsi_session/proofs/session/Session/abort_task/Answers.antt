@@ -4,7 +4,7 @@ use Rattle.iscsi_wire.specs.Fields.{rtt, cmd_sn, ref_cmd_sn}
 use Rattle.iscsi_window.specs.Windows.{Received, place_in, find_command, number_shown}
 use Rattle.iscsi_session.specs.declared.outcome.Outcome.{Outcome}
 use Rattle.iscsi_session.specs.declared.outcome.Outcome.TheVariants.{Abort, Empty as EmptyNumber}
-use Rattle.iscsi_session.specs.declared.session.live.Live.{Live}
+use Rattle.iscsi_commands.specs.declared.live.Live.{Live}
 use Rattle.iscsi_session.specs.Standing.{Core}
 use Rattle.iscsi_session.specs.Functions.{tagged_in, missing_at, abort_by}
 use Rattle.iscsi_session.proofs.session.Session.abort_task.Goals as goal

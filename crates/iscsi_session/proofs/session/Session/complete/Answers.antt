@@ -3,10 +3,11 @@ use Rattle.std.proofs.lemmas.Bool.{eqb-true}
 use Rattle.std.proofs.lemmas.Bool.Decides.{nat_tests}
 use Rattle.iscsi_window.specs.Windows.{Received, with_unfinished}
 use Rattle.iscsi_tasks.specs.Sets.{Members}
-use Rattle.iscsi_session.specs.declared.session.live.Live.{Live}
+use Rattle.iscsi_queue.specs.Queued.{Queued}
+use Rattle.iscsi_commands.specs.declared.live.Live.{Live}
 use Rattle.iscsi_connections.specs.Connected.{Connected}
 use Rattle.iscsi_session.specs.Standing.{Core, Match, are_within}
-use Rattle.iscsi_session.specs.Steps.{AreIndexed, AreCounted, is_numbered, counted_on, finished, find_ticket, without_ticket, set_without, all_given}
+use Rattle.iscsi_session.specs.Steps.{AreCounted, is_numbered, counted_on, finished, find_ticket, without_ticket, set_without, all_given}
 use Rattle.iscsi_history.proofs.BoolLemmas.{and_second}
 use Rattle.iscsi_history.proofs.ListLemmas.{find-passes}
 use Rattle.iscsi_session.proofs.WindowLemmas.{fewer, find-found}
@@ -109,7 +110,7 @@ invariant_of-self c =
     let returned : c.leave.new.sets ≡ new = c.leave.ensures.sets ∙ ap (λ (ms : List Members). set ms c.in-Some.command.unit (all_given (set_without c.in-Some.command ms))) value in
     let long : length new ≡ length c.self.inside.sets.items = length-set c.self.inside.sets.items c.in-Some.command.unit _ in
     let now : take c.self.inside.sets.len (c.leave.new.sets ++ drop (length c.leave.new.sets) c.self.inside.sets.items) ≡ new = written c.self.inside.sets.len c.leave.new.sets c.self.inside.sets.items (ap length returned ∙ long) c.self.inside.sets.ok.0 ∙ returned in
-    let commands = left_sound inv.commands l.ticket c.remove.ensures.items (omega (arith, ap (λ (x : Received). x.unfinished) is, finished_numbered w l (count_by is_numbered (without_ticket l.ticket c.self.inside.live.items)) (count_by is_numbered c.self.inside.live.items) counted inv.commands.numbered)) (ap length now ∙ long)
+    let commands = left_sound inv.commands l.ticket (ap (λ (q : Queued Live). q.items) c.remove.ensures) (omega (arith, ap (λ (x : Received). x.unfinished) is, finished_numbered w l (count_by is_numbered (without_ticket l.ticket c.self.inside.live.items)) (count_by is_numbered c.self.inside.live.items) counted inv.commands.numbered)) (ap length now ∙ long)
     (subst (λ (ms : List Members). Match ms (without_ticket l.ticket c.self.inside.live.items)) (sym now) (Match-left c.self.inside.sets.items c.self.inside.live.items l inv.commands.in_sets inv.commands.ascending f.found f.inside))
     (AreCounted-left c.self.inside.connections.immediate c.finish.new.connections.immediate c.self.inside.connections.conns c.self.inside.live.items l inv.commands.counted c.finish.ensures.long c.finish.ensures.counted inv.commands.ascending f.found) in
-    commands_sound_on inv (ap (λ (x : Connected). x.conns) c.finish.ensures.connections) (places_sound inv.window places turned (omega (arith, inv.window.fits, ap (λ (x : Received). x.unfinished) is, finished_fewer w l)) inv.window.entered) commands places (ap length now ∙ long) (omega (arith, c.remove.ensures.capacity)) (omega arith)
+    commands_sound_on inv (ap (λ (x : Connected). x.conns) c.finish.ensures.connections) (places_sound inv.window places turned (omega (arith, inv.window.fits, ap (λ (x : Received). x.unfinished) is, finished_fewer w l)) inv.window.entered) commands places (ap length now ∙ long) (let same = ap (λ (q : Queued Live). q.room) c.remove.ensures in omega (arith, same))

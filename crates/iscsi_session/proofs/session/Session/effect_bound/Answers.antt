@@ -13,6 +13,14 @@ overflow_mul-result c =
     let waits : length c.self.inside.waiting.items ≤ 4 * length c.self.inside.connections.conns = few_waiting c.self.inside.connections.conns c.self.inside.waiting.items inv.functions.few inv.functions.known in
     omega (arith, c.len.ensures, c.self.inside.waiting.ok.0, waits, inv.limits.conns, inv.window.most, inv.window.held_is, few_counted is_held c.self.inside.window.places)
 
+pub overflow_mul-result-2 : goal.overflow_mul-result-2
+overflow_mul-result-2 c =
+    let inv = c.self.invariant in
+    let waits : length c.self.inside.waiting.items ≤ 4 * length c.self.inside.connections.conns = few_waiting c.self.inside.connections.conns c.self.inside.waiting.items inv.functions.few inv.functions.known in
+    let few : length c.self.inside.live.items ≤ c.self.inside.window.unfinished + 8 * length c.self.inside.connections.conns = few_live c.self.inside.window.unfinished c.self.inside.connections.conns c.self.inside.live.items inv.commands.numbered inv.commands.counted.few inv.commands.known in
+    let lives : length c.self.inside.live.items ≡ length c.args.self.now.live = ap (λ (s : Core). length s.live) c.self.view_is in
+    omega (arith, c.len.ensures, c.self.inside.waiting.ok.0, c.live_len.ensures.value, lives, waits, few, inv.limits.conns, inv.window.fits, inv.window.most, inv.window.held_is, few_counted is_held c.self.inside.window.places)
+
 pub overflow_add-result-3 : goal.overflow_add-result-3
 overflow_add-result-3 c =
     let inv = c.self.invariant in

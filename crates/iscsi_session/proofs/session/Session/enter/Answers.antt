@@ -1,5 +1,8 @@
-use Rattle.std.proofs.Common.{rules, w64, of_z, to_z, nat_eq, refl, pos, ◌-ℤ◌, ◌≡◌, ◌==◌, ◌∙◌, ◌<◌, ◌≤◌, ◌&&◌, not, cond, ap, sym, subst, Bool, true, false, arith, length, count_by, is_some, ◌+◌, ◌*◌, ℕ, ℤ, List, [], ◌∷◌, get_or, set, take, drop, ◌++◌, length-set, append_assoc}
-use Rattle.std.specs.HashMap.{get}
+use Rattle.std.proofs.Common.{rules, w64, of_z, to_z, refl, All, zero, suc, nat_le, nat_lt, pos, ◌-ℤ◌, ◌≡◌, ◌==◌, ◌∙◌, ◌<◌, ◌≤◌, ◌&&◌, not, cond, ap, sym, subst, Bool, true, false, arith, length, count_by, is_some, ◌+◌, ◌*◌, ℕ, ℤ, List, [], ◌∷◌, get_or, set, take, drop, ◌++◌, length-set, append_assoc}
+use Rattle.std.specs.List.{list_any}
+use Rattle.std.proofs.lemmas.Bool.Decides.{nat_tests}
+use Rattle.iscsi_queue.specs.Queued.{Queued}
+use Rattle.iscsi_history.proofs.BoolLemmas.{and_parts}
 use Rattle.std.proofs.lemmas.Int.{to_z-of_z}
 use Rattle.iscsi_wire.specs.declared.request.Request.{Request}
 use Rattle.iscsi_wire.specs.Serial.{number_of_first}
@@ -11,11 +14,11 @@ use Rattle.iscsi_tasks.specs.declared.member.Member.{Member}
 use Rattle.iscsi_tasks.specs.Sets.{Members, opened, entered_to, next_in, given_by}
 use Rattle.iscsi_history.specs.declared.effect.Effect.{Effect}
 use Rattle.iscsi_history.specs.declared.effect.Effect.TheVariants.{Enter}
-use Rattle.iscsi_session.specs.declared.session.live.Live.{Live}
+use Rattle.iscsi_commands.specs.declared.live.Live.{Live}
 use Rattle.iscsi_history.specs.Settings.{is_known}
 use Rattle.iscsi_history.specs.Execution.{attr_of}
 use Rattle.iscsi_connections.specs.Connected.{Connected}
-use Rattle.iscsi_session.specs.Standing.{Core, are_known, Match}
+use Rattle.iscsi_session.specs.Standing.{Core, are_known, are_within, Match}
 use Rattle.iscsi_session.specs.Steps.{is_numbered, immediate_in, counted_on, started, number_by, event_by, new_live, new_task, with_command, enable_effect, entry_effects}
 use Rattle.iscsi_session.proofs.CountLemmas.{AreCounted-entered, room_for_one}
 use Rattle.iscsi_session.proofs.KeptLemmas.{newest_in, Match-entered, written}
@@ -69,25 +72,35 @@ enter-requires-clause-newest c =
     subst (λ (ms : List Members). (k : ℕ) (d : Member) → k < length (get_or ms c.args.unit (opened 0)).list → (get_or (get_or ms c.args.unit (opened 0)).list k d).task.ticket < c.self.inside.entered + 1) (sym c.deref_mut.ensures.value)
     (newest_in c.self.inside.sets.items c.self.inside.live.items c.self.inside.entered (length c.self.inside.sets.items) c.args.unit c.self.invariant.commands.in_sets c.self.invariant.commands.within inside)
 
+-- each has a ticket before the next
+all_before : (n units : ℕ) (lives : List Live) → are_within n units lives ≡ true → All (λ l. l.ticket < n + 1) lives
+all_before n units [] within k d l = absurd (omega (arith, l))
+all_before n units (x ∷ lives) within zero d l =
+    let parts = and_parts (nat_le x.ticket n && nat_lt x.unit units) (are_within n units lives) within in
+    let le = (and_parts (nat_le x.ticket n) (nat_lt x.unit units) parts.0).0 in grind (arith, nat_tests)
+all_before n units (x ∷ lives) within (suc k) d l =
+    all_before n units lives (and_parts (nat_le x.ticket n && nat_lt x.unit units) (are_within n units lives) within).1 k d (omega (arith, l))
+
 room_in : (s : Core) (r : Request) (unit : ℕ) → count_by is_numbered s.live ≤ s.window.unfinished → s.window.unfinished ≤ length s.window.places → ((cid : ℕ) → immediate_in s.live cid ≤ 8) → are_known s.live s.conns ≡ true → is_known (connection_of r) s.conns ≡ true
     → (is_immediate r ≡ false → s.window.unfinished < length s.window.places) → (is_immediate r ≡ true → immediate_in s.live (connection_of r) < 8) → length s.live < length s.window.places + 8 * length s.conns
 room_in s r unit numbered fit few known this begins room = room_for_one s.window.unfinished (length s.window.places) s.conns s.live (new_live s r unit) numbered fit few known this begins room
 
-pub take_up-requires-clause-room : goal.take_up-requires-clause-room
-take_up-requires-clause-room c =
+pub push-requires-clause-room : goal.push-requires-clause-room
+push-requires-clause-room c =
     let inv = c.self.invariant in
     let s : Core = record { window = c.self.inside.window; events = c.self.inside.events; conns = c.self.inside.connections.conns; entered = c.self.inside.entered; taken = c.self.inside.taken; live = c.self.inside.live.items; sets = c.self.inside.sets.items; level = c.self.inside.level; arrived = c.self.inside.arrived.items; waiting = c.self.inside.waiting.items; open_conns = c.self.inside.connections.open_conns } in
     let room = room_in s c.args.request.now c.args.unit inv.commands.numbered inv.window.fits inv.commands.counted.few inv.commands.known (ap (λ (t : Core). is_known (connection_of c.args.request.now) t.conns) c.self.view_is ∙ c.requires.known)
     (λ is. subst (λ (t : Core). t.window.unfinished < length t.window.places) (sym c.self.view_is) (c.requires.space is).not_full) (λ is. subst (λ (t : Core). immediate_in t.live (connection_of c.args.request.now) < 8) (sym c.self.view_is) (c.requires.few is)) in
-    omega (arith, room, inv.rooms.tags)
+    omega (arith, room, inv.rooms.live)
 
-pub push_back_reserved-requires : goal.push_back_reserved-requires
-push_back_reserved-requires c =
-    let inv = c.self.invariant in
-    let s : Core = record { window = c.self.inside.window; events = c.self.inside.events; conns = c.self.inside.connections.conns; entered = c.self.inside.entered; taken = c.self.inside.taken; live = c.self.inside.live.items; sets = c.self.inside.sets.items; level = c.self.inside.level; arrived = c.self.inside.arrived.items; waiting = c.self.inside.waiting.items; open_conns = c.self.inside.connections.open_conns } in
-    let room = room_in s c.args.request.now c.args.unit inv.commands.numbered inv.window.fits inv.commands.counted.few inv.commands.known (ap (λ (t : Core). is_known (connection_of c.args.request.now) t.conns) c.self.view_is ∙ c.requires.known)
-    (λ is. subst (λ (t : Core). t.window.unfinished < length t.window.places) (sym c.self.view_is) (c.requires.space is).not_full) (λ is. subst (λ (t : Core). immediate_in t.live (connection_of c.args.request.now) < 8) (sym c.self.view_is) (c.requires.few is)) in
-    omega (arith, room, inv.rooms.live, c.self.inside.live.ok.0)
+pub push-requires-clause-newest : goal.push-requires-clause-newest
+push-requires-clause-newest c = all_before c.self.inside.entered (length c.self.inside.sets.items) c.self.inside.live.items c.self.invariant.commands.within
+
+pub push-requires-clause-unused : goal.push-requires-clause-unused
+push-requires-clause-unused c =
+    ap (λ n. list_any (λ (l : Live). l.itt == n) c.self.inside.live.items) c.itt.ensures
+    ∙ ap (λ (s : Core). list_any (λ (l : Live). l.itt == itt c.args.request.now) s.live) c.self.view_is
+    ∙ c.requires.unused
 
 pub invariant_of-self : goal.invariant_of-self
 invariant_of-self c =
@@ -102,13 +115,13 @@ invariant_of-self c =
     let counted : c.self.inside.entered + count_by is_some w.places < c.self.inside.taken = subst (λ (s : Core). s.entered + count_by is_some s.window.places < s.taken) (sym c.self.view_is) c.requires.counted in
     let old : List Members = c.self.inside.sets.items in
     let inside : c.args.unit < length old = omega (arith, c.requires.unit, ap (λ (s : Core). length s.sets) c.self.view_is) in
-    let l : Live = live_of (c.self.inside.entered + 1) c.args.unit c.conn.result c.itt-2.result c.immediate.result in
-    let task : Task = task_of (c.self.inside.entered + 1) c.conn-2.result c.itt-3.result c.attr_of-attr.result c.immediate-2.result (to_z w64 (of_z w64 c.position-pos.result)) c.event-event.result in
+    let l : Live = live_of (c.self.inside.entered + 1) c.args.unit c.conn.result c.itt.result c.immediate.result in
+    let task : Task = task_of (c.self.inside.entered + 1) c.conn-2.result c.itt-2.result c.attr_of-attr.result c.immediate-2.result (to_z w64 (of_z w64 c.position-pos.result)) c.event-event.result in
     let new : List Members = set old c.args.unit (given_by (entered_to (get_or old c.args.unit (opened 0)) task)) in
     let returned : c.enter.new.sets ≡ new = c.enter.ensures.sets ∙ ap (λ (ms : List Members). set ms c.args.unit (given_by (entered_to (get_or ms c.args.unit (opened 0)) task))) c.deref_mut.ensures.value in
     let long : length new ≡ length old = length-set old c.args.unit (given_by (entered_to (get_or old c.args.unit (opened 0)) task)) in
     let now : take c.self.inside.sets.len (c.enter.new.sets ++ drop (length c.enter.new.sets) old) ≡ new = written c.self.inside.sets.len c.enter.new.sets old (ap length returned ∙ long) c.self.inside.sets.ok.0 ∙ returned in
-    let lives : c.push_back_reserved.new.self.items ≡ c.self.inside.live.items ++ l ∷ [] = c.push_back_reserved.ensures.items in
+    let lives : c.push.new.self.items ≡ c.self.inside.live.items ++ l ∷ [] = ap (λ (q : Queued Live). q.items) c.push.ensures in
     let immediate_is : c.immediate.result ≡ is_immediate r = c.immediate.ensures in
     let counts : (cid : ℕ) → counted_on cid c.self.inside.connections.conns c.begin.new.connections.immediate ≡ counted_on cid c.self.inside.connections.conns c.self.inside.connections.immediate + cond (l.immediate && l.conn == cid) 1 0 = λ cid.
     c.begin.ensures.counted cid
@@ -117,29 +130,28 @@ invariant_of-self c =
     let room : c.immediate.result ≡ true → immediate_in c.self.inside.live.items c.conn.result < 8 = λ yes.
     subst (λ k. immediate_in c.self.inside.live.items k < 8) (sym c.conn.ensures) (subst (λ (s : Core). immediate_in s.live (connection_of r) < 8) (sym c.self.view_is) (c.requires.few (sym immediate_is ∙ yes))) in
     let known : is_known c.conn.result c.self.inside.connections.conns ≡ true = ap (λ n. is_known n c.self.inside.connections.conns) c.conn.ensures ∙ ap (λ (s : Core). is_known (connection_of r) s.conns) c.self.view_is ∙ c.requires.known in
-    let commands = entered_sound inv.commands (get nat_eq c.take_up.new.tags) l lives refl inside known (omega (arith, inv.commands.numbered, unfinished, ap {B = ℕ} (λ b. cond (not b) 1 0) immediate_is)) (ap length now ∙ long)
+    let commands = entered_sound inv.commands l lives refl inside known (omega (arith, inv.commands.numbered, unfinished, ap {B = ℕ} (λ b. cond (not b) 1 0) immediate_is)) (ap length now ∙ long)
     (subst (λ (ms : List Members). Match ms (c.self.inside.live.items ++ l ∷ [])) (sym now) (Match-entered old c.self.inside.live.items l task inv.commands.in_sets inside refl))
-    c.take_up.ensures.indexed (ap (get nat_eq c.take_up.new.tags) (c.itt-2.ensures ∙ sym c.itt.ensures) ∙ c.take_up.ensures.taken)
     (AreCounted-entered c.self.inside.connections.immediate c.begin.new.connections.immediate c.self.inside.connections.conns c.self.inside.live.items l inv.commands.counted c.begin.ensures.long counts room) in
-    commands_sound_on inv (ap (λ (x : Connected). x.conns) c.begin.ensures.connections) (places_sound inv.window places turned fits (omega (arith, counted))) commands places (ap length now ∙ long) (omega (arith, c.push_back_reserved.ensures.capacity)) (omega (arith, c.take_up.ensures.room))
+    commands_sound_on inv (ap (λ (x : Connected). x.conns) c.begin.ensures.connections) (places_sound inv.window places turned fits (omega (arith, counted))) commands places (ap length now ∙ long) (let same = ap (λ (q : Queued Live). q.room) c.push.ensures in omega (arith, same))
 
 pub returns-clause-session : goal.returns-clause-session
 returns-clause-session c =
     let r : Request = c.args.request.now in
     let s : Core = record { window = c.self.inside.window; events = c.self.inside.events; conns = c.self.inside.connections.conns; entered = c.self.inside.entered; taken = c.self.inside.taken; live = c.self.inside.live.items; sets = c.self.inside.sets.items; level = c.self.inside.level; arrived = c.self.inside.arrived.items; waiting = c.self.inside.waiting.items; open_conns = c.self.inside.connections.open_conns } in
     let old : List Members = c.self.inside.sets.items in
-    let task : Task = task_of (c.self.inside.entered + 1) c.conn-2.result c.itt-3.result c.attr_of-attr.result c.immediate-2.result (to_z w64 (of_z w64 c.position-pos.result)) c.event-event.result in
+    let task : Task = task_of (c.self.inside.entered + 1) c.conn-2.result c.itt-2.result c.attr_of-attr.result c.immediate-2.result (to_z w64 (of_z w64 c.position-pos.result)) c.event-event.result in
     let new : List Members = set old c.args.unit (given_by (entered_to (get_or old c.args.unit (opened 0)) task)) in
     let returned : c.enter.new.sets ≡ new = c.enter.ensures.sets ∙ ap (λ (ms : List Members). set ms c.args.unit (given_by (entered_to (get_or ms c.args.unit (opened 0)) task))) c.deref_mut.ensures.value in
     let long : length new ≡ length old = length-set old c.args.unit (given_by (entered_to (get_or old c.args.unit (opened 0)) task)) in
     let now : take c.self.inside.sets.len (c.enter.new.sets ++ drop (length c.enter.new.sets) old) ≡ new = written c.self.inside.sets.len c.enter.new.sets old (ap length returned ∙ long) c.self.inside.sets.ok.0 ∙ returned in
-    let same : task ≡ new_task s r = task_is s r c.conn-2.result c.itt-3.result c.attr_of-attr.result c.immediate-2.result (to_z w64 (of_z w64 c.position-pos.result)) c.event-event.result c.conn-2.ensures c.itt-3.ensures (c.attr_of-attr.ensures ∙ ap attr_of c.attr.ensures) c.immediate-2.ensures
+    let same : task ≡ new_task s r = task_is s r c.conn-2.result c.itt-2.result c.attr_of-attr.result c.immediate-2.result (to_z w64 (of_z w64 c.position-pos.result)) c.event-event.result c.conn-2.ensures c.itt-2.ensures (c.attr_of-attr.ensures ∙ ap attr_of c.attr.ensures) c.immediate-2.ensures
     (to_z-of_z w64 c.position-pos.result (search rules) ∙ c.position-pos.ensures ∙ ap (λ (t : Core). pos (number_by t r) -ℤ pos (number_of_first t.window.first)) (sym c.self.view_is)) (c.event-event.ensures ∙ ap (λ (t : Core). event_by t r) (sym c.self.view_is)) in
-    let lives : c.push_back_reserved.new.self.items ≡ s.live ++ new_live s r c.args.unit ∷ [] = c.push_back_reserved.ensures.items ∙ ap (λ (l : Live). s.live ++ l ∷ []) (live_is s r c.args.unit c.conn.result c.itt-2.result c.immediate.result c.conn.ensures c.itt-2.ensures c.immediate.ensures) in
+    let lives : c.push.new.self.items ≡ s.live ++ new_live s r c.args.unit ∷ [] = ap (λ (q : Queued Live). q.items) c.push.ensures ∙ ap (λ (l : Live). s.live ++ l ∷ []) (live_is s r c.args.unit c.conn.result c.itt.result c.immediate.result c.conn.ensures c.itt.ensures c.immediate.ensures) in
     let made_on : Connected → Received → List Live → List Members → Core = λ x w ls ms. record { window = w; events = s.events; conns = x.conns; entered = s.entered + 1; taken = s.taken; live = ls; sets = ms; level = s.level; arrived = s.arrived; waiting = s.waiting; open_conns = x.open_conns } in
     let made : Received → List Live → List Members → Core = made_on c.self.inside.connections in
-    ap (λ (x : Connected). made_on x c.begin.new.window c.push_back_reserved.new.self.items (take c.self.inside.sets.len (c.enter.new.sets ++ drop (length c.enter.new.sets) old))) c.begin.ensures.connections
-    ∙ ap (λ (w : Received). made w c.push_back_reserved.new.self.items (take c.self.inside.sets.len (c.enter.new.sets ++ drop (length c.enter.new.sets) old))) c.begin.ensures.window
+    ap (λ (x : Connected). made_on x c.begin.new.window c.push.new.self.items (take c.self.inside.sets.len (c.enter.new.sets ++ drop (length c.enter.new.sets) old))) c.begin.ensures.connections
+    ∙ ap (λ (w : Received). made w c.push.new.self.items (take c.self.inside.sets.len (c.enter.new.sets ++ drop (length c.enter.new.sets) old))) c.begin.ensures.window
     ∙ ap (λ (ls : List Live). made (started s.window r) ls (take c.self.inside.sets.len (c.enter.new.sets ++ drop (length c.enter.new.sets) old))) lives
     ∙ ap (made (started s.window r) (s.live ++ new_live s r c.args.unit ∷ [])) (now ∙ ap (λ (t : Task). set old c.args.unit (given_by (entered_to (get_or old c.args.unit (opened 0)) t))) same)
     ∙ ap (λ (t : Core). with_command t r c.args.unit) c.self.view_is
@@ -149,8 +161,8 @@ returns-clause-effects c =
     let r : Request = c.args.request.now in
     let s : Core = record { window = c.self.inside.window; events = c.self.inside.events; conns = c.self.inside.connections.conns; entered = c.self.inside.entered; taken = c.self.inside.taken; live = c.self.inside.live.items; sets = c.self.inside.sets.items; level = c.self.inside.level; arrived = c.self.inside.arrived.items; waiting = c.self.inside.waiting.items; open_conns = c.self.inside.connections.open_conns } in
     let old : List Members = c.self.inside.sets.items in
-    let task : Task = task_of (c.self.inside.entered + 1) c.conn-2.result c.itt-3.result c.attr_of-attr.result c.immediate-2.result (to_z w64 (of_z w64 c.position-pos.result)) c.event-event.result in
-    let same : task ≡ new_task s r = task_is s r c.conn-2.result c.itt-3.result c.attr_of-attr.result c.immediate-2.result (to_z w64 (of_z w64 c.position-pos.result)) c.event-event.result c.conn-2.ensures c.itt-3.ensures (c.attr_of-attr.ensures ∙ ap attr_of c.attr.ensures) c.immediate-2.ensures
+    let task : Task = task_of (c.self.inside.entered + 1) c.conn-2.result c.itt-2.result c.attr_of-attr.result c.immediate-2.result (to_z w64 (of_z w64 c.position-pos.result)) c.event-event.result in
+    let same : task ≡ new_task s r = task_is s r c.conn-2.result c.itt-2.result c.attr_of-attr.result c.immediate-2.result (to_z w64 (of_z w64 c.position-pos.result)) c.event-event.result c.conn-2.ensures c.itt-2.ensures (c.attr_of-attr.ensures ∙ ap attr_of c.attr.ensures) c.immediate-2.ensures
     (to_z-of_z w64 c.position-pos.result (search rules) ∙ c.position-pos.ensures ∙ ap (λ (t : Core). pos (number_by t r) -ℤ pos (number_of_first t.window.first)) (sym c.self.view_is)) (c.event-event.ensures ∙ ap (λ (t : Core). event_by t r) (sym c.self.view_is)) in
     let enabled : Task → List Effect = λ t. enable_effect c.args.unit (next_in (entered_to (get_or old c.args.unit (opened 0)) t).list) in
     c.enter.ensures.effects

@@ -8,7 +8,7 @@ use Rattle.iscsi_tasks.specs.Sets.{Members, opened, tasks_in, left_by}
 use Rattle.iscsi_history.specs.declared.effect.Effect.{Effect}
 use Rattle.iscsi_history.specs.declared.effect.Effect.TheVariants.{Leave}
 use Rattle.iscsi_session.specs.declared.session.leaving.Choice.{Choice}
-use Rattle.iscsi_session.specs.declared.session.live.Live.{Live}
+use Rattle.iscsi_commands.specs.declared.live.Live.{Live}
 use Rattle.iscsi_connections.specs.Connected.{Connected}
 use Rattle.iscsi_session.specs.Standing.{Core, Match, are_ascending}
 use Rattle.iscsi_session.specs.Steps.{AreCounted, is_numbered, set_at, without_ticket}
@@ -202,4 +202,4 @@ invariant_of-self-2 c =
     let long : length new ≡ length c.self.inside.sets.items = length-set s.sets u (less (set_at s u) k) in
     let commands = left_sound inv.commands k c.end.ensures.live (omega (arith, ap (λ (x : Received). x.unfinished) c.end.ensures.window, inv.commands.numbered)) (ap length now ∙ long) (subst (λ (ms : List Members). Match ms (without_ticket k lives)) (sym now) t.leaving.matches)
     (subst (λ (ls : List Live). AreCounted c.end.new.connections.immediate c.self.inside.connections.conns ls) c.end.ensures.live c.end.ensures.counted) in
-    commands_sound_on inv (ap (λ (x : Connected). x.conns) c.end.ensures.connections) (places_sound inv.window places turned (omega (arith, inv.window.fits, ap (λ (x : Received). x.unfinished) c.end.ensures.window, less_numbered)) inv.window.entered) commands places (ap length now ∙ long) (omega (arith, c.end.ensures.capacity)) (omega arith)
+    commands_sound_on inv (ap (λ (x : Connected). x.conns) c.end.ensures.connections) (places_sound inv.window places turned (omega (arith, inv.window.fits, ap (λ (x : Received). x.unfinished) c.end.ensures.window, less_numbered)) inv.window.entered) commands places (ap length now ∙ long) (omega (arith, c.end.ensures.room))

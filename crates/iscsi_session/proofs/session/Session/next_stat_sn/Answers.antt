@@ -1,15 +1,14 @@
-use Rattle.std.proofs.Common.{◌∙◌, refl, ap, sym, subst, nat_eq, deque_capacity, vec_capacity}
-use Rattle.std.specs.HashMap.{get}
+use Rattle.std.proofs.Common.{◌∙◌, refl, ap, sym, subst, deque_capacity, vec_capacity}
 use Rattle.iscsi_connections.specs.Connected.{Connected}
 use Rattle.iscsi_session.specs.Standing.{Core}
-use Rattle.iscsi_session.specs.Steps.{count_reply, tag_room}
+use Rattle.iscsi_session.specs.Steps.{count_reply}
 use Rattle.iscsi_session.specs.Invariant.{Inner, IsSessionSound}
 use Rattle.iscsi_session.proofs.SoundLemmas.{replied_sound}
 use Rattle.iscsi_session.proofs.session.Session.next_stat_sn.Goals as goal
 
 pub invariant_of-self : goal.invariant_of-self
 invariant_of-self c =
-    let old : Inner = record { window = c.self.inside.window; held = c.self.inside.held; events = c.self.inside.events; conns = c.self.inside.connections.conns; entered = c.self.inside.entered; taken = c.self.inside.taken; live = c.self.inside.live.items; tickets = get nat_eq c.self.inside.tags; immediate = c.self.inside.connections.immediate; sets = c.self.inside.sets.items; arrived = c.self.inside.arrived.items; waiting = c.self.inside.waiting.items; live_room = deque_capacity c.self.inside.live; tag_room = tag_room c.self.inside.tags; arrived_room = deque_capacity c.self.inside.arrived; waiting_room = vec_capacity c.self.inside.waiting } in
+    let old : Inner = record { window = c.self.inside.window; held = c.self.inside.held; events = c.self.inside.events; conns = c.self.inside.connections.conns; entered = c.self.inside.entered; taken = c.self.inside.taken; live = c.self.inside.live.items; immediate = c.self.inside.connections.immediate; sets = c.self.inside.sets.items; arrived = c.self.inside.arrived.items; waiting = c.self.inside.waiting.items; live_room = c.self.inside.live.room; arrived_room = deque_capacity c.self.inside.arrived; waiting_room = vec_capacity c.self.inside.waiting } in
     subst (λ (x : Connected). IsSessionSound (record old { conns = x.conns; immediate = x.immediate })) (sym c.take_stat_sn.ensures.state)
     (replied_sound c.self.invariant c.args.cid refl)
 

@@ -1,7 +1,8 @@
 use Rattle.std.proofs.Common.{◌≡◌, ◌∙◌, ◌+◌, ◌-◌, ◌≤◌, ◌==◌, ℕ, not, cond, true, false, Some, List, count_by, ap, sym, subst, arith}
 use Rattle.std.proofs.lemmas.Bool.{eqb-true}
 use Rattle.iscsi_window.specs.Windows.{Received, with_unfinished}
-use Rattle.iscsi_session.specs.declared.session.live.Live.{Live}
+use Rattle.iscsi_queue.specs.Queued.{Queued}
+use Rattle.iscsi_commands.specs.declared.live.Live.{Live}
 use Rattle.iscsi_history.specs.Settings.{is_known}
 use Rattle.iscsi_session.specs.Steps.{AreCounted, is_numbered, finished, find_ticket, without_ticket}
 use Rattle.iscsi_history.proofs.ListLemmas.{find-passes}
@@ -55,5 +56,5 @@ returns-clause-counted c =
     let l : Live = c.unwrap-command.result in
     let lives : List Live = c.args.live.now.items in
     let e : Ended lives c.args.ticket l = ended lives c.args.ticket l (sym c.find.ensures ∙ c.unwrap-command.ensures) in
-    subst (λ (ls : List Live). AreCounted c.finish.new.connections.immediate c.args.connections.now.conns ls) (ap (λ k. without_ticket k lives) e.is ∙ sym c.remove.ensures.items)
+    subst (λ (ls : List Live). AreCounted c.finish.new.connections.immediate c.args.connections.now.conns ls) (ap (λ k. without_ticket k lives) e.is ∙ sym (ap (λ (q : Queued Live). q.items) c.remove.ensures))
     (AreCounted-left c.args.connections.now.immediate c.finish.new.connections.immediate c.args.connections.now.conns lives l c.requires.counted c.finish.ensures.long c.finish.ensures.counted c.requires.ascending e.found)

@@ -1,0 +1,47 @@
+use Rattle.std.proofs.Common.{◌≡◌, ◌<◌, ◌≤◌, ◌==◌, ◌++◌, [], ◌∷◌, ℕ, false, length, get_or, All, ap, sym, subst, ◌∙◌, arith}
+use Rattle.std.specs.List.{insert, list_any}
+use Rattle.iscsi_queue.specs.Queued.{Queued, queued}
+use Rattle.iscsi_queue.specs.Slots.{Slotted}
+use Rattle.iscsi_queue.proofs.ShareLemmas.{free_within, values_with}
+use Rattle.iscsi_commands.specs.declared.live.Live.{Live}
+use Rattle.iscsi_commands.specs.Kept.{BLANK, commands, AreKept}
+use Rattle.iscsi_commands.proofs.KeptLemmas.{length-commands, tag_within}
+use Rattle.iscsi_commands.proofs.TagLemmas.{kept_with}
+use Rattle.iscsi_commands.proofs.commands.Commands.push.Goals as goal
+
+pub first_from-at-requires-clause-within : goal.first_from-at-requires-clause-within
+first_from-at-requires-clause-within c = tag_within c.self.invariant
+
+pub put-slot-requires-clause-within : goal.put-slot-requires-clause-within
+put-slot-requires-clause-within c = free_within c.self.invariant.shared
+
+pub invariant_of-self : goal.invariant_of-self
+invariant_of-self c =
+    let slots = c.self.inside.slots.values in
+    let order = c.self.inside.by_ticket.items in
+    let tags = c.self.inside.by_tag.items in
+    let at = c.first_from-at.result in
+    let long = length-commands slots order in
+    let l = subst (λ (q : Queued Live). length q.items < q.room) (sym c.self.view_is) c.requires.room in
+    let few : length order < c.self.inside.slots.room = omega (arith, l, long) in
+    let newest = subst (λ (q : Queued Live). All (λ x. x.ticket < c.args.command.ticket) q.items) (sym c.self.view_is) c.requires.newest in
+    let unused = subst (λ (q : Queued Live). list_any (λ x. x.itt == c.args.command.itt) q.items ≡ false) (sym c.self.view_is) c.requires.unused in
+    let found = c.first_from-at.ensures in
+    let below = subst (λ n. (k : ℕ) (d : Live) → k < at → (get_or (commands slots tags) k d).itt < n) c.from.ensures found.below in
+    let above = subst (λ n. (k : ℕ) (d : Live) → at ≤ k → k < length tags → n ≤ (get_or (commands slots tags) k d).itt) c.from.ensures found.above in
+    subst (λ n. AreKept c.put-slot.new.self.values c.put-slot.new.self.free c.push.new.self.items c.insert.new.self.items n c.push.new.self.room c.insert.new.self.room) (sym c.put-slot.ensures.room)
+    (subst (λ (o : Queued ℕ). AreKept c.put-slot.new.self.values c.put-slot.new.self.free o.items c.insert.new.self.items c.self.inside.slots.room o.room c.insert.new.self.room) (sym c.push.ensures)
+    (subst (λ (o : Queued ℕ). AreKept c.put-slot.new.self.values c.put-slot.new.self.free (order ++ c.put-slot.result ∷ []) o.items c.self.inside.slots.room c.self.inside.by_ticket.room o.room) (sym c.insert.ensures)
+    (kept_with c.self.invariant c.args.command few c.put-slot.ensures.slot newest unused at found.within below above)))
+
+pub returns : goal.returns
+returns c =
+    let slots = c.self.inside.slots.values in
+    let order = c.self.inside.by_ticket.items in
+    let long = length-commands slots order in
+    let l = subst (λ (q : Queued Live). length q.items < q.room) (sym c.self.view_is) c.requires.room in
+    let few : length order < c.self.inside.slots.room = omega (arith, l, long) in
+    ap (λ (o : Queued ℕ). queued (commands c.put-slot.new.self.values o.items) c.put-slot.new.self.room) c.push.ensures
+    ∙ ap (λ n. queued (commands c.put-slot.new.self.values (order ++ c.put-slot.result ∷ [])) n) c.put-slot.ensures.room
+    ∙ ap (λ xs. queued xs c.self.inside.slots.room) (values_with BLANK c.self.invariant.shared few c.args.command c.put-slot.ensures.slot)
+    ∙ ap (λ (q : Queued Live). queued (q.items ++ c.args.command ∷ []) q.room) c.self.view_is

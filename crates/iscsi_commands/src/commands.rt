@@ -1,0 +1,162 @@
+//! The live commands.
+
+ghost use Rattle.std.specs.Prelude.{◌≡◌, ◌==◌, ◌<◌, ◌≤◌, ◌++◌, [], ◌∷◌, ℕ, false, length, slice_index_or, All, IfOk};
+ghost use Rattle.std.specs.List.{remove, list_any};
+ghost use Rattle.iscsi_queue.specs.Queued.{queued};
+ghost use Rattle.iscsi_commands.specs.Commands.{AreAscending, AreTagsApart, IsTicketPlace, find_ticket, find_tag, without_ticket};
+ghost use Rattle.iscsi_commands.specs.Kept.{IsSortedBy, commands, key_of};
+
+use crate::key::Key;
+use crate::live::Live;
+use iscsi_queue::{Order, Slots};
+use std::alloc::{AllocError, Global};
+use std::marker::Model;
+
+/// The live commands, in the order in which they entered. No two have the same tag.
+///
+/// A command keeps its slot until it is taken out. Its place in either order is found by binary search, so the cost of a call
+/// is bounded for any tags that an initiator chooses.
+#[derive(Drop)]
+pub struct Commands {
+    slots: Slots<Live>,
+    by_ticket: Order,
+    by_tag: Order,
+}
+
+impl Model for Commands {
+    ghost use Rattle.iscsi_queue.specs.Queued.{Queued, queued};
+    ghost use Rattle.iscsi_commands.specs.declared.live.Live.{Live};
+    ghost use Rattle.iscsi_commands.specs.Kept.{commands, AreKept};
+
+    ghost Value = { Queued Live };
+
+    ghost view = { λ c. queued (commands c.slots.values c.by_ticket.items) c.slots.room };
+
+    ghost invariant = { λ c. AreKept c.slots.values c.slots.free c.by_ticket.items c.by_tag.items c.slots.room c.by_ticket.room c.by_tag.room };
+}
+
+impl Commands {
+    /// None yet, with room for so many, 65,535 at the most.
+    pub fn with_room(alloc: Global, room: usize) -> Result<Commands, AllocError>
+        requires { room ≤ 65535 }
+        ensures { IfOk result (λ c. c ≡ queued [] room) }
+    {
+        Ok(Commands {
+            slots: Slots::with_room(alloc, room)?,
+            by_ticket: Order::with_room(alloc, room)?,
+            by_tag: Order::with_room(alloc, room)?,
+        })
+    }
+
+    /// How many commands are live.
+    pub fn len(&self) -> usize
+        ensures len { result ≡ length self.now.items }
+        ensures within { length self.now.items ≤ self.now.room }
+        ensures ascending { AreAscending self.now.items }
+    {
+        self.by_ticket.len()
+    }
+
+    /// The command at a place, the oldest one's being 0.
+    pub fn at(&self, k: usize) -> &Live
+        requires { k < length self.now.items }
+        ensures { (d : Live) → result.now ≡ slice_index_or self.now.items k d }
+    {
+        self.slots.at(self.by_ticket.at(k))
+    }
+
+    /// The place of the command with this ticket. The oldest one, which most that are completed are, is found at once.
+    pub fn place(&self, ticket: u64) -> Option<usize>
+        ensures place { IsTicketPlace self.now.items ticket result }
+        ensures ascending { AreAscending self.now.items }
+    {
+        if self.len() > 0 && self.at(0).ticket == ticket {
+            return Some(0);
+        }
+        let at = first_from(&self.by_ticket, &self.slots, Key::Ticket, ticket);
+        if at < self.len() && self.at(at).ticket == ticket {
+            Some(at)
+        } else {
+            None
+        }
+    }
+
+    /// The command with this ticket.
+    pub fn find(&self, ticket: u64) -> Option<Live>
+        ensures { result ≡ find_ticket ticket self.now.items }
+    {
+        let at = self.place(ticket)?;
+        Some(*self.at(at))
+    }
+
+    /// The command with this Initiator Task Tag.
+    pub fn find_tagged(&self, itt: u32) -> Option<Live>
+        ensures command { result ≡ find_tag itt self.now.items }
+        ensures alone { AreTagsApart self.now.items }
+    {
+        let at = first_from(&self.by_tag, &self.slots, Key::Tag, u64::from(itt));
+        if at < self.by_tag.len() {
+            let command = self.slots.at(self.by_tag.at(at));
+            if command.itt == itt {
+                return Some(*command);
+            }
+        }
+        None
+    }
+
+    /// A command enters. Its ticket is greater than all others', and no other one has its tag.
+    pub fn push(&mut self, command: Live)
+        requires room { length self.old.items < self.old.room }
+        requires newest { All (λ l. l.ticket < command.ticket) self.old.items }
+        requires unused { list_any (λ l. l.itt == command.itt) self.old.items ≡ false }
+        ensures { self.new ≡ queued (self.old.items ++ command ∷ []) self.old.room }
+    {
+        let at = first_from(&self.by_tag, &self.slots, Key::Tag, u64::from(command.itt));
+        let slot = self.slots.put(command);
+        self.by_ticket.push(slot);
+        self.by_tag.insert(at, slot);
+    }
+
+    /// The command at a place leaves.
+    pub fn remove_at(&mut self, k: usize)
+        requires { k < length self.old.items }
+        ensures { self.new ≡ queued (remove self.old.items k) self.old.room }
+    {
+        let slot = self.by_ticket.at(k);
+        let itt = self.slots.at(slot).itt;
+        let at = first_from(&self.by_tag, &self.slots, Key::Tag, u64::from(itt));
+        self.by_ticket.remove(k);
+        self.by_tag.remove(at);
+        self.slots.give_back(slot);
+    }
+
+    /// The command with this ticket leaves, if there is one.
+    pub fn remove(&mut self, ticket: u64)
+        ensures { self.new ≡ queued (without_ticket ticket self.old.items) self.old.room }
+    {
+        if let Some(at) = self.place(ticket) {
+            self.remove_at(at);
+        }
+    }
+}
+
+/// How many commands of an order have a lower key.
+fn first_from(order: &Order, slots: &Slots<Live>, by: Key, key: u64) -> usize
+    requires within { (k : ℕ) → k < length order.now.items → slice_index_or order.now.items k 0 < length slots.now.values }
+    requires sorted { IsSortedBy by slots.now.values order.now.items }
+    ensures within { result ≤ length order.now.items }
+    ensures below { (k : ℕ) (d : Live) → k < result → key_of by (slice_index_or (commands slots.now.values order.now.items) k d) < key }
+    ensures above { (k : ℕ) (d : Live) → result ≤ k → k < length order.now.items → key ≤ key_of by (slice_index_or (commands slots.now.values order.now.items) k d) }
+{
+    let mut low = 0;
+    let mut high = order.len();
+    while low < high {
+        let middle = low + (high - low) / 2;
+        if by.of(slots.at(order.at(middle))) < key {
+            low = middle + 1;
+        } else {
+            high = middle;
+        }
+    }
+    low
+}

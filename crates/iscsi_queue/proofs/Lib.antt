@@ -1,0 +1,5 @@
+pub mod SlotLemmas
+pub mod ShareLemmas
+pub mod PlaceLemmas
+pub mod HalvingLemmas
+pub mod SortedLemmas

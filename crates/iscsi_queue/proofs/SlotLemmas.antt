@@ -1,0 +1,113 @@
+-- The slots of a queue, and the values in them.
+use Rattle.std.proofs.Common.{◌≡◌, ◌≢◌, ℕ, zero, suc, ◌+◌, ◌<◌, ◌≤◌, ◌==◌, cond, Bool, true, false, List, [], ◌∷◌, ◌++◌, length, map, take, drop, get_or, set, refl, ap, sym, subst, ◌∙◌, arith, ⊎_elim, eq-eqb, ne_eqb, drop-drop}
+use Rattle.std.specs.List.{remove, insert}
+use Rattle.std.proofs.lemmas.Bool.{cases_eq, cases_lt}
+use Rattle.std.proofs.lemmas.List.{get_or-set_other, get_or-set_same, get_or_append_left}
+use Rattle.iscsi_queue.specs.Slots.{times, values}
+
+-- a slot that stands first is counted
+times_first : (slot : ℕ) (order : List ℕ) → times slot (slot ∷ order) ≡ 1 + times slot order
+times_first slot order = ap (λ b. cond b 1 0 + times slot order) (eq-eqb slot slot refl)
+
+times_apart : (slot s : ℕ) (order : List ℕ) → s ≢ slot → times slot (s ∷ order) ≡ times slot order
+times_apart slot s order ne = let step : times slot (s ∷ order) ≡ cond false 1 0 + times slot order = ap (λ b. cond b 1 0 + times slot order) (ne_eqb s slot ne) in omega (arith, step)
+
+-- a slot that stands somewhere is counted
+pub times_at : (order : List ℕ) (k : ℕ) → k < length order → 1 ≤ times (get_or order k 0) order
+times_at [] k within = absurd (omega arith)
+times_at (s ∷ order) zero within = let first = times_first s order in omega (arith, first)
+times_at (s ∷ order) (suc k) within =
+    let rest = times_at order k (omega arith) in
+    let slot : ℕ = get_or order k 0 in
+    ⊎_elim
+    (λ same. subst (λ n. 1 ≤ times n (s ∷ order)) same (let first = times_first s order in omega (arith, first)))
+    (λ apart. let more = times_apart slot s order apart in omega (arith, more, rest))
+    (cases_eq s slot)
+
+module _ {X : Type 0} (blank : X) (slots : List X) where
+  -- what is written into a slot isn't seen by the others
+  pub values_other : (slot : ℕ) (value : X) (order : List ℕ) → times slot order ≡ 0 → values blank (set slots slot value) order ≡ values blank slots order
+  values_other slot value [] none = refl
+  values_other slot value (s ∷ order) none = ⊎_elim
+      (λ same. absurd (let first = times_first s order in let is : times s (s ∷ order) ≡ 0 = subst (λ n. times n (s ∷ order) ≡ 0) (sym same) none in omega (arith, first, is)))
+      (λ apart. let more = times_apart slot s order apart in
+      ap (λ x. x ∷ values blank (set slots slot value) order) (get_or-set_other slots slot s value blank apart) ∙ ap (λ xs. get_or slots s blank ∷ xs) (values_other slot value order (omega (arith, more, none))))
+      (cases_eq s slot)
+
+  -- the value of a slot is written
+  pub values_written : (value : X) (order : List ℕ) (k : ℕ) → k < length order → times (get_or order k 0) order ≤ 1 → get_or order k 0 < length slots → values blank (set slots (get_or order k 0) value) order ≡ set (values blank slots order) k value
+  values_written value [] k within once here = absurd (omega arith)
+  values_written value (s ∷ order) zero within once here =
+      let first = times_first s order in
+      ap (λ x. x ∷ values blank (set slots s value) order) (get_or-set_same slots s value blank here) ∙ ap (λ xs. value ∷ xs) (values_other s value order (omega (arith, first, once)))
+  values_written value (s ∷ order) (suc k) within once here =
+      let slot : ℕ = get_or order k 0 in
+      let there = times_at order k (omega arith) in
+      ⊎_elim
+      (λ same. absurd (let first = times_first s order in let both : times s (s ∷ order) ≤ 1 = subst (λ n. times n (s ∷ order) ≤ 1) (sym same) once in let one : 1 ≤ times s order = subst (λ n. 1 ≤ times n order) (sym same) there in omega (arith, first, both, one)))
+      (λ apart. let more = times_apart slot s order apart in
+      ap (λ x. x ∷ values blank (set slots slot value) order) (get_or-set_other slots slot s value blank apart) ∙ ap (λ xs. get_or slots s blank ∷ xs) (values_written value order k (omega arith) (omega (arith, more, once)) here))
+      (cases_eq s slot)
+
+-- ---- lists of slots
+
+pub times_append : (slot : ℕ) (xs ys : List ℕ) → times slot (xs ++ ys) ≡ times slot xs + times slot ys
+times_append slot [] ys = omega arith
+times_append slot (x ∷ xs) ys = let rest = times_append slot xs ys in omega (arith, rest)
+
+pub times_remove : (slot : ℕ) (xs : List ℕ) (k : ℕ) → k < length xs → times slot xs ≡ times slot (remove xs k) + times slot (get_or xs k 0 ∷ [])
+times_remove slot [] k within = absurd (omega arith)
+times_remove slot (x ∷ xs) zero within = omega arith
+times_remove slot (x ∷ xs) (suc k) within = let rest = times_remove slot xs k (omega arith) in omega (arith, rest)
+
+pub map-remove : {X Y : Type 0} (f : X → Y) (xs : List X) (k : ℕ) → map f (remove xs k) ≡ remove (map f xs) k
+map-remove f [] zero = refl
+map-remove f [] (suc k) = refl
+map-remove f (x ∷ xs) zero = refl
+map-remove f (x ∷ xs) (suc k) = ap (λ ys. f x ∷ ys) (map-remove f xs k)
+
+pub drop-remove : {X : Type 0} (xs : List X) (n k : ℕ) → n + k < length xs → drop n (remove xs (n + k)) ≡ remove (drop n xs) k
+drop-remove xs zero k within = let same : 0 + k ≡ k = omega arith in ap (remove xs) same
+drop-remove [] (suc n) k within = absurd (omega arith)
+drop-remove (x ∷ xs) (suc n) k within =
+    let same : suc n + k ≡ suc (n + k) = omega arith in
+    ap (λ i. drop (suc n) (remove (x ∷ xs) i)) same ∙ drop-remove xs n k (omega arith)
+
+module _ {X : Type 0} (blank : X) (slots : List X) where
+  -- the values of slots that were there are the same behind a new one
+  pub values_added : (value : X) (order : List ℕ) → ((slot : ℕ) → length slots ≤ slot → times slot order ≡ 0) → values blank (slots ++ value ∷ []) order ≡ values blank slots order
+  values_added value [] none = refl
+  values_added value (s ∷ order) none =
+      let here : s < length slots = ⊎_elim (λ below. below) (λ above. let first = times_first s order in let is = none s above in absurd (omega (arith, first, is))) (cases_lt s (length slots)) in
+      ap (λ x. x ∷ values blank (slots ++ value ∷ []) order) (get_or_append_left slots (value ∷ []) blank s here)
+      ∙ ap (λ xs. get_or slots s blank ∷ xs) (values_added value order (λ slot above. let is = none slot above in omega (arith, is)))
+
+pub drop-insert : {X : Type 0} (xs : List X) (n k : ℕ) (x : X) → n + k ≤ length xs → drop n (insert xs (n + k) x) ≡ insert (drop n xs) k x
+drop-insert xs zero k x within = let same : 0 + k ≡ k = omega arith in ap (λ i. insert xs i x) same
+drop-insert [] (suc n) k x within = absurd (omega arith)
+drop-insert (y ∷ xs) (suc n) k x within =
+    let same : suc n + k ≡ suc (n + k) = omega arith in
+    ap (λ i. drop (suc n) (insert (y ∷ xs) i x)) same ∙ drop-insert xs n k x (omega arith)
+
+pub times_insert : (slot : ℕ) (xs : List ℕ) (k s : ℕ) → k ≤ length xs → times slot (insert xs k s) ≡ times slot xs + times slot (s ∷ [])
+times_insert slot xs zero s within = omega arith
+times_insert slot [] (suc k) s within = absurd (omega arith)
+times_insert slot (x ∷ xs) (suc k) s within = let rest = times_insert slot xs k s (omega (arith, within)) in omega (arith, rest)
+
+pub map-insert : {X Y : Type 0} (f : X → Y) (xs : List X) (k : ℕ) (x : X) → map f (insert xs k x) ≡ insert (map f xs) k (f x)
+map-insert f xs zero x = refl
+map-insert f [] (suc k) x = refl
+map-insert f (y ∷ xs) (suc k) x = ap (λ ys. f y ∷ ys) (map-insert f xs k x)
+
+-- a slot that is counted stands at a place
+pub record StandsAt (slot : ℕ) (order : List ℕ) : Type 0 where
+  pub place : ℕ
+  pub inside : place < length order
+  pub there : get_or order place 0 ≡ slot
+
+pub stands : (slot : ℕ) (order : List ℕ) → 1 ≤ times slot order → StandsAt slot order
+stands slot [] some = absurd (omega (arith, some))
+stands slot (s ∷ order) some = ⊎_elim
+    (λ same. record { place = 0; inside = omega arith; there = same })
+    (λ apart. let more = times_apart slot s order apart in let rest = stands slot order (omega (arith, more, some)) in record { place = suc rest.place; inside = let l = rest.inside in omega (arith, l); there = rest.there })
+    (cases_eq s slot)
