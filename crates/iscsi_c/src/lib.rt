@@ -38,10 +38,14 @@ pub extern "C" fn iscsi_c_arrive(
     cid: u16,
     header: &[u8],
 ) -> u32
-    ensures serves { (o : Setting) (h : List Event) → ServesIn o (inside session.old) h → result ≡ 0 → ServesIn o (inside session.new) (h ++ Event.Arrive cid (take 48 header.now) ∷ []) }
-    ensures answer { (o : Setting) (h : List Event) → ServesIn o (inside session.old) h → result ≡ code_of (arrival_answer o h cid header.now) }
-    ensures unchanged { (o : Setting) (h : List Event) → ServesIn o (inside session.old) h → result ≢ 0 → inside session.new ≡ inside session.old }
-    ensures not_open { inside session.old ≡ None → (inside session.new ≡ None) × (result ≡ code_of (closed_arrival_answer header.now)) }
+    ensures serves { (o : Setting) (h : List Event) → ServesIn o (inside session.old) h → result ≡ 0 →
+        ServesIn o (inside session.new) (h ++ Event.Arrive cid (take 48 header.now) ∷ []) }
+    ensures answer { (o : Setting) (h : List Event) → ServesIn o (inside session.old) h →
+        result ≡ code_of (arrival_answer o h cid header.now) }
+    ensures unchanged { (o : Setting) (h : List Event) → ServesIn o (inside session.old) h → result ≢ 0 →
+        inside session.new ≡ inside session.old }
+    ensures not_open { inside session.old ≡ None →
+        (inside session.new ≡ None) × (result ≡ code_of (closed_arrival_answer header.now)) }
 {
     session.arrive(alloc, cid, header).code()
 }
@@ -54,9 +58,12 @@ pub extern "C" fn iscsi_c_complete(
     ticket: u64,
     status: u8,
 ) -> u32
-    ensures serves { (o : Setting) (h : List Event) → ServesIn o (inside session.old) h → result ≡ 0 → ServesIn o (inside session.new) (h ++ Event.Done ticket status ∷ []) }
-    ensures answer { (o : Setting) (h : List Event) → ServesIn o (inside session.old) h → result ≡ code_of (answer_of (refusal_of o h (Event.Done ticket status))) }
-    ensures unchanged { (o : Setting) (h : List Event) → ServesIn o (inside session.old) h → result ≢ 0 → inside session.new ≡ inside session.old }
+    ensures serves { (o : Setting) (h : List Event) → ServesIn o (inside session.old) h → result ≡ 0 →
+        ServesIn o (inside session.new) (h ++ Event.Done ticket status ∷ []) }
+    ensures answer { (o : Setting) (h : List Event) → ServesIn o (inside session.old) h →
+        result ≡ code_of (answer_of (refusal_of o h (Event.Done ticket status))) }
+    ensures unchanged { (o : Setting) (h : List Event) → ServesIn o (inside session.old) h → result ≢ 0 →
+        inside session.new ≡ inside session.old }
     ensures not_open { inside session.old ≡ None → (inside session.new ≡ None) × (result ≡ code_of Answer.NotOpen) }
 {
     session.complete(alloc, ticket, status).code()

@@ -1,10 +1,10 @@
 -- The commands in the slots of an order.
-use Rattle.std.proofs.Common.{◌≡◌, ℕ, ◌+◌, ◌<◌, ◌≤◌, List, length, map, get_or, ap, sym, subst, ◌∙◌, arith}
+use Rattle.std.proofs.Common.{◌≡◌, ℕ, ◌<◌, List, length, get_or, sym, ◌∙◌, arith}
 use Rattle.std.proofs.lemmas.List.{get_or_default, get_or-map, length-map}
 use Rattle.iscsi_commands.specs.declared.live.Live.{Live}
 use Rattle.iscsi_commands.specs.Kept.{BLANK, commands, AreKept}
-use Rattle.iscsi_queue.specs.Slots.{AreShared}
-use Rattle.iscsi_queue.proofs.ShareLemmas.{order_within}
+use Rattle.iscsi_slots.specs.Slots.{AreShared}
+use Rattle.iscsi_slots.proofs.ShareLemmas.{order_within}
 
 pub length-commands : (slots : List Live) (order : List ℕ) → length (commands slots order) ≡ length order
 length-commands slots order = length-map order (λ s. get_or slots s BLANK)

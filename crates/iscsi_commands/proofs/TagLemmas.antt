@@ -1,20 +1,20 @@
 -- A command's places in the two orders.
-use Rattle.std.proofs.Common.{◌≡◌, ◌≢◌, ℕ, zero, suc, ◌+◌, ◌<◌, ◌≤◌, ◌==◌, cond, Bool, true, false, List, [], ◌∷◌, ◌++◌, length, find, get_or, All, Option, Some, None, refl, ap, sym, subst, ◌∙◌, arith, ⊎_elim, eq-eqb, ne_eqb}
+use Rattle.std.proofs.Common.{◌≡◌, ◌≢◌, ℕ, zero, suc, ◌<◌, ◌≤◌, ◌==◌, cond, Bool, true, false, List, [], ◌∷◌, ◌++◌, length, find, get_or, All, Some, None, refl, ap, sym, subst, ◌∙◌, arith, ⊎_elim, eq-eqb}
 use Rattle.std.specs.List.{list_any, remove, insert}
 use Rattle.std.proofs.lemmas.Bool.{cases_Bool, cases_eq, cases_lt, false≢true, eqb-true}
 use Rattle.std.proofs.lemmas.List.{length-append}
 use Rattle.std.proofs.lemmas.List.Edits.{length-remove, length-insert}
 use Rattle.std.proofs.lemmas.List.Folds.{list_any_at}
-use Rattle.iscsi_queue.specs.Slots.{times, values, AreShared, IsPut}
-use Rattle.iscsi_queue.specs.Places.{AreAscending}
-use Rattle.iscsi_queue.proofs.SlotLemmas.{StandsAt, stands, times_at, times_append, times_remove, times_insert, map-remove, map-insert}
-use Rattle.iscsi_queue.proofs.ShareLemmas.{shared_without, shared_with, values_with, values_same, value_put}
-use Rattle.iscsi_queue.proofs.HalvingLemmas.{not_there}
-use Rattle.iscsi_queue.proofs.SortedLemmas.{same_place, find_nowhere, pushed_up, removed_up, inserted_up}
+use Rattle.iscsi_slots.specs.Slots.{times, IsPut}
+use Rattle.iscsi_slots.specs.Places.{AreAscending}
+use Rattle.iscsi_slots.proofs.SlotLemmas.{StandsAt, stands, times_at, times_append, times_remove, times_insert, map-remove, map-insert}
+use Rattle.iscsi_slots.proofs.ShareLemmas.{shared_without, shared_with, values_with, values_same, value_put}
+use Rattle.iscsi_slots.proofs.HalvingLemmas.{not_there}
+use Rattle.iscsi_slots.proofs.SortedLemmas.{same_place, find_nowhere, pushed_up, removed_up, inserted_up}
 use Rattle.iscsi_commands.specs.declared.live.Live.{Live}
 use Rattle.iscsi_commands.specs.declared.key.Key.TheVariants.{Ticket, Tag}
 use Rattle.iscsi_commands.specs.Commands.{AreTagsApart, find_tag}
-use Rattle.iscsi_commands.specs.Kept.{BLANK, commands, key_of, IsSortedBy, AreKept}
+use Rattle.iscsi_commands.specs.Kept.{BLANK, commands, key_of, AreKept}
 use Rattle.iscsi_commands.proofs.KeptLemmas.{length-commands, command_is, tags_shared, ticket_within, tag_within}
 
 -- the first that passes, where all that pass are the same

@@ -1,10 +1,10 @@
 -- How the live commands are kept: each in a slot, and the slots in the order of the tickets and in that of the tags.
-use Rattle.std.specs.Prelude.{◌≡◌, ℕ, ◌<◌, false, List, length, slice_index_or}
+use Rattle.std.specs.Prelude.{◌≡◌, ℕ, ◌<◌, false, List, length}
 use Rattle.std.specs.List.{AllPairs}
 use Rattle.iscsi_commands.specs.declared.live.Live.{Live}
 use Rattle.iscsi_commands.specs.declared.key.Key.{Key}
 use Rattle.iscsi_commands.specs.declared.key.Key.TheVariants.{Ticket, Tag}
-use Rattle.iscsi_queue.specs.Slots.{times, values, AreShared}
+use Rattle.iscsi_slots.specs.Slots.{times, values, AreShared}
 
 abbrev pub key_of : Key → Live → ℕ
 key_of Ticket l = l.ticket

@@ -2,13 +2,13 @@
 
 ghost use Rattle.std.specs.Prelude.{◌≡◌, ◌==◌, ◌<◌, ◌≤◌, ◌++◌, [], ◌∷◌, ℕ, false, length, slice_index_or, All, IfOk};
 ghost use Rattle.std.specs.List.{remove, list_any};
-ghost use Rattle.iscsi_queue.specs.Queued.{queued};
+ghost use Rattle.iscsi_slots.specs.Queued.{queued};
 ghost use Rattle.iscsi_commands.specs.Commands.{AreAscending, AreTagsApart, IsTicketPlace, find_ticket, find_tag, without_ticket};
 ghost use Rattle.iscsi_commands.specs.Kept.{IsSortedBy, commands, key_of};
 
 use crate::key::Key;
 use crate::live::Live;
-use iscsi_queue::{Order, Slots};
+use iscsi_slots::{Order, Slots};
 use std::alloc::{AllocError, Global};
 use std::marker::Model;
 
@@ -24,7 +24,7 @@ pub struct Commands {
 }
 
 impl Model for Commands {
-    ghost use Rattle.iscsi_queue.specs.Queued.{Queued, queued};
+    ghost use Rattle.iscsi_slots.specs.Queued.{Queued, queued};
     ghost use Rattle.iscsi_commands.specs.declared.live.Live.{Live};
     ghost use Rattle.iscsi_commands.specs.Kept.{commands, AreKept};
 
@@ -32,7 +32,8 @@ impl Model for Commands {
 
     ghost view = { λ c. queued (commands c.slots.values c.by_ticket.items) c.slots.room };
 
-    ghost invariant = { λ c. AreKept c.slots.values c.slots.free c.by_ticket.items c.by_tag.items c.slots.room c.by_ticket.room c.by_tag.room };
+    ghost invariant = { λ c. AreKept c.slots.values c.slots.free c.by_ticket.items c.by_tag.items c.slots.room
+        c.by_ticket.room c.by_tag.room };
 }
 
 impl Commands {
@@ -142,11 +143,14 @@ impl Commands {
 
 /// How many commands of an order have a lower key.
 fn first_from(order: &Order, slots: &Slots<Live>, by: Key, key: u64) -> usize
-    requires within { (k : ℕ) → k < length order.now.items → slice_index_or order.now.items k 0 < length slots.now.values }
+    requires within { (k : ℕ) → k < length order.now.items →
+        slice_index_or order.now.items k 0 < length slots.now.values }
     requires sorted { IsSortedBy by slots.now.values order.now.items }
     ensures within { result ≤ length order.now.items }
-    ensures below { (k : ℕ) (d : Live) → k < result → key_of by (slice_index_or (commands slots.now.values order.now.items) k d) < key }
-    ensures above { (k : ℕ) (d : Live) → result ≤ k → k < length order.now.items → key ≤ key_of by (slice_index_or (commands slots.now.values order.now.items) k d) }
+    ensures below { (k : ℕ) (d : Live) → k < result →
+        key_of by (slice_index_or (commands slots.now.values order.now.items) k d) < key }
+    ensures above { (k : ℕ) (d : Live) → result ≤ k → k < length order.now.items →
+        key ≤ key_of by (slice_index_or (commands slots.now.values order.now.items) k d) }
 {
     let mut low = 0;
     let mut high = order.len();

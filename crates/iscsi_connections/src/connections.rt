@@ -128,7 +128,8 @@ impl Connections {
         requires few { counted_on cid self.old.conns self.old.immediate < 255 }
         ensures state { self.new ≡ record self.old { immediate = self.new.immediate } }
         ensures long { length self.new.immediate ≡ length self.old.immediate }
-        ensures counted { (other : ℕ) → counted_on other self.old.conns self.new.immediate ≡ counted_on other self.old.conns self.old.immediate + (if cid == other then 1 else 0) }
+        ensures counted { (other : ℕ) → counted_on other self.old.conns self.new.immediate
+            ≡ counted_on other self.old.conns self.old.immediate + (if cid == other then 1 else 0) }
     {
         let place = self.place_of(cid).unwrap();
         self.list[place].immediate += 1;
@@ -140,7 +141,8 @@ impl Connections {
         requires some { 0 < counted_on cid self.old.conns self.old.immediate }
         ensures state { self.new ≡ record self.old { immediate = self.new.immediate } }
         ensures long { length self.new.immediate ≡ length self.old.immediate }
-        ensures counted { (other : ℕ) → counted_on other self.old.conns self.new.immediate + (if cid == other then 1 else 0) ≡ counted_on other self.old.conns self.old.immediate }
+        ensures counted { (other : ℕ) → counted_on other self.old.conns self.new.immediate
+            + (if cid == other then 1 else 0) ≡ counted_on other self.old.conns self.old.immediate }
     {
         let place = self.place_of(cid).unwrap();
         self.list[place].immediate -= 1;
@@ -229,7 +231,9 @@ fn places_of(alloc: Global, list: &[Connection]) -> Option<Vec<u8>>
 
 /// Writes a place into the table, which may grow for it. None where memory is refused.
 fn put(places: &mut Vec<u8>, cid: u16, place: u8) -> Option<()>
-    ensures { OnSome result ((other : ℕ) → slice_index_or places.new.items other 255 ≡ (if other == cid then place else slice_index_or places.old.items other 255)) }
+    ensures { OnSome result ((other : ℕ) →
+        slice_index_or places.new.items other 255
+        ≡ (if other == cid then place else slice_index_or places.old.items other 255)) }
 {
     let at = usize::from(cid);
     reach(places, at)?;
@@ -241,7 +245,8 @@ fn put(places: &mut Vec<u8>, cid: u16, place: u8) -> Option<()>
 fn reach(places: &mut Vec<u8>, at: usize) -> Option<()>
     requires { at < 65536 }
     ensures long { OnSome result (at < length places.new.items) }
-    ensures same { OnSome result ((other : ℕ) → slice_index_or places.new.items other 255 ≡ slice_index_or places.old.items other 255) }
+    ensures same { OnSome result ((other : ℕ) →
+        slice_index_or places.new.items other 255 ≡ slice_index_or places.old.items other 255) }
 {
     if places.len() <= at {
         places.resize(at + 1, NOWHERE).ok()?;

@@ -54,7 +54,8 @@ impl Handle {
         options: &PlainOptions,
         connections: &[PlainConnection],
     ) -> Answer
-        ensures serves { result ≡ Answer.Done → ServesIn (plain_setting options.now connections.now) (inside self.new) [] }
+        ensures serves { result ≡ Answer.Done →
+            ServesIn (plain_setting options.now connections.now) (inside self.new) [] }
         ensures answer { OpensAs (inside self.old) (is_valid (plain_setting options.now connections.now)) result }
         ensures unchanged { result ≢ Answer.Done → inside self.new ≡ inside self.old }
     {
@@ -74,10 +75,14 @@ impl Handle {
     ///
     /// `ShortHeader` where there are fewer, then `NotOpen`, `UnknownConnection`, `Exhausted`. Each changes nothing.
     pub fn arrive(&mut self, alloc: Global, cid: u16, header: &[u8]) -> Answer
-        ensures serves { (o : Setting) (h : List Event) → ServesIn o (inside self.old) h → result ≡ Answer.Done → ServesIn o (inside self.new) (h ++ Event.Arrive cid (take 48 header.now) ∷ []) }
-        ensures answer { (o : Setting) (h : List Event) → ServesIn o (inside self.old) h → result ≡ arrival_answer o h cid header.now }
-        ensures unchanged { (o : Setting) (h : List Event) → ServesIn o (inside self.old) h → result ≢ Answer.Done → inside self.new ≡ inside self.old }
-        ensures not_open { inside self.old ≡ None → (inside self.new ≡ None) × (result ≡ closed_arrival_answer header.now) }
+        ensures serves { (o : Setting) (h : List Event) → ServesIn o (inside self.old) h → result ≡ Answer.Done →
+            ServesIn o (inside self.new) (h ++ Event.Arrive cid (take 48 header.now) ∷ []) }
+        ensures answer { (o : Setting) (h : List Event) → ServesIn o (inside self.old) h →
+            result ≡ arrival_answer o h cid header.now }
+        ensures unchanged { (o : Setting) (h : List Event) → ServesIn o (inside self.old) h → result ≢ Answer.Done →
+            inside self.new ≡ inside self.old }
+        ensures not_open { inside self.old ≡ None →
+            (inside self.new ≡ None) × (result ≡ closed_arrival_answer header.now) }
     {
         match header.first_chunk::<48>() {
             Some(header) => {
@@ -93,9 +98,12 @@ impl Handle {
     /// `NotOpen`, then `Exhausted`. Each changes nothing. A ticket that is none of an enabled command is no refusal:
     /// the session passes the completion over.
     pub fn complete(&mut self, alloc: Global, ticket: u64, status: u8) -> Answer
-        ensures serves { (o : Setting) (h : List Event) → ServesIn o (inside self.old) h → result ≡ Answer.Done → ServesIn o (inside self.new) (h ++ Event.Done ticket status ∷ []) }
-        ensures answer { (o : Setting) (h : List Event) → ServesIn o (inside self.old) h → result ≡ answer_of (refusal_of o h (Event.Done ticket status)) }
-        ensures unchanged { (o : Setting) (h : List Event) → ServesIn o (inside self.old) h → result ≢ Answer.Done → inside self.new ≡ inside self.old }
+        ensures serves { (o : Setting) (h : List Event) → ServesIn o (inside self.old) h → result ≡ Answer.Done →
+            ServesIn o (inside self.new) (h ++ Event.Done ticket status ∷ []) }
+        ensures answer { (o : Setting) (h : List Event) → ServesIn o (inside self.old) h →
+            result ≡ answer_of (refusal_of o h (Event.Done ticket status)) }
+        ensures unchanged { (o : Setting) (h : List Event) → ServesIn o (inside self.old) h → result ≢ Answer.Done →
+            inside self.new ≡ inside self.old }
         ensures not_open { inside self.old ≡ None → (inside self.new ≡ None) × (result ≡ Answer.NotOpen) }
     {
         self.step(alloc, &Event::Done { ticket, status })
@@ -161,9 +169,12 @@ impl Handle {
 
     /// Takes an event.
     fn step(&mut self, alloc: Global, event: &Event) -> Answer
-        ensures serves { (o : Setting) (h : List Event) → ServesIn o (inside self.old) h → result ≡ Answer.Done → ServesIn o (inside self.new) (h ++ event.now ∷ []) }
-        ensures answer { (o : Setting) (h : List Event) → ServesIn o (inside self.old) h → result ≡ answer_of (refusal_of o h event.now) }
-        ensures unchanged { (o : Setting) (h : List Event) → ServesIn o (inside self.old) h → result ≢ Answer.Done → inside self.new ≡ inside self.old }
+        ensures serves { (o : Setting) (h : List Event) → ServesIn o (inside self.old) h → result ≡ Answer.Done →
+            ServesIn o (inside self.new) (h ++ event.now ∷ []) }
+        ensures answer { (o : Setting) (h : List Event) → ServesIn o (inside self.old) h →
+            result ≡ answer_of (refusal_of o h event.now) }
+        ensures unchanged { (o : Setting) (h : List Event) → ServesIn o (inside self.old) h → result ≢ Answer.Done →
+            inside self.new ≡ inside self.old }
         ensures not_open { inside self.old ≡ None → (inside self.new ≡ None) × (result ≡ Answer.NotOpen) }
     {
         let Some(mut host) = self.take(alloc) else {

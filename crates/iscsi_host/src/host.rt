@@ -29,7 +29,12 @@ impl Model for Host {
 
     ghost Value = { Hosted };
 
-    ghost view = { λ h. record { session = h.session; effects = h.effects.items; numbers = h.numbers; room = vec_capacity h.effects } };
+    ghost view = { λ h. record {
+      session = h.session;
+      effects = h.effects.items;
+      numbers = h.numbers;
+      room = vec_capacity h.effects;
+    } };
 }
 
 impl Host {
@@ -60,8 +65,10 @@ impl Host {
     ///
     /// Refusals, in order: `UnknownConnection`, `Exhausted`. Each leaves the host as it was. Memory isn't asked for.
     pub fn step(&mut self, event: &Event) -> Result<(), SessionFault>
-        ensures serves { (o : Setting) (h : List Event) → Serves o self.old h → OnOk result (Serves o self.new (h ++ event.now ∷ [])) }
-        ensures refused { (o : Setting) (h : List Event) → Serves o self.old h → fault_of result ≡ refusal_of o h event.now }
+        ensures serves { (o : Setting) (h : List Event) → Serves o self.old h →
+            OnOk result (Serves o self.new (h ++ event.now ∷ [])) }
+        ensures refused { (o : Setting) (h : List Event) → Serves o self.old h →
+            fault_of result ≡ refusal_of o h event.now }
         ensures err { (o : Setting) (h : List Event) → Serves o self.old h → OnErr result (self.new ≡ self.old) }
     {
         if let Some(fault) = self.session.refusal(event) {

@@ -209,7 +209,8 @@ pub fn common_arrival(line: &[u8]) -> Option<(u16, [u8; 48])>
 /// A number of up to 18 digits at the front of a line, and what stands after the blank that ends it. `None` decides nothing.
 #[inline(always)]
 fn few_first(bytes: &[u8]) -> Option<(u64, &[u8])>
-    ensures { IfSome result (λ r. (decimal_of (2 ^ 64 - 1) (before_first is_blank bytes.now) ≡ Some r.0) × (r.1.now ≡ after_first is_blank bytes.now)) }
+    ensures { IfSome result (λ r. (decimal_of (2 ^ 64 - 1) (before_first is_blank bytes.now) ≡ Some r.0)
+        × (r.1.now ≡ after_first is_blank bytes.now)) }
 {
     if let [] | [b'0' | b' ', ..] = bytes {
         return None;
@@ -231,7 +232,9 @@ fn few_first(bytes: &[u8]) -> Option<(u64, &[u8])>
 /// The ticket at the front of a line, and what stands after the blank that ends it.
 #[inline(always)]
 fn ticket_first(bytes: &[u8]) -> Option<(u64, &[u8])>
-    ensures { MatchOption result (decimal_of (2 ^ 64 - 1) (before_first is_blank bytes.now) ≡ None) (λ r. (decimal_of (2 ^ 64 - 1) (before_first is_blank bytes.now) ≡ Some r.0) × (r.1.now ≡ after_first is_blank bytes.now)) }
+    ensures { MatchOption result (decimal_of (2 ^ 64 - 1) (before_first is_blank bytes.now) ≡ None)
+        (λ r. (decimal_of (2 ^ 64 - 1) (before_first is_blank bytes.now) ≡ Some r.0)
+        × (r.1.now ≡ after_first is_blank bytes.now)) }
 {
     if let Some(found) = few_first(bytes) {
         return Some(found);

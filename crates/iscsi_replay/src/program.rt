@@ -27,9 +27,11 @@ pub fn replay_as_told<T: Threads + Wait + Sync, R: Source, W: Sink>(
     requires read_fresh { R.has_failed reader.old ≡ false }
     requires write_fresh { W.has_failed writer.old ≡ false }
     // The words are refused, or this is the replay with exactly the settings that they give.
-    ensures told { IsAsTold (map (λ w. w.now) words.entry.now) result (R.remaining reader.old) (R.remaining reader.new) (W.contents writer.old) (W.contents writer.new) }
+    ensures told { IsAsTold (map (λ w. w.now) words.entry.now) result (R.remaining reader.old) (R.remaining reader.new)
+        (W.contents writer.old) (W.contents writer.new) }
     // Where the words are refused, nothing is read and nothing is written.
-    ensures untouched { IfErr result (λ stop. ComesOfWords stop → (reader.new ≡ reader.old) × (writer.new ≡ writer.old)) }
+    ensures untouched { IfErr result (λ stop. ComesOfWords stop →
+        (reader.new ≡ reader.old) × (writer.new ≡ writer.old)) }
     // A refusal that the words or reading give leaves the writer as it was.
     ensures unwritten { IfErr result (λ stop. ComesBeforeReport stop → writer.new ≡ writer.old) }
     // The writer is as it was, or the input was read to its end, and is a recording.

@@ -52,7 +52,9 @@ impl Reading {
         ensures line { self.new.line ≡ self.old.line }
         ensures so_far { self.new.so_far ≡ self.old.so_far }
         // However the line goes on, this is its fault.
-        ensures err { IfErr result (λ e. (0 < length front.now) × ((x : List ℕ) → Fails e (read_line self.old.line (view self.old.so_far) ((self.old.pending.items ++ front.now) ++ x)))) }
+        ensures err { IfErr result (λ e. (0 < length front.now)
+            × ((x : List ℕ) → Fails e
+            (read_line self.old.line (view self.old.so_far) ((self.old.pending.items ++ front.now) ++ x)))) }
     {
         if front.is_empty() {
             return Ok(());
@@ -73,7 +75,8 @@ impl Reading {
     fn complete(&mut self, last: &[u8]) -> Result<(), ReplayFault>
         requires ready { IsReading self.old }
         requires one { list_any is_end last.now ≡ false }
-        ensures step { Steps result (view self.new.so_far) (read_line self.old.line (view self.old.so_far) (self.old.pending.items ++ last.now)) }
+        ensures step { Steps result (view self.new.so_far)
+            (read_line self.old.line (view self.old.so_far) (self.old.pending.items ++ last.now)) }
         ensures line { OnOk result (self.new.line ≡ self.old.line) }
         ensures pending { OnOk result (self.new.pending.items ≡ []) }
     {
@@ -187,13 +190,16 @@ fn fill<R: Source>(
     requires space { 0 < length chunk.old }
     requires chunk { length chunk.old ≤ 65536 }
     ensures ready { OnOk result (IsReading reading.new) }
-    ensures ok { OnOk result (IfSome (R.remaining reader.old) (λ bytes. left_of reading.new [] ≡ left_of reading.old bytes)) }
-    ensures err { IfErr result (λ e. e ≢ ReplayFault.Read → IfSome (R.remaining reader.old) (λ bytes. Fails e (left_of reading.old bytes))) }
+    ensures ok { OnOk result (IfSome (R.remaining reader.old)
+        (λ bytes. left_of reading.new [] ≡ left_of reading.old bytes)) }
+    ensures err { IfErr result (λ e. e ≢ ReplayFault.Read →
+        IfSome (R.remaining reader.old) (λ bytes. Fails e (left_of reading.old bytes))) }
     // What was seen is in the reading, and the reader has no more.
     ensures seen { OnOk result (ReadsOn (R.remaining reader.old) (R.remaining reader.new) reading.old reading.new) }
     ensures ended { OnOk result (IsAtEnd (R.remaining reader.new)) }
     // A fault is answered once the bytes seen make it certain, and `Read` only where they make none certain.
-    ensures order { OnErr result (ReadsInOrder (left_of reading.old) result (R.remaining reader.old) (R.remaining reader.new)) }
+    ensures order { OnErr result (ReadsInOrder (left_of reading.old) result (R.remaining reader.old)
+        (R.remaining reader.new)) }
     ensures failed { IsErrOf result ReplayFault.Read ↔ (R.has_failed reader.new ≡ true) }
     ensures kinds { IfErr result (λ e. (e ≢ ReplayFault.Write) × (e ≢ ReplayFault.BadSettings)) }
 {

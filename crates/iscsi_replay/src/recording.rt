@@ -41,7 +41,8 @@ impl Recording {
     }
 
     fn take_conn(&mut self, number: u32, cid: u16, stat_sn: u32) -> Result<(), ReplayFault>
-        ensures step { Steps result (view self.new) (ok_or (take (view self.old) (Line.Conn cid stat_sn)) (BadLine number)) }
+        ensures step { Steps result (view self.new)
+            (ok_or (take (view self.old) (Line.Conn cid stat_sn)) (BadLine number)) }
         ensures err { OnErr result (view self.new ≡ view self.old) }
     {
         if !self.events.is_empty() || self.conns.knows(cid) || self.conns.len() >= MAX_CONNS {
@@ -84,7 +85,8 @@ impl Recording {
     /// Takes the event that line `number` says, if it says one.
     #[inline(always)]
     fn take_said(&mut self, number: u32, event: Option<Event>) -> Result<(), ReplayFault>
-        ensures step { Steps result (view self.new) (ok_or (option_and_then (take (view self.old)) (option_map Line.Event event)) (BadLine number)) }
+        ensures step { Steps result (view self.new)
+            (ok_or (option_and_then (take (view self.old)) (option_map Line.Event event)) (BadLine number)) }
         ensures err { OnErr result (view self.new ≡ view self.old) }
     {
         match event {
@@ -97,7 +99,8 @@ impl Recording {
     /// recording stays as it was.
     #[inline(always)]
     pub fn take_common(&mut self, conn: u16, header: &[u8; 48]) -> bool
-        ensures taken { result ≡ true → take (view self.old) (Line.Event (Event.Arrive conn header.now)) ≡ Some (view self.new) }
+        ensures taken { result ≡ true → take (view self.old) (Line.Event (Event.Arrive conn header.now))
+            ≡ Some (view self.new) }
         ensures not { result ≡ false → self.new ≡ self.old }
     {
         self.conns.knows(conn) && self.events.push_arrival(conn, header).is_ok()
@@ -106,7 +109,9 @@ impl Recording {
     /// Takes the arrival that these bytes of line `number` say.
     #[inline(never)]
     fn take_arrival(&mut self, number: u32, bytes: &[u8]) -> Result<(), ReplayFault>
-        ensures step { Steps result (view self.new) (ok_or (option_and_then (take (view self.old)) (option_map Line.Event (arrival_of bytes.now))) (BadLine number)) }
+        ensures step { Steps result (view self.new)
+            (ok_or (option_and_then (take (view self.old)) (option_map Line.Event (arrival_of bytes.now)))
+            (BadLine number)) }
         ensures err { OnErr result (view self.new ≡ view self.old) }
     {
         self.take_said(number, arrival(bytes))
@@ -115,7 +120,9 @@ impl Recording {
     /// Takes the completion that these bytes of line `number` say.
     #[inline(never)]
     fn take_completion(&mut self, number: u32, bytes: &[u8]) -> Result<(), ReplayFault>
-        ensures step { Steps result (view self.new) (ok_or (option_and_then (take (view self.old)) (option_map Line.Event (completion_of bytes.now))) (BadLine number)) }
+        ensures step { Steps result (view self.new)
+            (ok_or (option_and_then (take (view self.old)) (option_map Line.Event (completion_of bytes.now)))
+            (BadLine number)) }
         ensures err { OnErr result (view self.new ≡ view self.old) }
     {
         self.take_said(number, completion(bytes))
@@ -124,7 +131,8 @@ impl Recording {
     /// Takes a line of any kind.
     #[inline(never)]
     fn take_any(&mut self, number: u32, bytes: &[u8]) -> Result<(), ReplayFault>
-        ensures step { Steps result (view self.new) (ok_or (option_and_then (take (view self.old)) (line_of bytes.now)) (BadLine number)) }
+        ensures step { Steps result (view self.new)
+            (ok_or (option_and_then (take (view self.old)) (line_of bytes.now)) (BadLine number)) }
         ensures err { OnErr result (view self.new ≡ view self.old) }
     {
         match parse_line(bytes) {

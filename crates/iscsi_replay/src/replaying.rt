@@ -77,7 +77,8 @@ fn put_entry(
     effects: &[Effect],
     lines: &mut Lines,
 ) -> Result<(), AllocError>
-    ensures ok { OnOk result (lines.new ≡ lines.old ++ (event_line event.now ++ entry_lines (record { numbers = numbers; effects = effects.now }))) }
+    ensures ok { OnOk result (lines.new ≡ lines.old
+        ++ (event_line event.now ++ entry_lines (record { numbers = numbers; effects = effects.now }))) }
 {
     lines.put_event(event)?;
     for effect in effects {
@@ -92,7 +93,8 @@ fn write_chunk<W: Sink>(lines: &mut Lines, writer: &mut W) -> Result<(), ReplayF
     ensures ok { OnOk result (AppendsBut (W.contents writer.old) (W.contents writer.new) lines.new lines.old) }
     ensures few { OnOk result (length lines.new < 65536) }
     ensures front { AppendsFront (W.contents writer.old) (W.contents writer.new) lines.old }
-    ensures failed { MatchResult result (λ _. W.has_failed writer.new ≡ false) (λ e. (e ≡ ReplayFault.Write) × (W.has_failed writer.new ≡ true)) }
+    ensures failed { MatchResult result (λ _. W.has_failed writer.new ≡ false)
+        (λ e. (e ≡ ReplayFault.Write) × (W.has_failed writer.new ≡ true)) }
 {
     if lines.len() < CHUNK {
         return Ok(());
@@ -115,11 +117,14 @@ pub fn write_report<E: EventSource, W: Sink>(
     requires known { list_all (belongs_to conns.items) (E.rest events.old) ≡ true }
     requires few { length (E.rest events.old) ≤ most }
     requires fresh { W.has_failed writer.old ≡ false }
-    ensures ok { OnOk result (Appends (W.contents writer.old) (W.contents writer.new) (report_by (setting_with most settings.now conns.items) (E.rest events.old))) }
-    ensures front { AppendsFront (W.contents writer.old) (W.contents writer.new) (report_by (setting_with most settings.now conns.items) (E.rest events.old)) }
+    ensures ok { OnOk result (Appends (W.contents writer.old) (W.contents writer.new)
+        (report_by (setting_with most settings.now conns.items) (E.rest events.old))) }
+    ensures front { AppendsFront (W.contents writer.old) (W.contents writer.new)
+        (report_by (setting_with most settings.now conns.items) (E.rest events.old)) }
     ensures failed { IsErrOf result ReplayFault.Write ↔ (W.has_failed writer.new ≡ true) }
     ensures kinds { IfErr result (λ e. e ≢ ReplayFault.Write → e ≡ ReplayFault.NoMemory) }
-    ensures promises { OnOk result (KeepsPromises (setting_with most settings.now conns.items) (E.rest events.old) (run_of (setting_with most settings.now conns.items) (E.rest events.old))) }
+    ensures promises { OnOk result (KeepsPromises (setting_with most settings.now conns.items) (E.rest events.old)
+        (run_of (setting_with most settings.now conns.items) (E.rest events.old))) }
 {
     let mut session = open(alloc, settings, most, conns)?;
     let mut effects = Vec::new(alloc);
@@ -155,14 +160,18 @@ pub fn replay<R: Source, W: Sink>(
     ensures bad { IsErrOf result ReplayFault.BadSettings ↔ (are_valid settings.now ≡ false) }
     ensures untouched { IsErrOf result ReplayFault.BadSettings → (reader.new ≡ reader.old) × (writer.new ≡ writer.old) }
     // The bytes are a recording, and the report of its events is written, and nothing else.
-    ensures ok { OnOk result (IfSome (R.remaining reader.old) (λ bytes. Reported settings.now (read_of bytes) (W.contents writer.old) (W.contents writer.new))) }
+    ensures ok { OnOk result (IfSome (R.remaining reader.old)
+        (λ bytes. Reported settings.now (read_of bytes) (W.contents writer.old) (W.contents writer.new))) }
     // It is the report of a log that keeps all promises: of delivery, enabling, aborts, closes, flow, the life of a command,
     // replies and their numbers, and the order of effects.
-    ensures promises { OnOk result (IfSome (R.remaining reader.old) (λ bytes. KeepsWord settings.now (read_of bytes) (W.contents writer.old) (W.contents writer.new))) }
+    ensures promises { OnOk result (IfSome (R.remaining reader.old)
+        (λ bytes. KeepsWord settings.now (read_of bytes) (W.contents writer.old) (W.contents writer.new))) }
     // The answer is that of the bytes, unless memory ran out or a read or a write failed.
-    ensures fault { are_valid settings.now ≡ true → IfSome (R.remaining reader.old) (λ bytes. AnswersAs (read_of bytes) result) }
+    ensures fault { are_valid settings.now ≡ true →
+        IfSome (R.remaining reader.old) (λ bytes. AnswersAs (read_of bytes) result) }
     // In any case a front of the report is written, and nothing where the bytes are no recording.
-    ensures front { IfSome (R.remaining reader.old) (λ bytes. FrontReported settings.now (read_of bytes) (W.contents writer.old) (W.contents writer.new)) }
+    ensures front { IfSome (R.remaining reader.old)
+        (λ bytes. FrontReported settings.now (read_of bytes) (W.contents writer.old) (W.contents writer.new)) }
     // A fault is answered once the bytes seen make it certain, or at the end of the input, and `Read` only where they
     // make none certain. The report is begun at the end of the input.
     ensures order { ReadsInOrder read_of result (R.remaining reader.old) (R.remaining reader.new) }

@@ -55,7 +55,8 @@ pub fn put_all<W: Sink>(writer: &mut W, bytes: &[u8]) -> Result<(), ReplayFault>
     requires { W.has_failed writer.old ≡ false }
     ensures ok { OnOk result (Appends (W.contents writer.old) (W.contents writer.new) bytes.now) }
     ensures front { AppendsFront (W.contents writer.old) (W.contents writer.new) bytes.now }
-    ensures failed { MatchResult result (λ _. W.has_failed writer.new ≡ false) (λ e. (e ≡ ReplayFault.Write) × (W.has_failed writer.new ≡ true)) }
+    ensures failed { MatchResult result (λ _. W.has_failed writer.new ≡ false)
+        (λ e. (e ≡ ReplayFault.Write) × (W.has_failed writer.new ≡ true)) }
 {
     let mut at = 0;
     'writes: while at < bytes.len() {

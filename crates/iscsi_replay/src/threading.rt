@@ -121,7 +121,8 @@ fn run_threads<T: Threads + Wait + Sync>(
 ) -> Result<Journal, ReplayFault>
     requires valid { are_valid settings.now ≡ true }
     requires sound { IsSound (view recording) }
-    ensures ok { IfOk result (λ j. IsJournalOf settings.now (view recording) (record { conns = j.conns.items; events = j.events.items })) }
+    ensures ok { IfOk result (λ j. IsJournalOf settings.now (view recording)
+        (record { conns = j.conns.items; events = j.events.items })) }
     ensures err { IfErr result ComesOfThreads }
 {
     let Recording { conns, events } = recording;
@@ -176,11 +177,14 @@ pub fn replay_threads<T: Threads + Wait + Sync, R: Source, W: Sink>(
     // The bytes are a recording, and the report of a journal is written, and nothing else: of each connection the journal
     // has the recording's headers in their order, of each unit answers in the order of its jobs, and at its end no command
     // is live. It is the report of a log that keeps all promises.
-    ensures ok { OnOk result (IfSome (R.remaining reader.old) (λ bytes. ThreadsReported settings.now (read_of bytes) (W.contents writer.old) (W.contents writer.new))) }
+    ensures ok { OnOk result (IfSome (R.remaining reader.old)
+        (λ bytes. ThreadsReported settings.now (read_of bytes) (W.contents writer.old) (W.contents writer.new))) }
     // The answer is that of the bytes, unless memory ran out, a read or a write failed, or threads stopped.
-    ensures fault { are_valid settings.now ≡ true → IfSome (R.remaining reader.old) (λ bytes. ThreadsAnswerAs (read_of bytes) result) }
+    ensures fault { are_valid settings.now ≡ true →
+        IfSome (R.remaining reader.old) (λ bytes. ThreadsAnswerAs (read_of bytes) result) }
     // In any case nothing is written, or a front of such a report, and nothing where the bytes are no recording.
-    ensures front { IfSome (R.remaining reader.old) (λ bytes. FrontOfThreads settings.now (read_of bytes) (W.contents writer.old) (W.contents writer.new)) }
+    ensures front { IfSome (R.remaining reader.old)
+        (λ bytes. FrontOfThreads settings.now (read_of bytes) (W.contents writer.old) (W.contents writer.new)) }
     // A fault is answered once the bytes seen make it certain, or at the end of the input, and `Read` only where they
     // make none certain. The threads begin at the end of the input.
     ensures order { ReadsInOrder read_of result (R.remaining reader.old) (R.remaining reader.new) }

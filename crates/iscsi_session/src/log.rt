@@ -40,7 +40,8 @@ pub fn run(alloc: Global, options: Options, events: &[Event]) -> Result<Log, Ses
     // are unfinished than the window has places.
     ensures flow { IfOk result (λ log. FlowsThrough (setting_of options) events.now) }
 
-    ensures refused { RunRefusesAs (refusal_of_options (setting_of options)) (first_refusal (setting_of options) 0 events.now) result }
+    ensures refused { RunRefusesAs (refusal_of_options (setting_of options))
+        (first_refusal (setting_of options) 0 events.now) result }
 {
     let mut session = Session::open(alloc, options)?;
     let mut log = Vec::new(alloc);

@@ -74,9 +74,36 @@ impl Model for Session {
 
     ghost Value = { Core };
 
-    ghost view = { λ s. record { window = s.window; events = s.events; conns = s.connections.conns; entered = s.entered; taken = s.taken; live = s.live.items; sets = s.sets.items; level = s.level; arrived = s.arrived.items; waiting = s.waiting.items; open_conns = s.connections.open_conns } };
+    ghost view = { λ s. record {
+      window = s.window;
+      events = s.events;
+      conns = s.connections.conns;
+      entered = s.entered;
+      taken = s.taken;
+      live = s.live.items;
+      sets = s.sets.items;
+      level = s.level;
+      arrived = s.arrived.items;
+      waiting = s.waiting.items;
+      open_conns = s.connections.open_conns;
+    } };
 
-    ghost invariant = { λ s. IsSessionSound (record { window = s.window; held = s.held; events = s.events; conns = s.connections.conns; entered = s.entered; taken = s.taken; live = s.live.items; immediate = s.connections.immediate; sets = s.sets.items; arrived = s.arrived.items; waiting = s.waiting.items; live_room = s.live.room; arrived_room = deque_capacity s.arrived; waiting_room = vec_capacity s.waiting }) };
+    ghost invariant = { λ s. IsSessionSound (record {
+      window = s.window;
+      held = s.held;
+      events = s.events;
+      conns = s.connections.conns;
+      entered = s.entered;
+      taken = s.taken;
+      live = s.live.items;
+      immediate = s.connections.immediate;
+      sets = s.sets.items;
+      arrived = s.arrived.items;
+      waiting = s.waiting.items;
+      live_room = s.live.room;
+      arrived_room = deque_capacity s.arrived;
+      waiting_room = vec_capacity s.waiting;
+    }) };
 }
 
 impl Session {
@@ -95,7 +122,8 @@ impl Session {
 
     /// ExpCmdSN and MaxCmdSN, as a reply that went out now would carry them (RFC 7143 section 4.2.2.1).
     pub fn numbers(&self) -> Numbers
-        ensures numbers { (o : Setting) (h : List Event) → StandsFor o self.now h → result ≡ numbers_of o (trace_of o h) }
+        ensures numbers { (o : Setting) (h : List Event) → StandsFor o self.now h →
+            result ≡ numbers_of o (trace_of o h) }
         ensures value { result ≡ numbers_by self.now }
     {
         Numbers {
@@ -116,9 +144,11 @@ impl Session {
     ///
     /// For a window of W and C connections it is never more than 12 (W + 4 C + 1) + 2 (W + 8 C).
     pub fn effect_bound(&self) -> usize
-        ensures bound { (o : Setting) (h : List Event) → StandsFor o self.now h → result ≡ effect_bound_of o (trace_of o h) }
+        ensures bound { (o : Setting) (h : List Event) → StandsFor o self.now h →
+            result ≡ effect_bound_of o (trace_of o h) }
         ensures most { (o : Setting) (h : List Event) → StandsFor o self.now h → result ≤ most_effects o }
-        ensures value { result ≡ 12 * (count_by is_held self.now.window.places + length self.now.waiting + 1) + 2 * length self.now.live }
+        ensures value { result ≡ 12 * (count_by is_held self.now.window.places + length self.now.waiting + 1)
+            + 2 * length self.now.live }
     {
         ITEM_EFFECTS * (self.held as usize + self.waiting.len() + 1) + 2 * self.live_len()
     }
@@ -129,38 +159,56 @@ impl Session {
     /// as they were. With `effect_bound()` places spare in `out`, memory isn't asked for.
     pub fn step(&mut self, event: &Event, out: &mut Vec<Effect>) -> Result<Numbers, SessionFault>
         // Whatever list of events the session stands for, it stands for that list and the event.
-        ensures stands { (o : Setting) (h : List Event) → StandsFor o self.old h → OnOk result (StandsFor o self.new (h ++ event.now ∷ [])) }
-        ensures effects { (o : Setting) (h : List Event) → StandsFor o self.old h → OnOk result (out.new.items ≡ out.old.items ++ (next_entry o h event.now).effects) }
-        ensures numbers { (o : Setting) (h : List Event) → StandsFor o self.old h → IfOk result (λ n. n ≡ (next_entry o h event.now).numbers) }
+        ensures stands { (o : Setting) (h : List Event) → StandsFor o self.old h →
+            OnOk result (StandsFor o self.new (h ++ event.now ∷ [])) }
+        ensures effects { (o : Setting) (h : List Event) → StandsFor o self.old h →
+            OnOk result (out.new.items ≡ out.old.items ++ (next_entry o h event.now).effects) }
+        ensures numbers { (o : Setting) (h : List Event) → StandsFor o self.old h →
+            IfOk result (λ n. n ≡ (next_entry o h event.now).numbers) }
 
-        ensures refused { (o : Setting) (h : List Event) → StandsFor o self.old h → RefusesAs (refusal_of o h event.now) result }
+        ensures refused { (o : Setting) (h : List Event) → StandsFor o self.old h →
+            RefusesAs (refusal_of o h event.now) result }
         ensures err { OnErr result (self.new ≡ self.old) }
         ensures err_out { OnErr result (out.new.items ≡ out.old.items) }
 
         // An event receives one number at the most. ExpCmdSN and MaxCmdSN don't go back, and no more commands
         // are unfinished than the window has places.
-        ensures flow { (o : Setting) (h : List Event) → StandsFor o self.old h → OnOk result (Flows o (trace_of o h) (trace_of o (h ++ event.now ∷ []))) }
+        ensures flow { (o : Setting) (h : List Event) → StandsFor o self.old h →
+            OnOk result (Flows o (trace_of o h) (trace_of o (h ++ event.now ∷ []))) }
 
         // The log of those events and this one keeps the promises: the numbered requests that it delivers are those received
         // without a gap, in CmdSN order; it enables what the rules of task sets enable; what a completed abort covers is over;
         // nothing goes on where it was closed.
-        ensures delivery { (o : Setting) (h : List Event) → StandsFor o self.old h → let all = h ++ event.now ∷ [] in OnOk result (delivered (run_of o all) ≡ executed o all) }
-        ensures enabling { (o : Setting) (h : List Event) → StandsFor o self.old h → let all = h ++ event.now ∷ [] in OnOk result (EnablesByTheRule o all (run_of o all)) }
-        ensures aborts { (o : Setting) (h : List Event) → StandsFor o self.old h → let all = h ++ event.now ∷ [] in OnOk result (AbortsHoldIn o all (run_of o all)) }
-        ensures closes { (o : Setting) (h : List Event) → StandsFor o self.old h → let all = h ++ event.now ∷ [] in OnOk result (ClosesHoldIn o all (run_of o all)) }
+        ensures delivery { (o : Setting) (h : List Event) → StandsFor o self.old h →
+            let all = h ++ event.now ∷ [] in OnOk result (delivered (run_of o all) ≡ executed o all) }
+        ensures enabling { (o : Setting) (h : List Event) → StandsFor o self.old h →
+            let all = h ++ event.now ∷ [] in OnOk result (EnablesByTheRule o all (run_of o all)) }
+        ensures aborts { (o : Setting) (h : List Event) → StandsFor o self.old h →
+            let all = h ++ event.now ∷ [] in OnOk result (AbortsHoldIn o all (run_of o all)) }
+        ensures closes { (o : Setting) (h : List Event) → StandsFor o self.old h →
+            let all = h ++ event.now ∷ [] in OnOk result (ClosesHoldIn o all (run_of o all)) }
 
         // Each command is started at most once, and each request answered at most once; the StatSNs of a connection count
         // its replies; the effects of an item stand in order; and the definitions mean what they say.
-        ensures started_once { (o : Setting) (h : List Event) → StandsFor o self.old h → let all = h ++ event.now ∷ [] in OnOk result (StartsOnce (run_of o all)) }
-        ensures answered_once { (o : Setting) (h : List Event) → StandsFor o self.old h → let all = h ++ event.now ∷ [] in OnOk result (AnswersOnceIn o all (run_of o all)) }
-        ensures stat_sns { (o : Setting) (h : List Event) → StandsFor o self.old h → let all = h ++ event.now ∷ [] in OnOk result (CountsReplies o (run_of o all)) }
-        ensures in_order { (o : Setting) (h : List Event) → StandsFor o self.old h → let all = h ++ event.now ∷ [] in OnOk result (KeepsOrder (run_of o all)) }
-        ensures meaning { (o : Setting) (h : List Event) → StandsFor o self.old h → OnOk result (MeansWhatItSays o (trace_of o (h ++ event.now ∷ []))) }
+        ensures started_once { (o : Setting) (h : List Event) → StandsFor o self.old h →
+            let all = h ++ event.now ∷ [] in OnOk result (StartsOnce (run_of o all)) }
+        ensures answered_once { (o : Setting) (h : List Event) → StandsFor o self.old h →
+            let all = h ++ event.now ∷ [] in OnOk result (AnswersOnceIn o all (run_of o all)) }
+        ensures stat_sns { (o : Setting) (h : List Event) → StandsFor o self.old h →
+            let all = h ++ event.now ∷ [] in OnOk result (CountsReplies o (run_of o all)) }
+        ensures in_order { (o : Setting) (h : List Event) → StandsFor o self.old h →
+            let all = h ++ event.now ∷ [] in OnOk result (KeepsOrder (run_of o all)) }
+        ensures meaning { (o : Setting) (h : List Event) → StandsFor o self.old h →
+            OnOk result (MeansWhatItSays o (trace_of o (h ++ event.now ∷ []))) }
 
         // No event gives more effects than the bound, and with that much room memory isn't wanting. `out` keeps its room.
-        ensures bound { (o : Setting) (h : List Event) → StandsFor o self.old h → OnOk result (length (next_entry o h event.now).effects ≤ effect_bound_of o (trace_of o h)) }
-        ensures room { (o : Setting) (h : List Event) → StandsFor o self.old h → vec_len out.old + effect_bound_of o (trace_of o h) ≤ vec_capacity out.old → result ≢ Err SessionFault.NoMemory }
-        ensures room_for_most { (o : Setting) (h : List Event) → StandsFor o self.old h → vec_len out.old + most_effects o ≤ vec_capacity out.old → result ≢ Err SessionFault.NoMemory }
+        ensures bound { (o : Setting) (h : List Event) → StandsFor o self.old h →
+            OnOk result (length (next_entry o h event.now).effects ≤ effect_bound_of o (trace_of o h)) }
+        ensures room { (o : Setting) (h : List Event) → StandsFor o self.old h →
+            vec_len out.old + effect_bound_of o (trace_of o h) ≤ vec_capacity out.old →
+            result ≢ Err SessionFault.NoMemory }
+        ensures room_for_most { (o : Setting) (h : List Event) → StandsFor o self.old h →
+            vec_len out.old + most_effects o ≤ vec_capacity out.old → result ≢ Err SessionFault.NoMemory }
         ensures capacity { vec_capacity out.old ≤ vec_capacity out.new }
     {
         if let Some(fault) = self.refusal(event) {
@@ -182,13 +230,18 @@ impl Session {
         requires entered { self.old.entered + count_by is_some self.old.window.places < self.old.taken }
         requires waited { list_all (λ w. nat_lt (w.event + 1) self.old.taken) self.old.waiting ≡ true }
         requires owed { owed self.old.live self.old.sets ≤ 2 * length self.old.live }
-        requires room { vec_len out.old + 12 * (count_by is_held self.old.window.places + length self.old.waiting + 1) + 2 * length self.old.live ≤ vec_capacity out.old }
-        ensures settled { (o : Setting) (index : ℕ) (t : Trace) → self.old.taken ≡ index + 1 → Settled o self.old t → Settled o self.new (after_items (items_of o index t event.now) t) }
-        ensures effects { (o : Setting) (index : ℕ) (t : Trace) → self.old.taken ≡ index + 1 → Settled o self.old t → out.new.items ≡ out.old.items ++ effects_of o t (items_of o index t event.now) }
-        ensures received { (o : Setting) (index : ℕ) (t : Trace) → self.old.taken ≡ index + 1 → Settled o self.old t → HasOneMore (received t) (received (after_items (items_of o index t event.now) t)) }
+        requires room { vec_len out.old + 12 * (count_by is_held self.old.window.places + length self.old.waiting + 1)
+            + 2 * length self.old.live ≤ vec_capacity out.old }
+        ensures settled { (o : Setting) (index : ℕ) (t : Trace) → self.old.taken ≡ index + 1 → Settled o self.old t →
+            Settled o self.new (after_items (items_of o index t event.now) t) }
+        ensures effects { (o : Setting) (index : ℕ) (t : Trace) → self.old.taken ≡ index + 1 → Settled o self.old t →
+            out.new.items ≡ out.old.items ++ effects_of o t (items_of o index t event.now) }
+        ensures received { (o : Setting) (index : ℕ) (t : Trace) → self.old.taken ≡ index + 1 → Settled o self.old t →
+            HasOneMore (received t) (received (after_items (items_of o index t event.now) t)) }
         ensures taken { self.new.taken ≡ self.old.taken }
         ensures pace { KeepsPace self.old.window self.new.window }
-        ensures spent { vec_len out.new ≤ vec_len out.old + 12 * (count_by is_held self.old.window.places + length self.old.waiting + 1) + 2 * length self.old.live }
+        ensures spent { vec_len out.new ≤ vec_len out.old
+            + 12 * (count_by is_held self.old.window.places + length self.old.waiting + 1) + 2 * length self.old.live }
         ensures capacity { vec_capacity out.new ≡ vec_capacity out.old }
     {
         match *event {

@@ -119,7 +119,8 @@ pub(crate) fn spread(
     watch: &mut Watch,
 ) -> bool
     requires { vec_len outlets.old ≤ 256 }
-    ensures jobs { put_jobs fresh.new.items (map given outlets.new.items) ≡ put_jobs fresh.old.items (map given outlets.old.items) }
+    ensures jobs { put_jobs fresh.new.items (map given outlets.new.items)
+        ≡ put_jobs fresh.old.items (map given outlets.old.items) }
     ensures heard { map heard outlets.new.items ≡ map heard outlets.old.items }
     ensures rings { map outlet_rings outlets.new.items ≡ map outlet_rings outlets.old.items }
     ensures len { vec_len outlets.new ≡ vec_len outlets.old }
@@ -151,10 +152,13 @@ pub(crate) fn poll(
 ) -> Option<(Event, u16)>
     requires conns { vec_len inlets.old ≡ length conns.now }
     requires few { (vec_len inlets.old ≤ 64) × (vec_len outlets.old ≤ 256) }
-    ensures some { IfSome result (λ r. Polled (cids_in conns.now) (map got inlets.old.items) (map got inlets.new.items) (map heard outlets.old.items) (map heard outlets.new.items) r.0 r.1) }
-    ensures none { IfNone result ((map got inlets.new.items ≡ map got inlets.old.items) × (map heard outlets.new.items ≡ map heard outlets.old.items)) }
+    ensures some { IfSome result (λ r. Polled (cids_in conns.now) (map got inlets.old.items) (map got inlets.new.items)
+        (map heard outlets.old.items) (map heard outlets.new.items) r.0 r.1) }
+    ensures none { IfNone result ((map got inlets.new.items ≡ map got inlets.old.items)
+        × (map heard outlets.new.items ≡ map heard outlets.old.items)) }
     ensures given { map given outlets.new.items ≡ map given outlets.old.items }
-    ensures rings { (map inlet_ring inlets.new.items ≡ map inlet_ring inlets.old.items) × (map outlet_rings outlets.new.items ≡ map outlet_rings outlets.old.items) }
+    ensures rings { (map inlet_ring inlets.new.items ≡ map inlet_ring inlets.old.items)
+        × (map outlet_rings outlets.new.items ≡ map outlet_rings outlets.old.items) }
     ensures len { (vec_len inlets.new ≡ vec_len inlets.old) × (vec_len outlets.new ≡ vec_len outlets.old) }
 {
     for _ in 0..=MOST_RINGS {

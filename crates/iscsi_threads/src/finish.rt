@@ -92,7 +92,8 @@ fn make_job_rooms(
     outlets: &[Outlet],
     fresh: usize,
 ) -> Result<Vec<Vec<u64>>, AllocError>
-    ensures { IfOk result (λ rooms. (vec_len rooms ≡ length outlets.now) × AllReadyFor outlets.now fresh rooms.items (length outlets.now)) }
+    ensures { IfOk result (λ rooms. (vec_len rooms ≡ length outlets.now)
+        × AllReadyFor outlets.now fresh rooms.items (length outlets.now)) }
 {
     let beside = fresh.checked_add(PLACES).ok_or(AllocError)?;
     let mut rooms = Vec::with_capacity(alloc, outlets.len())?;
@@ -109,7 +110,8 @@ fn drain_ring<T: Drop>(consumer: &mut Consumer<T>, producer: &mut Producer<T>, r
     requires pair { IsPair producer.old consumer.old }
     requires room { (rest.old.items ≡ []) × (consumer_capacity consumer.old ≤ vec_capacity rest.old) }
     ensures rest { sent producer.old ≡ received consumer.old ++ rest.new.items }
-    ensures places { (consumer_capacity consumer.new ≡ consumer_capacity consumer.old) × (producer_capacity producer.new ≡ producer_capacity producer.old) }
+    ensures places { (consumer_capacity consumer.new ≡ consumer_capacity consumer.old)
+        × (producer_capacity producer.new ≡ producer_capacity producer.old) }
 {
     let count = consumer.slots_beside(producer);
     for _ in 0..count {
@@ -123,7 +125,8 @@ fn drain_jobs(consumer: &mut Consumer<Job>, producer: &mut Producer<Job>, untake
     requires room { (untaken.old.items ≡ []) × (consumer_capacity consumer.old ≤ vec_capacity untaken.old) }
     ensures taken { IsPrefix (received consumer.old) (sent producer.old) }
     ensures untaken { map ticket_of (sent producer.old) ≡ map ticket_of (received consumer.old) ++ untaken.new.items }
-    ensures few { (vec_len untaken.new ≤ consumer_capacity consumer.old) × (vec_capacity untaken.new ≡ vec_capacity untaken.old) }
+    ensures few { (vec_len untaken.new ≤ consumer_capacity consumer.old)
+        × (vec_capacity untaken.new ≡ vec_capacity untaken.old) }
     ensures places { consumer_capacity consumer.new ≡ consumer_capacity consumer.old }
 {
     let waiting = consumer.slots_beside(producer);
@@ -136,7 +139,8 @@ fn drain_jobs(consumer: &mut Consumer<Job>, producer: &mut Producer<Job>, untake
 fn drain_backlog(backlog: &mut VecDeque<Job>, untaken: &mut Vec<u64>)
     requires { vec_len untaken.old + deque_len backlog.old ≤ vec_capacity untaken.old }
     ensures untaken { untaken.new.items ≡ untaken.old.items ++ map ticket_of backlog.old.items }
-    ensures few { (vec_len untaken.new ≡ vec_len untaken.old + deque_len backlog.old) × (vec_capacity untaken.new ≡ vec_capacity untaken.old) }
+    ensures few { (vec_len untaken.new ≡ vec_len untaken.old + deque_len backlog.old)
+        × (vec_capacity untaken.new ≡ vec_capacity untaken.old) }
 {
     for _ in 0..backlog.len() {
         let Some(job) = backlog.pop_front() else {
@@ -158,7 +162,8 @@ fn drain_outlet(
     requires answers { (unread.old.items ≡ []) × (64 ≤ vec_capacity unread.old) }
     ensures taken { IsPrefix (taken port.old) (given outlet.old) }
     ensures untaken { map ticket_of (given outlet.old) ≡ map ticket_of (taken port.old) ++ untaken.new.items }
-    ensures few { (vec_len untaken.new ≤ 64 + deque_len outlet.old.backlog) × (vec_capacity untaken.new ≡ vec_capacity untaken.old) }
+    ensures few { (vec_len untaken.new ≤ 64 + deque_len outlet.old.backlog)
+        × (vec_capacity untaken.new ≡ vec_capacity untaken.old) }
     ensures unread { answered port.old ≡ heard outlet.old ++ unread.new.items }
 {
     drain_jobs(&mut port.jobs, &mut outlet.jobs, untaken);
@@ -169,7 +174,8 @@ fn drain_outlet(
 // Empties each ring of headers.
 fn drain_inlets(inlets: &mut Vec<Inlet>, ports: &mut Vec<Port>, left: &mut Vec<Vec<[u8; 48]>>)
     requires pairs { map port_ring ports.old.items ≡ map inlet_ring inlets.old.items }
-    requires room { (vec_len left.old ≡ vec_len ports.old) × (vec_len inlets.old ≡ vec_len ports.old) × AllReady left.old.items }
+    requires room { (vec_len left.old ≡ vec_len ports.old) × (vec_len inlets.old ≡ vec_len ports.old)
+        × AllReady left.old.items }
     ensures left { HeadersLeft ports.old.items inlets.old.items left.new.items (vec_len ports.old) }
     ensures len { vec_len left.new ≡ vec_len left.old }
 {
@@ -186,9 +192,11 @@ fn drain_outlets(
     unread: &mut Vec<Vec<Answer>>,
 )
     requires pairs { map unit_rings units.old.items ≡ map outlet_rings outlets.old.items }
-    requires lens { (vec_len outlets.old ≡ vec_len units.old) × (vec_len untaken.old ≡ vec_len units.old) × (vec_len unread.old ≡ vec_len units.old) }
+    requires lens { (vec_len outlets.old ≡ vec_len units.old) × (vec_len untaken.old ≡ vec_len units.old)
+        × (vec_len unread.old ≡ vec_len units.old) }
     requires room { AllReadyFor outlets.old.items 0 untaken.old.items (vec_len units.old) × AllReady unread.old.items }
-    ensures left { UnitsLeft units.old.items outlets.old.items untaken.old.items untaken.new.items unread.new.items (vec_len units.old) }
+    ensures left { UnitsLeft units.old.items outlets.old.items untaken.old.items untaken.new.items unread.new.items
+        (vec_len units.old) }
     ensures len { (vec_len untaken.new ≡ vec_len untaken.old) × (vec_len unread.new ≡ vec_len unread.old) }
 {
     for i in 0..units.len() {
@@ -246,7 +254,8 @@ impl Loop {
     pub fn finish(self, ports: Vec<Port>, units: Vec<UnitPort>) -> Result<Outcome, Unfinished>
         requires { Belong self ports.items units.items }
         ensures ok { IfOk result (λ outcome. Finished self ports.items units.items outcome) }
-        ensures err { IfErr result (λ u. (u.fault ≡ LoopFault.NoMemory) × (u.core ≡ self) × (u.ports ≡ ports) × (u.units ≡ units)) }
+        ensures err { IfErr result (λ u. (u.fault ≡ LoopFault.NoMemory) × (u.core ≡ self) × (u.ports ≡ ports)
+            × (u.units ≡ units)) }
     {
         let Ok(log) = self.make_log() else {
             return Err(hand_back(self, ports, units));
@@ -268,7 +277,8 @@ impl Loop {
     pub fn end(self, ports: Vec<Port>, units: Vec<UnitPort>) -> Result<Ended, Unfinished>
         requires { Belong self ports.items units.items }
         ensures ok { IfOk result (λ ended. EndedAs self ports.items units.items ended) }
-        ensures err { IfErr result (λ u. (u.fault ≡ LoopFault.NoMemory) × (u.core ≡ self) × (u.ports ≡ ports) × (u.units ≡ units)) }
+        ensures err { IfErr result (λ u. (u.fault ≡ LoopFault.NoMemory) × (u.core ≡ self) × (u.ports ≡ ports)
+            × (u.units ≡ units)) }
     {
         let Ok(rooms) = self.make_all_rooms() else {
             return Err(hand_back(self, ports, units));

@@ -19,7 +19,8 @@ pub(crate) struct Posts<'a> {
 }
 
 impl<'a> Promise<Option<Port>> for Posts<'a> {
-    ghost kept_by = { λ p r. IfSome r (λ q. (port_ring q ≡ port_ring p.port.value) × (posted q ≡ posted p.port.value ++ p.list.now)) };
+    ghost kept_by = { λ p r. IfSome r (λ q. (port_ring q ≡ port_ring p.port.value)
+        × (posted q ≡ posted p.port.value ++ p.list.now)) };
 }
 
 /// Starts a thread for each port. Whether all were started.
@@ -33,7 +34,8 @@ pub(crate) fn start_posts<'s, E, R: Wait + Sync>(
 ) -> bool
     requires lens { length lists.now ≡ vec_len ports }
     requires room { (handles.old.items ≡ []) × (vec_len ports ≤ vec_capacity handles.old) }
-    ensures { IsTrue result → (vec_len handles.new ≡ vec_len ports) × AllPosts handles.new.items ports.items lists.now (vec_len ports) }
+    ensures { IsTrue result → (vec_len handles.new ≡ vec_len ports)
+        × AllPosts handles.new.items ports.items lists.now (vec_len ports) }
 {
     let mut i = 0;
     for port in ports {
@@ -61,7 +63,8 @@ pub(crate) fn join_posts<'s, R: Threads>(
     room: Vec<Port>,
 ) -> Option<Vec<Port>>
     requires room { (room.items ≡ []) × (vec_len handles ≤ vec_capacity room) }
-    ensures { IfSome result (λ ports. (vec_len ports ≡ vec_len handles.entry) × AllPostedOn handles.entry.items ports.items (vec_len handles.entry)) }
+    ensures { IfSome result (λ ports. (vec_len ports ≡ vec_len handles.entry)
+        × AllPostedOn handles.entry.items ports.items (vec_len handles.entry)) }
 {
     let mut ports = room;
     for handle in handles {

@@ -27,9 +27,11 @@ fn is_empty_at(inlets: &mut Vec<Inlet>, ports: &mut Vec<Port>, at: usize) -> boo
     requires pairs { map port_ring ports.old.items ≡ map inlet_ring inlets.old.items }
     ensures got { map got inlets.new.items ≡ map got inlets.old.items }
     ensures posted { map posted ports.new.items ≡ map posted ports.old.items }
-    ensures rings { (map inlet_ring inlets.new.items ≡ map inlet_ring inlets.old.items) × (map port_ring ports.new.items ≡ map port_ring ports.old.items) }
+    ensures rings { (map inlet_ring inlets.new.items ≡ map inlet_ring inlets.old.items)
+        × (map port_ring ports.new.items ≡ map port_ring ports.old.items) }
     ensures len { (vec_len inlets.new ≡ vec_len inlets.old) × (vec_len ports.new ≡ vec_len ports.old) }
-    ensures empty { (p : Port) (i : Inlet) → IsTrue result → posted (slice_index_or ports.old.items at p) ≡ got (slice_index_or inlets.old.items at i) }
+    ensures empty { (p : Port) (i : Inlet) → IsTrue result →
+        posted (slice_index_or ports.old.items at p) ≡ got (slice_index_or inlets.old.items at i) }
 {
     inlets[at].is_empty(&mut ports[at])
 }
@@ -43,7 +45,8 @@ fn are_empty(inlets: &mut Vec<Inlet>, ports: &mut Vec<Port>) -> bool
     requires { map port_ring ports.old.items ≡ map inlet_ring inlets.old.items }
     ensures got { map got inlets.new.items ≡ map got inlets.old.items }
     ensures posted { map posted ports.new.items ≡ map posted ports.old.items }
-    ensures rings { (map inlet_ring inlets.new.items ≡ map inlet_ring inlets.old.items) × (map port_ring ports.new.items ≡ map port_ring ports.old.items) }
+    ensures rings { (map inlet_ring inlets.new.items ≡ map inlet_ring inlets.old.items)
+        × (map port_ring ports.new.items ≡ map port_ring ports.old.items) }
     ensures len { vec_len inlets.new ≡ vec_len inlets.old }
     ensures empty { IsTrue result → map posted ports.new.items ≡ map got inlets.new.items }
 {

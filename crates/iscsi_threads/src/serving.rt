@@ -39,8 +39,10 @@ pub fn serve<R: Threads + Wait + Sync, W: UnitWork + Sync>(
     work: &W,
 ) -> Result<Outcome, LoopFault>
     ensures served { IfOk result (λ outcome. Served (setting_of options) lists.items outcome) }
-    ensures bad { is_valid (setting_of options) && length (setting_of options).conns == vec_len lists ≡ false → result ≡ Err LoopFault.BadOptions }
-    ensures good { is_valid (setting_of options) && length (setting_of options).conns == vec_len lists ≡ true → result ≢ Err LoopFault.BadOptions }
+    ensures bad { is_valid (setting_of options) && length (setting_of options).conns == vec_len lists ≡ false →
+        result ≡ Err LoopFault.BadOptions }
+    ensures good { is_valid (setting_of options) && length (setting_of options).conns == vec_len lists ≡ true →
+        result ≢ Err LoopFault.BadOptions }
 {
     let (core, ports, units) = run_threads(rt, alloc, options, &lists, work)?;
     let Ok(outcome) = core.finish(ports, units) else {
@@ -58,8 +60,10 @@ pub fn serve_unlogged<R: Threads + Wait + Sync, W: UnitWork + Sync>(
     work: &W,
 ) -> Result<Ended, LoopFault>
     ensures served { IfOk result (λ ended. ServedUnlogged (setting_of options) lists.items ended) }
-    ensures bad { is_valid (setting_of options) && length (setting_of options).conns == vec_len lists ≡ false → result ≡ Err LoopFault.BadOptions }
-    ensures good { is_valid (setting_of options) && length (setting_of options).conns == vec_len lists ≡ true → result ≢ Err LoopFault.BadOptions }
+    ensures bad { is_valid (setting_of options) && length (setting_of options).conns == vec_len lists ≡ false →
+        result ≡ Err LoopFault.BadOptions }
+    ensures good { is_valid (setting_of options) && length (setting_of options).conns == vec_len lists ≡ true →
+        result ≢ Err LoopFault.BadOptions }
 {
     let (core, ports, units) = run_threads(rt, alloc, options, &lists, work)?;
     let Ok(ended) = core.end(ports, units) else {
@@ -101,8 +105,10 @@ fn run_threads<R: Threads + Wait + Sync, W: UnitWork + Sync>(
     work: &W,
 ) -> Result<(Loop, Vec<Port>, Vec<UnitPort>), LoopFault>
     ensures ran { IfOk result (λ r. Ran (setting_of options) lists.now r.0 r.1.items r.2.items) }
-    ensures bad { is_valid (setting_of options) && length (setting_of options).conns == length lists.now ≡ false → result ≡ Err LoopFault.BadOptions }
-    ensures good { is_valid (setting_of options) && length (setting_of options).conns == length lists.now ≡ true → result ≢ Err LoopFault.BadOptions }
+    ensures bad { is_valid (setting_of options) && length (setting_of options).conns == length lists.now ≡ false →
+        result ≡ Err LoopFault.BadOptions }
+    ensures good { is_valid (setting_of options) && length (setting_of options).conns == length lists.now ≡ true →
+        result ≢ Err LoopFault.BadOptions }
 {
     if lists.len() != options.conns.len() {
         return Err(LoopFault::BadOptions);
@@ -133,7 +139,8 @@ fn in_scope<R: Threads + Wait + Sync, W: UnitWork + Sync>(
         rt,
         move |scope| -> Result<(Loop, Vec<Port>, Vec<UnitPort>), LoopFault>
             requires { Opened (setting core) core ports.items units.items × (length lists.now ≡ vec_len ports) }
-            ensures { IfOk result (λ r. Ran (setting core) lists.entry.now r.0 r.1.items r.2.items) × (result ≢ Err LoopFault.BadOptions) }
+            ensures { IfOk result (λ r. Ran (setting core) lists.entry.now r.0 r.1.items r.2.items)
+                × (result ≢ Err LoopFault.BadOptions) }
         {
             let ran = within(rt, scope, core, ports, units, lists, work, shared);
             shared.stop_all();

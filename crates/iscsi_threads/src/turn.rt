@@ -31,9 +31,12 @@ fn make_room(
     from: &mut Vec<u16>,
     out: &mut Vec<Effect>,
 ) -> Result<(), AllocError>
-    ensures room { OnOk result ((deque_len desk.new.dormant + bound ≤ deque_capacity desk.new.dormant) × (deque_len fresh.new + bound ≤ deque_capacity fresh.new) × (vec_len journal.new < vec_capacity journal.new) × (vec_len from.new < vec_capacity from.new) × (vec_len out.new + bound ≤ vec_capacity out.new)) }
+    ensures room { OnOk result ((deque_len desk.new.dormant + bound ≤ deque_capacity desk.new.dormant)
+        × (deque_len fresh.new + bound ≤ deque_capacity fresh.new) × (vec_len journal.new < vec_capacity journal.new)
+        × (vec_len from.new < vec_capacity from.new) × (vec_len out.new + bound ≤ vec_capacity out.new)) }
     ensures desk { seen desk.new ≡ seen desk.old }
-    ensures lists { (fresh.new.items ≡ fresh.old.items) × (journal.new.items ≡ journal.old.items) × (from.new.items ≡ from.old.items) × (out.new.items ≡ out.old.items) }
+    ensures lists { (fresh.new.items ≡ fresh.old.items) × (journal.new.items ≡ journal.old.items)
+        × (from.new.items ≡ from.old.items) × (out.new.items ≡ out.old.items) }
     ensures lens { (vec_len journal.new ≡ vec_len journal.old) × (vec_len from.new ≡ vec_len from.old) }
 {
     desk.dormant.reserve(bound)?;
@@ -55,9 +58,11 @@ impl Loop {
     pub fn turn(&mut self, out: &mut Vec<Effect>) -> Result<Turn, LoopFault>
         ensures same { SameLoop self.old self.new }
         ensures ok { IfOk result (λ t. Turned t self.old self.new out.old.items out.new.items) }
-        ensures exhausted { IsErrOf result LoopFault.Exhausted ↔ ((setting self.old).events ≤ length (journal self.old)) }
+        ensures exhausted { IsErrOf result LoopFault.Exhausted ↔
+            ((setting self.old).events ≤ length (journal self.old)) }
         ensures kinds { IfErr result (λ f. f ≢ LoopFault.Exhausted → f ≡ LoopFault.NoMemory) }
-        ensures err { OnErr result ((journal self.new ≡ journal self.old) × (sources self.new ≡ sources self.old) × (out.new.items ≡ out.old.items)) }
+        ensures err { OnErr result ((journal self.new ≡ journal self.old) × (sources self.new ≡ sources self.old)
+            × (out.new.items ≡ out.old.items)) }
     {
         let has_room = spread(&mut self.fresh, &mut self.outlets, &mut self.watch);
         fill_all(&mut self.outlets, &mut self.watch);

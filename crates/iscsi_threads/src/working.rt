@@ -42,7 +42,8 @@ pub(crate) fn start_works<'s, E, R: Wait + Sync, W: UnitWork + Sync>(
     requires few { vec_len ports ≤ 256 }
     requires fresh { (i : ℕ) (d : _) → i < vec_len ports → AllAnswered (slice_index_or ports.items i d) }
     requires room { (handles.old.items ≡ []) × (vec_len ports ≤ vec_capacity handles.old) }
-    ensures { IsTrue result → (vec_len handles.new ≡ vec_len ports) × AllWorks handles.new.items ports.items (vec_len ports) }
+    ensures { IsTrue result → (vec_len handles.new ≡ vec_len ports)
+        × AllWorks handles.new.items ports.items (vec_len ports) }
 {
     let mut unit: u16 = 0;
     for port in ports {

@@ -34,13 +34,18 @@ impl Session {
         requires counted { self.old.window.turned + count_by is_some self.old.window.places < self.old.taken }
         requires entered { self.old.entered + count_by is_some self.old.window.places < self.old.taken }
         requires waited { list_all (λ w. nat_lt (w.event + 1) self.old.taken) self.old.waiting ≡ true }
-        requires room { vec_len out.old + owed self.old.live self.old.sets + 6 * (count_by is_held self.old.window.places + length self.old.waiting + 1) + 1 ≤ vec_capacity out.old }
-        ensures settled { (o : Setting) (index : ℕ) (t : Trace) → self.old.taken ≡ index + 1 → Settled o self.old t → Settled o self.new (after_items (arrival o t (arrival_of o index t request)) t) }
-        ensures effects { (o : Setting) (index : ℕ) (t : Trace) → self.old.taken ≡ index + 1 → Settled o self.old t → out.new.items ≡ out.old.items ++ effects_of o t (arrival o t (arrival_of o index t request)) }
-        ensures received { (o : Setting) (index : ℕ) (t : Trace) → self.old.taken ≡ index + 1 → Settled o self.old t → HasOneMore (received t) (received (after_items (arrival o t (arrival_of o index t request)) t)) }
+        requires room { vec_len out.old + owed self.old.live self.old.sets
+            + 6 * (count_by is_held self.old.window.places + length self.old.waiting + 1) + 1 ≤ vec_capacity out.old }
+        ensures settled { (o : Setting) (index : ℕ) (t : Trace) → self.old.taken ≡ index + 1 → Settled o self.old t →
+            Settled o self.new (after_items (arrival o t (arrival_of o index t request)) t) }
+        ensures effects { (o : Setting) (index : ℕ) (t : Trace) → self.old.taken ≡ index + 1 → Settled o self.old t →
+            out.new.items ≡ out.old.items ++ effects_of o t (arrival o t (arrival_of o index t request)) }
+        ensures received { (o : Setting) (index : ℕ) (t : Trace) → self.old.taken ≡ index + 1 → Settled o self.old t →
+            HasOneMore (received t) (received (after_items (arrival o t (arrival_of o index t request)) t)) }
         ensures taken { self.new.taken ≡ self.old.taken }
         ensures pace { KeepsPace self.old.window self.new.window }
-        ensures spent { vec_len out.new ≤ vec_len out.old + owed self.old.live self.old.sets + 6 * (count_by is_held self.old.window.places + length self.old.waiting + 1) + 1 }
+        ensures spent { vec_len out.new ≤ vec_len out.old + owed self.old.live self.old.sets
+            + 6 * (count_by is_held self.old.window.places + length self.old.waiting + 1) + 1 }
         ensures capacity { vec_capacity out.new ≡ vec_capacity out.old }
     {
         if self.is_open(request.conn()) {
@@ -58,13 +63,18 @@ impl Session {
         requires counted { self.old.window.turned + count_by is_some self.old.window.places < self.old.taken }
         requires entered { self.old.entered + count_by is_some self.old.window.places < self.old.taken }
         requires waited { list_all (λ w. nat_lt (w.event + 1) self.old.taken) self.old.waiting ≡ true }
-        requires room { vec_len out.old + owed self.old.live self.old.sets + 6 * (count_by is_held self.old.window.places + length self.old.waiting + 1) + 1 ≤ vec_capacity out.old }
-        ensures settled { (o : Setting) (index : ℕ) (t : Trace) → self.old.taken ≡ index + 1 → Settled o self.old t → Settled o self.new (after_items (arrival_open o t (arrival_of o index t request)) t) }
-        ensures effects { (o : Setting) (index : ℕ) (t : Trace) → self.old.taken ≡ index + 1 → Settled o self.old t → out.new.items ≡ out.old.items ++ effects_of o t (arrival_open o t (arrival_of o index t request)) }
-        ensures received { (o : Setting) (index : ℕ) (t : Trace) → self.old.taken ≡ index + 1 → Settled o self.old t → HasOneMore (received t) (received (after_items (arrival_open o t (arrival_of o index t request)) t)) }
+        requires room { vec_len out.old + owed self.old.live self.old.sets
+            + 6 * (count_by is_held self.old.window.places + length self.old.waiting + 1) + 1 ≤ vec_capacity out.old }
+        ensures settled { (o : Setting) (index : ℕ) (t : Trace) → self.old.taken ≡ index + 1 → Settled o self.old t →
+            Settled o self.new (after_items (arrival_open o t (arrival_of o index t request)) t) }
+        ensures effects { (o : Setting) (index : ℕ) (t : Trace) → self.old.taken ≡ index + 1 → Settled o self.old t →
+            out.new.items ≡ out.old.items ++ effects_of o t (arrival_open o t (arrival_of o index t request)) }
+        ensures received { (o : Setting) (index : ℕ) (t : Trace) → self.old.taken ≡ index + 1 → Settled o self.old t →
+            HasOneMore (received t) (received (after_items (arrival_open o t (arrival_of o index t request)) t)) }
         ensures taken { self.new.taken ≡ self.old.taken }
         ensures pace { KeepsPace self.old.window self.new.window }
-        ensures spent { vec_len out.new ≤ vec_len out.old + owed self.old.live self.old.sets + 6 * (count_by is_held self.old.window.places + length self.old.waiting + 1) + 1 }
+        ensures spent { vec_len out.new ≤ vec_len out.old + owed self.old.live self.old.sets
+            + 6 * (count_by is_held self.old.window.places + length self.old.waiting + 1) + 1 }
         ensures capacity { vec_capacity out.new ≡ vec_capacity out.old }
     {
         match kind_of(&request) {
@@ -89,13 +99,18 @@ impl Session {
         requires known { known_in (connection_of request) self.old.conns ≡ true }
         requires counted { self.old.window.turned + count_by is_some self.old.window.places < self.old.taken }
         requires entered { self.old.entered + count_by is_some self.old.window.places < self.old.taken }
-        requires room { vec_len out.old + owed self.old.live self.old.sets + 6 * (count_by is_held self.old.window.places + length self.old.waiting + 1) ≤ vec_capacity out.old }
-        ensures settled { (o : Setting) (index : ℕ) (t : Trace) → self.old.taken ≡ index + 1 → Settled o self.old t → Settled o self.new (after_items (numbered o t (arrival_of o index t request)) t) }
-        ensures effects { (o : Setting) (index : ℕ) (t : Trace) → self.old.taken ≡ index + 1 → Settled o self.old t → out.new.items ≡ out.old.items ++ effects_of o t (numbered o t (arrival_of o index t request)) }
-        ensures received { (o : Setting) (index : ℕ) (t : Trace) → self.old.taken ≡ index + 1 → Settled o self.old t → HasOneMore (received t) (received (after_items (numbered o t (arrival_of o index t request)) t)) }
+        requires room { vec_len out.old + owed self.old.live self.old.sets
+            + 6 * (count_by is_held self.old.window.places + length self.old.waiting + 1) ≤ vec_capacity out.old }
+        ensures settled { (o : Setting) (index : ℕ) (t : Trace) → self.old.taken ≡ index + 1 → Settled o self.old t →
+            Settled o self.new (after_items (numbered o t (arrival_of o index t request)) t) }
+        ensures effects { (o : Setting) (index : ℕ) (t : Trace) → self.old.taken ≡ index + 1 → Settled o self.old t →
+            out.new.items ≡ out.old.items ++ effects_of o t (numbered o t (arrival_of o index t request)) }
+        ensures received { (o : Setting) (index : ℕ) (t : Trace) → self.old.taken ≡ index + 1 → Settled o self.old t →
+            HasOneMore (received t) (received (after_items (numbered o t (arrival_of o index t request)) t)) }
         ensures taken { self.new.taken ≡ self.old.taken }
         ensures pace { KeepsPace self.old.window self.new.window }
-        ensures spent { vec_len out.new ≤ vec_len out.old + owed self.old.live self.old.sets + 6 * (count_by is_held self.old.window.places + length self.old.waiting + 1) }
+        ensures spent { vec_len out.new ≤ vec_len out.old + owed self.old.live self.old.sets
+            + 6 * (count_by is_held self.old.window.places + length self.old.waiting + 1) }
         ensures capacity { vec_capacity out.new ≡ vec_capacity out.old }
     {
         match self.offer(&request) {
@@ -116,7 +131,8 @@ impl Session {
         ensures answer { result ≡ offer_to self.old.window request.now }
         ensures session { self.new ≡ with_offered self.old request.now }
         ensures held { count_by is_held self.new.window.places ≤ count_by is_held self.old.window.places + 1 }
-        ensures counted { self.new.window.turned + count_by is_some self.new.window.places ≤ self.old.window.turned + count_by is_some self.old.window.places + 1 }
+        ensures counted { self.new.window.turned + count_by is_some self.new.window.places ≤ self.old.window.turned
+            + count_by is_some self.old.window.places + 1 }
     {
         let place = self.window.place(request.cmd_sn());
         let offer = self.window.offer(request);
@@ -129,13 +145,23 @@ impl Session {
 
     /// Takes the turns that are due.
     fn take_turns(&mut self, out: &mut Vec<Effect>)
-        requires room { vec_len out.old + owed self.old.live self.old.sets + 6 * (count_by is_held self.old.window.places + length self.old.waiting) ≤ vec_capacity out.old }
-        ensures settled { (o : Setting) (t : Trace) → Agrees o self.old t → Settled o self.new (after_items (agenda o (number_expected self.old.window) (exp_of o t - number_expected self.old.window) t) t) }
-        ensures effects { (o : Setting) (t : Trace) → Agrees o self.old t → out.new.items ≡ out.old.items ++ effects_of o t (agenda o (number_expected self.old.window) (exp_of o t - number_expected self.old.window) t) }
-        ensures received { (o : Setting) (t : Trace) → Agrees o self.old t → received (after_items (agenda o (number_expected self.old.window) (exp_of o t - number_expected self.old.window) t) t) ≡ received t }
+        requires room { vec_len out.old + owed self.old.live self.old.sets
+            + 6 * (count_by is_held self.old.window.places + length self.old.waiting) ≤ vec_capacity out.old }
+        ensures settled { (o : Setting) (t : Trace) → Agrees o self.old t →
+            Settled o self.new (after_items
+            (agenda o (number_expected self.old.window) (exp_of o t - number_expected self.old.window) t) t) }
+        ensures effects { (o : Setting) (t : Trace) → Agrees o self.old t →
+            out.new.items ≡ out.old.items
+            ++ effects_of o t (agenda o (number_expected self.old.window) (exp_of o t - number_expected self.old.window)
+            t) }
+        ensures received { (o : Setting) (t : Trace) → Agrees o self.old t →
+            received (after_items
+            (agenda o (number_expected self.old.window) (exp_of o t - number_expected self.old.window) t) t)
+            ≡ received t }
         ensures taken { self.new.taken ≡ self.old.taken }
         ensures pace { KeepsPace self.old.window self.new.window }
-        ensures spent { vec_len out.new ≤ vec_len out.old + owed self.old.live self.old.sets + 6 * (count_by is_held self.old.window.places + length self.old.waiting) }
+        ensures spent { vec_len out.new ≤ vec_len out.old + owed self.old.live self.old.sets
+            + 6 * (count_by is_held self.old.window.places + length self.old.waiting) }
         ensures capacity { vec_capacity out.new ≡ vec_capacity out.old }
     {
         self.take_functions(out);
@@ -146,15 +172,19 @@ impl Session {
 
     /// Executes the functions that have waited for the next number.
     fn take_functions(&mut self, out: &mut Vec<Effect>)
-        requires room { vec_len out.old + owed self.old.live self.old.sets + 6 * length self.old.waiting ≤ vec_capacity out.old }
-        ensures agrees { (o : Setting) (t : Trace) → Agrees o self.old t → Agrees o self.new (after_items (functions_at o (number_expected self.old.window) t) t) }
-        ensures effects { (o : Setting) (t : Trace) → Agrees o self.old t → out.new.items ≡ out.old.items ++ effects_of o t (functions_at o (number_expected self.old.window) t) }
+        requires room { vec_len out.old + owed self.old.live self.old.sets + 6 * length self.old.waiting
+            ≤ vec_capacity out.old }
+        ensures agrees { (o : Setting) (t : Trace) → Agrees o self.old t →
+            Agrees o self.new (after_items (functions_at o (number_expected self.old.window) t) t) }
+        ensures effects { (o : Setting) (t : Trace) → Agrees o self.old t →
+            out.new.items ≡ out.old.items ++ effects_of o t (functions_at o (number_expected self.old.window) t) }
         ensures places { self.new.window.places ≡ self.old.window.places }
         ensures turned { self.new.window.turned ≡ self.old.window.turned }
         ensures first { self.new.window.first ≡ self.old.window.first }
         ensures taken { self.new.taken ≡ self.old.taken }
         ensures pace { KeepsPace self.old.window self.new.window }
-        ensures spent { vec_len out.new + owed self.new.live self.new.sets + 6 * length self.new.waiting ≤ vec_len out.old + owed self.old.live self.old.sets + 6 * length self.old.waiting }
+        ensures spent { vec_len out.new + owed self.new.live self.new.sets + 6 * length self.new.waiting
+            ≤ vec_len out.old + owed self.old.live self.old.sets + 6 * length self.old.waiting }
         ensures capacity { vec_capacity out.new ≡ vec_capacity out.old }
     {
         while self.take_function(out) {}
@@ -162,13 +192,16 @@ impl Session {
 
     /// Takes the turn of the next number, if it is received, and tells whether it was.
     fn turn_next(&mut self, out: &mut Vec<Effect>) -> bool
-        requires room { vec_len out.old + owed self.old.live self.old.sets + 6 * count_by is_held self.old.window.places ≤ vec_capacity out.old }
+        requires room { vec_len out.old + owed self.old.live self.old.sets + 6 * count_by is_held self.old.window.places
+            ≤ vec_capacity out.old }
         ensures answer { result ≡ is_some (at_place self.old.window 0) }
         ensures session { self.new ≡ turned_if self.old (at_place self.old.window 0) }
         ensures effects { out.new.items ≡ out.old.items ++ turn_effects self.old (at_place self.old.window 0) }
-        ensures spent { vec_len out.new + owed self.new.live self.new.sets + 6 * count_by is_held self.new.window.places ≤ vec_len out.old + owed self.old.live self.old.sets + 6 * count_by is_held self.old.window.places }
+        ensures spent { vec_len out.new + owed self.new.live self.new.sets + 6 * count_by is_held self.new.window.places
+            ≤ vec_len out.old + owed self.old.live self.old.sets + 6 * count_by is_held self.old.window.places }
         ensures capacity { vec_capacity out.new ≡ vec_capacity out.old }
-        ensures fewer { result ≡ true → count_by is_some self.new.window.places + 1 ≡ count_by is_some self.old.window.places }
+        ensures fewer { result ≡ true → count_by is_some self.new.window.places + 1
+            ≡ count_by is_some self.old.window.places }
         ensures waiting { length self.new.waiting ≤ length self.old.waiting }
     {
         let Some(turned) = self.window.advance() else {

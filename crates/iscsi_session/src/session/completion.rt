@@ -72,11 +72,14 @@ impl Session {
 pub(crate) fn finish(window: &mut Window, connections: &mut Connections, command: &Live)
     requires numbered { command.now.immediate ≡ false → 0 < window.old.unfinished }
     requires known { known_in command.now.conn connections.old.conns ≡ true }
-    requires some { command.now.immediate ≡ true → 0 < counted_on command.now.conn connections.old.conns connections.old.immediate }
+    requires some { command.now.immediate ≡ true →
+        0 < counted_on command.now.conn connections.old.conns connections.old.immediate }
     ensures window { window.new ≡ finished window.old command.now }
     ensures connections { connections.new ≡ record connections.old { immediate = connections.new.immediate } }
     ensures long { length connections.new.immediate ≡ length connections.old.immediate }
-    ensures counted { (cid : ℕ) → counted_on cid connections.old.conns connections.new.immediate + (if command.now.immediate && command.now.conn == cid then 1 else 0) ≡ counted_on cid connections.old.conns connections.old.immediate }
+    ensures counted { (cid : ℕ) → counted_on cid connections.old.conns connections.new.immediate
+        + (if command.now.immediate && command.now.conn == cid then 1 else 0)
+        ≡ counted_on cid connections.old.conns connections.old.immediate }
 {
     if command.immediate {
         connections.finish_immediate(command.conn);

@@ -42,10 +42,13 @@ impl Session {
         requires numbered { is_immediate request ≡ false }
         requires counted { self.old.entered + count_by is_some self.old.window.places < self.old.taken }
         requires known { known_in (connection_of request) self.old.conns ≡ true }
-        requires room { vec_len out.old + owed self.old.live self.old.sets + 6 * count_by is_held self.old.window.places + 6 ≤ vec_capacity out.old }
+        requires room { vec_len out.old + owed self.old.live self.old.sets + 6 * count_by is_held self.old.window.places
+            + 6 ≤ vec_capacity out.old }
         ensures session { self.new ≡ with_executed self.old request event }
-        ensures effects { out.new.items ≡ out.old.items ++ Effect.Deliver request ∷ executed_effects self.old request event }
-        ensures spent { vec_len out.new + owed self.new.live self.new.sets + 6 * count_by is_held self.new.window.places ≤ vec_len out.old + owed self.old.live self.old.sets + 6 * count_by is_held self.old.window.places + 6 }
+        ensures effects { out.new.items ≡ out.old.items ++ Effect.Deliver request
+            ∷ executed_effects self.old request event }
+        ensures spent { vec_len out.new + owed self.new.live self.new.sets + 6 * count_by is_held self.new.window.places
+            ≤ vec_len out.old + owed self.old.live self.old.sets + 6 * count_by is_held self.old.window.places + 6 }
         ensures waiting { length self.new.waiting ≤ length self.old.waiting }
         ensures capacity { vec_capacity out.new ≡ vec_capacity out.old }
     {
@@ -59,10 +62,13 @@ impl Session {
         requires turned { self.old.window.turned + count_by is_some self.old.window.places < self.old.taken }
         requires counted { self.old.entered + count_by is_some self.old.window.places < self.old.taken }
         requires known { known_in (connection_of request) self.old.conns ≡ true }
-        requires room { vec_len out.old + owed self.old.live self.old.sets + 6 * count_by is_held self.old.window.places + 6 ≤ vec_capacity out.old }
+        requires room { vec_len out.old + owed self.old.live self.old.sets + 6 * count_by is_held self.old.window.places
+            + 6 ≤ vec_capacity out.old }
         ensures session { self.new ≡ with_executed self.old request (self.old.taken - 1) }
-        ensures effects { out.new.items ≡ out.old.items ++ Effect.Immediate request ∷ executed_effects self.old request (self.old.taken - 1) }
-        ensures spent { vec_len out.new + owed self.new.live self.new.sets + 6 * count_by is_held self.new.window.places ≤ vec_len out.old + owed self.old.live self.old.sets + 6 * count_by is_held self.old.window.places + 6 }
+        ensures effects { out.new.items ≡ out.old.items ++ Effect.Immediate request
+            ∷ executed_effects self.old request (self.old.taken - 1) }
+        ensures spent { vec_len out.new + owed self.new.live self.new.sets + 6 * count_by is_held self.new.window.places
+            ≤ vec_len out.old + owed self.old.live self.old.sets + 6 * count_by is_held self.old.window.places + 6 }
         ensures waiting { length self.new.waiting ≤ length self.old.waiting }
         ensures capacity { vec_capacity out.new ≡ vec_capacity out.old }
     {
@@ -76,7 +82,8 @@ impl Session {
         requires known { known_in (connection_of request.now) self.old.conns ≡ true }
         requires room { vec_len out.old + 1 ≤ vec_capacity out.old }
         ensures session { self.new ≡ with_reply self.old (connection_of request.now) }
-        ensures effects { out.new.items ≡ out.old.items ++ reply_effects self.old (connection_of request.now) (Reply.Reject 5 (header_of request.now)) }
+        ensures effects { out.new.items ≡ out.old.items
+            ++ reply_effects self.old (connection_of request.now) (Reply.Reject 5 (header_of request.now)) }
         ensures len { vec_len out.new ≡ vec_len out.old + 1 }
         ensures capacity { vec_capacity out.new ≡ vec_capacity out.old }
     {
@@ -87,13 +94,16 @@ impl Session {
     /// Executes a request that arrived in this event.
     fn execute(&mut self, request: &Request, event: u64, out: &mut Vec<Effect>)
         requires space { is_immediate request.now ≡ false → HasRoom self.old.window }
-        requires turned { is_immediate request.now ≡ true → self.old.window.turned + count_by is_some self.old.window.places < self.old.taken }
+        requires turned { is_immediate request.now ≡ true →
+            self.old.window.turned + count_by is_some self.old.window.places < self.old.taken }
         requires counted { self.old.entered + count_by is_some self.old.window.places < self.old.taken }
         requires known { known_in (connection_of request.now) self.old.conns ≡ true }
-        requires room { vec_len out.old + owed self.old.live self.old.sets + 6 * count_by is_held self.old.window.places + 5 ≤ vec_capacity out.old }
+        requires room { vec_len out.old + owed self.old.live self.old.sets + 6 * count_by is_held self.old.window.places
+            + 5 ≤ vec_capacity out.old }
         ensures session { self.new ≡ with_executed self.old request.now event }
         ensures effects { out.new.items ≡ out.old.items ++ executed_effects self.old request.now event }
-        ensures spent { vec_len out.new + owed self.new.live self.new.sets + 6 * count_by is_held self.new.window.places ≤ vec_len out.old + owed self.old.live self.old.sets + 6 * count_by is_held self.old.window.places + 5 }
+        ensures spent { vec_len out.new + owed self.new.live self.new.sets + 6 * count_by is_held self.new.window.places
+            ≤ vec_len out.old + owed self.old.live self.old.sets + 6 * count_by is_held self.old.window.places + 5 }
         ensures waiting { length self.new.waiting ≤ length self.old.waiting }
         ensures capacity { vec_capacity out.new ≡ vec_capacity out.old }
     {
@@ -114,8 +124,10 @@ impl Session {
         requires known { known_in (connection_of request.now) self.old.conns ≡ true }
         requires room { vec_len out.old + 2 ≤ vec_capacity out.old }
         ensures session { self.new ≡ executed_as self.old request.now (verdict_by self.old request.now) }
-        ensures effects { out.new.items ≡ out.old.items ++ execution_effects self.old request.now (verdict_by self.old request.now) }
-        ensures spent { vec_len out.new + owed self.new.live self.new.sets ≤ vec_len out.old + owed self.old.live self.old.sets + 4 }
+        ensures effects { out.new.items ≡ out.old.items
+            ++ execution_effects self.old request.now (verdict_by self.old request.now) }
+        ensures spent { vec_len out.new + owed self.new.live self.new.sets ≤ vec_len out.old
+            + owed self.old.live self.old.sets + 4 }
         ensures capacity { vec_capacity out.new ≡ vec_capacity out.old }
     {
         match self.verdict(request) {
@@ -144,7 +156,8 @@ impl Session {
     /// Rules: `command/no-tag`, `command/attribute`, `command/tag-in-use`.
     fn scsi_verdict(&self, request: &Request) -> Verdict
         requires { known_in (connection_of request.now) self.now.conns ≡ true }
-        ensures { result ≡ scsi_verdict request.now (is_tag_kept self.now (tag_of request.now)) (is_crowded_by self.now request.now) (place_in self.now.sets request.now) }
+        ensures { result ≡ scsi_verdict request.now (is_tag_kept self.now (tag_of request.now))
+            (is_crowded_by self.now request.now) (place_in self.now.sets request.now) }
     {
         let itt = request.itt();
         if itt == NO_TAG || request.attr() > GREATEST_ATTR {
@@ -200,7 +213,8 @@ impl Session {
     /// A command enters the set of a unit, which has room for it. No live command has its tag.
     fn enter(&mut self, request: &Request, unit: u16, out: &mut Vec<Effect>)
         requires space { is_immediate request.now ≡ false → HasRoom self.old.window }
-        requires few { is_immediate request.now ≡ true → immediate_in self.old.live (connection_of request.now) < MOST_IMMEDIATE }
+        requires few { is_immediate request.now ≡ true →
+            immediate_in self.old.live (connection_of request.now) < MOST_IMMEDIATE }
         requires counted { self.old.entered + count_by is_some self.old.window.places < self.old.taken }
         requires known { known_in (connection_of request.now) self.old.conns ≡ true }
         requires unit { unit < length self.old.sets }
@@ -267,11 +281,14 @@ impl Session {
 fn begin(window: &mut Window, connections: &mut Connections, request: &Request)
     requires space { is_immediate request.now ≡ false → HasRoom window.old }
     requires known { known_in (connection_of request.now) connections.old.conns ≡ true }
-    requires few { is_immediate request.now ≡ true → counted_on (connection_of request.now) connections.old.conns connections.old.immediate < 255 }
+    requires few { is_immediate request.now ≡ true →
+        counted_on (connection_of request.now) connections.old.conns connections.old.immediate < 255 }
     ensures window { window.new ≡ started window.old request.now }
     ensures connections { connections.new ≡ record connections.old { immediate = connections.new.immediate } }
     ensures long { length connections.new.immediate ≡ length connections.old.immediate }
-    ensures counted { (cid : ℕ) → counted_on cid connections.old.conns connections.new.immediate ≡ counted_on cid connections.old.conns connections.old.immediate + (if is_immediate request.now && connection_of request.now == cid then 1 else 0) }
+    ensures counted { (cid : ℕ) → counted_on cid connections.old.conns connections.new.immediate
+        ≡ counted_on cid connections.old.conns connections.old.immediate
+        + (if is_immediate request.now && connection_of request.now == cid then 1 else 0) }
 {
     if request.immediate() {
         connections.begin_immediate(request.conn());

@@ -92,7 +92,9 @@ impl Session {
         ensures effects { out.new.items ≡ out.old.items ++ Effect.Empty sn ∷ [] }
         ensures len { vec_len out.new ≡ vec_len out.old + 1 }
         ensures capacity { vec_capacity out.new ≡ vec_capacity out.old }
-        ensures held { count_by is_held self.new.window.places + (if is_some (held_at self.old.window (place_in self.old.window sn)) then 1 else 0) ≡ count_by is_held self.old.window.places }
+        ensures held { count_by is_held self.new.window.places
+            + (if is_some (held_at self.old.window (place_in self.old.window sn)) then 1 else 0)
+            ≡ count_by is_held self.old.window.places }
         ensures turned { self.new.window.turned ≡ self.old.window.turned }
         ensures counted { count_by is_some self.new.window.places ≡ count_by is_some self.old.window.places }
     {
@@ -113,7 +115,8 @@ impl Session {
         ensures spent { vec_len out.new ≤ vec_len out.old + 1 }
         ensures capacity { vec_capacity out.new ≡ vec_capacity out.old }
         ensures held { count_by is_held self.new.window.places ≡ count_by is_held self.old.window.places }
-        ensures counted { self.new.window.turned + count_by is_some self.new.window.places ≤ self.old.window.turned + count_by is_some self.old.window.places + 1 }
+        ensures counted { self.new.window.turned + count_by is_some self.new.window.places ≤ self.old.window.turned
+            + count_by is_some self.old.window.places + 1 }
     {
         if self.window.void(sn) {
             out.push_reserved(Effect::Void { sn });

@@ -32,7 +32,8 @@ impl Session {
         requires room { vec_len out.old + owed self.old.live self.old.sets ≤ vec_capacity out.old }
         ensures session { self.new ≡ with_left self.old unit (is_covered cover.now) }
         ensures effects { out.new.items ≡ out.old.items ++ leaving_effects self.old unit (is_covered cover.now) }
-        ensures spent { vec_len out.new + owed self.new.live self.new.sets ≤ vec_len out.old + owed self.old.live self.old.sets }
+        ensures spent { vec_len out.new + owed self.new.live self.new.sets ≤ vec_len out.old
+            + owed self.old.live self.old.sets }
         ensures capacity { vec_capacity out.new ≡ vec_capacity out.old }
     {
         let mut choice = Choice::Covered(*cover);
@@ -47,7 +48,8 @@ impl Session {
         requires room { vec_len out.old + owed self.old.live self.old.sets ≤ vec_capacity out.old }
         ensures session { self.new ≡ with_left self.old unit (covers_ticket ticket) }
         ensures effects { out.new.items ≡ out.old.items ++ leaving_effects self.old unit (covers_ticket ticket) }
-        ensures spent { vec_len out.new + owed self.new.live self.new.sets ≤ vec_len out.old + owed self.old.live self.old.sets }
+        ensures spent { vec_len out.new + owed self.new.live self.new.sets ≤ vec_len out.old
+            + owed self.old.live self.old.sets }
         ensures capacity { vec_capacity out.new ≡ vec_capacity out.old }
     {
         self.leave_next(unit, &Choice::Ticket(ticket), out);
@@ -59,7 +61,8 @@ impl Session {
         requires room { vec_len out.old + owed self.old.live self.old.sets ≤ vec_capacity out.old }
         ensures session { self.new ≡ with_given self.old unit }
         ensures effects { out.new.items ≡ out.old.items ++ enable_effects unit (set_at self.old unit).list }
-        ensures spent { vec_len out.new + owed self.new.live self.new.sets ≤ vec_len out.old + owed self.old.live self.old.sets }
+        ensures spent { vec_len out.new + owed self.new.live self.new.sets ≤ vec_len out.old
+            + owed self.old.live self.old.sets }
         ensures capacity { vec_capacity out.new ≡ vec_capacity out.old }
     {
         sets::tell(&mut self.sets, unit, out);
@@ -70,13 +73,17 @@ impl Session {
         requires unit { unit < length self.old.sets }
         requires room { vec_len out.old + owed self.old.live self.old.sets ≤ vec_capacity out.old }
         // What is still to leave is the rest of what was to leave before, and has greater tickets than what left.
-        ensures session { with_left self.new unit (chosen (later choice.now result)) ≡ with_left self.old unit (chosen choice.now) }
-        ensures effects { out.new.items ++ leaving_effects self.new unit (chosen (later choice.now result)) ≡ out.old.items ++ leaving_effects self.old unit (chosen choice.now) }
+        ensures session { with_left self.new unit (chosen (later choice.now result))
+            ≡ with_left self.old unit (chosen choice.now) }
+        ensures effects { out.new.items ++ leaving_effects self.new unit (chosen (later choice.now result))
+            ≡ out.old.items ++ leaving_effects self.old unit (chosen choice.now) }
         ensures last { result ≡ None → has_covered (chosen choice.now) (set_at self.new unit) ≡ false }
-        ensures one { (ticket : ℕ) → choice.now ≡ Choice.Ticket ticket → has_covered (chosen choice.now) (set_at self.new unit) ≡ false }
+        ensures one { (ticket : ℕ) → choice.now ≡ Choice.Ticket ticket →
+            has_covered (chosen choice.now) (set_at self.new unit) ≡ false }
         ensures fewer { IsSome result → length (set_at self.new unit).list < length (set_at self.old unit).list }
         ensures units { length self.new.sets ≡ length self.old.sets }
-        ensures spent { vec_len out.new + owed self.new.live self.new.sets ≤ vec_len out.old + owed self.old.live self.old.sets }
+        ensures spent { vec_len out.new + owed self.new.live self.new.sets ≤ vec_len out.old
+            + owed self.old.live self.old.sets }
         ensures capacity { vec_capacity out.new ≡ vec_capacity out.old }
     {
         let ticket = take(&mut self.sets, unit, choice)?;
@@ -94,8 +101,11 @@ impl Session {
 /// The oldest of the chosen commands leaves the set of its unit: its ticket.
 fn take(sets: &mut [TaskSet], unit: u16, choice: &Choice) -> Option<u64>
     requires { unit < length sets.old }
-    ensures ticket { result ≡ option_map (λ t. t.ticket) (find (chosen choice.now) (tasks_in (slice_index_or sets.old unit (opened 0)))) }
-    ensures sets { sets.new ≡ slice_set sets.old unit (left_by (slice_index_or sets.old unit (opened 0)) (find (chosen choice.now) (tasks_in (slice_index_or sets.old unit (opened 0))))) }
+    ensures ticket { result ≡ option_map (λ t. t.ticket)
+        (find (chosen choice.now) (tasks_in (slice_index_or sets.old unit (opened 0)))) }
+    ensures sets { sets.new ≡ slice_set sets.old unit
+        (left_by (slice_index_or sets.old unit (opened 0))
+        (find (chosen choice.now) (tasks_in (slice_index_or sets.old unit (opened 0))))) }
 {
     let set = &mut sets[usize::from(unit)];
     let task = match choice {

@@ -45,10 +45,13 @@ impl Session {
     /// Executes a Logout Request.
     pub(crate) fn log_out(&mut self, request: &Request, out: &mut Vec<Effect>)
         requires known { known_in (connection_of request.now) self.old.conns ≡ true }
-        requires room { vec_len out.old + owed self.old.live self.old.sets + 6 * count_by is_held self.old.window.places + 3 ≤ vec_capacity out.old }
+        requires room { vec_len out.old + owed self.old.live self.old.sets + 6 * count_by is_held self.old.window.places
+            + 3 ≤ vec_capacity out.old }
         ensures session { self.new ≡ closed_as self.old request.now (closing_by self.old request.now) }
-        ensures effects { out.new.items ≡ out.old.items ++ closed_effects self.old request.now (closing_by self.old request.now) }
-        ensures spent { vec_len out.new + owed self.new.live self.new.sets + 6 * count_by is_held self.new.window.places ≤ vec_len out.old + owed self.old.live self.old.sets + 6 * count_by is_held self.old.window.places + 3 }
+        ensures effects { out.new.items ≡ out.old.items
+            ++ closed_effects self.old request.now (closing_by self.old request.now) }
+        ensures spent { vec_len out.new + owed self.new.live self.new.sets + 6 * count_by is_held self.new.window.places
+            ≤ vec_len out.old + owed self.old.live self.old.sets + 6 * count_by is_held self.old.window.places + 3 }
         ensures capacity { vec_capacity out.new ≡ vec_capacity out.old }
     {
         match self.closing(request) {
@@ -79,7 +82,8 @@ impl Session {
     ///
     /// Rules: `logout/connection`, `logout/unknown-cid`.
     fn closing_conn(&self, request: &Request) -> Closing
-        ensures { result ≡ (if is_among_open (cid_of request.now) self.now.open_conns then Closing.Conn (cid_of request.now) else Closing.Refused (Reply.Logout (tag_of request.now) 1)) }
+        ensures { result ≡ (if is_among_open (cid_of request.now) self.now.open_conns then Closing.Conn
+            (cid_of request.now) else Closing.Refused (Reply.Logout (tag_of request.now) 1)) }
     {
         if self.is_open(request.cid()) {
             Closing::Conn(request.cid())
@@ -91,10 +95,12 @@ impl Session {
     /// Closes a connection, or the session for None. What of it is live, held or waits is over.
     fn part(&mut self, request: &Request, whose: Option<u16>, out: &mut Vec<Effect>)
         requires known { known_in (connection_of request.now) self.old.conns ≡ true }
-        requires room { vec_len out.old + owed self.old.live self.old.sets + 6 * count_by is_held self.old.window.places + 3 ≤ vec_capacity out.old }
+        requires room { vec_len out.old + owed self.old.live self.old.sets + 6 * count_by is_held self.old.window.places
+            + 3 ≤ vec_capacity out.old }
         ensures session { self.new ≡ parted self.old request.now whose }
         ensures effects { out.new.items ≡ out.old.items ++ parting_effects self.old request.now whose }
-        ensures spent { vec_len out.new + owed self.new.live self.new.sets + 6 * count_by is_held self.new.window.places ≤ vec_len out.old + owed self.old.live self.old.sets + 6 * count_by is_held self.old.window.places + 3 }
+        ensures spent { vec_len out.new + owed self.new.live self.new.sets + 6 * count_by is_held self.new.window.places
+            ≤ vec_len out.old + owed self.old.live self.old.sets + 6 * count_by is_held self.old.window.places + 3 }
         ensures capacity { vec_capacity out.new ≡ vec_capacity out.old }
     {
         self.leave_all(whose, out);
@@ -111,8 +117,10 @@ impl Session {
     fn leave_all(&mut self, whose: Option<u16>, out: &mut Vec<Effect>)
         requires room { vec_len out.old + owed self.old.live self.old.sets ≤ vec_capacity out.old }
         ensures session { self.new ≡ with_all_left self.old (units_of self.old) (covers_of whose) }
-        ensures effects { out.new.items ≡ out.old.items ++ all_leaving_effects self.old (units_of self.old) (covers_of whose) }
-        ensures spent { vec_len out.new + owed self.new.live self.new.sets ≤ vec_len out.old + owed self.old.live self.old.sets }
+        ensures effects { out.new.items ≡ out.old.items
+            ++ all_leaving_effects self.old (units_of self.old) (covers_of whose) }
+        ensures spent { vec_len out.new + owed self.new.live self.new.sets ≤ vec_len out.old
+            + owed self.old.live self.old.sets }
         ensures capacity { vec_capacity out.new ≡ vec_capacity out.old }
         ensures places { self.new.window.places ≡ self.old.window.places }
     {
@@ -127,7 +135,8 @@ impl Session {
         requires room { vec_len out.old + count_by is_held self.old.window.places ≤ vec_capacity out.old }
         ensures session { self.new ≡ with_emptied self.old whose }
         ensures effects { out.new.items ≡ out.old.items ++ emptying_effects self.old whose }
-        ensures spent { vec_len out.new + count_by is_held self.new.window.places ≤ vec_len out.old + count_by is_held self.old.window.places }
+        ensures spent { vec_len out.new + count_by is_held self.new.window.places ≤ vec_len out.old
+            + count_by is_held self.old.window.places }
         ensures capacity { vec_capacity out.new ≡ vec_capacity out.old }
     {
         for ahead in 0..self.window.size() {
@@ -142,10 +151,12 @@ impl Session {
         requires lowest { is_clear_below whose ahead self.old.window.places ≡ true }
         // What is still to be taken out is the rest of what was to be before.
         ensures session { with_emptied self.new whose ≡ with_emptied self.old whose }
-        ensures effects { out.new.items ++ emptying_effects self.new whose ≡ out.old.items ++ emptying_effects self.old whose }
+        ensures effects { out.new.items ++ emptying_effects self.new whose ≡ out.old.items
+            ++ emptying_effects self.old whose }
         ensures lowest { is_clear_below whose (ahead + 1) self.new.window.places ≡ true }
         ensures long { length self.new.window.places ≡ length self.old.window.places }
-        ensures spent { vec_len out.new + count_by is_held self.new.window.places ≤ vec_len out.old + count_by is_held self.old.window.places }
+        ensures spent { vec_len out.new + count_by is_held self.new.window.places ≤ vec_len out.old
+            + count_by is_held self.old.window.places }
         ensures capacity { vec_capacity out.new ≡ vec_capacity out.old }
     {
         if let Some(sn) = self.window.drop_at(ahead, whose) {
@@ -197,7 +208,8 @@ impl Session {
         requires room { vec_len out.old + owed self.old.live self.old.sets ≤ vec_capacity out.old }
         ensures session { self.new ≡ with_all_given self.old }
         ensures effects { out.new.items ≡ out.old.items ++ all_enable_effects self.old }
-        ensures spent { vec_len out.new + owed self.new.live self.new.sets ≤ vec_len out.old + owed self.old.live self.old.sets }
+        ensures spent { vec_len out.new + owed self.new.live self.new.sets ≤ vec_len out.old
+            + owed self.old.live self.old.sets }
         ensures capacity { vec_capacity out.new ≡ vec_capacity out.old }
     {
         for unit in 0..self.units() {

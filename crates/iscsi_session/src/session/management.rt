@@ -67,11 +67,16 @@ impl Session {
         requires known { known_in (connection_of request) self.old.conns ≡ true }
         requires turned { self.old.window.turned + count_by is_some self.old.window.places < self.old.taken }
         requires entered { self.old.entered + count_by is_some self.old.window.places < self.old.taken }
-        requires room { vec_len out.old + owed self.old.live self.old.sets + 6 * count_by is_held self.old.window.places + 6 ≤ vec_capacity out.old }
+        requires room { vec_len out.old + owed self.old.live self.old.sets + 6 * count_by is_held self.old.window.places
+            + 6 ≤ vec_capacity out.old }
         ensures session { self.new ≡ immediate_as self.old request (patience_by self.old request) }
-        ensures effects { out.new.items ≡ out.old.items ++ immediate_effects self.old request (patience_by self.old request) }
+        ensures effects { out.new.items ≡ out.old.items
+            ++ immediate_effects self.old request (patience_by self.old request) }
         ensures pace { KeepsPace self.old.window self.new.window }
-        ensures spent { vec_len out.new + owed self.new.live self.new.sets + 6 * (count_by is_held self.new.window.places + length self.new.waiting) ≤ vec_len out.old + owed self.old.live self.old.sets + 6 * (count_by is_held self.old.window.places + length self.old.waiting + 1) + 1 }
+        ensures spent { vec_len out.new + owed self.new.live self.new.sets
+            + 6 * (count_by is_held self.new.window.places + length self.new.waiting) ≤ vec_len out.old
+            + owed self.old.live self.old.sets
+            + 6 * (count_by is_held self.old.window.places + length self.old.waiting + 1) + 1 }
         ensures capacity { vec_capacity out.new ≡ vec_capacity out.old }
     {
         let itt = request.itt();
@@ -147,7 +152,8 @@ impl Session {
         requires known { known_in (connection_of request) self.old.conns ≡ true }
         requires room { vec_len out.old + 2 ≤ vec_capacity out.old }
         ensures session { self.new ≡ with_reply self.old (connection_of request) }
-        ensures effects { out.new.items ≡ out.old.items ++ Effect.Immediate request ∷ reply_effects self.old (connection_of request) reply }
+        ensures effects { out.new.items ≡ out.old.items ++ Effect.Immediate request
+            ∷ reply_effects self.old (connection_of request) reply }
         ensures len { vec_len out.new ≡ vec_len out.old + 2 }
         ensures capacity { vec_capacity out.new ≡ vec_capacity out.old }
     {
@@ -157,11 +163,13 @@ impl Session {
 
     /// Executes a function that has waited for the next number, if there is one, and tells whether there was.
     pub(crate) fn take_function(&mut self, out: &mut Vec<Effect>) -> bool
-        requires room { vec_len out.old + owed self.old.live self.old.sets + 6 * length self.old.waiting ≤ vec_capacity out.old }
+        requires room { vec_len out.old + owed self.old.live self.old.sets + 6 * length self.old.waiting
+            ≤ vec_capacity out.old }
         ensures answer { result ≡ is_some (next_waiting self.old) }
         ensures session { self.new ≡ function_if self.old (next_waiting self.old) }
         ensures effects { out.new.items ≡ out.old.items ++ function_effects self.old (next_waiting self.old) }
-        ensures spent { vec_len out.new + owed self.new.live self.new.sets + 6 * length self.new.waiting ≤ vec_len out.old + owed self.old.live self.old.sets + 6 * length self.old.waiting }
+        ensures spent { vec_len out.new + owed self.new.live self.new.sets + 6 * length self.new.waiting
+            ≤ vec_len out.old + owed self.old.live self.old.sets + 6 * length self.old.waiting }
         ensures capacity { vec_capacity out.new ≡ vec_capacity out.old }
         ensures fewer { result ≡ true → length self.new.waiting < length self.old.waiting }
         ensures places { self.new.window.places ≡ self.old.window.places }
@@ -186,11 +194,14 @@ impl Session {
         out: &mut Vec<Effect>,
     )
         requires known { known_in (connection_of request.now) self.old.conns ≡ true }
-        requires voids { may_wait_named request.now ≡ false → is_immediate request.now ≡ true → (self.old.window.turned + count_by is_some self.old.window.places < self.old.taken) × (self.old.entered + count_by is_some self.old.window.places < self.old.taken) }
+        requires voids { may_wait_named request.now ≡ false → is_immediate request.now ≡ true →
+            (self.old.window.turned + count_by is_some self.old.window.places < self.old.taken)
+            × (self.old.entered + count_by is_some self.old.window.places < self.old.taken) }
         requires room { vec_len out.old + owed self.old.live self.old.sets + 2 ≤ vec_capacity out.old }
         ensures session { self.new ≡ managed self.old request.now number event }
         ensures effects { out.new.items ≡ out.old.items ++ managed_effects self.old request.now number event }
-        ensures spent { vec_len out.new + owed self.new.live self.new.sets ≤ vec_len out.old + owed self.old.live self.old.sets + 2 }
+        ensures spent { vec_len out.new + owed self.new.live self.new.sets ≤ vec_len out.old
+            + owed self.old.live self.old.sets + 2 }
         ensures capacity { vec_capacity out.new ≡ vec_capacity out.old }
     {
         match self.refusal_of_function(request) {
@@ -224,11 +235,14 @@ impl Session {
     /// Executes a function that isn't refused.
     fn perform(&mut self, request: &Request, number: i64, event: u64, out: &mut Vec<Effect>)
         requires known { known_in (connection_of request.now) self.old.conns ≡ true }
-        requires voids { may_wait_named request.now ≡ false → is_immediate request.now ≡ true → (self.old.window.turned + count_by is_some self.old.window.places < self.old.taken) × (self.old.entered + count_by is_some self.old.window.places < self.old.taken) }
+        requires voids { may_wait_named request.now ≡ false → is_immediate request.now ≡ true →
+            (self.old.window.turned + count_by is_some self.old.window.places < self.old.taken)
+            × (self.old.entered + count_by is_some self.old.window.places < self.old.taken) }
         requires room { vec_len out.old + owed self.old.live self.old.sets + 2 ≤ vec_capacity out.old }
         ensures session { self.new ≡ performed self.old request.now number event }
         ensures effects { out.new.items ≡ out.old.items ++ performed_effects self.old request.now number event }
-        ensures spent { vec_len out.new + owed self.new.live self.new.sets ≤ vec_len out.old + owed self.old.live self.old.sets + 2 }
+        ensures spent { vec_len out.new + owed self.new.live self.new.sets ≤ vec_len out.old
+            + owed self.old.live self.old.sets + 2 }
         ensures capacity { vec_capacity out.new ≡ vec_capacity out.old }
     {
         if let Some(unit) = unit_named(request, self.sets.len()) {
@@ -242,13 +256,17 @@ impl Session {
     fn carry_out(&mut self, request: &Request, unit: u16, outcome: Outcome, out: &mut Vec<Effect>)
         requires unit { unit < length self.old.sets }
         requires known { known_in (connection_of request.now) self.old.conns ≡ true }
-        requires held { (w : ℕ) → outcome ≡ Outcome.Empty w → is_some (held_at self.old.window (place_in self.old.window w)) ≡ true }
+        requires held { (w : ℕ) → outcome ≡ Outcome.Empty w →
+            is_some (held_at self.old.window (place_in self.old.window w)) ≡ true }
         requires inside { (w : ℕ) → outcome ≡ Outcome.Void w → IsInside (place_in self.old.window w) }
-        requires voids { (w : ℕ) → outcome ≡ Outcome.Void w → (self.old.window.turned + count_by is_some self.old.window.places < self.old.taken) × (self.old.entered + count_by is_some self.old.window.places < self.old.taken) }
+        requires voids { (w : ℕ) → outcome ≡ Outcome.Void w →
+            (self.old.window.turned + count_by is_some self.old.window.places < self.old.taken)
+            × (self.old.entered + count_by is_some self.old.window.places < self.old.taken) }
         requires room { vec_len out.old + owed self.old.live self.old.sets + 2 ≤ vec_capacity out.old }
         ensures session { self.new ≡ performed_as self.old request.now unit outcome }
         ensures effects { out.new.items ≡ out.old.items ++ performance_effects self.old request.now unit outcome }
-        ensures spent { vec_len out.new + owed self.new.live self.new.sets ≤ vec_len out.old + owed self.old.live self.old.sets + 2 }
+        ensures spent { vec_len out.new + owed self.new.live self.new.sets ≤ vec_len out.old
+            + owed self.old.live self.old.sets + 2 }
         ensures capacity { vec_capacity out.new ≡ vec_capacity out.old }
     {
         match outcome {
@@ -279,7 +297,8 @@ impl Session {
         requires known { known_in (connection_of request.now) self.old.conns ≡ true }
         requires room { vec_len out.old + 1 ≤ vec_capacity out.old }
         ensures session { self.new ≡ with_reply self.old (connection_of request.now) }
-        ensures effects { out.new.items ≡ out.old.items ++ reply_effects self.old (connection_of request.now) (Reply.Task (tag_of request.now) response) }
+        ensures effects { out.new.items ≡ out.old.items
+            ++ reply_effects self.old (connection_of request.now) (Reply.Task (tag_of request.now) response) }
         ensures len { vec_len out.new ≡ vec_len out.old + 1 }
         ensures capacity { vec_capacity out.new ≡ vec_capacity out.old }
     {

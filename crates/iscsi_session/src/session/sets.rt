@@ -92,8 +92,10 @@ pub(crate) fn enter(sets: &mut [TaskSet], unit: u16, task: Task, out: &mut Vec<E
     requires not_full { is_set_full (slice_index_or sets.old unit (opened 0)) ≡ false }
     requires newest { IsNewest task.ticket (slice_index_or sets.old unit (opened 0)) }
     requires room { vec_len out.old + 1 ≤ vec_capacity out.old }
-    ensures sets { sets.new ≡ slice_set sets.old unit (given_by (entered_to (slice_index_or sets.old unit (opened 0)) task)) }
-    ensures effects { out.new.items ≡ out.old.items ++ enable_effect unit (next_in (entered_to (slice_index_or sets.old unit (opened 0)) task).list) }
+    ensures sets { sets.new ≡ slice_set sets.old unit
+        (given_by (entered_to (slice_index_or sets.old unit (opened 0)) task)) }
+    ensures effects { out.new.items ≡ out.old.items
+        ++ enable_effect unit (next_in (entered_to (slice_index_or sets.old unit (opened 0)) task).list) }
     ensures spent { vec_len out.new ≤ vec_len out.old + 1 }
     ensures capacity { vec_capacity out.new ≡ vec_capacity out.old }
 {
@@ -109,7 +111,8 @@ pub(crate) fn leave(sets: &mut [TaskSet], command: &Live, out: &mut Vec<Effect>)
     requires unit { command.now.unit < length sets.old }
     requires room { vec_len out.old + length (set_without command.now sets.old).list ≤ vec_capacity out.old }
     ensures sets { sets.new ≡ slice_set sets.old command.now.unit (all_given (set_without command.now sets.old)) }
-    ensures effects { out.new.items ≡ out.old.items ++ enable_effects command.now.unit (set_without command.now sets.old).list }
+    ensures effects { out.new.items ≡ out.old.items
+        ++ enable_effects command.now.unit (set_without command.now sets.old).list }
     ensures spent { vec_len out.new ≤ vec_len out.old + length (set_without command.now sets.old).list }
     ensures capacity { vec_capacity out.new ≡ vec_capacity out.old }
 {
@@ -121,9 +124,11 @@ pub(crate) fn leave(sets: &mut [TaskSet], command: &Live, out: &mut Vec<Effect>)
 /// Tells a unit of the commands of its set that became enabled.
 pub(crate) fn tell(sets: &mut [TaskSet], unit: u16, out: &mut Vec<Effect>)
     requires unit { unit < length sets.old }
-    requires room { vec_len out.old + count_by is_new (slice_index_or sets.old unit (opened 0)).list ≤ vec_capacity out.old }
+    requires room { vec_len out.old + count_by is_new (slice_index_or sets.old unit (opened 0)).list
+        ≤ vec_capacity out.old }
     ensures sets { sets.new ≡ slice_set sets.old unit (all_given (slice_index_or sets.old unit (opened 0))) }
-    ensures effects { out.new.items ≡ out.old.items ++ enable_effects unit (slice_index_or sets.old unit (opened 0)).list }
+    ensures effects { out.new.items ≡ out.old.items
+        ++ enable_effects unit (slice_index_or sets.old unit (opened 0)).list }
     ensures spent { vec_len out.new ≡ vec_len out.old + count_by is_new (slice_index_or sets.old unit (opened 0)).list }
     ensures capacity { vec_capacity out.new ≡ vec_capacity out.old }
 {

@@ -1,5 +1,5 @@
-use Rattle.std.proofs.Common.{◌≡◌, ◌<◌, ◌≤◌, ◌+◌, ◌-◌, ◌/◌, ℕ, length, get_or, ap, sym, subst, ◌∙◌, arith}
-use Rattle.iscsi_queue.proofs.HalvingLemmas.{halved_up, halved_down, half_from, half_to}
+use Rattle.std.proofs.Common.{◌<◌, ◌+◌, ◌-◌, ◌/◌, length, get_or, ap, sym, subst, ◌∙◌, arith}
+use Rattle.iscsi_slots.proofs.HalvingLemmas.{halved_up, halved_down, half_from, half_to}
 use Rattle.iscsi_commands.specs.Kept.{commands, key_of}
 use Rattle.iscsi_commands.proofs.KeptLemmas.{length-commands, command_is}
 use Rattle.iscsi_commands.proofs.commands.first_from.Goals as goal

@@ -1,5 +1,5 @@
 use Rattle.std.proofs.Common.{◌-◌}
-use Rattle.iscsi_queue.proofs.HalvingLemmas.{IsHalved}
+use Rattle.iscsi_slots.proofs.HalvingLemmas.{IsHalved}
 use Rattle.iscsi_commands.specs.Kept.{commands, key_of}
 use Rattle.iscsi_commands.proofs.commands.first_from.Given as goal
 

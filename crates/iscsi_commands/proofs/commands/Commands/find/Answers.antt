@@ -1,5 +1,5 @@
-use Rattle.std.proofs.Common.{◌≡◌, Some, ap, sym, ◌∙◌}
-use Rattle.iscsi_queue.proofs.SortedLemmas.{find_here, find_nowhere}
+use Rattle.std.proofs.Common.{Some, ap, sym, ◌∙◌}
+use Rattle.iscsi_slots.proofs.SortedLemmas.{find_here, find_nowhere}
 use Rattle.iscsi_commands.specs.declared.live.Live.{Live}
 use Rattle.iscsi_commands.specs.Commands.{find_ticket}
 use Rattle.iscsi_commands.proofs.commands.Commands.find.Goals as goal

@@ -1,8 +1,7 @@
 use Rattle.std.proofs.Common.{◌≡◌, ◌<◌, ◌≤◌, ◌==◌, ◌++◌, [], ◌∷◌, ℕ, false, length, get_or, All, ap, sym, subst, ◌∙◌, arith}
-use Rattle.std.specs.List.{insert, list_any}
-use Rattle.iscsi_queue.specs.Queued.{Queued, queued}
-use Rattle.iscsi_queue.specs.Slots.{Slotted}
-use Rattle.iscsi_queue.proofs.ShareLemmas.{free_within, values_with}
+use Rattle.std.specs.List.{list_any}
+use Rattle.iscsi_slots.specs.Queued.{Queued, queued}
+use Rattle.iscsi_slots.proofs.ShareLemmas.{free_within, values_with}
 use Rattle.iscsi_commands.specs.declared.live.Live.{Live}
 use Rattle.iscsi_commands.specs.Kept.{BLANK, commands, AreKept}
 use Rattle.iscsi_commands.proofs.KeptLemmas.{length-commands, tag_within}

@@ -1,6 +1,6 @@
-use Rattle.std.proofs.Common.{◌≡◌, ap, sym, ◌∙◌}
-use Rattle.iscsi_queue.specs.Queued.{queued}
-use Rattle.iscsi_queue.proofs.SortedLemmas.{remove_is, filter_nowhere}
+use Rattle.std.proofs.Common.{ap, sym, ◌∙◌}
+use Rattle.iscsi_slots.specs.Queued.{queued}
+use Rattle.iscsi_slots.proofs.SortedLemmas.{remove_is, filter_nowhere}
 use Rattle.iscsi_commands.specs.Commands.{without_ticket}
 use Rattle.iscsi_commands.specs.Kept.{BLANK}
 use Rattle.iscsi_commands.proofs.commands.Commands.remove.Goals as goal

@@ -1,8 +1,8 @@
-use Rattle.std.proofs.Common.{◌≡◌, ◌<◌, ◌++◌, [], ◌∷◌, length, get_or, ap, sym, subst, ◌∙◌, arith}
+use Rattle.std.proofs.Common.{◌<◌, ◌++◌, [], ◌∷◌, length, get_or, ap, sym, subst, ◌∙◌, arith}
 use Rattle.std.specs.List.{remove}
-use Rattle.iscsi_queue.specs.Queued.{Queued, queued}
-use Rattle.iscsi_queue.specs.Slots.{Slotted}
-use Rattle.iscsi_queue.proofs.SlotLemmas.{StandsAt, map-remove}
+use Rattle.iscsi_slots.specs.Queued.{Queued, queued}
+use Rattle.iscsi_slots.specs.Slots.{Slotted}
+use Rattle.iscsi_slots.proofs.SlotLemmas.{map-remove}
 use Rattle.iscsi_commands.specs.declared.live.Live.{Live}
 use Rattle.iscsi_commands.specs.Kept.{BLANK, commands, AreKept}
 use Rattle.iscsi_commands.proofs.KeptLemmas.{length-commands, ticket_within, tag_within}

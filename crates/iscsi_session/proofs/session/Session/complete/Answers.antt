@@ -3,7 +3,7 @@ use Rattle.std.proofs.lemmas.Bool.{eqb-true}
 use Rattle.std.proofs.lemmas.Bool.Decides.{nat_tests}
 use Rattle.iscsi_window.specs.Windows.{Received, with_unfinished}
 use Rattle.iscsi_tasks.specs.Sets.{Members}
-use Rattle.iscsi_queue.specs.Queued.{Queued}
+use Rattle.iscsi_slots.specs.Queued.{Queued}
 use Rattle.iscsi_commands.specs.declared.live.Live.{Live}
 use Rattle.iscsi_connections.specs.Connected.{Connected}
 use Rattle.iscsi_session.specs.Standing.{Core, Match, are_within}

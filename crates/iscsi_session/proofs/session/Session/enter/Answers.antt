@@ -1,7 +1,7 @@
 use Rattle.std.proofs.Common.{rules, w64, of_z, to_z, refl, All, zero, suc, nat_le, nat_lt, pos, ◌-ℤ◌, ◌≡◌, ◌==◌, ◌∙◌, ◌<◌, ◌≤◌, ◌&&◌, not, cond, ap, sym, subst, Bool, true, false, arith, length, count_by, is_some, ◌+◌, ◌*◌, ℕ, ℤ, List, [], ◌∷◌, get_or, set, take, drop, ◌++◌, length-set, append_assoc}
 use Rattle.std.specs.List.{list_any}
 use Rattle.std.proofs.lemmas.Bool.Decides.{nat_tests}
-use Rattle.iscsi_queue.specs.Queued.{Queued}
+use Rattle.iscsi_slots.specs.Queued.{Queued}
 use Rattle.iscsi_history.proofs.BoolLemmas.{and_parts}
 use Rattle.std.proofs.lemmas.Int.{to_z-of_z}
 use Rattle.iscsi_wire.specs.declared.request.Request.{Request}

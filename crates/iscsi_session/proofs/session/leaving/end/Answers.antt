@@ -1,7 +1,7 @@
 use Rattle.std.proofs.Common.{◌≡◌, ◌∙◌, ◌+◌, ◌-◌, ◌≤◌, ◌==◌, ℕ, not, cond, true, false, Some, List, count_by, ap, sym, subst, arith}
 use Rattle.std.proofs.lemmas.Bool.{eqb-true}
 use Rattle.iscsi_window.specs.Windows.{Received, with_unfinished}
-use Rattle.iscsi_queue.specs.Queued.{Queued}
+use Rattle.iscsi_slots.specs.Queued.{Queued}
 use Rattle.iscsi_commands.specs.declared.live.Live.{Live}
 use Rattle.iscsi_history.specs.Settings.{is_known}
 use Rattle.iscsi_session.specs.Steps.{AreCounted, is_numbered, finished, find_ticket, without_ticket}

@@ -1,8 +1,8 @@
--- What a contract sees of a queue.
+-- What a contract sees of an order, and of what is kept in one.
 use Rattle.std.specs.Prelude.{ℕ, List, refl}
 use Rattle.std.specs.Coded.{Coded, code_by, coded×, coded_list, coded_ℕ}
 
--- its values, the first one first, and how many it has room for
+-- what it has, the first one first, and how many there may be
 pub record Queued (X : Type 0) : Type 0 where
   pub items : List X
   pub room : ℕ

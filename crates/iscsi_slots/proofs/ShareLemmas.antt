@@ -1,14 +1,14 @@
 -- How the slots are shared when a value comes and when one goes.
-use Rattle.std.proofs.Common.{◌≡◌, ℕ, ◌+◌, ◌-◌, ◌<◌, ◌≤◌, ◌⊎◌, cond, Bool, true, false, List, [], ◌∷◌, ◌++◌, length, map, nat_lt, ◌==◌, get_or, set, refl, ap, sym, subst, ◌∙◌, arith, ⊎_elim}
+use Rattle.std.proofs.Common.{◌≡◌, ℕ, ◌+◌, ◌<◌, ◌≤◌, List, [], ◌∷◌, ◌++◌, length, nat_lt, ◌==◌, get_or, ap, sym, ◌∙◌, arith, ⊎_elim}
 use Rattle.std.specs.List.{remove}
-use Rattle.std.proofs.lemmas.Bool.{cases_eq, cases_lt}
+use Rattle.std.proofs.lemmas.Bool.{cases_lt}
 use Rattle.std.proofs.lemmas.Bool.Decides.{nat_tests}
 use Rattle.std.specs.Bool.{if◌then◌else◌}
 use Rattle.std.proofs.Math.Seq.{get_or-append_seam}
 use Rattle.std.proofs.lemmas.List.{length-append, length-set, map-append, get_or-set_same}
 use Rattle.std.proofs.lemmas.List.Edits.{length-remove}
-use Rattle.iscsi_queue.specs.Slots.{times, values, AreShared, IsReused, IsAdded, IsPut}
-use Rattle.iscsi_queue.proofs.SlotLemmas.{times_at, times_append, times_remove, values_other, values_added}
+use Rattle.iscsi_slots.specs.Slots.{times, values, AreShared, IsReused, IsAdded, IsPut}
+use Rattle.iscsi_slots.proofs.SlotLemmas.{times_at, times_append, times_remove, values_other, values_added}
 
 module _ {order free : List ℕ} {slots room : ℕ} (shared : AreShared order free slots room) where
   -- a slot stands once among the values' and the free ones

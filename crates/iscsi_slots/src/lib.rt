@@ -2,9 +2,7 @@
 #![tactic(auto)]
 
 mod order;
-mod queue;
 mod slots;
 
 pub use order::Order;
-pub use queue::{Queue, Ticketed};
 pub use slots::Slots;

@@ -1,9 +1,9 @@
-use Rattle.std.proofs.Common.{rules, ◌≡◌, ◌+◌, ◌<◌, ◌≤◌, length, drop, ap, sym, subst, ◌∙◌, arith}
+use Rattle.std.proofs.Common.{rules, ◌≡◌, ◌+◌, ◌≤◌, length, drop, ap, sym, subst, ◌∙◌, arith}
 use Rattle.std.specs.List.{insert}
 use Rattle.std.proofs.lemmas.List.{length-drop}
-use Rattle.iscsi_queue.specs.Queued.{queued}
-use Rattle.iscsi_queue.proofs.SlotLemmas.{drop-insert}
-use Rattle.iscsi_queue.proofs.order.Order.insert.Goals as goal
+use Rattle.iscsi_slots.specs.Queued.{queued}
+use Rattle.iscsi_slots.proofs.SlotLemmas.{drop-insert}
+use Rattle.iscsi_slots.proofs.order.Order.insert.Goals as goal
 
 pub returns : goal.returns
 returns c =

@@ -1,7 +1,7 @@
 //! The slots of values.
 
 ghost use Rattle.std.specs.Prelude.{◌≡◌, ◌<◌, ◌≤◌, ◌++◌, [], ◌∷◌, ℕ, length, slice_index_or, slice_set, vec_capacity, IfOk};
-ghost use Rattle.iscsi_queue.specs.Slots.{Slotted, IsPut};
+ghost use Rattle.iscsi_slots.specs.Slots.{Slotted, IsPut};
 
 use std::alloc::{AllocError, Global};
 use std::marker::Model;
@@ -16,7 +16,7 @@ pub struct Slots<T: Copy> {
 
 impl<T: Copy> Model for Slots<T> {
     ghost use Rattle.std.specs.Prelude.{length, vec_capacity};
-    ghost use Rattle.iscsi_queue.specs.Slots.{Slotted, slotted_code, AreSlotsSound};
+    ghost use Rattle.iscsi_slots.specs.Slots.{Slotted, slotted_code, AreSlotsSound};
 
     ghost Value = { Slotted T };
 
@@ -24,7 +24,8 @@ impl<T: Copy> Model for Slots<T> {
 
     ghost view = { λ s. record { values = s.values.items; free = s.free.items; room = s.room } };
 
-    ghost invariant = { λ s. AreSlotsSound (length s.free.items) (length s.values.items) (vec_capacity s.free) (vec_capacity s.values) s.room };
+    ghost invariant = { λ s. AreSlotsSound (length s.free.items) (length s.values.items) (vec_capacity s.free)
+        (vec_capacity s.values) s.room };
 }
 
 impl<T: Copy> Slots<T> {
@@ -59,7 +60,8 @@ impl<T: Copy> Slots<T> {
     /// Puts a value into the slot that was freed last, or into a new one where none is free: the slot.
     pub fn put(&mut self, value: T) -> u16
         requires room { self.old.free ≡ [] → length self.old.values < self.old.room }
-        requires within { (k : ℕ) → k < length self.old.free → slice_index_or self.old.free k 0 < length self.old.values }
+        requires within { (k : ℕ) → k < length self.old.free →
+            slice_index_or self.old.free k 0 < length self.old.values }
         ensures slot { IsPut self.old.values self.old.free value self.new.values self.new.free result }
         ensures room { self.new.room ≡ self.old.room }
     {

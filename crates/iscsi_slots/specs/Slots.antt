@@ -1,5 +1,5 @@
--- Where the values of a queue are.
-use Rattle.std.specs.Prelude.{◌≡◌, ℕ, ◌+◌, ◌-◌, ◌*◌, ◌≤◌, ◌<◌, ◌==◌, ◌⊎◌, ◌++◌, [], ◌∷◌, nat_lt, List, length, map, slice_index_or, slice_set, refl, if◌then◌else◌}
+-- Slots, the values in them, and orders of them.
+use Rattle.std.specs.Prelude.{◌≡◌, ℕ, ◌+◌, ◌-◌, ◌*◌, ◌≤◌, ◌==◌, ◌⊎◌, ◌++◌, [], ◌∷◌, nat_lt, List, length, map, slice_index_or, slice_set, refl, if◌then◌else◌}
 use Rattle.std.specs.Coded.{Coded, code_by, coded×, coded_list, coded_ℕ}
 
 -- what an order keeps: the places before the first slot's are over, and no call asks for memory

@@ -1,8 +1,8 @@
 -- A binary search by ticket.
-use Rattle.std.proofs.Common.{◌≡◌, ◌≢◌, ℕ, ◌+◌, ◌-◌, ◌*◌, ◌/◌, ◌<◌, ◌≤◌, ◌==◌, false, List, length, All, get_or, ap, sym, subst, ◌∙◌, arith, ⊎_elim, ne_eqb}
+use Rattle.std.proofs.Common.{◌≡◌, ◌≢◌, ℕ, ◌+◌, ◌-◌, ◌/◌, ◌<◌, ◌≤◌, ◌==◌, false, List, length, All, get_or, sym, subst, arith, ⊎_elim, ne_eqb}
 use Rattle.std.proofs.Math.Nat.{div-lt_self}
 use Rattle.std.proofs.lemmas.Bool.{cases_eq, cases_lt}
-use Rattle.iscsi_queue.specs.Places.{AreAscending}
+use Rattle.iscsi_slots.specs.Places.{AreAscending}
 
 module _ {X : Type 0} (ticket : X → ℕ) (xs : List X) (n : ℕ) where
   -- those before the low place have lower tickets, and those from the high one on have not

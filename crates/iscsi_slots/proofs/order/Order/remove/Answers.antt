@@ -1,9 +1,9 @@
-use Rattle.std.proofs.Common.{◌≡◌, ◌+◌, ◌<◌, ◌≤◌, length, drop, drop-drop, ap, sym, subst, ◌∙◌, arith}
+use Rattle.std.proofs.Common.{◌<◌, length, drop, drop-drop, ap, sym, subst, ◌∙◌, arith}
 use Rattle.std.specs.List.{remove}
 use Rattle.std.proofs.lemmas.List.{length-drop}
-use Rattle.iscsi_queue.specs.Queued.{queued}
-use Rattle.iscsi_queue.proofs.SlotLemmas.{drop-remove}
-use Rattle.iscsi_queue.proofs.order.Order.remove.Goals as goal
+use Rattle.iscsi_slots.specs.Queued.{queued}
+use Rattle.iscsi_slots.proofs.SlotLemmas.{drop-remove}
+use Rattle.iscsi_slots.proofs.order.Order.remove.Goals as goal
 
 pub returns-then-k-eq0 : goal.returns-then-k-eq0
 returns-then-k-eq0 c =

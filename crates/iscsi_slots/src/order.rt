@@ -2,7 +2,7 @@
 
 ghost use Rattle.std.specs.Prelude.{◌≡◌, ◌*◌, ◌<◌, ◌≤◌, ◌++◌, [], ◌∷◌, length, drop, slice_index_or, vec_capacity, IfOk};
 ghost use Rattle.std.specs.List.{remove, insert};
-ghost use Rattle.iscsi_queue.specs.Queued.{queued};
+ghost use Rattle.iscsi_slots.specs.Queued.{queued};
 
 use std::alloc::{AllocError, Global};
 use std::marker::Model;
@@ -19,8 +19,8 @@ pub struct Order {
 
 impl Model for Order {
     ghost use Rattle.std.specs.Prelude.{ℕ, length, drop, vec_capacity};
-    ghost use Rattle.iscsi_queue.specs.Queued.{Queued, queued, queued_code};
-    ghost use Rattle.iscsi_queue.specs.Slots.{IsOrderSound};
+    ghost use Rattle.iscsi_slots.specs.Queued.{Queued, queued, queued_code};
+    ghost use Rattle.iscsi_slots.specs.Slots.{IsOrderSound};
     ghost use Rattle.std.specs.Coded.{coded_ℕ};
 
     ghost Value = { Queued ℕ };
