@@ -196,17 +196,14 @@ Match-left sets lives l m up found inside = λ unit lt.
     ∙ sym (tickets_in-left l.ticket unit lives ∙ other_kept l.ticket unit lives l up found (let no : (l.unit == unit) ≡ false = grind (arith, nat_tests) in no)))
     (cases_eq unit l.unit)
 
-pub ascending-left : (k : ℕ) (lives : List Live) → are_ascending lives ≡ true → are_ascending (without_ticket k lives) ≡ true
-ascending-left k [] up = refl
-ascending-left k (x ∷ lives) up =
+pub ascending-kept : (p : Live → Bool) (lives : List Live) → are_ascending lives ≡ true → are_ascending (filter p lives) ≡ true
+ascending-kept p [] up = refl
+ascending-kept p (x ∷ lives) up =
     let ups = and_parts (list_all (λ (y : Live). nat_lt x.ticket y.ticket) lives) (are_ascending lives) up in
-    elim (x.ticket == k) as (λ b. are_ascending (cond (not b) (x ∷ without_ticket k lives) (without_ticket k lives)) ≡ true) [
-      | true ↦ ascending-left k lives ups.1
-      | false ↦ and_both (list_all (λ (y : Live). nat_lt x.ticket y.ticket) (without_ticket k lives)) (are_ascending (without_ticket k lives)) (list_all-filter (λ (y : Live). not (y.ticket == k)) (λ (y : Live). nat_lt x.ticket y.ticket) lives ups.0) (ascending-left k lives ups.1)
+    elim (p x) as (λ b. are_ascending (cond b (x ∷ filter p lives) (filter p lives)) ≡ true) [
+      | true ↦ and_both (list_all (λ (y : Live). nat_lt x.ticket y.ticket) (filter p lives)) (are_ascending (filter p lives)) (list_all-filter p (λ (y : Live). nat_lt x.ticket y.ticket) lives ups.0) (ascending-kept p lives ups.1)
+      | false ↦ ascending-kept p lives ups.1
     ]
-
-pub within-left : (k n units : ℕ) (lives : List Live) → are_within n units lives ≡ true → are_within n units (without_ticket k lives) ≡ true
-within-left k n units lives h = list_all-filter (λ (x : Live). not (x.ticket == k)) (λ (x : Live). nat_le x.ticket n && nat_lt x.unit units) lives h
 
 -- what a set has left is no more than the commands that are left
 pub few_left : (sets : List Members) (lives : List Live) (l : Live) → Match sets lives → l.unit < length sets → length (set_without l sets).list ≤ length (without_ticket l.ticket lives)

@@ -1,30 +1,32 @@
--- Chosen commands of a unit leave one after the other: what is left to do after one of them left.
-use Rattle.std.proofs.Common.{◌≡◌, ℕ, zero, suc, ◌+◌, ◌-◌, ◌<◌, ◌≤◌, ◌==◌, ◌&&◌, ◌||◌, not, ⊎_elim, cond, Bool, true, false, nat_lt, List, [], ◌∷◌, length, map, filter, find, count_by, get_or, set, Some, None, refl, ap, sym, subst, ◌∙◌, arith, eq-eqb, length-set}
+-- Covered commands of a unit leave: what is left of its set and of the live commands.
+use Rattle.std.proofs.Common.{◌≡◌, ℕ, zero, suc, ◌+◌, ◌-◌, ◌<◌, ◌≤◌, ◌==◌, ◌&&◌, ◌||◌, ◌++◌, not, ⊎_elim, cond, Bool, true, false, nat_lt, pos, List, [], ◌∷◌, length, map, filter, find, count_by, All, take, get_or, set, Option, Some, None, is_some, refl, ap, sym, ◌∙◌, arith, eq-eqb, length-set}
+use Rattle.std.specs.Prelude.{IsSome, option_and_then, slice_get}
 use Rattle.std.specs.List.{list_any, list_all}
 use Rattle.std.proofs.lemmas.Bool.{cases_eq, eqb-true, false≢true}
 use Rattle.std.proofs.lemmas.Bool.Decides.{nat_tests}
-use Rattle.std.proofs.lemmas.List.{get_or-set_same, get_or-set_other, set-get_or, set-set, length-map}
+use Rattle.std.proofs.lemmas.List.{get_or-set_same, get_or-set_other, take_more, map-append, append-nil}
+use Rattle.std.proofs.lemmas.List.Elements.{All-head, All-tail, filter-append}
+use Rattle.std.proofs.lemmas.List.Folds.{list_any_none}
 use Rattle.std.proofs.lemmas.List.Sums.{sum_by-cons}
-use Rattle.std.proofs.lemmas.List.Folds.{list_all-map}
 use Rattle.iscsi_window.specs.Windows.{Received, with_unfinished}
 use Rattle.iscsi_tasks.specs.declared.task.Task.{Task}
+use Rattle.iscsi_tasks.specs.declared.task.Attr.TheVariants.{Simple}
+use Rattle.iscsi_tasks.specs.declared.cover.Cover.{Cover}
 use Rattle.iscsi_tasks.specs.declared.member.Member.{Member}
-use Rattle.iscsi_tasks.specs.Sets.{Members, opened, tasks_in, without, looked_at, after_moment, is_new}
-use Rattle.iscsi_history.specs.declared.effect.Effect.{Effect}
+use Rattle.iscsi_tasks.specs.Sets.{Members, opened, tasks_in, left_by, with_ticket, looked_at, after_moment, uncovered, is_new, ticket_if, is_covered, covered_at}
 use Rattle.iscsi_history.specs.declared.effect.Effect.TheVariants.{Leave}
 use Rattle.iscsi_commands.specs.declared.live.Live.{Live}
-use Rattle.iscsi_session.specs.Standing.{Core, Match, are_ascending, tickets_of, tickets_in}
-use Rattle.iscsi_session.specs.Steps.{set_at, all_given, as_given, is_numbered, find_ticket, without_ticket}
-use Rattle.iscsi_session.specs.Functions.{is_gone, staying, set_staying, finished_by, with_left, leaving_effects, has_covered, covers_ticket, ungiven, ungiven_in, owed}
-use Rattle.iscsi_history.proofs.BoolLemmas.{and_parts, and_both, or_none, or_first, or_second, and_false}
-use Rattle.iscsi_history.proofs.ListLemmas.{list_any-map, count_by-map, fewer_counted, filter-shorter}
-use Rattle.iscsi_history.proofs.TraceLemmas.{filter-same, filter-true}
+use Rattle.iscsi_session.specs.Standing.{Match, are_ascending, tickets_of, tickets_in}
+use Rattle.iscsi_session.specs.Steps.{all_given, as_given, is_numbered, find_ticket, without_ticket}
+use Rattle.iscsi_session.specs.Functions.{is_gone, staying, set_staying, finished_by, leaves, has_covered, covers_ticket, ungiven, ungiven_in}
+use Rattle.iscsi_history.proofs.BoolLemmas.{and_parts, and_both, or_none, or_first, or_second, or_false, and_true, and_false, not_true}
+use Rattle.iscsi_history.proofs.ListLemmas.{any_filter, any_same, list_any-map, count_by-map}
+use Rattle.iscsi_history.proofs.TraceLemmas.{filter-same, filter-true, weaker}
 use Rattle.iscsi_history.proofs.ApartLemmas.{eq_sym}
-use Rattle.iscsi_history.proofs.NewlyLemmas.{filter-twice}
+use Rattle.iscsi_history.proofs.NewlyLemmas.{filter-twice, both_all}
+use Rattle.iscsi_session.proofs.CommandParts.{filter-swap}
 use Rattle.iscsi_session.proofs.EnabledLemmas.{filter-map, map-map}
-use Rattle.iscsi_session.proofs.WindowLemmas.{fewer as fewer_all}
-use Rattle.iscsi_session.proofs.KeptLemmas.{tickets_in-left, other_kept}
-use Rattle.iscsi_session.proofs.GroupLemmas.{passing_after}
+use Rattle.iscsi_session.proofs.WindowLemmas.{find-found, fewer}
 
 -- ---- nothing is left to leave
 
@@ -46,21 +48,14 @@ all_kept q (x ∷ ms) h =
     let parts = or_none (q x) (list_any q ms) h in
     ap (λ b. cond (not b) (x ∷ filter (λ m. not (q m)) ms) (filter (λ m. not (q m)) ms)) parts.0 ∙ ap (λ ns. x ∷ ns) (all_kept q ms parts.1)
 
-abbrev core_with : Core → Received → List Live → List Members → Core
-core_with s w lives sets = record s { window = w; live = lives; sets = sets }
+pub none_has : (covers : Task → Bool) (now : Members) → All (λ t. covers t ≡ false) (tasks_in now) → has_covered covers now ≡ false
+none_has covers now none = sym (list_any-map covers (λ (m : Member). m.task) now.list) ∙ list_any_none covers (tasks_in now) none
 
-pub left_none : (s : Core) (unit : ℕ) (covers : Task → Bool) → has_covered covers (set_at s unit) ≡ false → with_left s unit covers ≡ s
-left_none s unit covers none =
-    let now : Members = set_at s unit in
-    let stay : staying covers now s.live ≡ s.live = filter-same (λ (l : Live). not (is_gone covers now l.ticket)) (λ l. true) s.live (λ l. ap not (none_left (λ m. m.task.ticket == l.ticket) (λ m. covers m.task) now.list none)) ∙ filter-true s.live in
-    let same : s.window.unfinished + count_by is_numbered s.live - count_by is_numbered s.live ≡ s.window.unfinished = omega arith in
-    ap (λ ls. core_with s (finished_by s.window s.live ls) ls (set s.sets unit (set_staying covers now))) stay
-    ∙ ap (λ n. core_with s (with_unfinished s.window n) s.live (set s.sets unit (set_staying covers now))) same
-    ∙ ap (λ b. core_with s s.window s.live (set s.sets unit (cond b (record now { list = after_moment (filter (λ m. not (covers m.task)) now.list) }) now))) none
-    ∙ ap (λ ms. core_with s s.window s.live ms) (set-get_or s.sets unit (opened 0))
+pub stay_none : (covers : Task → Bool) (now : Members) (lives : List Live) → has_covered covers now ≡ false → staying covers now lives ≡ lives
+stay_none covers now lives none = filter-same (λ (l : Live). not (is_gone covers now l.ticket)) (λ l. true) lives (λ l. ap not (none_left (λ m. m.task.ticket == l.ticket) (λ m. covers m.task) now.list none)) ∙ filter-true lives
 
-pub effects_none : (s : Core) (unit : ℕ) (covers : Task → Bool) → has_covered covers (set_at s unit) ≡ false → leaving_effects s unit covers ≡ []
-effects_none s unit covers none = ap (map (λ (m : Member). Leave m.task.ticket unit)) (none_filtered (λ m. covers m.task) (set_at s unit).list none)
+pub leaves_none : (unit : ℕ) (covers : Task → Bool) (now : Members) → has_covered covers now ≡ false → leaves unit covers now.list ≡ []
+leaves_none unit covers now none = ap (map (λ (m : Member). Leave m.task.ticket unit)) (none_filtered (λ m. covers m.task) now.list none)
 
 -- ---- tickets go up along a set
 
@@ -101,194 +96,6 @@ none_above k (t ∷ ts) h =
     let parts = and_parts (nat_lt k t) (list_all (λ u. nat_lt k u) ts) h in
     ap (λ b. b || list_any (λ u. u == k) ts) (later_apart k t parts.0) ∙ none_above k ts parts.1
 
-without_above : (k : ℕ) (ms : List Member) → list_all (λ u. nat_lt k u) (tickets ms) ≡ true → without k ms ≡ ms
-without_above k [] h = refl
-without_above k (x ∷ ms) h =
-    let parts = and_parts (nat_lt k x.task.ticket) (list_all (λ u. nat_lt k u) (tickets ms)) h in
-    ap (λ b. cond (not b) (x ∷ without k ms) (without k ms)) (later_apart k x.task.ticket parts.0) ∙ ap (λ ns. x ∷ ns) (without_above k ms parts.1)
-
-without_first : (x : Member) (ms : List Member) → list_all (λ u. nat_lt x.task.ticket u) (tickets ms) ≡ true → without x.task.ticket (x ∷ ms) ≡ ms
-without_first x ms above = ap (λ b. cond (not b) (x ∷ without x.task.ticket ms) (without x.task.ticket ms)) (eq-eqb x.task.ticket x.task.ticket refl) ∙ without_above x.task.ticket ms above
-
--- ---- the command that leaves first
-
-found_passes : (covers : Task → Bool) (p : ℕ → Bool) (ms : List Member) (task : Task) → list_all p (tickets ms) ≡ true → find covers (map (λ (m : Member). m.task) ms) ≡ Some task → p task.ticket ≡ true
-found_passes covers p [] task all found = absurd cc
-found_passes covers p (x ∷ ms) task all found =
-    let parts = and_parts (p x.task.ticket) (list_all p (tickets ms)) all in
-    elim (covers x.task) as (λ b. cond b (Some x.task) (find covers (map (λ (m : Member). m.task) ms)) ≡ Some task → p task.ticket ≡ true) [
-      | true ↦ λ here. let same : x.task ≡ task = cc in ap (λ (y : Task). p y.ticket) (sym same) ∙ parts.0
-      | false ↦ λ later. found_passes covers p ms task parts.1 later
-    ] found
-
-above_apart : (covers : Task → Bool) (k : ℕ) (ms : List Member) → list_all (λ u. nat_lt k u) (tickets ms) ≡ true → list_all (λ m. not (m.task.ticket == k) || covers m.task) ms ≡ true
-above_apart covers k [] h = refl
-above_apart covers k (x ∷ ms) h =
-    let parts = and_parts (nat_lt k x.task.ticket) (list_all (λ u. nat_lt k u) (tickets ms)) h in
-    and_both (not (x.task.ticket == k) || covers x.task) (list_all (λ m. not (m.task.ticket == k) || covers m.task) ms)
-    (or_first (not (x.task.ticket == k)) (covers x.task) (ap not (later_apart k x.task.ticket parts.0))) (above_apart covers k ms parts.1)
-
--- who has its ticket is covered
-covered_alone : (covers : Task → Bool) (ms : List Member) (task : Task) → rising (tickets ms) ≡ true → find covers (map (λ (m : Member). m.task) ms) ≡ Some task
-    → list_all (λ m. not (m.task.ticket == task.ticket) || covers m.task) ms ≡ true
-covered_alone covers [] task up found = refl
-covered_alone covers (x ∷ ms) task up found =
-    let parts = and_parts (list_all (λ u. nat_lt x.task.ticket u) (tickets ms)) (rising (tickets ms)) up in
-    let head : Bool = not (x.task.ticket == task.ticket) || covers x.task in
-    let tail : Bool = list_all (λ (m : Member). not (m.task.ticket == task.ticket) || covers m.task) ms in
-    elim (covers x.task) as (λ b. covers x.task ≡ b → cond b (Some x.task) (find covers (map (λ (m : Member). m.task) ms)) ≡ Some task → (head && tail) ≡ true) [
-      | true ↦ λ is here.
-          let same : x.task ≡ task = cc in
-          and_both head tail (or_second (not (x.task.ticket == task.ticket)) (covers x.task) is)
-          (subst (λ (y : Task). list_all (λ (m : Member). not (m.task.ticket == y.ticket) || covers m.task) ms ≡ true) same (above_apart covers x.task.ticket ms parts.0))
-      | false ↦ λ is later.
-          let above : nat_lt x.task.ticket task.ticket ≡ true = found_passes covers (λ u. nat_lt x.task.ticket u) ms task parts.0 later in
-          and_both head tail (or_first (not (x.task.ticket == task.ticket)) (covers x.task) (ap not (eq_sym x.task.ticket task.ticket ∙ later_apart x.task.ticket task.ticket above)))
-          (covered_alone covers ms task parts.1 later)
-    ] refl found
-
--- it is covered by its ticket
-gone_first : (covers : Task → Bool) (ms : List Member) (task : Task) → find covers (map (λ (m : Member). m.task) ms) ≡ Some task → list_any (λ m. m.task.ticket == task.ticket && covers m.task) ms ≡ true
-gone_first covers [] task found = absurd cc
-gone_first covers (x ∷ ms) task found =
-    elim (covers x.task) as (λ b. cond b (Some x.task) (find covers (map (λ (m : Member). m.task) ms)) ≡ Some task → ((x.task.ticket == task.ticket && b) || list_any (λ (m : Member). m.task.ticket == task.ticket && covers m.task) ms) ≡ true) [
-      | true ↦ λ here.
-          let same : x.task ≡ task = cc in
-          or_first (x.task.ticket == task.ticket && true) (list_any (λ (m : Member). m.task.ticket == task.ticket && covers m.task) ms) (and_both (x.task.ticket == task.ticket) true (eq-eqb x.task.ticket task.ticket (ap (λ (y : Task). y.ticket) same)) refl)
-      | false ↦ λ later. or_second (x.task.ticket == task.ticket && false) (list_any (λ (m : Member). m.task.ticket == task.ticket && covers m.task) ms) (gone_first covers ms task later)
-    ] found
-
--- its ticket is in the set
-found_in : (covers : Task → Bool) (ms : List Member) (task : Task) → find covers (map (λ (m : Member). m.task) ms) ≡ Some task → list_any (λ t. t == task.ticket) (tickets ms) ≡ true
-found_in covers [] task found = absurd cc
-found_in covers (x ∷ ms) task found =
-    elim (covers x.task) as (λ b. cond b (Some x.task) (find covers (map (λ (m : Member). m.task) ms)) ≡ Some task → ((x.task.ticket == task.ticket) || list_any (λ t. t == task.ticket) (tickets ms)) ≡ true) [
-      | true ↦ λ here. let same : x.task ≡ task = cc in or_first (x.task.ticket == task.ticket) (list_any (λ t. t == task.ticket) (tickets ms)) (eq-eqb x.task.ticket task.ticket (ap (λ (y : Task). y.ticket) same))
-      | false ↦ λ later. or_second (x.task.ticket == task.ticket) (list_any (λ t. t == task.ticket) (tickets ms)) (found_in covers ms task later)
-    ] found
-
-some_covered : (covers : Task → Bool) (ms : List Member) (task : Task) → find covers (map (λ (m : Member). m.task) ms) ≡ Some task → list_any (λ m. covers m.task) ms ≡ true
-some_covered covers [] task found = absurd cc
-some_covered covers (x ∷ ms) task found =
-    elim (covers x.task) as (λ b. cond b (Some x.task) (find covers (map (λ (m : Member). m.task) ms)) ≡ Some task → (b || list_any (λ (m : Member). covers m.task) ms) ≡ true) [
-      | true ↦ λ here. refl
-      | false ↦ λ later. some_covered covers ms task later
-    ] found
-
--- where none is found, none is covered
-pub none_found : (covers : Task → Bool) (ms : List Member) → find covers (map (λ (m : Member). m.task) ms) ≡ None → list_any (λ m. covers m.task) ms ≡ false
-none_found covers [] none = refl
-none_found covers (x ∷ ms) none =
-    elim (covers x.task) as (λ b. cond b (Some x.task) (find covers (map (λ (m : Member). m.task) ms)) ≡ None → (b || list_any (λ (m : Member). covers m.task) ms) ≡ false) [
-      | true ↦ λ here. absurd cc
-      | false ↦ λ later. none_found covers ms later
-    ] none
-
--- the first of the effects is its own
-first_effect : (covers : Task → Bool) (unit : ℕ) (ms : List Member) (task : Task) → rising (tickets ms) ≡ true → find covers (map (λ (m : Member). m.task) ms) ≡ Some task
-    → map (λ (m : Member). Leave m.task.ticket unit) (filter (λ m. covers m.task) ms) ≡ Leave task.ticket unit ∷ map (λ (m : Member). Leave m.task.ticket unit) (filter (λ m. covers m.task) (without task.ticket ms))
-first_effect covers unit [] task up found = absurd cc
-first_effect covers unit (x ∷ ms) task up found =
-    let parts = and_parts (list_all (λ u. nat_lt x.task.ticket u) (tickets ms)) (rising (tickets ms)) up in
-    let shown : List Member → List Effect = λ ns. map (λ (m : Member). Leave m.task.ticket unit) ns in
-    let c : List Member → List Member = λ ns. filter (λ (m : Member). covers m.task) ns in
-    elim (covers x.task) as (λ b. covers x.task ≡ b → cond b (Some x.task) (find covers (map (λ (m : Member). m.task) ms)) ≡ Some task → shown (cond b (x ∷ c ms) (c ms)) ≡ Leave task.ticket unit ∷ shown (c (without task.ticket (x ∷ ms)))) [
-      | true ↦ λ is here.
-          let same : x.task ≡ task = cc in
-          ap (λ ns. Leave x.task.ticket unit ∷ shown (c ns)) (sym (without_first x ms parts.0)) ∙ ap (λ (y : Task). Leave y.ticket unit ∷ shown (c (without y.ticket (x ∷ ms)))) same
-      | false ↦ λ is later.
-          first_effect covers unit ms task parts.1 later
-          ∙ ap (λ es. Leave task.ticket unit ∷ es) (elim (x.task.ticket == task.ticket) as (λ b. shown (c (without task.ticket ms)) ≡ shown (c (cond (not b) (x ∷ without task.ticket ms) (without task.ticket ms)))) [
-            | true ↦ refl
-            | false ↦ ap (λ b. shown (cond b (x ∷ c (without task.ticket ms)) (c (without task.ticket ms)))) (sym is)
-          ])
-    ] refl found
-
-above_fits : (covers : Task → Bool) (k : ℕ) (ms : List Member) → list_all (λ u. nat_lt k u) (tickets ms) ≡ true → list_all (λ m. nat_lt k m.task.ticket || not (covers m.task)) ms ≡ true
-above_fits covers k [] h = refl
-above_fits covers k (x ∷ ms) h =
-    let parts = and_parts (nat_lt k x.task.ticket) (list_all (λ u. nat_lt k u) (tickets ms)) h in
-    and_both (nat_lt k x.task.ticket || not (covers x.task)) (list_all (λ m. nat_lt k m.task.ticket || not (covers m.task)) ms)
-    (or_first (nat_lt k x.task.ticket) (not (covers x.task)) parts.0) (above_fits covers k ms parts.1)
-
--- the covered ones that are left have greater tickets
-rest_later : (covers : Task → Bool) (ms : List Member) (task : Task) → rising (tickets ms) ≡ true → find covers (map (λ (m : Member). m.task) ms) ≡ Some task
-    → list_all (λ m. nat_lt task.ticket m.task.ticket || not (covers m.task)) (without task.ticket ms) ≡ true
-rest_later covers [] task up found = refl
-rest_later covers (x ∷ ms) task up found =
-    let parts = and_parts (list_all (λ u. nat_lt x.task.ticket u) (tickets ms)) (rising (tickets ms)) up in
-    let fits : ℕ → Member → Bool = λ n m. nat_lt n m.task.ticket || not (covers m.task) in
-    let rest : List Member = without task.ticket ms in
-    elim (covers x.task) as (λ b. covers x.task ≡ b → cond b (Some x.task) (find covers (map (λ (m : Member). m.task) ms)) ≡ Some task → list_all (fits task.ticket) (without task.ticket (x ∷ ms)) ≡ true) [
-      | true ↦ λ is here.
-          let same : x.task ≡ task = cc in
-          ap (λ (y : Task). list_all (fits y.ticket) (without y.ticket (x ∷ ms))) (sym same) ∙ ap (list_all (fits x.task.ticket)) (without_first x ms parts.0) ∙ above_fits covers x.task.ticket ms parts.0
-      | false ↦ λ is later. elim (x.task.ticket == task.ticket) as (λ b. list_all (fits task.ticket) (cond (not b) (x ∷ rest) rest) ≡ true) [
-        | true ↦ rest_later covers ms task parts.1 later
-        | false ↦ and_both (fits task.ticket x) (list_all (fits task.ticket) rest) (or_second (nat_lt task.ticket x.task.ticket) (not (covers x.task)) (ap not is)) (rest_later covers ms task parts.1 later)
-      ]
-    ] refl found
-
--- ---- the set that it leaves
-
--- the set without the command of a ticket, after a moment
-abbrev pub less : Members → ℕ → Members
-less set k = record set { list = after_moment (without k set.list) }
-
-any_less : (p : Member → Bool) (k : ℕ) (ms : List Member) → ((m : Member) → (m.task.ticket == k) ≡ true → p m ≡ false) → list_any p (without k ms) ≡ list_any p ms
-any_less p k [] h = refl
-any_less p k (x ∷ ms) h =
-    elim (x.task.ticket == k) as (λ b. (x.task.ticket == k) ≡ b → list_any p (cond (not b) (x ∷ without k ms) (without k ms)) ≡ (p x || list_any p ms)) [
-      | true ↦ λ is. any_less p k ms h ∙ ap (λ b. b || list_any p ms) (sym (h x is))
-      | false ↦ λ is. ap (λ b. p x || b) (any_less p k ms h)
-    ] refl
-
--- the other tickets are gone or not as before
-gone_after : (covers : Task → Bool) (set : Members) (k j : ℕ) → (j == k) ≡ false → is_gone covers (less set k) j ≡ is_gone covers set j
-gone_after covers set k j apart =
-    list_any-map (λ (m : Member). m.task.ticket == j && covers m.task) (looked_at (without k set.list)) (without k set.list)
-    ∙ any_less (λ m. m.task.ticket == j && covers m.task) k set.list
-    (λ m is. ap (λ b. b && covers m.task) (ap (λ n. n == j) (eqb-true m.task.ticket k is) ∙ eq_sym k j ∙ apart))
-
-none_with : (k : ℕ) (ms : List Member) → list_any (λ m. m.task.ticket == k) (without k ms) ≡ false
-none_with k [] = refl
-none_with k (x ∷ ms) =
-    elim (x.task.ticket == k) as (λ b. (x.task.ticket == k) ≡ b → list_any (λ (m : Member). m.task.ticket == k) (cond (not b) (x ∷ without k ms) (without k ms)) ≡ false) [
-      | true ↦ λ is. none_with k ms
-      | false ↦ λ is. ap (λ b. b || list_any (λ (m : Member). m.task.ticket == k) (without k ms)) is ∙ none_with k ms
-    ] refl
-
--- no other has its ticket
-pub one_less : (k : ℕ) (set : Members) → has_covered (covers_ticket k) (less set k) ≡ false
-one_less k set = list_any-map (λ (m : Member). m.task.ticket == k) (looked_at (without k set.list)) (without k set.list) ∙ none_with k set.list
-
-filter_less : (covers : Task → Bool) (k : ℕ) (ms : List Member) → list_all (λ m. not (m.task.ticket == k) || covers m.task) ms ≡ true → filter (λ m. not (covers m.task)) (without k ms) ≡ filter (λ m. not (covers m.task)) ms
-filter_less covers k [] h = refl
-filter_less covers k (x ∷ ms) h =
-    let parts = and_parts (not (x.task.ticket == k) || covers x.task) (list_all (λ m. not (m.task.ticket == k) || covers m.task) ms) h in
-    let c : List Member → List Member = λ ns. filter (λ (m : Member). not (covers m.task)) ns in
-    elim (x.task.ticket == k) as (λ b. (not b || covers x.task) ≡ true → c (cond (not b) (x ∷ without k ms) (without k ms)) ≡ cond (not (covers x.task)) (x ∷ c ms) (c ms)) [
-      | true ↦ λ is. filter_less covers k ms parts.1 ∙ ap (λ b. cond (not b) (x ∷ c ms) (c ms)) (sym is)
-      | false ↦ λ is. ap (λ ns. cond (not (covers x.task)) (x ∷ ns) ns) (filter_less covers k ms parts.1)
-    ] parts.0
-
-moment_twice : (ms : List Member) → after_moment (after_moment ms) ≡ after_moment ms
-moment_twice ms = ap after_moment (sym (filter-true (after_moment ms))) ∙ passing_after (λ t. true) ms ∙ ap after_moment (filter-true ms)
-
-set_staying-less : (covers : Task → Bool) (set : Members) (task : Task) → rising (tickets set.list) ≡ true → find covers (tasks_in set) ≡ Some task → set_staying covers (less set task.ticket) ≡ set_staying covers set
-set_staying-less covers set task up found =
-    let ys : List Member = without task.ticket set.list in
-    let c : List Member → List Member = λ ns. filter (λ (m : Member). not (covers m.task)) ns in
-    let with_list : List Member → Members = λ ms. record set { list = ms } in
-    let key : after_moment (c (after_moment ys)) ≡ after_moment (c set.list) = passing_after (λ t. not (covers t)) ys ∙ ap after_moment (filter_less covers task.ticket set.list (covered_alone covers set.list task up found)) in
-    elim (has_covered covers (less set task.ticket)) as (λ b. has_covered covers (less set task.ticket) ≡ b → cond b (with_list (after_moment (c (after_moment ys)))) (less set task.ticket) ≡ with_list (after_moment (c set.list))) [
-      | true ↦ λ is. ap with_list key
-      | false ↦ λ is. ap with_list (sym (moment_twice ys) ∙ ap after_moment (sym (all_kept (λ m. covers m.task) (after_moment ys) is)) ∙ key)
-    ] refl
-    ∙ ap (λ b. cond b (with_list (after_moment (c set.list))) set) (sym (some_covered covers set.list task found))
-
--- ---- what is counted
-
 count_fewer : (p q : Member → Bool) (ms : List Member) → count_by p (filter q ms) ≤ count_by p ms
 count_fewer p q [] = omega arith
 count_fewer p q (x ∷ ms) =
@@ -299,144 +106,362 @@ count_fewer p q (x ∷ ms) =
       | false ↦ omega (arith, all, rest)
     ]
 
-ungiven-less : (set : Members) (k : ℕ) → ungiven (less set k) ≤ ungiven set
-ungiven-less set k = omega (arith, count_by-map (λ (m : Member). not m.given) (looked_at (without k set.list)) (without k set.list), count_fewer (λ m. not m.given) (λ m. not (m.task.ticket == k)) set.list)
+ungiven-staying : (covers : Task → Bool) (now : Members) → ungiven (set_staying covers now) ≤ ungiven now
+ungiven-staying covers now =
+    let rest : List Member = uncovered covers now.list in
+    elim (has_covered covers now) as (λ b. ungiven (cond b (record now { list = after_moment rest }) now) ≤ ungiven now) [
+      | true ↦ omega (arith, count_by-map (λ (m : Member). not m.given) (looked_at rest) rest, count_fewer (λ m. not m.given) (λ m. not (covers m.task)) now.list)
+      | false ↦ omega arith
+    ]
 
 pub ungiven_in-set : (sets : List Members) (unit : ℕ) (new : Members) → unit < length sets → ungiven_in (set sets unit new) + ungiven (get_or sets unit (opened 0)) ≡ ungiven_in sets + ungiven new
 ungiven_in-set [] unit new lt = absurd (omega arith)
 ungiven_in-set (x ∷ sets) zero new lt = omega arith
 ungiven_in-set (x ∷ sets) (suc unit) new lt = omega (arith, ungiven_in-set sets unit new (omega arith))
 
-without_shorter : (k : ℕ) (ms : List Member) → list_any (λ t. t == k) (tickets ms) ≡ true → length (without k ms) + 1 ≤ length ms
-without_shorter k [] h = absurd (false≢true h)
-without_shorter k (x ∷ ms) h =
-    elim (x.task.ticket == k) as (λ b. (b || list_any (λ t. t == k) (tickets ms)) ≡ true → length (cond (not b) (x ∷ without k ms) (without k ms)) + 1 ≤ suc (length ms)) [
-      | true ↦ λ here. omega (arith, filter-shorter (λ (m : Member). not (m.task.ticket == k)) ms)
-      | false ↦ λ later. omega (arith, without_shorter k ms later)
-    ] h
+pub none_found : (covers : Task → Bool) (ms : List Member) → find covers (map (λ (m : Member). m.task) ms) ≡ None → list_any (λ m. covers m.task) ms ≡ false
+none_found covers [] none = refl
+none_found covers (x ∷ ms) none =
+    elim (covers x.task) as (λ b. cond b (Some x.task) (find covers (map (λ (m : Member). m.task) ms)) ≡ None → (b || list_any (λ (m : Member). covers m.task) ms) ≡ false) [
+      | true ↦ λ here. absurd cc
+      | false ↦ λ later. none_found covers ms later
+    ] none
 
--- ---- the live command
+some_covered : (covers : Task → Bool) (ms : List Member) (task : Task) → find covers (map (λ (m : Member). m.task) ms) ≡ Some task → list_any (λ m. covers m.task) ms ≡ true
+some_covered covers [] task found = absurd cc
+some_covered covers (x ∷ ms) task found =
+    elim (covers x.task) as (λ b. cond b (Some x.task) (find covers (map (λ (m : Member). m.task) ms)) ≡ Some task → (b || list_any (λ (m : Member). covers m.task) ms) ≡ true) [
+      | true ↦ λ here. refl
+      | false ↦ λ later. some_covered covers ms task later
+    ] found
 
-found_live : (k unit : ℕ) (lives : List Live) → are_ascending lives ≡ true → list_any (λ t. t == k) (tickets_in unit lives) ≡ true → (l : Live) × ((find_ticket k lives ≡ Some l) × (l.unit ≡ unit))
-found_live k unit [] up h = absurd (false≢true h)
-found_live k unit (x ∷ lives) up h =
-    let parts = and_parts (list_all (λ m. nat_lt x.ticket m.ticket) lives) (are_ascending lives) up in
-    let here : List Live = filter (λ l. l.unit == unit) lives in
-    elim (x.ticket == k) as (λ b. (x.ticket == k) ≡ b → (l : Live) × ((cond b (Some x) (find_ticket k lives) ≡ Some l) × (l.unit ≡ unit))) [
-      | true ↦ λ is.
-          let gone : list_any (λ t. t == k) (tickets_in unit lives) ≡ false = ap (λ n. list_any (λ t. t == n) (tickets_in unit lives)) (sym (eqb-true x.ticket k is)) ∙ none_above x.ticket (tickets_in unit lives) (later_in x.ticket unit lives parts.0) in
-          elim (x.unit == unit) as (λ b. (x.unit == unit) ≡ b → list_any (λ t. t == k) (map (λ (l : Live). l.ticket) (cond b (x ∷ here) here)) ≡ true → (l : Live) × ((Some x ≡ Some l) × (l.unit ≡ unit))) [
-            | true ↦ λ at has. (x, (refl, eqb-true x.unit unit at))
-            | false ↦ λ at has. absurd (false≢true (sym gone ∙ has))
-          ] refl h
-      | false ↦ λ is.
-          elim (x.unit == unit) as (λ b. list_any (λ t. t == k) (map (λ (l : Live). l.ticket) (cond b (x ∷ here) here)) ≡ true → (l : Live) × ((find_ticket k lives ≡ Some l) × (l.unit ≡ unit))) [
-            | true ↦ λ has. found_live k unit lives parts.1 (sym (ap (λ b. b || list_any (λ t. t == k) (tickets_in unit lives)) is) ∙ has)
-            | false ↦ λ has. found_live k unit lives parts.1 has
-          ] h
+-- ---- who leaves, by tickets
+
+all_at : (p : ℕ → Bool) (ms : List Member) (k : ℕ) (d : Member) → list_all p (tickets ms) ≡ true → k < length ms → p (get_or ms k d).task.ticket ≡ true
+all_at p [] k d all lt = absurd (omega arith)
+all_at p (x ∷ ms) zero d all lt = (and_parts (p x.task.ticket) (list_all p (tickets ms)) all).0
+all_at p (x ∷ ms) (suc k) d all lt = all_at p ms k d (and_parts (p x.task.ticket) (list_all p (tickets ms)) all).1 (omega arith)
+
+none_covered : (covers : Task → Bool) (k : ℕ) (ms : List Member) → list_any (λ t. t == k) (tickets ms) ≡ false → list_any (λ m. m.task.ticket == k && covers m.task) ms ≡ false
+none_covered covers k [] h = refl
+none_covered covers k (x ∷ ms) h =
+    let parts = or_none (x.task.ticket == k) (list_any (λ t. t == k) (tickets ms)) h in
+    ap (λ b. (b && covers x.task) || list_any (λ m. m.task.ticket == k && covers m.task) ms) parts.0 ∙ none_covered covers k ms parts.1
+
+-- a command is gone just where it is covered
+gone_each : (covers : Task → Bool) (ms : List Member) (k : ℕ) (d : Member) → rising (tickets ms) ≡ true → k < length ms → list_any (λ m. m.task.ticket == (get_or ms k d).task.ticket && covers m.task) ms ≡ covers (get_or ms k d).task
+gone_each covers [] k d up lt = absurd (omega arith)
+gone_each covers (x ∷ ms) zero d up lt =
+    let parts = and_parts (list_all (λ u. nat_lt x.task.ticket u) (tickets ms)) (rising (tickets ms)) up in
+    ap (λ b. (b && covers x.task) || list_any (λ m. m.task.ticket == x.task.ticket && covers m.task) ms) (eq-eqb x.task.ticket x.task.ticket refl)
+    ∙ ap (λ b. covers x.task || b) (none_covered covers x.task.ticket ms (none_above x.task.ticket (tickets ms) parts.0)) ∙ or_false (covers x.task)
+gone_each covers (x ∷ ms) (suc k) d up lt =
+    let parts = and_parts (list_all (λ u. nat_lt x.task.ticket u) (tickets ms)) (rising (tickets ms)) up in
+    let t : ℕ = (get_or ms k d).task.ticket in
+    let apart : (x.task.ticket == t) ≡ false = eq_sym x.task.ticket t ∙ later_apart x.task.ticket t (all_at (λ u. nat_lt x.task.ticket u) ms k d parts.0 (omega arith)) in
+    ap (λ b. (b && covers x.task) || list_any (λ m. m.task.ticket == t && covers m.task) ms) apart ∙ gone_each covers ms k d parts.1 (omega arith)
+
+tickets_staying : (covers : Task → Bool) (now : Members) → tickets_of (set_staying covers now) ≡ tickets (uncovered covers now.list)
+tickets_staying covers now =
+    let rest : List Member = uncovered covers now.list in
+    elim (has_covered covers now) as (λ b. has_covered covers now ≡ b → tickets (cond b (record now { list = after_moment rest }) now).list ≡ tickets rest) [
+      | true ↦ λ some. map-map (λ (m : Member). m.task.ticket) (looked_at rest) rest
+      | false ↦ λ none. ap tickets (sym (all_kept (λ m. covers m.task) now.list none))
     ] refl
 
--- ---- a session after one of the chosen commands left
+filter_here : {A : Type 0} (p q : A → Bool) (xs : List A) → All (λ x. p x ≡ q x) xs → filter p xs ≡ filter q xs
+filter_here p q [] same = refl
+filter_here p q (x ∷ xs) same =
+    ap (λ b. cond b (x ∷ filter p xs) (filter p xs)) (All-head (λ y. p y ≡ q y) x xs same)
+    ∙ ap (λ ys. cond (q x) (x ∷ ys) ys) (filter_here p q xs (All-tail (λ y. p y ≡ q y) x xs same))
 
-abbrev pub stepped : Core → ℕ → ℕ → Core
-stepped s unit k = record s {
-  window = finished_by s.window s.live (without_ticket k s.live);
-  live = without_ticket k s.live;
-  sets = set s.sets unit (less (set_at s unit) k);
-}
+-- the tickets that are left in its set
+left_tickets : (covers : Task → Bool) (now : Members) → rising (tickets now.list) ≡ true → tickets_of (set_staying covers now) ≡ filter (λ t. not (is_gone covers now t)) (tickets now.list)
+left_tickets covers now up =
+    tickets_staying covers now
+    ∙ sym (filter-map (λ t. not (is_gone covers now t)) (λ (m : Member). m.task.ticket) now.list
+    ∙ ap tickets (filter_here (λ m. not (is_gone covers now m.task.ticket)) (λ m. not (covers m.task)) now.list (λ k d l. ap not (gone_each covers now.list k d up l))))
 
-pub record Leaving (s : Core) (unit : ℕ) (covers : Task → Bool) (k : ℕ) : Type 0 where
-  pub whole : with_left (stepped s unit k) unit covers ≡ with_left s unit covers
-  pub effects : leaving_effects s unit covers ≡ Leave k unit ∷ leaving_effects (stepped s unit k) unit covers
-  pub live : Live
-  pub found : find_ticket k s.live ≡ Some live
-  pub matches : Match (set s.sets unit (less (set_at s unit) k)) (without_ticket k s.live)
-  pub fewer : length (set_at (stepped s unit k) unit).list < length (set_at s unit).list
-  pub later : list_all (λ m. nat_lt k m.task.ticket || not (covers m.task)) (set_at (stepped s unit k) unit).list ≡ true
-  pub owes : owed (without_ticket k s.live) (set s.sets unit (less (set_at s unit) k)) + 1 ≤ owed s.live s.sets
+-- and among the live commands of any unit
+live_tickets : (goes : ℕ → Bool) (unit : ℕ) (lives : List Live) → tickets_in unit (filter (λ l. not (goes l.ticket)) lives) ≡ filter (λ t. not (goes t)) (tickets_in unit lives)
+live_tickets goes unit lives =
+    ap (map (λ (x : Live). x.ticket)) (filter-swap (λ (x : Live). x.unit == unit) (λ (x : Live). not (goes x.ticket)) lives)
+    ∙ sym (filter-map (λ t. not (goes t)) (λ (x : Live). x.ticket) (filter (λ (x : Live). x.unit == unit) lives))
 
-module _ (s : Core) (unit : ℕ) (covers : Task → Bool) (task : Task) (found : find covers (tasks_in (set_at s unit)) ≡ Some task) (inside : unit < length s.sets) (m : Match s.sets s.live) (up : are_ascending s.live ≡ true) (few : count_by is_numbered s.live ≤ s.window.unfinished) where
-  abbrev k : ℕ
-  k = task.ticket
+-- ---- no command is in two units
 
-  abbrev now : Members
-  now = set_at s unit
+abbrev is_in : ℕ → List Live → ℕ → Bool
+is_in unit lives t = list_any (λ u. u == t) (tickets_in unit lives)
 
-  abbrev lives : List Live
-  lives = without_ticket k s.live
+apart_units : (unit other : ℕ) (lives : List Live) → (other == unit) ≡ false → are_ascending lives ≡ true → list_all (λ t. not (is_in unit lives t)) (tickets_in other lives) ≡ true
+apart_units unit other [] apart up = refl
+apart_units unit other (x ∷ lives) apart up =
+    let ups = and_parts (list_all (λ m. nat_lt x.ticket m.ticket) lives) (are_ascending lives) up in
+    let mine : List Live = filter (λ l. l.unit == unit) lives in
+    let theirs : List Live = filter (λ l. l.unit == other) lives in
+    let rest : list_all (λ t. not (is_in unit lives t)) (tickets_in other lives) ≡ true = apart_units unit other lives apart ups.1 in
+    elim (x.unit == other) as (λ b. (x.unit == other) ≡ b → list_all (λ t. not (list_any (λ u. u == t) (map (λ (l : Live). l.ticket) (cond (x.unit == unit) (x ∷ mine) mine)))) (map (λ (l : Live). l.ticket) (cond b (x ∷ theirs) theirs)) ≡ true) [
+      | true ↦ λ is.
+          let no : (x.unit == unit) ≡ false = ap (λ n. n == unit) (eqb-true x.unit other is) ∙ apart in
+          ap (λ b. list_all (λ t. not (list_any (λ u. u == t) (map (λ (l : Live). l.ticket) (cond b (x ∷ mine) mine)))) (x.ticket ∷ tickets_in other lives)) no
+          ∙ and_both (not (is_in unit lives x.ticket)) (list_all (λ t. not (is_in unit lives t)) (tickets_in other lives))
+          (ap not (none_above x.ticket (tickets_in unit lives) (later_in x.ticket unit lives ups.0))) rest
+      | false ↦ λ is. elim (x.unit == unit) as (λ b. list_all (λ t. not (list_any (λ u. u == t) (map (λ (l : Live). l.ticket) (cond b (x ∷ mine) mine)))) (tickets_in other lives) ≡ true) [
+        | true ↦
+            weaker (λ t. nat_lt x.ticket t && not (is_in unit lives t)) (λ t. not ((x.ticket == t) || is_in unit lives t)) (tickets_in other lives)
+            (λ t both. let parts = and_parts (nat_lt x.ticket t) (not (is_in unit lives t)) both in
+            ap (λ b. not (b || is_in unit lives t)) (eq_sym x.ticket t ∙ later_apart x.ticket t parts.0) ∙ parts.1)
+            (both_all (λ t. nat_lt x.ticket t) (λ t. not (is_in unit lives t)) (tickets_in other lives) (later_in x.ticket other lives ups.0) rest)
+        | false ↦ rest
+      ]
+    ] refl
 
-  rises : rising (tickets now.list) ≡ true
-  rises = ap rising (m unit inside) ∙ rising_in unit s.live up
+filter_every : (p : ℕ → Bool) (ts : List ℕ) → list_all p ts ≡ true → filter p ts ≡ ts
+filter_every p [] all = refl
+filter_every p (t ∷ ts) all =
+    let parts = and_parts (p t) (list_all p ts) all in
+    ap (λ b. cond b (t ∷ filter p ts) (filter p ts)) parts.0 ∙ ap (λ us. t ∷ us) (filter_every p ts parts.1)
 
-  at_unit : get_or (set s.sets unit (less now k)) unit (opened 0) ≡ less now k
-  at_unit = get_or-set_same s.sets unit (less now k) (opened 0) inside
+-- ---- the sets and the live commands that are left
 
-  stay : staying covers (less now k) lives ≡ staying covers now s.live
-  stay =
-      filter-twice (λ (l : Live). not (is_gone covers (less now k) l.ticket)) (λ (l : Live). not (l.ticket == k)) s.live
-      ∙ filter-same (λ (l : Live). not (l.ticket == k) && not (is_gone covers (less now k) l.ticket)) (λ (l : Live). not (is_gone covers now l.ticket)) s.live
-      (λ l. elim (l.ticket == k) as (λ b. (l.ticket == k) ≡ b → (not b && not (is_gone covers (less now k) l.ticket)) ≡ not (is_gone covers now l.ticket)) [
-        | true ↦ λ is. sym (ap (λ n. not (is_gone covers now n)) (eqb-true l.ticket k is) ∙ ap not (gone_first covers now.list task found))
-        | false ↦ λ is. ap not (gone_after covers now k l.ticket is)
-      ] refl)
+module _ (sets : List Members) (lives : List Live) (unit : ℕ) (covers : Task → Bool) (inside : unit < length sets) (m : Match sets lives) (up : are_ascending lives ≡ true) where
+  abbrev here : Members
+  here = get_or sets unit (opened 0)
 
-  whole_is : with_left (stepped s unit k) unit covers ≡ with_left s unit covers
-  whole_is =
-      let w : Received = finished_by s.window s.live lives in
-      let a : ℕ = count_by is_numbered s.live in
-      let b : ℕ = count_by is_numbered lives in
-      let e : ℕ = count_by is_numbered (staying covers now s.live) in
-      let less_a : b ≤ a = fewer_counted is_numbered (λ l. not (l.ticket == k)) s.live in
-      let less_e : e ≤ b = omega (arith, ap (count_by is_numbered) stay, fewer_counted is_numbered (λ l. not (is_gone covers (less now k) l.ticket)) lives) in
-      let sum : s.window.unfinished + b - a + e - b ≡ s.window.unfinished + e - a = omega (arith, few, less_a, less_e) in
-      ap (λ (x : Members). core_with s (finished_by w lives (staying covers x lives)) (staying covers x lives) (set (set s.sets unit (less now k)) unit (set_staying covers x))) at_unit
-      ∙ ap (λ ls. core_with s (finished_by w lives ls) ls (set (set s.sets unit (less now k)) unit (set_staying covers (less now k)))) stay
-      ∙ ap (λ n. core_with s (with_unfinished s.window n) (staying covers now s.live) (set (set s.sets unit (less now k)) unit (set_staying covers (less now k)))) sum
-      ∙ ap (λ ms. core_with s (finished_by s.window s.live (staying covers now s.live)) (staying covers now s.live) ms)
-      (set-set s.sets unit (less now k) (set_staying covers (less now k)) ∙ ap (set s.sets unit) (set_staying-less covers now task rises found))
+  abbrev left : List Members
+  left = set sets unit (set_staying covers here)
 
-  effects_are : leaving_effects s unit covers ≡ Leave k unit ∷ leaving_effects (stepped s unit k) unit covers
-  effects_are =
-      let shown : List Member → List Effect = λ ns. map (λ (x : Member). Leave x.task.ticket unit) ns in
-      let ys : List Member = without k now.list in
-      first_effect covers unit now.list task rises found
-      ∙ ap (λ es. Leave k unit ∷ es) (sym (ap (λ (x : Members). shown (filter (λ y. covers y.task) x.list)) at_unit
-      ∙ ap shown (filter-map (λ (x : Member). covers x.task) (looked_at ys) ys) ∙ map-map (λ (x : Member). Leave x.task.ticket unit) (looked_at ys) (filter (λ x. covers x.task) ys)))
+  pub rises : rising (tickets here.list) ≡ true
+  rises = ap rising (m unit inside) ∙ rising_in unit lives up
 
-  there : list_any (λ t. t == k) (tickets now.list) ≡ true
-  there = found_in covers now.list task found
+  goes_in : (t : ℕ) → not (is_in unit lives t) ≡ true → not (is_gone covers here t) ≡ true
+  goes_in t absent = ap not (none_covered covers t here.list (ap (list_any (λ u. u == t)) (m unit inside) ∙ not_true (is_in unit lives t) absent))
 
-  live_is : (l : Live) × ((find_ticket k s.live ≡ Some l) × (l.unit ≡ unit))
-  live_is = found_live k unit s.live up (ap (list_any (λ t. t == k)) (sym (m unit inside)) ∙ there)
-
-  matches_are : Match (set s.sets unit (less now k)) lives
-  matches_are = λ u lt.
-      let in_range : u < length s.sets = omega (arith, length-set s.sets unit (less now k), lt) in
+  pub Match-staying : Match left (staying covers here lives)
+  Match-staying = λ u lt.
+      let in_range : u < length sets = omega (arith, length-set sets unit (set_staying covers here), lt) in
       ⊎_elim
-      (λ here.
-      ap (λ v. tickets_of (get_or (set s.sets unit (less now k)) v (opened 0))) here ∙ ap tickets_of at_unit
-      ∙ map-map (λ (x : Member). x.task.ticket) (looked_at (without k now.list)) (without k now.list)
-      ∙ sym (filter-map (λ t. not (t == k)) (λ (x : Member). x.task.ticket) now.list)
-      ∙ ap (filter (λ t. not (t == k))) (m unit inside) ∙ sym (tickets_in-left k unit s.live)
-      ∙ ap (λ v. tickets_in v lives) (sym here))
-      (λ apart.
-      ap tickets_of (get_or-set_other s.sets unit u (less now k) (opened 0) apart) ∙ m u in_range
-      ∙ sym (tickets_in-left k u s.live ∙ other_kept k u s.live live_is.0 up live_is.1.0 (ap (λ v. v == u) live_is.1.1 ∙ (let no : (unit == u) ≡ false = grind (arith, nat_tests) in no))))
+      (λ same.
+      ap (λ v. tickets_of (get_or left v (opened 0))) same ∙ ap tickets_of (get_or-set_same sets unit (set_staying covers here) (opened 0) inside)
+      ∙ left_tickets covers here rises ∙ ap (filter (λ t. not (is_gone covers here t))) (m unit inside)
+      ∙ sym (live_tickets (is_gone covers here) unit lives) ∙ ap (λ v. tickets_in v (staying covers here lives)) (sym same))
+      (λ other.
+      ap tickets_of (get_or-set_other sets unit u (set_staying covers here) (opened 0) other) ∙ m u in_range
+      ∙ sym (live_tickets (is_gone covers here) u lives
+      ∙ filter_every (λ t. not (is_gone covers here t)) (tickets_in u lives)
+      (weaker (λ t. not (is_in unit lives t)) (λ t. not (is_gone covers here t)) (tickets_in u lives) goes_in
+      (apart_units unit u lives (let no : (u == unit) ≡ false = grind (arith, nat_tests) in no) up))))
       (cases_eq u unit)
 
-  pub leaving_one : Leaving s unit covers k
-  leaving_one = record {
-    whole = whole_is;
-    effects = effects_are;
-    live = live_is.0;
-    found = live_is.1.0;
-    matches = matches_are;
-    fewer = omega (arith, ap (λ (x : Members). length x.list) at_unit, length-map (without k now.list) (looked_at (without k now.list)), without_shorter k now.list there);
-    later =
-        ap (λ (x : Members). list_all (λ (y : Member). nat_lt k y.task.ticket || not (covers y.task)) x.list) at_unit
-        ∙ list_all-map (λ (y : Member). nat_lt k y.task.ticket || not (covers y.task)) (looked_at (without k now.list)) (without k now.list) ∙ rest_later covers now.list task rises found;
-    owes = omega (arith, fewer_all (λ (l : Live). l.ticket == k) s.live live_is.0 live_is.1.0, ungiven_in-set s.sets unit (less now k) inside, ungiven-less now k);
-  }
+-- no more is owed than was
+pub ungiven_in-staying : (sets : List Members) (unit : ℕ) (covers : Task → Bool) → unit < length sets → ungiven_in (set sets unit (set_staying covers (get_or sets unit (opened 0)))) ≤ ungiven_in sets
+ungiven_in-staying sets unit covers inside =
+    omega (arith, ungiven_in-set sets unit (set_staying covers (get_or sets unit (opened 0))) inside, ungiven-staying covers (get_or sets unit (opened 0)))
+
+-- ---- one command after the other
+
+-- the first commands of the set
+abbrev pub upto : ℕ → Members → Members
+upto n now = record now { list = take n now.list }
+
+any_push : (p : Member → Bool) (ms : List Member) (x : Member) → list_any p (ms ++ x ∷ []) ≡ (list_any p ms || p x)
+any_push p [] x = or_false (p x)
+any_push p (y ∷ ms) x = elim (p y) as (λ b. (b || list_any p (ms ++ x ∷ [])) ≡ ((b || list_any p ms) || p x)) [ true ↦ refl | false ↦ any_push p ms x ]
+
+-- what is told of a command, by whether it is covered
+pub told_at : (covers : Task → Bool) (ms : List Member) (k : ℕ) (d : Member) → k < length ms → option_and_then (λ t. ticket_if (covers t) t) (slice_get (map (λ (m : Member). m.task) ms) k) ≡ ticket_if (covers (get_or ms k d).task) (get_or ms k d).task
+told_at covers [] k d lt = absurd (omega arith)
+told_at covers (x ∷ ms) zero d lt = refl
+told_at covers (x ∷ ms) (suc k) d lt = told_at covers ms k d (omega arith)
+
+pub ticket_some : (b : Bool) (t : Task) (k : ℕ) → ticket_if b t ≡ Some k → (b ≡ true) × (t.ticket ≡ k)
+ticket_some true t k is = (refl, cc)
+ticket_some false t k is = absurd cc
+
+pub ticket_none : (b : Bool) (t : Task) → ticket_if b t ≡ None → b ≡ false
+ticket_none true t is = absurd cc
+ticket_none false t is = refl
+
+abbrev pub no_member : Member
+no_member = record { task = record { ticket = 0; conn = 0; itt = 0; attr = Simple; immediate = false; pos = pos 0; event = 0 }; enabled = false; given = false }
+
+-- how a command of the set is told
+pub told_some : (cover : Cover) (now : Members) (at k : ℕ) (r : Option ℕ) → at < length now.list → r ≡ covered_at cover (tasks_in now) at → r ≡ Some k
+    → (is_covered cover (get_or now.list at no_member).task ≡ true) × ((get_or now.list at no_member).task.ticket ≡ k)
+told_some cover now at k r inside is some =
+    let task : Task = (get_or now.list at no_member).task in
+    ticket_some (is_covered cover task) task k (sym (told_at (is_covered cover) now.list at no_member inside) ∙ sym is ∙ some)
+
+pub told_none : (cover : Cover) (now : Members) (at : ℕ) (r : Option ℕ) → at < length now.list → r ≡ covered_at cover (tasks_in now) at → r ≡ None → is_covered cover (get_or now.list at no_member).task ≡ false
+told_none cover now at r inside is none =
+    let task : Task = (get_or now.list at no_member).task in
+    ticket_none (is_covered cover task) task (sym (told_at (is_covered cover) now.list at no_member inside) ∙ sym is ∙ none)
+
+pub without_shorter : (k : ℕ) (lives : List Live) → IsSome (find_ticket k lives) → length (without_ticket k lives) + 1 ≤ length lives
+without_shorter k lives there = by_found (find_ticket k lives) refl there
+  where
+    by_found : (x : Option Live) → find_ticket k lives ≡ x → IsSome x → length (without_ticket k lives) + 1 ≤ length lives
+    by_found None is some = absurd cc
+    by_found (Some l) is some = fewer (λ (y : Live). y.ticket == k) lives l is
+
+some_live : (k unit : ℕ) (lives : List Live) → is_in unit lives k ≡ true → list_any (λ l. l.ticket == k) lives ≡ true
+some_live k unit [] h = absurd (false≢true h)
+some_live k unit (x ∷ lives) h =
+    let here : List Live = filter (λ l. l.unit == unit) lives in
+    elim (x.unit == unit) as (λ b. list_any (λ u. u == k) (map (λ (l : Live). l.ticket) (cond b (x ∷ here) here)) ≡ true → ((x.ticket == k) || list_any (λ l. l.ticket == k) lives) ≡ true) [
+      | true ↦ λ has. elim (x.ticket == k) as (λ b. (b || is_in unit lives k) ≡ true → (b || list_any (λ l. l.ticket == k) lives) ≡ true) [
+        | true ↦ λ now. refl
+        | false ↦ λ later. some_live k unit lives later
+      ] has
+      | false ↦ λ has. or_second (x.ticket == k) (list_any (λ l. l.ticket == k) lives) (some_live k unit lives has)
+    ] h
+
+some_found : (k : ℕ) (lives : List Live) → list_any (λ l. l.ticket == k) lives ≡ true → IsSome (find_ticket k lives)
+some_found k [] h = absurd (false≢true h)
+some_found k (x ∷ lives) h = elim (x.ticket == k) as (λ b. (b || list_any (λ l. l.ticket == k) lives) ≡ true → IsSome (cond b (Some x) (find_ticket k lives))) [
+  | true ↦ λ now. refl
+  | false ↦ λ later. some_found k lives later
+] h
+
+has_ticket_at : (ms : List Member) (k : ℕ) (d : Member) → k < length ms → list_any (λ u. u == (get_or ms k d).task.ticket) (tickets ms) ≡ true
+has_ticket_at [] k d lt = absurd (omega arith)
+has_ticket_at (x ∷ ms) zero d lt = or_first (x.task.ticket == x.task.ticket) (list_any (λ u. u == x.task.ticket) (tickets ms)) (eq-eqb x.task.ticket x.task.ticket refl)
+has_ticket_at (x ∷ ms) (suc k) d lt = or_second (x.task.ticket == (get_or ms k d).task.ticket) (list_any (λ u. u == (get_or ms k d).task.ticket) (tickets ms)) (has_ticket_at ms k d (omega arith))
+
+-- none of those before it has its ticket
+unlike_before : (ms : List Member) (k : ℕ) (d : Member) → rising (tickets ms) ≡ true → k < length ms → list_any (λ u. u == (get_or ms k d).task.ticket) (tickets (take k ms)) ≡ false
+unlike_before [] k d up lt = absurd (omega arith)
+unlike_before (x ∷ ms) zero d up lt = refl
+unlike_before (x ∷ ms) (suc k) d up lt =
+    let parts = and_parts (list_all (λ u. nat_lt x.task.ticket u) (tickets ms)) (rising (tickets ms)) up in
+    let t : ℕ = (get_or ms k d).task.ticket in
+    ap (λ b. b || list_any (λ u. u == t) (tickets (take k ms))) (eq_sym x.task.ticket t ∙ later_apart x.task.ticket t (all_at (λ u. nat_lt x.task.ticket u) ms k d parts.0 (omega arith)))
+    ∙ unlike_before ms k d parts.1 (omega arith)
+
+module _ (now : Members) (unit : ℕ) (covers : Task → Bool) (lives : List Live) (at : ℕ) (d : Member) (inside : at < length now.list) where
+  abbrev task : Task
+  task = (get_or now.list at d).task
+
+  gone_more : (t : ℕ) → is_gone covers (upto (at + 1) now) t ≡ (is_gone covers (upto at now) t || (task.ticket == t && covers task))
+  gone_more t = ap (list_any (λ m. m.task.ticket == t && covers m.task)) (take_more now.list at d inside) ∙ any_push (λ m. m.task.ticket == t && covers m.task) (take at now.list) (get_or now.list at d)
+
+  -- one that isn't covered stays
+  pub passed_live : covers task ≡ false → staying covers (upto (at + 1) now) lives ≡ staying covers (upto at now) lives
+  passed_live stays = filter-same (λ (l : Live). not (is_gone covers (upto (at + 1) now) l.ticket)) (λ l. not (is_gone covers (upto at now) l.ticket)) lives
+      (λ l. ap not (gone_more l.ticket ∙ ap (λ b. is_gone covers (upto at now) l.ticket || (task.ticket == l.ticket && b)) stays
+      ∙ ap (λ b. is_gone covers (upto at now) l.ticket || b) (and_false (task.ticket == l.ticket)) ∙ or_false (is_gone covers (upto at now) l.ticket)))
+
+  pub passed_leaves : covers task ≡ false → leaves unit covers (take (at + 1) now.list) ≡ leaves unit covers (take at now.list)
+  passed_leaves stays =
+      ap (leaves unit covers) (take_more now.list at d inside) ∙ ap (map (λ (m : Member). Leave m.task.ticket unit)) (filter-append (λ m. covers m.task) (take at now.list) (get_or now.list at d ∷ [])
+      ∙ ap (λ b. filter (λ m. covers m.task) (take at now.list) ++ cond b (get_or now.list at d ∷ []) []) stays ∙ append-nil (filter (λ m. covers m.task) (take at now.list)))
+
+  -- one that is covered leaves
+  pub more_live : covers task ≡ true → without_ticket task.ticket (staying covers (upto at now) lives) ≡ staying covers (upto (at + 1) now) lives
+  more_live goes =
+      filter-twice (λ (l : Live). not (l.ticket == task.ticket)) (λ l. not (is_gone covers (upto at now) l.ticket)) lives
+      ∙ filter-same (λ (l : Live). not (is_gone covers (upto at now) l.ticket) && not (l.ticket == task.ticket)) (λ l. not (is_gone covers (upto (at + 1) now) l.ticket)) lives
+      (λ l. neither (is_gone covers (upto at now) l.ticket) (l.ticket == task.ticket)
+      ∙ ap (λ b. not (is_gone covers (upto at now) l.ticket || b)) (eq_sym l.ticket task.ticket ∙ sym (ap (λ b. task.ticket == l.ticket && b) goes ∙ and_true (task.ticket == l.ticket)))
+      ∙ sym (ap not (gone_more l.ticket)))
+    where
+      neither : (a b : Bool) → (not a && not b) ≡ not (a || b)
+      neither true b = refl
+      neither false b = refl
+
+  pub more_leaves : covers task ≡ true → leaves unit covers (take at now.list) ++ Leave task.ticket unit ∷ [] ≡ leaves unit covers (take (at + 1) now.list)
+  more_leaves goes = sym (
+      ap (leaves unit covers) (take_more now.list at d inside) ∙ ap (map (λ (m : Member). Leave m.task.ticket unit)) (filter-append (λ m. covers m.task) (take at now.list) (get_or now.list at d ∷ [])
+      ∙ ap (λ b. filter (λ m. covers m.task) (take at now.list) ++ cond b (get_or now.list at d ∷ []) []) goes)
+      ∙ map-append (λ (m : Member). Leave m.task.ticket unit) (filter (λ m. covers m.task) (take at now.list)) (get_or now.list at d ∷ []))
+
+  -- it is still among the live ones
+  pub there_yet : tickets_of now ≡ tickets_in unit lives → are_ascending lives ≡ true → IsSome (find_ticket task.ticket (staying covers (upto at now) lives))
+  there_yet match up =
+      let t : ℕ = task.ticket in
+      let rise : rising (tickets now.list) ≡ true = ap rising match ∙ rising_in unit lives up in
+      let stays : is_gone covers (upto at now) t ≡ false = none_covered covers t (take at now.list) (unlike_before now.list at d rise inside) in
+      let there : list_any (λ (l : Live). l.ticket == t) lives ≡ true = some_live t unit lives (ap (list_any (λ u. u == t)) (sym match) ∙ has_ticket_at now.list at d inside) in
+      some_found t (staying covers (upto at now) lives)
+      (any_filter (λ (l : Live). l.ticket == t) (λ l. not (is_gone covers (upto at now) l.ticket)) lives
+      ∙ any_same (λ (l : Live). not (is_gone covers (upto at now) l.ticket) && l.ticket == t) (λ l. l.ticket == t) lives
+      (λ l. elim (l.ticket == t) as (λ b. (l.ticket == t) ≡ b → (not (is_gone covers (upto at now) l.ticket) && b) ≡ b) [
+        | true ↦ λ is. ap (λ n. not (is_gone covers (upto at now) n) && true) (eqb-true l.ticket t is) ∙ ap (λ b. not b && true) stays
+        | false ↦ λ is. and_false (not (is_gone covers (upto at now) l.ticket))
+      ] refl)
+      ∙ there)
+
+-- the places that are given back one after the other
+pub finished_on : (w v : Received) (a b c : List Live) → v ≡ finished_by w a b → count_by is_numbered a ≤ w.unfinished → count_by is_numbered c ≤ count_by is_numbered b → count_by is_numbered b ≤ count_by is_numbered a → finished_by v b c ≡ finished_by w a c
+finished_on w v a b c is few less_c less_b =
+    let x : ℕ = count_by is_numbered a in
+    let y : ℕ = count_by is_numbered b in
+    let z : ℕ = count_by is_numbered c in
+    let sum : w.unfinished + y - x + z - y ≡ w.unfinished + z - x = omega (arith, few, less_c, less_b) in
+    ap (λ (u : Received). finished_by u b c) is ∙ ap (with_unfinished w) sum
+
+pub finished_none : (w : Received) (a : List Live) → finished_by w a a ≡ w
+finished_none w a = let same : w.unfinished + count_by is_numbered a - count_by is_numbered a ≡ w.unfinished = omega arith in ap (with_unfinished w) same
+
+-- ---- the one with a ticket
+
+pub one_staying : (k : ℕ) (now : Members) → set_staying (covers_ticket k) now ≡ left_by now (with_ticket k (tasks_in now))
+one_staying k now = by_task (with_ticket k (tasks_in now)) refl
+  where
+    by_task : (x : Option Task) → with_ticket k (tasks_in now) ≡ x → set_staying (covers_ticket k) now ≡ left_by now x
+    by_task None is = ap (λ b. cond b (record now { list = after_moment (uncovered (covers_ticket k) now.list) }) now) (none_found (covers_ticket k) now.list is)
+    by_task (Some task) is =
+        ap (λ b. cond b (record now { list = after_moment (uncovered (covers_ticket k) now.list) }) now) (some_covered (covers_ticket k) now.list task is)
+        ∙ ap (λ n. let x : Members = record now { list = after_moment (uncovered (covers_ticket n) now.list) } in x) (sym (eqb-true task.ticket k (find-found (covers_ticket k) (tasks_in now) task is)))
+
+pub one_there : (k : ℕ) (now : Members) → is_some (with_ticket k (tasks_in now)) ≡ has_covered (covers_ticket k) now
+one_there k now = by_task (with_ticket k (tasks_in now)) refl
+  where
+    by_task : (x : Option Task) → with_ticket k (tasks_in now) ≡ x → is_some x ≡ has_covered (covers_ticket k) now
+    by_task None is = sym (none_found (covers_ticket k) now.list is)
+    by_task (Some task) is = sym (some_covered (covers_ticket k) now.list task is)
+
+pub one_found : (k unit : ℕ) (now : Members) (lives : List Live) → tickets_of now ≡ tickets_in unit lives → has_covered (covers_ticket k) now ≡ true → IsSome (find_ticket k lives)
+one_found k unit now lives match has =
+    some_found k lives (some_live k unit lives (ap (list_any (λ u. u == k)) (sym match) ∙ list_any-map (λ u. u == k) (λ (m : Member). m.task.ticket) now.list ∙ has))
+
+one_gone : (k j : ℕ) (ms : List Member) → list_any (λ m. m.task.ticket == j && m.task.ticket == k) ms ≡ (j == k && list_any (λ m. m.task.ticket == k) ms)
+one_gone k j [] = sym (and_false (j == k))
+one_gone k j (x ∷ ms) =
+    let has : Bool = list_any (λ (m : Member). m.task.ticket == k) ms in
+    let both : Bool = list_any (λ (m : Member). m.task.ticket == j && m.task.ticket == k) ms in
+    elim (x.task.ticket == k) as (λ b. (x.task.ticket == k) ≡ b → ((x.task.ticket == j && b) || both) ≡ (j == k && (b || has))) [
+      | true ↦ λ is. elim (j == k) as (λ b. (j == k) ≡ b → ((x.task.ticket == j && true) || both) ≡ (b && true)) [
+        | true ↦ λ same. ap (λ b. (b && true) || both) (eq-eqb x.task.ticket j (eqb-true x.task.ticket k is ∙ sym (eqb-true j k same)))
+        | false ↦ λ other.
+            ap (λ b. (b && true) || both) (ap (λ n. n == j) (eqb-true x.task.ticket k is) ∙ eq_sym k j ∙ other)
+            ∙ one_gone k j ms ∙ ap (λ b. b && has) other
+      ] refl
+      | false ↦ λ is. ap (λ b. b || both) (and_false (x.task.ticket == j)) ∙ one_gone k j ms
+    ] refl
+
+pub one_live : (k : ℕ) (now : Members) (lives : List Live) → cond (has_covered (covers_ticket k) now) (without_ticket k lives) lives ≡ staying (covers_ticket k) now lives
+one_live k now lives = sym (
+    filter-same (λ (l : Live). not (is_gone (covers_ticket k) now l.ticket)) (λ l. not (l.ticket == k && has_covered (covers_ticket k) now)) lives (λ l. ap not (one_gone k l.ticket now.list))
+    ∙ by_test (has_covered (covers_ticket k) now))
+  where
+    by_test : (b : Bool) → filter (λ l. not (l.ticket == k && b)) lives ≡ cond b (without_ticket k lives) lives
+    by_test true = filter-same (λ (l : Live). not (l.ticket == k && true)) (λ l. not (l.ticket == k)) lives (λ l. ap not (and_true (l.ticket == k)))
+    by_test false = filter-same (λ (l : Live). not (l.ticket == k && false)) (λ l. true) lives (λ l. ap not (and_false (l.ticket == k))) ∙ filter-true lives
+
+pub one_leaves : (k unit : ℕ) (ms : List Member) → rising (tickets ms) ≡ true → cond (list_any (λ m. m.task.ticket == k) ms) (Leave k unit ∷ []) [] ≡ leaves unit (covers_ticket k) ms
+one_leaves k unit [] up = refl
+one_leaves k unit (x ∷ ms) up =
+    let parts = and_parts (list_all (λ u. nat_lt x.task.ticket u) (tickets ms)) (rising (tickets ms)) up in
+    let rest : List Member = filter (λ m. m.task.ticket == k) ms in
+    elim (x.task.ticket == k) as (λ b. (x.task.ticket == k) ≡ b → cond (b || list_any (λ m. m.task.ticket == k) ms) (Leave k unit ∷ []) [] ≡ map (λ (m : Member). Leave m.task.ticket unit) (cond b (x ∷ rest) rest)) [
+      | true ↦ λ is.
+          let none : list_any (λ m. m.task.ticket == k) ms ≡ false =
+          ap (λ n. list_any (λ m. m.task.ticket == n) ms) (sym (eqb-true x.task.ticket k is)) ∙ sym (list_any-map (λ u. u == x.task.ticket) (λ (m : Member). m.task.ticket) ms) ∙ none_above x.task.ticket (tickets ms) parts.0 in
+          ap (λ n. Leave n unit ∷ []) (sym (eqb-true x.task.ticket k is))
+          ∙ ap (λ ns. Leave x.task.ticket unit ∷ map (λ (m : Member). Leave m.task.ticket unit) ns) (sym (none_filtered (λ m. m.task.ticket == k) ms none))
+      | false ↦ λ is. one_leaves k unit ms parts.1
+    ] refl
 
 -- ---- a unit is told
 

@@ -21,7 +21,6 @@ pub mod CountLemmas
 pub mod ExecutionLemmas
 pub mod SetParts
 pub mod KeptLemmas
-pub mod GroupLemmas
 pub mod TagLemmas
 pub mod GivingLemmas
 pub mod EnablingLemmas
@@ -29,7 +28,7 @@ pub mod MissingLemmas
 pub mod FindLemmas
 pub mod LeavingLemmas
 pub mod LeavingParts
-pub mod LaterParts
+pub mod LeftSound
 pub mod AbortParts
 pub mod DroppingLemmas
 pub mod TellingLemmas

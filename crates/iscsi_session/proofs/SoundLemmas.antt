@@ -1,8 +1,7 @@
 -- What holds of every session holds on, where only some of its fields change.
-use Rattle.std.proofs.Common.{◌≡◌, ◌∙◌, ◌+◌, ◌<◌, ◌≤◌, ◌==◌, not, ap, sym, subst, arith, nat_lt, length, filter, count_by, is_some, Bool, true, List, Option, Some, ℕ, All, cond, ◌&&◌, ◌++◌, [], ◌∷◌}
+use Rattle.std.proofs.Common.{◌≡◌, ◌∙◌, ◌+◌, ◌<◌, ◌≤◌, ◌==◌, not, ap, sym, subst, arith, nat_lt, nat_le, length, filter, count_by, is_some, Bool, true, List, Option, Some, ℕ, All, cond, ◌&&◌, ◌++◌, [], ◌∷◌}
 use Rattle.std.specs.List.{list_all}
 use Rattle.std.proofs.lemmas.Bool.Decides.{nat_tests}
-use Rattle.std.proofs.lemmas.List.Elements.{All-append, All-cons, All-filter}
 use Rattle.std.proofs.lemmas.List.Folds.{list_all-append}
 use Rattle.iscsi_wire.specs.Fields.{connection_of}
 use Rattle.iscsi_wire.specs.declared.request.Request.{Request}
@@ -13,14 +12,14 @@ use Rattle.iscsi_session.specs.declared.session.waiting.Waiting.{Waiting}
 use Rattle.iscsi_history.specs.Settings.{is_known}
 use Rattle.iscsi_history.specs.Management.{may_wait}
 use Rattle.iscsi_session.specs.Standing.{is_held, is_place_known, Match, are_within}
-use Rattle.iscsi_session.specs.Steps.{AreCounted, is_numbered, count_reply, without_ticket}
+use Rattle.iscsi_session.specs.Steps.{AreCounted, is_numbered, count_reply}
 use Rattle.iscsi_session.specs.Invariant.{Inner, IsWindowSound, AreCommandsSound, AreFunctionsSound, HasRooms, IsSessionSound}
 use Rattle.iscsi_history.proofs.ListLemmas.{count_by-push, list_all-filter, fewer_counted}
-use Rattle.iscsi_session.proofs.ListLemmas.{are_known-left, are_known-replied, are_places_known-replied, are_waiting_known-replied}
+use Rattle.iscsi_session.proofs.ListLemmas.{are_known-replied, are_places_known-replied, are_waiting_known-replied}
 use Rattle.iscsi_history.proofs.TraceLemmas.{weaker}
 use Rattle.iscsi_session.proofs.WindowLemmas.{Changed, Advanced}
 use Rattle.iscsi_session.proofs.CountLemmas.{length-replied, AreCounted-replied}
-use Rattle.iscsi_session.proofs.KeptLemmas.{ascending-push, within-push, ascending-left, within-left}
+use Rattle.iscsi_session.proofs.KeptLemmas.{ascending-push, within-push, ascending-kept}
 
 -- ---- the window
 
@@ -148,17 +147,17 @@ entered_sound {unfinished} {now} {count} {conns} {immediate} {counts} {sets} {ne
       counted = counted;
     })
 
--- those that are left once the command of a ticket has left
-pub left_sound : {unfinished now count : ℕ} {conns : List (ℕ × ℕ)} {immediate counts : List ℕ} {sets new : List Members} {live left : List Live} → AreCommandsSound unfinished count conns immediate sets live
-    → (k : ℕ) → left ≡ without_ticket k live → count_by is_numbered (without_ticket k live) ≤ now → length new ≡ length sets → Match new (without_ticket k live) → AreCounted counts conns (without_ticket k live)
+-- those that are left once some have left
+pub kept_sound : {unfinished now count : ℕ} {conns : List (ℕ × ℕ)} {immediate counts : List ℕ} {sets new : List Members} {live left : List Live} → AreCommandsSound unfinished count conns immediate sets live
+    → (p : Live → Bool) → left ≡ filter p live → count_by is_numbered (filter p live) ≤ now → length new ≡ length sets → Match new (filter p live) → AreCounted counts conns (filter p live)
     → AreCommandsSound now count conns counts new left
-left_sound {unfinished} {now} {count} {conns} {immediate} {counts} {sets} {new} {live} c k is numbered long match counted =
+kept_sound {unfinished} {now} {count} {conns} {immediate} {counts} {sets} {new} {live} c p is numbered long match counted =
     subst (AreCommandsSound now count conns counts new) (sym is) (record {
       numbered = numbered;
-      known = are_known-left k live conns c.known;
+      known = list_all-filter p (λ (l : Live). is_known l.conn conns) live c.known;
       in_sets = match;
-      ascending = ascending-left k live c.ascending;
-      within = ap (λ n. are_within count n (without_ticket k live)) long ∙ within-left k count (length sets) live c.within;
+      ascending = ascending-kept p live c.ascending;
+      within = ap (λ n. are_within count n (filter p live)) long ∙ list_all-filter p (λ (l : Live). nat_le l.ticket count && nat_lt l.unit (length sets)) live c.within;
       counted = counted;
     })
 

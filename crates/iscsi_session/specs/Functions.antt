@@ -11,13 +11,13 @@ use Rattle.iscsi_window.specs.declared.answer.Place.TheVariants.{Inside, Outside
 use Rattle.iscsi_window.specs.Windows.{Received, number_expected, place_in, is_received_at, voided, find_command, number_shown, emptied, with_unfinished}
 use Rattle.iscsi_tasks.specs.declared.task.Task.{Task}
 use Rattle.iscsi_tasks.specs.declared.cover.Cover.TheVariants.{All as AllOfThem, Below}
-use Rattle.iscsi_tasks.specs.Sets.{Members, after_moment, is_covered, is_covered_after}
+use Rattle.iscsi_tasks.specs.declared.member.Member.{Member}
+use Rattle.iscsi_tasks.specs.Sets.{Members, is_covered}
+pub use Rattle.iscsi_tasks.specs.Sets.{set_staying}
 use Rattle.iscsi_history.specs.declared.effect.Effect.{Effect}
 use Rattle.iscsi_history.specs.declared.effect.Effect.TheVariants.{Void, Empty, Leave}
 use Rattle.iscsi_session.specs.declared.outcome.Outcome.{Outcome}
 use Rattle.iscsi_session.specs.declared.outcome.Outcome.TheVariants.{Respond, Abort, AbortAll, Empty as EmptyNumber, Void as VoidNumber}
-use Rattle.iscsi_session.specs.declared.session.leaving.Choice.{Choice}
-use Rattle.iscsi_session.specs.declared.session.leaving.Choice.TheVariants.{Covered, After, Ticket}
 use Rattle.iscsi_commands.specs.declared.live.Live.{Live}
 use Rattle.iscsi_session.specs.Standing.{Core}
 use Rattle.iscsi_session.specs.Steps.{set_at, with_set, all_given, enable_effects, is_numbered, with_reply, reply_effects}
@@ -32,12 +32,6 @@ is_gone covers set ticket = list_any (λ m. m.task.ticket == ticket && covers m.
 abbrev pub staying : (Task → Bool) → Members → List Live → List Live
 staying covers set live = filter (λ l. not (is_gone covers set l.ticket)) live
 
--- the set without the covered ones: there is a moment where some leave
-abbrev pub set_staying : (Task → Bool) → Members → Members
-set_staying covers set =
-    if list_any (λ m. covers m.task) set.list then record set { list = after_moment (filter (λ m. not (covers m.task)) set.list) }
-    else set
-
 -- the numbered ones give their places back
 abbrev pub finished_by : Received → List Live → List Live → Received
 finished_by w before after = with_unfinished w (w.unfinished + count_by is_numbered after - count_by is_numbered before)
@@ -50,8 +44,12 @@ with_left s unit covers = let rest = staying covers (set_at s unit) s.live in re
   sets = slice_set s.sets unit (set_staying covers (set_at s unit));
 }
 
+-- each of these members that is covered leaves
+abbrev pub leaves : ℕ → (Task → Bool) → List Member → List Effect
+leaves unit covers ms = map (λ m. Leave m.task.ticket unit) (filter (λ m. covers m.task) ms)
+
 abbrev pub leaving_effects : Core → ℕ → (Task → Bool) → List Effect
-leaving_effects s unit covers = map (λ m. Leave m.task.ticket unit) (filter (λ m. covers m.task) (set_at s unit).list)
+leaving_effects s unit covers = leaves unit covers (set_at s unit).list
 
 -- the unit is told of the commands that became enabled
 abbrev pub with_given : Core → ℕ → Core
@@ -97,20 +95,6 @@ outcome_by s r number event unit =
 
 abbrev pub covers_ticket : ℕ → Task → Bool
 covers_ticket ticket t = t.ticket == ticket
-
--- what a choice covers
-abbrev pub chosen : Choice → Task → Bool
-chosen (Covered cover) = is_covered cover
-chosen (After cover ticket) = is_covered_after cover ticket
-chosen (Ticket ticket) = covers_ticket ticket
-
--- what is to leave, once the oldest of the chosen commands left, if there was one
-abbrev pub later : Choice → Option ℕ → Choice
-later (Covered cover) (Some ticket) = After cover ticket
-later (Covered cover) None = Covered cover
-later (After cover k) (Some ticket) = After cover ticket
-later (After cover k) None = After cover k
-later (Ticket k) left = Ticket k
 
 -- some command of the set is covered
 abbrev pub has_covered : (Task → Bool) → Members → Bool

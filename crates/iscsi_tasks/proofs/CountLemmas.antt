@@ -2,7 +2,7 @@
 use Rattle.std.proofs.Common.{◌≡◌, ℕ, zero, suc, ◌+◌, ◌-◌, ◌<◌, ◌≤◌, ◌==◌, ◌&&◌, ◌≢◌, ◌⊎◌, inl, inr, not, min, max, cond, Bool, true, false, List, [], ◌∷◌, ◌++◌, length, map, take, drop, set, get_or, All, count_by, refl, ap, sym, ◌∙◌, arith, subst, ⊎_elim, true≢false, ne_eqb, eqb-true, lt-ltb, le-ltb}
 use Rattle.std.specs.List.{position_or_len, remove}
 use Rattle.std.proofs.lemmas.Bool.{cases_lt, cases_eq, cases_Bool, and_parts, and_right, cond-true, cond-false}
-use Rattle.std.proofs.lemmas.List.{length_push, get_or_append_left, get_or_push, get_or-set_same, get_or-set_other, length-set}
+use Rattle.std.proofs.lemmas.List.{length_push, length-take-le, get_or_append_left, get_or_push, get_or_default, get_or-take, get_or-set_same, get_or-set_other, length-set, take_more}
 use Rattle.std.proofs.lemmas.List.Edits.{length-remove, get_or-remove_below, get_or-remove_above}
 use Rattle.std.proofs.lemmas.List.Elements.{All-push}
 use Rattle.std.proofs.lemmas.List.Folds.{position_or_len_push, position_or_len-set}
@@ -12,8 +12,8 @@ use Rattle.iscsi_tasks.specs.declared.task.Attr.{Attr}
 use Rattle.iscsi_tasks.specs.declared.task.Task.{Task}
 use Rattle.iscsi_tasks.specs.declared.member.Member.{Member}
 use Rattle.iscsi_tasks.specs.declared.counts.Counts.{Counts}
-use Rattle.iscsi_tasks.specs.Sets.{is_head_of, is_new}
-use Rattle.iscsi_tasks.specs.Counted.{IsCounted, is_head_in, is_ordered_in, plus_one_if, shifted_by, new_from_with, new_to_with, with_last, without_one, with_enabled, enabled_now, given_now}
+use Rattle.iscsi_tasks.specs.Sets.{InOrder, is_head_of, is_new}
+use Rattle.iscsi_tasks.specs.Counted.{IsCounted, AreHeadsEnabled, is_head_in, is_ordered_in, plus_one_if, shifted_by, new_from_with, new_to_with, with_last, without_one, with_enabled, enabled_now, given_now}
 
 -- a first place is within the list or its end
 pub first-le : {X : Type 0} (p : X → Bool) (xs : List X) → position_or_len p xs ≤ length xs
@@ -74,45 +74,69 @@ new_to-before c to k from old = subst (λ n. k < n) (sym (ap (λ b. cond b to (m
 new_from-before : (c : Counts) (place k : ℕ) → c.new_from ≤ k → k < c.new_to → new_from_with c place ≤ k
 new_from-before c place k from to = subst (λ n. n ≤ k) (sym (ap (λ b. cond b place (min c.new_from place)) (ne_eqb c.new_from c.new_to (λ e. omega arith)))) (omega arith)
 
-module _ (c : Counts) (list : List Member) (counted : IsCounted c list) (task : Task) (enabled : Bool) (newest : All (λ m. m.task.ticket < task.ticket) list) (head : is_head_of task.attr ≡ true → enabled ≡ true) where
-  at_push : (P : Member → Type 0) (k : ℕ) (d : Member) → k < length list + 1 → (k < length list → P (get_or list k d)) → (k ≡ length list → P (record { task = task; enabled = enabled; given = false })) → P (get_or (list ++ record { task = task; enabled = enabled; given = false } ∷ []) k d)
-  at_push P k d within before last =
-      let m : Member = record { task = task; enabled = enabled; given = false } in ⊎_elim
+-- the counts of no command
+pub counted_none_yet : IsCounted (record { heads = 0; ordered_at = 0; enabled_to = 0; new_from = 0; new_to = 0 }) []
+counted_none_yet = record {
+  order = λ i j d b l. absurd (omega arith);
+  heads = refl;
+  ordered_at = refl;
+  enabled_to = omega arith;
+  enabled = λ k d l. absurd (omega arith);
+  heads_enabled = λ k d l. absurd (omega arith);
+  new_to = omega arith;
+  new = λ k d l. absurd (omega arith);
+}
+
+module _ (c : Counts) (list : List Member) (counted : IsCounted c list) (m : Member) (newest : All (λ x. x.task.ticket < m.task.ticket) list) (head : is_head_in m ≡ true → m.enabled ≡ true) where
+  at_push : (P : Member → Type 0) (k : ℕ) (d : Member) → k < length list + 1 → (k < length list → P (get_or list k d)) → (k ≡ length list → P m) → P (get_or (list ++ m ∷ []) k d)
+  at_push P k d within before last = ⊎_elim
       (λ below. subst P (sym (get_or_append_left list (m ∷ []) d k below)) (before below))
       (λ above. subst P (sym (get_or_push list m d k (omega arith))) (last (omega arith)))
       (cases_lt k (length list))
 
-  pub counted_push : IsCounted (with_last c (length list) task.attr enabled) (list ++ record { task = task; enabled = enabled; given = false } ∷ [])
+  pub counted_push : IsCounted (with_last c (length list) m) (list ++ m ∷ [])
   counted_push =
-      let m : Member = record { task = task; enabled = enabled; given = false } in
       let len : ℕ = length list in
       let long : length (list ++ m ∷ []) ≡ len + 1 = length_push list m in
       record {
         order = all_pairs_push (λ a b. a.task.ticket < b.task.ticket) list m counted.order newest;
-        heads = ap (plus_one_if (is_head_of task.attr)) counted.heads ∙ sym (count_push is_head_in list m);
+        heads = ap (plus_one_if (is_head_in m)) counted.heads ∙ sym (count_push is_head_in list m);
         ordered_at = first_push is_ordered_in list m c.ordered_at counted.ordered_at;
-        enabled_to = subst (λ n. plus_one_if (c.enabled_to == len && enabled) c.enabled_to ≤ n) (sym long) (moved_on c.enabled_to len enabled counted.enabled_to);
+        enabled_to = subst (λ n. plus_one_if (c.enabled_to == len && m.enabled) c.enabled_to ≤ n) (sym long) (moved_on c.enabled_to len m.enabled counted.enabled_to);
         enabled = λ k d l. ⊎_elim
-            (λ yes. let parts = and_parts (c.enabled_to == len) enabled yes in
+            (λ yes. let parts = and_parts (c.enabled_to == len) m.enabled yes in
             let end : c.enabled_to ≡ len = eqb-true _ _ parts.0 in
             let below : k < c.enabled_to + 1 = subst (λ b. k < plus_one_if b c.enabled_to) yes l in
             at_push (λ x. x.enabled ≡ true) k d (omega arith) (λ b. counted.enabled k d (omega arith)) (λ e. parts.1))
             (λ no. let below : k < c.enabled_to = subst (λ b. k < plus_one_if b c.enabled_to) no l in
             at_push (λ x. x.enabled ≡ true) k d (omega (arith, counted.enabled_to)) (λ b. counted.enabled k d below) (λ e. absurd (omega (arith, counted.enabled_to))))
-            (cases_Bool (c.enabled_to == len && enabled));
+            (cases_Bool (c.enabled_to == len && m.enabled));
         heads_enabled = All-push (λ k. is_head_in k ≡ true → k.enabled ≡ true) list m counted.heads_enabled head;
         new_to = ⊎_elim
             (λ yes. subst (λ n. n ≤ length (list ++ m ∷ [])) (sym (ap (λ b. cond b (len + 1) c.new_to) yes)) (omega (arith, long)))
             (λ no. subst (λ n. n ≤ length (list ++ m ∷ [])) (sym (ap (λ b. cond b (len + 1) c.new_to) no)) (omega (arith, long, counted.new_to)))
-            (cases_Bool enabled);
-        new = λ k d l. at_push (λ x. is_new x ≡ true → (cond enabled (new_from_with c len) c.new_from ≤ k) × (k < cond enabled (len + 1) c.new_to)) k d (omega (arith, long))
+            (cases_Bool (is_new m));
+        new = λ k d l. at_push (λ x. is_new x ≡ true → (cond (is_new m) (new_from_with c len) c.new_from ≤ k) × (k < cond (is_new m) (len + 1) c.new_to)) k d (omega (arith, long))
             (λ b new. let was = counted.new k d b new in ⊎_elim
             (λ yes. (subst (λ t. cond t (new_from_with c len) c.new_from ≤ k) (sym yes) (new_from-before c len k was.0 was.1), subst (λ t. k < cond t (len + 1) c.new_to) (sym yes) (omega arith)))
             (λ no. (subst (λ t. cond t (new_from_with c len) c.new_from ≤ k) (sym no) was.0, subst (λ t. k < cond t (len + 1) c.new_to) (sym no) was.1))
-            (cases_Bool enabled))
-            (λ e new. let yes : enabled ≡ true = (and_parts enabled true new).0 in
+            (cases_Bool (is_new m)))
+            (λ e yes.
             (subst (λ t. cond t (new_from_with c len) c.new_from ≤ k) (sym yes) (let low : new_from_with c len ≤ len = new_from-le c len in omega arith), subst (λ t. k < cond t (len + 1) c.new_to) (sym yes) (omega arith)));
       }
+
+-- one more of some commands that are in order
+pub counted_more : (c : Counts) (list : List Member) (k : ℕ) (m : Member) → k < length list → get_or list k m ≡ m → InOrder list → AreHeadsEnabled list → IsCounted c (take k list) → IsCounted (with_last c k m) (take (k + 1) list)
+counted_more c list k m within here order heads counted =
+    let long : length (take k list) ≡ k = length-take-le k list (omega arith) in
+    let newest : All (λ x. x.task.ticket < m.task.ticket) (take k list) = λ j d l.
+    let up : (get_or list j d).task.ticket < (get_or list k d).task.ticket = order j k d (omega (arith, long)) within in
+    let same : get_or list k d ≡ m = get_or_default list k d m within ∙ here in
+    subst (λ (x : Member). x.task.ticket < m.task.ticket) (sym (get_or-take k list j d (omega (arith, long)))) (subst (λ (x : Member). (get_or list j d).task.ticket < x.task.ticket) same up) in
+    let head : is_head_in m ≡ true → m.enabled ≡ true = subst (λ (x : Member). is_head_in x ≡ true → x.enabled ≡ true) here (heads k m within) in
+    subst (λ n. IsCounted (with_last c n m) (take (k + 1) list)) long
+    (subst (IsCounted (with_last c (length (take k list)) m)) (sym (take_more list k m within ∙ ap (λ (x : Member). take k list ++ x ∷ []) here))
+    (counted_push c (take k list) counted m newest head))
 
 -- ---- a command leaves
 

@@ -1,5 +1,5 @@
 -- From which number on functions may cover commands of a set.
-use Rattle.std.proofs.Common.{◌≡◌, ◌∙◌, ◌&&◌, ◌==◌, not, ℕ, suc, ℤ, pos, ◌+ℤ◌, ◌≤ℤ◌, cond, true, false, nat_lt, int_lt, List, [], ◌∷◌, ◌++◌, length, map, get_or, find, All, None, ap, sym, subst, arith, ⊎_elim}
+use Rattle.std.proofs.Common.{◌≡◌, ◌∙◌, ◌&&◌, ◌==◌, not, Bool, ℕ, suc, ℤ, pos, ◌+ℤ◌, ◌≤ℤ◌, cond, true, false, nat_lt, int_lt, List, [], ◌∷◌, ◌++◌, length, map, get_or, find, All, None, ap, sym, subst, arith, ⊎_elim}
 use Rattle.std.specs.Int.{int_min}
 use Rattle.std.specs.List.{fold}
 use Rattle.std.specs.Ordering.{int_eq}
@@ -11,10 +11,11 @@ use Rattle.iscsi_tasks.specs.declared.task.Task.{Task}
 use Rattle.iscsi_tasks.specs.declared.cover.Cover.{Cover}
 use Rattle.iscsi_tasks.specs.declared.cover.Cover.TheVariants.{All as AllOfThem, Conn, Below}
 use Rattle.iscsi_tasks.specs.declared.member.Member.{Member}
-use Rattle.iscsi_tasks.specs.Sets.{is_covered, is_covered_after, after_moment, without}
+use Rattle.iscsi_tasks.specs.Sets.{is_covered, after_moment, without, uncovered, list_staying}
 use Rattle.iscsi_tasks.specs.Counted.{IsCoveredFrom, is_below, covered_from, greatest_number, covered_from_with, covered_from_in, covered_from_after}
 use Rattle.iscsi_tasks.proofs.HistoryLemmas.{tasks-looked}
 use Rattle.iscsi_tasks.proofs.ListLemmas.{filter-map}
+use Rattle.iscsi_tasks.proofs.StayingLemmas.{staying_cases}
 use Rattle.iscsi_tasks.proofs.SearchLemmas.{find_nowhere}
 
 -- a function doesn't cover a command of a greater number, nor a numbered one of its own
@@ -61,6 +62,15 @@ covered_from_left number list ticket kept cover below =
     subst (All P) (filter-map (λ t. not (t.ticket == ticket)) (λ m. m.task) list ∙ sym (tasks-looked (without ticket list) (without ticket list)))
     (All-filter (λ t. not (t.ticket == ticket)) P (map (λ m. m.task) list) (kept cover below))
 
+-- commands left together
+pub covered_from_staying : (number : ℤ) (covers : Task → Bool) (list : List Member) → IsCoveredFrom number (map (λ m. m.task) list) → IsCoveredFrom number (map (λ m. m.task) (list_staying covers list))
+covered_from_staying number covers list kept = staying_cases covers list (λ (l : List Member). IsCoveredFrom number (map (λ m. m.task) l))
+    (λ none. kept)
+    (λ some cover below.
+    let P : Task → Type 0 = λ t. is_covered cover t ≡ false in
+    subst (All P) (filter-map (λ t. not (covers t)) (λ m. m.task) list ∙ sym (tasks-looked (uncovered covers list) (uncovered covers list)))
+    (All-filter (λ t. not (covers t)) P (map (λ m. m.task) list) (kept cover below)))
+
 -- the commands were looked at
 least : (number : ℤ) (list : List Member) → (fold (λ n m. int_min n (covered_from m.task)) number list ≤ℤ number) × All (λ x. fold (λ n m. int_min n (covered_from m.task)) number list ≤ℤ covered_from x.task) list
 least number [] = (omega (arith, ints), All-nil (λ x. number ≤ℤ covered_from x.task))
@@ -83,6 +93,3 @@ covered_from_past number list (Below at event) kept = covered_from_all list
 -- a function with a number below that of the set covers nothing
 pub nothing_covered : (number : ℤ) (tasks : List Task) (cover : Cover) → IsCoveredFrom number tasks → is_below number cover ≡ true → find (is_covered cover) tasks ≡ None
 nothing_covered number tasks cover kept below = find_nowhere (is_covered cover) tasks (kept cover below)
-
-pub nothing_covered_after : (number : ℤ) (tasks : List Task) (cover : Cover) (ticket : ℕ) → IsCoveredFrom number tasks → is_below number cover ≡ true → find (is_covered_after cover ticket) tasks ≡ None
-nothing_covered_after number tasks cover ticket kept below = find_nowhere (is_covered_after cover ticket) tasks (λ k d l. and_right _ _ (kept cover below k d l))

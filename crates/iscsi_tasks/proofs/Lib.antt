@@ -10,3 +10,5 @@ pub mod RuleLemmas
 pub mod EnterLemmas
 pub mod CoverLemmas
 pub mod CoveredFromLemmas
+pub mod StayingLemmas
+pub mod AllLeftLemmas

@@ -1,5 +1,5 @@
 -- A command is found by its ticket, since tickets go up along the set.
-use Rattle.std.proofs.Common.{◌≡◌, ℕ, zero, suc, ◌+◌, ◌<◌, ◌≤◌, ◌==◌, ◌&&◌, ◌≢◌, not, cond, Bool, true, false, List, [], ◌∷◌, length, map, filter, find, get_or, All, Some, None, Result, Ok, Err, option_map, slice_get, refl, ap, sym, ◌∙◌, arith, subst, ⊎_elim, ne_eqb, eq-eqb}
+use Rattle.std.proofs.Common.{◌≡◌, ℕ, zero, suc, ◌<◌, ◌≤◌, ◌==◌, ◌&&◌, ◌≢◌, not, cond, Bool, true, false, List, [], ◌∷◌, length, map, filter, find, get_or, All, Some, None, Result, Ok, Err, option_map, slice_get, refl, ap, sym, ◌∙◌, arith, subst, ⊎_elim, ne_eqb, eq-eqb}
 use Rattle.std.specs.List.{remove, position_or_len}
 use Rattle.std.specs.List.Sorted.{IsSearchInRange, IsBinarySearchResult, IsNonDecreasingBy}
 use Rattle.std.specs.Ordering.{nat_cmp, ordering_index}
@@ -31,30 +31,6 @@ module _ (list : List Member) (order : InOrder list) (ticket : ℕ) where
       (λ below. let lower : (get_or list j d).task.ticket < ticket = ranked _ ticket _ (sym ((parted comparisons_rise).0 j d (omega arith) below)) in ne_eqb _ _ (λ e. omega arith))
       (λ above. let higher : ticket < (get_or list j d).task.ticket = ranked _ ticket _ (sym ((parted comparisons_rise).1 j d above l)) in ne_eqb _ _ (λ e. omega arith))
       (cases_lt j k)
-
-  -- how many have a ticket that isn't above this one, by what a search for it gives
-  abbrev pub behind : Result ℕ ℕ → ℕ
-  behind (Ok k) = k + 1
-  behind (Err k) = k
-
-  -- those before this place have no greater ticket, and those from there on have
-  abbrev pub IsSplit : ℕ → Type 0
-  IsSplit n = ((j : ℕ) (d : Member) → j < n → (get_or list j d).task.ticket ≤ ticket) × ((j : ℕ) (d : Member) → n ≤ j → j < length list → ticket < (get_or list j d).task.ticket)
-
-  pub split : (r : Result ℕ ℕ) → IsSearchInRange r (length list) → IsBinarySearchResult (λ m. nat_cmp m.task.ticket ticket) list r → IsSplit (behind r)
-  split (Ok k) within equal = (
-    λ j d l. let here : (get_or list k d).task.ticket ≡ ticket = ranked _ ticket _ (sym (equal d)) in ⊎_elim
-        (λ same. subst (λ n. (get_or list n d).task.ticket ≤ ticket) (sym same) (omega (arith, here)))
-        (λ apart. let up : (get_or list j d).task.ticket < (get_or list k d).task.ticket = order j k d (omega arith) within in omega (arith, here))
-        (cases_eq j k),
-    λ j d l inside.
-        let here : (get_or list k d).task.ticket ≡ ticket = ranked _ ticket _ (sym (equal d)) in
-        let up : (get_or list k d).task.ticket < (get_or list j d).task.ticket = order k j d (omega arith) inside in omega (arith, here),
-  )
-  split (Err k) within parted = (
-    λ j d l. let lower : (get_or list j d).task.ticket < ticket = ranked _ ticket _ (sym ((parted comparisons_rise).0 j d (omega arith) l)) in omega arith,
-    λ j d l inside. ranked _ ticket _ (sym ((parted comparisons_rise).1 j d l inside)),
-  )
 
 -- ---- the command at a place
 

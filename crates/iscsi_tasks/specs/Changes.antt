@@ -71,6 +71,11 @@ abbrev pub after_leaving : Option Task → List Change → List Change
 after_leaving None h = h
 after_leaving (Some task) h = Left task.ticket ∷ h
 
+-- the history, once these commands left, one after the other
+abbrev pub after_all_left : List Task → List Change → List Change
+after_all_left [] h = h
+after_all_left (task ∷ tasks) h = after_all_left tasks (Left task.ticket ∷ h)
+
 -- the oldest ticket in the set that is enabled and wasn't given yet
 abbrev pub next_after : List Change → Option ℕ
 next_after h = option_map (λ t. t.ticket) (find (λ t. was_free t h && not (was_given t.ticket h)) (live h))

@@ -21,6 +21,10 @@ is_ordered_in m = is_ordered_of m.task.attr
 abbrev pub IsPlaceOf : List Member → ℕ → Option ℕ → Type 0
 IsPlaceOf list ticket r = MatchOption r (All (λ m. (m.task.ticket == ticket) ≡ false) list) (λ k. (k < length list) × ((d : Member) → (slice_index_or list k d).task.ticket ≡ ticket))
 
+-- a HEAD OF QUEUE command is enabled
+abbrev pub AreHeadsEnabled : List Member → Type 0
+AreHeadsEnabled list = All (λ m. is_head_in m ≡ true → m.enabled ≡ true) list
+
 -- the counts are those of the set
 pub record IsCounted (c : Counts) (list : List Member) : Type 0 where
   pub order : InOrder list
@@ -28,7 +32,7 @@ pub record IsCounted (c : Counts) (list : List Member) : Type 0 where
   pub ordered_at : c.ordered_at ≡ position_or_len is_ordered_in list
   pub enabled_to : c.enabled_to ≤ length list
   pub enabled : (k : ℕ) (d : Member) → k < c.enabled_to → (slice_index_or list k d).enabled ≡ true
-  pub heads_enabled : All (λ m. is_head_in m ≡ true → m.enabled ≡ true) list
+  pub heads_enabled : AreHeadsEnabled list
   pub new_to : c.new_to ≤ length list
   pub new : (k : ℕ) (d : Member) → k < length list → is_new (slice_index_or list k d) ≡ true → (c.new_from ≤ k) × (k < c.new_to)
 
@@ -83,13 +87,13 @@ abbrev pub new_to_with : Counts → ℕ → ℕ
 new_to_with c to = if c.new_from == c.new_to then to else max c.new_to to
 
 -- one command more, the last
-abbrev pub with_last : Counts → ℕ → Attr → Bool → Counts
-with_last c len attr enabled = record {
-  heads = plus_one_if (is_head_of attr) c.heads;
-  ordered_at = plus_one_if (c.ordered_at == len && not (is_ordered_of attr)) c.ordered_at;
-  enabled_to = plus_one_if (c.enabled_to == len && enabled) c.enabled_to;
-  new_from = if enabled then new_from_with c len else c.new_from;
-  new_to = if enabled then len + 1 else c.new_to;
+abbrev pub with_last : Counts → ℕ → Member → Counts
+with_last c len m = record {
+  heads = plus_one_if (is_head_in m) c.heads;
+  ordered_at = plus_one_if (c.ordered_at == len && not (is_ordered_in m)) c.ordered_at;
+  enabled_to = plus_one_if (c.enabled_to == len && m.enabled) c.enabled_to;
+  new_from = if is_new m then new_from_with c len else c.new_from;
+  new_to = if is_new m then len + 1 else c.new_to;
 }
 
 -- the command at this place left, and the oldest ORDERED one is at that place now

@@ -1,5 +1,5 @@
 -- A task set as its callers see it, what each call answers, and what the set becomes.
-use Rattle.std.specs.Prelude.{ℕ, ◌<◌, ◌==◌, ◌&&◌, ◌||◌, not, Bool, true, false, nat_lt, int_lt, List, [], ◌∷◌, ◌++◌, map, filter, find, All, Option, Some, None, option_map, if◌then◌else◌}
+use Rattle.std.specs.Prelude.{ℕ, ◌<◌, ◌==◌, ◌&&◌, ◌||◌, not, Bool, true, false, nat_lt, int_lt, List, [], ◌∷◌, ◌++◌, map, filter, find, All, Option, Some, None, option_map, option_and_then, slice_get, if◌then◌else◌}
 use Rattle.std.specs.List.{list_any, AllPairs}
 use Rattle.std.specs.Ordering.{int_eq}
 use Rattle.iscsi_tasks.specs.declared.task.Task.{Task}
@@ -79,13 +79,26 @@ is_covered (Below pos event) t = int_lt t.pos pos || (t.immediate && int_eq t.po
 abbrev pub first_covered : Cover → List Task → Option Task
 first_covered cover tasks = find (is_covered cover) tasks
 
--- it is covered, and has a greater ticket
-abbrev pub is_covered_after : Cover → ℕ → Task → Bool
-is_covered_after cover ticket t = nat_lt ticket t.ticket && is_covered cover t
+-- the ticket of the command at this place, if there is one and it is covered
+abbrev pub ticket_if : Bool → Task → Option ℕ
+ticket_if covered t = if covered then Some t.ticket else None
 
--- the oldest one of these
-abbrev pub next_covered : Cover → ℕ → List Task → Option Task
-next_covered cover ticket tasks = find (is_covered_after cover ticket) tasks
+abbrev pub covered_at : Cover → List Task → ℕ → Option ℕ
+covered_at cover tasks at = option_and_then (λ t. ticket_if (is_covered cover t) t) (slice_get tasks at)
+
+-- the commands of which this isn't true stay
+abbrev pub uncovered : (Task → Bool) → List Member → List Member
+uncovered covers list = filter (λ m. not (covers m.task)) list
+
+-- the list without the covered ones: there is a moment where some leave
+abbrev pub list_staying : (Task → Bool) → List Member → List Member
+list_staying covers list = if list_any (λ m. covers m.task) list then after_moment (uncovered covers list) else list
+
+-- the set without the covered ones
+abbrev pub set_staying : (Task → Bool) → Members → Members
+set_staying covers set =
+    if list_any (λ m. covers m.task) set.list then record set { list = after_moment (filter (λ m. not (covers m.task)) set.list) }
+    else set
 
 -- ---- enabled commands
 

@@ -4,6 +4,7 @@ ghost use Rattle.std.specs.Prelude.{◌≡◌, ◌<◌, ◌≤◌, true};
 ghost use Rattle.iscsi_tasks.specs.Rules.{is_head_of};
 ghost use Rattle.iscsi_tasks.specs.Counted.{is_free_behind, free_to, plus_one_if, shifted_by, new_from_with, new_to_with, with_last, without_one, with_enabled};
 
+use crate::member::Member;
 use crate::task::Attr;
 
 /// Counts of a set, and places in it from 0 on.
@@ -56,27 +57,29 @@ impl Counts {
         len.min(self.ordered_at.max(1))
     }
 
-    /// The counts once a command has entered behind `len` others.
-    pub(crate) fn with_last(self, len: usize, attr: Attr, enabled: bool) -> Counts
+    /// The counts once this command is behind `len` others.
+    pub(crate) fn with_last(self, len: usize, member: &Member) -> Counts
         requires len { len < 1024 }
         requires heads { self.heads ≤ len }
         requires ordered_at { self.ordered_at ≤ len }
         requires enabled_to { self.enabled_to ≤ len }
-        ensures { result ≡ with_last self len attr enabled }
+        ensures { result ≡ with_last self len member.now }
     {
+        let attr = member.task.attr;
+        let is_new = member.is_new();
         Counts {
             heads: plus_one_if(attr.is_head(), self.heads),
             ordered_at: plus_one_if(
                 self.ordered_at == len && !attr.is_ordered(),
                 self.ordered_at,
             ),
-            enabled_to: plus_one_if(self.enabled_to == len && enabled, self.enabled_to),
-            new_from: if enabled {
+            enabled_to: plus_one_if(self.enabled_to == len && member.enabled, self.enabled_to),
+            new_from: if is_new {
                 self.new_from_with(len)
             } else {
                 self.new_from
             },
-            new_to: if enabled { len + 1 } else { self.new_to },
+            new_to: if is_new { len + 1 } else { self.new_to },
         }
     }
 

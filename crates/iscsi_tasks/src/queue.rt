@@ -1,10 +1,10 @@
 //! The commands of a set in the order in which they entered.
 
-ghost use Rattle.std.specs.Prelude.{◌≡◌, ℕ, ◌+◌, ◌<◌, ◌≤◌, ◌==◌, [], ◌∷◌, ◌++◌, map, take, drop, length, position, slice_index_or, find, option_map, All, true, false};
+ghost use Rattle.std.specs.Prelude.{◌≡◌, ℕ, ◌+◌, ◌<◌, ◌≤◌, ◌==◌, [], ◌∷◌, ◌++◌, map, take, drop, length, position, slice_index_or, find, option_map, option_and_then, slice_get, All, true, false};
 ghost use Rattle.std.specs.List.{position_or_len, remove};
 ghost use Rattle.std.specs.VecDeque.{deque_len, deque_capacity};
-ghost use Rattle.iscsi_tasks.specs.Sets.{InOrder, after_moment, is_head_of, is_covered, is_covered_after, is_new, next_in, given_in};
-ghost use Rattle.iscsi_tasks.specs.Counted.{IsPlaceOf, IsCounted, is_ordered_in, free_to, enabled_now, covered_from_in};
+ghost use Rattle.iscsi_tasks.specs.Sets.{InOrder, after_moment, is_head_of, is_covered, is_new, next_in, given_in, uncovered, list_staying, ticket_if};
+ghost use Rattle.iscsi_tasks.specs.Counted.{IsPlaceOf, IsCounted, AreHeadsEnabled, is_ordered_in, free_to, enabled_now, covered_from_in};
 
 use crate::counts::{Counts, shifted_by};
 use crate::cover::Cover;
@@ -53,36 +53,15 @@ pub(crate) fn first_covered(members: &Queue, cover: &Cover) -> Option<usize>
     members.iter().position(|m| cover.covers(&m.task))
 }
 
-/// The place of the oldest covered command whose ticket is above this one. It looks along the set from there on.
-pub(crate) fn next_covered(members: &Queue, cover: &Cover, ticket: u64) -> Option<usize>
-    requires { InOrder members.now.items }
-    ensures { result ≡ position (λ m. is_covered_after cover.now ticket m.task) members.now.items }
+/// The ticket of the command at this place, if it is covered.
+pub(crate) fn covered_at(members: &Queue, at: usize, cover: &Cover) -> Option<u64>
+    ensures { result ≡ option_and_then (λ m. ticket_if (is_covered cover.now m.task) m.task) (slice_get members.now.items at) }
 {
-    for k in place_after(members, ticket)..members.len() {
-        if cover.covers(&members[k].task) {
-            return Some(k);
-        }
-    }
-    None
-}
-
-/// How many commands have a ticket that isn't above this one.
-fn place_after(members: &Queue, ticket: u64) -> usize
-    requires { InOrder members.now.items }
-    ensures within { result ≤ length members.now.items }
-    ensures before { (k : ℕ) (d : Member) → k < result → (slice_index_or members.now.items k d).task.ticket ≤ ticket }
-    ensures after { (k : ℕ) (d : Member) → result ≤ k → k < length members.now.items → ticket < (slice_index_or members.now.items k d).task.ticket }
-{
-    // All up to the ticket have left where an abort takes out the oldest ones, so it would be sought in vain.
-    let Some(oldest) = members.front() else {
-        return 0;
-    };
-    if ticket < oldest.task.ticket {
-        return 0;
-    }
-    match members.binary_search_by_key(&ticket, |m| m.task.ticket) {
-        Ok(at) => at + 1,
-        Err(at) => at,
+    let member = members.get(at)?;
+    if cover.covers(&member.task) {
+        Some(member.task.ticket)
+    } else {
+        None
     }
 }
 
@@ -108,12 +87,13 @@ pub(crate) fn push(members: &mut Queue, counts: &mut Counts, task: Task, enabled
     ensures capacity { deque_capacity members.new ≡ deque_capacity members.old }
     ensures counted { IsCounted counts.new members.new.items }
 {
-    *counts = counts.with_last(members.len(), task.attr, enabled);
-    members.push_back_reserved(Member {
+    let member = Member {
         task,
         enabled,
         given: false,
-    });
+    };
+    *counts = counts.with_last(members.len(), &member);
+    members.push_back_reserved(member);
 }
 
 /// The command at this place leaves. The later ones close up, or the earlier ones where they are fewer.
@@ -141,6 +121,45 @@ fn take_out(members: &mut Queue, at: usize) -> Task
         unreachable!();
     };
     member.task
+}
+
+/// The covered commands leave, all of them before one moment. The later ones close up.
+pub(crate) fn remove_covered(members: &mut Queue, counts: &mut Counts, cover: &Cover)
+    requires counted { IsCounted counts.old members.old.items }
+    requires len { length members.old.items ≤ 1024 }
+    ensures items { members.new.items ≡ list_staying (is_covered cover.now) members.old.items }
+    ensures capacity { deque_capacity members.new ≡ deque_capacity members.old }
+    ensures counted { IsCounted counts.new members.new.items }
+{
+    let len = members.len();
+    keep_uncovered(members, cover);
+    if members.len() == len {
+        return;
+    }
+    *counts = counts_of(members);
+    enable_free(members, counts);
+}
+
+/// The commands that aren't covered stay.
+fn keep_uncovered(members: &mut Queue, cover: &Cover)
+    ensures items { members.new.items ≡ uncovered (is_covered cover.now) members.old.items }
+    ensures capacity { deque_capacity members.new ≡ deque_capacity members.old }
+{
+    members.retain(|m| !cover.covers(&m.task));
+}
+
+/// The counts of these commands. It looks at each of them.
+fn counts_of(members: &Queue) -> Counts
+    requires order { InOrder members.now.items }
+    requires heads { AreHeadsEnabled members.now.items }
+    requires len { length members.now.items ≤ 1024 }
+    ensures { IsCounted result members.now.items }
+{
+    let mut counts = Counts::new();
+    for k in 0..members.len() {
+        counts = counts.with_last(k, &members[k]);
+    }
+    counts
 }
 
 /// The place of the oldest ORDERED command, none of which is before place `from`.
@@ -215,8 +234,7 @@ fn first_new(members: &Queue, from: usize, to: usize) -> Option<usize>
     ensures { result ≡ position is_new members.now.items }
 {
     for k in from..to {
-        let member = &members[k];
-        if member.enabled && !member.given {
+        if members[k].is_new() {
             return Some(k);
         }
     }

@@ -1,8 +1,8 @@
 //! The task set: its commands in the order in which they entered.
 
-ghost use Rattle.std.specs.Prelude.{Err, ◌≡◌, ◌+◌, ◌<◌, ◌≤◌, ◌⊎◌, ◌↔◌, List, [], ◌∷◌, length, slice_index_or, Option, Some, IsTrue, IfOk, IfErr, OnOk, OnErr};
-ghost use Rattle.iscsi_tasks.specs.Sets.{tasks_in, opened, InOrder, IsNewest, entered_to, refused_by, left_by, with_ticket, with_tag, first_covered, next_covered, is_enabled_in, next_in, given_by, StaysFree};
-ghost use Rattle.iscsi_tasks.specs.Changes.{Change, Entered, AllBelow, StandsFor, live, IsEnabled, next_after, after_giving, after_leaving};
+ghost use Rattle.std.specs.Prelude.{Err, ◌≡◌, ◌+◌, ◌<◌, ◌≤◌, ◌⊎◌, ◌↔◌, List, [], ◌∷◌, length, filter, slice_index_or, Option, Some, false, All, IsTrue, IfOk, IfErr, OnOk, OnErr};
+ghost use Rattle.iscsi_tasks.specs.Sets.{tasks_in, opened, InOrder, IsNewest, entered_to, refused_by, left_by, with_ticket, with_tag, first_covered, is_covered, covered_at, set_staying, is_enabled_in, next_in, given_by, StaysFree};
+ghost use Rattle.iscsi_tasks.specs.Changes.{Change, Entered, AllBelow, StandsFor, live, IsEnabled, next_after, after_giving, after_leaving, after_all_left};
 ghost use Rattle.iscsi_tasks.specs.Counted.{is_free_behind, covered_from_with, covered_from_after};
 
 use crate::counts::Counts;
@@ -10,8 +10,8 @@ use crate::cover::Cover;
 use crate::fault::TaskFault;
 use crate::member::Member;
 use crate::queue::{
-    Queue, covered_from_in, enable_free, first_covered, give_next, next_covered, place_of, push,
-    remove, with_tag,
+    Queue, covered_at, covered_from_in, enable_free, first_covered, give_next, place_of, push,
+    remove, remove_covered, with_tag,
 };
 use crate::task::{Attr, Task};
 use std::alloc::Global;
@@ -159,20 +159,35 @@ impl TaskSet {
         Some(self.take_out(at))
     }
 
-    /// The oldest of the covered commands with a greater ticket leaves. Where there is none, nothing changes.
+    /// Whether a command of the set may be covered. False tells that none is. It looks at no command.
+    pub fn may_cover(&self, cover: &Cover) -> bool
+        ensures none { result ≡ false → All (λ t. is_covered cover.now t ≡ false) (tasks_in self.now) }
+    {
+        !cover.is_below(self.covered_from)
+    }
+
+    /// The ticket of the command at this place, counted from the oldest, if it is covered.
+    pub fn covered_at(&self, at: u32, cover: &Cover) -> Option<u64>
+        ensures answer { result ≡ covered_at cover.now (tasks_in self.now) at }
+        ensures stands { (h : List Change) → StandsFor self.now h → result ≡ covered_at cover.now (live h) at }
+    {
+        covered_at(&self.members, at as usize, cover)
+    }
+
+    /// All covered commands leave, and what becomes enabled does so in one moment behind them. Where none is covered,
+    /// nothing changes.
     ///
-    /// It finds the ticket by halving, and looks along the set from there on. So a caller who takes out one covered command
-    /// after another looks at each command once. It looks at none where `leave_first` looks at none.
-    pub fn leave_next(&mut self, cover: &Cover, ticket: u64) -> Option<Task>
-        ensures answer { result ≡ next_covered cover.now ticket (tasks_in self.old) }
-        ensures state { self.new ≡ left_by self.old (next_covered cover.now ticket (tasks_in self.old)) }
-        ensures stands { (h : List Change) → StandsFor self.old h → (result ≡ next_covered cover.now ticket (live h)) × StandsFor self.new (after_leaving result h) }
+    /// It looks at each command, and counts those that stay anew. It looks at none where `may_cover` is false.
+    pub fn leave_covered(&mut self, cover: &Cover)
+        ensures state { self.new ≡ set_staying (is_covered cover.now) self.old }
+        // It is as if they left one after the other, the oldest first.
+        ensures stands { (h : List Change) → StandsFor self.old h → StandsFor self.new (after_all_left (filter (is_covered cover.now) (live h)) h) }
     {
         if cover.is_below(self.covered_from) {
-            return None;
+            return;
         }
-        let at = next_covered(&self.members, cover, ticket)?;
-        Some(self.take_out(at))
+        remove_covered(&mut self.members, &mut self.counts, cover);
+        self.covered_from = covered_from_after(self.covered_from, cover, &self.members);
     }
 
     /// Whether a command with this ticket is in the set and enabled.

@@ -1,10 +1,11 @@
 //! Commands of a unit that leave before they are completed.
 
-ghost use Rattle.std.specs.Prelude.{ℕ, ◌≡◌, ◌+◌, ◌<◌, ◌≤◌, ◌++◌, None, true, false, find, length, count_by, option_map, slice_index_or, slice_set, IsSome, vec_len, vec_capacity};
-ghost use Rattle.iscsi_tasks.specs.Sets.{tasks_in, opened, left_by, is_covered};
-ghost use Rattle.iscsi_session.specs.Standing.{are_ascending, are_known};
+ghost use Rattle.std.specs.Prelude.{ℕ, ◌≡◌, ◌+◌, ◌<◌, ◌≤◌, ◌++◌, [], ◌∷◌, true, length, count_by, slice_index_or, slice_set, IsSome, vec_len, vec_capacity, if◌then◌else◌};
+ghost use Rattle.iscsi_tasks.specs.Sets.{opened, is_covered};
+ghost use Rattle.iscsi_session.specs.Standing.{are_ascending, are_known, tickets_of, tickets_in};
 ghost use Rattle.iscsi_session.specs.Steps.{AreCounted, is_numbered, find_ticket, without_ticket, enable_effects, set_at};
-ghost use Rattle.iscsi_session.specs.Functions.{finished_by, with_left, leaving_effects, with_given, covers_ticket, chosen, later, has_covered, owed};
+ghost use Rattle.iscsi_history.specs.declared.effect.Effect.{Effect};
+ghost use Rattle.iscsi_session.specs.Functions.{staying, set_staying, finished_by, with_left, leaves, leaving_effects, with_given, covers_ticket, has_covered, owed};
 
 use crate::session::completion::finish;
 use crate::session::{Session, sets};
@@ -14,17 +15,6 @@ use iscsi_history::Effect;
 use iscsi_tasks::{Cover, TaskSet};
 use iscsi_window::Window;
 
-/// Which commands of a set leave.
-#[derive(Clone, Copy)]
-pub(crate) enum Choice {
-    /// Those that are covered.
-    Covered(Cover),
-    /// Those that are covered, of those with a greater ticket.
-    After(Cover, u64),
-    /// The one with this ticket.
-    Ticket(u64),
-}
-
 impl Session {
     /// The covered commands of a unit leave, the oldest first.
     pub(crate) fn leave_covered(&mut self, unit: u16, cover: &Cover, out: &mut Vec<Effect>)
@@ -32,14 +22,19 @@ impl Session {
         requires room { vec_len out.old + owed self.old.live self.old.sets ≤ vec_capacity out.old }
         ensures session { self.new ≡ with_left self.old unit (is_covered cover.now) }
         ensures effects { out.new.items ≡ out.old.items ++ leaving_effects self.old unit (is_covered cover.now) }
-        ensures spent { vec_len out.new + owed self.new.live self.new.sets ≤ vec_len out.old
-            + owed self.old.live self.old.sets }
+        ensures spent { vec_len out.new + owed self.new.live self.new.sets ≤ vec_len out.old + owed self.old.live self.old.sets }
         ensures capacity { vec_capacity out.new ≡ vec_capacity out.old }
     {
-        let mut choice = Choice::Covered(*cover);
-        while let Some(ticket) = self.leave_next(unit, &choice, out) {
-            choice = Choice::After(*cover, ticket);
-        }
+        end_covered(
+            &self.sets[usize::from(unit)],
+            unit,
+            cover,
+            &mut self.window,
+            &mut self.connections,
+            &mut self.live,
+            out,
+        );
+        take_covered(&mut self.sets, unit, cover);
     }
 
     /// The command of a unit with this ticket leaves.
@@ -48,11 +43,19 @@ impl Session {
         requires room { vec_len out.old + owed self.old.live self.old.sets ≤ vec_capacity out.old }
         ensures session { self.new ≡ with_left self.old unit (covers_ticket ticket) }
         ensures effects { out.new.items ≡ out.old.items ++ leaving_effects self.old unit (covers_ticket ticket) }
-        ensures spent { vec_len out.new + owed self.new.live self.new.sets ≤ vec_len out.old
-            + owed self.old.live self.old.sets }
+        ensures spent { vec_len out.new + owed self.new.live self.new.sets ≤ vec_len out.old + owed self.old.live self.old.sets }
         ensures capacity { vec_capacity out.new ≡ vec_capacity out.old }
     {
-        self.leave_next(unit, &Choice::Ticket(ticket), out);
+        let is_there = take_one(&mut self.sets, unit, ticket);
+        end_one(
+            is_there,
+            unit,
+            ticket,
+            &mut self.window,
+            &mut self.connections,
+            &mut self.live,
+            out,
+        );
     }
 
     /// A unit is told of the commands that became enabled.
@@ -61,59 +64,96 @@ impl Session {
         requires room { vec_len out.old + owed self.old.live self.old.sets ≤ vec_capacity out.old }
         ensures session { self.new ≡ with_given self.old unit }
         ensures effects { out.new.items ≡ out.old.items ++ enable_effects unit (set_at self.old unit).list }
-        ensures spent { vec_len out.new + owed self.new.live self.new.sets ≤ vec_len out.old
-            + owed self.old.live self.old.sets }
+        ensures spent { vec_len out.new + owed self.new.live self.new.sets ≤ vec_len out.old + owed self.old.live self.old.sets }
         ensures capacity { vec_capacity out.new ≡ vec_capacity out.old }
     {
         sets::tell(&mut self.sets, unit, out);
     }
+}
 
-    /// The oldest of the chosen commands of a unit leaves, if there is one: its ticket.
-    fn leave_next(&mut self, unit: u16, choice: &Choice, out: &mut Vec<Effect>) -> Option<u64>
-        requires unit { unit < length self.old.sets }
-        requires room { vec_len out.old + owed self.old.live self.old.sets ≤ vec_capacity out.old }
-        // What is still to leave is the rest of what was to leave before, and has greater tickets than what left.
-        ensures session { with_left self.new unit (chosen (later choice.now result))
-            ≡ with_left self.old unit (chosen choice.now) }
-        ensures effects { out.new.items ++ leaving_effects self.new unit (chosen (later choice.now result))
-            ≡ out.old.items ++ leaving_effects self.old unit (chosen choice.now) }
-        ensures last { result ≡ None → has_covered (chosen choice.now) (set_at self.new unit) ≡ false }
-        ensures one { (ticket : ℕ) → choice.now ≡ Choice.Ticket ticket →
-            has_covered (chosen choice.now) (set_at self.new unit) ≡ false }
-        ensures fewer { IsSome result → length (set_at self.new unit).list < length (set_at self.old unit).list }
-        ensures units { length self.new.sets ≡ length self.old.sets }
-        ensures spent { vec_len out.new + owed self.new.live self.new.sets ≤ vec_len out.old
-            + owed self.old.live self.old.sets }
-        ensures capacity { vec_capacity out.new ≡ vec_capacity out.old }
-    {
-        let ticket = take(&mut self.sets, unit, choice)?;
-        end(
-            &mut self.window,
-            &mut self.connections,
-            &mut self.live,
-            ticket,
-        );
+/// The covered commands leave the set of their unit.
+fn take_covered(sets: &mut [TaskSet], unit: u16, cover: &Cover)
+    requires { unit < length sets.old }
+    ensures { sets.new ≡ slice_set sets.old unit (set_staying (is_covered cover.now) (slice_index_or sets.old unit (opened 0))) }
+{
+    sets[usize::from(unit)].leave_covered(cover);
+}
+
+/// The command with this ticket leaves the set of its unit: whether it was there.
+fn take_one(sets: &mut [TaskSet], unit: u16, ticket: u64) -> bool
+    requires { unit < length sets.old }
+    ensures there { result ≡ has_covered (covers_ticket ticket) (slice_index_or sets.old unit (opened 0)) }
+    ensures sets { sets.new ≡ slice_set sets.old unit (set_staying (covers_ticket ticket) (slice_index_or sets.old unit (opened 0))) }
+{
+    sets[usize::from(unit)].leave(ticket).is_some()
+}
+
+/// The live commands that are covered are over, and each is told to leave. They are still in their set.
+fn end_covered(
+    set: &TaskSet,
+    unit: u16,
+    cover: &Cover,
+    window: &mut Window,
+    connections: &mut Connections,
+    live: &mut Commands,
+    out: &mut Vec<Effect>,
+)
+    requires there { tickets_of set.now ≡ tickets_in unit live.old.items }
+    requires ascending { are_ascending live.old.items ≡ true }
+    requires numbered { count_by is_numbered live.old.items ≤ window.old.unfinished }
+    requires known { are_known live.old.items connections.old.conns ≡ true }
+    requires counted { AreCounted connections.old.immediate connections.old.conns live.old.items }
+    requires room { vec_len out.old + length live.old.items ≤ vec_capacity out.old }
+    ensures window { window.new ≡ finished_by window.old live.old.items (staying (is_covered cover.now) set.now live.old.items) }
+    ensures live { live.new.items ≡ staying (is_covered cover.now) set.now live.old.items }
+    ensures connections { connections.new ≡ record connections.old { immediate = connections.new.immediate } }
+    ensures counted { AreCounted connections.new.immediate connections.old.conns live.new.items }
+    ensures live_capacity { live.new.room ≡ live.old.room }
+    ensures effects { out.new.items ≡ out.old.items ++ leaves unit (is_covered cover.now) set.now.list }
+    ensures spent { vec_len out.new + length live.new.items ≤ vec_len out.old + length live.old.items }
+    ensures capacity { vec_capacity out.new ≡ vec_capacity out.old }
+{
+    if !set.may_cover(cover) {
+        return;
+    }
+    for at in 0..set.len() {
+        let Some(ticket) = set.covered_at(at, cover) else {
+            continue;
+        };
+        end(window, connections, live, ticket);
         out.push_reserved(Effect::Leave { ticket, unit });
-        Some(ticket)
     }
 }
 
-/// The oldest of the chosen commands leaves the set of its unit: its ticket.
-fn take(sets: &mut [TaskSet], unit: u16, choice: &Choice) -> Option<u64>
-    requires { unit < length sets.old }
-    ensures ticket { result ≡ option_map (λ t. t.ticket)
-        (find (chosen choice.now) (tasks_in (slice_index_or sets.old unit (opened 0)))) }
-    ensures sets { sets.new ≡ slice_set sets.old unit
-        (left_by (slice_index_or sets.old unit (opened 0))
-        (find (chosen choice.now) (tasks_in (slice_index_or sets.old unit (opened 0))))) }
+/// The live command with this ticket is over, where it is there, and is told to leave.
+fn end_one(
+    is_there: bool,
+    unit: u16,
+    ticket: u64,
+    window: &mut Window,
+    connections: &mut Connections,
+    live: &mut Commands,
+    out: &mut Vec<Effect>,
+)
+    requires there { is_there ≡ true → IsSome (find_ticket ticket live.old.items) }
+    requires ascending { are_ascending live.old.items ≡ true }
+    requires numbered { count_by is_numbered live.old.items ≤ window.old.unfinished }
+    requires known { are_known live.old.items connections.old.conns ≡ true }
+    requires counted { AreCounted connections.old.immediate connections.old.conns live.old.items }
+    requires room { vec_len out.old + length live.old.items ≤ vec_capacity out.old }
+    ensures window { window.new ≡ finished_by window.old live.old.items live.new.items }
+    ensures live { live.new.items ≡ (if is_there then without_ticket ticket live.old.items else live.old.items) }
+    ensures connections { connections.new ≡ record connections.old { immediate = connections.new.immediate } }
+    ensures counted { AreCounted connections.new.immediate connections.old.conns live.new.items }
+    ensures live_capacity { live.new.room ≡ live.old.room }
+    ensures effects { out.new.items ≡ out.old.items ++ (if is_there then Effect.Leave ticket unit ∷ [] else []) }
+    ensures spent { vec_len out.new + length live.new.items ≤ vec_len out.old + length live.old.items }
+    ensures capacity { vec_capacity out.new ≡ vec_capacity out.old }
 {
-    let set = &mut sets[usize::from(unit)];
-    let task = match choice {
-        Choice::Covered(cover) => set.leave_first(cover)?,
-        Choice::After(cover, ticket) => set.leave_next(cover, *ticket)?,
-        Choice::Ticket(ticket) => set.leave(*ticket)?,
-    };
-    Some(task.ticket)
+    if is_there {
+        end(window, connections, live, ticket);
+        out.push_reserved(Effect::Leave { ticket, unit });
+    }
 }
 
 /// The live command with this ticket is over.
@@ -127,7 +167,7 @@ fn end(window: &mut Window, connections: &mut Connections, live: &mut Commands, 
     ensures live { live.new.items ≡ without_ticket ticket live.old.items }
     ensures connections { connections.new ≡ record connections.old { immediate = connections.new.immediate } }
     ensures counted { AreCounted connections.new.immediate connections.old.conns live.new.items }
-    ensures room { live.new.room ≡ live.old.room }
+    ensures capacity { live.new.room ≡ live.old.room }
 {
     let command = live.find(ticket).unwrap();
     finish(window, connections, &command);

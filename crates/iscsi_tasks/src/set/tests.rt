@@ -191,7 +191,7 @@ fn a_function_that_covers_nothing_hides_no_command(rt: HostRuntime) -> Result<()
         (2, 11, None),
         (6, 0, Some(1)),
     ] {
-        let answer = set.leave_next(&Cover::Below { pos, event }, 0);
+        let answer = set.leave_first(&Cover::Below { pos, event });
         assert_eq!(rt; answer.map(|t| t.ticket), left, "of {pos} {event}");
     }
     // No function has a number above the greatest.
@@ -203,6 +203,62 @@ fn a_function_that_covers_nothing_hides_no_command(rt: HostRuntime) -> Result<()
     };
     assert_eq!(rt; set.leave_first(&most), None);
     assert_eq!(rt; set.leave_first(&Cover::All), Some(last));
+    Ok(())
+}
+
+/// The tickets of the covered commands among the first five.
+fn covered(set: &TaskSet, cover: &Cover) -> [Option<u64>; 5] {
+    [0, 1, 2, 3, 4].map(|at| set.covered_at(at, cover))
+}
+
+#[test]
+fn covered_commands_leave_together(rt: HostRuntime) -> Result<(), Fail> {
+    let mut set = TaskSet::open(rt.alloc(), 8)?;
+    for (ticket, conn, attr) in [
+        (2, 1, Attr::Ordered),
+        (3, 2, Attr::Ordered),
+        (5, 1, Attr::Head),
+        (7, 2, Attr::Simple),
+    ] {
+        let placed = Task {
+            conn,
+            ..task(ticket, attr)
+        };
+        assert_eq!(rt; enter(&rt, &mut set, placed), Ok(()));
+    }
+    assert_eq!(rt; new_ones(&mut set), [Some(2), Some(5), None]);
+    assert_eq!(rt;
+        covered(&set, &Cover::Conn(1)),
+        [Some(2), None, Some(5), None, None]
+    );
+    assert_eq!(rt; covered(&set, &Cover::Conn(3)), [None; 5]);
+    set.leave_covered(&Cover::Conn(3));
+    assert_eq!(rt; set.len(), 4);
+    assert_eq!(rt; new_ones(&mut set), [None; 3]);
+    // The ORDERED command is the oldest now, and the SIMPLE one waits for it.
+    set.leave_covered(&Cover::Conn(1));
+    assert_eq!(rt; set.len(), 2);
+    assert_eq!(rt; new_ones(&mut set), [Some(3), None, None]);
+    assert_eq!(rt; set.is_enabled(7), false);
+    // A function covers none, and the set keeps in mind that its number is too low.
+    let low = Cover::Below { pos: 3, event: 9 };
+    assert_eq!(rt; set.may_cover(&low), true);
+    set.leave_covered(&low);
+    assert_eq!(rt; set.may_cover(&low), false);
+    set.leave_covered(&low);
+    assert_eq!(rt; set.len(), 2);
+    let next = Cover::Below { pos: 4, event: 0 };
+    assert_eq!(rt; set.may_cover(&next), true);
+    set.leave_covered(&next);
+    assert_eq!(rt;
+        covered(&set, &Cover::All),
+        [Some(7), None, None, None, None]
+    );
+    assert_eq!(rt; new_ones(&mut set), [Some(7), None, None]);
+    // The bound is that of the one that stayed.
+    assert_eq!(rt; set.may_cover(&Cover::Below { pos: 7, event: 0 }), false);
+    set.leave_covered(&Cover::All);
+    assert_eq!(rt; set.len(), 0);
     Ok(())
 }
 

@@ -4,10 +4,10 @@ use Rattle.iscsi_tasks.specs.Sets.{is_new}
 use Rattle.iscsi_tasks.proofs.PlaceLemmas.{place_is, no_place, position_of, position_none}
 use Rattle.iscsi_tasks.proofs.queue.first_new.Goals as goal
 
-pub returns-then-not-member : goal.returns-then-not-member
-returns-then-not-member c =
+pub returns-then-is_new : goal.returns-then-is_new
+returns-then-is_new c =
     position_of is_new c.args.members.now.items c.loop-k.k
-    (place_is is_new c.args.members.now.items c.loop-k.k c.index-member.result.now (omega arith) (λ j l. c.loop-k.invariant j c.index-member.result.now l (omega arith)) (search rules))
+    (place_is is_new c.args.members.now.items c.loop-k.k c.index.result.now (omega arith) (λ j l. c.loop-k.invariant j c.index.result.now l (omega arith)) (search rules))
     (omega arith)
 
 pub returns : goal.returns

@@ -14,7 +14,7 @@ use Rattle.iscsi_session.proofs.WindowLemmas.{fewer, find-found}
 use Rattle.iscsi_history.specs.Settings.{is_known}
 use Rattle.iscsi_session.proofs.CountLemmas.{count-left, some_counted, AreCounted-left}
 use Rattle.iscsi_session.proofs.KeptLemmas.{enabled_found, Match-left, few_left, written}
-use Rattle.iscsi_session.proofs.SoundLemmas.{places_sound, left_sound, commands_sound_on}
+use Rattle.iscsi_session.proofs.SoundLemmas.{places_sound, kept_sound, commands_sound_on}
 use Rattle.iscsi_session.proofs.session.Session.complete.Goals as goal
 
 -- the command that is completed, as the session keeps it
@@ -110,7 +110,7 @@ invariant_of-self c =
     let returned : c.leave.new.sets ≡ new = c.leave.ensures.sets ∙ ap (λ (ms : List Members). set ms c.in-Some.command.unit (all_given (set_without c.in-Some.command ms))) value in
     let long : length new ≡ length c.self.inside.sets.items = length-set c.self.inside.sets.items c.in-Some.command.unit _ in
     let now : take c.self.inside.sets.len (c.leave.new.sets ++ drop (length c.leave.new.sets) c.self.inside.sets.items) ≡ new = written c.self.inside.sets.len c.leave.new.sets c.self.inside.sets.items (ap length returned ∙ long) c.self.inside.sets.ok.0 ∙ returned in
-    let commands = left_sound inv.commands l.ticket (ap (λ (q : Queued Live). q.items) c.remove.ensures) (omega (arith, ap (λ (x : Received). x.unfinished) is, finished_numbered w l (count_by is_numbered (without_ticket l.ticket c.self.inside.live.items)) (count_by is_numbered c.self.inside.live.items) counted inv.commands.numbered)) (ap length now ∙ long)
+    let commands = kept_sound inv.commands (λ (x : Live). not (x.ticket == l.ticket)) (ap (λ (q : Queued Live). q.items) c.remove.ensures) (omega (arith, ap (λ (x : Received). x.unfinished) is, finished_numbered w l (count_by is_numbered (without_ticket l.ticket c.self.inside.live.items)) (count_by is_numbered c.self.inside.live.items) counted inv.commands.numbered)) (ap length now ∙ long)
     (subst (λ (ms : List Members). Match ms (without_ticket l.ticket c.self.inside.live.items)) (sym now) (Match-left c.self.inside.sets.items c.self.inside.live.items l inv.commands.in_sets inv.commands.ascending f.found f.inside))
     (AreCounted-left c.self.inside.connections.immediate c.finish.new.connections.immediate c.self.inside.connections.conns c.self.inside.live.items l inv.commands.counted c.finish.ensures.long c.finish.ensures.counted inv.commands.ascending f.found) in
     commands_sound_on inv (ap (λ (x : Connected). x.conns) c.finish.ensures.connections) (places_sound inv.window places turned (omega (arith, inv.window.fits, ap (λ (x : Received). x.unfinished) is, finished_fewer w l)) inv.window.entered) commands places (ap length now ∙ long) (let same = ap (λ (q : Queued Live). q.room) c.remove.ensures in omega (arith, same))
