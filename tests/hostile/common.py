@@ -51,6 +51,26 @@ class Ran(NamedTuple):
     note: Optional[Note] = None
 
 
+class NotBuilt(Exception):
+    """Why a program couldn't be built."""
+
+
+def must(words, stdin=subprocess.DEVNULL, **how):
+    """Runs a command that must end well."""
+    ran = subprocess.run(words, stdin=stdin, stdout=subprocess.PIPE, stderr=subprocess.STDOUT, text=True, **how)
+    if ran.returncode != 0:
+        raise NotBuilt("\n".join([*ran.stdout.split("\n")[-20:], f"{' '.join(words)}: failed"]))
+
+
+def build():
+    """Builds the program and the driver, where they are missing or older than their sources."""
+    must([str(TOP / "iscsi-replay"), "--help"])
+    driver = DRIVER.parents[1]
+    words = (driver / "args").read_text().split()
+    with (driver / "stdin").open() as script:
+        must(["rt", "run", "--", *words], cwd=driver, stdin=script)
+
+
 class Tally:
     """A class of faults: how many were injected, and which were lost, with what was wrong."""
 

@@ -13,8 +13,9 @@ from hostile.common import (
     run,
     words_of,
 )
-from hostile.headers import command, nop_out
-from hostile.scripts import SCRIPTS, first_difference
+from hostile.headers import nop_out
+from hostile.scripts import SCRIPTS, other_answers
+from hostile.serving import two_units
 
 AGAIN = re.compile(rb"again: (\d+) steps, (\d+) turns, (\d+) ends, (\d+) lines, (\d+) from the start\n")
 # More requests than any run here makes.
@@ -54,13 +55,6 @@ def script_of(case):
     return b"".join(line + b"\n" for line in lines if line[:1] in (b"c", b"C", b"D"))
 
 
-def other_answers(ran, expected):
-    """What is wrong with a run of the driver that must print this."""
-    if ran.status != 0:
-        return f"status {ran.status}"
-    return first_difference(ran.out, expected) if ran.out != expected else ""
-
-
 def sort_out(tallies, what, number, ran, wrong):
     """Counts a refusal at the call that was made again for it, as the driver tells, or at the start."""
     counts = AGAIN.search(ran.err)
@@ -92,7 +86,7 @@ def sessions():
 
 def loops():
     """Every script of a loop and its ports: the answers are the same, whichever request is refused."""
-    tallies = driver_tallies(0, 980, 630, 44, 730)
+    tallies = driver_tallies(0, 980, 630, 44, 1480)
     for make in SCRIPTS:
         script = make()
         for number, ran in refusals(script.words, script.text(), program=DRIVER):
@@ -100,51 +94,19 @@ def loops():
     return [tally for tally in tallies if tally.floor > 0]
 
 
-def row_of_threads():
-    """Two connections with 100 commands each: the odd numbers for the first unit, the even ones for the second."""
-    lines = ["conn 1 00000001", "conn 2 00000001"]
-    for sn in range(1, 201):
-        lines.append(f"C {2 - sn % 2} {command(sn, sn, unit=1 - sn % 2)}")
-    return "".join(line + "\n" for line in lines).encode()
-
-
-def wrong_of_serve(ran):
-    """What is wrong with the outcome of `serve` for these commands, whatever the schedule was."""
-    if ran.status != 0:
-        return f"status {ran.status}: {ran.err[-200:]!r}"
-    lines = ran.out.decode().splitlines()
-    report = [line for line in lines if line[:2] in ("> ", "  ")]
-    delivered = [int(line.split()[2], 16) for line in report if line.startswith("  deliver ")]
-    done = [line.split()[2:] for line in report if line.startswith("> D ")]
-    if delivered != list(range(1, 201)):
-        return "other deliveries"
-    if len(done) != 200 or any(int(status, 16) != 100 + int(ticket) % 100 for ticket, status in done):
-        return "other completions"
-    if any(line != f"{line.rsplit(' ', 1)[0]} 0" for line in lines if line not in report and line != "end"):
-        return "something was left"
-    if ran.note.ended != ran.note.threads:
-        return f"{ran.note.threads - ran.note.ended} threads are left"
-    return wrong_of_journal(report)
-
-
-def wrong_of_journal(report):
-    """Whether a report isn't that of its own events."""
-    conns = "conn 1 00000001\nconn 2 00000001\n"
-    text = "".join(line + "\n" for line in report)
-    again = run(["--window", "1024", "--units", "2", "--depth", "128"], (conns + text).encode())
-    return compare(again, 0, text.encode(), b"")
-
-
-SERVE = ["serve", "1", "1024", "2", "128"]
+def threads_left(ran):
+    """Whether a thread that was begun hasn't ended."""
+    return "" if ran.note.ended == ran.note.threads else f"{ran.note.threads - ran.note.ended} threads are left"
 
 
 def serves():
     """`serve` with each request refused, and with each thread refused; then it is called anew."""
     tallies = []
-    for what, inject, floor in (("memory", "ALLOC", 550), ("a thread", "THREAD", 5)):
+    serving = two_units()
+    for what, inject, floor in (("memory", "ALLOC", 560), ("a thread", "THREAD", 5)):
         tally = Tally(f"{what} refused to serve", floor)
-        for number, ran in refusals(SERVE, row_of_threads(), inject, program=DRIVER):
-            tally.judge(f"{what}, {number}", wrong_of_serve(ran))
+        for number, ran in refusals(serving.words, serving.text(), inject, program=DRIVER):
+            tally.judge(f"{what}, {number}", serving.wrong(ran, [200]) or threads_left(ran))
         tallies.append(tally)
     return tallies
 

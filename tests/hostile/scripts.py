@@ -6,7 +6,10 @@ A script is a list of calls, each with the lines that it must answer. The driver
 from hostile.common import CASES, DRIVER, Tally, run
 from hostile.headers import (
     ABORT_TASK_SET,
+    HEAD,
     LOGICAL_UNIT_RESET,
+    ORDERED,
+    SIMPLE,
     abort_task,
     command,
     function,
@@ -16,45 +19,78 @@ from hostile.headers import (
     task_response,
 )
 
+# The events of a session, where a script says no other number.
+MOST_EVENTS = 1048576
+# What the driver tells on standard error where no call was made again.
+NOTHING_AGAIN = b"again: 0 steps, 0 turns, 0 ends, 0 lines, 0 from the start\n"
+ATTRIBUTES = {SIMPLE: "Simple", ORDERED: "Ordered", HEAD: "Head"}
+
+
+def bytes_of(digits):
+    """The bytes of hexadecimal digits, as the driver tells those that come back."""
+    return list(bytes.fromhex(digits))
+
 
 class Script:
     """Calls of a loop and its ports, what they must answer, and which of them are faults."""
 
-    def __init__(self, name, conns=1, units=1, window=128, depth=128):
+    def __init__(self, name, cids=(1,), units=1, window=128, depth=128, level=1, events=MOST_EVENTS):
         self.name = name
-        self.conns, self.units = conns, units
-        self.words = ["ports", "1", str(window), str(units), str(depth)]
-        self.calls = [f"conn {cid} 00000001" for cid in range(1, conns + 1)]
+        self.cids = list(cids)
+        self.words = ["ports", "1", *map(str, (window, units, depth, level, events))]
+        self.calls = [f"conn {cid} 00000001" for cid in cids]
         self.answers = []
         self.faults = 0
-        self.report = []
-        self.left, self.untaken, self.unread = [0] * conns, [0] * units, [0] * units
+        self.report, self.sources = [], []
+        self.unit_of = {}
+        self.left = [[] for _ in self.cids]
+        self.untaken, self.unread = [[] for _ in range(units)], [[] for _ in range(units)]
 
-    def post(self, place, header, answer="posted"):
-        self.calls.append(f"post {place} {header}")
+    def call(self, call, answer):
+        """A call that has one line for an answer."""
+        self.calls.append(call)
         self.answers.append(answer)
+
+    def post(self, place, header):
+        self.call(f"post {place} {header}", "posted")
+
+    def post_too_many(self, place, header):
+        """The ring is full, and the header comes back."""
+        self.call(f"post {place} {header}", f"full {bytes_of(header)}")
 
     def turn(self, *lines):
         """A turn that takes an event: its line, and those of its effects."""
         self.calls.append("turn")
         self.answers += lines
         self.report += lines
+        self.sources.append(self.source(lines[0]))
+
+    def source(self, event):
+        """The place of the port or the unit port that an event came from."""
+        kind, number = event.split()[1:3]
+        return self.cids.index(int(number)) if kind == "C" else self.unit_of[int(number)]
 
     def idle(self):
-        self.calls.append("turn")
-        self.answers.append("nothing")
+        self.call("turn", "nothing")
 
-    def take(self, unit, ticket, tag):
-        self.calls.append(f"take {unit}")
-        self.answers.append(f"job {ticket} {tag:08x}")
+    def exhausted(self):
+        """A turn that is refused, as the journal has all of its events."""
+        self.call("turn", "exhausted")
+
+    def take(self, unit, ticket, header):
+        """The job of a command, with its tag, its attribute and its CDB."""
+        attribute = ATTRIBUTES[int(header[3], 16)]
+        self.call(f"take {unit}", f"job {ticket} {header[32:40]} {unit} {attribute} {bytes_of(header[64:])}")
 
     def take_none(self, unit):
-        self.calls.append(f"take {unit}")
-        self.answers.append("no job")
+        self.call(f"take {unit}", "no job")
 
-    def answer(self, unit, ticket, status=0, answer="answered"):
-        self.calls.append(f"answer {unit} {ticket} {status:02x}")
-        self.answers.append(answer)
+    def answer(self, unit, ticket, status=0):
+        self.call(f"answer {unit} {ticket} {status:02x}", "answered")
+        self.unit_of[ticket] = unit
+
+    def answer_refused(self, unit, ticket, why):
+        self.call(f"answer {unit} {ticket} 00", why)
 
     def fault(self):
         """The call before is a fault."""
@@ -65,11 +101,18 @@ class Script:
 
     def expected(self):
         """All that the driver must print: the answers, the report of the journal, and what was left."""
-        lines = self.answers + ["end"] + self.report
-        lines += [f"left {place} {count}" for place, count in enumerate(self.left)]
-        lines += [f"untaken {unit} {count}" for unit, count in enumerate(self.untaken)]
-        lines += [f"unread {unit} {count}" for unit, count in enumerate(self.unread)]
+        left = [[bytes_of(header) for header in headers] for headers in self.left]
+        lines = self.answers + outcome(self.report, self.sources, left, self.untaken, self.unread)
         return "".join(line + "\n" for line in lines).encode()
+
+
+def outcome(report, sources, left, untaken, unread):
+    """The lines of an outcome: how many events there were, their report and sources, and what was left in the rings."""
+    count = len(sources)
+    lines = [f"end {count} {count}", *report, f"from {sources}"]
+    for word, rings in (("left", left), ("untaken", untaken), ("unread", unread)):
+        lines += [f"{word} {place} {ring}" for place, ring in enumerate(rings)]
+    return lines
 
 
 def entered(cid, header, sn, tag, ticket, unit=0):
@@ -84,7 +127,7 @@ def entered(cid, header, sn, tag, ticket, unit=0):
 
 def closed_connection():
     """One connection closes the other, on which 64 headers come all the same."""
-    script = Script("closed connection", conns=2, window=8)
+    script = Script("closed connection", cids=(1, 2), window=8)
     closing, late = logout(1, 0xC1, 1, 2), command(1, 0)
     script.post(0, closing)
     script.turn(
@@ -109,7 +152,7 @@ def full_rings():
     headers = {sn: command(sn, sn) for sn in range(1, 66)}
     for sn in range(1, 65):
         script.post(0, headers[sn])
-    script.post(0, headers[65], "full")
+    script.post_too_many(0, headers[65])
     script.fault()
     for sn in range(1, 65):
         script.turn(*entered(1, headers[sn], sn, sn, sn))
@@ -117,18 +160,18 @@ def full_rings():
     script.post(0, headers[65])
     script.turn(*entered(1, headers[65], 65, 65, 65))
     for ticket in range(1, 65):
-        script.take(0, ticket, ticket)
+        script.take(0, ticket, headers[ticket])
     script.take_none(0)
     script.fault()
     script.idle()
-    script.take(0, 65, 65)
+    script.take(0, 65, headers[65])
     for ticket in range(1, 65):
         script.answer(0, ticket)
-    script.answer(0, 65, answer="full")
+    script.answer_refused(0, 65, "full")
     script.fault()
     script.turn("> D 1 00", "  leave 1", f"  send 1 {scsi_response(1, (1, 66, 129))}")
     script.answer(0, 65)
-    script.unread = [64]
+    script.unread = [[(ticket, 0) for ticket in range(2, 66)]]
     return script
 
 
@@ -145,13 +188,13 @@ def jobs_that_nobody_takes():
         script.post(0, other)
         script.turn(*entered(1, other, sn, sn, ticket, unit=1))
         script.idle()
-        script.take(1, ticket, sn)
+        script.take(1, ticket, other)
         script.answer(1, ticket)
         # the 100 commands of the first unit are live, and no other one
         numbers = (1 + k, sn + 1, sn + 1 + 255 - 100)
         script.turn(f"> D {ticket} 00", f"  leave {ticket}", f"  send 1 {scsi_response(sn, numbers)}")
         script.fault()
-    script.untaken = [100, 0]
+    script.untaken = [list(range(1, 101)), []]
     return script
 
 
@@ -164,7 +207,7 @@ def backlog_goes_on():
         script.turn(*entered(1, headers[sn], sn, sn, sn))
     for ticket in range(1, 101):
         script.idle()
-        script.take(0, ticket, ticket)
+        script.take(0, ticket, headers[ticket])
         script.fault()
     script.take_none(0)
     return script
@@ -173,19 +216,19 @@ def backlog_goes_on():
 def answers_out_of_place():
     """A job is answered twice, late, in another order, and by the wrong unit."""
     script = Script("answers out of place", units=2)
+    headers = {sn: command(sn, 0xA0 + sn) for sn in (1, 2, 3)}
     for sn in (1, 2, 3):
-        header = command(sn, 0xA0 + sn)
-        script.post(0, header)
-        script.turn(*entered(1, header, sn, 0xA0 + sn, sn))
+        script.post(0, headers[sn])
+        script.turn(*entered(1, headers[sn], sn, 0xA0 + sn, sn))
     script.idle()
     for ticket in (1, 2, 3):
-        script.take(0, ticket, 0xA0 + ticket)
+        script.take(0, ticket, headers[ticket])
     script.take_none(1)
     script.answer(0, 2)
-    script.answer(0, 2, answer="no such job")
+    script.answer_refused(0, 2, "no such job")
     script.fault()
     script.turn("> D 2 00", "  leave 2", f"  send 1 {scsi_response(0xA2, (1, 4, 129))}")
-    script.answer(0, 2, answer="no such job")
+    script.answer_refused(0, 2, "no such job")
     script.fault()
     # the other unit's worker answers for the first: a completion names no unit
     script.answer(1, 1, 8)
@@ -219,7 +262,7 @@ def answers_after_aborts():
         script.idle()
         # the first two jobs are taken before the abort, and the last one after it
         if unit < 2:
-            script.take(unit, ticket, 0xA0 + sn)
+            script.take(unit, ticket, header)
         script.post(0, abort(sn + 1))
         script.turn(
             f"> C 1 {abort(sn + 1)}",
@@ -228,21 +271,21 @@ def answers_after_aborts():
             f"  send 1 {task_response(tag, (sn, sn + 1, sn + 128))}",
         )
         if unit == 2:
-            script.take(unit, ticket, 0xA0 + sn)
+            script.take(unit, ticket, header)
         stale(script, unit, ticket)
     return script
 
 
 def answers_after_closes():
     """Jobs are answered after their connection closed, and after the session did."""
-    script = Script("answers after closes", conns=2, units=2)
+    script = Script("answers after closes", cids=(1, 2), units=2)
     headers = {cid: command(cid, 0xA0 + cid, unit=cid - 1) for cid in (1, 2)}
     for cid in (1, 2):
         script.post(cid - 1, headers[cid])
         script.turn(*entered(cid, headers[cid], cid, 0xA0 + cid, cid, unit=cid - 1))
     script.idle()
-    script.take(0, 1, 0xA1)
-    script.take(1, 2, 0xA2)
+    script.take(0, 1, headers[1])
+    script.take(1, 2, headers[2])
     closing = logout(3, 0xC1, 1, 2)
     script.post(0, closing)
     script.turn(
@@ -290,14 +333,22 @@ def first_difference(found, expected):
     return f"{len(lines)} lines, not {len(wanted)}"
 
 
-def play(script):
-    """What is wrong with the driver's run of a script."""
-    ran = run(script.words, script.text(), program=DRIVER)
+def other_answers(ran, expected):
+    """What is wrong with a run of the driver that must print this."""
     if ran.status != 0:
         return f"status {ran.status}: {ran.err[-200:]!r}"
-    if ran.out != script.expected():
-        return first_difference(ran.out, script.expected())
-    return ""
+    return first_difference(ran.out, expected) if ran.out != expected else ""
+
+
+def made_again(ran):
+    """Whether the driver made a call again, though nothing was refused."""
+    return "" if ran.err == NOTHING_AGAIN else f"on standard error {ran.err[-200:]!r}"
+
+
+def play(script, expected=None):
+    """What is wrong with the driver's run of a script, which must print this, or what its calls must answer."""
+    ran = run(script.words, script.text(), program=DRIVER)
+    return other_answers(ran, script.expected() if expected is None else expected) or made_again(ran)
 
 
 def rings():

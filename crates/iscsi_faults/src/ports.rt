@@ -3,9 +3,10 @@
 use crate::calls::{Given, behind, header, is_passed, must, two};
 use crate::rig::Rig;
 use crate::told::{Halt, TRIES, Told, fits};
-use iscsi_session::{Effect, Event, Numbers};
-use iscsi_threads::{Job, LoopFault, Outcome, Turn};
+use iscsi_session::Effect;
+use iscsi_threads::{Job, LoopFault, Outcome, PostFault, Turn};
 use std::alloc::Global;
+use std::fmt::Debug;
 
 /// A loop with its ports, and the jobs that were taken and not answered yet.
 #[derive(Drop)]
@@ -15,18 +16,22 @@ struct Play {
     jobs: Vec<Job>,
 }
 
-/// Opens a loop, makes the calls of the script's lines, and ends it.
+/// Opens a loop, makes the calls of the script's lines, and ends it. Where the options are refused, nothing follows.
 ///
-/// `post PLACE HEADER`, `turn`, `turns N`, `take UNIT`, `answer UNIT TICKET STATUS`.
+/// `post PLACE HEADER`, `turn`, `take UNIT`, `answer UNIT TICKET STATUS`.
 pub(crate) fn make_calls(
     alloc: Global,
     given: &Given,
     script: &str,
     told: &mut Told,
 ) -> Result<(), Halt> {
+    let rig = match Rig::open(alloc, given.options(alloc, script)?) {
+        Ok(rig) => rig,
+        Err(fault) => return told.say_refusal(fault),
+    };
     let mut play = Play {
         alloc,
-        rig: open(alloc, given, script)?,
+        rig,
         jobs: Vec::new(alloc),
     };
     for line in script.lines() {
@@ -35,14 +40,6 @@ pub(crate) fn make_calls(
         }
     }
     tell_outcome(alloc, &finish(play.rig, told)?, told)
-}
-
-fn open(alloc: Global, given: &Given, script: &str) -> Result<Rig, Halt> {
-    match Rig::open(alloc, given.options(alloc, script)?) {
-        Ok(rig) => Ok(rig),
-        Err(LoopFault::NoMemory) => Err(Halt::NoMemory),
-        Err(_) => Err(Halt::Refused),
-    }
 }
 
 impl Play {
@@ -60,32 +57,42 @@ impl Play {
         self.answer(must(behind(line, "answer"))?, told)
     }
 
+    /// Where the ring is full, it tells the bytes of the header that came back.
     fn post(&mut self, rest: &str, told: &mut Told) -> Result<(), Halt> {
         let (place, digits) = must(two(rest))?;
         let place = must(place.parse::<usize>().ok())?;
         match self.rig.post(place, must(header(digits))?) {
             Ok(()) => told.say("posted"),
-            Err(_) => told.say("full"),
+            Err(PostFault::Full(back)) => told.say(&format!(in self.alloc; "full {back:?}")?),
         }
     }
 
     fn turn(&mut self, told: &mut Told) -> Result<(), Halt> {
         let mut effects = Vec::new(self.alloc);
-        match turn(&mut self.rig, &mut effects, told)? {
-            Some((event, numbers)) => {
+        match turn(&mut self.rig, &mut effects, told) {
+            Ok(Turn::Took(event, numbers)) => {
                 told.say_event(&event)?;
                 told.say_effects(&effects, numbers)
             }
-            None => told.say("nothing"),
+            Ok(Turn::Idle) => told.say("nothing"),
+            Err(fault) => told.say_refusal(fault),
         }
     }
 
+    /// Of a job it tells the ticket, the tag, the unit, the attribute and the bytes of the CDB.
     fn take(&mut self, unit: usize, told: &mut Told) -> Result<(), Halt> {
         self.jobs.reserve(1)?;
         let Some(job) = self.rig.take(unit) else {
             return told.say("no job");
         };
-        let line = format!(in self.alloc; "job {} {:08x}", job.ticket(), job.itt())?;
+        let line = format!(in self.alloc;
+            "job {} {:08x} {} {:?} {:?}",
+            job.ticket(),
+            job.itt(),
+            job.unit(),
+            job.attr(),
+            job.cdb()
+        )?;
         fits(self.jobs.push(job))?;
         told.say(&line)
     }
@@ -110,21 +117,15 @@ impl Play {
     }
 }
 
-/// What a turn took, if anything waited. The same call is made again where memory is refused.
-fn turn(
-    rig: &mut Rig,
-    effects: &mut Vec<Effect>,
-    told: &mut Told,
-) -> Result<Option<(Event, Numbers)>, Halt> {
+/// What a turn did. The same call is made again where memory is refused.
+fn turn(rig: &mut Rig, effects: &mut Vec<Effect>, told: &mut Told) -> Result<Turn, LoopFault> {
     for _ in 0..TRIES {
         match rig.turn(effects) {
-            Ok(Turn::Took(event, numbers)) => return Ok(Some((event, numbers))),
-            Ok(Turn::Idle) => return Ok(None),
             Err(LoopFault::NoMemory) => told.turns = told.turns.saturating_add(1),
-            Err(_) => return Err(Halt::Refused),
+            done => return done,
         }
     }
-    Err(Halt::NoMemory)
+    Err(LoopFault::NoMemory)
 }
 
 /// What it all came to. The end is tried again, with what came back, where memory is refused.
@@ -142,26 +143,35 @@ fn finish(rig: Rig, told: &mut Told) -> Result<Outcome, Halt> {
     Err(Halt::NoMemory)
 }
 
-/// Tells the report of the journal, and what was left in each ring.
+/// Tells how long the journal and the log are, their report, the place that each event came from, and what was left in
+/// each ring.
 pub(crate) fn tell_outcome(alloc: Global, outcome: &Outcome, told: &mut Told) -> Result<(), Halt> {
-    told.say("end")?;
+    let (events, entries) = (outcome.journal.len(), outcome.log.len());
+    told.say(&format!(in alloc; "end {events} {entries}")?)?;
     tell_report(outcome, told)?;
-    for (place, left) in outcome.left.iter().enumerate() {
-        told.say(&format!(in alloc; "left {place} {}", left.len())?)?;
-    }
-    for (unit, untaken) in outcome.untaken.iter().enumerate() {
-        told.say(&format!(in alloc; "untaken {unit} {}", untaken.len())?)?;
-    }
-    for (unit, unread) in outcome.unread.iter().enumerate() {
-        told.say(&format!(in alloc; "unread {unit} {}", unread.len())?)?;
-    }
-    Ok(())
+    told.say(&format!(in alloc; "from {:?}", outcome.from)?)?;
+    tell_rings(alloc, "left", &outcome.left, told)?;
+    tell_rings(alloc, "untaken", &outcome.untaken, told)?;
+    tell_rings(alloc, "unread", &outcome.unread, told)
 }
 
 fn tell_report(outcome: &Outcome, told: &mut Told) -> Result<(), Halt> {
     for (event, entry) in outcome.journal.iter().zip(outcome.log.iter()) {
         told.say_event(event)?;
         told.say_effects(entry.effects.as_slice(), entry.numbers)?;
+    }
+    Ok(())
+}
+
+/// Tells what was left in each ring of a kind.
+fn tell_rings<T: Debug>(
+    alloc: Global,
+    word: &str,
+    rings: &[Vec<T>],
+    told: &mut Told,
+) -> Result<(), Halt> {
+    for (place, ring) in rings.iter().enumerate() {
+        told.say(&format!(in alloc; "{word} {place} {ring:?}")?)?;
     }
     Ok(())
 }

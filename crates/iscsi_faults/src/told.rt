@@ -1,6 +1,7 @@
 //! What the driver tells.
 
 use iscsi_session::{Effect, Event, Numbers, SessionFault, put_effect, put_event};
+use iscsi_threads::LoopFault;
 use std::alloc::{AllocError, Global};
 use thiserror::Error;
 
@@ -70,6 +71,15 @@ impl Told {
     pub(crate) fn say(&mut self, line: &str) -> Result<(), Halt> {
         self.text.extend_from_slice(line.as_bytes())?;
         fits(self.text.push(b'\n'))
+    }
+
+    /// Tells why the thread layer refused a call. Where it wants memory or a thread, all may be begun anew.
+    pub(crate) fn say_refusal(&mut self, fault: LoopFault) -> Result<(), Halt> {
+        match fault {
+            LoopFault::BadOptions => self.say("bad options"),
+            LoopFault::Exhausted => self.say("exhausted"),
+            LoopFault::NoMemory | LoopFault::NoThread => Err(Halt::NoMemory),
+        }
     }
 
     /// Tells the line of an event.

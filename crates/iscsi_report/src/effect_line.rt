@@ -60,7 +60,8 @@ fn write_request(word: &[u8], request: &Request, line: &mut [u8], at: usize) -> 
     requires short { length word.now ≤ 12 }
     requires room { at + 256 ≤ length line.old }
     ensures end { result ≤ at + 256 }
-    ensures written { take result line.new ≡ take at line.old ++ (word.now ++ (request_fields request.now ++ codes "\n")) }
+    ensures written { take result line.new ≡ take at line.old
+        ++ (word.now ++ (request_fields request.now ++ codes "\n")) }
 {
     let at = put_text(word, line, at);
     let at = put_small(request.conn(), line, at);
@@ -97,7 +98,8 @@ fn write_ticket(word: &[u8], ticket: u64, line: &mut [u8], at: usize) -> usize
 fn write_closing(conn: u16, line: &mut [u8], at: usize) -> usize
     requires { at + 256 ≤ length line.old }
     ensures end { result ≤ at + 256 }
-    ensures written { take result line.new ≡ take at line.old ++ (codes "  close-conn " ++ (decimal conn ++ codes "\n")) }
+    ensures written { take result line.new ≡ take at line.old
+        ++ (codes "  close-conn " ++ (decimal conn ++ codes "\n")) }
 {
     let at = put_text(b"  close-conn ", line, at);
     let at = put_small(conn, line, at);
@@ -108,7 +110,8 @@ fn write_closing(conn: u16, line: &mut [u8], at: usize) -> usize
 fn write_enter(ticket: u64, unit: u16, attr: Attr, line: &mut [u8], at: usize) -> usize
     requires { at + 256 ≤ length line.old }
     ensures end { result ≤ at + 256 }
-    ensures written { take result line.new ≡ take at line.old ++ (codes "  enter " ++ (enter_fields ticket unit attr ++ codes "\n")) }
+    ensures written { take result line.new ≡ take at line.old
+        ++ (codes "  enter " ++ (enter_fields ticket unit attr ++ codes "\n")) }
 {
     let at = put_text(b"  enter ", line, at);
     let at = put_number(ticket, line, at);
@@ -143,7 +146,8 @@ fn write_send(
 ) -> usize
     requires { at + 256 ≤ length line.old }
     ensures end { result ≤ at + 256 }
-    ensures written { take result line.new ≡ take at line.old ++ effect_line (Effect.Send conn stat_sn reply.now) numbers }
+    ensures written { take result line.new ≡ take at line.old
+        ++ effect_line (Effect.Send conn stat_sn reply.now) numbers }
 {
     // Most replies are of this kind. Here the compiler knows which, and that there is no tail.
     if let Reply::Scsi { sense: None, .. } = reply {
@@ -159,7 +163,8 @@ fn write_send(
 fn write_header(conn: u16, header: &[u8; 48], line: &mut [u8], at: usize) -> usize
     requires { at + 256 ≤ length line.old }
     ensures end { result ≤ at + 256 }
-    ensures written { take result line.new ≡ take at line.old ++ (codes "  send " ++ (decimal conn ++ (codes " " ++ (encode_lower header.now ++ codes "\n")))) }
+    ensures written { take result line.new ≡ take at line.old
+        ++ (codes "  send " ++ (decimal conn ++ (codes " " ++ (encode_lower header.now ++ codes "\n")))) }
 {
     let at = put_text(b"  send ", line, at);
     let at = put_small(conn, line, at);
@@ -174,7 +179,9 @@ fn write_pdu(conn: u16, pdu: &Pdu, line: &mut [u8], at: usize) -> usize
     requires short { length (pdu_tail pdu.now) ≤ 48 }
     requires room { at + 256 ≤ length line.old }
     ensures end { result ≤ at + 256 }
-    ensures written { take result line.new ≡ take at line.old ++ (codes "  send " ++ (decimal conn ++ (codes " " ++ (encode_lower (pdu_header pdu.now) ++ (encode_lower (pdu_tail pdu.now) ++ codes "\n"))))) }
+    ensures written { take result line.new ≡ take at line.old
+        ++ (codes "  send " ++ (decimal conn
+        ++ (codes " " ++ (encode_lower (pdu_header pdu.now) ++ (encode_lower (pdu_tail pdu.now) ++ codes "\n"))))) }
 {
     let at = put_text(b"  send ", line, at);
     let at = put_small(conn, line, at);

@@ -73,7 +73,9 @@ pub fn put_digits(n: u32, line: &mut [u8], at: usize) -> usize
 pub fn put_two_numbers(bytes: &[u8], line: &mut [u8], at: usize) -> usize
     requires { (length bytes.now ≡ 16) × (at + 25 ≤ length line.old) }
     ensures end { result ≡ at + 17 }
-    ensures written { take result line.new ≡ take at line.old ++ (eight_digits (big_endian_from 0 (take 4 (drop 8 bytes.now))) ++ (codes " " ++ eight_digits (big_endian_from 0 (take 4 bytes.now)))) }
+    ensures written { take result line.new ≡ take at line.old
+        ++ (eight_digits (big_endian_from 0 (take 4 (drop 8 bytes.now)))
+        ++ (codes " " ++ eight_digits (big_endian_from 0 (take 4 bytes.now)))) }
 {
     let (second, first) = digits_of(u8x16::from_slice(bytes));
     let at = put_eight(first, line, at);

@@ -30,7 +30,8 @@ pub(crate) fn place_of(members: &Queue, ticket: u64) -> Option<usize>
 
 /// Whether the oldest command has this ticket, as most that leave have.
 fn is_first(members: &Queue, ticket: u64) -> bool
-    ensures { result ≡ true → (0 < length members.now.items) × ((d : Member) → (slice_index_or members.now.items 0 d).task.ticket ≡ ticket) }
+    ensures { result ≡ true → (0 < length members.now.items)
+        × ((d : Member) → (slice_index_or members.now.items 0 d).task.ticket ≡ ticket) }
 {
     match members.front() {
         Some(member) => member.task.ticket == ticket,
@@ -55,7 +56,8 @@ pub(crate) fn first_covered(members: &Queue, cover: &Cover) -> Option<usize>
 
 /// The ticket of the command at this place, if it is covered.
 pub(crate) fn covered_at(members: &Queue, at: usize, cover: &Cover) -> Option<u64>
-    ensures { result ≡ option_and_then (λ m. ticket_if (is_covered cover.now m.task) m.task) (slice_get members.now.items at) }
+    ensures { result ≡ option_and_then (λ m. ticket_if (is_covered cover.now m.task) m.task)
+        (slice_get members.now.items at) }
 {
     let member = members.get(at)?;
     if cover.covers(&member.task) {
@@ -83,7 +85,8 @@ pub(crate) fn push(members: &mut Queue, counts: &mut Counts, task: Task, enabled
     requires room { deque_len members.old < deque_capacity members.old }
     requires newest { All (λ m. m.task.ticket < task.ticket) members.old.items }
     requires head { is_head_of task.attr ≡ true → enabled ≡ true }
-    ensures items { members.new.items ≡ members.old.items ++ record { task = task; enabled = enabled; given = false } ∷ [] }
+    ensures items { members.new.items ≡ members.old.items ++ record { task = task; enabled = enabled; given = false }
+        ∷ [] }
     ensures capacity { deque_capacity members.new ≡ deque_capacity members.old }
     ensures counted { IsCounted counts.new members.new.items }
 {
@@ -230,7 +233,8 @@ pub(crate) fn give_next(members: &mut Queue, counts: &mut Counts) -> Option<u64>
 /// place `to`.
 fn first_new(members: &Queue, from: usize, to: usize) -> Option<usize>
     requires to { to ≤ length members.now.items }
-    requires new { (k : ℕ) (d : Member) → k < length members.now.items → is_new (slice_index_or members.now.items k d) ≡ true → (from ≤ k) × (k < to) }
+    requires new { (k : ℕ) (d : Member) → k < length members.now.items →
+        is_new (slice_index_or members.now.items k d) ≡ true → (from ≤ k) × (k < to) }
     ensures { result ≡ position is_new members.now.items }
 {
     for k in from..to {

@@ -112,7 +112,8 @@ impl TaskSet {
         ensures ok { OnOk result ((length self.old.list < self.old.depth) × (self.new ≡ entered_to self.old task)) }
         ensures full { OnErr result ((length self.old.list ≡ self.old.depth) × (self.new ≡ refused_by self.old)) }
         ensures back { IfErr result (λ t. t ≡ task) }
-        ensures stands { (h : List Change) → StandsFor self.old h → AllBelow task.ticket h → OnOk result (StandsFor self.new (Entered task ∷ h)) }
+        ensures stands { (h : List Change) → StandsFor self.old h → AllBelow task.ticket h →
+            OnOk result (StandsFor self.new (Entered task ∷ h)) }
         ensures stands_full { (h : List Change) → StandsFor self.old h → OnErr result (StandsFor self.new h) }
     {
         let len = self.members.len();
@@ -133,7 +134,8 @@ impl TaskSet {
     pub fn leave(&mut self, ticket: u64) -> Option<Task>
         ensures answer { result ≡ with_ticket ticket (tasks_in self.old) }
         ensures state { self.new ≡ left_by self.old (with_ticket ticket (tasks_in self.old)) }
-        ensures stands { (h : List Change) → StandsFor self.old h → (result ≡ with_ticket ticket (live h)) × StandsFor self.new (after_leaving result h) }
+        ensures stands { (h : List Change) → StandsFor self.old h →
+            (result ≡ with_ticket ticket (live h)) × StandsFor self.new (after_leaving result h) }
         ensures stays_free { StaysFree }
     {
         let at = place_of(&self.members, ticket)?;
@@ -147,7 +149,8 @@ impl TaskSet {
     pub fn leave_first(&mut self, cover: &Cover) -> Option<Task>
         ensures answer { result ≡ first_covered cover.now (tasks_in self.old) }
         ensures state { self.new ≡ left_by self.old (first_covered cover.now (tasks_in self.old)) }
-        ensures stands { (h : List Change) → StandsFor self.old h → (result ≡ first_covered cover.now (live h)) × StandsFor self.new (after_leaving result h) }
+        ensures stands { (h : List Change) → StandsFor self.old h →
+            (result ≡ first_covered cover.now (live h)) × StandsFor self.new (after_leaving result h) }
     {
         if cover.is_below(self.covered_from) {
             return None;
@@ -181,7 +184,8 @@ impl TaskSet {
     pub fn leave_covered(&mut self, cover: &Cover)
         ensures state { self.new ≡ set_staying (is_covered cover.now) self.old }
         // It is as if they left one after the other, the oldest first.
-        ensures stands { (h : List Change) → StandsFor self.old h → StandsFor self.new (after_all_left (filter (is_covered cover.now) (live h)) h) }
+        ensures stands { (h : List Change) → StandsFor self.old h →
+            StandsFor self.new (after_all_left (filter (is_covered cover.now) (live h)) h) }
     {
         if cover.is_below(self.covered_from) {
             return;
@@ -218,7 +222,8 @@ impl TaskSet {
     pub fn next_new(&mut self) -> Option<u64>
         ensures answer { result ≡ next_in self.old.list }
         ensures state { self.new ≡ given_by self.old }
-        ensures stands { (h : List Change) → StandsFor self.old h → (result ≡ next_after h) × StandsFor self.new (after_giving result h) }
+        ensures stands { (h : List Change) → StandsFor self.old h →
+            (result ≡ next_after h) × StandsFor self.new (after_giving result h) }
     {
         give_next(&mut self.members, &mut self.counts)
     }

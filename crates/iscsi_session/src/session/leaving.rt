@@ -22,7 +22,8 @@ impl Session {
         requires room { vec_len out.old + owed self.old.live self.old.sets ≤ vec_capacity out.old }
         ensures session { self.new ≡ with_left self.old unit (is_covered cover.now) }
         ensures effects { out.new.items ≡ out.old.items ++ leaving_effects self.old unit (is_covered cover.now) }
-        ensures spent { vec_len out.new + owed self.new.live self.new.sets ≤ vec_len out.old + owed self.old.live self.old.sets }
+        ensures spent { vec_len out.new + owed self.new.live self.new.sets ≤ vec_len out.old
+            + owed self.old.live self.old.sets }
         ensures capacity { vec_capacity out.new ≡ vec_capacity out.old }
     {
         end_covered(
@@ -43,7 +44,8 @@ impl Session {
         requires room { vec_len out.old + owed self.old.live self.old.sets ≤ vec_capacity out.old }
         ensures session { self.new ≡ with_left self.old unit (covers_ticket ticket) }
         ensures effects { out.new.items ≡ out.old.items ++ leaving_effects self.old unit (covers_ticket ticket) }
-        ensures spent { vec_len out.new + owed self.new.live self.new.sets ≤ vec_len out.old + owed self.old.live self.old.sets }
+        ensures spent { vec_len out.new + owed self.new.live self.new.sets ≤ vec_len out.old
+            + owed self.old.live self.old.sets }
         ensures capacity { vec_capacity out.new ≡ vec_capacity out.old }
     {
         let is_there = take_one(&mut self.sets, unit, ticket);
@@ -64,7 +66,8 @@ impl Session {
         requires room { vec_len out.old + owed self.old.live self.old.sets ≤ vec_capacity out.old }
         ensures session { self.new ≡ with_given self.old unit }
         ensures effects { out.new.items ≡ out.old.items ++ enable_effects unit (set_at self.old unit).list }
-        ensures spent { vec_len out.new + owed self.new.live self.new.sets ≤ vec_len out.old + owed self.old.live self.old.sets }
+        ensures spent { vec_len out.new + owed self.new.live self.new.sets ≤ vec_len out.old
+            + owed self.old.live self.old.sets }
         ensures capacity { vec_capacity out.new ≡ vec_capacity out.old }
     {
         sets::tell(&mut self.sets, unit, out);
@@ -74,7 +77,8 @@ impl Session {
 /// The covered commands leave the set of their unit.
 fn take_covered(sets: &mut [TaskSet], unit: u16, cover: &Cover)
     requires { unit < length sets.old }
-    ensures { sets.new ≡ slice_set sets.old unit (set_staying (is_covered cover.now) (slice_index_or sets.old unit (opened 0))) }
+    ensures { sets.new ≡ slice_set sets.old unit
+        (set_staying (is_covered cover.now) (slice_index_or sets.old unit (opened 0))) }
 {
     sets[usize::from(unit)].leave_covered(cover);
 }
@@ -83,7 +87,8 @@ fn take_covered(sets: &mut [TaskSet], unit: u16, cover: &Cover)
 fn take_one(sets: &mut [TaskSet], unit: u16, ticket: u64) -> bool
     requires { unit < length sets.old }
     ensures there { result ≡ has_covered (covers_ticket ticket) (slice_index_or sets.old unit (opened 0)) }
-    ensures sets { sets.new ≡ slice_set sets.old unit (set_staying (covers_ticket ticket) (slice_index_or sets.old unit (opened 0))) }
+    ensures sets { sets.new ≡ slice_set sets.old unit
+        (set_staying (covers_ticket ticket) (slice_index_or sets.old unit (opened 0))) }
 {
     sets[usize::from(unit)].leave(ticket).is_some()
 }
@@ -104,7 +109,8 @@ fn end_covered(
     requires known { are_known live.old.items connections.old.conns ≡ true }
     requires counted { AreCounted connections.old.immediate connections.old.conns live.old.items }
     requires room { vec_len out.old + length live.old.items ≤ vec_capacity out.old }
-    ensures window { window.new ≡ finished_by window.old live.old.items (staying (is_covered cover.now) set.now live.old.items) }
+    ensures window { window.new ≡ finished_by window.old live.old.items
+        (staying (is_covered cover.now) set.now live.old.items) }
     ensures live { live.new.items ≡ staying (is_covered cover.now) set.now live.old.items }
     ensures connections { connections.new ≡ record connections.old { immediate = connections.new.immediate } }
     ensures counted { AreCounted connections.new.immediate connections.old.conns live.new.items }
