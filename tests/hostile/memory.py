@@ -103,7 +103,7 @@ def serves():
     """`serve` with each request refused, and with each thread refused; then it is called anew."""
     tallies = []
     serving = two_units()
-    for what, inject, floor in (("memory", "ALLOC", 560), ("a thread", "THREAD", 5)):
+    for what, inject, floor in (("memory", "ALLOC", 550), ("a thread", "THREAD", 5)):
         tally = Tally(f"{what} refused to serve", floor)
         for number, ran in refusals(serving.words, serving.text(), inject, program=DRIVER):
             tally.judge(f"{what}, {number}", serving.wrong(ran, [200]) or threads_left(ran))

@@ -1,4 +1,4 @@
-"""Closed connections, full rings, and answers out of place, through a loop and its ports on one thread.
+"""Scripts for a loop and its ports, on one thread; among them closed connections, full rings, and answers out of place.
 
 A script is a list of calls, each with the lines that it must answer. The driver makes them.
 """
