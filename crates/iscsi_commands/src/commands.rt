@@ -141,8 +141,39 @@ impl Commands {
     }
 }
 
-/// How many commands of an order have a lower key.
+/// How many commands of an order have a lower key. Where all or none have, as where the oldest command leaves or one with
+/// the greatest tag enters, it looks at the two ends alone.
 fn first_from(order: &Order, slots: &Slots<Live>, by: Key, key: u64) -> usize
+    requires within { (k : ℕ) → k < length order.now.items →
+        slice_index_or order.now.items k 0 < length slots.now.values }
+    requires sorted { IsSortedBy by slots.now.values order.now.items }
+    ensures within { result ≤ length order.now.items }
+    ensures below { (k : ℕ) (d : Live) → k < result →
+        key_of by (slice_index_or (commands slots.now.values order.now.items) k d) < key }
+    ensures above { (k : ℕ) (d : Live) → result ≤ k → k < length order.now.items →
+        key ≤ key_of by (slice_index_or (commands slots.now.values order.now.items) k d) }
+{
+    let len = order.len();
+    if len == 0 || key_at(order, slots, by, len - 1) < key {
+        return len;
+    }
+    if key <= key_at(order, slots, by, 0) {
+        return 0;
+    }
+    halve(order, slots, by, key)
+}
+
+/// The key of the command at a place of an order.
+fn key_at(order: &Order, slots: &Slots<Live>, by: Key, k: usize) -> u64
+    requires within { slice_index_or order.now.items k 0 < length slots.now.values }
+    requires place { k < length order.now.items }
+    ensures { (d : Live) → result ≡ key_of by (slice_index_or (commands slots.now.values order.now.items) k d) }
+{
+    by.of(slots.at(order.at(k)))
+}
+
+/// How many commands of an order have a lower key, by binary search.
+fn halve(order: &Order, slots: &Slots<Live>, by: Key, key: u64) -> usize
     requires within { (k : ℕ) → k < length order.now.items →
         slice_index_or order.now.items k 0 < length slots.now.values }
     requires sorted { IsSortedBy by slots.now.values order.now.items }
@@ -156,7 +187,7 @@ fn first_from(order: &Order, slots: &Slots<Live>, by: Key, key: u64) -> usize
     let mut high = order.len();
     while low < high {
         let middle = low + (high - low) / 2;
-        if by.of(slots.at(order.at(middle))) < key {
+        if key_at(order, slots, by, middle) < key {
             low = middle + 1;
         } else {
             high = middle;

@@ -18,6 +18,13 @@ module _ {X : Type 0} (key : X → ℕ) where
       (cases_eq i j))
       (cases_lt i j)
 
+  -- a place before another has no greater key
+  pub not_greater : (xs : List X) → AreAscending key xs → (i j : ℕ) (d : X) → i ≤ j → j < length xs → key (get_or xs i d) ≤ key (get_or xs j d)
+  not_greater xs up i j d le l = ⊎_elim
+      (λ same. let is = ap (λ n. key (get_or xs n d)) same in omega (arith, is))
+      (λ apart. let u : key (get_or xs i d) < key (get_or xs j d) = up i j d (omega (arith, le, apart)) l in omega (arith, u))
+      (cases_eq i j)
+
   up_head : (x : X) (xs : List X) → AreAscending key (x ∷ xs) → (k : ℕ) (d : X) → k < length xs → key x < key (get_or xs k d)
   up_head x xs up k d l = up zero (suc k) d (omega arith) (omega (arith, l))
 

@@ -108,6 +108,17 @@ fn make_place(order: &mut Vec<u16>, head: usize, places: usize) -> usize
     if order.len() < places {
         return head;
     }
-    order.drain(..head);
+    move_up(order, head);
     0
+}
+
+/// Takes so many places away before all others.
+fn move_up(order: &mut Vec<u16>, head: usize)
+    requires { head ≤ length order.old.items }
+    ensures slots { order.new.items ≡ drop head order.old.items }
+    ensures capacity { vec_capacity order.new ≡ vec_capacity order.old }
+{
+    let len = order.len() - head;
+    order.copy_within(head.., 0);
+    order.truncate(len);
 }

@@ -1,5 +1,5 @@
 -- A flag tells that there was a moment.
-use Rattle.std.proofs.Common.{◌≡◌, ℕ, ◌<◌, ◌==◌, ◌&&◌, true, false, List, [], ◌∷◌, ◌++◌, length, get_or, refl, ap, sym, ◌∙◌, arith, eq-eqb, ⊎_elim, subst}
+use Rattle.std.proofs.Common.{◌≡◌, ◌↔◌, ℕ, ◌<◌, ◌==◌, ◌&&◌, Bool, IsTrue, true, false, List, [], ◌∷◌, ◌++◌, length, get_or, refl, ap, sym, ◌∙◌, arith, eq-eqb, ⊎_elim, subst}
 use Rattle.std.proofs.lemmas.Bool.{or_cases, or_left, or_right, and_parts, and_from, eqb-true}
 use Rattle.std.proofs.lemmas.List.{length-map, get_or-map}
 use Rattle.std.proofs.lemmas.List.Folds.{Any-from_list_any, list_any_at}
@@ -67,3 +67,7 @@ module _ (s : Members) (h : List Change) (st : StandsFor s h) where
       let flag : (get_or s.list k d).enabled ≡ true = st.enabled k d within ∙ ap (λ t. was_free t h) here ∙ flag_of task h was in
       let number : ((get_or s.list k d).task.ticket == ticket) ≡ true = eq-eqb _ _ (ap (λ (t : Task). t.ticket) here ∙ same) in
       list_any_at (λ x. x.task.ticket == ticket && x.enabled) s.list k d within (and_from _ _ number flag)
+
+-- the flag, in terms of the history
+pub enabled_is : (s : Members) (ticket : ℕ) (b : Bool) → b ≡ is_enabled_in ticket s.list → (h : List Change) → StandsFor s h → IsTrue b ↔ IsEnabled ticket h
+enabled_is s ticket b is h st = (λ on. enabled_told s h st ticket (sym is ∙ on), λ enabled. is ∙ told_enabled s h st ticket enabled)

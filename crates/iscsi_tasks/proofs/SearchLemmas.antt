@@ -11,7 +11,8 @@ use Rattle.std.proofs.lemmas.List.{get_or_default}
 use Rattle.std.proofs.lemmas.List.Folds.{find_at, list_any_at, list_any_none}
 use Rattle.std.proofs.lemmas.List.Elements.{All-head, All-tail}
 use Rattle.iscsi_tasks.specs.declared.member.Member.{Member}
-use Rattle.iscsi_tasks.specs.Sets.{InOrder, without, is_enabled_in, with_ticket}
+use Rattle.iscsi_tasks.specs.declared.task.Task.{Task}
+use Rattle.iscsi_tasks.specs.Sets.{Members, InOrder, without, is_enabled_in, with_ticket, tasks_in}
 use Rattle.iscsi_tasks.specs.Counted.{IsPlaceOf}
 use Rattle.iscsi_tasks.proofs.GivingLemmas.{InOrder-head, InOrder-tail}
 use Rattle.iscsi_tasks.proofs.ListLemmas.{find-map}
@@ -89,3 +90,11 @@ not_found list ticket none = find-map (λ t. t.ticket == ticket) (λ m. m.task) 
 
 pub not_enabled : (list : List Member) (ticket : ℕ) → All (λ m. (m.task.ticket == ticket) ≡ false) list → is_enabled_in ticket list ≡ false
 not_enabled list ticket none = list_any_none (λ m. m.task.ticket == ticket && m.enabled) list (λ j e l. and_left _ _ (none j e l))
+
+-- the one at this place has it
+pub present_at : (s inside : Members) (ticket at : ℕ) (task : Task) → inside ≡ s → InOrder inside.list → IsPlaceOf inside.list ticket (Some at) → ((d : Member) → task ≡ (get_or s.list at d).task) → with_ticket ticket (tasks_in s) ≡ Some task
+present_at s inside ticket at task same order place is =
+    let d : Member = record { task = task; enabled = false; given = false } in
+    let order_here : InOrder s.list = subst (λ (x : Members). InOrder x.list) same order in
+    let here : IsPlaceOf s.list ticket (Some at) = subst (λ (x : Members). IsPlaceOf x.list ticket (Some at)) same place in
+    found s.list order_here ticket at here.0 here.1 d ∙ ap Some (sym (is d))

@@ -100,30 +100,30 @@ pub(crate) fn push(members: &mut Queue, counts: &mut Counts, task: Task, enabled
 }
 
 /// The command at this place leaves. The later ones close up, or the earlier ones where they are fewer.
-pub(crate) fn remove(members: &mut Queue, counts: &mut Counts, at: usize) -> Task
+pub(crate) fn remove(members: &mut Queue, counts: &mut Counts, at: usize)
     requires counted { IsCounted counts.old members.old.items }
     requires at { at < length members.old.items }
-    ensures task { (d : Member) → result ≡ (slice_index_or members.old.items at d).task }
     ensures items { members.new.items ≡ remove members.old.items at }
     ensures capacity { deque_capacity members.new ≡ deque_capacity members.old }
     ensures counted { IsCounted counts.new members.new.items }
 {
-    let task = take_out(members, at);
+    let attr = members[at].task.attr;
+    take_out(members, at);
     let ordered_at = next_ordered(members, shifted_by(at, counts.ordered_at));
-    *counts = counts.without(at, task.attr, ordered_at);
-    task
+    *counts = counts.without(at, attr, ordered_at);
 }
 
-fn take_out(members: &mut Queue, at: usize) -> Task
+/// Takes a command out. The oldest one, which most that leave are, moves no other.
+fn take_out(members: &mut Queue, at: usize)
     requires { at < length members.old.items }
-    ensures task { (d : Member) → result ≡ (slice_index_or members.old.items at d).task }
     ensures items { members.new.items ≡ remove members.old.items at }
     ensures capacity { deque_capacity members.new ≡ deque_capacity members.old }
 {
-    let Some(member) = members.remove(at) else {
-        unreachable!();
-    };
-    member.task
+    if at == 0 {
+        members.pop_front();
+    } else {
+        members.remove(at);
+    }
 }
 
 /// The covered commands leave, all of them before one moment. The later ones close up.

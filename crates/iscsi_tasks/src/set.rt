@@ -234,7 +234,8 @@ impl TaskSet {
         ensures answer { (d : Member) → result ≡ (slice_index_or self.old.list at d).task }
         ensures state { self.new ≡ left_by self.old (Some result) }
     {
-        let task = remove(&mut self.members, &mut self.counts, at);
+        let task = self.members[at].task;
+        remove(&mut self.members, &mut self.counts, at);
         enable_free(&mut self.members, &mut self.counts);
         task
     }

@@ -1,14 +1,9 @@
-use Rattle.std.proofs.Common.{◌≡◌, ◌∙◌, ◌↔◌, ℕ, Bool, List, IsTrue, false, ap, sym}
+use Rattle.std.proofs.Common.{◌∙◌, false, ap, sym}
 use Rattle.iscsi_tasks.specs.declared.member.Member.{Member}
 use Rattle.iscsi_tasks.specs.Sets.{Members, is_enabled_in}
-use Rattle.iscsi_tasks.specs.Changes.{Change, StandsFor, IsEnabled}
 use Rattle.iscsi_tasks.proofs.SearchLemmas.{enabled_at, not_enabled}
-use Rattle.iscsi_tasks.proofs.EnabledLemmas.{enabled_told, told_enabled}
+use Rattle.iscsi_tasks.proofs.EnabledLemmas.{enabled_is}
 use Rattle.iscsi_tasks.proofs.set.TaskSet.is_enabled.Goals as goal
-
--- the flag, in terms of the history
-told : (s : Members) (ticket : ℕ) (b : Bool) → b ≡ is_enabled_in ticket s.list → (h : List Change) → StandsFor s h → IsTrue b ↔ IsEnabled ticket h
-told s ticket b is h st = (λ on. enabled_told s h st ticket (sym is ∙ on), λ enabled. is ∙ told_enabled s h st ticket enabled)
 
 pub returns-in-Some-clause-answer : goal.returns-in-Some-clause-answer
 returns-in-Some-clause-answer c =
@@ -18,7 +13,7 @@ returns-in-Some-clause-answer c =
     ∙ ap (λ (s : Members). is_enabled_in c.args.ticket s.list) c.self.view_is
 
 pub returns-in-Some-clause-since : goal.returns-in-Some-clause-since
-returns-in-Some-clause-since c = told c.args.self.now c.args.ticket c.index.result.now.enabled (returns-in-Some-clause-answer c)
+returns-in-Some-clause-since c = enabled_is c.args.self.now c.args.ticket c.index.result.now.enabled (returns-in-Some-clause-answer c)
 
 pub returns-in-None-clause-answer : goal.returns-in-None-clause-answer
 returns-in-None-clause-answer c =
@@ -26,4 +21,4 @@ returns-in-None-clause-answer c =
     ∙ ap (λ (s : Members). is_enabled_in c.args.ticket s.list) c.self.view_is
 
 pub returns-in-None-clause-since : goal.returns-in-None-clause-since
-returns-in-None-clause-since c = told c.args.self.now c.args.ticket false (returns-in-None-clause-answer c)
+returns-in-None-clause-since c = enabled_is c.args.self.now c.args.ticket false (returns-in-None-clause-answer c)

@@ -5,21 +5,13 @@ use Rattle.iscsi_tasks.specs.Sets.{Members, InOrder, left_by, tasks_in, with_tic
 use Rattle.iscsi_tasks.specs.Changes.{Left, StandsFor, after_leaving}
 use Rattle.iscsi_tasks.proofs.RuleLemmas.{stays_free}
 use Rattle.iscsi_tasks.specs.Counted.{IsPlaceOf}
-use Rattle.iscsi_tasks.proofs.SearchLemmas.{found, not_found}
+use Rattle.iscsi_tasks.proofs.SearchLemmas.{present_at, not_found}
 use Rattle.iscsi_tasks.proofs.HistoryLemmas.{StandsFor-left}
 use Rattle.iscsi_tasks.proofs.set.TaskSet.leave.Goals as goal
 
 -- no command has the ticket
 absent : (s inside : Members) (ticket : ℕ) → inside ≡ s → All (λ m. (m.task.ticket == ticket) ≡ false) inside.list → with_ticket ticket (tasks_in s) ≡ None
 absent s inside ticket same none = ap (λ (x : Members). with_ticket ticket (tasks_in x)) (sym same) ∙ not_found inside.list ticket none
-
--- the one at this place has it
-present : (s inside : Members) (ticket at : ℕ) (task : Task) → inside ≡ s → InOrder inside.list → IsPlaceOf inside.list ticket (Some at) → ((d : Member) → task ≡ (get_or s.list at d).task) → with_ticket ticket (tasks_in s) ≡ Some task
-present s inside ticket at task same order place is =
-    let d : Member = record { task = task; enabled = false; given = false } in
-    let order_here : InOrder s.list = subst (λ (x : Members). InOrder x.list) same order in
-    let here : IsPlaceOf s.list ticket (Some at) = subst (λ (x : Members). IsPlaceOf x.list ticket (Some at)) same place in
-    found s.list order_here ticket at here.0 here.1 d ∙ ap Some (sym (is d))
 
 pub returns-in_err-at-clause-answer : goal.returns-in_err-at-clause-answer
 returns-in_err-at-clause-answer c =
@@ -34,7 +26,7 @@ returns-in_err-at-clause-stays_free c = stays_free
 
 pub returns-clause-answer : goal.returns-clause-answer
 returns-clause-answer c =
-    sym (present c.args.self.now (record { depth = c.self.inside.depth; looked = c.self.inside.looked; list = c.self.inside.members.items }) c.args.ticket c.in_ok-at.at c.take_out.result c.self.view_is c.self.invariant.counted.order c.in_ok-at.ensures c.take_out.ensures.answer)
+    sym (present_at c.args.self.now (record { depth = c.self.inside.depth; looked = c.self.inside.looked; list = c.self.inside.members.items }) c.args.ticket c.in_ok-at.at c.take_out.result c.self.view_is c.self.invariant.counted.order c.in_ok-at.ensures c.take_out.ensures.answer)
 
 pub returns-clause-state : goal.returns-clause-state
 returns-clause-state c = c.take_out.ensures.state ∙ ap (left_by c.args.self.now) (returns-clause-answer c)
