@@ -4,8 +4,8 @@
 #![tactic(auto)]
 
 ghost use Rattle.std.specs.Prelude.{◌≡◌, ◌≢◌, List, [], ◌∷◌, ◌++◌, None, length, take};
-ghost use Rattle.iscsi_history.specs.Settings.{Setting, is_valid};
-ghost use Rattle.iscsi_session.specs.Refusals.{refusal_of};
+ghost use Rattle.iscsi_history.specs.rules.Settings.{Setting, is_valid};
+ghost use Rattle.iscsi_session.specs.promises.Refusals.{refusal_of};
 ghost use Rattle.iscsi_host.specs.Inside.{inside};
 ghost use Rattle.iscsi_host.specs.Plain.{plain_setting};
 ghost use Rattle.iscsi_host.specs.Serving.{ServesIn, effects_in};

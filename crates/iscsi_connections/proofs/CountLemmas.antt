@@ -4,7 +4,7 @@ use Rattle.std.specs.Prelude.{IsSome}
 use Rattle.std.proofs.lemmas.List.Quantifiers.{position-Some}
 use Rattle.std.proofs.lemmas.Bool.{false≢true, eqb-true}
 use Rattle.iscsi_wire.specs.Serial.{wire}
-use Rattle.iscsi_history.specs.Settings.{is_known}
+use Rattle.iscsi_history.specs.rules.Settings.{is_known}
 use Rattle.iscsi_history.proofs.ListLemmas.{IsSome-position}
 use Rattle.iscsi_connections.specs.Connected.{stat_sn_on, count_reply, counted_on}
 

@@ -8,20 +8,20 @@ use Rattle.iscsi_wire.specs.declared.reply.Reply.TheVariants.{Task, Reject}
 use Rattle.iscsi_wire.specs.declared.request.Request.{Request}
 use Rattle.iscsi_wire.specs.Fields.{connection_of, header_of, is_immediate, opcode, function, itt}
 use Rattle.iscsi_history.specs.declared.effect.Why.{Why}
-use Rattle.iscsi_history.specs.Settings.{Setting}
-use Rattle.iscsi_history.specs.Trace.{Arrival, Command, Mark, Admits, Delivers, Executes, Waits, Leaves, Ignores, Trace, has, enters, entered, number_received, contains, is_received, admits_at, delivers_number, held, leaves_ticket, live, live_in, is_among}
-use Rattle.iscsi_history.specs.Execution.{exp_of, max_of, verdict_of, marks_of, rejected, reply_on}
-use Rattle.iscsi_history.specs.Management.{may_wait, refusal_of_function, MOST_WAITING, waiting_on, answer, function_marks}
-use Rattle.iscsi_history.specs.Logout.{logout_marks}
-use Rattle.iscsi_history.specs.Items.{marks_after, execution, item_of, waiting_item, immediate_item, function_item}
-use Rattle.iscsi_history.specs.Replies.{executed_in}
-use Rattle.iscsi_history.specs.Aborts.{is_set_abort, is_abort, is_complete, completes, IsCompleted, is_in_unit_of, came_before, earlier, is_ticket_covered}
+use Rattle.iscsi_history.specs.rules.Settings.{Setting}
+use Rattle.iscsi_history.specs.rules.Trace.{Arrival, Command, Mark, Admits, Delivers, Executes, Waits, Leaves, Ignores, Trace, has, enters, entered, number_received, contains, is_received, admits_at, delivers_number, held, leaves_ticket, live, live_in, is_among}
+use Rattle.iscsi_history.specs.rules.Execution.{exp_of, max_of, verdict_of, marks_of, rejected, reply_on}
+use Rattle.iscsi_history.specs.rules.Management.{may_wait, refusal_of_function, MOST_WAITING, waiting_on, answer, function_marks}
+use Rattle.iscsi_history.specs.rules.Logout.{logout_marks}
+use Rattle.iscsi_history.specs.rules.Items.{marks_after, execution, item_of, waiting_item, immediate_item, function_item}
+use Rattle.iscsi_history.specs.promises.Replies.{executed_in}
+use Rattle.iscsi_history.specs.promises.Aborts.{is_set_abort, is_abort, is_complete, completes, IsCompleted, is_in_unit_of, came_before, earlier, is_ticket_covered}
 use Rattle.iscsi_history.proofs.BeforeLemmas.{came_is_before}
 use Rattle.iscsi_history.proofs.BoolLemmas.{or_first, or_second, or_none, and_parts, and_both, and_false}
 use Rattle.iscsi_history.proofs.ListLemmas.{any_filter}
 use Rattle.iscsi_history.proofs.TraceLemmas.{received-item, unadmitted, live-quiet, filter-same, filter-true}
 use Rattle.iscsi_history.proofs.HeldLemmas.{held-number}
-use Rattle.iscsi_history.specs.Meaning.{voids_number}
+use Rattle.iscsi_history.specs.promises.Meaning.{voids_number}
 use Rattle.iscsi_history.proofs.AbortLemmas.{Fits}
 use Rattle.iscsi_history.proofs.AbortMarks.{Follows, follows_reply, follows_function, follows_after, leaves_are, refused_incomplete, reply_incomplete, Sweeps, sweeps_function, sweeps_after}
 

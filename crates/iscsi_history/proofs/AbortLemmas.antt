@@ -1,10 +1,10 @@
 -- What a completed abort covers is over: what an item does, and where it stands.
 use Rattle.std.proofs.Common.{◌≡◌, ℕ, ◌<◌, ◌≤◌, ◌||◌, true, false, List, [], ◌∷◌, ◌++◌, None, refl, ap, ◌∙◌, arith}
 use Rattle.std.specs.List.{list_any, filter_map}
-use Rattle.iscsi_history.specs.Settings.{Setting}
-use Rattle.iscsi_history.specs.Trace.{Arrival, Mark, Trace, has, shown, is_received, admits_at, delivers_number, held, leaves_ticket, live, is_among}
-use Rattle.iscsi_history.specs.Meaning.{voids_number}
-use Rattle.iscsi_history.specs.Aborts.{is_set_abort, IsCompleted, is_ticket_covered}
+use Rattle.iscsi_history.specs.rules.Settings.{Setting}
+use Rattle.iscsi_history.specs.rules.Trace.{Arrival, Mark, Trace, has, shown, is_received, admits_at, delivers_number, held, leaves_ticket, live, is_among}
+use Rattle.iscsi_history.specs.promises.Meaning.{voids_number}
+use Rattle.iscsi_history.specs.promises.Aborts.{is_set_abort, IsCompleted, is_ticket_covered}
 
 -- ---- an item after t, where nothing below p is due any more
 

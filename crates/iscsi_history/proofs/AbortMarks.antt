@@ -11,17 +11,17 @@ use Rattle.iscsi_wire.specs.Serial.{lift}
 use Rattle.iscsi_wire.specs.Fields.{connection_of, header_of, is_immediate, opcode, function, itt, rtt, cid, ref_cmd_sn}
 use Rattle.iscsi_history.specs.declared.verdict.Verdict.{Verdict}
 use Rattle.iscsi_history.specs.declared.verdict.Verdict.TheVariants.{Nothing, Answer, Enter}
-use Rattle.iscsi_history.specs.Settings.{Setting}
-use Rattle.iscsi_history.specs.Trace.{Arrival, Command, Mark, Voids, Empties, Leaves, ClosesConn, ClosesSession, Trace, first_of, is_received, admits_at, delivers_number, leaves_ticket, live, live_in, is_among}
-use Rattle.iscsi_history.specs.Execution.{exp_of, max_of, NO_TAG, unit_named, verdict_of, marks_of, reply_on}
-use Rattle.iscsi_history.specs.Management.{is_supported, refusal_of_function, answer, held_command, live_with_tag, abort_missing, abort_task, is_before, abort_all, query, function_to, function_marks, management_marks}
-use Rattle.iscsi_history.specs.Logout.{is_open, is_last_open, live_of_units, all_held, taken_out, parting, end_session, close_conn, logout_marks}
-use Rattle.iscsi_history.specs.Items.{marks_after}
-use Rattle.iscsi_history.specs.Aborts.{is_set_abort, is_complete, completes}
+use Rattle.iscsi_history.specs.rules.Settings.{Setting}
+use Rattle.iscsi_history.specs.rules.Trace.{Arrival, Command, Mark, Voids, Empties, Leaves, ClosesConn, ClosesSession, Trace, first_of, is_received, admits_at, delivers_number, leaves_ticket, live, live_in, is_among}
+use Rattle.iscsi_history.specs.rules.Execution.{exp_of, max_of, NO_TAG, unit_named, verdict_of, marks_of, reply_on}
+use Rattle.iscsi_history.specs.rules.Management.{is_supported, refusal_of_function, answer, held_command, live_with_tag, abort_missing, abort_task, is_before, abort_all, query, function_to, function_marks, management_marks}
+use Rattle.iscsi_history.specs.rules.Logout.{is_open, is_last_open, live_of_units, all_held, taken_out, parting, end_session, close_conn, logout_marks}
+use Rattle.iscsi_history.specs.rules.Items.{marks_after}
+use Rattle.iscsi_history.specs.promises.Aborts.{is_set_abort, is_complete, completes}
 use Rattle.iscsi_history.proofs.BoolLemmas.{or_none, or_false, and_false}
 use Rattle.iscsi_history.proofs.ApartLemmas.{unamong-filter}
 use Rattle.iscsi_history.proofs.ListLemmas.{list_any-map}
-use Rattle.iscsi_history.specs.Meaning.{voids_number}
+use Rattle.iscsi_history.specs.promises.Meaning.{voids_number}
 
 -- ---- marks after the one that begins the item; t has that one
 

@@ -9,12 +9,12 @@ use Rattle.iscsi_history.specs.declared.event.Event.{Event}
 use Rattle.iscsi_history.specs.declared.event.Event.TheVariants.{Arrive, Done}
 use Rattle.iscsi_history.specs.declared.kind.Kind.{Kind}
 use Rattle.iscsi_history.specs.declared.kind.Kind.TheVariants.{PassedOver, Unknown, Executes as ExecutesKind}
-use Rattle.iscsi_history.specs.Settings.{Setting}
-use Rattle.iscsi_history.specs.Trace.{Arrival, Command, Mark, Admits, Leaves, Ignores, Trace, after_items, is_received, number_received, contains, held, waiting, live, was_free, is_closed}
-use Rattle.iscsi_history.specs.Execution.{exp_of, max_of, rejected, ignored, completion, reply_on, sense_of_status}
-use Rattle.iscsi_history.specs.Items.{immediate_item, function_item, item_of, is_waiting, functions, functions_at, turn_at, at_number, agenda}
-use Rattle.iscsi_history.specs.Agenda.{with_turns, numbered, kind_of, arrival_as, arrival_open, arrival, arrival_of, command_of}
-use Rattle.iscsi_history.specs.Run.{after_event, after_events, trace_of}
+use Rattle.iscsi_history.specs.rules.Settings.{Setting}
+use Rattle.iscsi_history.specs.rules.Trace.{Arrival, Command, Mark, Admits, Leaves, Ignores, Trace, after_items, is_received, number_received, contains, held, waiting, live, was_free, is_closed}
+use Rattle.iscsi_history.specs.rules.Execution.{exp_of, max_of, rejected, ignored, completion, reply_on, sense_of_status}
+use Rattle.iscsi_history.specs.rules.Items.{immediate_item, function_item, item_of, is_waiting, functions, functions_at, turn_at, at_number, agenda}
+use Rattle.iscsi_history.specs.rules.Agenda.{with_turns, numbered, kind_of, arrival_as, arrival_open, arrival, arrival_of, command_of}
+use Rattle.iscsi_history.specs.rules.Run.{after_event, after_events, trace_of}
 use Rattle.iscsi_history.proofs.BoolLemmas.{and_parts, or_first}
 use Rattle.iscsi_history.proofs.ListLemmas.{all_of_filter}
 use Rattle.iscsi_history.proofs.ApartLemmas.{unamong-filter}

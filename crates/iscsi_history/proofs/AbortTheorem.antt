@@ -7,19 +7,19 @@ use Rattle.std.proofs.lemmas.Bool.Decides.{nat_tests}
 use Rattle.std.proofs.lemmas.List.Folds.{list_any-append}
 use Rattle.iscsi_wire.specs.Fields.{opcode, function}
 use Rattle.iscsi_history.specs.declared.event.Event.{Event}
-use Rattle.iscsi_history.specs.Settings.{Setting}
-use Rattle.iscsi_history.specs.Trace.{Arrival, Command, Mark, Admits, Delivers, Executes, Voids, Empties, Waits, Leaves, Enters, Sends, ClosesConn, ClosesSession, Ignores, Trace, first_of, has, shown, number_received, contains, is_received, admits_at, admitted, delivers_number, is_delivered, empties_number, is_emptied, held, entered, leaves_ticket, live, live_in, is_among, was_free, enabled_in}
-use Rattle.iscsi_history.specs.Execution.{exp_of}
-use Rattle.iscsi_history.specs.Run.{trace_of, effects_of_item, run_of}
-use Rattle.iscsi_history.specs.Enabling.{is_enable}
-use Rattle.iscsi_history.specs.Replies.{executed_in, replies_to}
-use Rattle.iscsi_history.specs.Aborts.{is_set_abort, IsCompleted, is_in_unit_of, earlier, is_ticket_covered, takes_out, is_number_covered, IsOver, AbortsHold, AbortsHoldIn}
+use Rattle.iscsi_history.specs.rules.Settings.{Setting}
+use Rattle.iscsi_history.specs.rules.Trace.{Arrival, Command, Mark, Admits, Delivers, Executes, Voids, Empties, Waits, Leaves, Enters, Sends, ClosesConn, ClosesSession, Ignores, Trace, first_of, has, shown, number_received, contains, is_received, admits_at, admitted, delivers_number, is_delivered, empties_number, is_emptied, held, entered, leaves_ticket, live, live_in, is_among, was_free, enabled_in}
+use Rattle.iscsi_history.specs.rules.Execution.{exp_of}
+use Rattle.iscsi_history.specs.rules.Run.{trace_of, effects_of_item, run_of}
+use Rattle.iscsi_history.specs.promises.Enabling.{is_enable}
+use Rattle.iscsi_history.specs.promises.Replies.{executed_in, replies_to}
+use Rattle.iscsi_history.specs.promises.Aborts.{is_set_abort, IsCompleted, is_in_unit_of, earlier, is_ticket_covered, takes_out, is_number_covered, IsOver, AbortsHold, AbortsHoldIn}
 use Rattle.iscsi_history.proofs.BoolLemmas.{or_first, or_second, and_parts, not_true}
 use Rattle.iscsi_history.proofs.ElementLemmas.{in-contains}
 use Rattle.iscsi_history.proofs.ApartLemmas.{unamong-filter}
 use Rattle.iscsi_history.proofs.TraceLemmas.{received-item}
 use Rattle.iscsi_history.proofs.MomentLemmas.{left_unlive, item_enables, log_effects}
-use Rattle.iscsi_history.specs.Meaning.{voids_number}
+use Rattle.iscsi_history.specs.promises.Meaning.{voids_number}
 use Rattle.iscsi_history.proofs.AbortLemmas.{Fits, Fit, Stood, stood}
 use Rattle.iscsi_history.proofs.AbortMarks.{none_among}
 use Rattle.iscsi_history.proofs.AbortRuns.{trace_fits}

@@ -8,12 +8,12 @@ use Rattle.iscsi_wire.specs.declared.reply.Reply.TheVariants.{Scsi, Reject}
 use Rattle.iscsi_wire.specs.declared.request.Request.{Request}
 use Rattle.iscsi_wire.specs.Fields.{connection_of, header_of, itt}
 use Rattle.iscsi_history.specs.declared.event.Event.{Event}
-use Rattle.iscsi_history.specs.Settings.{Setting}
-use Rattle.iscsi_history.specs.Trace.{Arrival, Command, Mark, Delivers, Executes, Voids, Empties, Leaves, Enters, Sends, ClosesConn, ClosesSession, Trace}
-use Rattle.iscsi_history.specs.Execution.{sense_of_status}
-use Rattle.iscsi_history.specs.Replies.{executed_in, answered_in, replies_to}
-use Rattle.iscsi_history.specs.Run.{trace_of, run_of}
-use Rattle.iscsi_history.specs.Answers.{Answers, AnswersOnce, AnswersOnceIn}
+use Rattle.iscsi_history.specs.rules.Settings.{Setting}
+use Rattle.iscsi_history.specs.rules.Trace.{Arrival, Command, Mark, Delivers, Executes, Voids, Empties, Leaves, Enters, Sends, ClosesConn, ClosesSession, Trace}
+use Rattle.iscsi_history.specs.rules.Execution.{sense_of_status}
+use Rattle.iscsi_history.specs.promises.Replies.{executed_in, answered_in, replies_to}
+use Rattle.iscsi_history.specs.rules.Run.{trace_of, run_of}
+use Rattle.iscsi_history.specs.promises.Answers.{Answers, AnswersOnce, AnswersOnceIn}
 use Rattle.iscsi_history.proofs.ElementLemmas.{In, in-contains}
 use Rattle.iscsi_history.proofs.MomentLemmas.{log_effects}
 use Rattle.iscsi_history.proofs.CountLemmas.{one, count-one}

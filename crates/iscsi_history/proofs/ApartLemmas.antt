@@ -5,7 +5,7 @@ use Rattle.std.proofs.lemmas.Bool.Decides.{nat_tests}
 use Rattle.std.specs.List.{list_all}
 use Rattle.std.proofs.lemmas.List.Folds.{list_any-append}
 use Rattle.std.proofs.lemmas.List.Sums.{sum_by-cons}
-use Rattle.iscsi_history.specs.Trace.{Command, is_among, first_of, are_apart}
+use Rattle.iscsi_history.specs.rules.Trace.{Command, is_among, first_of, are_apart}
 use Rattle.iscsi_history.proofs.BoolLemmas.{and_parts, and_both, or_none, not_true}
 
 pub eq_sym : (a b : ℕ) → (a == b) ≡ (b == a)

@@ -2,9 +2,9 @@
 use Rattle.std.proofs.Common.{◌≡◌, ◌==◌, ◌&&◌, ◌||◌, cond, Bool, true, false, refl, arith, nat_lt}
 use Rattle.std.proofs.lemmas.Bool.Decides.{nat_tests}
 use Rattle.iscsi_wire.specs.Fields.{is_immediate}
-use Rattle.iscsi_history.specs.Trace.{Arrival, Command}
-use Rattle.iscsi_history.specs.Management.{is_before}
-use Rattle.iscsi_history.specs.Aborts.{came_before}
+use Rattle.iscsi_history.specs.rules.Trace.{Arrival, Command}
+use Rattle.iscsi_history.specs.rules.Management.{is_before}
+use Rattle.iscsi_history.specs.promises.Aborts.{came_before}
 
 -- a command came before a function just where the function's item takes it as earlier
 pub came_is_before : (f : Arrival) (c : Command) → came_before c.arrival f ≡ is_before f c

@@ -11,12 +11,12 @@ use Rattle.iscsi_wire.specs.Fields.{connection_of, header_of, is_immediate, opco
 use Rattle.iscsi_history.specs.declared.effect.Why.{Why}
 use Rattle.iscsi_history.specs.declared.verdict.Verdict.{Verdict}
 use Rattle.iscsi_history.specs.declared.verdict.Verdict.TheVariants.{Nothing, Answer, Enter}
-use Rattle.iscsi_history.specs.Settings.{Setting, is_known}
-use Rattle.iscsi_history.specs.Trace.{Arrival, Command, Mark, Admits, Delivers, Executes, Voids, Empties, Waits, Leaves, Enters, ClosesConn, ClosesSession, Ignores, Trace, has, shown, first_of, is_received, admits_at, delivers_number, is_delivered, empties_number, is_emptied, held, enters, entered, leaves_ticket, live, live_in, closes_conn, closes_session, is_ended, is_closed}
-use Rattle.iscsi_history.specs.Execution.{exp_of, max_of, NO_TAG, unit_named, verdict_of, marks_of, next_command, rejected, reply_on}
-use Rattle.iscsi_history.specs.Management.{may_wait, refusal_of_function, MOST_WAITING, waiting_on, answer, held_command, live_with_tag, abort_missing, abort_task, is_before, abort_all, query, function_to, function_marks, management_marks}
-use Rattle.iscsi_history.specs.Logout.{is_open, is_last_open, live_of_units, all_held, taken_out, parting, end_session, close_conn, logout_marks}
-use Rattle.iscsi_history.specs.Items.{execution, item_of, waiting_item, immediate_item, function_item}
+use Rattle.iscsi_history.specs.rules.Settings.{Setting, is_known}
+use Rattle.iscsi_history.specs.rules.Trace.{Arrival, Command, Mark, Admits, Delivers, Executes, Voids, Empties, Waits, Leaves, Enters, ClosesConn, ClosesSession, Ignores, Trace, has, shown, first_of, is_received, admits_at, delivers_number, is_delivered, empties_number, is_emptied, held, enters, entered, leaves_ticket, live, live_in, closes_conn, closes_session, is_ended, is_closed}
+use Rattle.iscsi_history.specs.rules.Execution.{exp_of, max_of, NO_TAG, unit_named, verdict_of, marks_of, next_command, rejected, reply_on}
+use Rattle.iscsi_history.specs.rules.Management.{may_wait, refusal_of_function, MOST_WAITING, waiting_on, answer, held_command, live_with_tag, abort_missing, abort_task, is_before, abort_all, query, function_to, function_marks, management_marks}
+use Rattle.iscsi_history.specs.rules.Logout.{is_open, is_last_open, live_of_units, all_held, taken_out, parting, end_session, close_conn, logout_marks}
+use Rattle.iscsi_history.specs.rules.Items.{execution, item_of, waiting_item, immediate_item, function_item}
 use Rattle.iscsi_history.proofs.BoolLemmas.{and_parts, or_first, or_second, or_false, not_true}
 use Rattle.iscsi_history.proofs.ApartLemmas.{eq_sym}
 use Rattle.iscsi_history.proofs.TraceLemmas.{live-quiet}

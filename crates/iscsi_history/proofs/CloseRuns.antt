@@ -10,13 +10,13 @@ use Rattle.iscsi_history.specs.declared.event.Event.{Event}
 use Rattle.iscsi_history.specs.declared.event.Event.TheVariants.{Arrive, Done}
 use Rattle.iscsi_history.specs.declared.kind.Kind.{Kind}
 use Rattle.iscsi_history.specs.declared.kind.Kind.TheVariants.{PassedOver, Unknown, Executes as ExecutesKind}
-use Rattle.iscsi_history.specs.Settings.{Setting, is_known}
-use Rattle.iscsi_history.specs.Trace.{Arrival, Command, Mark, Admits, Trace, after_items, first_of, is_received, held, waiting, live, was_free, is_closed}
-use Rattle.iscsi_history.specs.Execution.{exp_of, max_of, unfinished, ignored, completion, sense_of_status}
-use Rattle.iscsi_history.specs.Logout.{is_open}
-use Rattle.iscsi_history.specs.Items.{immediate_item, function_item, item_of, is_waiting, functions, functions_at, turn_at, at_number, agenda}
-use Rattle.iscsi_history.specs.Agenda.{with_turns, numbered, kind_of, arrival_as, arrival_open, arrival, arrival_of, command_of, belongs}
-use Rattle.iscsi_history.specs.Run.{after_event, after_events, trace_of}
+use Rattle.iscsi_history.specs.rules.Settings.{Setting, is_known}
+use Rattle.iscsi_history.specs.rules.Trace.{Arrival, Command, Mark, Admits, Trace, after_items, first_of, is_received, held, waiting, live, was_free, is_closed}
+use Rattle.iscsi_history.specs.rules.Execution.{exp_of, max_of, unfinished, ignored, completion, sense_of_status}
+use Rattle.iscsi_history.specs.rules.Logout.{is_open}
+use Rattle.iscsi_history.specs.rules.Items.{immediate_item, function_item, item_of, is_waiting, functions, functions_at, turn_at, at_number, agenda}
+use Rattle.iscsi_history.specs.rules.Agenda.{with_turns, numbered, kind_of, arrival_as, arrival_open, arrival, arrival_of, command_of, belongs}
+use Rattle.iscsi_history.specs.rules.Run.{after_event, after_events, trace_of}
 use Rattle.iscsi_history.proofs.BoolLemmas.{and_parts, and_both, or_none}
 use Rattle.iscsi_history.proofs.TraceLemmas.{after_items-append}
 use Rattle.iscsi_history.proofs.Missing.{expected_low}

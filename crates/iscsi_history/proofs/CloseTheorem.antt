@@ -7,13 +7,13 @@ use Rattle.std.proofs.lemmas.List.Folds.{list_any-append, list_all-append}
 use Rattle.iscsi_history.specs.declared.effect.Effect.{Effect}
 use Rattle.iscsi_history.specs.declared.effect.Effect.TheVariants.{Enable}
 use Rattle.iscsi_history.specs.declared.event.Event.{Event}
-use Rattle.iscsi_history.specs.Settings.{Setting, is_known}
-use Rattle.iscsi_history.specs.Trace.{Command, Mark, Admits, Delivers, Executes, Voids, Empties, Waits, Leaves, Enters, Sends, ClosesConn, ClosesSession, Ignores, Trace, has, live, live_in, was_free, enabled_in, closes_conn, closes_session, is_ended}
-use Rattle.iscsi_history.specs.Logout.{is_open}
-use Rattle.iscsi_history.specs.Run.{trace_of, effects_of_mark, newly_enabled, effects_of_item, run_of}
-use Rattle.iscsi_history.specs.Agenda.{belongs}
-use Rattle.iscsi_history.specs.Enabling.{effects_so_far}
-use Rattle.iscsi_history.specs.Closes.{is_session_close, is_close_of, is_ignored, is_on, ClosesHold, ClosesHoldIn}
+use Rattle.iscsi_history.specs.rules.Settings.{Setting, is_known}
+use Rattle.iscsi_history.specs.rules.Trace.{Command, Mark, Admits, Delivers, Executes, Voids, Empties, Waits, Leaves, Enters, Sends, ClosesConn, ClosesSession, Ignores, Trace, has, live, live_in, was_free, enabled_in, closes_conn, closes_session, is_ended}
+use Rattle.iscsi_history.specs.rules.Logout.{is_open}
+use Rattle.iscsi_history.specs.rules.Run.{trace_of, effects_of_mark, newly_enabled, effects_of_item, run_of}
+use Rattle.iscsi_history.specs.rules.Agenda.{belongs}
+use Rattle.iscsi_history.specs.promises.Enabling.{effects_so_far}
+use Rattle.iscsi_history.specs.promises.Closes.{is_session_close, is_close_of, is_ignored, is_on, ClosesHold, ClosesHoldIn}
 use Rattle.iscsi_history.proofs.BoolLemmas.{and_both, or_none, or_second, or_comm, or_false, and_false}
 use Rattle.iscsi_history.proofs.MomentLemmas.{log_effects}
 use Rattle.iscsi_history.proofs.ElementLemmas.{In, in-filter, in-append}

@@ -9,11 +9,11 @@ use Rattle.iscsi_wire.specs.Serial.{number_of_first}
 use Rattle.iscsi_history.specs.declared.effect.Effect.TheVariants.{Enable}
 use Rattle.iscsi_history.specs.declared.effect.Why.{Why}
 use Rattle.iscsi_history.specs.declared.event.Event.{Event}
-use Rattle.iscsi_history.specs.Settings.{Setting}
-use Rattle.iscsi_history.specs.Trace.{Arrival, Command, Mark, Admits, Delivers, Executes, Voids, Empties, Waits, Leaves, Enters, Sends, ClosesConn, ClosesSession, Ignores, Trace, after_items, shown, first_of, number_received, received, delivers_number, is_delivered, empties_number, is_emptied, held, admits_at, admitted}
-use Rattle.iscsi_history.specs.Agenda.{items_of}
-use Rattle.iscsi_history.specs.Run.{after_event, after_events, effects_of_mark, newly_enabled, effects_of_item, effects_of, entries_from}
-use Rattle.iscsi_history.specs.Executed.{request_at, executed_below, delivers, delivered_by, delivered}
+use Rattle.iscsi_history.specs.rules.Settings.{Setting}
+use Rattle.iscsi_history.specs.rules.Trace.{Arrival, Command, Mark, Admits, Delivers, Executes, Voids, Empties, Waits, Leaves, Enters, Sends, ClosesConn, ClosesSession, Ignores, Trace, after_items, shown, first_of, number_received, received, delivers_number, is_delivered, empties_number, is_emptied, held, admits_at, admitted}
+use Rattle.iscsi_history.specs.rules.Agenda.{items_of}
+use Rattle.iscsi_history.specs.rules.Run.{after_event, after_events, effects_of_mark, newly_enabled, effects_of_item, effects_of, entries_from}
+use Rattle.iscsi_history.specs.promises.Executed.{request_at, executed_below, delivers, delivered_by, delivered}
 
 -- ---- what the log delivers is what the trace has delivered
 

@@ -3,7 +3,7 @@ use Rattle.std.proofs.Common.{◌≡◌, ℕ, zero, suc, ◌+◌, ◌<◌, ◌�
 use Rattle.std.specs.List.{flat_map, range_with_len, cons_option}
 use Rattle.std.specs.Prelude.{Contains}
 use Rattle.std.proofs.lemmas.Bool.{false≢true, cases_eq}
-use Rattle.iscsi_history.specs.Trace.{first_of}
+use Rattle.iscsi_history.specs.rules.Trace.{first_of}
 
 -- x is an element
 abbrev pub In : {A : Type 0} → A → List A → Type 0

@@ -7,9 +7,9 @@ use Rattle.std.proofs.lemmas.List.Elements.{filter_map-append}
 use Rattle.std.proofs.lemmas.List.Folds.{list_any-append}
 use Rattle.iscsi_wire.specs.declared.reply.Reply.{Reply}
 use Rattle.iscsi_wire.specs.Fields.{connection_of}
-use Rattle.iscsi_history.specs.Settings.{Setting}
-use Rattle.iscsi_history.specs.Trace.{Arrival, Command, Mark, Admits, Delivers, Executes, Voids, Empties, Leaves, Enters, Sends, ClosesConn, ClosesSession, Trace, has, shown, first_of, number_received, contains, is_received, admits_at, admitted, delivers_number, is_delivered, empties_number, is_emptied, held}
-use Rattle.iscsi_history.specs.Meaning.{voids_number, fates_of}
+use Rattle.iscsi_history.specs.rules.Settings.{Setting}
+use Rattle.iscsi_history.specs.rules.Trace.{Arrival, Command, Mark, Admits, Delivers, Executes, Voids, Empties, Leaves, Enters, Sends, ClosesConn, ClosesSession, Trace, has, shown, first_of, number_received, contains, is_received, admits_at, admitted, delivers_number, is_delivered, empties_number, is_emptied, held}
+use Rattle.iscsi_history.specs.promises.Meaning.{voids_number, fates_of}
 use Rattle.iscsi_history.proofs.AbortMarks.{none_mapped, none_viewed}
 use Rattle.iscsi_history.proofs.BoolLemmas.{or_false}
 use Rattle.iscsi_history.proofs.ElementLemmas.{In}

@@ -10,13 +10,13 @@ use Rattle.iscsi_wire.specs.Serial.{lift}
 use Rattle.iscsi_wire.specs.Fields.{attr_code, connection_of, header_of, is_immediate, opcode, function, itt, rtt, cid, ref_cmd_sn}
 use Rattle.iscsi_history.specs.declared.verdict.Verdict.{Verdict}
 use Rattle.iscsi_history.specs.declared.verdict.Verdict.TheVariants.{Nothing, Answer, Enter}
-use Rattle.iscsi_history.specs.Settings.{Setting}
-use Rattle.iscsi_history.specs.Trace.{Arrival, Command, Mark, Delivers, Executes, Voids, Empties, Leaves, Enters, Trace, first_of, received, is_received, held, held_among, entered, live, live_in}
-use Rattle.iscsi_history.specs.Execution.{attr_of, exp_of, max_of, NO_TAG, unit_named, is_tag_live, is_crowded, place_named, verdict_of, reply_on, next_command, marks_of}
-use Rattle.iscsi_history.specs.Management.{refusal_of_function, answer, held_requests, held_command, live_with_tag, abort_missing, abort_task, is_before, abort_all, query, function_to, function_marks, management_marks}
-use Rattle.iscsi_history.specs.Logout.{is_open, is_last_open, live_of_units, all_held, parting, end_session, close_conn, logout_marks}
-use Rattle.iscsi_history.specs.Items.{marks_after}
-use Rattle.iscsi_history.specs.Answers.{Answers}
+use Rattle.iscsi_history.specs.rules.Settings.{Setting}
+use Rattle.iscsi_history.specs.rules.Trace.{Arrival, Command, Mark, Delivers, Executes, Voids, Empties, Leaves, Enters, Trace, first_of, received, is_received, held, held_among, entered, live, live_in}
+use Rattle.iscsi_history.specs.rules.Execution.{attr_of, exp_of, max_of, NO_TAG, unit_named, is_tag_live, is_crowded, place_named, verdict_of, reply_on, next_command, marks_of}
+use Rattle.iscsi_history.specs.rules.Management.{refusal_of_function, answer, held_requests, held_command, live_with_tag, abort_missing, abort_task, is_before, abort_all, query, function_to, function_marks, management_marks}
+use Rattle.iscsi_history.specs.rules.Logout.{is_open, is_last_open, live_of_units, all_held, parting, end_session, close_conn, logout_marks}
+use Rattle.iscsi_history.specs.rules.Items.{marks_after}
+use Rattle.iscsi_history.specs.promises.Answers.{Answers}
 use Rattle.iscsi_history.proofs.ListLemmas.{fewer_counted}
 use Rattle.iscsi_history.proofs.ElementLemmas.{In, in-filter, first-in}
 use Rattle.iscsi_history.proofs.TraceLemmas.{live-quiet}

@@ -9,13 +9,13 @@ use Rattle.iscsi_history.specs.declared.event.Event.{Event}
 use Rattle.iscsi_history.specs.declared.event.Event.TheVariants.{Arrive, Done}
 use Rattle.iscsi_history.specs.declared.kind.Kind.{Kind}
 use Rattle.iscsi_history.specs.declared.kind.Kind.TheVariants.{PassedOver, Unknown, Executes as ExecutesKind}
-use Rattle.iscsi_history.specs.Settings.{Setting}
-use Rattle.iscsi_history.specs.Trace.{Arrival, Command, Mark, Admits, Executes, Ignores, Waits, Trace, after_items, is_received, held, waiting, live, was_free, is_closed}
-use Rattle.iscsi_history.specs.Execution.{exp_of, max_of, rejected, ignored, completion, reply_on}
-use Rattle.iscsi_history.specs.Items.{execution, waiting_item, immediate_item, function_item, item_of, is_waiting, functions, functions_at, turn_at, at_number, agenda}
-use Rattle.iscsi_history.specs.Management.{may_wait, refusal_of_function, MOST_WAITING, waiting_on}
-use Rattle.iscsi_history.specs.Agenda.{with_turns, numbered, kind_of, arrival_as, arrival_open, arrival, arrival_of, command_of}
-use Rattle.iscsi_history.specs.Run.{after_event, after_events, trace_of}
+use Rattle.iscsi_history.specs.rules.Settings.{Setting}
+use Rattle.iscsi_history.specs.rules.Trace.{Arrival, Command, Mark, Admits, Executes, Ignores, Waits, Trace, after_items, is_received, held, waiting, live, was_free, is_closed}
+use Rattle.iscsi_history.specs.rules.Execution.{exp_of, max_of, rejected, ignored, completion, reply_on}
+use Rattle.iscsi_history.specs.rules.Items.{execution, waiting_item, immediate_item, function_item, item_of, is_waiting, functions, functions_at, turn_at, at_number, agenda}
+use Rattle.iscsi_history.specs.rules.Management.{may_wait, refusal_of_function, MOST_WAITING, waiting_on}
+use Rattle.iscsi_history.specs.rules.Agenda.{with_turns, numbered, kind_of, arrival_as, arrival_open, arrival, arrival_of, command_of}
+use Rattle.iscsi_history.specs.rules.Run.{after_event, after_events, trace_of}
 use Rattle.iscsi_history.proofs.ElementLemmas.{in-filter, first-in}
 use Rattle.iscsi_history.proofs.TraceLemmas.{after_items-append}
 use Rattle.iscsi_history.proofs.HeldLemmas.{held-number}

@@ -4,11 +4,11 @@ use Rattle.iscsi_wire.specs.declared.reply.Reply.{Reply}
 use Rattle.iscsi_wire.specs.declared.reply.Reply.TheVariants.{Scsi}
 use Rattle.iscsi_wire.specs.Fields.{connection_of, itt}
 use Rattle.iscsi_history.specs.declared.effect.Why.{Why}
-use Rattle.iscsi_history.specs.Settings.{Setting}
-use Rattle.iscsi_history.specs.Trace.{Arrival, Command, Mark, Admits, Delivers, Executes, Voids, Empties, Waits, Leaves, Enters, Sends, ClosesConn, ClosesSession, Ignores, Trace, is_received, held, live}
-use Rattle.iscsi_history.specs.Execution.{rejected, reply_on, sense_of_status, next_command}
-use Rattle.iscsi_history.specs.Items.{is_waiting}
-use Rattle.iscsi_history.specs.Answers.{Answers}
+use Rattle.iscsi_history.specs.rules.Settings.{Setting}
+use Rattle.iscsi_history.specs.rules.Trace.{Arrival, Command, Mark, Admits, Delivers, Executes, Voids, Empties, Waits, Leaves, Enters, Sends, ClosesConn, ClosesSession, Ignores, Trace, is_received, held, live}
+use Rattle.iscsi_history.specs.rules.Execution.{rejected, reply_on, sense_of_status, next_command}
+use Rattle.iscsi_history.specs.rules.Items.{is_waiting}
+use Rattle.iscsi_history.specs.promises.Answers.{Answers}
 use Rattle.iscsi_history.proofs.ElementLemmas.{In}
 
 -- how a request comes to execute

@@ -8,11 +8,11 @@ use Rattle.std.proofs.lemmas.List.Elements.{filter-append, filter_map-append}
 use Rattle.std.proofs.lemmas.List.Sums.{sum_by-cons}
 use Rattle.iscsi_history.specs.declared.effect.Effect.{Effect}
 use Rattle.iscsi_history.specs.declared.event.Event.{Event}
-use Rattle.iscsi_history.specs.Settings.{Setting}
-use Rattle.iscsi_history.specs.Trace.{Command, Mark, Admits, Delivers, Executes, Voids, Empties, Waits, Leaves, Enters, Sends, ClosesConn, ClosesSession, Ignores, Trace, has, enters, entered, leaves_ticket, live, is_among, was_free, is_free_at}
-use Rattle.iscsi_history.specs.Run.{effects_of_mark, newly_enabled, effects_of_item, trace_of, run_of}
-use Rattle.iscsi_history.specs.Enabling.{effects_so_far, effects_in}
-use Rattle.iscsi_history.specs.Lives.{ticket_entered, tickets_entered, names_ticket, life_of, is_life, StartsOnce}
+use Rattle.iscsi_history.specs.rules.Settings.{Setting}
+use Rattle.iscsi_history.specs.rules.Trace.{Command, Mark, Admits, Delivers, Executes, Voids, Empties, Waits, Leaves, Enters, Sends, ClosesConn, ClosesSession, Ignores, Trace, has, enters, entered, leaves_ticket, live, is_among, was_free, is_free_at}
+use Rattle.iscsi_history.specs.rules.Run.{effects_of_mark, newly_enabled, effects_of_item, trace_of, run_of}
+use Rattle.iscsi_history.specs.promises.Enabling.{effects_so_far, effects_in}
+use Rattle.iscsi_history.specs.promises.Lives.{ticket_entered, tickets_entered, names_ticket, life_of, is_life, StartsOnce}
 use Rattle.iscsi_history.proofs.ElementLemmas.{In, in-filter}
 use Rattle.iscsi_history.proofs.TraceLemmas.{live-item}
 use Rattle.iscsi_history.proofs.NewlyLemmas.{never_free}

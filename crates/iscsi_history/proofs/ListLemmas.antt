@@ -6,7 +6,7 @@ use Rattle.std.proofs.lemmas.Bool.Decides.{nat_tests}
 use Rattle.std.specs.Prelude.{IsSome}
 use Rattle.std.proofs.lemmas.List.Folds.{list_any-append}
 use Rattle.std.proofs.lemmas.List.Sums.{sum_by-cons, sum_by-append}
-use Rattle.iscsi_history.specs.Settings.{is_known}
+use Rattle.iscsi_history.specs.rules.Settings.{is_known}
 use Rattle.iscsi_history.proofs.BoolLemmas.{and_first, and_second, and_parts, and_both}
 
 -- ---- tests of lists

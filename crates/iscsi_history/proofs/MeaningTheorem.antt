@@ -5,10 +5,10 @@ use Rattle.std.proofs.lemmas.Bool.{false≢true, eqb-true}
 use Rattle.std.proofs.lemmas.List.Folds.{list_any-append}
 use Rattle.std.proofs.lemmas.List.Sums.{sum_by-cons}
 use Rattle.iscsi_history.specs.declared.event.Event.{Event}
-use Rattle.iscsi_history.specs.Settings.{Setting}
-use Rattle.iscsi_history.specs.Trace.{Command, Trace, has, enters, entered, leaves_ticket, live, is_among}
-use Rattle.iscsi_history.specs.Run.{trace_of}
-use Rattle.iscsi_history.specs.Meaning.{MeansWhatItSays}
+use Rattle.iscsi_history.specs.rules.Settings.{Setting}
+use Rattle.iscsi_history.specs.rules.Trace.{Command, Trace, has, enters, entered, leaves_ticket, live, is_among}
+use Rattle.iscsi_history.specs.rules.Run.{trace_of}
+use Rattle.iscsi_history.specs.promises.Meaning.{MeansWhatItSays}
 use Rattle.iscsi_history.proofs.ListLemmas.{any_filter}
 use Rattle.iscsi_history.proofs.BoolLemmas.{or_first, and_first, and_true, and_false}
 use Rattle.iscsi_history.proofs.Missing.{expected_low, expected_gone, expected_below}

@@ -6,7 +6,7 @@ use Rattle.std.proofs.lemmas.Bool.Decides.{nat_tests}
 use Rattle.std.proofs.lemmas.List.{length-map}
 use Rattle.std.specs.List.{list_any}
 use Rattle.iscsi_wire.specs.Serial.{number_of_first}
-use Rattle.iscsi_history.specs.Trace.{Trace, contains, is_received, received, least_missing, expected}
+use Rattle.iscsi_history.specs.rules.Trace.{Trace, contains, is_received, received, least_missing, expected}
 
 module _ (ns : List ℕ) where
   -- all numbers before the answer are in the list

@@ -6,13 +6,13 @@ use Rattle.std.proofs.lemmas.List.{append-nil}
 use Rattle.std.proofs.lemmas.List.Folds.{list_any-append}
 use Rattle.iscsi_history.specs.declared.effect.Effect.{Effect}
 use Rattle.iscsi_history.specs.declared.effect.Effect.TheVariants.{Enable}
-use Rattle.iscsi_history.specs.Settings.{Setting}
-use Rattle.iscsi_history.specs.Trace.{Command, Mark, Trace, has, entered, leaves_ticket, live, is_among, is_free_at, was_free, Admits, Delivers, Executes, Voids, Empties, Waits, Leaves, Enters, Sends, ClosesConn, ClosesSession, Ignores, after_items}
-use Rattle.iscsi_history.specs.Run.{newly_enabled, after_event, after_events, effects_of_mark, effects_of_item, effects_of, entries_from}
+use Rattle.iscsi_history.specs.rules.Settings.{Setting}
+use Rattle.iscsi_history.specs.rules.Trace.{Command, Mark, Trace, has, entered, leaves_ticket, live, is_among, is_free_at, was_free, Admits, Delivers, Executes, Voids, Empties, Waits, Leaves, Enters, Sends, ClosesConn, ClosesSession, Ignores, after_items}
+use Rattle.iscsi_history.specs.rules.Run.{newly_enabled, after_event, after_events, effects_of_mark, effects_of_item, effects_of, entries_from}
 use Rattle.iscsi_history.proofs.BoolLemmas.{or_first, or_second}
 use Rattle.iscsi_history.specs.declared.event.Event.{Event}
-use Rattle.iscsi_history.specs.Agenda.{items_of}
-use Rattle.iscsi_history.specs.Enabling.{effects_so_far, is_enable, FreeMoment, effects_in}
+use Rattle.iscsi_history.specs.rules.Agenda.{items_of}
+use Rattle.iscsi_history.specs.promises.Enabling.{effects_so_far, is_enable, FreeMoment, effects_in}
 use Rattle.iscsi_history.proofs.ListLemmas.{list_any-map}
 
 -- one that is in its set and free now was free at some moment so far

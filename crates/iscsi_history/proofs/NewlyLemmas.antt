@@ -7,9 +7,9 @@ use Rattle.std.proofs.lemmas.List.{append-nil, map-append}
 use Rattle.std.proofs.lemmas.List.Elements.{filter-append}
 use Rattle.std.proofs.lemmas.List.Folds.{list_any-append}
 use Rattle.iscsi_tasks.specs.Sets.{Queued, bars, is_free}
-use Rattle.iscsi_history.specs.Settings.{Setting}
-use Rattle.iscsi_history.specs.Trace.{Command, Mark, Trace, has, enters, entered, leaves_ticket, live, live_in, is_among, queued_of, is_free_at, was_free, enabled_in}
-use Rattle.iscsi_history.specs.Run.{newly_enabled}
+use Rattle.iscsi_history.specs.rules.Settings.{Setting}
+use Rattle.iscsi_history.specs.rules.Trace.{Command, Mark, Trace, has, enters, entered, leaves_ticket, live, live_in, is_among, queued_of, is_free_at, was_free, enabled_in}
+use Rattle.iscsi_history.specs.rules.Run.{newly_enabled}
 use Rattle.iscsi_history.proofs.BoolLemmas.{and_parts, and_both, or_none, not_true, or_first, or_second, and_false, and_comm, and_true}
 use Rattle.iscsi_history.proofs.ApartLemmas.{unamong-filter}
 use Rattle.iscsi_history.proofs.TraceLemmas.{all_among, live-quiet}

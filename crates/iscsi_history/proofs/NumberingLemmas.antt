@@ -13,12 +13,12 @@ use Rattle.iscsi_wire.specs.Fields.{connection_of, itt}
 use Rattle.iscsi_history.specs.declared.effect.Why.{Why}
 use Rattle.iscsi_history.specs.declared.effect.Effect.TheVariants.{Enable}
 use Rattle.iscsi_history.specs.declared.event.Event.{Event}
-use Rattle.iscsi_history.specs.Settings.{Setting}
-use Rattle.iscsi_history.specs.Trace.{Arrival, Command, Mark, Admits, Delivers, Executes, Voids, Empties, Waits, Leaves, Enters, Sends, ClosesConn, ClosesSession, Ignores, Trace, shown, sent_on}
-use Rattle.iscsi_history.specs.Execution.{reply_on, sense_of_status}
-use Rattle.iscsi_history.specs.Run.{first_stat_sn, stat_sn_of, effects_of_mark, newly_enabled, effects_of_item, trace_of, run_of}
-use Rattle.iscsi_history.specs.Enabling.{effects_so_far, effects_in}
-use Rattle.iscsi_history.specs.Numbering.{stat_sn_shown, stat_sns_on, CountsReplies}
+use Rattle.iscsi_history.specs.rules.Settings.{Setting}
+use Rattle.iscsi_history.specs.rules.Trace.{Arrival, Command, Mark, Admits, Delivers, Executes, Voids, Empties, Waits, Leaves, Enters, Sends, ClosesConn, ClosesSession, Ignores, Trace, shown, sent_on}
+use Rattle.iscsi_history.specs.rules.Execution.{reply_on, sense_of_status}
+use Rattle.iscsi_history.specs.rules.Run.{first_stat_sn, stat_sn_of, effects_of_mark, newly_enabled, effects_of_item, trace_of, run_of}
+use Rattle.iscsi_history.specs.promises.Enabling.{effects_so_far, effects_in}
+use Rattle.iscsi_history.specs.promises.Numbering.{stat_sn_shown, stat_sns_on, CountsReplies}
 use Rattle.iscsi_history.proofs.AbortMarks.{none_viewed}
 use Rattle.iscsi_history.proofs.DeliveryLemmas.{range_more}
 use Rattle.iscsi_history.proofs.MomentLemmas.{log_effects}

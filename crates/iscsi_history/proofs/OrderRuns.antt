@@ -13,13 +13,13 @@ use Rattle.iscsi_history.specs.declared.event.Event.{Event}
 use Rattle.iscsi_history.specs.declared.event.Event.TheVariants.{Arrive, Done}
 use Rattle.iscsi_history.specs.declared.kind.Kind.{Kind}
 use Rattle.iscsi_history.specs.declared.kind.Kind.TheVariants.{PassedOver, Unknown, Executes as ExecutesKind}
-use Rattle.iscsi_history.specs.Settings.{Setting}
-use Rattle.iscsi_history.specs.Trace.{Arrival, Mark, Admits, Delivers, Executes, Trace, after_items, is_received, held, waiting, is_closed}
-use Rattle.iscsi_history.specs.Execution.{exp_of, max_of, rejected, ignored, completion}
-use Rattle.iscsi_history.specs.Items.{immediate_item, function_item, item_of, is_waiting, functions, functions_at, turn_at, at_number, agenda}
-use Rattle.iscsi_history.specs.Agenda.{with_turns, kind_of, arrival, arrival_of, command_of, items_of}
-use Rattle.iscsi_history.specs.Run.{after_event, effects_of_item, effects_of, entries_from, run_of}
-use Rattle.iscsi_history.specs.Order.{is_request, rank, never_falls, onto_first, in_parts, IsInOrder, AreInOrder, KeepsOrder}
+use Rattle.iscsi_history.specs.rules.Settings.{Setting}
+use Rattle.iscsi_history.specs.rules.Trace.{Arrival, Mark, Admits, Delivers, Executes, Trace, after_items, is_received, held, waiting, is_closed}
+use Rattle.iscsi_history.specs.rules.Execution.{exp_of, max_of, rejected, ignored, completion}
+use Rattle.iscsi_history.specs.rules.Items.{immediate_item, function_item, item_of, is_waiting, functions, functions_at, turn_at, at_number, agenda}
+use Rattle.iscsi_history.specs.rules.Agenda.{with_turns, kind_of, arrival, arrival_of, command_of, items_of}
+use Rattle.iscsi_history.specs.rules.Run.{after_event, effects_of_item, effects_of, entries_from, run_of}
+use Rattle.iscsi_history.specs.promises.Order.{is_request, rank, never_falls, onto_first, in_parts, IsInOrder, AreInOrder, KeepsOrder}
 use Rattle.iscsi_history.proofs.BoolLemmas.{and_parts, and_both}
 use Rattle.iscsi_history.proofs.Forms.{HasForm, HaveForms}
 use Rattle.iscsi_history.proofs.FormRuns.{event_going}

@@ -3,9 +3,9 @@ use Rattle.std.proofs.Common.{◌≡◌, ℕ, ◌+◌, ◌<◌, ◌≤◌, ◌&&
 use Rattle.std.proofs.lemmas.List.{append-nil}
 use Rattle.std.specs.List.{filter_map}
 use Rattle.iscsi_wire.specs.declared.reply.Reply.{Reply}
-use Rattle.iscsi_history.specs.Settings.{Setting}
-use Rattle.iscsi_history.specs.Trace.{Arrival, Command, Trace, has, shown, admits_at, admitted, is_delivered, entered, leaves_ticket, live}
-use Rattle.iscsi_history.specs.Replies.{is_answer_to, reply_sent, replies_to}
+use Rattle.iscsi_history.specs.rules.Settings.{Setting}
+use Rattle.iscsi_history.specs.rules.Trace.{Arrival, Command, Trace, has, shown, admits_at, admitted, is_delivered, entered, leaves_ticket, live}
+use Rattle.iscsi_history.specs.promises.Replies.{is_answer_to, reply_sent, replies_to}
 use Rattle.iscsi_history.proofs.BoolLemmas.{and_second}
 use Rattle.iscsi_history.proofs.ElementLemmas.{In, filter-in, first-in}
 use Rattle.iscsi_history.proofs.HeldLemmas.{admitted-number}

@@ -6,8 +6,8 @@ use Rattle.std.proofs.lemmas.List.{append-nil}
 use Rattle.std.proofs.lemmas.List.Elements.{filter-append}
 use Rattle.std.proofs.lemmas.List.Sums.{sum_by-append}
 use Rattle.iscsi_wire.specs.Fields.{connection_of}
-use Rattle.iscsi_history.specs.Settings.{Setting}
-use Rattle.iscsi_history.specs.Trace.{Arrival, Mark, Admits, Delivers, Executes, Voids, Empties, Waits, Leaves, Enters, Sends, ClosesConn, ClosesSession, Ignores, Trace, shown, admits_at, admitted, delivers_number, is_delivered, is_emptied, held, waiting_by, waiting_through, waiting}
+use Rattle.iscsi_history.specs.rules.Settings.{Setting}
+use Rattle.iscsi_history.specs.rules.Trace.{Arrival, Mark, Admits, Delivers, Executes, Voids, Empties, Waits, Leaves, Enters, Sends, ClosesConn, ClosesSession, Ignores, Trace, shown, admits_at, admitted, delivers_number, is_delivered, is_emptied, held, waiting_by, waiting_through, waiting}
 use Rattle.iscsi_history.proofs.BoolLemmas.{and_parts, and_both}
 use Rattle.iscsi_history.proofs.ListLemmas.{fewer_counted, count_by-push}
 use Rattle.iscsi_history.proofs.CountLemmas.{one, count-cons, count-filter, count-weaker, count-lost, count-split}

@@ -1,9 +1,9 @@
 -- A run with one event more.
 use Rattle.std.proofs.Common.{◌≡◌, ℕ, suc, ◌+◌, List, [], ◌∷◌, ◌++◌, length, ap, ◌∙◌, arith}
 use Rattle.iscsi_history.specs.declared.event.Event.{Event}
-use Rattle.iscsi_history.specs.Settings.{Setting}
-use Rattle.iscsi_history.specs.Trace.{Trace}
-use Rattle.iscsi_history.specs.Run.{after_event, after_events, trace_of, entry_of, entries_from, run_of, next_entry}
+use Rattle.iscsi_history.specs.rules.Settings.{Setting}
+use Rattle.iscsi_history.specs.rules.Trace.{Trace}
+use Rattle.iscsi_history.specs.rules.Run.{after_event, after_events, trace_of, entry_of, entries_from, run_of, next_entry}
 
 pub after_events-push : (o : Setting) (event : ℕ) (t : Trace) (h : List Event) (e : Event)
     → after_events o event t (h ++ e ∷ []) ≡ after_event o (event + length h) (after_events o event t h) e

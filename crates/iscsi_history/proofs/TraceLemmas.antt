@@ -5,7 +5,7 @@ use Rattle.std.proofs.lemmas.Bool.{false≢true}
 use Rattle.std.proofs.lemmas.List.{append-nil}
 use Rattle.std.proofs.lemmas.List.Elements.{filter-append}
 use Rattle.std.proofs.lemmas.List.Folds.{list_any-append}
-use Rattle.iscsi_history.specs.Trace.{Command, Mark, Trace, Admits, Delivers, Executes, Voids, Empties, Waits, Leaves, Enters, Sends, ClosesConn, ClosesSession, Ignores, after_items, has, shown, enters, entered, leaves_ticket, live, is_among, received, is_received, contains, number_received, admits_at}
+use Rattle.iscsi_history.specs.rules.Trace.{Command, Mark, Trace, Admits, Delivers, Executes, Voids, Empties, Waits, Leaves, Enters, Sends, ClosesConn, ClosesSession, Ignores, after_items, has, shown, enters, entered, leaves_ticket, live, is_among, received, is_received, contains, number_received, admits_at}
 use Rattle.iscsi_history.proofs.BoolLemmas.{and_both, or_none, or_second}
 
 -- ---- filters

@@ -5,9 +5,9 @@ use Rattle.std.proofs.lemmas.Bool.{false≢true, eqb-true, or_cases}
 use Rattle.std.proofs.lemmas.List.Folds.{list_any-append}
 use Rattle.iscsi_wire.specs.declared.reply.Reply.{Reply}
 use Rattle.iscsi_wire.specs.Fields.{connection_of}
-use Rattle.iscsi_history.specs.Settings.{Setting}
-use Rattle.iscsi_history.specs.Trace.{Arrival, Command, Mark, Voids, Empties, Leaves, Enters, Sends, ClosesConn, ClosesSession, Trace, admitted, delivers_number, is_delivered, empties_number, is_emptied, held}
-use Rattle.iscsi_history.specs.Replies.{executed_in}
+use Rattle.iscsi_history.specs.rules.Settings.{Setting}
+use Rattle.iscsi_history.specs.rules.Trace.{Arrival, Command, Mark, Voids, Empties, Leaves, Enters, Sends, ClosesConn, ClosesSession, Trace, admitted, delivers_number, is_delivered, empties_number, is_emptied, held}
+use Rattle.iscsi_history.specs.promises.Replies.{executed_in}
 use Rattle.iscsi_history.proofs.BoolLemmas.{or_false}
 use Rattle.iscsi_history.proofs.ListLemmas.{list_any-map}
 use Rattle.iscsi_history.proofs.ElementLemmas.{In}

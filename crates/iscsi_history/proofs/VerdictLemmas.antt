@@ -7,11 +7,11 @@ use Rattle.iscsi_wire.specs.declared.reply.Reply.TheVariants.{Scsi, Task, Nop, R
 use Rattle.iscsi_wire.specs.Fields.{header_of, opcode, attr_code, function, itt, lun, unit_of}
 use Rattle.iscsi_history.specs.declared.verdict.Verdict.{Verdict}
 use Rattle.iscsi_history.specs.declared.verdict.Verdict.TheVariants.{Nothing, Answer, Enter as EnterUnit}
-use Rattle.iscsi_history.specs.Settings.{Setting}
-use Rattle.iscsi_history.specs.Trace.{Arrival, Trace}
-use Rattle.iscsi_history.specs.Execution.{is_tag_live, is_full, is_crowded, place_named, verdict_of, no_unit, unit_named, scsi_to, scsi_verdict, nop_verdict, request_verdict}
-use Rattle.iscsi_history.specs.Management.{is_supported, refusal_to}
-use Rattle.iscsi_history.specs.Answers.{Answers}
+use Rattle.iscsi_history.specs.rules.Settings.{Setting}
+use Rattle.iscsi_history.specs.rules.Trace.{Arrival, Trace}
+use Rattle.iscsi_history.specs.rules.Execution.{is_tag_live, is_full, is_crowded, place_named, verdict_of, no_unit, unit_named, scsi_to, scsi_verdict, nop_verdict, request_verdict}
+use Rattle.iscsi_history.specs.rules.Management.{is_supported, refusal_to}
+use Rattle.iscsi_history.specs.promises.Answers.{Answers}
 
 -- ---- the verdict
 

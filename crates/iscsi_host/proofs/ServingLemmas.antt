@@ -3,14 +3,14 @@ use Rattle.std.proofs.Common.{◌≡◌, ◌≢◌, ◌∙◌, ◌≤◌, ◌+�
 use Rattle.iscsi_history.specs.declared.effect.Effect.{Effect}
 use Rattle.iscsi_history.specs.declared.effect.Numbers.{Numbers}
 use Rattle.iscsi_history.specs.declared.event.Event.{Event}
-use Rattle.iscsi_history.specs.Settings.{Setting}
-use Rattle.iscsi_history.specs.Run.{run_of, next_entry, numbers_of}
+use Rattle.iscsi_history.specs.rules.Settings.{Setting}
+use Rattle.iscsi_history.specs.rules.Run.{run_of, next_entry, numbers_of}
 use Rattle.iscsi_history.proofs.RunLemmas.{run_of-push, trace_of-push}
 use Rattle.iscsi_session.specs.declared.fault.SessionFault.{SessionFault}
 use Rattle.iscsi_session.specs.declared.fault.SessionFault.TheVariants.{NoMemory}
-use Rattle.iscsi_session.specs.Refusals.{RefusesAs, refusal_of}
-use Rattle.iscsi_session.specs.Standing.{Core, StandsFor, most_effects}
-use Rattle.iscsi_session.specs.Steps.{refusal_by}
+use Rattle.iscsi_session.specs.promises.Refusals.{RefusesAs, refusal_of}
+use Rattle.iscsi_session.specs.promises.Standing.{Core, StandsFor, most_effects}
+use Rattle.iscsi_session.specs.private.Steps.{refusal_by}
 use Rattle.iscsi_session.proofs.StepLemmas.{refusal_is}
 use Rattle.iscsi_host.specs.Serving.{Hosted, Serves, last_effects}
 use Rattle.iscsi_host.proofs.EffectLemmas.{last_effects-push}

@@ -4,8 +4,8 @@ use Rattle.iscsi_session.specs.declared.fault.SessionFault.{SessionFault}
 use Rattle.iscsi_session.specs.declared.fault.SessionFault.TheVariants as faults
 use Rattle.iscsi_history.specs.declared.event.Event.{Event}
 use Rattle.iscsi_history.specs.declared.event.Event.TheVariants.{Arrive}
-use Rattle.iscsi_history.specs.Settings.{Setting}
-use Rattle.iscsi_session.specs.Refusals.{refusal_of}
+use Rattle.iscsi_history.specs.rules.Settings.{Setting}
+use Rattle.iscsi_session.specs.promises.Refusals.{refusal_of}
 use Rattle.iscsi_host.specs.declared.plain.PlainEffect.{PlainEffect}
 use Rattle.iscsi_host.specs.declared.plain.PlainNumbers.{PlainNumbers}
 use Rattle.iscsi_host.specs.Serving.{Hosted}

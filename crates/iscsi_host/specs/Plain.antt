@@ -13,7 +13,7 @@ use Rattle.iscsi_history.specs.declared.effect.Effect.TheVariants.{Deliver, Imme
 use Rattle.iscsi_history.specs.declared.effect.Numbers.{Numbers}
 use Rattle.iscsi_history.specs.declared.effect.Why.{Why}
 use Rattle.iscsi_history.specs.declared.effect.Why.TheVariants.{Outside, Duplicate, Closed, Stale, Data}
-use Rattle.iscsi_history.specs.Settings.{Setting}
+use Rattle.iscsi_history.specs.rules.Settings.{Setting}
 use Rattle.iscsi_host.specs.declared.options.PlainOptions.{PlainOptions}
 use Rattle.iscsi_host.specs.declared.options.PlainConnection.{PlainConnection}
 use Rattle.iscsi_host.specs.declared.plain.PlainEffect.{PlainEffect}

@@ -4,10 +4,10 @@ use Rattle.iscsi_history.specs.declared.effect.Effect.{Effect}
 use Rattle.iscsi_history.specs.declared.effect.Numbers.{Numbers}
 use Rattle.iscsi_history.specs.declared.entry.Entry.{Entry}
 use Rattle.iscsi_history.specs.declared.event.Event.{Event}
-use Rattle.iscsi_history.specs.Settings.{Setting}
-use Rattle.iscsi_history.specs.Run.{run_of, trace_of, numbers_of}
+use Rattle.iscsi_history.specs.rules.Settings.{Setting}
+use Rattle.iscsi_history.specs.rules.Run.{run_of, trace_of, numbers_of}
 use Rattle.iscsi_session.specs.declared.fault.SessionFault.{SessionFault}
-use Rattle.iscsi_session.specs.Standing.{Core, StandsFor, most_effects}
+use Rattle.iscsi_session.specs.promises.Standing.{Core, StandsFor, most_effects}
 
 -- a host as its callers see it
 pub record Hosted : Type 0 where

@@ -1,8 +1,8 @@
 //! The handle by which C and plain Rust keep a session.
 
 ghost use Rattle.std.specs.Prelude.{◌≡◌, ◌≢◌, List, [], ◌∷◌, ◌++◌, Option, Some, None, IfOk, is_some, option_map, length, take};
-ghost use Rattle.iscsi_history.specs.Settings.{Setting, is_valid};
-ghost use Rattle.iscsi_session.specs.Refusals.{refusal_of};
+ghost use Rattle.iscsi_history.specs.rules.Settings.{Setting, is_valid};
+ghost use Rattle.iscsi_session.specs.promises.Refusals.{refusal_of};
 ghost use Rattle.iscsi_host.specs.Serving.{Serves, ServesIn, effects_in};
 ghost use Rattle.iscsi_host.specs.Answers.{answer_of, arrival_answer, closed_arrival_answer, closing_answer, answer_in, effect_in, written_over, numbers_in, MayRefuseAs, OpensAs};
 ghost use Rattle.iscsi_host.specs.Plain.{plain_setting};

@@ -1,10 +1,10 @@
 //! A session with the effects of its last event.
 
 ghost use Rattle.std.specs.Prelude.{◌≡◌, ◌+◌, ◌*◌, ℕ, List, [], ◌∷◌, ◌++◌, OnOk, OnErr, IfOk, Option, Some, None, true, is_some, unwrap_or, length, take, vec_capacity};
-ghost use Rattle.iscsi_history.specs.Settings.{Setting, is_valid};
-ghost use Rattle.iscsi_session.specs.Settings.{setting_of};
-ghost use Rattle.iscsi_session.specs.Refusals.{RefusesAs, refusal_of, refusal_of_options};
-ghost use Rattle.iscsi_session.specs.Standing.{most_effects};
+ghost use Rattle.iscsi_history.specs.rules.Settings.{Setting, is_valid};
+ghost use Rattle.iscsi_session.specs.promises.Settings.{setting_of};
+ghost use Rattle.iscsi_session.specs.promises.Refusals.{RefusesAs, refusal_of, refusal_of_options};
+ghost use Rattle.iscsi_session.specs.promises.Standing.{most_effects};
 ghost use Rattle.iscsi_host.specs.Serving.{Serves, fault_of};
 ghost use Rattle.iscsi_host.specs.Plain.{plain_at, executing as executing_in, last_executing, plain_numbers};
 

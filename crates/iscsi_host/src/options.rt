@@ -1,7 +1,7 @@
 //! The options of a session, as C gives them.
 
 ghost use Rattle.std.specs.Prelude.{◌≡◌, IfSome, map};
-ghost use Rattle.iscsi_session.specs.Settings.{setting_of};
+ghost use Rattle.iscsi_session.specs.promises.Settings.{setting_of};
 ghost use Rattle.iscsi_host.specs.Plain.{plain_setting, connection_pair};
 
 use iscsi_session::Options;

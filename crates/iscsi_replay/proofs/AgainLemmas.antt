@@ -12,7 +12,7 @@ use Rattle.iscsi_history.specs.declared.effect.Numbers.{Numbers}
 use Rattle.iscsi_history.specs.declared.event.Event.{Event}
 use Rattle.iscsi_history.specs.declared.event.Event.TheVariants.{Arrive, Done}
 use Rattle.iscsi_history.specs.declared.entry.Entry.{Entry}
-use Rattle.iscsi_history.specs.Settings.{is_known, are_distinct}
+use Rattle.iscsi_history.specs.rules.Settings.{is_known, are_distinct}
 use Rattle.iscsi_report.specs.Lines.{eight_digits, event_line, effect_text, effect_line, entry_lines, report_from}
 use Rattle.iscsi_replay.specs.declared.line.Line.TheVariants as line
 use Rattle.iscsi_replay.specs.Fields.{decimal_of, hex_of}

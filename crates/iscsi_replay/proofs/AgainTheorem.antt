@@ -12,9 +12,9 @@ use Rattle.hex.specs.declared.error.FromHexError.{FromHexError}
 use Rattle.hex.proofs.HexLemmas.{decode_sized-ok, decode_sized-twice, decode_of-ok}
 use Rattle.iscsi_history.specs.declared.event.Event.{Event}
 use Rattle.iscsi_history.specs.declared.event.Event.TheVariants.{Arrive, Done}
-use Rattle.iscsi_history.specs.Settings.{is_known}
+use Rattle.iscsi_history.specs.rules.Settings.{is_known}
 use Rattle.iscsi_report.specs.Lines.{report_from}
-use Rattle.iscsi_history.specs.Run.{run_of}
+use Rattle.iscsi_history.specs.rules.Run.{run_of}
 use Rattle.iscsi_replay.specs.declared.line.Line.{Line}
 use Rattle.iscsi_replay.specs.declared.line.Line.TheVariants as line
 use Rattle.iscsi_replay.specs.declared.fault.ReplayFault.{ReplayFault}

@@ -8,9 +8,9 @@ use Rattle.iscsi_history.specs.declared.event.Event.{Event}
 use Rattle.iscsi_history.specs.declared.event.Event.TheVariants.{Arrive, Done}
 use Rattle.iscsi_session.specs.declared.fault.SessionFault.{SessionFault}
 use Rattle.iscsi_session.specs.declared.fault.SessionFault.TheVariants.{NoMemory}
-use Rattle.iscsi_history.specs.Settings.{Setting, is_valid}
-use Rattle.iscsi_session.specs.Refusals.{RefusesAs, refusal_of, refusal_of_options}
-use Rattle.iscsi_history.specs.Agenda.{belongs}
+use Rattle.iscsi_history.specs.rules.Settings.{Setting, is_valid}
+use Rattle.iscsi_session.specs.promises.Refusals.{RefusesAs, refusal_of, refusal_of_options}
+use Rattle.iscsi_history.specs.rules.Agenda.{belongs}
 use Rattle.iscsi_replay.specs.Recorded.{belongs_to}
 
 -- where nothing is refused, a refusal is want of memory

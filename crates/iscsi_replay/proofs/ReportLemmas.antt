@@ -7,8 +7,8 @@ use Rattle.iscsi_history.specs.declared.effect.Effect.{Effect}
 use Rattle.iscsi_history.specs.declared.effect.Numbers.{Numbers}
 use Rattle.iscsi_history.specs.declared.event.Event.{Event}
 use Rattle.iscsi_history.specs.declared.entry.Entry.{Entry}
-use Rattle.iscsi_history.specs.Settings.{Setting}
-use Rattle.iscsi_history.specs.Run.{next_entry}
+use Rattle.iscsi_history.specs.rules.Settings.{Setting}
+use Rattle.iscsi_history.specs.rules.Run.{next_entry}
 use Rattle.iscsi_report.specs.Lines.{event_line, effect_line, entry_lines}
 use Rattle.iscsi_report.proofs.LineLemmas.{report_of-push}
 use Rattle.iscsi_replay.specs.declared.settings.Settings.{Settings}

@@ -15,14 +15,14 @@ use Rattle.iscsi_history.specs.declared.kind.Kind.{Kind}
 use Rattle.iscsi_history.specs.declared.kind.Kind.TheVariants.{PassedOver, Unknown, Executes as ExecutesKind}
 use Rattle.iscsi_history.specs.declared.verdict.Verdict.{Verdict}
 use Rattle.iscsi_history.specs.declared.verdict.Verdict.TheVariants.{Nothing, Answer, Enter}
-use Rattle.iscsi_history.specs.Settings.{Setting}
-use Rattle.iscsi_history.specs.Trace.{Arrival, Command, Mark, Admits, Delivers, Executes, Voids, Empties, Waits, Leaves, Enters, Sends, ClosesConn, ClosesSession, Ignores, Trace, after_items, shown, first_of, admits_at, is_delivered, is_emptied, is_received, admitted, held, waiting, live_in, is_closed}
-use Rattle.iscsi_history.specs.Execution.{exp_of, max_of, NO_TAG, unit_named, no_unit, scsi_to, scsi_verdict, request_verdict, verdict_of, is_tag_live, is_crowded, place_named, reply_on, marks_of, sense_of_status, completion}
-use Rattle.iscsi_history.specs.Management.{is_supported, may_wait, refusal_to, refusal_of_function, MOST_WAITING, waiting_on, answer, held_command, live_with_tag, abort_missing, abort_task, is_before, abort_all, query, function_to, function_marks, management_marks}
-use Rattle.iscsi_history.specs.Logout.{is_open, is_last_open, live_of_units, all_held, taken_out, parting, end_session, close_conn, logout_marks}
-use Rattle.iscsi_history.specs.Items.{marks_after, execution, item_of, waiting_item, immediate_item, function_item, is_waiting, functions, functions_at, turn_at, at_number, agenda}
-use Rattle.iscsi_history.specs.Agenda.{with_turns, numbered, kind_of, arrival_as, arrival, arrival_of, command_of, items_of}
-use Rattle.iscsi_history.specs.Run.{after_event, effects_of_mark, newly_enabled, effects_of_item, effects_of, entries_from, entry_of, run_of}
+use Rattle.iscsi_history.specs.rules.Settings.{Setting}
+use Rattle.iscsi_history.specs.rules.Trace.{Arrival, Command, Mark, Admits, Delivers, Executes, Voids, Empties, Waits, Leaves, Enters, Sends, ClosesConn, ClosesSession, Ignores, Trace, after_items, shown, first_of, admits_at, is_delivered, is_emptied, is_received, admitted, held, waiting, live_in, is_closed}
+use Rattle.iscsi_history.specs.rules.Execution.{exp_of, max_of, NO_TAG, unit_named, no_unit, scsi_to, scsi_verdict, request_verdict, verdict_of, is_tag_live, is_crowded, place_named, reply_on, marks_of, sense_of_status, completion}
+use Rattle.iscsi_history.specs.rules.Management.{is_supported, may_wait, refusal_to, refusal_of_function, MOST_WAITING, waiting_on, answer, held_command, live_with_tag, abort_missing, abort_task, is_before, abort_all, query, function_to, function_marks, management_marks}
+use Rattle.iscsi_history.specs.rules.Logout.{is_open, is_last_open, live_of_units, all_held, taken_out, parting, end_session, close_conn, logout_marks}
+use Rattle.iscsi_history.specs.rules.Items.{marks_after, execution, item_of, waiting_item, immediate_item, function_item, is_waiting, functions, functions_at, turn_at, at_number, agenda}
+use Rattle.iscsi_history.specs.rules.Agenda.{with_turns, numbered, kind_of, arrival_as, arrival, arrival_of, command_of, items_of}
+use Rattle.iscsi_history.specs.rules.Run.{after_event, effects_of_mark, newly_enabled, effects_of_item, effects_of, entries_from, entry_of, run_of}
 use Rattle.iscsi_replay.specs.Again.{IsRecordableEvent}
 use Rattle.iscsi_replay.proofs.FieldLemmas.{decimal_length}
 use Rattle.iscsi_replay.proofs.EffectLemmas.{IsShortReply, IsShortEffect}

@@ -12,8 +12,8 @@ use mathlib.Core.List.{IsPrefix}
 use Rattle.iscsi_history.proofs.BoolLemmas.{and_first, and_second}
 use Rattle.iscsi_history.specs.declared.event.Event.{Event}
 use Rattle.iscsi_history.specs.declared.event.Event.TheVariants.{Arrive, Done}
-use Rattle.iscsi_history.specs.Settings.{Setting, is_known, are_distinct}
-use Rattle.iscsi_history.specs.Run.{run_of}
+use Rattle.iscsi_history.specs.rules.Settings.{Setting, is_known, are_distinct}
+use Rattle.iscsi_history.specs.rules.Run.{run_of}
 use Rattle.iscsi_threads.specs.Ports.{Answer}
 use Rattle.iscsi_threads.specs.Journal.{cids_in, part, parts, done, is_source, are_sources}
 use Rattle.iscsi_threads.specs.Jobs.{jobs}

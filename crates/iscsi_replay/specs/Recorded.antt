@@ -3,7 +3,7 @@ use Rattle.std.specs.Prelude.{◌≡◌, ℕ, ◌+◌, ◌≤◌, ◌==◌, ◌|
 use Rattle.std.specs.List.{list_all}
 use Rattle.iscsi_history.specs.declared.event.Event.{Event}
 use Rattle.iscsi_history.specs.declared.event.Event.TheVariants.{Arrive, Done}
-use Rattle.iscsi_history.specs.Settings.{is_known, are_distinct}
+use Rattle.iscsi_history.specs.rules.Settings.{is_known, are_distinct}
 use Rattle.iscsi_replay.specs.Grammar.{line_of}
 use Rattle.iscsi_replay.specs.declared.line.Line.{Line}
 use Rattle.iscsi_replay.specs.declared.line.Line.TheVariants as line

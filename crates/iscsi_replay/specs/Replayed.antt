@@ -1,11 +1,11 @@
 -- What a replay answers, and what it writes.
 use Rattle.std.specs.Prelude.{◌≡◌, ℕ, List, Option, Result, Ok, Err, IfSome, IsOk, ⊤}
 use Rattle.std.specs.Io.KnownBytes.{Appends, Keeps, IsAtEnd}
-use Rattle.iscsi_history.specs.Settings.{Setting}
+use Rattle.iscsi_history.specs.rules.Settings.{Setting}
 use Rattle.iscsi_history.specs.declared.event.Event.{Event}
 use Rattle.iscsi_history.specs.declared.entry.Entry.{Entry}
-use Rattle.iscsi_history.specs.Promises.{KeepsPromises}
-use Rattle.iscsi_history.specs.Run.{run_of}
+use Rattle.iscsi_history.specs.promises.Promises.{KeepsPromises}
+use Rattle.iscsi_history.specs.rules.Run.{run_of}
 use Rattle.iscsi_report.specs.Lines.{report_from}
 use Rattle.iscsi_replay.specs.Recorded.{Recorded, read_of}
 use Rattle.iscsi_replay.specs.Writing.{AppendsFront}

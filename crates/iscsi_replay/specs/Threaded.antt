@@ -3,10 +3,10 @@ use Rattle.std.specs.Prelude.{◌≡◌, ◌⊎◌, ℕ, ◌<◌, ◌≤◌, tru
 use Rattle.std.specs.declared.alloc.Global.{Global}
 use Rattle.std.specs.Io.KnownBytes.{Appends, Keeps}
 use mathlib.Core.List.{IsPrefix}
-use Rattle.iscsi_history.specs.Settings.{Setting}
-use Rattle.iscsi_history.specs.Trace.{live}
-use Rattle.iscsi_history.specs.Run.{run_of, trace_of}
-use Rattle.iscsi_history.specs.Promises.{KeepsPromises}
+use Rattle.iscsi_history.specs.rules.Settings.{Setting}
+use Rattle.iscsi_history.specs.rules.Trace.{live}
+use Rattle.iscsi_history.specs.rules.Run.{run_of, trace_of}
+use Rattle.iscsi_history.specs.promises.Promises.{KeepsPromises}
 use Rattle.iscsi_history.specs.declared.event.Event.{Event}
 use Rattle.iscsi_threads.specs.Journal.{cids_in, part, done, are_sources}
 use Rattle.iscsi_threads.specs.Jobs.{jobs}

@@ -3,14 +3,14 @@
 ghost use Rattle.std.specs.Prelude.{◌≡◌, ◌≢◌, ◌↔◌, ◌⊎◌, ◌++◌, ◌<◌, ◌≤◌, true, false, [], length, IfSome, OnOk, IfOk, IfErr, IsErrOf, MatchResult, Ok};
 ghost use Rattle.std.specs.List.{list_all};
 ghost use Rattle.std.specs.Io.KnownBytes.{Appends};
-ghost use Rattle.iscsi_history.specs.Settings.{is_valid};
-ghost use Rattle.iscsi_session.specs.Standing.{StandsFor};
+ghost use Rattle.iscsi_history.specs.rules.Settings.{is_valid};
+ghost use Rattle.iscsi_session.specs.promises.Standing.{StandsFor};
 ghost use Rattle.iscsi_report.specs.Lines.{event_line, entry_lines};
 ghost use Rattle.iscsi_replay.specs.Limits.{are_valid};
 ghost use Rattle.iscsi_replay.specs.Recorded.{Recorded, view, read_of, belongs_to};
 ghost use Rattle.iscsi_replay.specs.Order.{ReadsInOrder};
-ghost use Rattle.iscsi_history.specs.Promises.{KeepsPromises};
-ghost use Rattle.iscsi_history.specs.Run.{run_of};
+ghost use Rattle.iscsi_history.specs.promises.Promises.{KeepsPromises};
+ghost use Rattle.iscsi_history.specs.rules.Run.{run_of};
 ghost use Rattle.iscsi_replay.specs.Replayed.{setting_with, report_by, Reported, KeepsWord, FrontReported, AnswersAs, ComesOfReading, IsReadWhole};
 ghost use Rattle.iscsi_replay.specs.Writing.{AppendsFront, AppendsBut};
 ghost use Rattle.iscsi_replay.specs.Again.{IsRecordable, IsReadAgain};

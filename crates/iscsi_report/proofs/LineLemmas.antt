@@ -3,9 +3,9 @@ use Rattle.std.proofs.Common.{◌≡◌, ℕ, List, [], ◌∷◌, ◌++◌, ref
 use Rattle.hex.specs.Hex.{encode_with, lower_digits, encode_lower}
 use Rattle.iscsi_history.specs.declared.event.Event.{Event}
 use Rattle.iscsi_history.specs.declared.entry.Entry.{Entry}
-use Rattle.iscsi_history.specs.Settings.{Setting}
-use Rattle.iscsi_history.specs.Trace.{Trace}
-use Rattle.iscsi_history.specs.Run.{after_event, entry_of, entries_from, run_of, next_entry}
+use Rattle.iscsi_history.specs.rules.Settings.{Setting}
+use Rattle.iscsi_history.specs.rules.Trace.{Trace}
+use Rattle.iscsi_history.specs.rules.Run.{after_event, entry_of, entries_from, run_of, next_entry}
 use Rattle.iscsi_report.specs.Lines.{event_line, entry_lines, report_from}
 use Rattle.std.proofs.lemmas.List.{append-nil}
 use Rattle.iscsi_history.proofs.RunLemmas.{run_of-push}

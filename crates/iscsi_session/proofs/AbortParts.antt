@@ -14,15 +14,15 @@ use Rattle.iscsi_history.specs.declared.effect.Effect.TheVariants.{Void}
 use Rattle.iscsi_session.specs.declared.outcome.Outcome.{Outcome}
 use Rattle.iscsi_session.specs.declared.outcome.Outcome.TheVariants.{Respond, Abort, AbortAll, Empty as EmptyNumber, Void as VoidNumber}
 use Rattle.iscsi_commands.specs.declared.live.Live.{Live}
-use Rattle.iscsi_history.specs.Settings.{Setting, is_known}
-use Rattle.iscsi_history.specs.Trace.{Arrival, Command, Mark, Delivers, Executes, Voids, Empties, Leaves, Trace, first_of, contains, waiting, is_received, is_among, held, live, live_in}
-use Rattle.iscsi_history.specs.Execution.{exp_of, max_of, unfinished}
-use Rattle.iscsi_history.specs.Management.{answer, live_with_tag, held_command, abort_missing, abort_task}
-use Rattle.iscsi_history.specs.Agenda.{arrival_of}
-use Rattle.iscsi_session.specs.Standing.{Core, task_of, kept, arrival_waiting, WindowAgrees, Agrees, Settled}
-use Rattle.iscsi_history.specs.Trace.{are_apart}
-use Rattle.iscsi_history.specs.Run.{effects_of_mark}
-use Rattle.iscsi_session.specs.Functions.{missing_at, tagged_in, abort_by, answer_if, outcome_by, covers_ticket, void_effects}
+use Rattle.iscsi_history.specs.rules.Settings.{Setting, is_known}
+use Rattle.iscsi_history.specs.rules.Trace.{Arrival, Command, Mark, Delivers, Executes, Voids, Empties, Leaves, Trace, first_of, contains, waiting, is_received, is_among, held, live, live_in}
+use Rattle.iscsi_history.specs.rules.Execution.{exp_of, max_of, unfinished}
+use Rattle.iscsi_history.specs.rules.Management.{answer, live_with_tag, held_command, abort_missing, abort_task}
+use Rattle.iscsi_history.specs.rules.Agenda.{arrival_of}
+use Rattle.iscsi_session.specs.promises.Standing.{Core, task_of, kept, arrival_waiting, WindowAgrees, Agrees, Settled}
+use Rattle.iscsi_history.specs.rules.Trace.{are_apart}
+use Rattle.iscsi_history.specs.rules.Run.{effects_of_mark}
+use Rattle.iscsi_session.specs.private.Functions.{missing_at, tagged_in, abort_by, answer_if, outcome_by, covers_ticket, void_effects}
 use Rattle.iscsi_session.proofs.OpenConns.{open_of-same}
 use Rattle.iscsi_history.proofs.BoolLemmas.{and_parts, or_none, not_true}
 use Rattle.iscsi_session.proofs.NumberLemmas.{wire-lift}

@@ -8,14 +8,14 @@ use Rattle.iscsi_window.specs.Windows.{number_expected, at_place, advanced_if}
 use Rattle.iscsi_history.specs.declared.effect.Effect.{Effect}
 use Rattle.iscsi_history.specs.declared.effect.Effect.TheVariants.{Deliver}
 use Rattle.iscsi_session.specs.declared.session.waiting.Waiting.{Waiting}
-use Rattle.iscsi_history.specs.Settings.{Setting}
-use Rattle.iscsi_history.specs.Trace.{Arrival, Mark, Trace, after_items, waiting, received, least_missing}
-use Rattle.iscsi_history.specs.Execution.{exp_of}
-use Rattle.iscsi_history.specs.Management.{may_wait}
-use Rattle.iscsi_history.specs.Items.{item_of, function_item, is_waiting, functions, functions_at, turn_at, agenda}
-use Rattle.iscsi_history.specs.Run.{effects_of_item, effects_of}
-use Rattle.iscsi_session.specs.Standing.{Core, arrival_waiting, Agrees, Settled}
-use Rattle.iscsi_session.specs.Turning.{with_executed, executed_effects, next_arrived, turned_if, turn_effects, next_waiting, function_if, function_effects}
+use Rattle.iscsi_history.specs.rules.Settings.{Setting}
+use Rattle.iscsi_history.specs.rules.Trace.{Arrival, Mark, Trace, after_items, waiting, received, least_missing}
+use Rattle.iscsi_history.specs.rules.Execution.{exp_of}
+use Rattle.iscsi_history.specs.rules.Management.{may_wait}
+use Rattle.iscsi_history.specs.rules.Items.{item_of, function_item, is_waiting, functions, functions_at, turn_at, agenda}
+use Rattle.iscsi_history.specs.rules.Run.{effects_of_item, effects_of}
+use Rattle.iscsi_session.specs.promises.Standing.{Core, arrival_waiting, Agrees, Settled}
+use Rattle.iscsi_session.specs.private.Turning.{with_executed, executed_effects, next_arrived, turned_if, turn_effects, next_waiting, function_if, function_effects}
 use Rattle.iscsi_history.proofs.TraceLemmas.{after_items-append}
 use Rattle.iscsi_history.proofs.Missing.{expected_past}
 use Rattle.iscsi_session.proofs.WindowParts.{Next, next_request, Passed, passed_at, WindowAgrees-passed}

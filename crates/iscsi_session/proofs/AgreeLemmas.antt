@@ -10,12 +10,12 @@ use Rattle.iscsi_history.specs.declared.effect.Effect.TheVariants.{Ignore}
 use Rattle.iscsi_history.specs.declared.effect.Numbers.{Numbers}
 use Rattle.iscsi_history.specs.declared.effect.Why.{Why}
 use Rattle.iscsi_commands.specs.declared.live.Live.{Live}
-use Rattle.iscsi_history.specs.Settings.{Setting, is_known}
-use Rattle.iscsi_history.specs.Trace.{Arrival, Command, Mark, Admits, Ignores, Trace, after_items, has, entered, leaves_ticket, live, is_received}
-use Rattle.iscsi_history.specs.Execution.{exp_of, max_of, unfinished, ignored}
-use Rattle.iscsi_history.specs.Run.{effects_of, numbers_of}
-use Rattle.iscsi_session.specs.Standing.{Core, CommandsAgree, is_regular, is_regular_request, Agrees, Settled}
-use Rattle.iscsi_session.specs.Steps.{numbers_by}
+use Rattle.iscsi_history.specs.rules.Settings.{Setting, is_known}
+use Rattle.iscsi_history.specs.rules.Trace.{Arrival, Command, Mark, Admits, Ignores, Trace, after_items, has, entered, leaves_ticket, live, is_received}
+use Rattle.iscsi_history.specs.rules.Execution.{exp_of, max_of, unfinished, ignored}
+use Rattle.iscsi_history.specs.rules.Run.{effects_of, numbers_of}
+use Rattle.iscsi_session.specs.promises.Standing.{Core, CommandsAgree, is_regular, is_regular_request, Agrees, Settled}
+use Rattle.iscsi_session.specs.private.Steps.{numbers_by}
 use Rattle.iscsi_history.proofs.BoolLemmas.{and_parts}
 use Rattle.iscsi_history.proofs.ListLemmas.{list_all-filter}
 use Rattle.iscsi_session.proofs.OpenConns.{open_of-same}

@@ -13,18 +13,18 @@ use Rattle.iscsi_history.specs.declared.effect.Effect.TheVariants.{Send, Ignore}
 use Rattle.iscsi_history.specs.declared.effect.Why.{Why}
 use Rattle.iscsi_history.specs.declared.effect.Why.TheVariants.{Closed, Data}
 use Rattle.iscsi_history.specs.declared.kind.Kind.TheVariants.{PassedOver, Unknown, Executes as ExecutesKind}
-use Rattle.iscsi_history.specs.Settings.{Setting, is_known}
-use Rattle.iscsi_history.specs.Trace.{Arrival, Mark, Admits, Trace, after_items, received, is_closed}
-use Rattle.iscsi_history.specs.Flow.{HasOneMore}
-use Rattle.iscsi_history.specs.Execution.{exp_of, rejected, ignored}
-use Rattle.iscsi_history.specs.Agenda.{with_turns, numbered, kind_of, arrival_as, arrival_open, arrival, arrival_of}
-use Rattle.iscsi_history.specs.Items.{immediate_item, functions_at, agenda}
-use Rattle.iscsi_history.specs.Run.{effects_of, effects_of_item, stat_sn_of}
-use Rattle.iscsi_session.specs.Standing.{Core, Agrees, Settled}
-use Rattle.iscsi_session.specs.Steps.{with_reply, reply_effects, with_offered}
-use Rattle.iscsi_session.specs.Turning.{turned_if, turn_effects, patience_by, immediate_as, immediate_effects}
-use Rattle.iscsi_history.specs.Logout.{is_open}
-use Rattle.iscsi_session.specs.Parting.{is_among_open}
+use Rattle.iscsi_history.specs.rules.Settings.{Setting, is_known}
+use Rattle.iscsi_history.specs.rules.Trace.{Arrival, Mark, Admits, Trace, after_items, received, is_closed}
+use Rattle.iscsi_history.specs.promises.Flow.{HasOneMore}
+use Rattle.iscsi_history.specs.rules.Execution.{exp_of, rejected, ignored}
+use Rattle.iscsi_history.specs.rules.Agenda.{with_turns, numbered, kind_of, arrival_as, arrival_open, arrival, arrival_of}
+use Rattle.iscsi_history.specs.rules.Items.{immediate_item, functions_at, agenda}
+use Rattle.iscsi_history.specs.rules.Run.{effects_of, effects_of_item, stat_sn_of}
+use Rattle.iscsi_session.specs.promises.Standing.{Core, Agrees, Settled}
+use Rattle.iscsi_session.specs.private.Steps.{with_reply, reply_effects, with_offered}
+use Rattle.iscsi_session.specs.private.Turning.{turned_if, turn_effects, patience_by, immediate_as, immediate_effects}
+use Rattle.iscsi_history.specs.rules.Logout.{is_open}
+use Rattle.iscsi_session.specs.private.Parting.{is_among_open}
 use Rattle.iscsi_session.proofs.OpenConns.{open_of-same, filtered_among}
 use Rattle.iscsi_history.proofs.ListLemmas.{list_any-map}
 use Rattle.iscsi_history.proofs.DeliveryLemmas.{IsQuiet}

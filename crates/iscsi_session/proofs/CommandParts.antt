@@ -7,11 +7,11 @@ use Rattle.std.proofs.lemmas.List.{append-nil, length_push, map-append}
 use Rattle.std.proofs.lemmas.List.Elements.{filter-append}
 use Rattle.std.proofs.lemmas.List.Folds.{list_any-append, list_all-append}
 use Rattle.iscsi_commands.specs.declared.live.Live.{Live}
-use Rattle.iscsi_history.specs.Settings.{Setting}
-use Rattle.iscsi_history.specs.Trace.{Command, Mark, Trace, has, enters, entered, leaves_ticket, live, live_in, is_among, first_of}
-use Rattle.iscsi_session.specs.Standing.{kept, is_regular, CommandsAgree}
-use Rattle.iscsi_history.specs.Trace.{are_apart}
-use Rattle.iscsi_session.specs.Steps.{find_ticket}
+use Rattle.iscsi_history.specs.rules.Settings.{Setting}
+use Rattle.iscsi_history.specs.rules.Trace.{Command, Mark, Trace, has, enters, entered, leaves_ticket, live, live_in, is_among, first_of}
+use Rattle.iscsi_session.specs.promises.Standing.{kept, is_regular, CommandsAgree}
+use Rattle.iscsi_history.specs.rules.Trace.{are_apart}
+use Rattle.iscsi_session.specs.private.Steps.{find_ticket}
 use Rattle.iscsi_history.proofs.BoolLemmas.{and_parts, or_none, or_false, not_true}
 use Rattle.iscsi_history.proofs.ApartLemmas.{eq_sym, unamong-filter, apart-push, apart-filter}
 use Rattle.iscsi_session.proofs.EnabledLemmas.{filter-map}

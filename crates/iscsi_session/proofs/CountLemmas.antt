@@ -8,9 +8,9 @@ use Rattle.std.proofs.lemmas.List.Folds.{list_all-append}
 use Rattle.std.proofs.lemmas.List.Sums.{sum_by-cons}
 use Rattle.iscsi_wire.specs.Serial.{wire}
 use Rattle.iscsi_commands.specs.declared.live.Live.{Live}
-use Rattle.iscsi_history.specs.Settings.{is_known}
-use Rattle.iscsi_session.specs.Standing.{are_known, are_ascending}
-use Rattle.iscsi_session.specs.Steps.{count_reply, find_ticket, without_ticket, is_immediate_on, immediate_in, counted_on, AreCounted, is_numbered}
+use Rattle.iscsi_history.specs.rules.Settings.{is_known}
+use Rattle.iscsi_session.specs.promises.Standing.{are_known, are_ascending}
+use Rattle.iscsi_session.specs.private.Steps.{count_reply, find_ticket, without_ticket, is_immediate_on, immediate_in, counted_on, AreCounted, is_numbered}
 use Rattle.iscsi_history.proofs.BoolLemmas.{and_first, and_second}
 use Rattle.iscsi_history.proofs.ListLemmas.{count_by-push, is_known-cids, fewer_counted}
 use Rattle.iscsi_session.proofs.ListLemmas.{cids-count_reply}

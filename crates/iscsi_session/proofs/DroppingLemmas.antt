@@ -7,8 +7,8 @@ use Rattle.iscsi_wire.specs.declared.request.Request.{Request}
 use Rattle.iscsi_wire.specs.Serial.{wire}
 use Rattle.iscsi_window.specs.Windows.{Received, number_expected, number_shown, at_place, with_place, is_held_from, taken_at}
 use Rattle.iscsi_history.specs.declared.effect.Effect.TheVariants.{Empty}
-use Rattle.iscsi_session.specs.Standing.{is_held, is_place_known}
-use Rattle.iscsi_session.specs.Parting.{emptied_place, emptied_from, is_clear_below}
+use Rattle.iscsi_session.specs.promises.Standing.{is_held, is_place_known}
+use Rattle.iscsi_session.specs.private.Parting.{emptied_place, emptied_from, is_clear_below}
 use Rattle.iscsi_session.proofs.FindLemmas.{position-cons}
 use Rattle.iscsi_history.proofs.BoolLemmas.{and_parts}
 

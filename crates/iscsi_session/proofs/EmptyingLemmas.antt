@@ -12,13 +12,13 @@ use Rattle.iscsi_wire.specs.Fields.{connection_of}
 use Rattle.iscsi_window.specs.Windows.{Received, number_expected, is_asked, is_held_from}
 use Rattle.iscsi_history.specs.declared.effect.Effect.{Effect}
 use Rattle.iscsi_history.specs.declared.effect.Effect.TheVariants.{Empty}
-use Rattle.iscsi_history.specs.Settings.{Setting}
-use Rattle.iscsi_history.specs.Trace.{Arrival, Command, Mark, Empties, Leaves, Trace, has, shown, first_of, number_received, received, contains, is_received, delivers_number, is_delivered, empties_number, is_emptied, held, held_among, admitted, admits_at}
-use Rattle.iscsi_history.specs.Execution.{exp_of}
-use Rattle.iscsi_history.specs.Executed.{delivers, request_at}
-use Rattle.iscsi_history.specs.Logout.{all_held}
-use Rattle.iscsi_session.specs.Standing.{place_of, WindowAgrees, ArrivalsAgree}
-use Rattle.iscsi_session.specs.Parting.{emptied_place, emptied_from}
+use Rattle.iscsi_history.specs.rules.Settings.{Setting}
+use Rattle.iscsi_history.specs.rules.Trace.{Arrival, Command, Mark, Empties, Leaves, Trace, has, shown, first_of, number_received, received, contains, is_received, delivers_number, is_delivered, empties_number, is_emptied, held, held_among, admitted, admits_at}
+use Rattle.iscsi_history.specs.rules.Execution.{exp_of}
+use Rattle.iscsi_history.specs.promises.Executed.{delivers, request_at}
+use Rattle.iscsi_history.specs.rules.Logout.{all_held}
+use Rattle.iscsi_session.specs.promises.Standing.{place_of, WindowAgrees, ArrivalsAgree}
+use Rattle.iscsi_session.specs.private.Parting.{emptied_place, emptied_from}
 use Rattle.iscsi_history.proofs.BoolLemmas.{or_false}
 use Rattle.iscsi_history.proofs.HeldLemmas.{held-number}
 use Rattle.iscsi_session.proofs.MissingLemmas.{unreceived_unheld}

@@ -7,11 +7,11 @@ use Rattle.std.proofs.lemmas.List.{append-nil, map-append}
 use Rattle.iscsi_tasks.specs.declared.member.Member.{Member}
 use Rattle.iscsi_tasks.specs.Sets.{is_free, queued, is_free_among, looked_at, after_moment, is_new, next_in, given_in}
 use Rattle.iscsi_history.specs.declared.effect.Effect.TheVariants.{Enable}
-use Rattle.iscsi_history.specs.Settings.{Setting}
-use Rattle.iscsi_history.specs.Trace.{Command, Mark, Trace, live, live_in, is_among, queued_of, is_free_at, was_free}
-use Rattle.iscsi_history.specs.Run.{newly_enabled}
-use Rattle.iscsi_session.specs.Standing.{task_of, member_of, set_of}
-use Rattle.iscsi_session.specs.Steps.{as_given, enable_effects, enable_effect}
+use Rattle.iscsi_history.specs.rules.Settings.{Setting}
+use Rattle.iscsi_history.specs.rules.Trace.{Command, Mark, Trace, live, live_in, is_among, queued_of, is_free_at, was_free}
+use Rattle.iscsi_history.specs.rules.Run.{newly_enabled}
+use Rattle.iscsi_session.specs.promises.Standing.{task_of, member_of, set_of}
+use Rattle.iscsi_session.specs.private.Steps.{as_given, enable_effects, enable_effect}
 use Rattle.iscsi_history.proofs.BoolLemmas.{and_parts, or_comm}
 use Rattle.iscsi_history.proofs.ListLemmas.{list_all-filter, all_of_filter}
 use Rattle.iscsi_history.proofs.MomentLemmas.{enables}

@@ -5,11 +5,11 @@ use Rattle.std.proofs.lemmas.Bool.{false≢true, eqb-true}
 use Rattle.std.proofs.lemmas.List.{append-nil}
 use Rattle.std.proofs.lemmas.List.Folds.{list_any-append}
 use Rattle.iscsi_commands.specs.declared.live.Live.{Live}
-use Rattle.iscsi_history.specs.Settings.{Setting}
-use Rattle.iscsi_history.specs.Trace.{Command, Mark, Admits, Delivers, Executes, Voids, Empties, Waits, Leaves, Enters, Sends, ClosesConn, ClosesSession, Ignores, Trace, has, leaves_ticket, live, live_in, is_among, was_free}
-use Rattle.iscsi_history.specs.Run.{effects_of_mark, newly_enabled, effects_of_item}
-use Rattle.iscsi_history.specs.Enabling.{effects_so_far, is_enable, is_leave, is_shown_enabled, is_enabled, EnabledSoFar}
-use Rattle.iscsi_session.specs.Standing.{CommandsAgree}
+use Rattle.iscsi_history.specs.rules.Settings.{Setting}
+use Rattle.iscsi_history.specs.rules.Trace.{Command, Mark, Admits, Delivers, Executes, Voids, Empties, Waits, Leaves, Enters, Sends, ClosesConn, ClosesSession, Ignores, Trace, has, leaves_ticket, live, live_in, is_among, was_free}
+use Rattle.iscsi_history.specs.rules.Run.{effects_of_mark, newly_enabled, effects_of_item}
+use Rattle.iscsi_history.specs.promises.Enabling.{effects_so_far, is_enable, is_leave, is_shown_enabled, is_enabled, EnabledSoFar}
+use Rattle.iscsi_session.specs.promises.Standing.{CommandsAgree}
 use Rattle.iscsi_history.proofs.BoolLemmas.{and_both, or_second, or_comm, or_false, and_false}
 use Rattle.iscsi_history.proofs.ListLemmas.{any_all}
 use Rattle.iscsi_history.proofs.TraceLemmas.{weaker}

@@ -16,16 +16,16 @@ use Rattle.iscsi_history.specs.declared.effect.Effect.TheVariants.{Enter, Send}
 use Rattle.iscsi_commands.specs.declared.live.Live.{Live}
 use Rattle.iscsi_history.specs.declared.verdict.Verdict.{Verdict}
 use Rattle.iscsi_history.specs.declared.verdict.Verdict.TheVariants.{Nothing, Answer, Enter as EnterUnit}
-use Rattle.iscsi_history.specs.Settings.{Setting, is_known}
-use Rattle.iscsi_history.specs.Trace.{Arrival, Command, Mark, Enters, Sends, Trace, waiting, waiting_by, waiting_through, enters, leaves_ticket, sent_on, entered, live, live_in}
-use Rattle.iscsi_history.specs.Execution.{unfinished, unit_named, attr_of, scsi_to, scsi_verdict, request_verdict, is_tag_live, is_crowded, is_full, place_named, verdict_of, next_command, marks_of}
-use Rattle.iscsi_history.specs.Management.{may_wait, management_marks}
-use Rattle.iscsi_history.specs.Items.{execution}
-use Rattle.iscsi_history.specs.Run.{effects_of_mark, effects_of_item, newly_enabled, stat_sn_of}
-use Rattle.iscsi_session.specs.Standing.{open_of, Core, kept, is_regular, task_of, member_of, WindowAgrees, RepliesAgree, CommandsAgree, SetsAgree, ArrivalsAgree, arrival_waiting, Agrees}
-use Rattle.iscsi_history.specs.Enabling.{EnabledSoFar}
-use Rattle.iscsi_session.specs.Steps.{new_live, new_task, number_by, event_by, started, is_tag_kept, is_immediate_on, is_crowded_by, is_set_full, place_in, verdict_by, executed_as, execution_effects}
-use Rattle.iscsi_history.specs.Logout.{logout_marks}
+use Rattle.iscsi_history.specs.rules.Settings.{Setting, is_known}
+use Rattle.iscsi_history.specs.rules.Trace.{Arrival, Command, Mark, Enters, Sends, Trace, waiting, waiting_by, waiting_through, enters, leaves_ticket, sent_on, entered, live, live_in}
+use Rattle.iscsi_history.specs.rules.Execution.{unfinished, unit_named, attr_of, scsi_to, scsi_verdict, request_verdict, is_tag_live, is_crowded, is_full, place_named, verdict_of, next_command, marks_of}
+use Rattle.iscsi_history.specs.rules.Management.{may_wait, management_marks}
+use Rattle.iscsi_history.specs.rules.Items.{execution}
+use Rattle.iscsi_history.specs.rules.Run.{effects_of_mark, effects_of_item, newly_enabled, stat_sn_of}
+use Rattle.iscsi_session.specs.promises.Standing.{open_of, Core, kept, is_regular, task_of, member_of, WindowAgrees, RepliesAgree, CommandsAgree, SetsAgree, ArrivalsAgree, arrival_waiting, Agrees}
+use Rattle.iscsi_history.specs.promises.Enabling.{EnabledSoFar}
+use Rattle.iscsi_session.specs.private.Steps.{new_live, new_task, number_by, event_by, started, is_tag_kept, is_immediate_on, is_crowded_by, is_set_full, place_in, verdict_by, executed_as, execution_effects}
+use Rattle.iscsi_history.specs.rules.Logout.{logout_marks}
 use Rattle.iscsi_history.proofs.BoolLemmas.{and_both}
 use Rattle.iscsi_session.proofs.OpenConns.{ClosesNone, open_of-same, closes-more}
 use Rattle.iscsi_history.proofs.ListLemmas.{list_any-map, count_by-map, count_by-push}

@@ -8,13 +8,13 @@ use Rattle.iscsi_wire.specs.Serial.{lift}
 use Rattle.iscsi_wire.specs.Fields.{opcode, itt, lun, unit_of}
 use Rattle.iscsi_window.specs.Windows.{Received, number_expected, is_unit, is_command, find_command}
 use Rattle.iscsi_commands.specs.declared.live.Live.{Live}
-use Rattle.iscsi_history.specs.Settings.{Setting}
-use Rattle.iscsi_history.specs.Trace.{Arrival, Command, Trace, first_of, is_received, held, held_among, live}
-use Rattle.iscsi_history.specs.Execution.{exp_of}
-use Rattle.iscsi_history.specs.Management.{is_to, held_requests, held_command, live_with_tag}
+use Rattle.iscsi_history.specs.rules.Settings.{Setting}
+use Rattle.iscsi_history.specs.rules.Trace.{Arrival, Command, Trace, first_of, is_received, held, held_among, live}
+use Rattle.iscsi_history.specs.rules.Execution.{exp_of}
+use Rattle.iscsi_history.specs.rules.Management.{is_to, held_requests, held_command, live_with_tag}
 use Rattle.iscsi_history.proofs.BoolLemmas.{and_first}
-use Rattle.iscsi_session.specs.Standing.{Core, place_of, kept, WindowAgrees}
-use Rattle.iscsi_session.specs.Functions.{tagged_in}
+use Rattle.iscsi_session.specs.promises.Standing.{Core, place_of, kept, WindowAgrees}
+use Rattle.iscsi_session.specs.private.Functions.{tagged_in}
 use Rattle.iscsi_history.proofs.HeldLemmas.{held-number}
 use Rattle.iscsi_session.proofs.MissingLemmas.{held_received}
 

@@ -9,13 +9,13 @@ use Rattle.iscsi_window.specs.declared.answer.Place.TheVariants.{Inside, Outside
 use Rattle.iscsi_window.specs.Windows.{Received, number_expected, at_place, place_in, received_at, offered_to, with_place, with_unfinished}
 use Rattle.iscsi_history.specs.declared.event.Event.{Event}
 use Rattle.iscsi_commands.specs.declared.live.Live.{Live}
-use Rattle.iscsi_history.specs.Settings.{Setting}
-use Rattle.iscsi_history.specs.Trace.{Arrival, Trace, received, contains, is_received, held}
-use Rattle.iscsi_history.specs.Execution.{exp_of, max_of}
-use Rattle.iscsi_history.specs.Run.{after_event, trace_of}
-use Rattle.iscsi_session.specs.Standing.{Core, place_of, Settled}
-use Rattle.iscsi_session.specs.Steps.{KeepsPace, find_enabled, after_completion, without_command}
-use Rattle.iscsi_history.specs.Flow.{HasOneMore, Flows, FlowsThrough}
+use Rattle.iscsi_history.specs.rules.Settings.{Setting}
+use Rattle.iscsi_history.specs.rules.Trace.{Arrival, Trace, received, contains, is_received, held}
+use Rattle.iscsi_history.specs.rules.Execution.{exp_of, max_of}
+use Rattle.iscsi_history.specs.rules.Run.{after_event, trace_of}
+use Rattle.iscsi_session.specs.promises.Standing.{Core, place_of, Settled}
+use Rattle.iscsi_session.specs.private.Steps.{KeepsPace, find_enabled, after_completion, without_command}
+use Rattle.iscsi_history.specs.promises.Flow.{HasOneMore, Flows, FlowsThrough}
 use Rattle.iscsi_history.proofs.BoolLemmas.{or_first}
 use Rattle.iscsi_history.proofs.Missing.{expected_below, expected_gone, expected_low}
 use Rattle.iscsi_session.proofs.AgreeLemmas.{agrees_unfinished, settled_expected, settled_max}

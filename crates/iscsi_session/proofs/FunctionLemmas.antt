@@ -28,19 +28,19 @@ use Rattle.iscsi_session.specs.declared.patience.Patience.{Patience}
 use Rattle.iscsi_session.specs.declared.patience.Patience.TheVariants.{Now, Later, TooFar, TooMany}
 use Rattle.iscsi_history.specs.declared.verdict.Verdict.{Verdict}
 use Rattle.iscsi_history.specs.declared.verdict.Verdict.TheVariants.{Nothing, Answer, Enter as EnterUnit}
-use Rattle.iscsi_history.specs.Settings.{Setting, is_known}
-use Rattle.iscsi_history.specs.Trace.{Arrival, Command, Mark, Executes, Delivers, Voids, Empties, Waits, Leaves, Trace, admits_at, delivers_number, empties_number, shown, first_of, is_received, is_delivered, is_emptied, held, admitted, waiting, waiting_by, waiting_through, live, live_in, enters, leaves_ticket, sent_on}
-use Rattle.iscsi_history.specs.Execution.{exp_of, max_of, unit_named, reply_on, marks_of, verdict_of}
-use Rattle.iscsi_history.specs.Management.{may_wait, waiting_on, refusal_to, refusal_of_function, answer, is_before, abort_all, abort_task, query, function_to, function_marks, management_marks}
-use Rattle.iscsi_history.specs.Agenda.{arrival_of}
-use Rattle.iscsi_history.specs.Items.{execution, waiting_item, immediate_item, item_of, function_item}
-use Rattle.iscsi_history.specs.Run.{effects_of_mark, effects_of_item, newly_enabled, stat_sn_of}
-use Rattle.iscsi_session.specs.Standing.{Core, kept, task_of, WindowAgrees, ArrivalsAgree, arrival_waiting, Agrees, Settled}
-use Rattle.iscsi_session.specs.Functions.{aborted, abort_effects, answer_if, outcome_by, abort_by, performed_as, performance_effects, covers_ticket, response_effects}
-use Rattle.iscsi_session.specs.Steps.{count_reply, with_reply, reply_effects, number_by, event_by, verdict_by, executed_as, execution_effects}
-use Rattle.iscsi_session.specs.Turning.{position_by, next_position, without_waiting, performed, performed_effects, managed, managed_effects, with_executed, executed_effects, next_arrived, next_waiting, waiting_in, wait_by, function_if, function_effects, patience_by, immediate_as, immediate_effects}
-use Rattle.iscsi_history.specs.Logout.{logout_marks}
-use Rattle.iscsi_session.specs.Parting.{closing_by, closed_as, closed_effects}
+use Rattle.iscsi_history.specs.rules.Settings.{Setting, is_known}
+use Rattle.iscsi_history.specs.rules.Trace.{Arrival, Command, Mark, Executes, Delivers, Voids, Empties, Waits, Leaves, Trace, admits_at, delivers_number, empties_number, shown, first_of, is_received, is_delivered, is_emptied, held, admitted, waiting, waiting_by, waiting_through, live, live_in, enters, leaves_ticket, sent_on}
+use Rattle.iscsi_history.specs.rules.Execution.{exp_of, max_of, unit_named, reply_on, marks_of, verdict_of}
+use Rattle.iscsi_history.specs.rules.Management.{may_wait, waiting_on, refusal_to, refusal_of_function, answer, is_before, abort_all, abort_task, query, function_to, function_marks, management_marks}
+use Rattle.iscsi_history.specs.rules.Agenda.{arrival_of}
+use Rattle.iscsi_history.specs.rules.Items.{execution, waiting_item, immediate_item, item_of, function_item}
+use Rattle.iscsi_history.specs.rules.Run.{effects_of_mark, effects_of_item, newly_enabled, stat_sn_of}
+use Rattle.iscsi_session.specs.promises.Standing.{Core, kept, task_of, WindowAgrees, ArrivalsAgree, arrival_waiting, Agrees, Settled}
+use Rattle.iscsi_session.specs.private.Functions.{aborted, abort_effects, answer_if, outcome_by, abort_by, performed_as, performance_effects, covers_ticket, response_effects}
+use Rattle.iscsi_session.specs.private.Steps.{count_reply, with_reply, reply_effects, number_by, event_by, verdict_by, executed_as, execution_effects}
+use Rattle.iscsi_session.specs.private.Turning.{position_by, next_position, without_waiting, performed, performed_effects, managed, managed_effects, with_executed, executed_effects, next_arrived, next_waiting, waiting_in, wait_by, function_if, function_effects, patience_by, immediate_as, immediate_effects}
+use Rattle.iscsi_history.specs.rules.Logout.{logout_marks}
+use Rattle.iscsi_session.specs.private.Parting.{closing_by, closed_as, closed_effects}
 use Rattle.iscsi_session.proofs.OpenConns.{ClosesNone, open_of-same, closes-more}
 use Rattle.iscsi_session.proofs.LogoutItem.{logout-item}
 use Rattle.iscsi_session.proofs.PartedLemmas.{closed_expected}

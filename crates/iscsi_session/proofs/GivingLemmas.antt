@@ -5,7 +5,7 @@ use Rattle.iscsi_tasks.specs.declared.member.Member.{Member}
 use Rattle.iscsi_tasks.specs.Sets.{is_new, next_in, given_in}
 use Rattle.iscsi_history.specs.declared.effect.Effect.{Effect}
 use Rattle.iscsi_history.specs.declared.effect.Effect.TheVariants.{Enable}
-use Rattle.iscsi_session.specs.Steps.{as_given, enable_effects}
+use Rattle.iscsi_session.specs.private.Steps.{as_given, enable_effects}
 use Rattle.iscsi_history.proofs.BoolLemmas.{and_parts, or_second}
 
 -- a command is given

@@ -10,8 +10,8 @@ use Rattle.iscsi_tasks.specs.declared.task.Task.{Task}
 use Rattle.iscsi_tasks.specs.declared.member.Member.{Member}
 use Rattle.iscsi_tasks.specs.Sets.{Members, opened, tasks_in, entered_to, left_by, with_ticket, without, is_enabled_in, looked_at, after_moment, is_new, given_in, given_by}
 use Rattle.iscsi_commands.specs.declared.live.Live.{Live}
-use Rattle.iscsi_session.specs.Standing.{Core, Match, are_ascending, are_within, tickets_of, tickets_in}
-use Rattle.iscsi_session.specs.Steps.{set_at, enabled_of, find_ticket, without_ticket, all_given, as_given, set_without}
+use Rattle.iscsi_session.specs.promises.Standing.{Core, Match, are_ascending, are_within, tickets_of, tickets_in}
+use Rattle.iscsi_session.specs.private.Steps.{set_at, enabled_of, find_ticket, without_ticket, all_given, as_given, set_without}
 use Rattle.iscsi_history.proofs.BoolLemmas.{and_parts, and_both}
 use Rattle.iscsi_session.proofs.EnabledLemmas.{filter-map, map-map}
 use Rattle.iscsi_session.proofs.CommandParts.{filter-swap}

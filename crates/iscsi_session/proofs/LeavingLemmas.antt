@@ -13,14 +13,14 @@ use Rattle.iscsi_tasks.specs.Sets.{Members, opened, after_moment, is_new}
 use Rattle.iscsi_history.specs.declared.effect.Effect.{Effect}
 use Rattle.iscsi_history.specs.declared.effect.Effect.TheVariants.{Enable, Leave, Send}
 use Rattle.iscsi_commands.specs.declared.live.Live.{Live}
-use Rattle.iscsi_history.specs.Settings.{Setting}
-use Rattle.iscsi_history.specs.Trace.{first_of, Arrival, Command, Mark, Leaves, Trace, waiting, waiting_by, waiting_through, enters, entered, has, leaves_ticket, live, live_in, is_among, was_free, sent_on}
-use Rattle.iscsi_history.specs.Execution.{unfinished, reply_on}
-use Rattle.iscsi_history.specs.Run.{effects_of_mark, effects_of_item, newly_enabled, stat_sn_of}
-use Rattle.iscsi_session.specs.Standing.{Core, stat_sn_on, kept, task_of, member_of, set_of, WindowAgrees, CommandsAgree, SetsAgree, Agrees}
-use Rattle.iscsi_history.specs.Trace.{are_apart}
-use Rattle.iscsi_session.specs.Steps.{set_at, all_given, as_given, enable_effects, is_numbered}
-use Rattle.iscsi_session.specs.Functions.{covers_ticket, is_gone, staying, set_staying, with_left, aborted, abort_effects}
+use Rattle.iscsi_history.specs.rules.Settings.{Setting}
+use Rattle.iscsi_history.specs.rules.Trace.{first_of, Arrival, Command, Mark, Leaves, Trace, waiting, waiting_by, waiting_through, enters, entered, has, leaves_ticket, live, live_in, is_among, was_free, sent_on}
+use Rattle.iscsi_history.specs.rules.Execution.{unfinished, reply_on}
+use Rattle.iscsi_history.specs.rules.Run.{effects_of_mark, effects_of_item, newly_enabled, stat_sn_of}
+use Rattle.iscsi_session.specs.promises.Standing.{Core, stat_sn_on, kept, task_of, member_of, set_of, WindowAgrees, CommandsAgree, SetsAgree, Agrees}
+use Rattle.iscsi_history.specs.rules.Trace.{are_apart}
+use Rattle.iscsi_session.specs.private.Steps.{set_at, all_given, as_given, enable_effects, is_numbered}
+use Rattle.iscsi_session.specs.private.Functions.{covers_ticket, is_gone, staying, set_staying, with_left, aborted, abort_effects}
 use Rattle.iscsi_session.proofs.OpenConns.{ClosesNone, open_of-same, closes-more}
 use Rattle.iscsi_history.proofs.BoolLemmas.{and_parts, and_both, or_none, or_second, not_true, and_false, and_comm}
 use Rattle.iscsi_history.proofs.ListLemmas.{list_any-map, count_by-map, list_all-filter, any_filter, any_same, fewer_counted}

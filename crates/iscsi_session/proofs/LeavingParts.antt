@@ -16,9 +16,9 @@ use Rattle.iscsi_tasks.specs.declared.member.Member.{Member}
 use Rattle.iscsi_tasks.specs.Sets.{Members, opened, tasks_in, left_by, with_ticket, looked_at, after_moment, uncovered, is_new, ticket_if, is_covered, covered_at}
 use Rattle.iscsi_history.specs.declared.effect.Effect.TheVariants.{Leave}
 use Rattle.iscsi_commands.specs.declared.live.Live.{Live}
-use Rattle.iscsi_session.specs.Standing.{Match, are_ascending, tickets_of, tickets_in}
-use Rattle.iscsi_session.specs.Steps.{all_given, as_given, is_numbered, find_ticket, without_ticket}
-use Rattle.iscsi_session.specs.Functions.{is_gone, staying, set_staying, finished_by, leaves, has_covered, covers_ticket, ungiven, ungiven_in}
+use Rattle.iscsi_session.specs.promises.Standing.{Match, are_ascending, tickets_of, tickets_in}
+use Rattle.iscsi_session.specs.private.Steps.{all_given, as_given, is_numbered, find_ticket, without_ticket}
+use Rattle.iscsi_session.specs.private.Functions.{is_gone, staying, set_staying, finished_by, leaves, has_covered, covers_ticket, ungiven, ungiven_in}
 use Rattle.iscsi_history.proofs.BoolLemmas.{and_parts, and_both, or_none, or_first, or_second, or_false, and_true, and_false, not_true}
 use Rattle.iscsi_history.proofs.ListLemmas.{any_filter, any_same, list_any-map, count_by-map}
 use Rattle.iscsi_history.proofs.TraceLemmas.{filter-same, filter-true, weaker}

@@ -5,10 +5,10 @@ use Rattle.iscsi_tasks.specs.declared.task.Task.{Task}
 use Rattle.iscsi_tasks.specs.Sets.{Members, opened}
 use Rattle.iscsi_connections.specs.Connected.{Connected}
 use Rattle.iscsi_commands.specs.declared.live.Live.{Live}
-use Rattle.iscsi_session.specs.Standing.{Core, Match}
-use Rattle.iscsi_session.specs.Steps.{AreCounted, is_numbered, set_at}
-use Rattle.iscsi_session.specs.Functions.{is_gone, staying, set_staying, finished_by, with_left}
-use Rattle.iscsi_session.specs.Invariant.{Inner, AreCommandsSound, IsSessionSound}
+use Rattle.iscsi_session.specs.promises.Standing.{Core, Match}
+use Rattle.iscsi_session.specs.private.Steps.{AreCounted, is_numbered, set_at}
+use Rattle.iscsi_session.specs.private.Functions.{is_gone, staying, set_staying, finished_by, with_left}
+use Rattle.iscsi_session.specs.private.Invariant.{Inner, AreCommandsSound, IsSessionSound}
 use Rattle.iscsi_history.proofs.ListLemmas.{fewer_counted}
 use Rattle.iscsi_session.proofs.KeptLemmas.{written}
 use Rattle.iscsi_session.proofs.LeavingParts.{Match-staying}

@@ -4,11 +4,11 @@ use Rattle.std.specs.List.{list_all}
 use Rattle.iscsi_wire.specs.Serial.{wire}
 use Rattle.iscsi_commands.specs.declared.live.Live.{Live}
 use Rattle.iscsi_session.specs.declared.session.waiting.Waiting.{Waiting}
-use Rattle.iscsi_history.specs.Settings.{is_known}
+use Rattle.iscsi_history.specs.rules.Settings.{is_known}
 use Rattle.iscsi_wire.specs.declared.request.Request.{Request}
 use Rattle.iscsi_wire.specs.Fields.{connection_of, is_immediate}
-use Rattle.iscsi_session.specs.Standing.{are_known, is_place_known}
-use Rattle.iscsi_session.specs.Steps.{count_reply, without_ticket}
+use Rattle.iscsi_session.specs.promises.Standing.{are_known, is_place_known}
+use Rattle.iscsi_session.specs.private.Steps.{count_reply, without_ticket}
 use Rattle.iscsi_history.proofs.ListLemmas.{is_known-cids, list_all-filter, list_all-same}
 
 -- ---- StatSNs

@@ -14,15 +14,15 @@ use Rattle.iscsi_history.specs.declared.effect.Effect.{Effect}
 use Rattle.iscsi_history.specs.declared.effect.Effect.TheVariants.{Leave, Empty, Send, CloseConn, CloseSession}
 use Rattle.iscsi_session.specs.declared.session.waiting.Waiting.{Waiting}
 use Rattle.iscsi_history.specs.declared.verdict.Verdict.TheVariants.{Answer}
-use Rattle.iscsi_history.specs.Settings.{Setting, is_known}
-use Rattle.iscsi_history.specs.Trace.{Arrival, Command, Mark, Leaves, Empties, ClosesConn, ClosesSession, Trace, waiting, waiting_by, waiting_through, sent_on, closes_conn, closes_session, has, is_ended, is_closed}
-use Rattle.iscsi_history.specs.Execution.{NO_TAG, reply_on}
-use Rattle.iscsi_history.specs.Logout.{is_open, is_last_open, parting, end_session, close_conn, logout_marks}
-use Rattle.iscsi_history.specs.Management.{may_wait}
-use Rattle.iscsi_history.specs.Run.{effects_of_mark, effects_of_item, newly_enabled, stat_sn_of}
-use Rattle.iscsi_session.specs.Standing.{Core, Agrees, WindowAgrees, RepliesAgree, CommandsAgree, arrival_waiting, open_of}
-use Rattle.iscsi_session.specs.Steps.{count_reply, reply_effects}
-use Rattle.iscsi_session.specs.Parting.{is_among_open, closing_by, units_of, covers_of, left_to, emptying_effects, still_open, session_closes, waiting_then, close_effects, all_enable_effects, parted, parting_effects, closed_as, closed_effects}
+use Rattle.iscsi_history.specs.rules.Settings.{Setting, is_known}
+use Rattle.iscsi_history.specs.rules.Trace.{Arrival, Command, Mark, Leaves, Empties, ClosesConn, ClosesSession, Trace, waiting, waiting_by, waiting_through, sent_on, closes_conn, closes_session, has, is_ended, is_closed}
+use Rattle.iscsi_history.specs.rules.Execution.{NO_TAG, reply_on}
+use Rattle.iscsi_history.specs.rules.Logout.{is_open, is_last_open, parting, end_session, close_conn, logout_marks}
+use Rattle.iscsi_history.specs.rules.Management.{may_wait}
+use Rattle.iscsi_history.specs.rules.Run.{effects_of_mark, effects_of_item, newly_enabled, stat_sn_of}
+use Rattle.iscsi_session.specs.promises.Standing.{Core, Agrees, WindowAgrees, RepliesAgree, CommandsAgree, arrival_waiting, open_of}
+use Rattle.iscsi_session.specs.private.Steps.{count_reply, reply_effects}
+use Rattle.iscsi_session.specs.private.Parting.{is_among_open, closing_by, units_of, covers_of, left_to, emptying_effects, still_open, session_closes, waiting_then, close_effects, all_enable_effects, parted, parting_effects, closed_as, closed_effects}
 use Rattle.iscsi_history.proofs.MomentLemmas.{enables}
 use Rattle.iscsi_session.proofs.EnabledLemmas.{filter-map}
 use Rattle.iscsi_session.proofs.ReplyParts.{RepliesAgree-sent}

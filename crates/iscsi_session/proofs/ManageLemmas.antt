@@ -29,15 +29,15 @@ use Rattle.iscsi_history.specs.declared.verdict.Verdict.{Verdict}
 use Rattle.iscsi_history.specs.declared.verdict.Verdict.TheVariants.{Nothing, Answer, Enter}
 use Rattle.iscsi_session.specs.declared.patience.Patience.{Patience}
 use Rattle.iscsi_session.specs.declared.patience.Patience.TheVariants.{Now, Later as ToWait, TooFar, TooMany}
-use Rattle.iscsi_history.specs.Settings.{is_known}
-use Rattle.iscsi_history.specs.Execution.{unit_named}
-use Rattle.iscsi_history.specs.Management.{may_wait, refusal_to}
-use Rattle.iscsi_session.specs.Standing.{Core, is_held}
-use Rattle.iscsi_session.specs.Steps.{noted_in, KeepsPace, is_numbered, new_live, set_at, set_entered, new_task, with_command, with_reply, verdict_by, executed_as}
-use Rattle.iscsi_session.specs.Functions.{tagged_in, missing_at, abort_by, answer_if, outcome_by, staying, covers_ticket, aborted, performed_as, ungiven, ungiven_in, owed}
-use Rattle.iscsi_session.specs.Turning.{waiting_in, wait_by, patience_by, performed, managed, position_by, with_executed}
+use Rattle.iscsi_history.specs.rules.Settings.{is_known}
+use Rattle.iscsi_history.specs.rules.Execution.{unit_named}
+use Rattle.iscsi_history.specs.rules.Management.{may_wait, refusal_to}
+use Rattle.iscsi_session.specs.promises.Standing.{Core, is_held}
+use Rattle.iscsi_session.specs.private.Steps.{noted_in, KeepsPace, is_numbered, new_live, set_at, set_entered, new_task, with_command, with_reply, verdict_by, executed_as}
+use Rattle.iscsi_session.specs.private.Functions.{tagged_in, missing_at, abort_by, answer_if, outcome_by, staying, covers_ticket, aborted, performed_as, ungiven, ungiven_in, owed}
+use Rattle.iscsi_session.specs.private.Turning.{waiting_in, wait_by, patience_by, performed, managed, position_by, with_executed}
 use Rattle.iscsi_session.specs.declared.closing.Closing.{Closing}
-use Rattle.iscsi_session.specs.Parting.{closing_by, closed_as}
+use Rattle.iscsi_session.specs.private.Parting.{closing_by, closed_as}
 use Rattle.iscsi_session.proofs.PartedLemmas.{Parts, closed_parts}
 use Rattle.iscsi_history.proofs.BoolLemmas.{and_first, and_second, and_false}
 use Rattle.iscsi_history.proofs.ListLemmas.{count_by-map, count_by-push, fewer_counted}

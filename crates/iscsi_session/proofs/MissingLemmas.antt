@@ -9,10 +9,10 @@ use Rattle.iscsi_wire.specs.declared.request.Request.{Request}
 use Rattle.iscsi_wire.specs.Serial.{wire, lift, number_of_first}
 use Rattle.iscsi_window.specs.declared.answer.Place.TheVariants.{Inside, Outside as NoPlace}
 use Rattle.iscsi_window.specs.Windows.{Received, number_expected, room_of, at_place, with_place, place_in, received_at, is_received_at, held_at, voided, emptied, emptied_if}
-use Rattle.iscsi_history.specs.Settings.{Setting}
-use Rattle.iscsi_history.specs.Trace.{Arrival, Mark, Voids, Empties, Trace, shown, first_of, number_received, received, contains, is_received, delivers_number, is_delivered, empties_number, is_emptied, held, admitted, admits_at}
-use Rattle.iscsi_history.specs.Executed.{delivers, request_at}
-use Rattle.iscsi_session.specs.Standing.{place_of, WindowAgrees}
+use Rattle.iscsi_history.specs.rules.Settings.{Setting}
+use Rattle.iscsi_history.specs.rules.Trace.{Arrival, Mark, Voids, Empties, Trace, shown, first_of, number_received, received, contains, is_received, delivers_number, is_delivered, empties_number, is_emptied, held, admitted, admits_at}
+use Rattle.iscsi_history.specs.promises.Executed.{delivers, request_at}
+use Rattle.iscsi_session.specs.promises.Standing.{place_of, WindowAgrees}
 use Rattle.iscsi_history.proofs.BoolLemmas.{or_none, or_second, or_false}
 use Rattle.iscsi_history.proofs.TraceLemmas.{unadmitted, received-item}
 use Rattle.iscsi_history.proofs.HeldLemmas.{held-number, admitted_of_held}

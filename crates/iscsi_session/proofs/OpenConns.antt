@@ -2,10 +2,10 @@
 use Rattle.std.proofs.Common.{cond, true, filter, ◌==◌, ◌≡◌, ℕ, ◌||◌, ◌&&◌, not, Bool, false, List, [], ◌∷◌, map, refl, ap, sym, ◌∙◌}
 use Rattle.std.specs.List.{list_any}
 use Rattle.std.proofs.lemmas.Bool.{eqb-true}
-use Rattle.iscsi_history.specs.Settings.{Setting, is_known}
-use Rattle.iscsi_history.specs.Trace.{Mark, Trace, has, closes_conn, closes_session, is_ended, is_closed}
-use Rattle.iscsi_history.specs.Logout.{is_open}
-use Rattle.iscsi_session.specs.Standing.{open_of}
+use Rattle.iscsi_history.specs.rules.Settings.{Setting, is_known}
+use Rattle.iscsi_history.specs.rules.Trace.{Mark, Trace, has, closes_conn, closes_session, is_ended, is_closed}
+use Rattle.iscsi_history.specs.rules.Logout.{is_open}
+use Rattle.iscsi_session.specs.promises.Standing.{open_of}
 use Rattle.iscsi_history.proofs.BoolLemmas.{or_false, and_false}
 use Rattle.iscsi_history.proofs.TraceLemmas.{filter-same}
 

@@ -8,17 +8,17 @@ use Rattle.iscsi_window.specs.Windows.{Received, number_expected, opened}
 use Rattle.iscsi_tasks.specs.Sets.{Members, opened as opened_set}
 use Rattle.iscsi_history.specs.declared.event.Event.{Event}
 use Rattle.iscsi_wire.specs.Fields.{connection_of}
-use Rattle.iscsi_history.specs.Settings.{Setting, is_known}
-use Rattle.iscsi_history.specs.Trace.{Arrival, Trace, first_of, is_received, held, live, waiting}
-use Rattle.iscsi_history.specs.Run.{trace_of}
-use Rattle.iscsi_history.specs.Executed.{request_at}
-use Rattle.iscsi_session.specs.Standing.{Core, Settled, StandsFor, place_of, is_held, stat_sn_on, held_count, effect_bound_of, kept, arrival_waiting}
-use Rattle.iscsi_history.specs.Logout.{is_open}
+use Rattle.iscsi_history.specs.rules.Settings.{Setting, is_known}
+use Rattle.iscsi_history.specs.rules.Trace.{Arrival, Trace, first_of, is_received, held, live, waiting}
+use Rattle.iscsi_history.specs.rules.Run.{trace_of}
+use Rattle.iscsi_history.specs.promises.Executed.{request_at}
+use Rattle.iscsi_session.specs.promises.Standing.{Core, Settled, StandsFor, place_of, is_held, stat_sn_on, held_count, effect_bound_of, kept, arrival_waiting}
+use Rattle.iscsi_history.specs.rules.Logout.{is_open}
 use Rattle.iscsi_history.proofs.BoolLemmas.{or_second}
 use Rattle.iscsi_session.proofs.EnablingLemmas.{EnabledSoFar-none}
 use Rattle.iscsi_session.proofs.MissingLemmas.{unreceived_unheld}
 use Rattle.iscsi_session.proofs.AgreeLemmas.{settled_expected}
-use Rattle.iscsi_history.specs.Management.{may_wait}
+use Rattle.iscsi_history.specs.rules.Management.{may_wait}
 use Rattle.iscsi_session.specs.declared.session.waiting.Waiting.{Waiting}
 
 nothing_at : {A : Type 0} (n k : ℕ) → get_or (replicate {A = Option A} n None) k None ≡ None

@@ -7,8 +7,8 @@ use Rattle.std.proofs.lemmas.List.Sums.{sum_by-cons, length-filter, count_by-le-
 use Rattle.iscsi_tasks.specs.declared.member.Member.{Member}
 use Rattle.iscsi_tasks.specs.Sets.{Members, opened}
 use Rattle.iscsi_commands.specs.declared.live.Live.{Live}
-use Rattle.iscsi_session.specs.Standing.{Match, tickets_of, tickets_in}
-use Rattle.iscsi_session.specs.Functions.{ungiven, ungiven_in, owed}
+use Rattle.iscsi_session.specs.promises.Standing.{Match, tickets_of, tickets_in}
+use Rattle.iscsi_session.specs.private.Functions.{ungiven, ungiven_in, owed}
 
 one_unit : (n u : ℕ) → cond (n == u) 1 0 + cond (nat_le (u + 1) n) 1 0 ≤ cond (nat_le u n) 1 0
 one_unit n u =

@@ -17,15 +17,15 @@ use Rattle.iscsi_commands.specs.declared.live.Live.{Live}
 use Rattle.iscsi_session.specs.declared.session.waiting.Waiting.{Waiting}
 use Rattle.iscsi_history.specs.declared.verdict.Verdict.{Verdict}
 use Rattle.iscsi_history.specs.declared.verdict.Verdict.TheVariants.{Nothing, Answer, Enter}
-use Rattle.iscsi_history.specs.Execution.{unit_named}
-use Rattle.iscsi_history.specs.Management.{refusal_to}
-use Rattle.iscsi_session.specs.Standing.{Core}
-use Rattle.iscsi_session.specs.Steps.{KeepsPace, set_at, started, is_numbered, verdict_by, executed_as, with_reply}
-use Rattle.iscsi_session.specs.Functions.{is_gone, with_left, outcome_by, aborted, performed_as}
-use Rattle.iscsi_session.specs.Parting.{closing_by, closed_as}
+use Rattle.iscsi_history.specs.rules.Execution.{unit_named}
+use Rattle.iscsi_history.specs.rules.Management.{refusal_to}
+use Rattle.iscsi_session.specs.promises.Standing.{Core}
+use Rattle.iscsi_session.specs.private.Steps.{KeepsPace, set_at, started, is_numbered, verdict_by, executed_as, with_reply}
+use Rattle.iscsi_session.specs.private.Functions.{is_gone, with_left, outcome_by, aborted, performed_as}
+use Rattle.iscsi_session.specs.private.Parting.{closing_by, closed_as}
 use Rattle.iscsi_history.proofs.ListLemmas.{fewer_counted}
 use Rattle.iscsi_session.proofs.PartedLemmas.{Parts, closed_parts}
-use Rattle.iscsi_session.specs.Turning.{performed, managed, position_by, with_executed, with_advanced, next_arrived, turned_if, without_waiting, next_position, function_if, immediate_as}
+use Rattle.iscsi_session.specs.private.Turning.{performed, managed, position_by, with_executed, with_advanced, next_arrived, turned_if, without_waiting, next_position, function_if, immediate_as}
 
 -- no number turns, no event is counted, and so many commands more are unfinished at the most
 pub record Stays (more : ℕ) (s s' : Core) : Type 0 where

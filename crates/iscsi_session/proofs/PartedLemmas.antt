@@ -14,10 +14,10 @@ use Rattle.iscsi_history.specs.declared.effect.Effect.{Effect}
 use Rattle.iscsi_history.specs.declared.effect.Effect.TheVariants.{Send, CloseConn}
 use Rattle.iscsi_commands.specs.declared.live.Live.{Live}
 use Rattle.iscsi_session.specs.declared.session.waiting.Waiting.{Waiting}
-use Rattle.iscsi_session.specs.Standing.{Core, is_held, stat_sn_on}
-use Rattle.iscsi_session.specs.Steps.{set_at, is_numbered, reply_effects}
-use Rattle.iscsi_session.specs.Functions.{is_gone, set_staying, with_left}
-use Rattle.iscsi_session.specs.Parting.{units_of, covers_of, with_all_left, all_leaving_effects, left_to, emptied_place, emptied_from, emptying_effects, still_open, session_closes, waiting_then, close_effects, all_enable_effects, parted, parting_effects, closed_as}
+use Rattle.iscsi_session.specs.promises.Standing.{Core, is_held, stat_sn_on}
+use Rattle.iscsi_session.specs.private.Steps.{set_at, is_numbered, reply_effects}
+use Rattle.iscsi_session.specs.private.Functions.{is_gone, set_staying, with_left}
+use Rattle.iscsi_session.specs.private.Parting.{units_of, covers_of, with_all_left, all_leaving_effects, left_to, emptied_place, emptied_from, emptying_effects, still_open, session_closes, waiting_then, close_effects, all_enable_effects, parted, parting_effects, closed_as}
 use Rattle.iscsi_history.proofs.ListLemmas.{fewer_counted, filter-shorter}
 
 -- ---- commands of several units leave

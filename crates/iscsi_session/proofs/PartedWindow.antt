@@ -5,12 +5,12 @@ use Rattle.iscsi_wire.specs.declared.request.Request.{Request}
 use Rattle.iscsi_wire.specs.Serial.{wire}
 use Rattle.iscsi_window.specs.Windows.{Received, with_unfinished}
 use Rattle.iscsi_history.specs.declared.effect.Effect.TheVariants.{Empty}
-use Rattle.iscsi_history.specs.Settings.{Setting}
-use Rattle.iscsi_history.specs.Trace.{Arrival, Command, Mark, Empties, ClosesConn, ClosesSession, Trace}
-use Rattle.iscsi_history.specs.Run.{effects_of_mark}
-use Rattle.iscsi_history.specs.Logout.{is_last_open, parting}
-use Rattle.iscsi_session.specs.Standing.{Core, WindowAgrees, ArrivalsAgree}
-use Rattle.iscsi_session.specs.Parting.{units_of, covers_of, left_to, emptying_effects, parted}
+use Rattle.iscsi_history.specs.rules.Settings.{Setting}
+use Rattle.iscsi_history.specs.rules.Trace.{Arrival, Command, Mark, Empties, ClosesConn, ClosesSession, Trace}
+use Rattle.iscsi_history.specs.rules.Run.{effects_of_mark}
+use Rattle.iscsi_history.specs.rules.Logout.{is_last_open, parting}
+use Rattle.iscsi_session.specs.promises.Standing.{Core, WindowAgrees, ArrivalsAgree}
+use Rattle.iscsi_session.specs.private.Parting.{units_of, covers_of, left_to, emptying_effects, parted}
 use Rattle.iscsi_history.proofs.DeliveryLemmas.{IsQuiet}
 use Rattle.iscsi_session.proofs.LeavingLemmas.{WindowAgrees-fewer}
 use Rattle.iscsi_session.proofs.PartedLemmas.{Keeps, left_keeps}

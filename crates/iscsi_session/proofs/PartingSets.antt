@@ -14,16 +14,16 @@ use Rattle.iscsi_tasks.specs.Sets.{Members, opened, after_moment}
 use Rattle.iscsi_history.specs.declared.effect.Effect.{Effect}
 use Rattle.iscsi_history.specs.declared.effect.Effect.TheVariants.{Enable, Leave}
 use Rattle.iscsi_commands.specs.declared.live.Live.{Live}
-use Rattle.iscsi_history.specs.Settings.{Setting}
-use Rattle.iscsi_history.specs.Trace.{Arrival, Command, Mark, Empties, Leaves, ClosesConn, ClosesSession, Trace, has, enters, entered, leaves_ticket, live, live_in, is_among}
-use Rattle.iscsi_history.specs.Execution.{unfinished}
-use Rattle.iscsi_history.specs.Logout.{live_of_units, all_held, is_last_open, taken_out, parting, end_session, close_conn}
-use Rattle.iscsi_history.specs.Run.{newly_enabled}
-use Rattle.iscsi_history.specs.Enabling.{EnabledSoFar}
-use Rattle.iscsi_session.specs.Standing.{Core, task_of, member_of, set_of, CommandsAgree, SetsAgree}
-use Rattle.iscsi_session.specs.Steps.{set_at, all_given, as_given, enable_effects}
-use Rattle.iscsi_session.specs.Functions.{is_gone, set_staying, leaving_effects}
-use Rattle.iscsi_session.specs.Parting.{units_of, covers_of, all_leaving_effects, left_to, all_enable_effects}
+use Rattle.iscsi_history.specs.rules.Settings.{Setting}
+use Rattle.iscsi_history.specs.rules.Trace.{Arrival, Command, Mark, Empties, Leaves, ClosesConn, ClosesSession, Trace, has, enters, entered, leaves_ticket, live, live_in, is_among}
+use Rattle.iscsi_history.specs.rules.Execution.{unfinished}
+use Rattle.iscsi_history.specs.rules.Logout.{live_of_units, all_held, is_last_open, taken_out, parting, end_session, close_conn}
+use Rattle.iscsi_history.specs.rules.Run.{newly_enabled}
+use Rattle.iscsi_history.specs.promises.Enabling.{EnabledSoFar}
+use Rattle.iscsi_session.specs.promises.Standing.{Core, task_of, member_of, set_of, CommandsAgree, SetsAgree}
+use Rattle.iscsi_session.specs.private.Steps.{set_at, all_given, as_given, enable_effects}
+use Rattle.iscsi_session.specs.private.Functions.{is_gone, set_staying, leaving_effects}
+use Rattle.iscsi_session.specs.private.Parting.{units_of, covers_of, all_leaving_effects, left_to, all_enable_effects}
 use Rattle.iscsi_history.proofs.BoolLemmas.{and_parts, or_none, or_false}
 use Rattle.iscsi_history.proofs.ListLemmas.{list_any-map, list_all-filter, any_filter, any_flat_map}
 use Rattle.iscsi_history.proofs.TraceLemmas.{filter-same}

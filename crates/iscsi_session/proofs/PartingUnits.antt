@@ -8,10 +8,10 @@ use Rattle.iscsi_tasks.specs.declared.member.Member.{Member}
 use Rattle.iscsi_tasks.specs.Sets.{Members, opened}
 use Rattle.iscsi_history.specs.declared.effect.Effect.TheVariants.{Leave}
 use Rattle.iscsi_commands.specs.declared.live.Live.{Live}
-use Rattle.iscsi_session.specs.Standing.{Core}
-use Rattle.iscsi_session.specs.Steps.{set_at, is_numbered}
-use Rattle.iscsi_session.specs.Functions.{is_gone, set_staying, with_left, leaving_effects}
-use Rattle.iscsi_session.specs.Parting.{with_all_left, all_leaving_effects}
+use Rattle.iscsi_session.specs.promises.Standing.{Core}
+use Rattle.iscsi_session.specs.private.Steps.{set_at, is_numbered}
+use Rattle.iscsi_session.specs.private.Functions.{is_gone, set_staying, with_left, leaving_effects}
+use Rattle.iscsi_session.specs.private.Parting.{with_all_left, all_leaving_effects}
 use Rattle.iscsi_history.proofs.BoolLemmas.{or_first, or_second}
 use Rattle.iscsi_history.proofs.TraceLemmas.{filter-same, filter-true}
 use Rattle.iscsi_history.proofs.NewlyLemmas.{filter-twice}

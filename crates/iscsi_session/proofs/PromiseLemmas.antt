@@ -1,13 +1,13 @@
 -- Where a session stands for some events, their log keeps the promises.
 use Rattle.std.proofs.Common.{◌≡◌, ◌∙◌, List, [], ap, sym}
 use Rattle.iscsi_history.specs.declared.event.Event.{Event}
-use Rattle.iscsi_history.specs.Settings.{Setting}
-use Rattle.iscsi_history.specs.Run.{trace_of, run_of}
-use Rattle.iscsi_history.specs.Executed.{delivered, executed, executed_below}
-use Rattle.iscsi_history.specs.Flow.{FlowsThrough}
-use Rattle.iscsi_history.specs.Enabling.{EnablesByTheRule}
-use Rattle.iscsi_history.specs.Closes.{ClosesHoldIn}
-use Rattle.iscsi_history.specs.Promises.{KeepsPromises}
+use Rattle.iscsi_history.specs.rules.Settings.{Setting}
+use Rattle.iscsi_history.specs.rules.Run.{trace_of, run_of}
+use Rattle.iscsi_history.specs.promises.Executed.{delivered, executed, executed_below}
+use Rattle.iscsi_history.specs.promises.Flow.{FlowsThrough}
+use Rattle.iscsi_history.specs.promises.Enabling.{EnablesByTheRule}
+use Rattle.iscsi_history.specs.promises.Closes.{ClosesHoldIn}
+use Rattle.iscsi_history.specs.promises.Promises.{KeepsPromises}
 use Rattle.iscsi_history.proofs.DeliveryLemmas.{log_delivers}
 use Rattle.iscsi_history.proofs.MomentLemmas.{log_effects, rule_means}
 use Rattle.iscsi_history.proofs.AbortTheorem.{aborts_hold_in}
@@ -17,7 +17,7 @@ use Rattle.iscsi_history.proofs.AnswerTheorem.{answers_once_in}
 use Rattle.iscsi_history.proofs.NumberingLemmas.{counts_replies}
 use Rattle.iscsi_history.proofs.OrderRuns.{keeps_order}
 use Rattle.iscsi_history.proofs.MeaningTheorem.{means_what_it_says}
-use Rattle.iscsi_session.specs.Standing.{Core, StandsFor}
+use Rattle.iscsi_session.specs.promises.Standing.{Core, StandsFor}
 use Rattle.iscsi_session.proofs.AgreeLemmas.{settled_expected}
 
 pub stands_delivers : (o : Setting) (s : Core) (h : List Event) → StandsFor o s h → delivered (run_of o h) ≡ executed o h

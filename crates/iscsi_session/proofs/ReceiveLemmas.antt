@@ -9,12 +9,12 @@ use Rattle.iscsi_wire.specs.Serial.{lift}
 use Rattle.iscsi_wire.specs.Fields.{connection_of, header_of, is_immediate, opcode, function, itt, rtt, cid, ref_cmd_sn}
 use Rattle.iscsi_history.specs.declared.verdict.Verdict.{Verdict}
 use Rattle.iscsi_history.specs.declared.verdict.Verdict.TheVariants.{Nothing, Answer, Enter as EnterUnit}
-use Rattle.iscsi_history.specs.Settings.{Setting}
-use Rattle.iscsi_history.specs.Trace.{Arrival, Command, Mark, Delivers, Executes, Voids, Empties, Waits, Leaves, ClosesConn, ClosesSession, Trace, number_received, is_received, live_in}
-use Rattle.iscsi_history.specs.Execution.{exp_of, max_of, NO_TAG, unit_named, marks_of, verdict_of, reply_on}
-use Rattle.iscsi_history.specs.Management.{may_wait, refusal_of_function, waiting_on, answer, held_command, live_with_tag, abort_missing, abort_task, is_before, abort_all, function_to, function_marks, management_marks}
-use Rattle.iscsi_history.specs.Logout.{is_open, is_last_open, taken_out, parting, end_session, close_conn, logout_marks}
-use Rattle.iscsi_history.specs.Items.{marks_after, execution, waiting_item, immediate_item, function_item, item_of}
+use Rattle.iscsi_history.specs.rules.Settings.{Setting}
+use Rattle.iscsi_history.specs.rules.Trace.{Arrival, Command, Mark, Delivers, Executes, Voids, Empties, Waits, Leaves, ClosesConn, ClosesSession, Trace, number_received, is_received, live_in}
+use Rattle.iscsi_history.specs.rules.Execution.{exp_of, max_of, NO_TAG, unit_named, marks_of, verdict_of, reply_on}
+use Rattle.iscsi_history.specs.rules.Management.{may_wait, refusal_of_function, waiting_on, answer, held_command, live_with_tag, abort_missing, abort_task, is_before, abort_all, function_to, function_marks, management_marks}
+use Rattle.iscsi_history.specs.rules.Logout.{is_open, is_last_open, taken_out, parting, end_session, close_conn, logout_marks}
+use Rattle.iscsi_history.specs.rules.Items.{marks_after, execution, waiting_item, immediate_item, function_item, item_of}
 use Rattle.iscsi_history.proofs.BoolLemmas.{and_false}
 use Rattle.iscsi_history.proofs.AbortMarks.{view_taken}
 

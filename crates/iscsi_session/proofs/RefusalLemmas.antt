@@ -4,9 +4,9 @@ use Rattle.std.specs.List.{list_all}
 use Rattle.iscsi_history.specs.declared.event.Event.{Event}
 use Rattle.iscsi_session.specs.declared.fault.SessionFault.{SessionFault}
 use Rattle.iscsi_session.specs.declared.fault.SessionFault.TheVariants.{UnknownConnection, Exhausted, NoMemory}
-use Rattle.iscsi_history.specs.Settings.{Setting}
-use Rattle.iscsi_history.specs.Agenda.{belongs}
-use Rattle.iscsi_session.specs.Refusals.{first_refusal, refusal_after, refusal_of, RefusesAs, RunRefusesAs}
+use Rattle.iscsi_history.specs.rules.Settings.{Setting}
+use Rattle.iscsi_history.specs.rules.Agenda.{belongs}
+use Rattle.iscsi_session.specs.promises.Refusals.{first_refusal, refusal_after, refusal_of, RefusesAs, RunRefusesAs}
 use Rattle.std.proofs.lemmas.List.{drop_more}
 use Rattle.iscsi_history.proofs.BoolLemmas.{and_parts, and_both}
 

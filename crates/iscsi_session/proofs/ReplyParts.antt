@@ -5,11 +5,11 @@ use Rattle.std.proofs.lemmas.Bool.{false≢true, eqb-true}
 use Rattle.std.proofs.lemmas.List.{append-nil}
 use Rattle.std.proofs.lemmas.List.Sums.{sum_by-append}
 use Rattle.iscsi_wire.specs.Serial.{wire}
-use Rattle.iscsi_history.specs.Settings.{Setting, is_known}
-use Rattle.iscsi_history.specs.Trace.{Mark, Trace, shown, sent_on}
-use Rattle.iscsi_history.specs.Run.{stat_sn_of, first_stat_sn}
-use Rattle.iscsi_session.specs.Standing.{stat_sn_on, RepliesAgree}
-use Rattle.iscsi_session.specs.Steps.{count_reply}
+use Rattle.iscsi_history.specs.rules.Settings.{Setting, is_known}
+use Rattle.iscsi_history.specs.rules.Trace.{Mark, Trace, shown, sent_on}
+use Rattle.iscsi_history.specs.rules.Run.{stat_sn_of, first_stat_sn}
+use Rattle.iscsi_session.specs.promises.Standing.{stat_sn_on, RepliesAgree}
+use Rattle.iscsi_session.specs.private.Steps.{count_reply}
 use Rattle.iscsi_session.proofs.ListLemmas.{cids-count_reply}
 use Rattle.iscsi_history.proofs.ListLemmas.{is_known-cids}
 use Rattle.iscsi_session.proofs.NumberLemmas.{wire-next}

@@ -7,11 +7,11 @@ use Rattle.iscsi_tasks.specs.declared.task.Task.{Task}
 use Rattle.iscsi_tasks.specs.declared.member.Member.{Member}
 use Rattle.iscsi_tasks.specs.Sets.{Members, opened, tasks_in, entered_to, left_by, with_ticket, without, after_moment, next_in, given_by}
 use Rattle.iscsi_commands.specs.declared.live.Live.{Live}
-use Rattle.iscsi_history.specs.Settings.{Setting}
-use Rattle.iscsi_history.specs.Trace.{Command, Mark, Trace, live, live_in, is_among}
-use Rattle.iscsi_history.specs.Run.{newly_enabled}
-use Rattle.iscsi_session.specs.Standing.{task_of, member_of, set_of, SetsAgree, CommandsAgree}
-use Rattle.iscsi_session.specs.Steps.{all_given, as_given, enable_effects, enable_effect}
+use Rattle.iscsi_history.specs.rules.Settings.{Setting}
+use Rattle.iscsi_history.specs.rules.Trace.{Command, Mark, Trace, live, live_in, is_among}
+use Rattle.iscsi_history.specs.rules.Run.{newly_enabled}
+use Rattle.iscsi_session.specs.promises.Standing.{task_of, member_of, set_of, SetsAgree, CommandsAgree}
+use Rattle.iscsi_session.specs.private.Steps.{all_given, as_given, enable_effects, enable_effect}
 use Rattle.iscsi_history.proofs.NewlyLemmas.{never_free}
 use Rattle.iscsi_session.proofs.EnabledLemmas.{filter-map, noted_given, noted_effects, newly-one, set_of-same, EnteredSet, set-entered}
 use Rattle.iscsi_history.proofs.MomentLemmas.{enables}

@@ -9,11 +9,11 @@ use Rattle.iscsi_window.specs.Windows.{Received, advanced}
 use Rattle.iscsi_tasks.specs.Sets.{Members}
 use Rattle.iscsi_commands.specs.declared.live.Live.{Live}
 use Rattle.iscsi_session.specs.declared.session.waiting.Waiting.{Waiting}
-use Rattle.iscsi_history.specs.Settings.{is_known}
-use Rattle.iscsi_history.specs.Management.{may_wait}
-use Rattle.iscsi_session.specs.Standing.{is_held, is_place_known, Match, are_within}
-use Rattle.iscsi_session.specs.Steps.{AreCounted, is_numbered, count_reply}
-use Rattle.iscsi_session.specs.Invariant.{Inner, IsWindowSound, AreCommandsSound, AreFunctionsSound, HasRooms, IsSessionSound}
+use Rattle.iscsi_history.specs.rules.Settings.{is_known}
+use Rattle.iscsi_history.specs.rules.Management.{may_wait}
+use Rattle.iscsi_session.specs.promises.Standing.{is_held, is_place_known, Match, are_within}
+use Rattle.iscsi_session.specs.private.Steps.{AreCounted, is_numbered, count_reply}
+use Rattle.iscsi_session.specs.private.Invariant.{Inner, IsWindowSound, AreCommandsSound, AreFunctionsSound, HasRooms, IsSessionSound}
 use Rattle.iscsi_history.proofs.ListLemmas.{count_by-push, list_all-filter, fewer_counted}
 use Rattle.iscsi_session.proofs.ListLemmas.{are_known-replied, are_places_known-replied, are_waiting_known-replied}
 use Rattle.iscsi_history.proofs.TraceLemmas.{weaker}

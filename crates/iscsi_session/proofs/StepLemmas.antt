@@ -22,16 +22,16 @@ use Rattle.iscsi_history.specs.declared.event.Event.{Event}
 use Rattle.iscsi_history.specs.declared.event.Event.TheVariants.{Arrive, Done}
 use Rattle.iscsi_commands.specs.declared.live.Live.{Live}
 use Rattle.iscsi_session.specs.declared.fault.SessionFault.TheVariants.{UnknownConnection, Exhausted}
-use Rattle.iscsi_history.specs.Settings.{Setting, is_known}
-use Rattle.iscsi_history.specs.Trace.{Arrival, Command, Mark, Admits, Leaves, Trace, first_of, is_received, held, live, live_in, was_free, is_among}
-use Rattle.iscsi_history.specs.Execution.{exp_of, max_of, unfinished, ignored, completion, sense_of_status, reply_on}
-use Rattle.iscsi_history.specs.Agenda.{with_turns, numbered, arrival_of, command_of, items_of}
-use Rattle.iscsi_history.specs.Items.{agenda}
-use Rattle.iscsi_history.specs.Run.{stat_sn_of, newly_enabled, effects_of, trace_of}
-use Rattle.iscsi_history.specs.Agenda.{belongs}
-use Rattle.iscsi_session.specs.Refusals.{refusal_of}
-use Rattle.iscsi_session.specs.Standing.{Core, CommandsAgree, place_of, kept, is_regular, is_regular_request, member_of, WindowAgrees, Agrees, Settled, StandsFor, ArrivalsAgree}
-use Rattle.iscsi_session.specs.Steps.{set_at, set_left, enable_effects, finished, with_offered, comes_on, refusal_by, find_ticket, without_ticket, enabled_of, find_enabled, without_command, leave_effects, after_completion, completion_effects, counted, noted_at}
+use Rattle.iscsi_history.specs.rules.Settings.{Setting, is_known}
+use Rattle.iscsi_history.specs.rules.Trace.{Arrival, Command, Mark, Admits, Leaves, Trace, first_of, is_received, held, live, live_in, was_free, is_among}
+use Rattle.iscsi_history.specs.rules.Execution.{exp_of, max_of, unfinished, ignored, completion, sense_of_status, reply_on}
+use Rattle.iscsi_history.specs.rules.Agenda.{with_turns, numbered, arrival_of, command_of, items_of}
+use Rattle.iscsi_history.specs.rules.Items.{agenda}
+use Rattle.iscsi_history.specs.rules.Run.{stat_sn_of, newly_enabled, effects_of, trace_of}
+use Rattle.iscsi_history.specs.rules.Agenda.{belongs}
+use Rattle.iscsi_session.specs.promises.Refusals.{refusal_of}
+use Rattle.iscsi_session.specs.promises.Standing.{Core, CommandsAgree, place_of, kept, is_regular, is_regular_request, member_of, WindowAgrees, Agrees, Settled, StandsFor, ArrivalsAgree}
+use Rattle.iscsi_session.specs.private.Steps.{set_at, set_left, enable_effects, finished, with_offered, comes_on, refusal_by, find_ticket, without_ticket, enabled_of, find_enabled, without_command, leave_effects, after_completion, completion_effects, counted, noted_at}
 use Rattle.iscsi_session.proofs.OpenConns.{open_of-same}
 use Rattle.iscsi_history.proofs.BoolLemmas.{and_parts, and_both, or_false, and_true}
 use Rattle.iscsi_session.proofs.NumberLemmas.{wire-lift}

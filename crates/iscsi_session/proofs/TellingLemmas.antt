@@ -5,7 +5,7 @@ use Rattle.std.proofs.lemmas.Bool.{cases_eq}
 use Rattle.std.proofs.lemmas.List.{get_or-set_same, get_or-set_other}
 use Rattle.iscsi_tasks.specs.declared.member.Member.{Member}
 use Rattle.iscsi_tasks.specs.Sets.{Members, opened}
-use Rattle.iscsi_session.specs.Steps.{as_given, all_given, enable_effects}
+use Rattle.iscsi_session.specs.private.Steps.{as_given, all_given, enable_effects}
 
 -- the units from one on
 pub range_step : (u end : ℕ) → u < end → range_with_len u (end - u) ≡ u ∷ range_with_len (u + 1) (end - (u + 1))

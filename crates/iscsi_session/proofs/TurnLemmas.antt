@@ -5,11 +5,11 @@ use Rattle.iscsi_wire.specs.Serial.{lift}
 use Rattle.iscsi_wire.specs.Fields.{connection_of, is_immediate, cmd_sn}
 use Rattle.iscsi_window.specs.Windows.{number_expected, at_place, advanced_if}
 use Rattle.iscsi_history.specs.declared.effect.Effect.TheVariants.{Deliver}
-use Rattle.iscsi_history.specs.Settings.{Setting, is_known}
-use Rattle.iscsi_history.specs.Trace.{Arrival, Delivers, Trace, held}
-use Rattle.iscsi_session.specs.Standing.{Core, Agrees}
-use Rattle.iscsi_session.specs.Steps.{number_by, event_by}
-use Rattle.iscsi_session.specs.Turning.{with_executed, executed_effects, next_arrived, turned_if, turn_effects}
+use Rattle.iscsi_history.specs.rules.Settings.{Setting, is_known}
+use Rattle.iscsi_history.specs.rules.Trace.{Arrival, Delivers, Trace, held}
+use Rattle.iscsi_session.specs.promises.Standing.{Core, Agrees}
+use Rattle.iscsi_session.specs.private.Steps.{number_by, event_by}
+use Rattle.iscsi_session.specs.private.Turning.{with_executed, executed_effects, next_arrived, turned_if, turn_effects}
 use Rattle.iscsi_history.proofs.BoolLemmas.{and_parts, not_true}
 use Rattle.iscsi_history.proofs.HeldLemmas.{held-number, admitted_of_held}
 use Rattle.iscsi_session.proofs.WindowParts.{Next, has_first, turned_window, WindowAgrees-turned}

@@ -6,12 +6,12 @@ use Rattle.std.proofs.lemmas.Bool.Decides.{nat_tests}
 use Rattle.iscsi_wire.specs.Serial.{lift, number_of_first}
 use Rattle.iscsi_wire.specs.Fields.{is_immediate, function, itt, rtt, ref_cmd_sn}
 use Rattle.iscsi_session.specs.declared.session.waiting.Waiting.{Waiting}
-use Rattle.iscsi_history.specs.Settings.{Setting}
-use Rattle.iscsi_history.specs.Trace.{Arrival, Command, Mark, Executes, Voids, Leaves, Trace, after_items, is_received, waiting, waiting_through, live_in}
-use Rattle.iscsi_history.specs.Execution.{exp_of, max_of, unit_named}
-use Rattle.iscsi_history.specs.Management.{answer, live_with_tag, held_command, abort_missing, abort_task, abort_all, is_before, function_to, function_marks}
-use Rattle.iscsi_history.specs.Items.{function_item, is_waiting, functions, functions_at}
-use Rattle.iscsi_session.specs.Standing.{arrival_waiting}
+use Rattle.iscsi_history.specs.rules.Settings.{Setting}
+use Rattle.iscsi_history.specs.rules.Trace.{Arrival, Command, Mark, Executes, Voids, Leaves, Trace, after_items, is_received, waiting, waiting_through, live_in}
+use Rattle.iscsi_history.specs.rules.Execution.{exp_of, max_of, unit_named}
+use Rattle.iscsi_history.specs.rules.Management.{answer, live_with_tag, held_command, abort_missing, abort_task, abort_all, is_before, function_to, function_marks}
+use Rattle.iscsi_history.specs.rules.Items.{function_item, is_waiting, functions, functions_at}
+use Rattle.iscsi_session.specs.promises.Standing.{arrival_waiting}
 use Rattle.iscsi_history.proofs.BoolLemmas.{or_first, or_second}
 use Rattle.iscsi_session.proofs.EnabledLemmas.{filter-map}
 use Rattle.iscsi_session.proofs.CommandParts.{filter-swap}

@@ -6,7 +6,7 @@ use Rattle.std.proofs.lemmas.Bool.Decides.{nat_tests}
 use Rattle.std.proofs.lemmas.List.{length_push}
 use Rattle.std.proofs.lemmas.List.Folds.{list_all-append}
 use Rattle.std.proofs.lemmas.List.Sums.{sum_by-cons, sum_by-append}
-use Rattle.iscsi_session.specs.Standing.{is_held, is_place_known}
+use Rattle.iscsi_session.specs.promises.Standing.{is_held, is_place_known}
 use Rattle.iscsi_window.specs.declared.answer.Turned.{Turned}
 use Rattle.iscsi_wire.specs.declared.request.Request.{Request}
 use Rattle.iscsi_wire.specs.Serial.{wire, lift}

@@ -4,16 +4,16 @@ use Rattle.std.specs.List.{list_any, cons_option}
 use Rattle.std.proofs.lemmas.List.{append-nil, length_push, get_or_append_left, get_or-drop, get_or-set_same, get_or-set_other}
 use Rattle.iscsi_wire.specs.declared.request.Request.{Request}
 use Rattle.iscsi_wire.specs.Serial.{number_of_first, wire}
-use Rattle.iscsi_history.specs.Settings.{Setting}
-use Rattle.iscsi_history.specs.Trace.{Arrival, Mark, Admits, Delivers, Trace, shown, first_of, received, contains, is_received, delivers_number, is_delivered, is_emptied, held, admits_at, admitted}
-use Rattle.iscsi_history.specs.Executed.{request_at, executed_below, delivers}
-use Rattle.iscsi_session.specs.Standing.{place_of, is_regular_request, WindowAgrees}
+use Rattle.iscsi_history.specs.rules.Settings.{Setting}
+use Rattle.iscsi_history.specs.rules.Trace.{Arrival, Mark, Admits, Delivers, Trace, shown, first_of, received, contains, is_received, delivers_number, is_delivered, is_emptied, held, admits_at, admitted}
+use Rattle.iscsi_history.specs.promises.Executed.{request_at, executed_below, delivers}
+use Rattle.iscsi_session.specs.promises.Standing.{place_of, is_regular_request, WindowAgrees}
 use Rattle.std.proofs.lemmas.Bool.{cases_lt, cases_eq, false≢true}
 use Rattle.std.proofs.lemmas.Bool.Decides.{nat_tests}
 use Rattle.std.proofs.lemmas.List.Folds.{list_any-append}
 use Rattle.iscsi_wire.specs.Fields.{cmd_sn}
 use Rattle.iscsi_window.specs.Windows.{Received, number_expected, room_of, at_place, with_place, with_unfinished}
-use Rattle.iscsi_history.specs.Execution.{exp_of}
+use Rattle.iscsi_history.specs.rules.Execution.{exp_of}
 use Rattle.iscsi_history.proofs.BoolLemmas.{or_none, or_second, or_false}
 use Rattle.iscsi_history.proofs.Missing.{expected_is, expected_low, expected_gone}
 use Rattle.iscsi_history.proofs.HeldLemmas.{held-delivered, admitted-number, admitted-cases, admitted-admits, held-admits, held-here, held-number, held-turned, request_at-turned, admitted_of_held, held_unemptied}

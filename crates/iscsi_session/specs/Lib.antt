@@ -1,8 +1,2 @@
-pub mod Settings
-pub mod Refusals
-pub mod Standing
-pub mod Steps
-pub mod Functions
-pub mod Parting
-pub mod Turning
-pub mod Invariant
+pub mod promises
+pub mod private

@@ -1,7 +1,7 @@
 //! The opcodes, and what becomes of a request by its own.
 
 ghost use Rattle.std.specs.Prelude.{◌≡◌};
-ghost use Rattle.iscsi_history.specs.Agenda.{kind_of as kind_named};
+ghost use Rattle.iscsi_history.specs.rules.Agenda.{kind_of as kind_named};
 
 use iscsi_history::Kind;
 use iscsi_wire::Request;

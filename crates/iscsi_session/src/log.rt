@@ -1,14 +1,14 @@
 //! The log of a list of events.
 
 ghost use Rattle.std.specs.Prelude.{◌≡◌, IfOk};
-ghost use Rattle.iscsi_session.specs.Settings.{setting_of};
-ghost use Rattle.iscsi_history.specs.Run.{run_of};
-ghost use Rattle.iscsi_history.specs.Executed.{executed, delivered};
-ghost use Rattle.iscsi_history.specs.Flow.{FlowsThrough};
-ghost use Rattle.iscsi_history.specs.Enabling.{EnablesByTheRule};
-ghost use Rattle.iscsi_history.specs.Aborts.{AbortsHoldIn};
-ghost use Rattle.iscsi_history.specs.Closes.{ClosesHoldIn};
-ghost use Rattle.iscsi_session.specs.Refusals.{RunRefusesAs, refusal_of_options, first_refusal};
+ghost use Rattle.iscsi_session.specs.promises.Settings.{setting_of};
+ghost use Rattle.iscsi_history.specs.rules.Run.{run_of};
+ghost use Rattle.iscsi_history.specs.promises.Executed.{executed, delivered};
+ghost use Rattle.iscsi_history.specs.promises.Flow.{FlowsThrough};
+ghost use Rattle.iscsi_history.specs.promises.Enabling.{EnablesByTheRule};
+ghost use Rattle.iscsi_history.specs.promises.Aborts.{AbortsHoldIn};
+ghost use Rattle.iscsi_history.specs.promises.Closes.{ClosesHoldIn};
+ghost use Rattle.iscsi_session.specs.promises.Refusals.{RunRefusesAs, refusal_of_options, first_refusal};
 
 use crate::fault::SessionFault;
 use crate::options::Options;

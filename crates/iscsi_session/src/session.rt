@@ -2,27 +2,27 @@
 
 ghost use Rattle.std.specs.Prelude.{IfSome, Err, ◌*◌, ◌≡◌, ◌≢◌, ℕ, ◌+◌, ◌≤◌, ◌<◌, true, List, [], ◌∷◌, ◌++◌, OnOk, OnErr, IfOk, length, nat_lt, count_by, is_some, vec_len, vec_capacity};
 ghost use Rattle.std.specs.List.{list_all};
-ghost use Rattle.iscsi_history.specs.Settings.{Setting, is_valid};
-ghost use Rattle.iscsi_session.specs.Settings.{setting_of};
+ghost use Rattle.iscsi_history.specs.rules.Settings.{Setting, is_valid};
+ghost use Rattle.iscsi_session.specs.promises.Settings.{setting_of};
 ghost use Rattle.iscsi_connections.specs.Connected.{opened};
-ghost use Rattle.iscsi_history.specs.Trace.{Trace, after_items, received, live};
+ghost use Rattle.iscsi_history.specs.rules.Trace.{Trace, after_items, received, live};
 ghost use Rattle.std.specs.VecDeque.{deque_capacity};
-ghost use Rattle.iscsi_history.specs.Agenda.{arrival, items_of};
-ghost use Rattle.iscsi_history.specs.Run.{trace_of, run_of, next_entry, numbers_of, effects_of};
-ghost use Rattle.iscsi_history.specs.Flow.{Flows, HasOneMore};
-ghost use Rattle.iscsi_history.specs.Executed.{delivered, executed};
-ghost use Rattle.iscsi_history.specs.Enabling.{EnablesByTheRule};
-ghost use Rattle.iscsi_history.specs.Aborts.{AbortsHoldIn};
-ghost use Rattle.iscsi_history.specs.Closes.{ClosesHoldIn};
-ghost use Rattle.iscsi_history.specs.Lives.{StartsOnce};
-ghost use Rattle.iscsi_history.specs.Answers.{AnswersOnceIn};
-ghost use Rattle.iscsi_history.specs.Numbering.{CountsReplies};
-ghost use Rattle.iscsi_history.specs.Order.{KeepsOrder};
-ghost use Rattle.iscsi_history.specs.Meaning.{MeansWhatItSays};
-ghost use Rattle.iscsi_session.specs.Refusals.{RefusesAs, refusal_of, refusal_of_options};
-ghost use Rattle.iscsi_session.specs.Standing.{Settled, StandsFor, effect_bound_of, most_effects, is_held, are_ascending};
-ghost use Rattle.iscsi_session.specs.Steps.{refusal_by, comes_on, KeepsPace, counted, numbers_by};
-ghost use Rattle.iscsi_session.specs.Functions.{owed};
+ghost use Rattle.iscsi_history.specs.rules.Agenda.{arrival, items_of};
+ghost use Rattle.iscsi_history.specs.rules.Run.{trace_of, run_of, next_entry, numbers_of, effects_of};
+ghost use Rattle.iscsi_history.specs.promises.Flow.{Flows, HasOneMore};
+ghost use Rattle.iscsi_history.specs.promises.Executed.{delivered, executed};
+ghost use Rattle.iscsi_history.specs.promises.Enabling.{EnablesByTheRule};
+ghost use Rattle.iscsi_history.specs.promises.Aborts.{AbortsHoldIn};
+ghost use Rattle.iscsi_history.specs.promises.Closes.{ClosesHoldIn};
+ghost use Rattle.iscsi_history.specs.promises.Lives.{StartsOnce};
+ghost use Rattle.iscsi_history.specs.promises.Answers.{AnswersOnceIn};
+ghost use Rattle.iscsi_history.specs.promises.Numbering.{CountsReplies};
+ghost use Rattle.iscsi_history.specs.promises.Order.{KeepsOrder};
+ghost use Rattle.iscsi_history.specs.promises.Meaning.{MeansWhatItSays};
+ghost use Rattle.iscsi_session.specs.promises.Refusals.{RefusesAs, refusal_of, refusal_of_options};
+ghost use Rattle.iscsi_session.specs.promises.Standing.{Settled, StandsFor, effect_bound_of, most_effects, is_held, are_ascending};
+ghost use Rattle.iscsi_session.specs.private.Steps.{refusal_by, comes_on, KeepsPace, counted, numbers_by};
+ghost use Rattle.iscsi_session.specs.private.Functions.{owed};
 
 use crate::fault::SessionFault;
 use crate::options::Options;
@@ -69,8 +69,8 @@ pub struct Session {
 impl Model for Session {
     ghost use Rattle.std.specs.Prelude.{vec_capacity};
     ghost use Rattle.std.specs.VecDeque.{deque_capacity};
-    ghost use Rattle.iscsi_session.specs.Standing.{Core};
-    ghost use Rattle.iscsi_session.specs.Invariant.{IsSessionSound};
+    ghost use Rattle.iscsi_session.specs.promises.Standing.{Core};
+    ghost use Rattle.iscsi_session.specs.private.Invariant.{IsSessionSound};
 
     ghost Value = { Core };
 

@@ -9,11 +9,11 @@ use Rattle.iscsi_history.specs.declared.effect.Effect.{Effect}
 use Rattle.iscsi_history.specs.declared.effect.Effect.TheVariants.{Enable}
 use Rattle.iscsi_history.specs.declared.entry.Entry.{Entry}
 use Rattle.iscsi_history.specs.declared.event.Event.{Event}
-use Rattle.iscsi_history.specs.Settings.{Setting}
-use Rattle.iscsi_history.specs.Trace.{Arrival, Command, Trace}
-use Rattle.iscsi_history.specs.Run.{effects_of_mark, newly_enabled, effects_of_item, trace_of, run_of, next_entry}
-use Rattle.iscsi_history.specs.Enabling.{effects_so_far, effects_in}
-use Rattle.iscsi_history.specs.Lives.{StartsOnce, is_life, life_of}
+use Rattle.iscsi_history.specs.rules.Settings.{Setting}
+use Rattle.iscsi_history.specs.rules.Trace.{Arrival, Command, Trace}
+use Rattle.iscsi_history.specs.rules.Run.{effects_of_mark, newly_enabled, effects_of_item, trace_of, run_of, next_entry}
+use Rattle.iscsi_history.specs.promises.Enabling.{effects_so_far, effects_in}
+use Rattle.iscsi_history.specs.promises.Lives.{StartsOnce, is_life, life_of}
 use Rattle.iscsi_history.proofs.MomentLemmas.{log_effects}
 use Rattle.iscsi_history.proofs.Forms.{Start, AtTurn, AtArrival, AfterWaiting, Deeds, marks_done, Form, Ignored, Rejected, Received, Postponed, Completed, Executed, marks_of_form, HasForm, HaveForms}
 use Rattle.iscsi_history.proofs.FormRuns.{trace_has_forms}

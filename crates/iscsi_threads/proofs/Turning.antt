@@ -11,11 +11,11 @@ use Rattle.iscsi_history.specs.declared.effect.Effect.{Effect}
 use Rattle.iscsi_history.specs.declared.entry.Entry.{Entry}
 use Rattle.iscsi_session.specs.declared.fault.SessionFault.{SessionFault}
 use Rattle.iscsi_session.specs.declared.fault.SessionFault.TheVariants.{NoMemory, Exhausted, UnknownConnection}
-use Rattle.iscsi_history.specs.Settings.{Setting, is_known}
-use Rattle.iscsi_history.specs.Run.{run_of, next_entry}
-use Rattle.iscsi_history.specs.Enabling.{effects_in}
-use Rattle.iscsi_history.specs.Agenda.{belongs}
-use Rattle.iscsi_session.specs.Refusals.{refusal_of, RefusesAs}
+use Rattle.iscsi_history.specs.rules.Settings.{Setting, is_known}
+use Rattle.iscsi_history.specs.rules.Run.{run_of, next_entry}
+use Rattle.iscsi_history.specs.promises.Enabling.{effects_in}
+use Rattle.iscsi_history.specs.rules.Agenda.{belongs}
+use Rattle.iscsi_session.specs.promises.Refusals.{refusal_of, RefusesAs}
 use Rattle.iscsi_history.proofs.RunLemmas.{run_of-push}
 use Rattle.iscsi_threads.specs.declared.job.Job.{Job}
 use Rattle.iscsi_threads.specs.Ports.{Answer}

@@ -6,7 +6,7 @@ use Rattle.iscsi_wire.specs.Fields.{itt, cdb}
 use Rattle.iscsi_tasks.specs.declared.task.Attr.{Attr}
 use Rattle.iscsi_history.specs.declared.effect.Effect.{Effect}
 use Rattle.iscsi_history.specs.declared.effect.Effect.TheVariants.{Deliver, Immediate, Enter, Enable, Leave}
-use Rattle.iscsi_history.specs.Lives.{tickets_entered}
+use Rattle.iscsi_history.specs.promises.Lives.{tickets_entered}
 use Rattle.iscsi_threads.specs.declared.job.Job.{Job}
 use Rattle.iscsi_threads.specs.declared.desk.Desk.{Desk}
 

@@ -4,7 +4,7 @@ use Rattle.std.specs.List.{range_with_len}
 use Rattle.iscsi_history.specs.declared.event.Event.{Event}
 use Rattle.iscsi_history.specs.declared.event.Event.TheVariants.{Arrive, Done}
 use Rattle.iscsi_history.specs.declared.entry.Entry.{Entry}
-use Rattle.iscsi_history.specs.Settings.{Setting}
+use Rattle.iscsi_history.specs.rules.Settings.{Setting}
 use Rattle.iscsi_threads.specs.declared.job.Job.{Job}
 use Rattle.iscsi_threads.specs.Ports.{Answer}
 use Rattle.iscsi_threads.specs.Jobs.{jobs}

@@ -3,9 +3,9 @@ use Rattle.std.specs.Prelude.{◌≡◌, ℕ, ◌<◌, ◌≤◌, true, List, []
 use Rattle.std.specs.declared.alloc.Global.{Global}
 use mathlib.Core.List.{IsPrefix}
 use Rattle.iscsi_history.specs.declared.event.Event.{Event}
-use Rattle.iscsi_history.specs.Settings.{Setting}
-use Rattle.iscsi_history.specs.Trace.{live}
-use Rattle.iscsi_history.specs.Run.{run_of, trace_of}
+use Rattle.iscsi_history.specs.rules.Settings.{Setting}
+use Rattle.iscsi_history.specs.rules.Trace.{live}
+use Rattle.iscsi_history.specs.rules.Run.{run_of, trace_of}
 use Rattle.iscsi_threads.specs.declared.port.Port.{Port}
 use Rattle.iscsi_threads.specs.declared.port.UnitPort.{UnitPort}
 use Rattle.iscsi_threads.specs.declared.session_loop.Loop.{Loop}

@@ -1,8 +1,8 @@
 //! All threads of a session.
 
 ghost use Rattle.std.specs.Prelude.{◌≡◌, ◌≢◌, ◌≤◌, ◌<◌, ◌==◌, ◌&&◌, [], ℕ, true, false, map, length, IfOk, Err, OnOk, vec_len, vec_capacity, slice_index_or};
-ghost use Rattle.iscsi_history.specs.Settings.{is_valid};
-ghost use Rattle.iscsi_session.specs.Settings.{setting_of};
+ghost use Rattle.iscsi_history.specs.rules.Settings.{is_valid};
+ghost use Rattle.iscsi_session.specs.promises.Settings.{setting_of};
 ghost use Rattle.iscsi_threads.specs.Ports.{posted, port_ring};
 ghost use Rattle.iscsi_threads.specs.Outlets.{inlet_ring};
 ghost use Rattle.iscsi_threads.specs.Loops.{SameLoop, Belong, Opened};

@@ -1,10 +1,10 @@
 //! The loop that runs the session.
 
 ghost use Rattle.std.specs.Prelude.{◌≡◌, ◌≤◌, ◌<◌, ℕ, true, map, length, vec_len};
-ghost use Rattle.iscsi_session.specs.Settings.{setting_of};
-ghost use Rattle.iscsi_session.specs.Standing.{StandsFor};
-ghost use Rattle.iscsi_history.specs.Run.{run_of};
-ghost use Rattle.iscsi_history.specs.Enabling.{effects_in};
+ghost use Rattle.iscsi_session.specs.promises.Settings.{setting_of};
+ghost use Rattle.iscsi_session.specs.promises.Standing.{StandsFor};
+ghost use Rattle.iscsi_history.specs.rules.Run.{run_of};
+ghost use Rattle.iscsi_history.specs.promises.Enabling.{effects_in};
 ghost use Rattle.iscsi_threads.specs.Outlets.{given, heard, got};
 ghost use Rattle.iscsi_threads.specs.Desks.{seen, nothing, known_after};
 ghost use Rattle.iscsi_threads.specs.Ends.{put_jobs};
@@ -36,12 +36,15 @@ pub struct Loop {
     pub(crate) bells: Arc<Bells, Global>,
     pub(crate) watch: Watch,
     pub(crate) next: usize,
-    ghost sizes: { (vec_len inlets ≤ 64) × (vec_len outlets ≤ 256) × (vec_len inlets ≡ vec_len options.conns) × (vec_len outlets ≡ (setting_of options).units) × (vec_len from ≡ vec_len journal) × (vec_len journal ≤ (setting_of options).events) },
+    ghost sizes: { (vec_len inlets ≤ 64) × (vec_len outlets ≤ 256) × (vec_len inlets ≡ vec_len options.conns)
+        × (vec_len outlets ≡ (setting_of options).units) × (vec_len from ≡ vec_len journal)
+        × (vec_len journal ≤ (setting_of options).events) },
     ghost differ: { AllDiffer (cids_of (setting_of options)) },
     ghost stands: { StandsFor (setting_of options) session journal.items },
     ghost sourced: { are_sources (cids_of (setting_of options)) (vec_len outlets) journal.items from.items ≡ true },
     ghost headers: { map got inlets.items ≡ parts (cids_of (setting_of options)) journal.items },
     ghost answers: { map heard outlets.items ≡ dones (vec_len outlets) journal.items from.items },
     ghost known: { seen desk ≡ known_after nothing (effects_in (run_of (setting_of options) journal.items)) },
-    ghost jobs: { put_jobs fresh.items (map given outlets.items) ≡ all_jobs (vec_len outlets) (run_of (setting_of options) journal.items) },
+    ghost jobs: { put_jobs fresh.items (map given outlets.items)
+        ≡ all_jobs (vec_len outlets) (run_of (setting_of options) journal.items) },
 }

@@ -46,9 +46,20 @@ impl Model for Window {
 
     ghost Value = { Received };
 
-    ghost view = { λ w. record { first = w.first; turned = w.turned; unfinished = w.unfinished; places = w.places.items } };
+    ghost view = { λ w. record {
+      first = w.first;
+      turned = w.turned;
+      unfinished = w.unfinished;
+      places = w.places.items;
+    } };
 
-    ghost invariant = { λ w. (length w.places.items ≡ w.size) × (w.places.capacity ≡ w.size) × IsSound (record { first = w.first; turned = w.turned; unfinished = w.unfinished; places = w.places.items }) };
+    ghost invariant = { λ w. (length w.places.items ≡ w.size) × (w.places.capacity ≡ w.size)
+        × IsSound (record {
+          first = w.first;
+          turned = w.turned;
+          unfinished = w.unfinished;
+          places = w.places.items;
+        }) };
 }
 
 impl Window {
@@ -131,8 +142,10 @@ impl Window {
     pub fn offer(&mut self, request: &Request) -> Offer
         ensures answer { result ≡ offer_to self.old request.now }
         ensures state { self.new ≡ offered_to self.old request.now }
-        ensures answer_since { (h : List Change) → StandsFor self.old h → result ≡ offer_since self.old.first (length self.old.places) h (number_of self.old.first h (cmd_sn request.now)) }
-        ensures stands { (h : List Change) → StandsFor self.old h → StandsFor self.new (after_offer result (number_of self.old.first h (cmd_sn request.now)) request.now h) }
+        ensures answer_since { (h : List Change) → StandsFor self.old h → result ≡
+            offer_since self.old.first (length self.old.places) h (number_of self.old.first h (cmd_sn request.now)) }
+        ensures stands { (h : List Change) → StandsFor self.old h →
+            StandsFor self.new (after_offer result (number_of self.old.first h (cmd_sn request.now)) request.now h) }
     {
         let Place::Inside(k) = self.place(request.cmd_sn()) else {
             return Offer::Outside;
@@ -150,8 +163,10 @@ impl Window {
         requires { IsInside (place_in self.old w) }
         ensures answer { result ≡ not (is_received_at self.old (place_in self.old w)) }
         ensures state { self.new ≡ voided self.old w }
-        ensures answer_since { (h : List Change) → StandsFor self.old h → result ≡ not (is_received h (number_of self.old.first h w)) }
-        ensures stands { (h : List Change) → StandsFor self.old h → StandsFor self.new (after_voiding result (number_of self.old.first h w) h) }
+        ensures answer_since { (h : List Change) → StandsFor self.old h →
+            result ≡ not (is_received h (number_of self.old.first h w)) }
+        ensures stands { (h : List Change) → StandsFor self.old h →
+            StandsFor self.new (after_voiding result (number_of self.old.first h w) h) }
     {
         let Place::Inside(k) = self.place(w) else {
             unreachable!();
@@ -170,7 +185,8 @@ impl Window {
     /// An initiator that chooses its tags to leave the same one makes it look at each place below `below`.
     pub fn find_held(&self, itt: u32, unit: u16, below: u32) -> Option<u32>
         ensures answer { result ≡ option_map (number_shown self.now) (find_command self.now itt unit below) }
-        ensures answer_since { (h : List Change) → StandsFor self.now h → ShowsLowest (is_command_below h itt unit (number_of self.now.first h below)) result }
+        ensures answer_since { (h : List Change) → StandsFor self.now h →
+            ShowsLowest (is_command_below h itt unit (number_of self.now.first h below)) result }
     {
         let exp = self.exp();
         let ahead = ahead_of(exp, below);
@@ -183,8 +199,10 @@ impl Window {
     pub fn empty(&mut self, w: u32) -> Option<Request>
         ensures answer { result ≡ held_at self.old (place_in self.old w) }
         ensures state { self.new ≡ emptied self.old w }
-        ensures answer_since { (h : List Change) → StandsFor self.old h → result ≡ held h (number_of self.old.first h w) }
-        ensures stands { (h : List Change) → StandsFor self.old h → StandsFor self.new (after_taking result (number_of self.old.first h w) h) }
+        ensures answer_since { (h : List Change) → StandsFor self.old h →
+            result ≡ held h (number_of self.old.first h w) }
+        ensures stands { (h : List Change) → StandsFor self.old h →
+            StandsFor self.new (after_taking result (number_of self.old.first h w) h) }
     {
         let Place::Inside(k) = self.place(w) else {
             return None;
@@ -210,10 +228,13 @@ impl Window {
     /// Takes out the request that is held `ahead` numbers after the expected one, if it came on connection
     /// `conn`, or on any for None, and answers its number, which stays received. Otherwise nothing changes.
     pub fn drop_at(&mut self, ahead: u32, conn: Option<u16>) -> Option<u32>
-        ensures answer { result ≡ (if is_held_from conn (at_place self.old ahead) then Some (number_shown self.old ahead) else None) }
+        ensures answer { result ≡
+            (if is_held_from conn (at_place self.old ahead) then Some (number_shown self.old ahead) else None) }
         ensures state { self.new ≡ taken_at self.old ahead conn }
-        ensures answer_since { (h : List Change) → StandsFor self.old h → result ≡ option_map wire (held_number h conn (expected self.old.first h + ahead)) }
-        ensures stands { (h : List Change) → StandsFor self.old h → StandsFor self.new (after_emptying (held_number h conn (expected self.old.first h + ahead)) h) }
+        ensures answer_since { (h : List Change) → StandsFor self.old h →
+            result ≡ option_map wire (held_number h conn (expected self.old.first h + ahead)) }
+        ensures stands { (h : List Change) → StandsFor self.old h →
+            StandsFor self.new (after_emptying (held_number h conn (expected self.old.first h + ahead)) h) }
     {
         if !holds_from(&at(&self.places, ahead), conn) {
             return None;
@@ -231,7 +252,8 @@ impl Window {
         ensures state { self.new ≡ advanced self.old }
         ensures room { OnSome result (HasRoom self.new) }
         ensures answer_since { (h : List Change) → StandsFor self.old h → result ≡ turn_since self.old.first h }
-        ensures stands { (h : List Change) → StandsFor self.old h → StandsFor self.new (after_turning result (expected self.old.first h) h) }
+        ensures stands { (h : List Change) → StandsFor self.old h →
+            StandsFor self.new (after_turning result (expected self.old.first h) h) }
     {
         let sn = self.exp();
         let request = at(&self.places, 0)?;

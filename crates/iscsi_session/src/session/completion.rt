@@ -1,9 +1,9 @@
 //! The completion of a command by its unit.
 
 ghost use Rattle.std.specs.Prelude.{ℕ, ◌*◌, ◌≡◌, ◌==◌, ◌&&◌, ◌+◌, ◌<◌, ◌≤◌, true, false, if◌then◌else◌, ◌++◌, IfSome, length, vec_len, vec_capacity};
-ghost use Rattle.iscsi_history.specs.Settings.{is_known as known_in};
-ghost use Rattle.iscsi_history.specs.Execution.{sense_of_status};
-ghost use Rattle.iscsi_session.specs.Steps.{find_enabled, after_completion, completion_effects, counted_on, finished};
+ghost use Rattle.iscsi_history.specs.rules.Settings.{is_known as known_in};
+ghost use Rattle.iscsi_history.specs.rules.Execution.{sense_of_status};
+ghost use Rattle.iscsi_session.specs.private.Steps.{find_enabled, after_completion, completion_effects, counted_on, finished};
 
 use crate::session::sets::CHECK_CONDITION;
 use crate::session::{Session, sets};

@@ -4,12 +4,12 @@ ghost use Rattle.std.specs.Prelude.{◌-◌, ◌*◌, ℕ, pos, ◌-ℤ◌, fals
 ghost use Rattle.iscsi_wire.specs.Serial.{number_of_first};
 ghost use Rattle.iscsi_wire.specs.Fields.{connection_of, header_of, is_immediate, itt as tag_of};
 ghost use Rattle.iscsi_window.specs.Windows.{HasRoom};
-ghost use Rattle.iscsi_history.specs.Settings.{is_known as known_in};
-ghost use Rattle.iscsi_history.specs.Execution.{MOST_IMMEDIATE, reject as reject_of, attr_of as attr_named, scsi_verdict, nop_verdict};
-ghost use Rattle.iscsi_session.specs.Standing.{stat_sn_on, is_held};
-ghost use Rattle.iscsi_session.specs.Steps.{set_at, is_set_full, is_tag_kept, is_crowded_by, immediate_in, counted_on, place_in, verdict_by, number_by, event_by, started, with_command, entry_effects, with_reply, reply_effects, executed_as, execution_effects, count_reply};
-ghost use Rattle.iscsi_session.specs.Functions.{owed};
-ghost use Rattle.iscsi_session.specs.Turning.{with_executed, executed_effects};
+ghost use Rattle.iscsi_history.specs.rules.Settings.{is_known as known_in};
+ghost use Rattle.iscsi_history.specs.rules.Execution.{MOST_IMMEDIATE, reject as reject_of, attr_of as attr_named, scsi_verdict, nop_verdict};
+ghost use Rattle.iscsi_session.specs.promises.Standing.{stat_sn_on, is_held};
+ghost use Rattle.iscsi_session.specs.private.Steps.{set_at, is_set_full, is_tag_kept, is_crowded_by, immediate_in, counted_on, place_in, verdict_by, number_by, event_by, started, with_command, entry_effects, with_reply, reply_effects, executed_as, execution_effects, count_reply};
+ghost use Rattle.iscsi_session.specs.private.Functions.{owed};
+ghost use Rattle.iscsi_session.specs.private.Turning.{with_executed, executed_effects};
 
 use crate::kind::{LOGOUT, NOP_OUT, TASK_MANAGEMENT, TEXT};
 use crate::session::{Session, sets};

@@ -2,10 +2,10 @@
 
 ghost use Rattle.std.specs.Prelude.{ℕ, ◌≡◌, ◌+◌, ◌<◌, ◌≤◌, ◌++◌, [], ◌∷◌, true, length, count_by, slice_index_or, slice_set, IsSome, vec_len, vec_capacity, if◌then◌else◌};
 ghost use Rattle.iscsi_tasks.specs.Sets.{opened, is_covered};
-ghost use Rattle.iscsi_session.specs.Standing.{are_ascending, are_known, tickets_of, tickets_in};
-ghost use Rattle.iscsi_session.specs.Steps.{AreCounted, is_numbered, find_ticket, without_ticket, enable_effects, set_at};
+ghost use Rattle.iscsi_session.specs.promises.Standing.{are_ascending, are_known, tickets_of, tickets_in};
+ghost use Rattle.iscsi_session.specs.private.Steps.{AreCounted, is_numbered, find_ticket, without_ticket, enable_effects, set_at};
 ghost use Rattle.iscsi_history.specs.declared.effect.Effect.{Effect};
-ghost use Rattle.iscsi_session.specs.Functions.{staying, set_staying, finished_by, with_left, leaves, leaving_effects, with_given, covers_ticket, has_covered, owed};
+ghost use Rattle.iscsi_session.specs.private.Functions.{staying, set_staying, finished_by, with_left, leaves, leaving_effects, with_given, covers_ticket, has_covered, owed};
 
 use crate::session::completion::finish;
 use crate::session::{Session, sets};

@@ -3,10 +3,10 @@
 ghost use Rattle.std.specs.Prelude.{ℕ, ◌≡◌, ◌+◌, ◌*◌, ◌≤◌, ◌<◌, [], ◌++◌, length, true, false, map, count_by, if◌then◌else◌, IfSome, vec_len, vec_capacity};
 ghost use Rattle.iscsi_wire.specs.Fields.{connection_of, itt as tag_of, cid as cid_of};
 ghost use Rattle.iscsi_window.specs.Windows.{is_asked};
-ghost use Rattle.iscsi_history.specs.Settings.{is_known as known_in};
-ghost use Rattle.iscsi_session.specs.Standing.{is_held};
-ghost use Rattle.iscsi_session.specs.Functions.{owed};
-ghost use Rattle.iscsi_session.specs.Parting.{is_among_open, closing_by, closed_as, closed_effects, parted, parting_effects, cover_of as cover_named, covers_of, units_of, with_all_left, all_leaving_effects, with_emptied, is_clear_below, emptying_effects, with_dropped, ended_if, session_closes, with_closed, close_effects, with_all_given, all_enable_effects};
+ghost use Rattle.iscsi_history.specs.rules.Settings.{is_known as known_in};
+ghost use Rattle.iscsi_session.specs.promises.Standing.{is_held};
+ghost use Rattle.iscsi_session.specs.private.Functions.{owed};
+ghost use Rattle.iscsi_session.specs.private.Parting.{is_among_open, closing_by, closed_as, closed_effects, parted, parting_effects, cover_of as cover_named, covers_of, units_of, with_all_left, all_leaving_effects, with_emptied, is_clear_below, emptying_effects, with_dropped, ended_if, session_closes, with_closed, close_effects, with_all_given, all_enable_effects};
 
 use crate::closing::Closing;
 use crate::session::Session;

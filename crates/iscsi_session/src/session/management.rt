@@ -4,12 +4,12 @@ ghost use Rattle.std.specs.Prelude.{ℕ, pos, ◌-ℤ◌, ◌≡◌, ◌==◌, �
 ghost use Rattle.iscsi_wire.specs.Serial.{number_of_first};
 ghost use Rattle.iscsi_wire.specs.Fields.{connection_of, is_immediate, itt as tag_of};
 ghost use Rattle.iscsi_window.specs.Windows.{number_expected, HasRoom, IsInside, place_in, held_at};
-ghost use Rattle.iscsi_history.specs.Settings.{is_known as known_in};
-ghost use Rattle.iscsi_history.specs.Management.{may_wait as may_wait_named, is_supported as supported_at, refusal_to};
-ghost use Rattle.iscsi_session.specs.Standing.{stat_sn_on, is_held};
-ghost use Rattle.iscsi_session.specs.Steps.{KeepsPace, with_reply, reply_effects};
-ghost use Rattle.iscsi_session.specs.Functions.{outcome_by, performed_as, performance_effects, owed};
-ghost use Rattle.iscsi_session.specs.Turning.{performed, performed_effects, managed, managed_effects, next_waiting, function_if, function_effects, wait_by, patience_by, with_waiting, immediate_as, immediate_effects};
+ghost use Rattle.iscsi_history.specs.rules.Settings.{is_known as known_in};
+ghost use Rattle.iscsi_history.specs.rules.Management.{may_wait as may_wait_named, is_supported as supported_at, refusal_to};
+ghost use Rattle.iscsi_session.specs.promises.Standing.{stat_sn_on, is_held};
+ghost use Rattle.iscsi_session.specs.private.Steps.{KeepsPace, with_reply, reply_effects};
+ghost use Rattle.iscsi_session.specs.private.Functions.{outcome_by, performed_as, performance_effects, owed};
+ghost use Rattle.iscsi_session.specs.private.Turning.{performed, performed_effects, managed, managed_effects, next_waiting, function_if, function_effects, wait_by, patience_by, with_waiting, immediate_as, immediate_effects};
 
 use crate::kind::TASK_MANAGEMENT;
 use crate::outcome::Outcome;

@@ -2,8 +2,8 @@
 
 ghost use Rattle.std.specs.Prelude.{false, ◌≡◌, ◌+◌, ◌<◌, ◌≤◌, ◌++◌, length, count_by, replicate, slice_index_or, slice_set, IfSome, vec_len, vec_capacity};
 ghost use Rattle.iscsi_tasks.specs.Sets.{opened, IsNewest, entered_to, is_new, next_in, given_by};
-ghost use Rattle.iscsi_history.specs.Execution.{scsi_to, unit_named};
-ghost use Rattle.iscsi_session.specs.Steps.{is_set_full, place_in, all_given, enable_effect, enable_effects, set_without};
+ghost use Rattle.iscsi_history.specs.rules.Execution.{scsi_to, unit_named};
+ghost use Rattle.iscsi_session.specs.private.Steps.{is_set_full, place_in, all_given, enable_effect, enable_effects, set_without};
 
 use crate::session::execution::reject;
 use iscsi_commands::Live;

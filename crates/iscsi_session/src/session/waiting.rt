@@ -1,7 +1,7 @@
 //! The task management functions that wait for lower numbers.
 
 ghost use Rattle.std.specs.Prelude.{◌≡◌, ◌==◌, not, filter, find, position, vec_capacity};
-ghost use Rattle.iscsi_session.specs.Turning.{waiting_in};
+ghost use Rattle.iscsi_session.specs.private.Turning.{waiting_in};
 
 use iscsi_wire::Request;
 use std::alloc::Global;

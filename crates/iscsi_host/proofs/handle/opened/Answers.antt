@@ -1,4 +1,4 @@
-use Rattle.iscsi_session.specs.Settings.{setting_of}
+use Rattle.iscsi_session.specs.promises.Settings.{setting_of}
 use Rattle.iscsi_host.specs.Plain.{plain_setting}
 use Rattle.iscsi_host.proofs.AnswerLemmas.{valid_as_opened}
 use Rattle.iscsi_host.proofs.handle.opened.Goals as goal

@@ -2,10 +2,10 @@ use Rattle.std.proofs.Common.{rules, ◌≡◌, ◌≢◌, ◌∙◌, ◌↔◌,
 use Rattle.std.specs.Prelude.{OnOk}
 use Rattle.std.proofs.lemmas.Bool.{false≢true}
 use Rattle.std.proofs.lemmas.Result.{IfOk-weaker}
-use Rattle.iscsi_history.specs.Flow.{FlowsThrough}
+use Rattle.iscsi_history.specs.promises.Flow.{FlowsThrough}
 use Rattle.iscsi_session.proofs.FlowLemmas.{FlowsThrough-push, FlowsThrough-none}
 use Rattle.iscsi_session.proofs.PromiseLemmas.{promises_kept}
-use Rattle.iscsi_session.specs.Standing.{StandsFor}
+use Rattle.iscsi_session.specs.promises.Standing.{StandsFor}
 use Rattle.iscsi_replay.specs.declared.fault.ReplayFault.{ReplayFault}
 use Rattle.iscsi_replay.specs.declared.fault.ReplayFault.TheVariants.{Write, NoMemory}
 use Rattle.iscsi_replay.specs.Replayed.{setting_with}

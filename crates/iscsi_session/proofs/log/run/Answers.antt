@@ -10,20 +10,20 @@ use Rattle.iscsi_history.specs.declared.effect.Numbers.{Numbers}
 use Rattle.iscsi_history.specs.declared.event.Event.{Event}
 use Rattle.iscsi_session.specs.declared.fault.SessionFault.TheVariants.{NoMemory}
 use Rattle.iscsi_history.specs.declared.entry.Entry.{Entry}
-use Rattle.iscsi_history.specs.Settings.{Setting}
-use Rattle.iscsi_session.specs.Settings.{setting_of}
-use Rattle.iscsi_history.specs.Run.{run_of, next_entry}
-use Rattle.iscsi_history.specs.Executed.{delivered}
-use Rattle.iscsi_history.specs.Flow.{FlowsThrough}
-use Rattle.iscsi_history.specs.Aborts.{AbortsHoldIn}
-use Rattle.iscsi_history.specs.Closes.{ClosesHoldIn}
+use Rattle.iscsi_history.specs.rules.Settings.{Setting}
+use Rattle.iscsi_session.specs.promises.Settings.{setting_of}
+use Rattle.iscsi_history.specs.rules.Run.{run_of, next_entry}
+use Rattle.iscsi_history.specs.promises.Executed.{delivered}
+use Rattle.iscsi_history.specs.promises.Flow.{FlowsThrough}
+use Rattle.iscsi_history.specs.promises.Aborts.{AbortsHoldIn}
+use Rattle.iscsi_history.specs.promises.Closes.{ClosesHoldIn}
 use Rattle.iscsi_history.proofs.AbortTheorem.{aborts_hold_in}
 use Rattle.iscsi_session.proofs.FlowLemmas.{FlowsThrough-push}
-use Rattle.iscsi_session.specs.Refusals.{refusal_of, refusal_of_options, first_refusal}
-use Rattle.iscsi_session.specs.Standing.{Core, StandsFor}
+use Rattle.iscsi_session.specs.promises.Refusals.{refusal_of, refusal_of_options, first_refusal}
+use Rattle.iscsi_session.specs.promises.Standing.{Core, StandsFor}
 use Rattle.iscsi_history.proofs.RunLemmas.{run_of-push}
 use Rattle.iscsi_session.proofs.RefusalLemmas.{taken_none, refused_cases, refusal_more, refusal_here, options_refused, event_refused, run_taken}
-use Rattle.iscsi_history.specs.Enabling.{EnablesByTheRule}
+use Rattle.iscsi_history.specs.promises.Enabling.{EnablesByTheRule}
 use Rattle.iscsi_session.proofs.PromiseLemmas.{stands_delivers, stands_enables, stands_closes}
 use Rattle.iscsi_session.proofs.log.run.Goals as goal
 

@@ -1,10 +1,10 @@
 use Rattle.std.proofs.Common.{◌≡◌, take, drop}
-use Rattle.iscsi_history.specs.Settings.{Setting}
-use Rattle.iscsi_session.specs.Settings.{setting_of}
-use Rattle.iscsi_history.specs.Run.{run_of}
-use Rattle.iscsi_history.specs.Flow.{FlowsThrough}
-use Rattle.iscsi_session.specs.Refusals.{first_refusal}
-use Rattle.iscsi_session.specs.Standing.{StandsFor}
+use Rattle.iscsi_history.specs.rules.Settings.{Setting}
+use Rattle.iscsi_session.specs.promises.Settings.{setting_of}
+use Rattle.iscsi_history.specs.rules.Run.{run_of}
+use Rattle.iscsi_history.specs.promises.Flow.{FlowsThrough}
+use Rattle.iscsi_session.specs.promises.Refusals.{first_refusal}
+use Rattle.iscsi_session.specs.promises.Standing.{StandsFor}
 use Rattle.iscsi_session.proofs.log.run.Given as goal
 
 -- the session stands for the events so far, of which the log is, and nothing was refused

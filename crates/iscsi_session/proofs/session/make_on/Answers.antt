@@ -4,15 +4,15 @@ use Rattle.iscsi_window.specs.Windows.{Received, opened}
 use Rattle.iscsi_tasks.specs.Sets.{Members, opened as opened_set}
 use Rattle.iscsi_connections.specs.Connected.{Connected}
 use Rattle.iscsi_connections.specs.Placed.{connected}
-use Rattle.iscsi_session.specs.Settings.{setting_of}
-use Rattle.iscsi_session.specs.Standing.{are_known, is_held, is_place_known, tickets_of, tickets_in, are_ascending, are_within}
+use Rattle.iscsi_session.specs.promises.Settings.{setting_of}
+use Rattle.iscsi_session.specs.promises.Standing.{are_known, is_held, is_place_known, tickets_of, tickets_in, are_ascending, are_within}
 use Rattle.iscsi_commands.specs.declared.live.Live.{Live}
 use Rattle.iscsi_wire.specs.Fields.{connection_of}
 use Rattle.iscsi_session.specs.declared.session.waiting.Waiting.{Waiting}
-use Rattle.iscsi_history.specs.Settings.{is_known}
-use Rattle.iscsi_history.specs.Management.{may_wait}
-use Rattle.iscsi_session.specs.Turning.{waiting_in}
-use Rattle.iscsi_session.specs.Steps.{is_numbered, AreCounted}
+use Rattle.iscsi_history.specs.rules.Settings.{is_known}
+use Rattle.iscsi_history.specs.rules.Management.{may_wait}
+use Rattle.iscsi_session.specs.private.Turning.{waiting_in}
+use Rattle.iscsi_session.specs.private.Steps.{is_numbered, AreCounted}
 use Rattle.iscsi_session.proofs.CountLemmas.{AreCounted-opened}
 use Rattle.iscsi_session.proofs.OpenLemmas.{set_opened, Settled-opened, none_counted, all_none, so_many}
 use Rattle.iscsi_session.proofs.session.make_on.Goals as goal

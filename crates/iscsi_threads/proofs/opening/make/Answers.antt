@@ -1,9 +1,9 @@
 use Rattle.std.specs.Prelude.{refl}
 use Rattle.std.proofs.Common.{◌≡◌, ◌∙◌, ap, sym, subst, rules, [], length, replicate}
-use Rattle.iscsi_history.specs.Settings.{Setting}
-use Rattle.iscsi_session.specs.Settings.{setting_of}
+use Rattle.iscsi_history.specs.rules.Settings.{Setting}
+use Rattle.iscsi_session.specs.promises.Settings.{setting_of}
 use Rattle.iscsi_threads.specs.Journal.{cids_of, parts, AllDiffer}
-use Rattle.iscsi_session.specs.Standing.{StandsFor}
+use Rattle.iscsi_session.specs.promises.Standing.{StandsFor}
 use Rattle.iscsi_threads.proofs.OpenLemmas.{Limits, limits, parts_none, range_none, differ_of}
 use Rattle.iscsi_threads.proofs.opening.make.Goals as goal
 

@@ -1,7 +1,7 @@
 use Rattle.std.proofs.Common.{◌≡◌, ◌∙◌, ap, sym, subst, rules, arith, length, vec_len, []}
 use Rattle.std.proofs.lemmas.List.{length-map, length-replicate}
-use Rattle.iscsi_history.specs.Settings.{Setting, is_valid}
-use Rattle.iscsi_session.specs.Settings.{setting_of}
+use Rattle.iscsi_history.specs.rules.Settings.{Setting, is_valid}
+use Rattle.iscsi_session.specs.promises.Settings.{setting_of}
 use Rattle.iscsi_threads.specs.Loops.{Opened}
 use Rattle.iscsi_threads.specs.Ports.{posted}
 use Rattle.iscsi_threads.proofs.ServedLemmas.{fits_opened}

@@ -1,6 +1,6 @@
 use Rattle.std.proofs.Common.{◌≡◌, sym, subst}
-use Rattle.iscsi_history.specs.Settings.{Setting}
-use Rattle.iscsi_session.specs.Settings.{setting_of}
+use Rattle.iscsi_history.specs.rules.Settings.{Setting}
+use Rattle.iscsi_session.specs.promises.Settings.{setting_of}
 use Rattle.iscsi_threads.specs.Loops.{setting}
 use Rattle.iscsi_threads.specs.Serving.{Ran}
 use Rattle.iscsi_threads.proofs.ServedLemmas.{served_by}

@@ -1,5 +1,5 @@
 use Rattle.std.proofs.Common.{◌∙◌, List, map, ap}
-use Rattle.iscsi_history.specs.Settings.{are_distinct}
+use Rattle.iscsi_history.specs.rules.Settings.{are_distinct}
 use Rattle.iscsi_connections.specs.declared.connections.Connection.{Connection}
 use Rattle.iscsi_connections.specs.Placed.{cid_and_stat_sn, connected}
 use Rattle.iscsi_connections.proofs.ViewLemmas.{conns_opened, view_opened}

@@ -5,8 +5,8 @@ use Rattle.iscsi_window.specs.Windows.{Received, place_in, find_command, number_
 use Rattle.iscsi_session.specs.declared.outcome.Outcome.{Outcome}
 use Rattle.iscsi_session.specs.declared.outcome.Outcome.TheVariants.{Abort, Empty as EmptyNumber}
 use Rattle.iscsi_commands.specs.declared.live.Live.{Live}
-use Rattle.iscsi_session.specs.Standing.{Core}
-use Rattle.iscsi_session.specs.Functions.{tagged_in, missing_at, abort_by}
+use Rattle.iscsi_session.specs.promises.Standing.{Core}
+use Rattle.iscsi_session.specs.private.Functions.{tagged_in, missing_at, abort_by}
 use Rattle.iscsi_session.proofs.session.Session.abort_task.Goals as goal
 
 -- what a held command that is found, or none, comes to

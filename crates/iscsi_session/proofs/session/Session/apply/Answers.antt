@@ -3,11 +3,11 @@ use Rattle.iscsi_wire.specs.declared.request.Request.{Request}
 use Rattle.iscsi_history.specs.declared.effect.Effect.{Effect}
 use Rattle.iscsi_history.specs.declared.event.Event.{Event}
 use Rattle.iscsi_history.specs.declared.event.Event.TheVariants.{Done}
-use Rattle.iscsi_history.specs.Trace.{after_items, received}
-use Rattle.iscsi_history.specs.Flow.{HasOneMore}
-use Rattle.iscsi_history.specs.Agenda.{arrival, arrival_of, items_of}
-use Rattle.iscsi_history.specs.Run.{effects_of}
-use Rattle.iscsi_session.specs.Standing.{Core, Settled}
+use Rattle.iscsi_history.specs.rules.Trace.{after_items, received}
+use Rattle.iscsi_history.specs.promises.Flow.{HasOneMore}
+use Rattle.iscsi_history.specs.rules.Agenda.{arrival, arrival_of, items_of}
+use Rattle.iscsi_history.specs.rules.Run.{effects_of}
+use Rattle.iscsi_session.specs.promises.Standing.{Core, Settled}
 use Rattle.iscsi_session.proofs.StepLemmas.{Stepped-completion}
 use Rattle.iscsi_session.proofs.session.Session.apply.Goals as goal
 

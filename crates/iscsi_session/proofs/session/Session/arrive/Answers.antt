@@ -1,12 +1,12 @@
 use Rattle.std.proofs.Common.{◌≡◌, ◌∙◌, ◌++◌, ap, sym, subst, true, false, List}
 use Rattle.iscsi_wire.specs.Fields.{connection_of}
 use Rattle.iscsi_history.specs.declared.effect.Effect.{Effect}
-use Rattle.iscsi_history.specs.Settings.{is_known}
-use Rattle.iscsi_history.specs.Trace.{Mark, after_items, received}
-use Rattle.iscsi_history.specs.Flow.{HasOneMore}
-use Rattle.iscsi_history.specs.Run.{effects_of}
-use Rattle.iscsi_session.specs.Standing.{Settled}
-use Rattle.iscsi_session.specs.Parting.{is_among_open}
+use Rattle.iscsi_history.specs.rules.Settings.{is_known}
+use Rattle.iscsi_history.specs.rules.Trace.{Mark, after_items, received}
+use Rattle.iscsi_history.specs.promises.Flow.{HasOneMore}
+use Rattle.iscsi_history.specs.rules.Run.{effects_of}
+use Rattle.iscsi_session.specs.promises.Standing.{Settled}
+use Rattle.iscsi_session.specs.private.Parting.{is_among_open}
 use Rattle.iscsi_history.proofs.ListLemmas.{is_known-cids}
 use Rattle.iscsi_session.proofs.ArriveLemmas.{opened_arrival, closed_arrival, closed_receives}
 use Rattle.iscsi_session.proofs.session.Session.arrive.Goals as goal

@@ -3,8 +3,8 @@ use Rattle.std.proofs.lemmas.List.{append-nil}
 use Rattle.iscsi_history.specs.declared.effect.Effect.{Effect}
 use Rattle.iscsi_history.specs.declared.effect.Effect.TheVariants.{CloseConn}
 use Rattle.iscsi_connections.specs.Connected.{Connected}
-use Rattle.iscsi_session.specs.Standing.{Core}
-use Rattle.iscsi_session.specs.Parting.{still_open, session_closes, ended_if, with_closed, close_effects}
+use Rattle.iscsi_session.specs.promises.Standing.{Core}
+use Rattle.iscsi_session.specs.private.Parting.{still_open, session_closes, ended_if, with_closed, close_effects}
 use Rattle.iscsi_session.proofs.session.Session.close.Goals.{in-Some, in_default}
 use Rattle.iscsi_session.proofs.session.Session.close.Goals as goal
 

@@ -6,12 +6,12 @@ use Rattle.iscsi_tasks.specs.Sets.{Members}
 use Rattle.iscsi_slots.specs.Queued.{Queued}
 use Rattle.iscsi_commands.specs.declared.live.Live.{Live}
 use Rattle.iscsi_connections.specs.Connected.{Connected}
-use Rattle.iscsi_session.specs.Standing.{Core, Match, are_within}
-use Rattle.iscsi_session.specs.Steps.{AreCounted, is_numbered, counted_on, finished, find_ticket, without_ticket, set_without, all_given}
+use Rattle.iscsi_session.specs.promises.Standing.{Core, Match, are_within}
+use Rattle.iscsi_session.specs.private.Steps.{AreCounted, is_numbered, counted_on, finished, find_ticket, without_ticket, set_without, all_given}
 use Rattle.iscsi_history.proofs.BoolLemmas.{and_second}
 use Rattle.iscsi_history.proofs.ListLemmas.{find-passes}
 use Rattle.iscsi_session.proofs.WindowLemmas.{fewer, find-found}
-use Rattle.iscsi_history.specs.Settings.{is_known}
+use Rattle.iscsi_history.specs.rules.Settings.{is_known}
 use Rattle.iscsi_session.proofs.CountLemmas.{count-left, some_counted, AreCounted-left}
 use Rattle.iscsi_session.proofs.KeptLemmas.{enabled_found, Match-left, few_left, written}
 use Rattle.iscsi_session.proofs.SoundLemmas.{places_sound, kept_sound, commands_sound_on}
@@ -23,7 +23,7 @@ record Found (entered : ℕ) (sets : List Members) (lives : List Live) (l : Live
   inside : l.unit < length sets
   left : length (without_ticket l.ticket lives) + 1 ≤ length lives
 
-found_command : (entered : ℕ) (s : Core) (sets : List Members) (lives : List Live) (ticket : ℕ) (l : Live) → Rattle.iscsi_session.specs.Steps.find_enabled s ticket ≡ Some l → lives ≡ s.live → are_within entered (length sets) lives ≡ true → Found entered sets lives l
+found_command : (entered : ℕ) (s : Core) (sets : List Members) (lives : List Live) (ticket : ℕ) (l : Live) → Rattle.iscsi_session.specs.private.Steps.find_enabled s ticket ≡ Some l → lives ≡ s.live → are_within entered (length sets) lives ≡ true → Found entered sets lives l
 found_command entered s sets lives ticket l said same within =
     let there : find_ticket ticket lives ≡ Some l = ap (find_ticket ticket) same ∙ enabled_found s ticket (find_ticket ticket s.live) l said in
     let is : l.ticket ≡ ticket = eqb-true l.ticket ticket (find-found (λ (x : Live). x.ticket == ticket) lives l there) in

@@ -3,8 +3,8 @@ use Rattle.std.proofs.lemmas.Fn.{filter_same}
 use Rattle.iscsi_wire.specs.Fields.{connection_of}
 use Rattle.iscsi_window.specs.Windows.{is_asked}
 use Rattle.iscsi_session.specs.declared.session.waiting.Waiting.{Waiting}
-use Rattle.iscsi_session.specs.Standing.{Core}
-use Rattle.iscsi_session.specs.Parting.{with_dropped}
+use Rattle.iscsi_session.specs.promises.Standing.{Core}
+use Rattle.iscsi_session.specs.private.Parting.{with_dropped}
 use Rattle.iscsi_session.proofs.SoundLemmas.{fewer_sound}
 use Rattle.iscsi_session.proofs.session.Session.drop_waiting.Goals as goal
 

@@ -3,7 +3,7 @@ use Rattle.std.proofs.lemmas.List.{append-nil}
 use Rattle.iscsi_wire.specs.declared.request.Request.{Request}
 use Rattle.iscsi_window.specs.Windows.{Received}
 use Rattle.iscsi_history.specs.declared.effect.Effect.{Effect}
-use Rattle.iscsi_session.specs.Standing.{Core}
+use Rattle.iscsi_session.specs.promises.Standing.{Core}
 use Rattle.iscsi_session.proofs.DroppingLemmas.{DroppedAll, dropped_all}
 use Rattle.iscsi_session.proofs.session.Session.empty_all.Goals as goal
 

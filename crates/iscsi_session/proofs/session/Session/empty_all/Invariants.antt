@@ -1,6 +1,6 @@
 use Rattle.std.proofs.Common.{◌≡◌, ◌+◌, ◌≤◌, ◌++◌, true, length, count_by, vec_len, vec_capacity}
-use Rattle.iscsi_session.specs.Standing.{is_held}
-use Rattle.iscsi_session.specs.Parting.{is_clear_below, with_emptied, emptying_effects}
+use Rattle.iscsi_session.specs.promises.Standing.{is_held}
+use Rattle.iscsi_session.specs.private.Parting.{is_clear_below, with_emptied, emptying_effects}
 use Rattle.iscsi_session.proofs.session.Session.empty_all.Given as goal
 
 -- those that were taken out and those that are still to be are the whole, and the places that were looked at have none

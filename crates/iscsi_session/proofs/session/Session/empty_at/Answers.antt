@@ -4,8 +4,8 @@ use Rattle.iscsi_wire.specs.Serial.{number_of_first}
 use Rattle.iscsi_window.specs.Windows.{Received, number_expected, taken_at}
 use Rattle.iscsi_history.specs.declared.effect.Effect.{Effect}
 use Rattle.iscsi_history.specs.declared.effect.Effect.TheVariants.{Empty}
-use Rattle.iscsi_session.specs.Standing.{Core, is_held}
-use Rattle.iscsi_session.specs.Parting.{emptied_place, emptied_from, is_clear_below, with_emptied, emptying_effects}
+use Rattle.iscsi_session.specs.promises.Standing.{Core, is_held}
+use Rattle.iscsi_session.specs.private.Parting.{emptied_place, emptied_from, is_clear_below, with_emptied, emptying_effects}
 use Rattle.iscsi_session.proofs.DroppingLemmas.{DroppedOne, dropped_one, DroppedNone, dropped_none, answered_some, answered_none}
 use Rattle.iscsi_session.proofs.WindowLemmas.{Changed}
 use Rattle.iscsi_session.proofs.SoundLemmas.{window_sound, changed_sound, same_sound}

@@ -15,11 +15,11 @@ use Rattle.iscsi_tasks.specs.Sets.{Members, opened, entered_to, next_in, given_b
 use Rattle.iscsi_history.specs.declared.effect.Effect.{Effect}
 use Rattle.iscsi_history.specs.declared.effect.Effect.TheVariants.{Enter}
 use Rattle.iscsi_commands.specs.declared.live.Live.{Live}
-use Rattle.iscsi_history.specs.Settings.{is_known}
-use Rattle.iscsi_history.specs.Execution.{attr_of}
+use Rattle.iscsi_history.specs.rules.Settings.{is_known}
+use Rattle.iscsi_history.specs.rules.Execution.{attr_of}
 use Rattle.iscsi_connections.specs.Connected.{Connected}
-use Rattle.iscsi_session.specs.Standing.{Core, are_known, are_within, Match}
-use Rattle.iscsi_session.specs.Steps.{is_numbered, immediate_in, counted_on, started, number_by, event_by, new_live, new_task, with_command, enable_effect, entry_effects}
+use Rattle.iscsi_session.specs.promises.Standing.{Core, are_known, are_within, Match}
+use Rattle.iscsi_session.specs.private.Steps.{is_numbered, immediate_in, counted_on, started, number_by, event_by, new_live, new_task, with_command, enable_effect, entry_effects}
 use Rattle.iscsi_session.proofs.CountLemmas.{AreCounted-entered, room_for_one}
 use Rattle.iscsi_session.proofs.KeptLemmas.{newest_in, Match-entered, written}
 use Rattle.iscsi_session.proofs.PaceLemmas.{started_turned}

@@ -1,7 +1,7 @@
 use Rattle.std.proofs.Common.{◌≡◌, ap, sym, subst, arith, length, count_by}
-use Rattle.iscsi_session.specs.Standing.{Core, is_held}
-use Rattle.iscsi_session.specs.Steps.{verdict_by}
-use Rattle.iscsi_session.specs.Parting.{closing_by}
+use Rattle.iscsi_session.specs.promises.Standing.{Core, is_held}
+use Rattle.iscsi_session.specs.private.Steps.{verdict_by}
+use Rattle.iscsi_session.specs.private.Parting.{closing_by}
 use Rattle.iscsi_session.proofs.ManageLemmas.{Eased, managed_eased, managed_waiting, obeyed_places, obeyed_waiting}
 use Rattle.iscsi_session.proofs.PartedLemmas.{closed_parts}
 use Rattle.iscsi_session.proofs.session.Session.execute.Goals as goal

@@ -2,10 +2,10 @@ use Rattle.std.proofs.Common.{◌≡◌, ◌==◌, ◌&&◌, ◌∙◌, ◌<◌,
 use Rattle.std.proofs.lemmas.Bool.Decides.{nat_tests}
 use Rattle.iscsi_tasks.specs.Sets.{Members, opened, is_enabled_in}
 use Rattle.iscsi_commands.specs.declared.live.Live.{Live}
-use Rattle.iscsi_session.specs.Standing.{Core}
-use Rattle.iscsi_history.specs.Settings.{is_known}
+use Rattle.iscsi_session.specs.promises.Standing.{Core}
+use Rattle.iscsi_history.specs.rules.Settings.{is_known}
 use Rattle.std.proofs.lemmas.List.{get_or_default}
-use Rattle.iscsi_session.specs.Steps.{find_ticket, find_enabled, enabled_of}
+use Rattle.iscsi_session.specs.private.Steps.{find_ticket, find_enabled, enabled_of}
 use Rattle.iscsi_history.proofs.BoolLemmas.{and_second}
 use Rattle.iscsi_history.proofs.ListLemmas.{find-passes}
 use Rattle.iscsi_session.proofs.session.Session.find_enabled.Goals as goal

@@ -3,9 +3,9 @@ use Rattle.std.specs.List.{range_with_len}
 use Rattle.iscsi_tasks.specs.declared.cover.Cover.{Cover}
 use Rattle.iscsi_tasks.specs.Sets.{is_covered}
 use Rattle.iscsi_history.specs.declared.effect.Effect.{Effect}
-use Rattle.iscsi_session.specs.Standing.{Core}
-use Rattle.iscsi_session.specs.Functions.{with_left, leaving_effects}
-use Rattle.iscsi_session.specs.Parting.{covers_of, with_all_left, all_leaving_effects}
+use Rattle.iscsi_session.specs.promises.Standing.{Core}
+use Rattle.iscsi_session.specs.private.Functions.{with_left, leaving_effects}
+use Rattle.iscsi_session.specs.private.Parting.{covers_of, with_all_left, all_leaving_effects}
 use Rattle.iscsi_session.proofs.PartedLemmas.{left_one}
 use Rattle.iscsi_session.proofs.TellingLemmas.{range_step}
 use Rattle.iscsi_session.proofs.session.Session.leave_all.Goals as goal

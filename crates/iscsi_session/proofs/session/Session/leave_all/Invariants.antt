@@ -1,7 +1,7 @@
 use Rattle.std.proofs.Common.{◌≡◌, ◌+◌, ◌-◌, ◌≤◌, ◌++◌, length, vec_len, vec_capacity}
 use Rattle.std.specs.List.{range_with_len}
-use Rattle.iscsi_session.specs.Functions.{owed}
-use Rattle.iscsi_session.specs.Parting.{covers_of, cover_of, units_of, with_all_left, all_leaving_effects}
+use Rattle.iscsi_session.specs.private.Functions.{owed}
+use Rattle.iscsi_session.specs.private.Parting.{covers_of, cover_of, units_of, with_all_left, all_leaving_effects}
 use Rattle.iscsi_session.proofs.session.Session.leave_all.Given as goal
 
 -- the units that are done and those that are still to do are the whole

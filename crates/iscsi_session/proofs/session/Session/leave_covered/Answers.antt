@@ -3,8 +3,8 @@ use Rattle.std.proofs.lemmas.List.{get_or_default}
 use Rattle.iscsi_tasks.specs.declared.task.Task.{Task}
 use Rattle.iscsi_tasks.specs.Sets.{Members, opened, is_covered}
 use Rattle.iscsi_connections.specs.Connected.{Connected}
-use Rattle.iscsi_session.specs.Standing.{Core}
-use Rattle.iscsi_session.specs.Functions.{staying, finished_by, ungiven_in, owed}
+use Rattle.iscsi_session.specs.promises.Standing.{Core}
+use Rattle.iscsi_session.specs.private.Functions.{staying, finished_by, ungiven_in, owed}
 use Rattle.iscsi_session.proofs.LeavingParts.{ungiven_in-staying}
 use Rattle.iscsi_session.proofs.LeftSound.{Written, sets_written, left_sound}
 use Rattle.iscsi_session.proofs.session.Session.leave_covered.Goals as goal

@@ -4,9 +4,9 @@ use Rattle.iscsi_tasks.specs.Sets.{Members, opened}
 use Rattle.iscsi_history.specs.declared.effect.Effect.{Effect}
 use Rattle.iscsi_history.specs.declared.effect.Effect.TheVariants.{Leave}
 use Rattle.iscsi_connections.specs.Connected.{Connected}
-use Rattle.iscsi_session.specs.Standing.{Core}
-use Rattle.iscsi_session.specs.Steps.{without_ticket}
-use Rattle.iscsi_session.specs.Functions.{with_left, leaving_effects, covers_ticket, has_covered, ungiven_in, owed}
+use Rattle.iscsi_session.specs.promises.Standing.{Core}
+use Rattle.iscsi_session.specs.private.Steps.{without_ticket}
+use Rattle.iscsi_session.specs.private.Functions.{with_left, leaving_effects, covers_ticket, has_covered, ungiven_in, owed}
 use Rattle.iscsi_session.proofs.LeavingParts.{ungiven_in-staying, rises, one_found, one_live, one_leaves}
 use Rattle.iscsi_session.proofs.LeftSound.{Written, sets_written, left_sound, left_is}
 use Rattle.iscsi_session.proofs.session.Session.leave_one.Goals as goal

@@ -1,10 +1,10 @@
 use Rattle.std.proofs.Common.{◌≡◌, ℕ, ◌∙◌, List, ap, length, rules}
 use Rattle.std.proofs.lemmas.List.{length-map}
 use Rattle.iscsi_history.specs.declared.event.Event.{Event}
-use Rattle.iscsi_history.specs.Settings.{Setting}
-use Rattle.iscsi_history.specs.Trace.{live}
-use Rattle.iscsi_history.specs.Run.{trace_of}
-use Rattle.iscsi_session.specs.Standing.{Core, StandsFor, kept}
+use Rattle.iscsi_history.specs.rules.Settings.{Setting}
+use Rattle.iscsi_history.specs.rules.Trace.{live}
+use Rattle.iscsi_history.specs.rules.Run.{trace_of}
+use Rattle.iscsi_session.specs.promises.Standing.{Core, StandsFor, kept}
 use Rattle.iscsi_session.proofs.session.Session.live_len.Goals as goal
 
 -- as many commands are kept as are live

@@ -1,7 +1,7 @@
 use Rattle.std.proofs.Common.{◌≡◌, ◌∙◌, rules}
 use Rattle.iscsi_history.specs.declared.effect.Numbers.{Numbers}
-use Rattle.iscsi_history.specs.Run.{trace_of}
-use Rattle.iscsi_session.specs.Steps.{numbers_by}
+use Rattle.iscsi_history.specs.rules.Run.{trace_of}
+use Rattle.iscsi_session.specs.private.Steps.{numbers_by}
 use Rattle.iscsi_session.proofs.AgreeLemmas.{settled_numbers}
 use Rattle.iscsi_session.proofs.session.Session.numbers.Goals as goal
 

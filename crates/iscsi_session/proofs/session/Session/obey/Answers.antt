@@ -1,11 +1,11 @@
 use Rattle.std.proofs.Common.{◌≡◌, ◌<◌, length, ◌&&◌, ◌∙◌, false, ap, sym, arith, nat_le}
 use Rattle.std.proofs.lemmas.Bool.Decides.{nat_tests}
 use Rattle.iscsi_wire.specs.Fields.{connection_of, itt}
-use Rattle.iscsi_session.specs.Steps.{with_command, is_tag_kept, is_crowded_by, immediate_in, place_in}
+use Rattle.iscsi_session.specs.private.Steps.{with_command, is_tag_kept, is_crowded_by, immediate_in, place_in}
 use Rattle.iscsi_history.proofs.VerdictLemmas.{entering_by}
 use Rattle.iscsi_session.proofs.ExecutionLemmas.{placed}
-use Rattle.iscsi_session.specs.Standing.{Core}
-use Rattle.iscsi_session.specs.Functions.{owed}
+use Rattle.iscsi_session.specs.promises.Standing.{Core}
+use Rattle.iscsi_session.specs.private.Functions.{owed}
 use Rattle.iscsi_session.proofs.ManageLemmas.{owed_entered}
 use Rattle.iscsi_session.proofs.session.Session.obey.Goals as goal
 

@@ -4,11 +4,11 @@ use Rattle.iscsi_wire.specs.declared.request.Request.{Request}
 use Rattle.iscsi_wire.specs.Fields.{connection_of}
 use Rattle.iscsi_window.specs.declared.answer.Offer.TheVariants.{Held}
 use Rattle.iscsi_window.specs.Windows.{Received, offer_to, offered_to, with_place}
-use Rattle.iscsi_history.specs.Settings.{is_known}
-use Rattle.iscsi_session.specs.Standing.{Core, is_held, is_place_known}
+use Rattle.iscsi_history.specs.rules.Settings.{is_known}
+use Rattle.iscsi_session.specs.promises.Standing.{Core, is_held, is_place_known}
 use Rattle.iscsi_session.proofs.WindowLemmas.{few_counted, count_set, all_set, Taken, taken}
 use Rattle.iscsi_session.proofs.ManageLemmas.{length-noted, unheld_same}
-use Rattle.iscsi_session.specs.Invariant.{IsWindowSound}
+use Rattle.iscsi_session.specs.private.Invariant.{IsWindowSound}
 use Rattle.iscsi_session.proofs.SoundLemmas.{window_sound, same_sound, arrivals_sound}
 use Rattle.iscsi_session.proofs.session.Session.offer.Goals as goal
 

@@ -10,8 +10,8 @@ use Rattle.iscsi_tasks.specs.Sets.{Members, opened}
 use Rattle.iscsi_session.specs.declared.outcome.Outcome.{Outcome}
 use Rattle.iscsi_session.specs.declared.outcome.Outcome.TheVariants.{AbortAll}
 use Rattle.iscsi_commands.specs.declared.live.Live.{Live}
-use Rattle.iscsi_session.specs.Standing.{Core, Match, tickets_of}
-use Rattle.iscsi_session.specs.Functions.{tagged_in, abort_by, answer_if}
+use Rattle.iscsi_session.specs.promises.Standing.{Core, Match, tickets_of}
+use Rattle.iscsi_session.specs.private.Functions.{tagged_in, abort_by, answer_if}
 use Rattle.iscsi_session.proofs.TagLemmas.{any_found}
 use Rattle.iscsi_session.proofs.session.Session.outcome.Goals as goal
 

@@ -1,10 +1,10 @@
 use Rattle.std.proofs.Common.{◌≡◌, ◌∙◌, ◌++◌, ap}
 use Rattle.iscsi_wire.specs.declared.reply.Reply.TheVariants.{Logout}
 use Rattle.iscsi_wire.specs.Fields.{connection_of}
-use Rattle.iscsi_history.specs.Settings.{is_known}
-use Rattle.iscsi_session.specs.Standing.{Core}
-use Rattle.iscsi_session.specs.Steps.{with_reply, reply_effects}
-use Rattle.iscsi_session.specs.Parting.{units_of, covers_of, left_to, with_emptied, emptying_effects, with_dropped, with_closed, close_effects, all_enable_effects}
+use Rattle.iscsi_history.specs.rules.Settings.{is_known}
+use Rattle.iscsi_session.specs.promises.Standing.{Core}
+use Rattle.iscsi_session.specs.private.Steps.{with_reply, reply_effects}
+use Rattle.iscsi_session.specs.private.Parting.{units_of, covers_of, left_to, with_emptied, emptying_effects, with_dropped, with_closed, close_effects, all_enable_effects}
 use Rattle.iscsi_session.proofs.PartedLemmas.{Keeps, left_keeps, parting_chain}
 use Rattle.iscsi_session.proofs.session.Session.part.Goals as goal
 

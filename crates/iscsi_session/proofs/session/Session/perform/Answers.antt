@@ -1,7 +1,7 @@
 use Rattle.std.proofs.Common.{◌<◌, ◌∙◌, ap, sym, subst, arith, length, is_some}
 use Rattle.iscsi_wire.specs.Fields.{cmd_sn, rtt}
 use Rattle.iscsi_window.specs.Windows.{IsSound, place_in, held_at}
-use Rattle.iscsi_session.specs.Standing.{Core}
+use Rattle.iscsi_session.specs.promises.Standing.{Core}
 use Rattle.iscsi_history.proofs.VerdictLemmas.{named_below}
 use Rattle.iscsi_session.proofs.ManageLemmas.{Emptying, outcome_empties, outcome_voids, one_waits_not, found_held}
 use Rattle.iscsi_session.proofs.session.Session.perform.Goals as goal

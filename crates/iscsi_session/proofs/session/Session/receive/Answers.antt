@@ -2,9 +2,9 @@ use Rattle.std.proofs.Common.{◌∙◌, ◌++◌, ap, sym, subst, List}
 use Rattle.iscsi_wire.specs.Fields.{connection_of}
 use Rattle.iscsi_history.specs.declared.effect.Effect.{Effect}
 use Rattle.iscsi_history.specs.declared.effect.Why.TheVariants.{Outside, Duplicate}
-use Rattle.iscsi_history.specs.Trace.{after_items}
-use Rattle.iscsi_history.specs.Agenda.{numbered, arrival_of}
-use Rattle.iscsi_session.specs.Standing.{Core, Settled}
+use Rattle.iscsi_history.specs.rules.Trace.{after_items}
+use Rattle.iscsi_history.specs.rules.Agenda.{numbered, arrival_of}
+use Rattle.iscsi_session.specs.promises.Standing.{Core, Settled}
 use Rattle.iscsi_history.proofs.ListLemmas.{is_known-cids}
 use Rattle.iscsi_session.proofs.StepLemmas.{Offered, offered}
 use Rattle.iscsi_session.proofs.ArriveLemmas.{held_settled, held_effects, held_receives, ignored_receives}

@@ -5,12 +5,12 @@ use Rattle.iscsi_history.specs.declared.effect.Effect.{Effect}
 use Rattle.iscsi_history.specs.declared.event.Event.{Event}
 use Rattle.iscsi_session.specs.declared.fault.SessionFault.{SessionFault}
 use Rattle.iscsi_session.specs.declared.fault.SessionFault.TheVariants.{NoMemory}
-use Rattle.iscsi_history.specs.Run.{trace_of, next_entry, after_event}
-use Rattle.iscsi_session.specs.Refusals.{RefusesAs, refusal_of}
-use Rattle.iscsi_session.specs.Standing.{Core, Settled, is_held}
-use Rattle.iscsi_session.specs.Steps.{KeepsPace, counted}
-use Rattle.iscsi_history.specs.Trace.{received}
-use Rattle.iscsi_history.specs.Flow.{Flows, HasOneMore}
+use Rattle.iscsi_history.specs.rules.Run.{trace_of, next_entry, after_event}
+use Rattle.iscsi_session.specs.promises.Refusals.{RefusesAs, refusal_of}
+use Rattle.iscsi_session.specs.promises.Standing.{Core, Settled, is_held}
+use Rattle.iscsi_session.specs.private.Steps.{KeepsPace, counted}
+use Rattle.iscsi_history.specs.rules.Trace.{received}
+use Rattle.iscsi_history.specs.promises.Flow.{Flows, HasOneMore}
 use Rattle.iscsi_session.proofs.FlowLemmas.{Flows-step}
 use Rattle.iscsi_history.proofs.RunLemmas.{trace_of-push}
 use Rattle.iscsi_session.proofs.OwedLemmas.{owed_few}

@@ -1,7 +1,7 @@
 use Rattle.std.proofs.Common.{rules, ◌≡◌, ◌==◌, ◌∙◌, cond, true, false, find, None, Some, ap, sym}
 use Rattle.iscsi_commands.specs.declared.live.Live.{Live}
-use Rattle.iscsi_session.specs.Standing.{Core}
-use Rattle.iscsi_session.specs.Functions.{tagged_in}
+use Rattle.iscsi_session.specs.promises.Standing.{Core}
+use Rattle.iscsi_session.specs.private.Functions.{tagged_in}
 use Rattle.iscsi_session.proofs.TagLemmas.{passing, find_passing}
 use Rattle.iscsi_session.proofs.session.Session.tagged.Goals as goal
 

@@ -1,13 +1,13 @@
 use Rattle.std.proofs.Common.{◌≡◌, ◌∙◌, ◌++◌, ap, sym, subst, List, true, arith}
 use Rattle.iscsi_wire.specs.Fields.{connection_of}
 use Rattle.iscsi_history.specs.declared.effect.Effect.{Effect}
-use Rattle.iscsi_history.specs.Settings.{is_known}
-use Rattle.iscsi_history.specs.Trace.{Arrival, Mark, after_items, received}
-use Rattle.iscsi_history.specs.Flow.{HasOneMore}
-use Rattle.iscsi_history.specs.Agenda.{arrival_open, arrival_of}
-use Rattle.iscsi_history.specs.Run.{effects_of}
-use Rattle.iscsi_session.specs.Standing.{Core, Settled}
-use Rattle.iscsi_session.specs.Turning.{patience_by}
+use Rattle.iscsi_history.specs.rules.Settings.{is_known}
+use Rattle.iscsi_history.specs.rules.Trace.{Arrival, Mark, after_items, received}
+use Rattle.iscsi_history.specs.promises.Flow.{HasOneMore}
+use Rattle.iscsi_history.specs.rules.Agenda.{arrival_open, arrival_of}
+use Rattle.iscsi_history.specs.rules.Run.{effects_of}
+use Rattle.iscsi_session.specs.promises.Standing.{Core, Settled}
+use Rattle.iscsi_session.specs.private.Turning.{patience_by}
 use Rattle.iscsi_history.proofs.ListLemmas.{is_known-cids}
 use Rattle.iscsi_session.proofs.ArriveLemmas.{passed_over, rejected_opcode, passed_receives, rejected_receives, AtOnce, at_once, at_once_settled, at_once_effects, at_once_receives, is_numbered_arrival}
 use Rattle.iscsi_session.proofs.PaceLemmas.{immediate_stays}

@@ -7,11 +7,11 @@ use Rattle.iscsi_window.specs.Windows.{number_expected}
 use Rattle.iscsi_history.specs.declared.effect.Effect.{Effect}
 use Rattle.iscsi_history.specs.declared.effect.Effect.TheVariants.{Immediate}
 use Rattle.iscsi_session.specs.declared.session.waiting.Waiting.{Waiting}
-use Rattle.iscsi_history.specs.Settings.{is_known}
-use Rattle.iscsi_history.specs.Management.{may_wait}
-use Rattle.iscsi_session.specs.Standing.{Core}
-use Rattle.iscsi_session.specs.Functions.{owed}
-use Rattle.iscsi_session.specs.Turning.{performed, performed_effects, next_waiting, next_position, without_waiting, function_if, function_effects}
+use Rattle.iscsi_history.specs.rules.Settings.{is_known}
+use Rattle.iscsi_history.specs.rules.Management.{may_wait}
+use Rattle.iscsi_session.specs.promises.Standing.{Core}
+use Rattle.iscsi_session.specs.private.Functions.{owed}
+use Rattle.iscsi_session.specs.private.Turning.{performed, performed_effects, next_waiting, next_position, without_waiting, function_if, function_effects}
 use Rattle.iscsi_history.proofs.ListLemmas.{find-passes}
 use Rattle.iscsi_session.proofs.ManageLemmas.{fewer_left, waiting_performed}
 use Rattle.iscsi_session.proofs.FunctionLemmas.{waited_places}

@@ -3,11 +3,11 @@ use Rattle.std.proofs.lemmas.List.{append-nil}
 use Rattle.iscsi_window.specs.Windows.{number_expected}
 use Rattle.iscsi_history.specs.declared.effect.Effect.{Effect}
 use Rattle.iscsi_session.specs.declared.session.waiting.Waiting.{Waiting}
-use Rattle.iscsi_history.specs.Trace.{after_items}
-use Rattle.iscsi_history.specs.Items.{functions_at}
-use Rattle.iscsi_session.specs.Standing.{Core, Agrees}
-use Rattle.iscsi_session.specs.Steps.{KeepsPace}
-use Rattle.iscsi_session.specs.Turning.{next_waiting, function_if, function_effects}
+use Rattle.iscsi_history.specs.rules.Trace.{after_items}
+use Rattle.iscsi_history.specs.rules.Items.{functions_at}
+use Rattle.iscsi_session.specs.promises.Standing.{Core, Agrees}
+use Rattle.iscsi_session.specs.private.Steps.{KeepsPace}
+use Rattle.iscsi_session.specs.private.Turning.{next_waiting, function_if, function_effects}
 use Rattle.iscsi_session.proofs.AgendaLemmas.{Leads, left_functions, functions-on, functions-done}
 use Rattle.iscsi_session.proofs.PaceLemmas.{Stays, function_stays, pace-function, is_none}
 use Rattle.iscsi_session.proofs.session.Session.take_functions.Goals as goal

@@ -1,11 +1,11 @@
 use Rattle.std.proofs.Common.{◌≡◌, ◌≤◌, ◌+◌, ◌*◌, length, vec_len, vec_capacity}
 use Rattle.iscsi_window.specs.Windows.{number_expected}
-use Rattle.iscsi_history.specs.Settings.{Setting}
-use Rattle.iscsi_history.specs.Trace.{Trace}
-use Rattle.iscsi_history.specs.Items.{functions_at}
-use Rattle.iscsi_session.specs.Standing.{Agrees}
-use Rattle.iscsi_session.specs.Steps.{KeepsPace}
-use Rattle.iscsi_session.specs.Functions.{owed}
+use Rattle.iscsi_history.specs.rules.Settings.{Setting}
+use Rattle.iscsi_history.specs.rules.Trace.{Trace}
+use Rattle.iscsi_history.specs.rules.Items.{functions_at}
+use Rattle.iscsi_session.specs.promises.Standing.{Agrees}
+use Rattle.iscsi_session.specs.private.Steps.{KeepsPace}
+use Rattle.iscsi_session.specs.private.Functions.{owed}
 use Rattle.iscsi_session.proofs.AgendaLemmas.{Leads, left_functions}
 use Rattle.iscsi_session.proofs.session.Session.take_functions.Given as goal
 

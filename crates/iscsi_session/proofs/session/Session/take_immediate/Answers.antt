@@ -1,9 +1,9 @@
 use Rattle.std.proofs.Common.{◌≡◌, ◌+◌, ◌-◌, ◌∙◌, ap, sym, subst, arith, length, count_by}
 use Rattle.std.proofs.lemmas.List.{length_push}
-use Rattle.iscsi_session.specs.Standing.{Core, is_held}
-use Rattle.iscsi_session.specs.Steps.{KeepsPace}
-use Rattle.iscsi_session.specs.Functions.{owed}
-use Rattle.iscsi_session.specs.Turning.{with_waiting}
+use Rattle.iscsi_session.specs.promises.Standing.{Core, is_held}
+use Rattle.iscsi_session.specs.private.Steps.{KeepsPace}
+use Rattle.iscsi_session.specs.private.Functions.{owed}
+use Rattle.iscsi_session.specs.private.Turning.{with_waiting}
 use Rattle.iscsi_session.proofs.ManageLemmas.{Eased, eased_executed}
 use Rattle.iscsi_session.proofs.session.Session.take_immediate.Goals as goal
 

@@ -1,10 +1,10 @@
 use Rattle.std.proofs.Common.{◌≤◌, ◌≡◌, ◌+◌, ◌*◌, List, length, count_by, is_some, vec_len, vec_capacity}
 use Rattle.iscsi_history.specs.declared.effect.Effect.{Effect}
-use Rattle.iscsi_history.specs.Settings.{Setting}
-use Rattle.iscsi_history.specs.Trace.{Trace, Mark}
-use Rattle.iscsi_session.specs.Standing.{is_held}
-use Rattle.iscsi_session.specs.Steps.{KeepsPace}
-use Rattle.iscsi_session.specs.Functions.{owed}
+use Rattle.iscsi_history.specs.rules.Settings.{Setting}
+use Rattle.iscsi_history.specs.rules.Trace.{Trace, Mark}
+use Rattle.iscsi_session.specs.promises.Standing.{is_held}
+use Rattle.iscsi_session.specs.private.Steps.{KeepsPace}
+use Rattle.iscsi_session.specs.private.Functions.{owed}
 use Rattle.iscsi_session.proofs.AgendaLemmas.{DueTurn}
 use Rattle.iscsi_session.proofs.session.Session.take_turns.Given as goal
 

@@ -2,10 +2,10 @@ use Rattle.std.proofs.Common.{◌≡◌, ◌∙◌, ◌++◌, ◌+◌, ◌-◌, 
 use Rattle.std.specs.List.{range_with_len, flat_map}
 use Rattle.iscsi_tasks.specs.Sets.{Members, opened}
 use Rattle.iscsi_history.specs.declared.effect.Effect.{Effect}
-use Rattle.iscsi_session.specs.Standing.{Core}
-use Rattle.iscsi_session.specs.Steps.{set_at, all_given, enable_effects}
-use Rattle.iscsi_session.specs.Functions.{with_given}
-use Rattle.iscsi_session.specs.Parting.{with_all_given}
+use Rattle.iscsi_session.specs.promises.Standing.{Core}
+use Rattle.iscsi_session.specs.private.Steps.{set_at, all_given, enable_effects}
+use Rattle.iscsi_session.specs.private.Functions.{with_given}
+use Rattle.iscsi_session.specs.private.Parting.{with_all_given}
 use Rattle.iscsi_session.proofs.TellingLemmas.{range_step, given_all, told_more, told_all, told_later}
 use Rattle.iscsi_session.proofs.session.Session.tell_all.Goals as goal
 

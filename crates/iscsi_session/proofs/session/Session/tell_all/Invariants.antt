@@ -1,9 +1,9 @@
 use Rattle.std.proofs.Common.{◌≡◌, ◌+◌, ◌-◌, ◌<◌, ◌≤◌, ◌++◌, ℕ, length, get_or, vec_len, vec_capacity}
 use Rattle.std.specs.List.{range_with_len, flat_map}
 use Rattle.iscsi_tasks.specs.Sets.{opened}
-use Rattle.iscsi_session.specs.Steps.{set_at, all_given, enable_effects}
-use Rattle.iscsi_session.specs.Functions.{owed}
-use Rattle.iscsi_session.specs.Parting.{with_all_given, all_enable_effects}
+use Rattle.iscsi_session.specs.private.Steps.{set_at, all_given, enable_effects}
+use Rattle.iscsi_session.specs.private.Functions.{owed}
+use Rattle.iscsi_session.specs.private.Parting.{with_all_given, all_enable_effects}
 use Rattle.iscsi_session.proofs.session.Session.tell_all.Given as goal
 
 -- the units that were told, and what is still to be told

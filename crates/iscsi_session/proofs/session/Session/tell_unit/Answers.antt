@@ -1,8 +1,8 @@
 use Rattle.std.proofs.Common.{◌≡◌, ◌∙◌, ◌<◌, ◌++◌, ℕ, List, length, count_by, take, drop, get_or, set, length-set, ap, arith}
 use Rattle.iscsi_tasks.specs.Sets.{Members, opened, is_new}
-use Rattle.iscsi_session.specs.Standing.{Core}
-use Rattle.iscsi_session.specs.Steps.{all_given}
-use Rattle.iscsi_session.specs.Functions.{ungiven_in, owed}
+use Rattle.iscsi_session.specs.promises.Standing.{Core}
+use Rattle.iscsi_session.specs.private.Steps.{all_given}
+use Rattle.iscsi_session.specs.private.Functions.{ungiven_in, owed}
 use Rattle.iscsi_session.proofs.KeptLemmas.{written}
 use Rattle.iscsi_session.proofs.LeavingParts.{owed-given, Match-given}
 use Rattle.iscsi_session.proofs.SoundLemmas.{sets_sound}

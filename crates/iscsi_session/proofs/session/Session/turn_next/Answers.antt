@@ -5,10 +5,10 @@ use Rattle.iscsi_wire.specs.Fields.{connection_of, is_immediate}
 use Rattle.iscsi_window.specs.Windows.{Received, at_place, advanced}
 use Rattle.iscsi_history.specs.declared.effect.Effect.{Effect}
 use Rattle.iscsi_history.specs.declared.effect.Effect.TheVariants.{Deliver}
-use Rattle.iscsi_history.specs.Settings.{is_known}
-use Rattle.iscsi_session.specs.Standing.{Core, is_held}
-use Rattle.iscsi_session.specs.Functions.{owed}
-use Rattle.iscsi_session.specs.Turning.{with_executed, executed_effects, with_advanced, turned_if, turn_effects}
+use Rattle.iscsi_history.specs.rules.Settings.{is_known}
+use Rattle.iscsi_session.specs.promises.Standing.{Core, is_held}
+use Rattle.iscsi_session.specs.private.Functions.{owed}
+use Rattle.iscsi_session.specs.private.Turning.{with_executed, executed_effects, with_advanced, turned_if, turn_effects}
 use Rattle.iscsi_history.proofs.BoolLemmas.{and_first, not_true}
 use Rattle.iscsi_session.proofs.WindowLemmas.{few_counted, Advanced, advanced_at}
 use Rattle.iscsi_session.proofs.ManageLemmas.{Placed, placed_executed, waiting_executed}

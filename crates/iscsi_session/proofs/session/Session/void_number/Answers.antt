@@ -1,6 +1,6 @@
 use Rattle.std.proofs.Common.{◌+◌, ◌<◌, ◌≤◌, cond, ap, sym, subst, arith, count_by, is_some, Bool, true, false, ℕ}
 use Rattle.iscsi_window.specs.Windows.{Received, place_in, IsInside, is_received_at}
-use Rattle.iscsi_session.specs.Standing.{Core, is_held}
+use Rattle.iscsi_session.specs.promises.Standing.{Core, is_held}
 use Rattle.iscsi_session.proofs.WindowLemmas.{Changed, voided_changes}
 use Rattle.iscsi_session.proofs.SoundLemmas.{window_sound, changed_sound}
 use Rattle.iscsi_session.proofs.session.Session.void_number.Goals as goal

@@ -7,10 +7,10 @@ use Rattle.iscsi_wire.specs.Serial.{lift, number_of_first}
 use Rattle.iscsi_wire.specs.Fields.{connection_of, cmd_sn}
 use Rattle.iscsi_window.specs.Windows.{number_expected}
 use Rattle.iscsi_session.specs.declared.session.waiting.Waiting.{Waiting}
-use Rattle.iscsi_history.specs.Settings.{is_known}
-use Rattle.iscsi_history.specs.Management.{may_wait}
-use Rattle.iscsi_session.specs.Standing.{Core}
-use Rattle.iscsi_session.specs.Turning.{waiting_in, with_waiting}
+use Rattle.iscsi_history.specs.rules.Settings.{is_known}
+use Rattle.iscsi_history.specs.rules.Management.{may_wait}
+use Rattle.iscsi_session.specs.promises.Standing.{Core}
+use Rattle.iscsi_session.specs.private.Turning.{waiting_in, with_waiting}
 use Rattle.iscsi_session.proofs.ManageLemmas.{Waits, waits_more, Later, later, ahead_by}
 use Rattle.iscsi_session.proofs.SoundLemmas.{functions_sound}
 use Rattle.iscsi_session.proofs.session.Session.wait.Goals as goal

@@ -3,8 +3,8 @@ use Rattle.std.proofs.lemmas.Bool.{eqb-true}
 use Rattle.iscsi_window.specs.Windows.{Received, with_unfinished}
 use Rattle.iscsi_slots.specs.Queued.{Queued}
 use Rattle.iscsi_commands.specs.declared.live.Live.{Live}
-use Rattle.iscsi_history.specs.Settings.{is_known}
-use Rattle.iscsi_session.specs.Steps.{AreCounted, is_numbered, finished, find_ticket, without_ticket}
+use Rattle.iscsi_history.specs.rules.Settings.{is_known}
+use Rattle.iscsi_session.specs.private.Steps.{AreCounted, is_numbered, finished, find_ticket, without_ticket}
 use Rattle.iscsi_history.proofs.ListLemmas.{find-passes}
 use Rattle.iscsi_session.proofs.WindowLemmas.{find-found}
 use Rattle.iscsi_session.proofs.CountLemmas.{count-left, some_counted, AreCounted-left}

@@ -1,8 +1,8 @@
 use Rattle.std.proofs.Common.{◌≡◌, ◌+◌, ◌≤◌, ◌++◌, true, length, count_by, take, vec_len, vec_capacity}
 use Rattle.iscsi_tasks.specs.Sets.{is_covered}
-use Rattle.iscsi_session.specs.Standing.{are_ascending, are_known}
-use Rattle.iscsi_session.specs.Steps.{AreCounted, is_numbered}
-use Rattle.iscsi_session.specs.Functions.{staying, finished_by, leaves}
+use Rattle.iscsi_session.specs.promises.Standing.{are_ascending, are_known}
+use Rattle.iscsi_session.specs.private.Steps.{AreCounted, is_numbered}
+use Rattle.iscsi_session.specs.private.Functions.{staying, finished_by, leaves}
 use Rattle.iscsi_session.proofs.LeavingParts.{upto}
 use Rattle.iscsi_session.proofs.session.leaving.end_covered.Given as goal
 

@@ -1,7 +1,7 @@
 use Rattle.std.proofs.Common.{◌≡◌, ◌∙◌, List, is_some, get_or, set, ap, sym, arith}
 use Rattle.std.proofs.lemmas.List.{get_or_default}
 use Rattle.iscsi_tasks.specs.Sets.{Members, opened}
-use Rattle.iscsi_session.specs.Functions.{set_staying, covers_ticket, has_covered}
+use Rattle.iscsi_session.specs.private.Functions.{set_staying, covers_ticket, has_covered}
 use Rattle.iscsi_session.proofs.LeavingParts.{one_staying, one_there}
 use Rattle.iscsi_session.proofs.session.leaving.take_one.Goals as goal
 

@@ -3,7 +3,7 @@ use Rattle.std.proofs.lemmas.List.{append-nil}
 use Rattle.iscsi_tasks.specs.declared.member.Member.{Member}
 use Rattle.iscsi_tasks.specs.Sets.{Members, is_new, given_by}
 use Rattle.iscsi_history.specs.declared.effect.Effect.{Effect}
-use Rattle.iscsi_session.specs.Steps.{all_given, enable_effects}
+use Rattle.iscsi_session.specs.private.Steps.{all_given, enable_effects}
 use Rattle.iscsi_session.proofs.GivingLemmas.{Given, given_one, AllGiven, given_all}
 use Rattle.iscsi_session.proofs.session.sets.enable_new.Goals as goal
 

@@ -1,6 +1,6 @@
 use Rattle.std.proofs.Common.{◌≡◌, ◌+◌, ◌++◌, count_by, vec_len, vec_capacity}
 use Rattle.iscsi_tasks.specs.Sets.{is_new}
-use Rattle.iscsi_session.specs.Steps.{all_given, enable_effects}
+use Rattle.iscsi_session.specs.private.Steps.{all_given, enable_effects}
 use Rattle.iscsi_session.proofs.session.sets.enable_new.Given as goal
 
 -- what was given and what is new still are the whole

@@ -1,8 +1,8 @@
 use Rattle.std.proofs.Common.{refl, ◌≡◌, ℕ, ◌<◌, ◌∙◌, ◌++◌, List, ap, sym, subst, arith, length, map, append_assoc, true, get_or, vec_len}
 use Rattle.std.specs.List.{range_with_len}
 use Rattle.std.proofs.lemmas.List.{length-map, map-append}
-use Rattle.iscsi_history.specs.Run.{run_of}
-use Rattle.iscsi_session.specs.Settings.{setting_of}
+use Rattle.iscsi_history.specs.rules.Run.{run_of}
+use Rattle.iscsi_session.specs.promises.Settings.{setting_of}
 use Rattle.iscsi_threads.specs.Ports.{Answer, port_ring, unit_rings, taken}
 use Rattle.iscsi_threads.specs.Outlets.{inlet_ring, outlet_rings, got, given, heard}
 use Rattle.iscsi_threads.specs.Journal.{cids_of, part, jobs_of, done, are_sources}

@@ -1,0 +1,77 @@
+-- What holds of every session, whatever it has taken.
+use Rattle.std.specs.Prelude.{All, ◌≡◌, ℕ, ◌+◌, ◌*◌, ◌^◌, ◌≤◌, true, List, length, count_by, is_some, nat_lt, Option, Some}
+use Rattle.std.specs.List.{list_all}
+use Rattle.iscsi_wire.specs.Fields.{connection_of}
+use Rattle.iscsi_window.specs.Received.{Received}
+use Rattle.iscsi_tasks.specs.Sets.{Members}
+use Rattle.iscsi_commands.specs.declared.live.Live.{Live}
+use Rattle.iscsi_session.specs.declared.session.waiting.Waiting.{Waiting}
+use Rattle.iscsi_history.specs.rules.Settings.{is_known}
+use Rattle.iscsi_history.specs.rules.Management.{may_wait}
+use Rattle.iscsi_session.specs.promises.Standing.{are_known, is_held, is_place_known, Match, are_ascending, are_within}
+use Rattle.iscsi_session.specs.private.Steps.{is_numbered, AreCounted}
+use Rattle.iscsi_session.specs.private.Turning.{waiting_in}
+
+-- what the invariant speaks of: the fields that callers see as `Core`, those behind them, and the containers' rooms
+pub record Inner : Type 0 where
+  pub window : Received
+  pub held : ℕ  -- the count of held requests
+  pub events : ℕ
+  pub conns : List (ℕ × ℕ)
+  pub entered : ℕ
+  pub taken : ℕ
+  pub live : List Live
+  pub immediate : List ℕ  -- the count of immediate commands, for each connection
+  pub sets : List Members
+  pub arrived : List ℕ
+  pub waiting : List Waiting
+  pub live_room : ℕ  -- how many elements each of these has memory for
+  pub arrived_room : ℕ
+  pub waiting_room : ℕ
+
+-- the window, and the requests that it holds
+pub record IsWindowSound (w : Received) (held count taken : ℕ) (conns : List (ℕ × ℕ)) : Type 0 where
+  pub fits : w.unfinished ≤ length w.places  -- each command in execution has a place
+  pub most : length w.places ≤ 1024
+  pub held_is : held ≡ count_by is_held w.places  -- the held requests are counted
+  pub turned : w.turned + count_by is_some w.places ≤ taken  -- an event received one number at the most
+  pub entered : count + count_by is_some w.places ≤ taken  -- and so many commands may enter yet
+  pub known : list_all (is_place_known conns) w.places ≡ true  -- each held request is numbered, and came on a connection of the session
+
+-- the live commands
+pub record AreCommandsSound (unfinished count : ℕ) (conns : List (ℕ × ℕ)) (immediate : List ℕ) (sets : List Members) (live : List Live) : Type 0 where
+  pub numbered : count_by is_numbered live ≤ unfinished  -- the window counts the numbered ones
+  pub known : are_known live conns ≡ true  -- each came on a connection of the session
+  pub in_sets : Match sets live  -- the task sets have them
+  pub ascending : are_ascending live ≡ true  -- they are in the order in which they entered
+  pub within : are_within count (length sets) live ≡ true  -- each has a ticket that was given, and a unit of the session
+  pub counted : AreCounted immediate conns live  -- the immediate ones are counted
+
+-- the functions that wait
+pub record AreFunctionsSound (taken : ℕ) (conns : List (ℕ × ℕ)) (waiting : List Waiting) : Type 0 where
+  pub before : list_all (λ w. nat_lt w.event taken) waiting ≡ true  -- each arrived before
+  pub known : list_all (λ w. is_known (connection_of w.request) conns) waiting ≡ true  -- on a connection of the session
+  pub may : list_all (λ w. may_wait w.request) waiting ≡ true  -- is one that may wait
+  pub few : (cid : ℕ) → waiting_in waiting cid ≤ 4  -- and is one of few on its connection
+
+-- the containers' rooms, by the numbers of places and connections
+pub record HasRooms (places conns live_room arrived_room waiting_room : ℕ) : Type 0 where
+  pub live : places + 8 * conns ≤ live_room  -- for a command at each place, and the immediate ones of each connection
+  pub arrived : places ≤ arrived_room  -- for the event of arrival of each place
+  pub waiting : 4 * conns ≤ waiting_room  -- for the functions that may wait on each connection
+
+-- the limits of the options, by the numbers of events, connections and units
+pub record IsWithinLimits (count most cids sets : ℕ) : Type 0 where
+  pub taken : count ≤ most  -- no more events were taken than the options allow
+  pub events : most ≤ 2 ^ 48
+  pub conns : cids ≤ 64
+  pub units : sets ≤ 256
+
+-- what holds of every session
+pub record IsSessionSound (s : Inner) : Type 0 where
+  pub window : IsWindowSound s.window s.held s.entered s.taken s.conns
+  pub commands : AreCommandsSound s.window.unfinished s.entered s.conns s.immediate s.sets s.live
+  pub functions : AreFunctionsSound s.taken s.conns s.waiting
+  pub rooms : HasRooms (length s.window.places) (length s.conns) s.live_room s.arrived_room s.waiting_room
+  pub arrivals : length s.arrived ≡ length s.window.places  -- the events of arrival stand beside the places
+  pub limits : IsWithinLimits s.taken s.events (length s.conns) (length s.sets)

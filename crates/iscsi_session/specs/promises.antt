@@ -1,0 +1,4 @@
+-- What the session promises: which calls it refuses, and for which events it stands.
+pub mod Settings
+pub mod Refusals
+pub mod Standing
