@@ -1,4 +1,4 @@
--- For private contracts and proofs alone. No reader has to trust these.
+-- Bookkeeping by what a session keeps, for contracts within the crate and for the crates above it.
 pub mod Invariant
 pub mod Steps
 pub mod Functions
