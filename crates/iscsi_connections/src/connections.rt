@@ -100,7 +100,7 @@ impl Connections {
     }
 
     /// Takes the StatSN of a connection's next reply.
-    pub fn take_stat_sn(&mut self, cid: u16) -> u32
+    pub fn assign_stat_sn(&mut self, cid: u16) -> u32
         requires { known_in cid self.old.conns ≡ true }
         ensures number { result ≡ stat_sn_on cid self.old.conns }
         ensures state { self.new ≡ record self.old { conns = count_reply cid self.old.conns } }

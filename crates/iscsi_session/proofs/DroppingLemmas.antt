@@ -8,31 +8,31 @@ use Rattle.iscsi_wire.specs.Serial.{wire}
 use Rattle.iscsi_window.specs.Windows.{Received, number_expected, number_shown, at_place, with_place, is_held_from, taken_at}
 use Rattle.iscsi_history.specs.declared.effect.Effect.TheVariants.{Empty}
 use Rattle.iscsi_session.specs.promises.Standing.{is_held, is_place_known}
-use Rattle.iscsi_session.specs.private.Parting.{emptied_place, emptied_from, is_clear_below}
+use Rattle.iscsi_session.specs.private.Closing.{emptied_place, emptied_from, is_clear_below}
 use Rattle.iscsi_session.proofs.FindLemmas.{position-cons}
 use Rattle.iscsi_history.proofs.BoolLemmas.{and_parts}
 
 -- the first place that is concerned, and what is left to do after it
-record Dropped (whose : Option ℕ) (n : ℕ) (ps : List (Option (Option Request))) (k : ℕ) : Type 0 where
+record Dropped (scope : Option ℕ) (n : ℕ) (ps : List (Option (Option Request))) (k : ℕ) : Type 0 where
   inside : k < length ps
-  rest : map (emptied_place whose) (set ps k (Some None)) ≡ map (emptied_place whose) ps
-  effects : emptied_from n whose ps ≡ Empty (wire (n + k)) ∷ emptied_from n whose (set ps k (Some None))
+  rest : map (emptied_place scope) (set ps k (Some None)) ≡ map (emptied_place scope) ps
+  effects : emptied_from n scope ps ≡ Empty (wire (n + k)) ∷ emptied_from n scope (set ps k (Some None))
   held : count_by is_held (set ps k (Some None)) + 1 ≡ count_by is_held ps
   counted : count_by is_some (set ps k (Some None)) ≡ count_by is_some ps
   known : (conns : List (ℕ × ℕ)) → list_all (is_place_known conns) ps ≡ true → list_all (is_place_known conns) (set ps k (Some None)) ≡ true
 
-held_here : (whose : Option ℕ) (p : Option (Option Request)) → is_held_from whose p ≡ true → (is_held p ≡ true) × (is_some p ≡ true)
-held_here whose None h = absurd (false≢true h)
-held_here whose (Some None) h = absurd (false≢true h)
-held_here whose (Some (Some r)) h = (refl, refl)
+held_here : (scope : Option ℕ) (p : Option (Option Request)) → is_held_from scope p ≡ true → (is_held p ≡ true) × (is_some p ≡ true)
+held_here scope None h = absurd (false≢true h)
+held_here scope (Some None) h = absurd (false≢true h)
+held_here scope (Some (Some r)) h = (refl, refl)
 
 some_cons : (x : Option ℕ) (k : ℕ) → option_map suc x ≡ Some k → (j : ℕ) × ((x ≡ Some j) × (k ≡ suc j))
 some_cons None k h = absurd cc
 some_cons (Some j) k h = (j, (refl, cc))
 
-dropped_first : (whose : Option ℕ) (n : ℕ) (ps : List (Option (Option Request))) (k : ℕ) → position (is_held_from whose) ps ≡ Some k → Dropped whose n ps k
-dropped_first whose n [] k found = absurd cc
-dropped_first whose n (p ∷ ps) k found = by_test (dropped_first whose (n + 1) ps) (is_held_from whose p) refl (sym (position-cons (is_held_from whose) p ps) ∙ found)
+dropped_first : (scope : Option ℕ) (n : ℕ) (ps : List (Option (Option Request))) (k : ℕ) → position (is_held_from scope) ps ≡ Some k → Dropped scope n ps k
+dropped_first scope n [] k found = absurd cc
+dropped_first scope n (p ∷ ps) k found = by_test (dropped_first scope (n + 1) ps) (is_held_from scope p) refl (sym (position-cons (is_held_from scope) p ps) ∙ found)
   where
     count_held : (x : Option (Option Request)) (xs : List (Option (Option Request))) → count_by is_held (x ∷ xs) ≡ cond (is_held x) 1 0 + count_by is_held xs
     count_held x xs = sum_by-cons (λ y. cond (is_held y) 1 0) x xs
@@ -40,24 +40,24 @@ dropped_first whose n (p ∷ ps) k found = by_test (dropped_first whose (n + 1) 
     count_some : (x : Option (Option Request)) (xs : List (Option (Option Request))) → count_by is_some (x ∷ xs) ≡ cond (is_some x) 1 0 + count_by is_some xs
     count_some x xs = sum_by-cons (λ y. cond (is_some y) 1 0) x xs
 
-    at_first : is_held_from whose p ≡ true → Dropped whose n (p ∷ ps) 0
+    at_first : is_held_from scope p ≡ true → Dropped scope n (p ∷ ps) 0
     at_first is =
-        let h = held_here whose p is in record {
+        let h = held_here scope p is in record {
           inside = omega arith;
-          rest = ap (λ b. cond b (Some None) p ∷ map (emptied_place whose) ps) (sym is);
-          effects = ap (λ b. cond b (Empty (wire n) ∷ []) [] ++ emptied_from (n + 1) whose ps) is ∙ ap (λ m. Empty (wire m) ∷ emptied_from (n + 1) whose ps) (let z : n ≡ n + 0 = omega arith in z);
+          rest = ap (λ b. cond b (Some None) p ∷ map (emptied_place scope) ps) (sym is);
+          effects = ap (λ b. cond b (Empty (wire n) ∷ []) [] ++ emptied_from (n + 1) scope ps) is ∙ ap (λ m. Empty (wire m) ∷ emptied_from (n + 1) scope ps) (let z : n ≡ n + 0 = omega arith in z);
           held = omega (arith, count_held (Some None) ps, count_held p ps, ap {B = ℕ} (λ b. cond b 1 0) h.0);
           counted = omega (arith, count_some (Some None) ps, count_some p ps, ap {B = ℕ} (λ b. cond b 1 0) h.1);
           known = λ conns all. (and_parts (is_place_known conns p) (list_all (is_place_known conns) ps) all).1;
         }
 
-    later : (j : ℕ) → is_held_from whose p ≡ false → Dropped whose (n + 1) ps j → Dropped whose n (p ∷ ps) (suc j)
+    later : (j : ℕ) → is_held_from scope p ≡ false → Dropped scope (n + 1) ps j → Dropped scope n (p ∷ ps) (suc j)
     later j apart d = record {
       inside = omega (arith, d.inside);
-      rest = ap (λ xs. emptied_place whose p ∷ xs) d.rest;
-      effects = ap (λ b. cond b (Empty (wire n) ∷ []) [] ++ emptied_from (n + 1) whose ps) apart ∙ d.effects
-          ∙ ap (λ m. Empty (wire m) ∷ emptied_from (n + 1) whose (set ps j (Some None))) (let z : n + 1 + j ≡ n + suc j = omega arith in z)
-          ∙ sym (ap (λ b. Empty (wire (n + suc j)) ∷ (cond b (Empty (wire n) ∷ []) [] ++ emptied_from (n + 1) whose (set ps j (Some None)))) apart);
+      rest = ap (λ xs. emptied_place scope p ∷ xs) d.rest;
+      effects = ap (λ b. cond b (Empty (wire n) ∷ []) [] ++ emptied_from (n + 1) scope ps) apart ∙ d.effects
+          ∙ ap (λ m. Empty (wire m) ∷ emptied_from (n + 1) scope (set ps j (Some None))) (let z : n + 1 + j ≡ n + suc j = omega arith in z)
+          ∙ sym (ap (λ b. Empty (wire (n + suc j)) ∷ (cond b (Empty (wire n) ∷ []) [] ++ emptied_from (n + 1) scope (set ps j (Some None)))) apart);
       held = omega (arith, count_held p (set ps j (Some None)), count_held p ps, d.held);
       counted = omega (arith, count_some p (set ps j (Some None)), count_some p ps, d.counted);
       known = λ conns all.
@@ -65,30 +65,30 @@ dropped_first whose n (p ∷ ps) k found = by_test (dropped_first whose (n + 1) 
           ap (λ b. b && list_all (is_place_known conns) (set ps j (Some None))) parts.0 ∙ d.known conns parts.1;
     }
 
-    by_test : ((j : ℕ) → position (is_held_from whose) ps ≡ Some j → Dropped whose (n + 1) ps j) → (b : Bool) → is_held_from whose p ≡ b → cond b (Some 0) (option_map suc (position (is_held_from whose) ps)) ≡ Some k → Dropped whose n (p ∷ ps) k
-    by_test rest true is said = let here : 0 ≡ k = cc in subst (Dropped whose n (p ∷ ps)) here (at_first is)
+    by_test : ((j : ℕ) → position (is_held_from scope) ps ≡ Some j → Dropped scope (n + 1) ps j) → (b : Bool) → is_held_from scope p ≡ b → cond b (Some 0) (option_map suc (position (is_held_from scope) ps)) ≡ Some k → Dropped scope n (p ∷ ps) k
+    by_test rest true is said = let here : 0 ≡ k = cc in subst (Dropped scope n (p ∷ ps)) here (at_first is)
     by_test rest false is said =
-        let next = some_cons (position (is_held_from whose) ps) k said in
-        subst (Dropped whose n (p ∷ ps)) (sym next.1.1) (later next.0 is (rest next.0 next.1.0))
+        let next = some_cons (position (is_held_from scope) ps) k said in
+        subst (Dropped scope n (p ∷ ps)) (sym next.1.1) (later next.0 is (rest next.0 next.1.0))
 
-record Undropped (whose : Option ℕ) (n : ℕ) (ps : List (Option (Option Request))) : Type 0 where
-  rest : map (emptied_place whose) ps ≡ ps
-  effects : emptied_from n whose ps ≡ []
+record Undropped (scope : Option ℕ) (n : ℕ) (ps : List (Option (Option Request))) : Type 0 where
+  rest : map (emptied_place scope) ps ≡ ps
+  effects : emptied_from n scope ps ≡ []
 
 none_cons : (x : Option ℕ) → option_map suc x ≡ None → x ≡ None
 none_cons None h = refl
 none_cons (Some j) h = absurd cc
 
-undropped : (whose : Option ℕ) (n : ℕ) (ps : List (Option (Option Request))) → position (is_held_from whose) ps ≡ None → Undropped whose n ps
-undropped whose n [] none = record { rest = refl; effects = refl }
-undropped whose n (p ∷ ps) none = by_test (undropped whose (n + 1) ps) (is_held_from whose p) refl (sym (position-cons (is_held_from whose) p ps) ∙ none)
+undropped : (scope : Option ℕ) (n : ℕ) (ps : List (Option (Option Request))) → position (is_held_from scope) ps ≡ None → Undropped scope n ps
+undropped scope n [] none = record { rest = refl; effects = refl }
+undropped scope n (p ∷ ps) none = by_test (undropped scope (n + 1) ps) (is_held_from scope p) refl (sym (position-cons (is_held_from scope) p ps) ∙ none)
   where
-    by_test : (position (is_held_from whose) ps ≡ None → Undropped whose (n + 1) ps) → (b : Bool) → is_held_from whose p ≡ b → cond b (Some 0) (option_map suc (position (is_held_from whose) ps)) ≡ None → Undropped whose n (p ∷ ps)
+    by_test : (position (is_held_from scope) ps ≡ None → Undropped scope (n + 1) ps) → (b : Bool) → is_held_from scope p ≡ b → cond b (Some 0) (option_map suc (position (is_held_from scope) ps)) ≡ None → Undropped scope n (p ∷ ps)
     by_test rest true is said = absurd cc
     by_test rest false is said =
-        let u : Undropped whose (n + 1) ps = rest (none_cons (position (is_held_from whose) ps) said) in record {
-          rest = ap (λ b. cond b (Some None) p ∷ map (emptied_place whose) ps) is ∙ ap (λ xs. p ∷ xs) u.rest;
-          effects = ap (λ b. cond b (Empty (wire n) ∷ []) [] ++ emptied_from (n + 1) whose ps) is ∙ u.effects;
+        let u : Undropped scope (n + 1) ps = rest (none_cons (position (is_held_from scope) ps) said) in record {
+          rest = ap (λ b. cond b (Some None) p ∷ map (emptied_place scope) ps) is ∙ ap (λ xs. p ∷ xs) u.rest;
+          effects = ap (λ b. cond b (Empty (wire n) ∷ []) [] ++ emptied_from (n + 1) scope ps) is ∙ u.effects;
         }
 
 -- ---- place after place
@@ -98,60 +98,60 @@ not_so true h = absurd (false≢true h)
 not_so false h = refl
 
 -- the request of the first place after those without one
-first_place : (whose : Option ℕ) (k : ℕ) (ps : List (Option (Option Request))) → is_clear_below whose k ps ≡ true → is_held_from whose (slice_index_or ps k None) ≡ true → position (is_held_from whose) ps ≡ Some k
-first_place whose k [] clear held = absurd (false≢true held)
-first_place whose zero (p ∷ ps) clear held = position-cons (is_held_from whose) p ps ∙ ap (λ b. cond b (Some 0) (option_map suc (position (is_held_from whose) ps))) held
-first_place whose (suc k) (p ∷ ps) clear held =
-    let parts = and_parts (not (is_held_from whose p)) (is_clear_below whose k ps) clear in
-    position-cons (is_held_from whose) p ps
-    ∙ ap (λ b. cond b (Some 0) (option_map suc (position (is_held_from whose) ps))) (not_so (is_held_from whose p) parts.0)
-    ∙ ap (option_map suc) (first_place whose k ps parts.1 held)
+first_place : (scope : Option ℕ) (k : ℕ) (ps : List (Option (Option Request))) → is_clear_below scope k ps ≡ true → is_held_from scope (slice_index_or ps k None) ≡ true → position (is_held_from scope) ps ≡ Some k
+first_place scope k [] clear held = absurd (false≢true held)
+first_place scope zero (p ∷ ps) clear held = position-cons (is_held_from scope) p ps ∙ ap (λ b. cond b (Some 0) (option_map suc (position (is_held_from scope) ps))) held
+first_place scope (suc k) (p ∷ ps) clear held =
+    let parts = and_parts (not (is_held_from scope p)) (is_clear_below scope k ps) clear in
+    position-cons (is_held_from scope) p ps
+    ∙ ap (λ b. cond b (Some 0) (option_map suc (position (is_held_from scope) ps))) (not_so (is_held_from scope p) parts.0)
+    ∙ ap (option_map suc) (first_place scope k ps parts.1 held)
 
 -- where no place has one, there is none
-no_place : (whose : Option ℕ) (ps : List (Option (Option Request))) → is_clear_below whose (length ps) ps ≡ true → position (is_held_from whose) ps ≡ None
-no_place whose [] clear = refl
-no_place whose (p ∷ ps) clear =
-    let parts = and_parts (not (is_held_from whose p)) (is_clear_below whose (length ps) ps) clear in
-    position-cons (is_held_from whose) p ps
-    ∙ ap (λ b. cond b (Some 0) (option_map suc (position (is_held_from whose) ps))) (not_so (is_held_from whose p) parts.0)
-    ∙ ap (option_map suc) (no_place whose ps parts.1)
+no_place : (scope : Option ℕ) (ps : List (Option (Option Request))) → is_clear_below scope (length ps) ps ≡ true → position (is_held_from scope) ps ≡ None
+no_place scope [] clear = refl
+no_place scope (p ∷ ps) clear =
+    let parts = and_parts (not (is_held_from scope p)) (is_clear_below scope (length ps) ps) clear in
+    position-cons (is_held_from scope) p ps
+    ∙ ap (λ b. cond b (Some 0) (option_map suc (position (is_held_from scope) ps))) (not_so (is_held_from scope p) parts.0)
+    ∙ ap (option_map suc) (no_place scope ps parts.1)
 
 -- a place more
-clear_past : (whose : Option ℕ) (k : ℕ) (ps : List (Option (Option Request))) → is_clear_below whose k ps ≡ true → is_held_from whose (slice_index_or ps k None) ≡ false → is_clear_below whose (suc k) ps ≡ true
-clear_past whose k [] clear none = refl
-clear_past whose zero (p ∷ ps) clear none = ap (λ b. not b && true) none
-clear_past whose (suc k) (p ∷ ps) clear none =
-    let parts = and_parts (not (is_held_from whose p)) (is_clear_below whose k ps) clear in
-    ap (λ b. b && is_clear_below whose (suc k) ps) parts.0 ∙ clear_past whose k ps parts.1 none
+clear_past : (scope : Option ℕ) (k : ℕ) (ps : List (Option (Option Request))) → is_clear_below scope k ps ≡ true → is_held_from scope (slice_index_or ps k None) ≡ false → is_clear_below scope (suc k) ps ≡ true
+clear_past scope k [] clear none = refl
+clear_past scope zero (p ∷ ps) clear none = ap (λ b. not b && true) none
+clear_past scope (suc k) (p ∷ ps) clear none =
+    let parts = and_parts (not (is_held_from scope p)) (is_clear_below scope k ps) clear in
+    ap (λ b. b && is_clear_below scope (suc k) ps) parts.0 ∙ clear_past scope k ps parts.1 none
 
 -- the one that is taken out
-clear_set : (whose : Option ℕ) (k : ℕ) (ps : List (Option (Option Request))) → is_clear_below whose k ps ≡ true → is_clear_below whose (suc k) (set ps k (Some None)) ≡ true
-clear_set whose k [] clear = refl
-clear_set whose zero (p ∷ ps) clear = refl
-clear_set whose (suc k) (p ∷ ps) clear =
-    let parts = and_parts (not (is_held_from whose p)) (is_clear_below whose k ps) clear in
-    ap (λ b. b && is_clear_below whose (suc k) (set ps k (Some None))) parts.0 ∙ clear_set whose k ps parts.1
+clear_set : (scope : Option ℕ) (k : ℕ) (ps : List (Option (Option Request))) → is_clear_below scope k ps ≡ true → is_clear_below scope (suc k) (set ps k (Some None)) ≡ true
+clear_set scope k [] clear = refl
+clear_set scope zero (p ∷ ps) clear = refl
+clear_set scope (suc k) (p ∷ ps) clear =
+    let parts = and_parts (not (is_held_from scope p)) (is_clear_below scope k ps) clear in
+    ap (λ b. b && is_clear_below scope (suc k) (set ps k (Some None))) parts.0 ∙ clear_set scope k ps parts.1
 
 -- ---- of a window
 
 -- the request of a place is taken out of a window
-pub record DroppedOne (w w' : Received) (whose : Option ℕ) (k : ℕ) : Type 0 where
+pub record DroppedOne (w w' : Received) (scope : Option ℕ) (k : ℕ) : Type 0 where
   pub first : w'.first ≡ w.first
   pub turned : w'.turned ≡ w.turned
   pub unfinished : w'.unfinished ≡ w.unfinished
   pub long : length w'.places ≡ length w.places
-  pub rest : map (emptied_place whose) w'.places ≡ map (emptied_place whose) w.places
-  pub effects : emptied_from (number_expected w) whose w.places ≡ Empty (number_shown w k) ∷ emptied_from (number_expected w) whose w'.places
+  pub rest : map (emptied_place scope) w'.places ≡ map (emptied_place scope) w.places
+  pub effects : emptied_from (number_expected w) scope w.places ≡ Empty (number_shown w k) ∷ emptied_from (number_expected w) scope w'.places
   pub held : count_by is_held w'.places + 1 ≡ count_by is_held w.places
   pub counted : count_by is_some w'.places ≡ count_by is_some w.places
   pub known : (conns : List (ℕ × ℕ)) → list_all (is_place_known conns) w.places ≡ true → list_all (is_place_known conns) w'.places ≡ true
-  pub clear : is_clear_below whose (k + 1) w'.places ≡ true
+  pub clear : is_clear_below scope (k + 1) w'.places ≡ true
 
-pub dropped_one : (w : Received) (whose : Option ℕ) (k : ℕ) → is_clear_below whose k w.places ≡ true → is_held_from whose (at_place w k) ≡ true → DroppedOne w (taken_at w k whose) whose k
-dropped_one w whose k clear held =
-    let d : Dropped whose (number_expected w) w.places k = dropped_first whose (number_expected w) w.places k (first_place whose k w.places clear held) in
-    let same : with_place w k (Some None) ≡ taken_at w k whose = sym (ap (λ b. let v : Received = cond b (with_place w k (Some None)) w in v) held) in
-    subst (λ (v : Received). DroppedOne w v whose k) same (record {
+pub dropped_one : (w : Received) (scope : Option ℕ) (k : ℕ) → is_clear_below scope k w.places ≡ true → is_held_from scope (at_place w k) ≡ true → DroppedOne w (taken_at w k scope) scope k
+dropped_one w scope k clear held =
+    let d : Dropped scope (number_expected w) w.places k = dropped_first scope (number_expected w) w.places k (first_place scope k w.places clear held) in
+    let same : with_place w k (Some None) ≡ taken_at w k scope = sym (ap (λ b. let v : Received = cond b (with_place w k (Some None)) w in v) held) in
+    subst (λ (v : Received). DroppedOne w v scope k) same (record {
       first = refl;
       turned = refl;
       unfinished = refl;
@@ -161,40 +161,40 @@ dropped_one w whose k clear held =
       held = d.held;
       counted = d.counted;
       known = d.known;
-      clear = ap (λ n. is_clear_below whose n (set w.places k (Some None))) (let z : k + 1 ≡ suc k = omega arith in z) ∙ clear_set whose k w.places clear;
+      clear = ap (λ n. is_clear_below scope n (set w.places k (Some None))) (let z : k + 1 ≡ suc k = omega arith in z) ∙ clear_set scope k w.places clear;
     })
 
 -- a place without one
-pub record DroppedNone (w w' : Received) (whose : Option ℕ) (k : ℕ) : Type 0 where
+pub record DroppedNone (w w' : Received) (scope : Option ℕ) (k : ℕ) : Type 0 where
   pub same : w' ≡ w
-  pub clear : is_clear_below whose (k + 1) w.places ≡ true
+  pub clear : is_clear_below scope (k + 1) w.places ≡ true
 
-pub dropped_none : (w : Received) (whose : Option ℕ) (k : ℕ) → is_clear_below whose k w.places ≡ true → is_held_from whose (at_place w k) ≡ false → DroppedNone w (taken_at w k whose) whose k
-dropped_none w whose k clear none = record {
+pub dropped_none : (w : Received) (scope : Option ℕ) (k : ℕ) → is_clear_below scope k w.places ≡ true → is_held_from scope (at_place w k) ≡ false → DroppedNone w (taken_at w k scope) scope k
+dropped_none w scope k clear none = record {
   same = ap (λ b. let v : Received = cond b (with_place w k (Some None)) w in v) none;
-  clear = ap (λ n. is_clear_below whose n w.places) (let z : k + 1 ≡ suc k = omega arith in z) ∙ clear_past whose k w.places clear none;
+  clear = ap (λ n. is_clear_below scope n w.places) (let z : k + 1 ≡ suc k = omega arith in z) ∙ clear_past scope k w.places clear none;
 }
 
 -- at the end nothing is to be taken out
-pub record DroppedAll (w : Received) (whose : Option ℕ) : Type 0 where
-  pub rest : map (emptied_place whose) w.places ≡ w.places
-  pub effects : emptied_from (number_expected w) whose w.places ≡ []
+pub record DroppedAll (w : Received) (scope : Option ℕ) : Type 0 where
+  pub rest : map (emptied_place scope) w.places ≡ w.places
+  pub effects : emptied_from (number_expected w) scope w.places ≡ []
 
-pub dropped_all : (w : Received) (whose : Option ℕ) (k : ℕ) → k ≡ length w.places → is_clear_below whose k w.places ≡ true → DroppedAll w whose
-dropped_all w whose k end clear =
-    let u : Undropped whose (number_expected w) w.places = undropped whose (number_expected w) w.places (no_place whose w.places (ap (λ n. is_clear_below whose n w.places) (sym end) ∙ clear)) in
+pub dropped_all : (w : Received) (scope : Option ℕ) (k : ℕ) → k ≡ length w.places → is_clear_below scope k w.places ≡ true → DroppedAll w scope
+dropped_all w scope k end clear =
+    let u : Undropped scope (number_expected w) w.places = undropped scope (number_expected w) w.places (no_place scope w.places (ap (λ n. is_clear_below scope n w.places) (sym end) ∙ clear)) in
     record { rest = u.rest; effects = u.effects }
 
 -- what the window answers says whether there was one
-pub answered_some : (w : Received) (whose : Option ℕ) (k sn : ℕ) → cond (is_held_from whose (at_place w k)) (Some (number_shown w k)) None ≡ Some sn → (is_held_from whose (at_place w k) ≡ true) × (sn ≡ number_shown w k)
-answered_some w whose k sn said = by_test (is_held_from whose (at_place w k)) said
+pub answered_some : (w : Received) (scope : Option ℕ) (k sn : ℕ) → cond (is_held_from scope (at_place w k)) (Some (number_shown w k)) None ≡ Some sn → (is_held_from scope (at_place w k) ≡ true) × (sn ≡ number_shown w k)
+answered_some w scope k sn said = by_test (is_held_from scope (at_place w k)) said
   where
     by_test : (b : Bool) → cond b (Some (number_shown w k)) None ≡ Some sn → (b ≡ true) × (sn ≡ number_shown w k)
     by_test true is = (refl, cc)
     by_test false is = absurd cc
 
-pub answered_none : (w : Received) (whose : Option ℕ) (k : ℕ) → cond (is_held_from whose (at_place w k)) (Some (number_shown w k)) None ≡ None → is_held_from whose (at_place w k) ≡ false
-answered_none w whose k said = by_test (is_held_from whose (at_place w k)) said
+pub answered_none : (w : Received) (scope : Option ℕ) (k : ℕ) → cond (is_held_from scope (at_place w k)) (Some (number_shown w k)) None ≡ None → is_held_from scope (at_place w k) ≡ false
+answered_none w scope k said = by_test (is_held_from scope (at_place w k)) said
   where
     by_test : (b : Bool) → cond b (Some (number_shown w k)) None ≡ None → b ≡ false
     by_test true is = absurd cc

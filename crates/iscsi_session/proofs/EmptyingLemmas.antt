@@ -18,7 +18,7 @@ use Rattle.iscsi_history.specs.rules.Execution.{exp_of}
 use Rattle.iscsi_history.specs.promises.Executed.{delivers, request_at}
 use Rattle.iscsi_history.specs.rules.Logout.{all_held}
 use Rattle.iscsi_session.specs.promises.Standing.{place_of, WindowAgrees, ArrivalsAgree}
-use Rattle.iscsi_session.specs.private.Parting.{emptied_place, emptied_from}
+use Rattle.iscsi_session.specs.private.Closing.{emptied_place, emptied_from}
 use Rattle.iscsi_history.proofs.BoolLemmas.{or_false}
 use Rattle.iscsi_history.proofs.HeldLemmas.{held-number}
 use Rattle.iscsi_session.proofs.MissingLemmas.{unreceived_unheld}
@@ -103,57 +103,57 @@ all_held-window o w t h =
 
 -- a request of these connections is held
 abbrev pub is_taken : Option ℕ → Option Arrival → Bool
-is_taken whose None = false
-is_taken whose (Some a) = is_asked whose (connection_of a.request)
+is_taken scope None = false
+is_taken scope (Some a) = is_asked scope (connection_of a.request)
 
 -- the held requests that are taken out
 abbrev pub taken_requests : Setting → Trace → Option ℕ → List Arrival
-taken_requests o t whose = filter (λ (a : Arrival). is_asked whose (connection_of a.request)) (all_held o t)
+taken_requests o t scope = filter (λ (a : Arrival). is_asked scope (connection_of a.request)) (all_held o t)
 
-module _ (t : Trace) (whose : Option ℕ) where
+module _ (t : Trace) (scope : Option ℕ) where
   -- the window sees so at the number's place
-  place_taken : (n : ℕ) → is_held_from whose (place_of t n) ≡ is_taken whose (held t n)
+  place_taken : (n : ℕ) → is_held_from scope (place_of t n) ≡ is_taken scope (held t n)
   place_taken n = by_received (is_received t n) refl
     where
-      by_held : (x : Option Arrival) → is_held_from whose (Some (option_map (λ (a : Arrival). a.request) x)) ≡ is_taken whose x
+      by_held : (x : Option Arrival) → is_held_from scope (Some (option_map (λ (a : Arrival). a.request) x)) ≡ is_taken scope x
       by_held None = refl
       by_held (Some a) = refl
 
-      by_received : (b : Bool) → is_received t n ≡ b → is_held_from whose (let p : Option (Option Request) = cond b (Some (option_map (λ (a : Arrival). a.request) (held t n))) None in p) ≡ is_taken whose (held t n)
+      by_received : (b : Bool) → is_received t n ≡ b → is_held_from scope (let p : Option (Option Request) = cond b (Some (option_map (λ (a : Arrival). a.request) (held t n))) None in p) ≡ is_taken scope (held t n)
       by_received true is = by_held (held t n)
-      by_received false is = sym (ap (is_taken whose) (unreceived_unheld t n is))
+      by_received false is = sym (ap (is_taken scope) (unreceived_unheld t n is))
 
   -- the effects of the places from a number on
   emptied-numbers : (ps : List (Option (Option Request))) (e : ℕ) → ((k : ℕ) → k < length ps → get_or ps k None ≡ place_of t (e + k))
-      → emptied_from e whose ps ≡ map (λ (a : Arrival). Empty (wire a.number)) (filter (λ (a : Arrival). is_asked whose (connection_of a.request)) (held_from t e (length ps)))
+      → emptied_from e scope ps ≡ map (λ (a : Arrival). Empty (wire a.number)) (filter (λ (a : Arrival). is_asked scope (connection_of a.request)) (held_from t e (length ps)))
   emptied-numbers [] e same = refl
   emptied-numbers (p ∷ ps) e same =
       let here : p ≡ place_of t e = same 0 (omega arith) ∙ ap (place_of t) (let z : e + 0 ≡ e = omega arith in z) in
-      ap (λ b. (let l : List Effect = cond b (Empty (wire e) ∷ []) [] in l) ++ emptied_from (e + 1) whose ps) (ap (is_held_from whose) here ∙ place_taken e)
-      ∙ ap (λ es. (let l : List Effect = cond (is_taken whose (held t e)) (Empty (wire e) ∷ []) [] in l) ++ es) (emptied-numbers ps (e + 1) (λ k l. same (suc k) (omega arith) ∙ ap (place_of t) (let z : e + suc k ≡ e + 1 + k = omega arith in z)))
+      ap (λ b. (let l : List Effect = cond b (Empty (wire e) ∷ []) [] in l) ++ emptied_from (e + 1) scope ps) (ap (is_held_from scope) here ∙ place_taken e)
+      ∙ ap (λ es. (let l : List Effect = cond (is_taken scope (held t e)) (Empty (wire e) ∷ []) [] in l) ++ es) (emptied-numbers ps (e + 1) (λ k l. same (suc k) (omega arith) ∙ ap (place_of t) (let z : e + suc k ≡ e + 1 + k = omega arith in z)))
       ∙ by_held (held t e) refl
     where
       rest : List Arrival
       rest = held_from t (e + 1) (length ps)
 
       shows : List Arrival → List Effect
-      shows hs = map (λ (a : Arrival). Empty (wire a.number)) (filter (λ (a : Arrival). is_asked whose (connection_of a.request)) hs)
+      shows hs = map (λ (a : Arrival). Empty (wire a.number)) (filter (λ (a : Arrival). is_asked scope (connection_of a.request)) hs)
 
-      by_held : (x : Option Arrival) → held t e ≡ x → (let l : List Effect = cond (is_taken whose x) (Empty (wire e) ∷ []) [] in l) ++ shows rest ≡ shows ((let l : List Arrival = elim x [ Some a ↦ a ∷ [] | None ↦ [] ] in l) ++ rest)
+      by_held : (x : Option Arrival) → held t e ≡ x → (let l : List Effect = cond (is_taken scope x) (Empty (wire e) ∷ []) [] in l) ++ shows rest ≡ shows ((let l : List Arrival = elim x [ Some a ↦ a ∷ [] | None ↦ [] ] in l) ++ rest)
       by_held None is = refl
       by_held (Some a) is =
-          elim (is_asked whose (connection_of a.request)) as (λ b. (let l : List Effect = cond b (Empty (wire e) ∷ []) [] in l) ++ shows rest ≡ map (λ (a : Arrival). Empty (wire a.number)) (cond b (a ∷ filter (λ (a : Arrival). is_asked whose (connection_of a.request)) rest) (filter (λ (a : Arrival). is_asked whose (connection_of a.request)) rest))) [
+          elim (is_asked scope (connection_of a.request)) as (λ b. (let l : List Effect = cond b (Empty (wire e) ∷ []) [] in l) ++ shows rest ≡ map (λ (a : Arrival). Empty (wire a.number)) (cond b (a ∷ filter (λ (a : Arrival). is_asked scope (connection_of a.request)) rest) (filter (λ (a : Arrival). is_asked scope (connection_of a.request)) rest))) [
             | true ↦ ap (λ n. Empty (wire n) ∷ shows rest) (sym (held-number t e a is))
             | false ↦ refl
           ]
 
   -- the numbers of those that are taken out of a range
-  taken-first : (n k : ℕ) (rest : List Arrival) → is_number_of (filter (λ (a : Arrival). is_asked whose (connection_of a.request)) (held_list t k ++ rest)) n
-      ≡ (((k == n) && is_taken whose (held t k)) || is_number_of (filter (λ (a : Arrival). is_asked whose (connection_of a.request)) rest) n)
+  taken-first : (n k : ℕ) (rest : List Arrival) → is_number_of (filter (λ (a : Arrival). is_asked scope (connection_of a.request)) (held_list t k ++ rest)) n
+      ≡ (((k == n) && is_taken scope (held t k)) || is_number_of (filter (λ (a : Arrival). is_asked scope (connection_of a.request)) rest) n)
   taken-first n k rest = by_held (held t k) refl
     where
       later : List Arrival
-      later = filter (λ (a : Arrival). is_asked whose (connection_of a.request)) rest
+      later = filter (λ (a : Arrival). is_asked scope (connection_of a.request)) rest
 
       none_here : (b : Bool) → is_number_of later n ≡ ((b && false) || is_number_of later n)
       none_here true = refl
@@ -164,56 +164,56 @@ module _ (t : Trace) (whose : Option ℕ) where
       one_here false = refl
 
       by_held : (x : Option Arrival) → held t k ≡ x
-          → is_number_of (filter (λ (a : Arrival). is_asked whose (connection_of a.request)) ((let l : List Arrival = elim x [ Some a ↦ a ∷ [] | None ↦ [] ] in l) ++ rest)) n ≡ (((k == n) && is_taken whose x) || is_number_of later n)
+          → is_number_of (filter (λ (a : Arrival). is_asked scope (connection_of a.request)) ((let l : List Arrival = elim x [ Some a ↦ a ∷ [] | None ↦ [] ] in l) ++ rest)) n ≡ (((k == n) && is_taken scope x) || is_number_of later n)
       by_held None is = none_here (k == n)
       by_held (Some a) is =
-          elim (is_asked whose (connection_of a.request)) as (λ b. is_number_of (cond b (a ∷ later) later) n ≡ (((k == n) && b) || is_number_of later n)) [
+          elim (is_asked scope (connection_of a.request)) as (λ b. is_number_of (cond b (a ∷ later) later) n ≡ (((k == n) && b) || is_number_of later n)) [
             | true ↦ ap (λ i. (i == n) || is_number_of later n) (held-number t k a is) ∙ one_here (k == n)
             | false ↦ none_here (k == n)
           ]
 
-  taken-outside : (n count e : ℕ) → ((k : ℕ) → e ≤ k → k < e + count → (k == n) ≡ false) → is_number_of (filter (λ (a : Arrival). is_asked whose (connection_of a.request)) (held_from t e count)) n ≡ false
+  taken-outside : (n count e : ℕ) → ((k : ℕ) → e ≤ k → k < e + count → (k == n) ≡ false) → is_number_of (filter (λ (a : Arrival). is_asked scope (connection_of a.request)) (held_from t e count)) n ≡ false
   taken-outside n zero e apart = refl
   taken-outside n (suc count) e apart =
       taken-first n e (held_from t (e + 1) count)
-      ∙ ap (λ b. (b && is_taken whose (held t e)) || is_number_of (filter (λ (a : Arrival). is_asked whose (connection_of a.request)) (held_from t (e + 1) count)) n) (apart e (omega arith) (omega arith))
+      ∙ ap (λ b. (b && is_taken scope (held t e)) || is_number_of (filter (λ (a : Arrival). is_asked scope (connection_of a.request)) (held_from t (e + 1) count)) n) (apart e (omega arith) (omega arith))
       ∙ taken-outside n count (e + 1) (λ k l u. apart k (omega arith) (omega arith))
 
-  taken-inside : (n count e : ℕ) → e ≤ n → n < e + count → is_number_of (filter (λ (a : Arrival). is_asked whose (connection_of a.request)) (held_from t e count)) n ≡ is_taken whose (held t n)
+  taken-inside : (n count e : ℕ) → e ≤ n → n < e + count → is_number_of (filter (λ (a : Arrival). is_asked scope (connection_of a.request)) (held_from t e count)) n ≡ is_taken scope (held t n)
   taken-inside n zero e low high = absurd (omega arith)
   taken-inside n (suc count) e low high =
       taken-first n e (held_from t (e + 1) count) ∙ ⊎_elim
       (λ same.
-      ap (λ b. (b && is_taken whose (held t e)) || later) (eq-eqb e n same)
-      ∙ ap (λ b. is_taken whose (held t e) || b) (taken-outside n count (e + 1) (λ k l u. let no : (k == n) ≡ false = grind (arith, nat_tests) in no))
-      ∙ or_false (is_taken whose (held t e))
-      ∙ ap (λ k. is_taken whose (held t k)) same)
+      ap (λ b. (b && is_taken scope (held t e)) || later) (eq-eqb e n same)
+      ∙ ap (λ b. is_taken scope (held t e) || b) (taken-outside n count (e + 1) (λ k l u. let no : (k == n) ≡ false = grind (arith, nat_tests) in no))
+      ∙ or_false (is_taken scope (held t e))
+      ∙ ap (λ k. is_taken scope (held t k)) same)
       (λ apart.
-      ap (λ b. (b && is_taken whose (held t e)) || later) (let no : (e == n) ≡ false = grind (arith, nat_tests) in no)
+      ap (λ b. (b && is_taken scope (held t e)) || later) (let no : (e == n) ≡ false = grind (arith, nat_tests) in no)
       ∙ taken-inside n count (e + 1) (omega arith) (omega arith))
       (cases_eq e n)
     where
       later : Bool
-      later = is_number_of (filter (λ (a : Arrival). is_asked whose (connection_of a.request)) (held_from t (e + 1) count)) n
+      later = is_number_of (filter (λ (a : Arrival). is_asked scope (connection_of a.request)) (held_from t (e + 1) count)) n
 
 -- ---- the effects
 
 -- the window tells of the requests that are taken out, in the order of their numbers
-pub emptied_from-is : (o : Setting) (w : Received) (t : Trace) (whose : Option ℕ) → WindowAgrees o w t
-    → emptied_from (number_expected w) whose w.places ≡ map (λ (a : Arrival). Empty (wire a.number)) (taken_requests o t whose)
-emptied_from-is o w t whose h =
-    emptied-numbers t whose w.places (number_expected w) h.inside
-    ∙ ap (λ hs. map (λ (a : Arrival). Empty (wire a.number)) (filter (λ (a : Arrival). is_asked whose (connection_of a.request)) hs)) (sym (all_held-window o w t h))
+pub emptied_from-is : (o : Setting) (w : Received) (t : Trace) (scope : Option ℕ) → WindowAgrees o w t
+    → emptied_from (number_expected w) scope w.places ≡ map (λ (a : Arrival). Empty (wire a.number)) (taken_requests o t scope)
+emptied_from-is o w t scope h =
+    emptied-numbers t scope w.places (number_expected w) h.inside
+    ∙ ap (λ hs. map (λ (a : Arrival). Empty (wire a.number)) (filter (λ (a : Arrival). is_asked scope (connection_of a.request)) hs)) (sym (all_held-window o w t h))
 
 -- a number is taken out where a request of these connections is held
-pub taken-number : (o : Setting) (w : Received) (t : Trace) (whose : Option ℕ) → WindowAgrees o w t → (n : ℕ) → is_number_of (taken_requests o t whose) n ≡ is_taken whose (held t n)
-taken-number o w t whose h n =
-    ap (λ hs. is_number_of (filter (λ (a : Arrival). is_asked whose (connection_of a.request)) hs) n) (all_held-window o w t h)
+pub taken-number : (o : Setting) (w : Received) (t : Trace) (scope : Option ℕ) → WindowAgrees o w t → (n : ℕ) → is_number_of (taken_requests o t scope) n ≡ is_taken scope (held t n)
+taken-number o w t scope h n =
+    ap (λ hs. is_number_of (filter (λ (a : Arrival). is_asked scope (connection_of a.request)) hs) n) (all_held-window o w t h)
     ∙ ⊎_elim
-    (λ before. taken-outside t whose n len e (λ k l u. let no : (k == n) ≡ false = grind (arith, nat_tests) in no) ∙ sym (ap (is_taken whose) (h.past n before)))
+    (λ before. taken-outside t scope n len e (λ k l u. let no : (k == n) ≡ false = grind (arith, nat_tests) in no) ∙ sym (ap (is_taken scope) (h.past n before)))
     (λ low. ⊎_elim
-    (λ high. taken-inside t whose n len e low high)
-    (λ after. taken-outside t whose n len e (λ k l u. let no : (k == n) ≡ false = grind (arith, nat_tests) in no) ∙ sym (ap (is_taken whose) (above_none o w t h n after)))
+    (λ high. taken-inside t scope n len e low high)
+    (λ after. taken-outside t scope n len e (λ k l u. let no : (k == n) ≡ false = grind (arith, nat_tests) in no) ∙ sym (ap (is_taken scope) (above_none o w t h n after)))
     (cases_lt n (e + len)))
     (cases_lt n e)
   where
@@ -227,24 +227,24 @@ taken-number o w t whose h n =
 
 -- the window without the requests of these connections
 abbrev pub with_taken : Received → Option ℕ → Received
-with_taken w whose = record w { places = map (emptied_place whose) w.places }
+with_taken w scope = record w { places = map (emptied_place scope) w.places }
 
-module _ (item : List Mark) (t : Trace) (whose : Option ℕ) (v : EmptiesThese item (λ n. is_taken whose (held t n))) where
+module _ (item : List Mark) (t : Trace) (scope : Option ℕ) (v : EmptiesThese item (λ n. is_taken scope (held t n))) where
   received-taken : received (item ∷ t) ≡ received t
   received-taken = ap (λ ns. received t ++ ns) v.receives ∙ append-nil (received t)
 
   admitted-taken : (k : ℕ) → shown (admits_at k) (item ∷ t) ≡ shown (admits_at k) t
   admitted-taken k = ap (λ xs. shown (admits_at k) t ++ xs) (v.admits k) ∙ append-nil (shown (admits_at k) t)
 
-  emptied-taken : (k : ℕ) → is_emptied (item ∷ t) k ≡ (is_taken whose (held t k) || is_emptied t k)
+  emptied-taken : (k : ℕ) → is_emptied (item ∷ t) k ≡ (is_taken scope (held t k) || is_emptied t k)
   emptied-taken k = ap (λ b. b || is_emptied t k) (v.empties k)
 
-  held-taken : (k : ℕ) → held (item ∷ t) k ≡ cond (is_taken whose (held t k)) None (held t k)
+  held-taken : (k : ℕ) → held (item ∷ t) k ≡ cond (is_taken scope (held t k)) None (held t k)
   held-taken k =
       ap (λ b. cond ((b || is_delivered t k) || is_emptied (item ∷ t) k) None (admitted (item ∷ t) k)) (v.delivers_no k)
       ∙ ap (λ b. cond (is_delivered t k || b) None (admitted (item ∷ t) k)) (emptied-taken k)
-      ∙ ap (λ xs. cond (is_delivered t k || (is_taken whose (held t k) || is_emptied t k)) None (first_of xs)) (admitted-taken k)
-      ∙ by_tests (is_delivered t k) (is_taken whose (held t k)) (is_emptied t k) (admitted t k)
+      ∙ ap (λ xs. cond (is_delivered t k || (is_taken scope (held t k) || is_emptied t k)) None (first_of xs)) (admitted-taken k)
+      ∙ by_tests (is_delivered t k) (is_taken scope (held t k)) (is_emptied t k) (admitted t k)
     where
       by_tests : (d out e : Bool) (x : Option Arrival) → cond (d || (out || e)) None x ≡ cond out None (cond (d || e) None x)
       by_tests true true e x = refl
@@ -255,49 +255,49 @@ module _ (item : List Mark) (t : Trace) (whose : Option ℕ) (v : EmptiesThese i
   -- where nothing is held, nothing changes
   request_at-taken : (k : ℕ) → held t k ≡ None → request_at (item ∷ t) k ≡ request_at t k
   request_at-taken k none =
-      ap (λ b. cond b None (option_map (λ (a : Arrival). a.request) (admitted (item ∷ t) k))) (emptied-taken k ∙ ap (λ x. is_taken whose x || is_emptied t k) none)
+      ap (λ b. cond b None (option_map (λ (a : Arrival). a.request) (admitted (item ∷ t) k))) (emptied-taken k ∙ ap (λ x. is_taken scope x || is_emptied t k) none)
       ∙ ap (λ xs. cond (is_emptied t k) None (option_map (λ (a : Arrival). a.request) (first_of xs))) (admitted-taken k)
 
-  place_of-taken : (k : ℕ) → place_of (item ∷ t) k ≡ emptied_place whose (place_of t k)
+  place_of-taken : (k : ℕ) → place_of (item ∷ t) k ≡ emptied_place scope (place_of t k)
   place_of-taken k =
       ap (λ ns. cond (contains ns k) (Some (option_map (λ (a : Arrival). a.request) (held (item ∷ t) k))) None) received-taken
       ∙ ap (λ x. cond (is_received t k) (Some (option_map (λ (a : Arrival). a.request) x)) None) (held-taken k)
       ∙ by_parts (is_received t k) (held t k)
     where
-      by_parts : (b : Bool) (x : Option Arrival) → cond b (Some (option_map (λ (a : Arrival). a.request) (cond (is_taken whose x) None x))) None ≡ emptied_place whose (let p : Option (Option Request) = cond b (Some (option_map (λ (a : Arrival). a.request) x)) None in p)
+      by_parts : (b : Bool) (x : Option Arrival) → cond b (Some (option_map (λ (a : Arrival). a.request) (cond (is_taken scope x) None x))) None ≡ emptied_place scope (let p : Option (Option Request) = cond b (Some (option_map (λ (a : Arrival). a.request) x)) None in p)
       by_parts false x = refl
       by_parts true None = refl
-      by_parts true (Some a) = elim (is_asked whose (connection_of a.request)) as (λ b. Some (option_map (λ (x : Arrival). x.request) (cond b None (Some a))) ≡ cond b (Some None) (Some (Some a.request))) [ true ↦ refl | false ↦ refl ]
+      by_parts true (Some a) = elim (is_asked scope (connection_of a.request)) as (λ b. Some (option_map (λ (x : Arrival). x.request) (cond b None (Some a))) ≡ cond b (Some None) (Some (Some a.request))) [ true ↦ refl | false ↦ refl ]
 
-  WindowAgrees-taken : (o : Setting) (w : Received) → WindowAgrees o w t → WindowAgrees o (with_taken w whose) (item ∷ t)
+  WindowAgrees-taken : (o : Setting) (w : Received) → WindowAgrees o w t → WindowAgrees o (with_taken w scope) (item ∷ t)
   WindowAgrees-taken o w h =
       let e : ℕ = number_expected w in
-      let long : length (map (emptied_place whose) w.places) ≡ length w.places = length-map w.places (emptied_place whose) in
+      let long : length (map (emptied_place scope) w.places) ≡ length w.places = length-map w.places (emptied_place scope) in
       let same_received : (k : ℕ) → is_received (item ∷ t) k ≡ is_received t k = λ k. ap (λ ns. contains ns k) received-taken in
       let none : Option (Option Request) = None in
       record {
         first = h.first;
         size = long ∙ h.size;
         below = λ k l u. same_received k ∙ h.below k l u;
-        inside = λ k lt. get_or-map (emptied_place whose) w.places k none ∙ ap (emptied_place whose) (h.inside k (omega (arith, long, lt))) ∙ sym (place_of-taken (e + k));
+        inside = λ k lt. get_or-map (emptied_place scope) w.places k none ∙ ap (emptied_place scope) (h.inside k (omega (arith, long, lt))) ∙ sym (place_of-taken (e + k));
         above = λ k u. same_received k ∙ h.above k (omega (arith, long, u));
-        past = λ k before. held-taken k ∙ ap (λ x. cond (is_taken whose x) None x) (h.past k before);
+        past = λ k before. held-taken k ∙ ap (λ x. cond (is_taken scope x) None x) (h.past k before);
         undelivered = λ k u. ap (λ b. b || is_delivered t k) (v.delivers_no k) ∙ h.undelivered k u;
-        unemptied = λ k gone. let before : is_received t k ≡ false = sym (same_received k) ∙ gone in emptied-taken k ∙ ap (λ x. is_taken whose x || is_emptied t k) (unreceived_unheld t k before) ∙ h.unemptied k before;
+        unemptied = λ k gone. let before : is_received t k ≡ false = sym (same_received k) ∙ gone in emptied-taken k ∙ ap (λ x. is_taken scope x || is_emptied t k) (unreceived_unheld t k before) ∙ h.unemptied k before;
         requests = λ k b found. h.requests k b (sym (ap first_of (admitted-taken k)) ∙ found);
         numbers = λ k b found. h.numbers k b (sym (ap first_of (admitted-taken k)) ∙ found);
         delivered = ap (λ rs. shown delivers t ++ rs) v.delivers_none ∙ append-nil (shown delivers t) ∙ h.delivered
             ∙ same_range t (item ∷ t) (number_of_first o.first) (e - number_of_first o.first) (λ k l u. sym (request_at-taken k (h.past k (omega (arith, h.first, l, u)))));
         few = omega (arith, h.few, long);
-        free = λ k big. get_or-map (emptied_place whose) w.places k none ∙ ap (emptied_place whose) (h.free k (omega (arith, big, long)));
+        free = λ k big. get_or-map (emptied_place scope) w.places k none ∙ ap (emptied_place scope) (h.free k (omega (arith, big, long)));
       }
 
-  ArrivalsAgree-taken : (w : Received) (arrived : List ℕ) → ArrivalsAgree w arrived t → ArrivalsAgree (with_taken w whose) arrived (item ∷ t)
+  ArrivalsAgree-taken : (w : Received) (arrived : List ℕ) → ArrivalsAgree w arrived t → ArrivalsAgree (with_taken w scope) arrived (item ∷ t)
   ArrivalsAgree-taken w arrived a =
-      let long : length (map (emptied_place whose) w.places) ≡ length w.places = length-map w.places (emptied_place whose) in
+      let long : length (map (emptied_place scope) w.places) ≡ length w.places = length-map w.places (emptied_place scope) in
       record {
         long = a.long ∙ sym long;
-        at_place = λ k b lt found. a.at_place k b (omega (arith, long, lt)) (still (is_taken whose (held t (number_expected w + k))) (held t (number_expected w + k)) b (sym (held-taken (number_expected w + k)) ∙ found));
+        at_place = λ k b lt found. a.at_place k b (omega (arith, long, lt)) (still (is_taken scope (held t (number_expected w + k))) (held t (number_expected w + k)) b (sym (held-taken (number_expected w + k)) ∙ found));
       }
     where
       still : (out : Bool) (x : Option Arrival) (b : Arrival) → cond out None x ≡ Some b → x ≡ Some b
@@ -306,18 +306,18 @@ module _ (item : List Mark) (t : Trace) (whose : Option ℕ) (v : EmptiesThese i
 
 -- the marks of a Logout, up to those that take nothing out
 abbrev pub taking_item : Setting → Trace → Option ℕ → List Command → List Mark → List Mark
-taking_item o t whose cs rest = (map Leaves cs ++ map Empties (taken_requests o t whose)) ++ rest
+taking_item o t scope cs rest = (map Leaves cs ++ map Empties (taken_requests o t scope)) ++ rest
 
-taking : (o : Setting) (w : Received) (t : Trace) (whose : Option ℕ) (cs : List Command) (rest : List Mark) → WindowAgrees o w t → IsQuiet rest → EmptiesThese (taking_item o t whose cs rest) (λ n. is_taken whose (held t n))
-taking o w t whose cs rest h q =
-    let e : EmptiesThese (taking_item o t whose cs rest) (is_number_of (taken_requests o t whose)) = empties-these cs (taken_requests o t whose) rest q in
-    record { receives = e.receives; admits = e.admits; delivers_none = e.delivers_none; delivers_no = e.delivers_no; empties = λ n. e.empties n ∙ taken-number o w t whose h n }
+taking : (o : Setting) (w : Received) (t : Trace) (scope : Option ℕ) (cs : List Command) (rest : List Mark) → WindowAgrees o w t → IsQuiet rest → EmptiesThese (taking_item o t scope cs rest) (λ n. is_taken scope (held t n))
+taking o w t scope cs rest h q =
+    let e : EmptiesThese (taking_item o t scope cs rest) (is_number_of (taken_requests o t scope)) = empties-these cs (taken_requests o t scope) rest q in
+    record { receives = e.receives; admits = e.admits; delivers_none = e.delivers_none; delivers_no = e.delivers_no; empties = λ n. e.empties n ∙ taken-number o w t scope h n }
 
-pub WindowAgrees-emptying : (o : Setting) (w : Received) (t : Trace) (whose : Option ℕ) (cs : List Command) (rest : List Mark) → WindowAgrees o w t → IsQuiet rest → WindowAgrees o (with_taken w whose) (taking_item o t whose cs rest ∷ t)
-WindowAgrees-emptying o w t whose cs rest h q = WindowAgrees-taken (taking_item o t whose cs rest) t whose (taking o w t whose cs rest h q) o w h
+pub WindowAgrees-emptying : (o : Setting) (w : Received) (t : Trace) (scope : Option ℕ) (cs : List Command) (rest : List Mark) → WindowAgrees o w t → IsQuiet rest → WindowAgrees o (with_taken w scope) (taking_item o t scope cs rest ∷ t)
+WindowAgrees-emptying o w t scope cs rest h q = WindowAgrees-taken (taking_item o t scope cs rest) t scope (taking o w t scope cs rest h q) o w h
 
-pub ArrivalsAgree-emptying : (o : Setting) (w : Received) (arrived : List ℕ) (t : Trace) (whose : Option ℕ) (cs : List Command) (rest : List Mark) → WindowAgrees o w t → IsQuiet rest → ArrivalsAgree w arrived t → ArrivalsAgree (with_taken w whose) arrived (taking_item o t whose cs rest ∷ t)
-ArrivalsAgree-emptying o w arrived t whose cs rest h q a = ArrivalsAgree-taken (taking_item o t whose cs rest) t whose (taking o w t whose cs rest h q) w arrived a
+pub ArrivalsAgree-emptying : (o : Setting) (w : Received) (arrived : List ℕ) (t : Trace) (scope : Option ℕ) (cs : List Command) (rest : List Mark) → WindowAgrees o w t → IsQuiet rest → ArrivalsAgree w arrived t → ArrivalsAgree (with_taken w scope) arrived (taking_item o t scope cs rest ∷ t)
+ArrivalsAgree-emptying o w arrived t scope cs rest h q a = ArrivalsAgree-taken (taking_item o t scope cs rest) t scope (taking o w t scope cs rest h q) w arrived a
 
 -- ---- items that are joined
 
@@ -403,10 +403,10 @@ ArrivalsAgree-joined w arrived t m ms a = ArrivalsAgree-same (ms ∷ (m ∷ []) 
 
 -- ---- a Logout, from its first mark on
 
-pub WindowAgrees-parted : (o : Setting) (w : Received) (t : Trace) (m : Mark) (whose : Option ℕ) (cs : List Command) (rest : List Mark) → WindowAgrees o w ((m ∷ []) ∷ t) → IsQuiet rest
-    → WindowAgrees o (with_taken w whose) ((m ∷ taking_item o ((m ∷ []) ∷ t) whose cs rest) ∷ t)
-WindowAgrees-parted o w t m whose cs rest h q = WindowAgrees-joined o (with_taken w whose) t m (taking_item o ((m ∷ []) ∷ t) whose cs rest) (WindowAgrees-emptying o w ((m ∷ []) ∷ t) whose cs rest h q)
+pub WindowAgrees-logged_out : (o : Setting) (w : Received) (t : Trace) (m : Mark) (scope : Option ℕ) (cs : List Command) (rest : List Mark) → WindowAgrees o w ((m ∷ []) ∷ t) → IsQuiet rest
+    → WindowAgrees o (with_taken w scope) ((m ∷ taking_item o ((m ∷ []) ∷ t) scope cs rest) ∷ t)
+WindowAgrees-logged_out o w t m scope cs rest h q = WindowAgrees-joined o (with_taken w scope) t m (taking_item o ((m ∷ []) ∷ t) scope cs rest) (WindowAgrees-emptying o w ((m ∷ []) ∷ t) scope cs rest h q)
 
-pub ArrivalsAgree-parted : (o : Setting) (w : Received) (arrived : List ℕ) (t : Trace) (m : Mark) (whose : Option ℕ) (cs : List Command) (rest : List Mark) → WindowAgrees o w ((m ∷ []) ∷ t) → IsQuiet rest → ArrivalsAgree w arrived ((m ∷ []) ∷ t)
-    → ArrivalsAgree (with_taken w whose) arrived ((m ∷ taking_item o ((m ∷ []) ∷ t) whose cs rest) ∷ t)
-ArrivalsAgree-parted o w arrived t m whose cs rest h q a = ArrivalsAgree-joined (with_taken w whose) arrived t m (taking_item o ((m ∷ []) ∷ t) whose cs rest) (ArrivalsAgree-emptying o w arrived ((m ∷ []) ∷ t) whose cs rest h q a)
+pub ArrivalsAgree-logged_out : (o : Setting) (w : Received) (arrived : List ℕ) (t : Trace) (m : Mark) (scope : Option ℕ) (cs : List Command) (rest : List Mark) → WindowAgrees o w ((m ∷ []) ∷ t) → IsQuiet rest → ArrivalsAgree w arrived ((m ∷ []) ∷ t)
+    → ArrivalsAgree (with_taken w scope) arrived ((m ∷ taking_item o ((m ∷ []) ∷ t) scope cs rest) ∷ t)
+ArrivalsAgree-logged_out o w arrived t m scope cs rest h q a = ArrivalsAgree-joined (with_taken w scope) arrived t m (taking_item o ((m ∷ []) ∷ t) scope cs rest) (ArrivalsAgree-emptying o w arrived ((m ∷ []) ∷ t) scope cs rest h q a)

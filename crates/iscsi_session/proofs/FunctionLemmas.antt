@@ -24,8 +24,8 @@ use Rattle.iscsi_session.specs.declared.outcome.Outcome.{Outcome}
 use Rattle.iscsi_session.specs.declared.outcome.Outcome.TheVariants.{Respond, Abort, AbortAll, Empty as EmptyNumber, Void as VoidNumber}
 use Rattle.iscsi_commands.specs.declared.live.Live.{Live}
 use Rattle.iscsi_session.specs.declared.session.waiting.Waiting.{Waiting}
-use Rattle.iscsi_session.specs.declared.patience.Patience.{Patience}
-use Rattle.iscsi_session.specs.declared.patience.Patience.TheVariants.{Now, Later, TooFar, TooMany}
+use Rattle.iscsi_session.specs.declared.deferral.Deferral.{Deferral}
+use Rattle.iscsi_session.specs.declared.deferral.Deferral.TheVariants.{Now, Later, TooFar, TooMany}
 use Rattle.iscsi_history.specs.declared.verdict.Verdict.{Verdict}
 use Rattle.iscsi_history.specs.declared.verdict.Verdict.TheVariants.{Nothing, Answer, Enter as EnterUnit}
 use Rattle.iscsi_history.specs.rules.Settings.{Setting, is_known}
@@ -38,12 +38,12 @@ use Rattle.iscsi_history.specs.rules.Run.{effects_of_mark, effects_of_item, newl
 use Rattle.iscsi_session.specs.promises.Standing.{Core, kept, task_of, WindowAgrees, ArrivalsAgree, arrival_waiting, Agrees, Settled}
 use Rattle.iscsi_session.specs.private.Functions.{aborted, abort_effects, answer_if, outcome_by, abort_by, performed_as, performance_effects, covers_ticket, response_effects}
 use Rattle.iscsi_session.specs.private.Steps.{count_reply, with_reply, reply_effects, number_by, event_by, verdict_by, executed_as, execution_effects}
-use Rattle.iscsi_session.specs.private.Turning.{position_by, next_position, without_waiting, performed, performed_effects, managed, managed_effects, with_executed, executed_effects, next_arrived, next_waiting, waiting_in, wait_by, function_if, function_effects, patience_by, immediate_as, immediate_effects}
+use Rattle.iscsi_session.specs.private.Turning.{position_by, next_position, without_waiting, performed, performed_effects, managed, managed_effects, with_executed, executed_effects, next_arrived, next_waiting, waiting_in, wait_by, function_if, function_effects, deferral_by, immediate_as, immediate_effects}
 use Rattle.iscsi_history.specs.rules.Logout.{logout_marks}
-use Rattle.iscsi_session.specs.private.Parting.{closing_by, closed_as, closed_effects}
+use Rattle.iscsi_session.specs.private.Closing.{closing_by, closed_as, closed_effects}
 use Rattle.iscsi_session.proofs.OpenConns.{ClosesNone, open_of-same, closes-more}
 use Rattle.iscsi_session.proofs.LogoutItem.{logout-item}
-use Rattle.iscsi_session.proofs.PartedLemmas.{closed_expected}
+use Rattle.iscsi_session.proofs.LoggedOutLemmas.{closed_expected}
 use Rattle.iscsi_history.proofs.BoolLemmas.{and_parts, and_true}
 use Rattle.iscsi_history.proofs.ListLemmas.{count_by-map, list_any-map, list_all-filter, find-passes, any_filter, any_same}
 use Rattle.iscsi_history.proofs.TraceLemmas.{filter-same}
@@ -197,7 +197,7 @@ held_before item t n h none found = by_tests (list_any (delivers_number n) item)
     by_tests false false false true k = absurd cc
     by_tests false false false false k = k
 
--- a window whose next number and length are the same
+-- a window scope next number and length are the same
 record SameFrame (w w' : Received) : Type 0 where
   expected : number_expected w' ≡ number_expected w
   long : length w'.places ≡ length w.places
@@ -530,7 +530,7 @@ arriving o s index t r h immediate known taken waited =
       };
     }
 
-abbrev Becomes : Setting → Core → Trace → Request → List Mark → Patience → Type 0
+abbrev Becomes : Setting → Core → Trace → Request → List Mark → Deferral → Type 0
 Becomes o s t r item p = Agrees o (immediate_as s r p) (item ∷ t) × (immediate_effects s r p ≡ effects_of_item o t item)
 
 -- it executes
@@ -596,17 +596,17 @@ becomes_by_number o s index t r h may known taken x =
     let near : nat_lt (exp_of o t) a.number ≡ nat_lt e n = ap (λ k. nat_lt k a.number) (settled_expected o s t h) ∙ ap (nat_lt e) number in
     let many : nat_le 4 (waiting_on (connection_of r) t) ≡ nat_le 4 (waiting_in s.waiting (connection_of r)) = ap (nat_le 4) (waiting_same o s t (connection_of r) h.agrees) in
     let items : Bool → Bool → Bool → List Mark = λ b c d. cond b (Executes a ∷ reply_on a (TaskReply (itt r) 255)) (cond (not c) (execution o t (Executes a) a) (cond d (Executes a ∷ reply_on a (Reject 6 (header_of r))) (Waits a ∷ []))) in
-    let patience : Bool → Bool → Bool → Patience = λ b c d. cond b TooFar (cond (not c) Now (cond d TooMany Later)) in
+    let deferral : Bool → Bool → Bool → Deferral = λ b c d. cond b TooFar (cond (not c) Now (cond d TooMany Later)) in
     let item_is : waiting_item o t a ≡ items (nat_lt (e + room_of s.window) n) (nat_lt e n) (nat_le 4 (waiting_in s.waiting (connection_of r))) =
     ap (λ b. items b (nat_lt (exp_of o t) a.number) (nat_le 4 (waiting_on (connection_of r) t))) far
     ∙ ap (λ c. items (nat_lt (e + room_of s.window) n) c (nat_le 4 (waiting_on (connection_of r) t))) near
     ∙ ap (items (nat_lt (e + room_of s.window) n) (nat_lt e n)) many in
     subst (λ item. Becomes o s t r item (wait_by s r)) (sym item_is)
-    (elim (nat_lt (e + room_of s.window) n) as (λ b. Becomes o s t r (items b (nat_lt e n) (nat_le 4 (waiting_in s.waiting (connection_of r)))) (patience b (nat_lt e n) (nat_le 4 (waiting_in s.waiting (connection_of r))))) [
+    (elim (nat_lt (e + room_of s.window) n) as (λ b. Becomes o s t r (items b (nat_lt e n) (nat_le 4 (waiting_in s.waiting (connection_of r)))) (deferral b (nat_lt e n) (nat_le 4 (waiting_in s.waiting (connection_of r))))) [
       | true ↦ becomes_answered o s index t r (TaskReply (itt r) 255) x
-      | false ↦ elim (nat_lt e n) as (λ c. nat_lt e n ≡ c → Becomes o s t r (items false c (nat_le 4 (waiting_in s.waiting (connection_of r)))) (patience false c (nat_le 4 (waiting_in s.waiting (connection_of r))))) [
+      | false ↦ elim (nat_lt e n) as (λ c. nat_lt e n ≡ c → Becomes o s t r (items false c (nat_le 4 (waiting_in s.waiting (connection_of r)))) (deferral false c (nat_le 4 (waiting_in s.waiting (connection_of r))))) [
         | false ↦ λ is. becomes_now o s index t r x
-        | true ↦ λ is. elim (nat_le 4 (waiting_in s.waiting (connection_of r))) as (λ d. Becomes o s t r (items false true d) (patience false true d)) [
+        | true ↦ λ is. elim (nat_le 4 (waiting_in s.waiting (connection_of r))) as (λ d. Becomes o s t r (items false true d) (deferral false true d)) [
           | true ↦ becomes_answered o s index t r (Reject 6 (header_of r)) x
           | false ↦ becomes_waiting o s index t r h may known taken (let lt : e < n = grind (arith, nat_tests) in lt)
         ]
@@ -614,7 +614,7 @@ becomes_by_number o s index t r h may known taken x =
     ])
 
 pub immediate-item : (o : Setting) (s : Core) (index : ℕ) (t : Trace) (r : Request) → Settled o s t → is_immediate r ≡ true → is_known (connection_of r) o.conns ≡ true → s.taken ≡ index + 1 → list_all (λ w. nat_lt (w.event + 1) s.taken) s.waiting ≡ true
-    → Agrees o (immediate_as s r (patience_by s r)) (immediate_item o t (arrival_of o index t r) ∷ t) × (immediate_effects s r (patience_by s r) ≡ effects_of_item o t (immediate_item o t (arrival_of o index t r)))
+    → Agrees o (immediate_as s r (deferral_by s r)) (immediate_item o t (arrival_of o index t r) ∷ t) × (immediate_effects s r (deferral_by s r) ≡ effects_of_item o t (immediate_item o t (arrival_of o index t r)))
 immediate-item o s index t r h immediate known taken waited =
     let a : Arrival = arrival_of o index t r in
     let x : Arriving o s index t r = arriving o s index t r h immediate known taken waited in
@@ -670,7 +670,7 @@ pub function_expected : (s : Core) (x : Option Waiting) → number_expected (fun
 function_expected s None = refl
 function_expected s (Some w) = function_same (without_waiting s w) w.request (next_position s) w.event
 
-pub immediate_expected : (s : Core) (r : Request) (p : Patience) → number_expected (immediate_as s r p).window ≡ number_expected s.window
+pub immediate_expected : (s : Core) (r : Request) (p : Deferral) → number_expected (immediate_as s r p).window ≡ number_expected s.window
 immediate_expected s r Now = executed_expected s r (s.taken - 1)
 immediate_expected s r Later = refl
 immediate_expected s r TooFar = refl

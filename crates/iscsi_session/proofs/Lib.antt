@@ -32,11 +32,11 @@ pub mod LeftSound
 pub mod AbortParts
 pub mod DroppingLemmas
 pub mod TellingLemmas
-pub mod PartedLemmas
-pub mod PartingUnits
-pub mod PartingSets
+pub mod LoggedOutLemmas
+pub mod LogoutUnits
+pub mod LogoutSets
 pub mod EmptyingLemmas
-pub mod PartedWindow
+pub mod LogoutWindow
 pub mod LogoutItem
 pub mod FunctionLemmas
 pub mod AgendaLemmas

@@ -22,7 +22,7 @@ use Rattle.iscsi_history.specs.rules.Management.{may_wait}
 use Rattle.iscsi_history.specs.rules.Run.{effects_of_mark, effects_of_item, newly_enabled, stat_sn_of}
 use Rattle.iscsi_session.specs.promises.Standing.{Core, Agrees, WindowAgrees, RepliesAgree, CommandsAgree, arrival_waiting, open_of}
 use Rattle.iscsi_session.specs.private.Steps.{count_reply, reply_effects}
-use Rattle.iscsi_session.specs.private.Parting.{is_among_open, closing_by, units_of, covers_of, left_to, emptying_effects, still_open, session_closes, waiting_then, close_effects, all_enable_effects, parted, parting_effects, closed_as, closed_effects}
+use Rattle.iscsi_session.specs.private.Closing.{is_among_open, closing_by, units_of, covers_of, left_to, emptying_effects, still_open, session_closes, waiting_then, close_effects, all_enable_effects, logged_out, logout_effects, closed_as, closed_effects}
 use Rattle.iscsi_history.proofs.MomentLemmas.{enables}
 use Rattle.iscsi_session.proofs.EnabledLemmas.{filter-map}
 use Rattle.iscsi_session.proofs.ReplyParts.{RepliesAgree-sent}
@@ -30,13 +30,13 @@ use Rattle.iscsi_history.proofs.ListLemmas.{list_all-filter, list_any-map}
 use Rattle.iscsi_history.proofs.BoolLemmas.{or_false, or_second, and_false}
 use Rattle.iscsi_history.proofs.TraceLemmas.{filter-same}
 use Rattle.iscsi_session.proofs.OpenConns.{closed-same, filtered_among}
-use Rattle.iscsi_session.proofs.PartedLemmas.{Keeps, left_keeps}
+use Rattle.iscsi_session.proofs.LoggedOutLemmas.{Keeps, left_keeps}
 use Rattle.iscsi_session.proofs.ExecutionLemmas.{Begun, Executed, answered}
 use Rattle.iscsi_history.proofs.DeliveryLemmas.{IsQuiet}
 use Rattle.iscsi_history.proofs.ApartLemmas.{eq_sym}
 use Rattle.iscsi_session.proofs.EmptyingLemmas.{taken_requests, emptied_from-is}
-use Rattle.iscsi_session.proofs.PartingSets.{parting_commands, emptied_marks, closing_marks, PartsAt, PartsAt-begun, commands-parted, sets-parted, unfinished-parted, enabled-parted, leaving-parted, enabling-parted, end_session-is, close_conn-is}
-use Rattle.iscsi_session.proofs.PartedWindow.{quiet-closing, parted_window, parted_arrivals}
+use Rattle.iscsi_session.proofs.LogoutSets.{closing_commands, emptied_marks, closing_marks, LogsOutAt, LogsOutAt-begun, commands-logged_out, sets-logged_out, unfinished-logged_out, enabled-logged_out, leaving-logged_out, enabling-logged_out, end_session-is, close_conn-is}
+use Rattle.iscsi_session.proofs.LogoutWindow.{quiet-closing, logged_out_window, logged_out_arrivals}
 
 -- ---- lists of such marks
 
@@ -134,18 +134,18 @@ last_is o t closing (d ∷ ds) within =
 
 -- ---- a connection or the session is closed
 
-module _ (o : Setting) (s : Core) (t : Trace) (m : Mark) (e : Effect) (a : Arrival) (b : Begun o s t m e a) (whose : Option ℕ) where
+module _ (o : Setting) (s : Core) (t : Trace) (m : Mark) (e : Effect) (a : Arrival) (b : Begun o s t m e a) (scope : Option ℕ) where
   abbrev t₁ : Trace
   t₁ = (m ∷ []) ∷ t
 
   abbrev cs : List Command
-  cs = parting_commands o t₁ whose
+  cs = closing_commands o t₁ scope
 
   abbrev hs : List Arrival
-  hs = taken_requests o t₁ whose
+  hs = taken_requests o t₁ scope
 
   abbrev rest : List Mark
-  rest = closing_marks o t₁ a whose
+  rest = closing_marks o t₁ a scope
 
   abbrev marks : List Mark
   marks = (map Leaves cs ++ map Empties hs) ++ rest
@@ -160,16 +160,16 @@ module _ (o : Setting) (s : Core) (t : Trace) (m : Mark) (e : Effect) (a : Arriv
   reply = Logout (itt a.request) 0
 
   abbrev left : Core
-  left = left_to s whose
+  left = left_to s scope
 
   abbrev cids : List ℕ
   cids = map (λ (c : ℕ × ℕ). c.0) o.conns
 
-  p : PartsAt o s t m (emptied_marks o t₁ whose) rest
-  p = PartsAt-begun o s t m e a b whose
+  p : LogsOutAt o s t m (emptied_marks o t₁ scope) rest
+  p = LogsOutAt-begun o s t m e a b scope
 
   k : Keeps s left
-  k = left_keeps s (units_of s) (covers_of whose)
+  k = left_keeps s (units_of s) (covers_of scope)
 
   quiet_none : IsQuiet []
   quiet_none = record { receives = refl; admits = λ n. refl; delivers_none = refl; delivers_no = λ n. refl; empties_no = λ n. refl }
@@ -178,7 +178,7 @@ module _ (o : Setting) (s : Core) (t : Trace) (m : Mark) (e : Effect) (a : Arriv
   before = b.window [] quiet_none
 
   quiet : IsQuiet rest
-  quiet = quiet-closing o t₁ a whose
+  quiet = quiet-closing o t₁ a scope
 
   grouped : marks ≡ map Leaves cs ++ (map Empties hs ++ rest)
   grouped = append_assoc (map Leaves cs) (map Empties hs) rest
@@ -187,7 +187,7 @@ module _ (o : Setting) (s : Core) (t : Trace) (m : Mark) (e : Effect) (a : Arriv
   sends : filter_map sent_on item ≡ conn ∷ []
   sends =
       ap (λ x. cons_option x (filter_map sent_on marks)) b.sends_no ∙ ap (filter_map sent_on) grouped
-      ∙ left_sends cs (map Empties hs ++ rest) ∙ emptied_sends hs rest ∙ rest_sends whose
+      ∙ left_sends cs (map Empties hs ++ rest) ∙ emptied_sends hs rest ∙ rest_sends scope
     where
       rest_sends : (x : Option ℕ) → filter_map sent_on (closing_marks o t₁ a x) ≡ conn ∷ []
       rest_sends None = refl
@@ -220,15 +220,15 @@ module _ (o : Setting) (s : Core) (t : Trace) (m : Mark) (e : Effect) (a : Arriv
       elim (is_last_open o t₁ closing) as (λ v. flat_map (effects_of_mark o t) (parting a 0 ++ ClosesConn closing ∷ (let ms : List Mark = cond v (ClosesSession ∷ []) [] in ms)) ≡ Send conn (stat_sn_of o t conn) reply ∷ CloseConn closing ∷ cond v (CloseSession ∷ []) []) [ true ↦ refl | false ↦ refl ]
 
   -- what waits still
-  waits : waiting_through marks (waiting_by m (waiting t)) ≡ map (arrival_waiting o.first) (parted s a.request whose).waiting
+  waits : waiting_through marks (waiting_by m (waiting t)) ≡ map (arrival_waiting o.first) (logged_out s a.request scope).waiting
   waits =
       ap (waiting_through marks) b.waiting
       ∙ ap (λ ms. waiting_through ms (map (arrival_waiting o.first) s.waiting)) grouped
       ∙ left_waits cs (map Empties hs ++ rest) (map (arrival_waiting o.first) s.waiting)
       ∙ emptied_waits hs rest (map (arrival_waiting o.first) s.waiting)
-      ∙ rest_waits whose
-      ∙ sym (ap (λ ws. map (arrival_waiting o.first) (waiting_then (still_open whose left.open_conns) (filter (λ w. not (is_asked whose (connection_of w.request))) ws))) k.waiting
-      ∙ ap (λ cs. map (arrival_waiting o.first) (waiting_then (still_open whose cs) (filter (λ w. not (is_asked whose (connection_of w.request))) s.waiting))) k.open_conns)
+      ∙ rest_waits scope
+      ∙ sym (ap (λ ws. map (arrival_waiting o.first) (waiting_then (still_open scope left.open_conns) (filter (λ w. not (is_asked scope (connection_of w.request))) ws))) k.waiting
+      ∙ ap (λ cs. map (arrival_waiting o.first) (waiting_then (still_open scope cs) (filter (λ w. not (is_asked scope (connection_of w.request))) s.waiting))) k.open_conns)
     where
       then_nil : (cs : List ℕ) → waiting_then cs [] ≡ []
       then_nil [] = refl
@@ -306,49 +306,49 @@ module _ (o : Setting) (s : Core) (t : Trace) (m : Mark) (e : Effect) (a : Arriv
           ∙ ap (λ v. is_known c o.conns && not (is_ended t || v)) (closed_at c (closing == c) (sym (same_closed c) ∙ at_closing c (is_last_open o t₁ closing)))))
 
   -- the whole
-  agrees : Agrees o (parted s a.request whose) (item ∷ t)
+  agrees : Agrees o (logged_out s a.request scope) (item ∷ t)
   agrees = record {
     events = k.events ∙ b.events;
-    window = parted_window o s t m a.request whose rest quiet before;
+    window = logged_out_window o s t m a.request scope rest quiet before;
     replies = subst (λ (conns : List (ℕ × ℕ)). RepliesAgree o (count_reply conn conns) (item ∷ t)) (sym k.conns) (RepliesAgree-sent o s.conns t item conn sends b.known b.replies);
-    commands = subst (λ n. CommandsAgree o left.live n (item ∷ t)) (sym k.entered) (commands-parted o s t m (emptied_marks o t₁ whose) rest p whose);
-    sets = sets-parted o s t m (emptied_marks o t₁ whose) rest p whose;
-    unfinished = unfinished-parted o s t m (emptied_marks o t₁ whose) rest p whose;
-    enabled = enabled-parted o s t m (emptied_marks o t₁ whose) rest p whose;
+    commands = subst (λ n. CommandsAgree o left.live n (item ∷ t)) (sym k.entered) (commands-logged_out o s t m (emptied_marks o t₁ scope) rest p scope);
+    sets = sets-logged_out o s t m (emptied_marks o t₁ scope) rest p scope;
+    unfinished = unfinished-logged_out o s t m (emptied_marks o t₁ scope) rest p scope;
+    enabled = enabled-logged_out o s t m (emptied_marks o t₁ scope) rest p scope;
     level = k.level ∙ b.level;
-    arrived = parted_arrivals o s t m a.request whose rest quiet before (b.arrived [] quiet_none);
+    arrived = logged_out_arrivals o s t m a.request scope rest quiet before (b.arrived [] quiet_none);
     waiting = record {
       list = waits;
       may = kept_all (λ w. may_wait w.request) b.may;
       known = kept_all (λ w. is_known (connection_of w.request) o.conns) b.waiting_known;
     };
-    open_conns = ap (still_open whose) (k.open_conns ∙ b.open_is) ∙ stays_open whose refl (λ c. refl);
+    open_conns = ap (still_open scope) (k.open_conns ∙ b.open_is) ∙ stays_open scope refl (λ c. refl);
   }
     where
       then_all : (test : Waiting → Bool) (cs : List ℕ) (ws : List Waiting) → list_all test ws ≡ true → list_all test (waiting_then cs ws) ≡ true
       then_all test [] ws h = refl
       then_all test (c ∷ cs) ws h = h
 
-      kept_all : (test : Waiting → Bool) → list_all test s.waiting ≡ true → list_all test (parted s a.request whose).waiting ≡ true
+      kept_all : (test : Waiting → Bool) → list_all test s.waiting ≡ true → list_all test (logged_out s a.request scope).waiting ≡ true
       kept_all test h =
-          let stays : Waiting → Bool = λ w. not (is_asked whose (connection_of w.request)) in
-          then_all test (still_open whose left.open_conns) (filter stays left.waiting) (list_all-filter stays test left.waiting (ap (list_all test) k.waiting ∙ h))
+          let stays : Waiting → Bool = λ w. not (is_asked scope (connection_of w.request)) in
+          then_all test (still_open scope left.open_conns) (filter stays left.waiting) (list_all-filter stays test left.waiting (ap (list_all test) k.waiting ∙ h))
 
-  shown : e ∷ parting_effects s a.request whose ≡ effects_of_item o t item
+  shown : e ∷ logout_effects s a.request scope ≡ effects_of_item o t item
   shown =
       let left_es : List Effect = map (λ (c : Command). Leave c.ticket c.unit) cs in
       let empty_es : List Effect = map (λ (h : Arrival). Empty (wire h.number)) hs in
       let sent : List Effect = Send conn (stat_sn_of o t conn) reply ∷ [] in
       let enabled_es : List Effect = enables (newly_enabled o t item) in
-      ap (λ es. e ∷ ((((es ++ emptying_effects s whose) ++ reply_effects s conn reply) ++ close_effects s whose) ++ all_enable_effects left)) (leaving-parted o s t m (emptied_marks o t₁ whose) rest p whose)
-      ∙ ap (λ es. e ∷ ((((left_es ++ es) ++ reply_effects s conn reply) ++ close_effects s whose) ++ all_enable_effects left)) (emptied_from-is o s.window t₁ whose before)
-      ∙ ap (λ n. e ∷ ((((left_es ++ empty_es) ++ Send conn n reply ∷ []) ++ close_effects s whose) ++ all_enable_effects left)) (b.replies.stat_sns conn b.known)
-      ∙ ap (λ es. e ∷ ((((left_es ++ empty_es) ++ sent) ++ es) ++ all_enable_effects left)) (closes_are whose)
-      ∙ ap (λ es. e ∷ ((((left_es ++ empty_es) ++ sent) ++ closes_shown whose) ++ es)) (enabling-parted o s t m (emptied_marks o t₁ whose) rest p whose)
-      ∙ ap (λ es. e ∷ (es ++ enabled_es)) (append_assoc (left_es ++ empty_es) sent (closes_shown whose) ∙ append_assoc left_es empty_es (sent ++ closes_shown whose))
+      ap (λ es. e ∷ ((((es ++ emptying_effects s scope) ++ reply_effects s conn reply) ++ close_effects s scope) ++ all_enable_effects left)) (leaving-logged_out o s t m (emptied_marks o t₁ scope) rest p scope)
+      ∙ ap (λ es. e ∷ ((((left_es ++ es) ++ reply_effects s conn reply) ++ close_effects s scope) ++ all_enable_effects left)) (emptied_from-is o s.window t₁ scope before)
+      ∙ ap (λ n. e ∷ ((((left_es ++ empty_es) ++ Send conn n reply ∷ []) ++ close_effects s scope) ++ all_enable_effects left)) (b.replies.stat_sns conn b.known)
+      ∙ ap (λ es. e ∷ ((((left_es ++ empty_es) ++ sent) ++ es) ++ all_enable_effects left)) (closes_are scope)
+      ∙ ap (λ es. e ∷ ((((left_es ++ empty_es) ++ sent) ++ closes_shown scope) ++ es)) (enabling-logged_out o s t m (emptied_marks o t₁ scope) rest p scope)
+      ∙ ap (λ es. e ∷ (es ++ enabled_es)) (append_assoc (left_es ++ empty_es) sent (closes_shown scope) ∙ append_assoc left_es empty_es (sent ++ closes_shown scope))
       ∙ sym (ap (λ es. (es ++ flat_map (effects_of_mark o t) marks) ++ enabled_es) b.shows
       ∙ ap (λ es. e ∷ (es ++ enabled_es)) (ap (flat_map (effects_of_mark o t)) grouped ∙ left_shown o t cs (map Empties hs ++ rest)
-      ∙ ap (λ es. left_es ++ es) (emptied_shown o t hs rest ∙ ap (λ es. empty_es ++ es) (rest_shown whose))))
+      ∙ ap (λ es. left_es ++ es) (emptied_shown o t hs rest ∙ ap (λ es. empty_es ++ es) (rest_shown scope))))
 
 -- ---- the table
 

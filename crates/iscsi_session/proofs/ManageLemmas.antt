@@ -27,18 +27,18 @@ use Rattle.iscsi_commands.specs.declared.live.Live.{Live}
 use Rattle.iscsi_session.specs.declared.session.waiting.Waiting.{Waiting}
 use Rattle.iscsi_history.specs.declared.verdict.Verdict.{Verdict}
 use Rattle.iscsi_history.specs.declared.verdict.Verdict.TheVariants.{Nothing, Answer, Enter}
-use Rattle.iscsi_session.specs.declared.patience.Patience.{Patience}
-use Rattle.iscsi_session.specs.declared.patience.Patience.TheVariants.{Now, Later as ToWait, TooFar, TooMany}
+use Rattle.iscsi_session.specs.declared.deferral.Deferral.{Deferral}
+use Rattle.iscsi_session.specs.declared.deferral.Deferral.TheVariants.{Now, Later as ToWait, TooFar, TooMany}
 use Rattle.iscsi_history.specs.rules.Settings.{is_known}
 use Rattle.iscsi_history.specs.rules.Execution.{unit_named}
 use Rattle.iscsi_history.specs.rules.Management.{may_wait, refusal_to}
 use Rattle.iscsi_session.specs.promises.Standing.{Core, is_held}
 use Rattle.iscsi_session.specs.private.Steps.{noted_in, KeepsPace, is_numbered, new_live, set_at, set_entered, new_task, with_command, with_reply, verdict_by, executed_as}
 use Rattle.iscsi_session.specs.private.Functions.{tagged_in, missing_at, abort_by, answer_if, outcome_by, staying, covers_ticket, aborted, performed_as, ungiven, ungiven_in, owed}
-use Rattle.iscsi_session.specs.private.Turning.{waiting_in, wait_by, patience_by, performed, managed, position_by, with_executed}
+use Rattle.iscsi_session.specs.private.Turning.{waiting_in, wait_by, deferral_by, performed, managed, position_by, with_executed}
 use Rattle.iscsi_session.specs.declared.closing.Closing.{Closing}
-use Rattle.iscsi_session.specs.private.Parting.{closing_by, closed_as}
-use Rattle.iscsi_session.proofs.PartedLemmas.{Parts, closed_parts}
+use Rattle.iscsi_session.specs.private.Closing.{closing_by, closed_as}
+use Rattle.iscsi_session.proofs.LoggedOutLemmas.{Parts, closed_parts}
 use Rattle.iscsi_history.proofs.BoolLemmas.{and_first, and_second, and_false}
 use Rattle.iscsi_history.proofs.ListLemmas.{count_by-map, count_by-push, fewer_counted}
 use Rattle.iscsi_session.proofs.FindLemmas.{position-cons}
@@ -107,11 +107,11 @@ unheld_same w r apart = by_place (place_in w (cmd_sn r)) apart
 
 -- ---- how many functions wait
 
-parted : (p : Waiting → Bool) (xs : List Waiting) → length xs ≡ count_by p xs + length (filter (λ x. not (p x)) xs)
-parted p [] = refl
-parted p (x ∷ xs) =
+logged_out : (p : Waiting → Bool) (xs : List Waiting) → length xs ≡ count_by p xs + length (filter (λ x. not (p x)) xs)
+logged_out p [] = refl
+logged_out p (x ∷ xs) =
     let all : count_by p (x ∷ xs) ≡ cond (p x) 1 0 + count_by p xs = sum_by-cons (λ y. cond (p y) 1 0) x xs in
-    let rest : length xs ≡ count_by p xs + length (filter (λ y. not (p y)) xs) = parted p xs in
+    let rest : length xs ≡ count_by p xs + length (filter (λ y. not (p y)) xs) = logged_out p xs in
     elim (p x) as (λ b. p x ≡ b → suc (length xs) ≡ count_by p (x ∷ xs) + length (cond (not b) (x ∷ filter (λ y. not (p y)) xs) (filter (λ y. not (p y)) xs))) [
       | true ↦ λ is. omega (arith, all, rest, ap {B = ℕ} (λ b. cond b 1 0) is)
       | false ↦ λ is. omega (arith, all, rest, ap {B = ℕ} (λ b. cond b 1 0) is)
@@ -149,7 +149,7 @@ few_waiting (c ∷ conns) waits few known =
     let away : List Waiting = filter (λ w. not (connection_of w.request == c.0)) waits in
     let rest : length away ≤ 4 * length conns =
     few_waiting conns away (λ cid. let less : waiting_in away cid ≤ waiting_in waits cid = fewer_counted (λ w. connection_of w.request == cid) (λ w. not (connection_of w.request == c.0)) waits in omega (arith, less, few cid)) (others_known c conns waits known) in
-    omega (arith, parted (λ w. connection_of w.request == c.0) waits, few c.0, rest)
+    omega (arith, logged_out (λ w. connection_of w.request == c.0) waits, few c.0, rest)
 
 more_waiting : (waits : List Waiting) (w : Waiting) → ((cid : ℕ) → waiting_in waits cid ≤ 4) → waiting_in waits (connection_of w.request) < 4 → (cid : ℕ) → waiting_in (waits ++ w ∷ []) cid ≤ 4
 more_waiting waits w few room cid =
@@ -208,10 +208,10 @@ later_by s r said may =
 pub ahead_by : (e w : ℕ) → 2 ^ 32 ≤ e → e < lift e w → (w + (2 ^ 32 - wire e)) % 2 ^ 32 ≡ lift e w - e
 ahead_by e w big ahead = omega (arith, big, ahead)
 
-abbrev unless_refused : Core → Request → Option Reply → Patience
+abbrev unless_refused : Core → Request → Option Reply → Deferral
 unless_refused s r x = elim x [ Some reply ↦ Now | None ↦ wait_by s r ]
 
-pub later : (s : Core) (r : Request) → patience_by s r ≡ ToWait → Later s r
+pub later : (s : Core) (r : Request) → deferral_by s r ≡ ToWait → Later s r
 later s r said =
     elim (opcode r == 0x02 && may_wait r) as (λ b. (opcode r == 0x02 && may_wait r) ≡ b → cond b (unless_refused s r (refusal_to s.level (length s.sets) r)) Now ≡ ToWait → Later s r) [
       | true ↦ λ is here. by_refusal (and_second (opcode r == 0x02) (may_wait r) is) (refusal_to s.level (length s.sets) r) here
@@ -406,12 +406,12 @@ through_performed P s r number event same does = by_unit (unit_named (length s.s
     by_unit (Some unit) = does unit
 
 pub through_executed : (P : Core → Type 0) (s : Core) (r : Request) (event : ℕ) → P (with_reply s (connection_of r)) → P (performed s r (position_by s r) event) → ((x : Closing) → P (closed_as s r x)) → ((v : Verdict) → P (executed_as s r v)) → P (with_executed s r event)
-through_executed P s r event replies performs closes obeys =
+through_executed P s r event replies performs closes answers_or_enters =
     elim (opcode r == 0x02) as (λ b. P (cond b (managed s r (position_by s r) event) (cond (opcode r == 0x06) (closed_as s r (closing_by s r)) (executed_as s r (verdict_by s r))))) [
       | true ↦ by_refusal (refusal_to s.level (length s.sets) r)
       | false ↦ elim (opcode r == 0x06) as (λ b. P (cond b (closed_as s r (closing_by s r)) (executed_as s r (verdict_by s r)))) [
         | true ↦ closes (closing_by s r)
-        | false ↦ obeys (verdict_by s r)
+        | false ↦ answers_or_enters (verdict_by s r)
       ]
     ]
   where
@@ -474,15 +474,15 @@ pub managed_waiting : (s : Core) (r : Request) (number : ℤ) (event : ℕ) → 
 managed_waiting s r number event = managed_through (λ t. t.waiting ≡ s.waiting) s r number event refl (waiting_performed s r number event)
 
 -- a request that isn't one
-pub obeyed_places : (s : Core) (r : Request) (v : Verdict) → (executed_as s r v).window.places ≡ s.window.places
-obeyed_places s r Nothing = refl
-obeyed_places s r (Answer reply) = refl
-obeyed_places s r (Enter unit) = elim (is_immediate r) as (λ b. (let w : Received = cond b s.window (with_unfinished s.window (s.window.unfinished + 1)) in w.places) ≡ s.window.places) [ true ↦ refl | false ↦ refl ]
+pub answered_places : (s : Core) (r : Request) (v : Verdict) → (executed_as s r v).window.places ≡ s.window.places
+answered_places s r Nothing = refl
+answered_places s r (Answer reply) = refl
+answered_places s r (Enter unit) = elim (is_immediate r) as (λ b. (let w : Received = cond b s.window (with_unfinished s.window (s.window.unfinished + 1)) in w.places) ≡ s.window.places) [ true ↦ refl | false ↦ refl ]
 
-pub obeyed_waiting : (s : Core) (r : Request) (v : Verdict) → (executed_as s r v).waiting ≡ s.waiting
-obeyed_waiting s r Nothing = refl
-obeyed_waiting s r (Answer reply) = refl
-obeyed_waiting s r (Enter unit) = refl
+pub answered_waiting : (s : Core) (r : Request) (v : Verdict) → (executed_as s r v).waiting ≡ s.waiting
+answered_waiting s r Nothing = refl
+answered_waiting s r (Answer reply) = refl
+answered_waiting s r (Enter unit) = refl
 
 -- an immediate request begins none of the numbered commands
 pub eased_executed : (s : Core) (r : Request) (event : ℕ) → is_immediate r ≡ true → Eased s.window (with_executed s r event).window

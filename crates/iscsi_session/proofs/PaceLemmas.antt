@@ -11,8 +11,8 @@ use Rattle.iscsi_tasks.specs.declared.task.Task.{Task}
 use Rattle.iscsi_tasks.specs.Sets.{is_covered}
 use Rattle.iscsi_session.specs.declared.outcome.Outcome.{Outcome}
 use Rattle.iscsi_session.specs.declared.outcome.Outcome.TheVariants.{Respond, Abort, AbortAll, Empty as EmptyNumber, Void as VoidNumber}
-use Rattle.iscsi_session.specs.declared.patience.Patience.{Patience}
-use Rattle.iscsi_session.specs.declared.patience.Patience.TheVariants.{Now, Later, TooFar, TooMany}
+use Rattle.iscsi_session.specs.declared.deferral.Deferral.{Deferral}
+use Rattle.iscsi_session.specs.declared.deferral.Deferral.TheVariants.{Now, Later, TooFar, TooMany}
 use Rattle.iscsi_commands.specs.declared.live.Live.{Live}
 use Rattle.iscsi_session.specs.declared.session.waiting.Waiting.{Waiting}
 use Rattle.iscsi_history.specs.declared.verdict.Verdict.{Verdict}
@@ -22,9 +22,9 @@ use Rattle.iscsi_history.specs.rules.Management.{refusal_to}
 use Rattle.iscsi_session.specs.promises.Standing.{Core}
 use Rattle.iscsi_session.specs.private.Steps.{KeepsPace, set_at, started, is_numbered, verdict_by, executed_as, with_reply}
 use Rattle.iscsi_session.specs.private.Functions.{is_gone, with_left, outcome_by, aborted, performed_as}
-use Rattle.iscsi_session.specs.private.Parting.{closing_by, closed_as}
+use Rattle.iscsi_session.specs.private.Closing.{closing_by, closed_as}
 use Rattle.iscsi_history.proofs.ListLemmas.{fewer_counted}
-use Rattle.iscsi_session.proofs.PartedLemmas.{Parts, closed_parts}
+use Rattle.iscsi_session.proofs.LoggedOutLemmas.{Parts, closed_parts}
 use Rattle.iscsi_session.specs.private.Turning.{performed, managed, position_by, with_executed, with_advanced, next_arrived, turned_if, without_waiting, next_position, function_if, immediate_as}
 
 -- no number turns, no event is counted, and so many commands more are unfinished at the most
@@ -111,10 +111,10 @@ started_turned w r = elim (is_immediate r) as (λ b. (let v : Received = cond b 
 started_more : (w : Received) (r : Request) → (started w r).unfinished ≤ w.unfinished + 1
 started_more w r = elim (is_immediate r) as (λ b. (let v : Received = cond b w (with_unfinished w (w.unfinished + 1)) in v.unfinished) ≤ w.unfinished + 1) [ true ↦ omega arith | false ↦ omega arith ]
 
-obeyed_stays : (s : Core) (r : Request) (v : Verdict) → Stays 1 s (executed_as s r v)
-obeyed_stays s r Nothing = stays 1 s
-obeyed_stays s r (Answer reply) = record { first = refl; turned = refl; unfinished = omega arith; taken = refl }
-obeyed_stays s r (Enter unit) = record { first = started_first s.window r; turned = started_turned s.window r; unfinished = started_more s.window r; taken = refl }
+answered_stays : (s : Core) (r : Request) (v : Verdict) → Stays 1 s (executed_as s r v)
+answered_stays s r Nothing = stays 1 s
+answered_stays s r (Answer reply) = record { first = refl; turned = refl; unfinished = omega arith; taken = refl }
+answered_stays s r (Enter unit) = record { first = started_first s.window r; turned = started_turned s.window r; unfinished = started_more s.window r; taken = refl }
 
 pub executed_stays : (s : Core) (r : Request) (event : ℕ) → Stays 1 s (with_executed s r event)
 executed_stays s r event = elim (opcode r == 0x02) as (λ b. Stays 1 s (cond b (managed s r (position_by s r) event) (cond (opcode r == 0x06) (closed_as s r (closing_by s r)) (executed_as s r (verdict_by s r))))) [
@@ -125,11 +125,11 @@ executed_stays s r event = elim (opcode r == 0x02) as (λ b. Stays 1 s (cond b (
     | true ↦
         let h : Parts s (closed_as s r (closing_by s r)) = closed_parts s r (closing_by s r) in
         record { first = h.first; turned = h.turned; unfinished = omega (arith, h.unfinished); taken = h.taken }
-    | false ↦ obeyed_stays s r (verdict_by s r)
+    | false ↦ answered_stays s r (verdict_by s r)
   ]
 ]
 
-pub immediate_stays : (s : Core) (r : Request) (p : Patience) → Stays 1 s (immediate_as s r p)
+pub immediate_stays : (s : Core) (r : Request) (p : Deferral) → Stays 1 s (immediate_as s r p)
 immediate_stays s r Now = executed_stays s r (s.taken - 1)
 immediate_stays s r Later = record { first = refl; turned = refl; unfinished = omega arith; taken = refl }
 immediate_stays s r TooFar = record { first = refl; turned = refl; unfinished = omega arith; taken = refl }

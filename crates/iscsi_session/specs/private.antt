@@ -2,5 +2,5 @@
 pub mod Invariant
 pub mod Steps
 pub mod Functions
-pub mod Parting
+pub mod Closing
 pub mod Turning

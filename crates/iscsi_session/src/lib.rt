@@ -3,12 +3,12 @@
 #![tactic(auto)]
 
 mod closing;
+mod deferral;
 mod fault;
 mod kind;
 mod log;
 mod options;
 mod outcome;
-mod patience;
 mod report;
 mod session;
 

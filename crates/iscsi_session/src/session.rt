@@ -53,16 +53,27 @@ const ITEM_EFFECTS: usize = 12;
 /// One session: its command window, its commands and task sets, and the numbers of its connections.
 #[derive(Drop)]
 pub struct Session {
+    /// The numbers that were received and haven't turned, and the requests that are held for them.
     window: Window,
+    /// How many requests the window holds.
     held: u32,
+    /// The most events that the session takes.
     events: u64,
+    /// Its connections: which are open, the StatSN of each, and how many of its immediate commands are live.
     connections: Connections,
+    /// How many commands ever entered a task set, which is the last ticket.
     entered: u64,
+    /// How many events the session has taken.
     taken: u64,
+    /// The live commands, found by ticket and by Initiator Task Tag.
     live: Commands,
+    /// The task set of each unit, at the unit's number.
     sets: Vec<TaskSet>,
+    /// The protocol level, by which task management knows the queries (RFC 7144).
     level: u32,
+    /// For each place of the window the event in which the request arrived that is held there.
     arrived: VecDeque<u64>,
+    /// The functions that wait for lower numbers, in the order of their arrival.
     waiting: Vec<Waiting>,
 }
 

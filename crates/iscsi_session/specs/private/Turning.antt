@@ -8,15 +8,15 @@ use Rattle.iscsi_wire.specs.Fields.{connection_of, header_of, opcode, itt, cmd_s
 use Rattle.iscsi_window.specs.Windows.{number_expected, room_of, advanced}
 use Rattle.iscsi_history.specs.declared.effect.Effect.{Effect}
 use Rattle.iscsi_history.specs.declared.effect.Effect.TheVariants.{Deliver, Immediate, Wait}
-use Rattle.iscsi_session.specs.declared.patience.Patience.{Patience}
-use Rattle.iscsi_session.specs.declared.patience.Patience.TheVariants.{Now, Later, TooFar, TooMany}
+use Rattle.iscsi_session.specs.declared.deferral.Deferral.{Deferral}
+use Rattle.iscsi_session.specs.declared.deferral.Deferral.TheVariants.{Now, Later, TooFar, TooMany}
 use Rattle.iscsi_session.specs.declared.session.waiting.Waiting.{Waiting}
 use Rattle.iscsi_history.specs.rules.Execution.{unit_named}
 use Rattle.iscsi_history.specs.rules.Management.{may_wait, refusal_to, MOST_WAITING}
 use Rattle.iscsi_session.specs.promises.Standing.{Core}
 use Rattle.iscsi_session.specs.private.Steps.{with_reply, reply_effects, verdict_by, number_by, executed_as, execution_effects}
 use Rattle.iscsi_session.specs.private.Functions.{outcome_by, performed_as, performance_effects}
-use Rattle.iscsi_session.specs.private.Parting.{closing_by, closed_as, closed_effects}
+use Rattle.iscsi_session.specs.private.Closing.{closing_by, closed_as, closed_effects}
 
 -- ---- a function
 
@@ -98,7 +98,7 @@ function_effects s (Some w) = Immediate w.request ∷ performed_effects (without
 abbrev pub waiting_in : List Waiting → ℕ → ℕ
 waiting_in waits cid = count_by (λ w. connection_of w.request == cid) waits
 
-abbrev pub wait_by : Core → Request → Patience
+abbrev pub wait_by : Core → Request → Deferral
 wait_by s r =
     if nat_lt (number_expected s.window + room_of s.window) (lift (number_expected s.window) (cmd_sn r)) then TooFar
     else (if not (nat_lt (number_expected s.window) (lift (number_expected s.window) (cmd_sn r))) then Now
@@ -106,21 +106,21 @@ wait_by s r =
     else Later))
 
 -- whether it executes at once
-abbrev pub patience_by : Core → Request → Patience
-patience_by s r =
+abbrev pub deferral_by : Core → Request → Deferral
+deferral_by s r =
     if opcode r == 0x02 && may_wait r then elim (refusal_to s.level (length s.sets) r) [ Some reply ↦ Now | None ↦ wait_by s r ]
     else Now
 
 abbrev pub with_waiting : Core → Request → Core
 with_waiting s r = record s { waiting = s.waiting ++ record { request = r; turn = lift (number_expected s.window) (cmd_sn r) - number_of_first s.window.first; event = s.taken - 1 } ∷ [] }
 
-abbrev pub immediate_as : Core → Request → Patience → Core
+abbrev pub immediate_as : Core → Request → Deferral → Core
 immediate_as s r Now = with_executed s r (s.taken - 1)
 immediate_as s r Later = with_waiting s r
 immediate_as s r TooFar = with_reply s (connection_of r)
 immediate_as s r TooMany = with_reply s (connection_of r)
 
-abbrev pub immediate_effects : Core → Request → Patience → List Effect
+abbrev pub immediate_effects : Core → Request → Deferral → List Effect
 immediate_effects s r Now = Immediate r ∷ executed_effects s r (s.taken - 1)
 immediate_effects s r Later = Wait r ∷ []
 immediate_effects s r TooFar = Immediate r ∷ reply_effects s (connection_of r) (Task (itt r) 255)

@@ -49,16 +49,16 @@ impl Session {
         ensures capacity { vec_capacity out.new ≡ vec_capacity out.old }
     {
         if self.is_open(request.conn()) {
-            self.take(request, out);
+            self.dispatch(request, out);
         } else {
             out.push_reserved(Effect::Ignore { why: Why::Closed });
         }
     }
 
-    /// Takes a request that arrived on an open connection.
+    /// Dispatches a request that arrived on an open connection, by its opcode.
     ///
     /// Rules: `arrival/data`, `arrival/unknown-opcode`, `arrival/immediate`.
-    fn take(&mut self, request: Request, out: &mut Vec<Effect>)
+    fn dispatch(&mut self, request: Request, out: &mut Vec<Effect>)
         requires known { known_in (connection_of request) self.old.conns ≡ true }
         requires counted { self.old.window.turned + count_by is_some self.old.window.places < self.old.taken }
         requires entered { self.old.entered + count_by is_some self.old.window.places < self.old.taken }
@@ -82,19 +82,19 @@ impl Session {
             Kind::Unknown => self.reject_opcode(&request, out),
             Kind::Executes => {
                 if request.immediate() {
-                    self.take_immediate(request, out);
-                    self.take_turns(out);
+                    self.receive_immediate(request, out);
+                    self.run_agenda(out);
                 } else {
-                    self.receive(request, out);
+                    self.receive_numbered(request, out);
                 }
             }
         }
     }
 
-    /// Takes a numbered request.
+    /// Offers a numbered request to the window, and delivers what becomes due by it.
     ///
     /// Rules: `arrival/outside`, `arrival/duplicate`, `arrival/held`.
-    fn receive(&mut self, request: Request, out: &mut Vec<Effect>)
+    fn receive_numbered(&mut self, request: Request, out: &mut Vec<Effect>)
         requires regular { is_immediate request ≡ false }
         requires known { known_in (connection_of request) self.old.conns ≡ true }
         requires counted { self.old.window.turned + count_by is_some self.old.window.places < self.old.taken }
@@ -114,7 +114,7 @@ impl Session {
         ensures capacity { vec_capacity out.new ≡ vec_capacity out.old }
     {
         match self.offer(&request) {
-            Offer::Held => self.take_turns(out),
+            Offer::Held => self.run_agenda(out),
             Offer::Outside => out.push_reserved(Effect::Ignore { why: Why::Outside }),
             Offer::Duplicate => out.push_reserved(Effect::Ignore {
                 why: Why::Duplicate,
@@ -143,8 +143,8 @@ impl Session {
         offer
     }
 
-    /// Takes the turns that are due.
-    fn take_turns(&mut self, out: &mut Vec<Effect>)
+    /// Runs the agenda: delivers each number that is due, and executes the functions that waited for it before.
+    fn run_agenda(&mut self, out: &mut Vec<Effect>)
         requires room { vec_len out.old + owed self.old.live self.old.sets
             + 6 * (count_by is_held self.old.window.places + length self.old.waiting) ≤ vec_capacity out.old }
         ensures settled { (o : Setting) (t : Trace) → Agrees o self.old t →
@@ -164,14 +164,14 @@ impl Session {
             + 6 * (count_by is_held self.old.window.places + length self.old.waiting) }
         ensures capacity { vec_capacity out.new ≡ vec_capacity out.old }
     {
-        self.take_functions(out);
-        while self.turn_next(out) {
-            self.take_functions(out);
+        self.execute_waiting(out);
+        while self.deliver_next(out) {
+            self.execute_waiting(out);
         }
     }
 
     /// Executes the functions that have waited for the next number.
-    fn take_functions(&mut self, out: &mut Vec<Effect>)
+    fn execute_waiting(&mut self, out: &mut Vec<Effect>)
         requires room { vec_len out.old + owed self.old.live self.old.sets + 6 * length self.old.waiting
             ≤ vec_capacity out.old }
         ensures agrees { (o : Setting) (t : Trace) → Agrees o self.old t →
@@ -187,11 +187,11 @@ impl Session {
             ≤ vec_len out.old + owed self.old.live self.old.sets + 6 * length self.old.waiting }
         ensures capacity { vec_capacity out.new ≡ vec_capacity out.old }
     {
-        while self.take_function(out) {}
+        while self.execute_next_waiting(out) {}
     }
 
-    /// Takes the turn of the next number, if it is received, and tells whether it was.
-    fn turn_next(&mut self, out: &mut Vec<Effect>) -> bool
+    /// Delivers the request of the next number, if that is received, and answers whether it was.
+    fn deliver_next(&mut self, out: &mut Vec<Effect>) -> bool
         requires room { vec_len out.old + owed self.old.live self.old.sets + 6 * count_by is_held self.old.window.places
             ≤ vec_capacity out.old }
         ensures answer { result ≡ is_some (at_place self.old.window 0) }

@@ -113,12 +113,12 @@ impl Session {
                 self.manage(request, number, event, out);
             }
             LOGOUT => self.log_out(request, out),
-            _ => self.obey(request, out),
+            _ => self.answer_or_enter(request, out),
         }
     }
 
-    /// Executes a request by the first case of its table that fits.
-    fn obey(&mut self, request: &Request, out: &mut Vec<Effect>)
+    /// Executes a request by the first case of its table that fits: it is answered, or enters a task set, or neither.
+    fn answer_or_enter(&mut self, request: &Request, out: &mut Vec<Effect>)
         requires space { is_immediate request.now ≡ false → HasRoom self.old.window }
         requires counted { self.old.entered + count_by is_some self.old.window.places < self.old.taken }
         requires known { known_in (connection_of request.now) self.old.conns ≡ true }
@@ -207,7 +207,7 @@ impl Session {
         ensures number { result ≡ stat_sn_on cid self.old.conns }
         ensures session { self.new ≡ record self.old { conns = count_reply cid self.old.conns } }
     {
-        self.connections.take_stat_sn(cid)
+        self.connections.assign_stat_sn(cid)
     }
 
     /// A command enters the set of a unit, which has room for it. No live command has its tag.

@@ -35,7 +35,7 @@ impl Session {
             &mut self.live,
             out,
         );
-        take_covered(&mut self.sets, unit, cover);
+        dequeue_covered(&mut self.sets, unit, cover);
     }
 
     /// The command of a unit with this ticket leaves.
@@ -48,7 +48,7 @@ impl Session {
             + owed self.old.live self.old.sets }
         ensures capacity { vec_capacity out.new ≡ vec_capacity out.old }
     {
-        let is_there = take_one(&mut self.sets, unit, ticket);
+        let is_there = dequeue_one(&mut self.sets, unit, ticket);
         end_one(
             is_there,
             unit,
@@ -60,8 +60,8 @@ impl Session {
         );
     }
 
-    /// A unit is told of the commands that became enabled.
-    pub(crate) fn tell_unit(&mut self, unit: u16, out: &mut Vec<Effect>)
+    /// The commands that became enabled are announced to their unit.
+    pub(crate) fn announce_enabled(&mut self, unit: u16, out: &mut Vec<Effect>)
         requires unit { unit < length self.old.sets }
         requires room { vec_len out.old + owed self.old.live self.old.sets ≤ vec_capacity out.old }
         ensures session { self.new ≡ with_given self.old unit }
@@ -70,12 +70,12 @@ impl Session {
             + owed self.old.live self.old.sets }
         ensures capacity { vec_capacity out.new ≡ vec_capacity out.old }
     {
-        sets::tell(&mut self.sets, unit, out);
+        sets::announce(&mut self.sets, unit, out);
     }
 }
 
 /// The covered commands leave the set of their unit.
-fn take_covered(sets: &mut [TaskSet], unit: u16, cover: &Cover)
+fn dequeue_covered(sets: &mut [TaskSet], unit: u16, cover: &Cover)
     requires { unit < length sets.old }
     ensures { sets.new ≡ slice_set sets.old unit
         (set_staying (is_covered cover.now) (slice_index_or sets.old unit (opened 0))) }
@@ -84,7 +84,7 @@ fn take_covered(sets: &mut [TaskSet], unit: u16, cover: &Cover)
 }
 
 /// The command with this ticket leaves the set of its unit: whether it was there.
-fn take_one(sets: &mut [TaskSet], unit: u16, ticket: u64) -> bool
+fn dequeue_one(sets: &mut [TaskSet], unit: u16, ticket: u64) -> bool
     requires { unit < length sets.old }
     ensures there { result ≡ has_covered (covers_ticket ticket) (slice_index_or sets.old unit (opened 0)) }
     ensures sets { sets.new ≡ slice_set sets.old unit

@@ -6,7 +6,7 @@ ghost use Rattle.iscsi_window.specs.Windows.{is_asked};
 ghost use Rattle.iscsi_history.specs.rules.Settings.{is_known as known_in};
 ghost use Rattle.iscsi_session.specs.promises.Standing.{is_held};
 ghost use Rattle.iscsi_session.specs.private.Functions.{owed};
-ghost use Rattle.iscsi_session.specs.private.Parting.{is_among_open, closing_by, closed_as, closed_effects, parted, parting_effects, cover_of as cover_named, covers_of, units_of, with_all_left, all_leaving_effects, with_emptied, is_clear_below, emptying_effects, with_dropped, ended_if, session_closes, with_closed, close_effects, with_all_given, all_enable_effects};
+ghost use Rattle.iscsi_session.specs.private.Closing.{is_among_open, closing_by, closed_as, closed_effects, logged_out, logout_effects, cover_of as cover_named, covers_of, units_of, with_all_left, all_leaving_effects, with_emptied, is_clear_below, emptying_effects, with_dropped, ended_if, session_closes, with_closed, close_effects, with_all_given, all_enable_effects};
 
 use crate::closing::Closing;
 use crate::session::Session;
@@ -56,8 +56,8 @@ impl Session {
     {
         match self.closing(request) {
             Closing::Refused(reply) => self.reply(request.conn(), reply, out),
-            Closing::Session => self.part(request, None, out),
-            Closing::Conn(conn) => self.part(request, Some(conn), out),
+            Closing::Session => self.carry_out_logout(request, None, out),
+            Closing::Conn(conn) => self.carry_out_logout(request, Some(conn), out),
         }
     }
 
@@ -92,97 +92,98 @@ impl Session {
         }
     }
 
-    /// Closes a connection, or the session for None. What of it is live, held or waits is over.
-    fn part(&mut self, request: &Request, whose: Option<u16>, out: &mut Vec<Effect>)
+    /// Carries a Logout out, of a connection or for None of the session: what of it is live leaves, what is held is
+    /// discarded, what waits is dropped, and it closes.
+    fn carry_out_logout(&mut self, request: &Request, scope: Option<u16>, out: &mut Vec<Effect>)
         requires known { known_in (connection_of request.now) self.old.conns ≡ true }
         requires room { vec_len out.old + owed self.old.live self.old.sets + 6 * count_by is_held self.old.window.places
             + 3 ≤ vec_capacity out.old }
-        ensures session { self.new ≡ parted self.old request.now whose }
-        ensures effects { out.new.items ≡ out.old.items ++ parting_effects self.old request.now whose }
+        ensures session { self.new ≡ logged_out self.old request.now scope }
+        ensures effects { out.new.items ≡ out.old.items ++ logout_effects self.old request.now scope }
         ensures spent { vec_len out.new + owed self.new.live self.new.sets + 6 * count_by is_held self.new.window.places
             ≤ vec_len out.old + owed self.old.live self.old.sets + 6 * count_by is_held self.old.window.places + 3 }
         ensures capacity { vec_capacity out.new ≡ vec_capacity out.old }
     {
-        self.leave_all(whose, out);
-        self.empty_all(whose, out);
-        self.drop_waiting(whose);
+        self.leave_all(scope, out);
+        self.empty_all(scope, out);
+        self.drop_waiting(scope);
         let itt = request.itt();
         let response = CLOSED;
         self.reply(request.conn(), Reply::Logout { itt, response }, out);
-        self.close(whose, out);
-        self.tell_all(out);
+        self.close(scope, out);
+        self.announce_all(out);
     }
 
     /// The live commands of a connection, or of all for None, leave: units ascending, the oldest first.
-    fn leave_all(&mut self, whose: Option<u16>, out: &mut Vec<Effect>)
+    fn leave_all(&mut self, scope: Option<u16>, out: &mut Vec<Effect>)
         requires room { vec_len out.old + owed self.old.live self.old.sets ≤ vec_capacity out.old }
-        ensures session { self.new ≡ with_all_left self.old (units_of self.old) (covers_of whose) }
+        ensures session { self.new ≡ with_all_left self.old (units_of self.old) (covers_of scope) }
         ensures effects { out.new.items ≡ out.old.items
-            ++ all_leaving_effects self.old (units_of self.old) (covers_of whose) }
+            ++ all_leaving_effects self.old (units_of self.old) (covers_of scope) }
         ensures spent { vec_len out.new + owed self.new.live self.new.sets ≤ vec_len out.old
             + owed self.old.live self.old.sets }
         ensures capacity { vec_capacity out.new ≡ vec_capacity out.old }
         ensures places { self.new.window.places ≡ self.old.window.places }
     {
-        let cover = cover_of(whose);
+        let cover = cover_of(scope);
         for unit in 0..self.units() {
             self.leave_covered(unit, &cover, out);
         }
     }
 
     /// The requests that are held of a connection, or of all for None, are taken out: numbers ascending.
-    fn empty_all(&mut self, whose: Option<u16>, out: &mut Vec<Effect>)
+    fn empty_all(&mut self, scope: Option<u16>, out: &mut Vec<Effect>)
         requires room { vec_len out.old + count_by is_held self.old.window.places ≤ vec_capacity out.old }
-        ensures session { self.new ≡ with_emptied self.old whose }
-        ensures effects { out.new.items ≡ out.old.items ++ emptying_effects self.old whose }
+        ensures session { self.new ≡ with_emptied self.old scope }
+        ensures effects { out.new.items ≡ out.old.items ++ emptying_effects self.old scope }
         ensures spent { vec_len out.new + count_by is_held self.new.window.places ≤ vec_len out.old
             + count_by is_held self.old.window.places }
         ensures capacity { vec_capacity out.new ≡ vec_capacity out.old }
     {
         for ahead in 0..self.window.size() {
-            self.empty_at(ahead, whose, out);
+            self.empty_at(ahead, scope, out);
         }
     }
 
     /// The request that is held `ahead` numbers after the expected one is taken out, if it is of the connection, or of any
     /// for None.
-    fn empty_at(&mut self, ahead: u32, whose: Option<u16>, out: &mut Vec<Effect>)
+    fn empty_at(&mut self, ahead: u32, scope: Option<u16>, out: &mut Vec<Effect>)
         requires room { vec_len out.old + count_by is_held self.old.window.places ≤ vec_capacity out.old }
-        requires lowest { is_clear_below whose ahead self.old.window.places ≡ true }
+        requires lowest { is_clear_below scope ahead self.old.window.places ≡ true }
         // What is still to be taken out is the rest of what was to be before.
-        ensures session { with_emptied self.new whose ≡ with_emptied self.old whose }
-        ensures effects { out.new.items ++ emptying_effects self.new whose ≡ out.old.items
-            ++ emptying_effects self.old whose }
-        ensures lowest { is_clear_below whose (ahead + 1) self.new.window.places ≡ true }
+        ensures session { with_emptied self.new scope ≡ with_emptied self.old scope }
+        ensures effects { out.new.items ++ emptying_effects self.new scope ≡ out.old.items
+            ++ emptying_effects self.old scope }
+        ensures lowest { is_clear_below scope (ahead + 1) self.new.window.places ≡ true }
         ensures long { length self.new.window.places ≡ length self.old.window.places }
         ensures spent { vec_len out.new + count_by is_held self.new.window.places ≤ vec_len out.old
             + count_by is_held self.old.window.places }
         ensures capacity { vec_capacity out.new ≡ vec_capacity out.old }
     {
-        if let Some(sn) = self.window.drop_at(ahead, whose) {
+        if let Some(sn) = self.window.drop_at(ahead, scope) {
             self.held -= 1;
             out.push_reserved(Effect::Empty { sn });
         }
     }
 
     /// The functions of a connection that wait, or of all for None, are dropped.
-    fn drop_waiting(&mut self, whose: Option<u16>)
-        ensures session { self.new ≡ with_dropped self.old whose }
+    fn drop_waiting(&mut self, scope: Option<u16>)
+        ensures session { self.new ≡ with_dropped self.old scope }
     {
         self.waiting
-            .retain(|function| !is_of(whose, function.request.conn()));
+            .retain(|function| !is_of(scope, function.request.conn()));
     }
 
     /// A connection is closed, or the session for None, and with the last connection the session.
-    fn close(&mut self, whose: Option<u16>, out: &mut Vec<Effect>)
+    fn close(&mut self, scope: Option<u16>, out: &mut Vec<Effect>)
         requires room { vec_len out.old + 2 ≤ vec_capacity out.old }
-        ensures session { self.new ≡ with_closed self.old whose }
-        ensures effects { out.new.items ≡ out.old.items ++ close_effects self.old whose }
+        ensures session { self.new ≡ with_closed self.old scope }
+        ensures effects { out.new.items ≡ out.old.items ++ close_effects self.old scope }
         ensures spent { vec_len out.new ≤ vec_len out.old + 2 }
         ensures capacity { vec_capacity out.new ≡ vec_capacity out.old }
     {
-        self.connections.close(whose);
-        if let Some(conn) = whose {
+        self.connections.close(scope);
+        if let Some(conn) = scope {
             out.push_reserved(Effect::CloseConn { conn });
         }
         self.end_if_last(out);
@@ -203,8 +204,8 @@ impl Session {
         out.push_reserved(Effect::CloseSession);
     }
 
-    /// Each unit is told of the commands that became enabled.
-    fn tell_all(&mut self, out: &mut Vec<Effect>)
+    /// The commands that became enabled are announced to each unit.
+    fn announce_all(&mut self, out: &mut Vec<Effect>)
         requires room { vec_len out.old + owed self.old.live self.old.sets ≤ vec_capacity out.old }
         ensures session { self.new ≡ with_all_given self.old }
         ensures effects { out.new.items ≡ out.old.items ++ all_enable_effects self.old }
@@ -213,7 +214,7 @@ impl Session {
         ensures capacity { vec_capacity out.new ≡ vec_capacity out.old }
     {
         for unit in 0..self.units() {
-            self.tell_unit(unit, out);
+            self.announce_enabled(unit, out);
         }
     }
 
@@ -234,20 +235,20 @@ fn refused(request: &Request, response: u8) -> Closing
 }
 
 /// Whether a connection is the one that is closed: each is for None.
-fn is_of(whose: Option<u16>, conn: u16) -> bool
-    ensures { result ≡ is_asked whose conn }
+fn is_of(scope: Option<u16>, conn: u16) -> bool
+    ensures { result ≡ is_asked scope conn }
 {
-    match whose {
+    match scope {
         Some(closing) => conn == closing,
         None => true,
     }
 }
 
 /// The commands of a connection, or all for None.
-fn cover_of(whose: Option<u16>) -> Cover
-    ensures { result ≡ cover_named whose }
+fn cover_of(scope: Option<u16>) -> Cover
+    ensures { result ≡ cover_named scope }
 {
-    match whose {
+    match scope {
         Some(conn) => Cover::Conn(conn),
         None => Cover::All,
     }

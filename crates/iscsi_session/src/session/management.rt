@@ -9,15 +9,15 @@ ghost use Rattle.iscsi_history.specs.rules.Management.{may_wait as may_wait_name
 ghost use Rattle.iscsi_session.specs.promises.Standing.{stat_sn_on, is_held};
 ghost use Rattle.iscsi_session.specs.private.Steps.{KeepsPace, with_reply, reply_effects};
 ghost use Rattle.iscsi_session.specs.private.Functions.{outcome_by, performed_as, performance_effects, owed};
-ghost use Rattle.iscsi_session.specs.private.Turning.{performed, performed_effects, managed, managed_effects, next_waiting, function_if, function_effects, wait_by, patience_by, with_waiting, immediate_as, immediate_effects};
+ghost use Rattle.iscsi_session.specs.private.Turning.{performed, performed_effects, managed, managed_effects, next_waiting, function_if, function_effects, wait_by, deferral_by, with_waiting, immediate_as, immediate_effects};
 
+use crate::deferral::Deferral;
 use crate::kind::TASK_MANAGEMENT;
 use crate::outcome::Outcome;
-use crate::patience::Patience;
 use crate::session::Session;
 use crate::session::execution::{INVALID_FIELD, NO_TAG, rejection};
 use crate::session::sets::{TOO_MANY_IMMEDIATE, unit_named};
-use crate::session::waiting::{MOST, Waiting, count_on, first_at, take_out};
+use crate::session::waiting::{MOST, Waiting, count_on, dequeue, first_at};
 use iscsi_history::Effect;
 use iscsi_wire::{Reply, Request, distance};
 
@@ -61,17 +61,17 @@ const NO_FUNCTION: u8 = 5;
 const REJECTED: u8 = 255;
 
 impl Session {
-    /// Takes an immediate request: it executes, or is a function that waits or is refused for its number.
-    pub(crate) fn take_immediate(&mut self, request: Request, out: &mut Vec<Effect>)
+    /// An immediate request executes, or is a function that is deferred or is refused for its number.
+    pub(crate) fn receive_immediate(&mut self, request: Request, out: &mut Vec<Effect>)
         requires immediate { is_immediate request ≡ true }
         requires known { known_in (connection_of request) self.old.conns ≡ true }
         requires turned { self.old.window.turned + count_by is_some self.old.window.places < self.old.taken }
         requires entered { self.old.entered + count_by is_some self.old.window.places < self.old.taken }
         requires room { vec_len out.old + owed self.old.live self.old.sets + 6 * count_by is_held self.old.window.places
             + 6 ≤ vec_capacity out.old }
-        ensures session { self.new ≡ immediate_as self.old request (patience_by self.old request) }
+        ensures session { self.new ≡ immediate_as self.old request (deferral_by self.old request) }
         ensures effects { out.new.items ≡ out.old.items
-            ++ immediate_effects self.old request (patience_by self.old request) }
+            ++ immediate_effects self.old request (deferral_by self.old request) }
         ensures pace { KeepsPace self.old.window self.new.window }
         ensures spent { vec_len out.new + owed self.new.live self.new.sets
             + 6 * (count_by is_held self.new.window.places + length self.new.waiting) ≤ vec_len out.old
@@ -80,23 +80,23 @@ impl Session {
         ensures capacity { vec_capacity out.new ≡ vec_capacity out.old }
     {
         let itt = request.itt();
-        match self.patience(&request) {
-            Patience::Now => self.execute_at_once(request, out),
-            Patience::Later => self.wait(request, out),
-            Patience::TooFar => {
+        match self.deferral(&request) {
+            Deferral::Now => self.execute_at_once(request, out),
+            Deferral::Later => self.wait(request, out),
+            Deferral::TooFar => {
                 let response = REJECTED;
                 self.refuse(request, Reply::Task { itt, response }, out);
             }
-            Patience::TooMany => {
+            Deferral::TooMany => {
                 self.refuse(request, rejection(&request, TOO_MANY_IMMEDIATE), out)
             }
         }
     }
 
-    /// Whether an immediate request executes at once.
-    fn patience(&self, request: &Request) -> Patience
+    /// Whether an immediate request executes at once or is deferred.
+    fn deferral(&self, request: &Request) -> Deferral
         requires { is_immediate request.now ≡ true }
-        ensures { result ≡ patience_by self.now request.now }
+        ensures { result ≡ deferral_by self.now request.now }
     {
         if request.opcode() == TASK_MANAGEMENT
             && may_wait(request)
@@ -104,32 +104,32 @@ impl Session {
         {
             self.wait_for(request)
         } else {
-            Patience::Now
+            Deferral::Now
         }
     }
 
     /// Whether a function over a whole set executes at once, by its number.
     ///
     /// Rules: `function/too-far`, `function/too-many`, `function/waits`, `function/executes`.
-    fn wait_for(&self, request: &Request) -> Patience
+    fn wait_for(&self, request: &Request) -> Deferral
         ensures { result ≡ wait_by self.now request.now }
     {
         let ahead = distance(self.window.exp(), request.cmd_sn());
         let room = self.window.size() - self.window.unfinished();
         if ahead > i64::from(room) {
-            Patience::TooFar
+            Deferral::TooFar
         } else if ahead <= 0 {
-            Patience::Now
+            Deferral::Now
         } else if MOST <= count_on(&self.waiting, request.conn()) {
-            Patience::TooMany
+            Deferral::TooMany
         } else {
-            Patience::Later
+            Deferral::Later
         }
     }
 
     /// A function waits for its number.
     fn wait(&mut self, request: Request, out: &mut Vec<Effect>)
-        requires later { patience_by self.old request ≡ Patience.Later }
+        requires later { deferral_by self.old request ≡ Deferral.Later }
         requires known { known_in (connection_of request) self.old.conns ≡ true }
         requires taken { 0 < self.old.taken }
         requires room { vec_len out.old + 1 ≤ vec_capacity out.old }
@@ -162,7 +162,7 @@ impl Session {
     }
 
     /// Executes a function that has waited for the next number, if there is one, and tells whether there was.
-    pub(crate) fn take_function(&mut self, out: &mut Vec<Effect>) -> bool
+    pub(crate) fn execute_next_waiting(&mut self, out: &mut Vec<Effect>) -> bool
         requires room { vec_len out.old + owed self.old.live self.old.sets + 6 * length self.old.waiting
             ≤ vec_capacity out.old }
         ensures answer { result ≡ is_some (next_waiting self.old) }
@@ -178,14 +178,14 @@ impl Session {
         let Some(function) = first_at(&self.waiting, number) else {
             return false;
         };
-        take_out(&mut self.waiting, function.event);
+        dequeue(&mut self.waiting, function.event);
         let request = function.request;
         out.push_reserved(Effect::Immediate { request });
         self.perform(&request, number as i64, function.event, out);
         true
     }
 
-    /// Executes a function, whose number less the first CmdSN is this one, and which arrived in this event.
+    /// Executes a function, scope number less the first CmdSN is this one, and which arrived in this event.
     pub(crate) fn manage(
         &mut self,
         request: &Request,
@@ -274,12 +274,12 @@ impl Session {
             Outcome::Abort(ticket) => {
                 self.leave_one(unit, ticket, out);
                 self.respond(request, COMPLETE, out);
-                self.tell_unit(unit, out);
+                self.announce_enabled(unit, out);
             }
             Outcome::AbortAll(cover) => {
                 self.leave_covered(unit, &cover, out);
                 self.respond(request, COMPLETE, out);
-                self.tell_unit(unit, out);
+                self.announce_enabled(unit, out);
             }
             Outcome::Empty(sn) => {
                 self.empty_number(sn, out);

@@ -121,8 +121,8 @@ pub(crate) fn leave(sets: &mut [TaskSet], command: &Live, out: &mut Vec<Effect>)
     enable_new(set, command.unit, out);
 }
 
-/// Tells a unit of the commands of its set that became enabled.
-pub(crate) fn tell(sets: &mut [TaskSet], unit: u16, out: &mut Vec<Effect>)
+/// Announces to a unit the commands of its set that became enabled.
+pub(crate) fn announce(sets: &mut [TaskSet], unit: u16, out: &mut Vec<Effect>)
     requires unit { unit < length sets.old }
     requires room { vec_len out.old + count_by is_new (slice_index_or sets.old unit (opened 0)).list
         ≤ vec_capacity out.old }
@@ -136,7 +136,7 @@ pub(crate) fn tell(sets: &mut [TaskSet], unit: u16, out: &mut Vec<Effect>)
     enable_new(set, unit, out);
 }
 
-/// Tells a unit of the commands that became enabled, the oldest first.
+/// Announces to a unit the commands that became enabled, the oldest first.
 pub(crate) fn enable_new(set: &mut TaskSet, unit: u16, out: &mut Vec<Effect>)
     requires room { vec_len out.old + count_by is_new set.old.list ≤ vec_capacity out.old }
     ensures set { set.new ≡ all_given set.old }

@@ -9,11 +9,14 @@ use std::alloc::Global;
 /// The most functions of a connection that wait.
 pub(crate) const MOST: usize = 4;
 
-/// A function that waits: its number less the first CmdSN, and the event in which it arrived.
+/// A function that waits for lower numbers.
 #[derive(Clone, Copy)]
 pub(crate) struct Waiting {
+    /// The function.
     pub(crate) request: Request,
+    /// Its number less the first CmdSN: it executes once as many numbers have turned.
     pub(crate) turn: u64,
+    /// The event in which it arrived, from 0.
     pub(crate) event: u64,
 }
 
@@ -42,8 +45,8 @@ fn place_at(waiting: &[Waiting], turn: u64) -> Option<usize>
     waiting.iter().position(|function| function.turn == turn)
 }
 
-/// Takes out the function that arrived in this event.
-pub(crate) fn take_out(waiting: &mut Vec<Waiting>, event: u64)
+/// Dequeues the function that arrived in this event.
+pub(crate) fn dequeue(waiting: &mut Vec<Waiting>, event: u64)
     ensures items { waiting.new.items ≡ filter (λ w. not (w.event == event)) waiting.old.items }
     ensures capacity { vec_capacity waiting.new ≡ vec_capacity waiting.old }
 {

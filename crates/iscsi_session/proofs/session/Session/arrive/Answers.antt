@@ -6,7 +6,7 @@ use Rattle.iscsi_history.specs.rules.Trace.{Mark, after_items, received}
 use Rattle.iscsi_history.specs.promises.Flow.{HasOneMore}
 use Rattle.iscsi_history.specs.rules.Run.{effects_of}
 use Rattle.iscsi_session.specs.promises.Standing.{Settled}
-use Rattle.iscsi_session.specs.private.Parting.{is_among_open}
+use Rattle.iscsi_session.specs.private.Closing.{is_among_open}
 use Rattle.iscsi_history.proofs.ListLemmas.{is_known-cids}
 use Rattle.iscsi_session.proofs.ArriveLemmas.{opened_arrival, closed_arrival, closed_receives}
 use Rattle.iscsi_session.proofs.session.Session.arrive.Goals as goal
@@ -15,19 +15,19 @@ pub returns-then-is_open-clause-settled : goal.returns-then-is_open-clause-settl
 returns-then-is_open-clause-settled c = λ o index t taken h.
     let known : is_known (connection_of c.args.request) o.conns ≡ true = sym (is_known-cids (connection_of c.args.request) c.args.self.now.conns o.conns h.agrees.replies.cids) ∙ c.requires.known in
     let there : is_among_open (connection_of c.args.request) c.args.self.now.open_conns ≡ true = ap (λ n. is_among_open n c.args.self.now.open_conns) (sym c.conn.ensures) ∙ sym c.is_open.ensures ∙ c.if-is_open.true in
-    subst (λ (items : List (List Mark)). Settled o c.take.new.self (after_items items t)) (sym (opened_arrival o c.args.self.now index t c.args.request h.agrees known there)) (c.take.ensures.settled o index t taken h)
+    subst (λ (items : List (List Mark)). Settled o c.dispatch.new.self (after_items items t)) (sym (opened_arrival o c.args.self.now index t c.args.request h.agrees known there)) (c.dispatch.ensures.settled o index t taken h)
 
 pub returns-then-is_open-clause-effects : goal.returns-then-is_open-clause-effects
 returns-then-is_open-clause-effects c = λ o index t taken h.
     let known : is_known (connection_of c.args.request) o.conns ≡ true = sym (is_known-cids (connection_of c.args.request) c.args.self.now.conns o.conns h.agrees.replies.cids) ∙ c.requires.known in
     let there : is_among_open (connection_of c.args.request) c.args.self.now.open_conns ≡ true = ap (λ n. is_among_open n c.args.self.now.open_conns) (sym c.conn.ensures) ∙ sym c.is_open.ensures ∙ c.if-is_open.true in
-    c.take.ensures.effects o index t taken h ∙ ap (λ (items : List (List Mark)). c.args.out.now.items ++ effects_of o t items) (sym (opened_arrival o c.args.self.now index t c.args.request h.agrees known there))
+    c.dispatch.ensures.effects o index t taken h ∙ ap (λ (items : List (List Mark)). c.args.out.now.items ++ effects_of o t items) (sym (opened_arrival o c.args.self.now index t c.args.request h.agrees known there))
 
 pub returns-then-is_open-clause-received : goal.returns-then-is_open-clause-received
 returns-then-is_open-clause-received c = λ o index t taken h.
     let known : is_known (connection_of c.args.request) o.conns ≡ true = sym (is_known-cids (connection_of c.args.request) c.args.self.now.conns o.conns h.agrees.replies.cids) ∙ c.requires.known in
     let there : is_among_open (connection_of c.args.request) c.args.self.now.open_conns ≡ true = ap (λ n. is_among_open n c.args.self.now.open_conns) (sym c.conn.ensures) ∙ sym c.is_open.ensures ∙ c.if-is_open.true in
-    subst (λ (items : List (List Mark)). HasOneMore (received t) (received (after_items items t))) (sym (opened_arrival o c.args.self.now index t c.args.request h.agrees known there)) (c.take.ensures.received o index t taken h)
+    subst (λ (items : List (List Mark)). HasOneMore (received t) (received (after_items items t))) (sym (opened_arrival o c.args.self.now index t c.args.request h.agrees known there)) (c.dispatch.ensures.received o index t taken h)
 
 pub returns-else-is_open-clause-settled : goal.returns-else-is_open-clause-settled
 returns-else-is_open-clause-settled c = λ o index t taken h.

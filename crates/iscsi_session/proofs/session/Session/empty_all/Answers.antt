@@ -36,7 +36,7 @@ returns-clause-session c =
     let inv = c.loop-ahead.invariant in
     let s : Core = c.loop-ahead.self in
     let end : c.loop-ahead.ahead ≡ length s.window.places = omega (arith, c.loop-ahead-test.false, c.loop-ahead.auto.ahead-end, inv.long) in
-    let none : DroppedAll s.window c.args.whose = dropped_all s.window c.args.whose c.loop-ahead.ahead end inv.clear in
+    let none : DroppedAll s.window c.args.scope = dropped_all s.window c.args.scope c.loop-ahead.ahead end inv.clear in
     sym (ap (λ (ps : List (Option (Option Request))). let u : Core = record s { window = let w : Received = record s.window { places = ps } in w } in u) none.rest) ∙ inv.session
 
 pub returns-clause-effects : goal.returns-clause-effects
@@ -44,5 +44,5 @@ returns-clause-effects c =
     let inv = c.loop-ahead.invariant in
     let s : Core = c.loop-ahead.self in
     let end : c.loop-ahead.ahead ≡ length s.window.places = omega (arith, c.loop-ahead-test.false, c.loop-ahead.auto.ahead-end, inv.long) in
-    let none : DroppedAll s.window c.args.whose = dropped_all s.window c.args.whose c.loop-ahead.ahead end inv.clear in
+    let none : DroppedAll s.window c.args.scope = dropped_all s.window c.args.scope c.loop-ahead.ahead end inv.clear in
     sym (append-nil c.loop-ahead.out.items) ∙ ap (λ (es : List Effect). c.loop-ahead.out.items ++ es) (sym none.effects) ∙ inv.effects

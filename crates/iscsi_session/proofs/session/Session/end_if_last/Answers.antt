@@ -1,7 +1,7 @@
 use Rattle.std.proofs.Common.{◌==◌, ◌<◌, ◌≡◌, ℕ, false, length, arith, refl, List, [], ◌∷◌}
 use Rattle.std.proofs.lemmas.Bool.Decides.{nat_tests}
 use Rattle.iscsi_session.specs.declared.session.waiting.Waiting.{Waiting}
-use Rattle.iscsi_session.specs.private.Parting.{session_closes, waiting_then}
+use Rattle.iscsi_session.specs.private.Closing.{session_closes, waiting_then}
 
 above : (n : ℕ) → (n == 0) ≡ false → 0 < n
 above n h = grind (arith, nat_tests)

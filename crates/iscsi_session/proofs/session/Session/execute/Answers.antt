@@ -1,9 +1,9 @@
 use Rattle.std.proofs.Common.{◌≡◌, ap, sym, subst, arith, length, count_by}
 use Rattle.iscsi_session.specs.promises.Standing.{Core, is_held}
 use Rattle.iscsi_session.specs.private.Steps.{verdict_by}
-use Rattle.iscsi_session.specs.private.Parting.{closing_by}
-use Rattle.iscsi_session.proofs.ManageLemmas.{Eased, managed_eased, managed_waiting, obeyed_places, obeyed_waiting}
-use Rattle.iscsi_session.proofs.PartedLemmas.{closed_parts}
+use Rattle.iscsi_session.specs.private.Closing.{closing_by}
+use Rattle.iscsi_session.proofs.ManageLemmas.{Eased, managed_eased, managed_waiting, answered_places, answered_waiting}
+use Rattle.iscsi_session.proofs.LoggedOutLemmas.{closed_parts}
 use Rattle.iscsi_session.proofs.session.Session.execute.Goals as goal
 
 pub returns-in-2-clause-spent : goal.returns-in-2-clause-spent
@@ -26,9 +26,9 @@ returns-in-6-clause-waiting c =
 pub returns-in_default-clause-spent : goal.returns-in_default-clause-spent
 returns-in_default-clause-spent c =
     let s : Core = c.args.self.now in
-    omega (arith, c.obey.ensures.spent, ap (λ (v : Core). count_by is_held v.window.places) c.obey.ensures.session, ap (count_by is_held) (obeyed_places s c.args.request.now (verdict_by s c.args.request.now)))
+    omega (arith, c.answer_or_enter.ensures.spent, ap (λ (v : Core). count_by is_held v.window.places) c.answer_or_enter.ensures.session, ap (count_by is_held) (answered_places s c.args.request.now (verdict_by s c.args.request.now)))
 
 pub returns-in_default-clause-waiting : goal.returns-in_default-clause-waiting
 returns-in_default-clause-waiting c =
     let s : Core = c.args.self.now in
-    omega (arith, ap (λ (v : Core). length v.waiting) c.obey.ensures.session, ap length (obeyed_waiting s c.args.request.now (verdict_by s c.args.request.now)))
+    omega (arith, ap (λ (v : Core). length v.waiting) c.answer_or_enter.ensures.session, ap length (answered_waiting s c.args.request.now (verdict_by s c.args.request.now)))

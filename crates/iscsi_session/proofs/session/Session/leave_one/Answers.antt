@@ -21,7 +21,7 @@ end_one-requires-clause-there c = λ on.
     let u = c.args.unit in
     let k = c.args.ticket in
     let inside : u < length i.sets.items = omega (arith, c.requires.unit, ap (λ (x : Core). length x.sets) c.self.view_is) in
-    let there = was_there i.sets.items c.deref_mut.result.now u k c.take_one-is_there.result c.deref_mut.ensures.value c.take_one-is_there.ensures.there in
+    let there = was_there i.sets.items c.deref_mut.result.now u k c.dequeue_one-is_there.result c.deref_mut.ensures.value c.dequeue_one-is_there.ensures.there in
     one_found k u (get_or i.sets.items u (opened 0)) i.live.items (c.self.invariant.commands.in_sets u inside) (sym there ∙ on)
 
 pub invariant_of-self : goal.invariant_of-self
@@ -32,8 +32,8 @@ invariant_of-self c =
     let covers : Task → Bool = covers_ticket k in
     let now : Members = get_or i.sets.items u (opened 0) in
     let inside : u < length i.sets.items = omega (arith, c.requires.unit, ap (λ (x : Core). length x.sets) c.self.view_is) in
-    let there = was_there i.sets.items c.deref_mut.result.now u k c.take_one-is_there.result c.deref_mut.ensures.value c.take_one-is_there.ensures.there in
-    let w : Written u i.sets.len covers i.sets.items c.take_one-is_there.new.sets = sets_written u i.sets.len covers i.sets.items c.deref_mut.result.now c.take_one-is_there.new.sets i.sets.ok.0 c.deref_mut.ensures.value c.take_one-is_there.ensures.sets in
+    let there = was_there i.sets.items c.deref_mut.result.now u k c.dequeue_one-is_there.result c.deref_mut.ensures.value c.dequeue_one-is_there.ensures.there in
+    let w : Written u i.sets.len covers i.sets.items c.dequeue_one-is_there.new.sets = sets_written u i.sets.len covers i.sets.items c.deref_mut.result.now c.dequeue_one-is_there.new.sets i.sets.ok.0 c.deref_mut.ensures.value c.dequeue_one-is_there.ensures.sets in
     left_sound c.self.invariant u covers inside (ap (λ (x : Connected). x.conns) c.end_one.ensures.connections) c.end_one.ensures.window
     (c.end_one.ensures.live ∙ ap (λ b. cond b (without_ticket k i.live.items) i.live.items) there ∙ one_live k now i.live.items) w.now c.end_one.ensures.counted c.end_one.ensures.live_capacity
 
@@ -44,9 +44,9 @@ returns-clause-session c =
     let u = c.args.unit in
     let k = c.args.ticket in
     let covers : Task → Bool = covers_ticket k in
-    let there = was_there i.sets.items c.deref_mut.result.now u k c.take_one-is_there.result c.deref_mut.ensures.value c.take_one-is_there.ensures.there in
-    let w : Written u i.sets.len covers i.sets.items c.take_one-is_there.new.sets = sets_written u i.sets.len covers i.sets.items c.deref_mut.result.now c.take_one-is_there.new.sets i.sets.ok.0 c.deref_mut.ensures.value c.take_one-is_there.ensures.sets in
-    left_is s u covers c.end_one.new.connections c.end_one.new.window c.end_one.new.live.items (take i.sets.len (c.take_one-is_there.new.sets ++ drop (length c.take_one-is_there.new.sets) i.sets.items))
+    let there = was_there i.sets.items c.deref_mut.result.now u k c.dequeue_one-is_there.result c.deref_mut.ensures.value c.dequeue_one-is_there.ensures.there in
+    let w : Written u i.sets.len covers i.sets.items c.dequeue_one-is_there.new.sets = sets_written u i.sets.len covers i.sets.items c.deref_mut.result.now c.dequeue_one-is_there.new.sets i.sets.ok.0 c.deref_mut.ensures.value c.dequeue_one-is_there.ensures.sets in
+    left_is s u covers c.end_one.new.connections c.end_one.new.window c.end_one.new.live.items (take i.sets.len (c.dequeue_one-is_there.new.sets ++ drop (length c.dequeue_one-is_there.new.sets) i.sets.items))
     (ap (λ (x : Connected). x.conns) c.end_one.ensures.connections) (ap (λ (x : Connected). x.open_conns) c.end_one.ensures.connections) c.end_one.ensures.window
     (c.end_one.ensures.live ∙ ap (λ b. cond b (without_ticket k i.live.items) i.live.items) there ∙ one_live k (get_or i.sets.items u (opened 0)) i.live.items) w.now
     ∙ ap (λ (x : Core). with_left x u covers) c.self.view_is
@@ -59,7 +59,7 @@ returns-clause-effects c =
     let covers : Task → Bool = covers_ticket k in
     let now : Members = get_or i.sets.items u (opened 0) in
     let inside : u < length i.sets.items = omega (arith, c.requires.unit, ap (λ (x : Core). length x.sets) c.self.view_is) in
-    let there = was_there i.sets.items c.deref_mut.result.now u k c.take_one-is_there.result c.deref_mut.ensures.value c.take_one-is_there.ensures.there in
+    let there = was_there i.sets.items c.deref_mut.result.now u k c.dequeue_one-is_there.result c.deref_mut.ensures.value c.dequeue_one-is_there.ensures.there in
     c.end_one.ensures.effects
     ∙ ap (λ b. c.args.out.now.items ++ cond b (Leave k u ∷ []) []) there
     ∙ ap (λ (es : List Effect). c.args.out.now.items ++ es) (one_leaves k u now.list (rises i.sets.items i.live.items u covers inside c.self.invariant.commands.in_sets c.self.invariant.commands.ascending))
@@ -71,5 +71,5 @@ returns-clause-spent c =
     let u = c.args.unit in
     let covers : Task → Bool = covers_ticket c.args.ticket in
     let inside : u < length i.sets.items = omega (arith, c.requires.unit, ap (λ (x : Core). length x.sets) c.self.view_is) in
-    let w : Written u i.sets.len covers i.sets.items c.take_one-is_there.new.sets = sets_written u i.sets.len covers i.sets.items c.deref_mut.result.now c.take_one-is_there.new.sets i.sets.ok.0 c.deref_mut.ensures.value c.take_one-is_there.ensures.sets in
+    let w : Written u i.sets.len covers i.sets.items c.dequeue_one-is_there.new.sets = sets_written u i.sets.len covers i.sets.items c.deref_mut.result.now c.dequeue_one-is_there.new.sets i.sets.ok.0 c.deref_mut.ensures.value c.dequeue_one-is_there.ensures.sets in
     omega (arith, c.end_one.ensures.spent, ap ungiven_in w.now, ungiven_in-staying i.sets.items u covers inside, ap (λ (x : Core). owed x.live x.sets) c.self.view_is)

@@ -1,0 +1,26 @@
+use Rattle.std.proofs.Common.{◌≡◌, ◌≤◌, ◌+◌, ◌*◌, length, vec_len, vec_capacity}
+use Rattle.iscsi_window.specs.Windows.{number_expected}
+use Rattle.iscsi_history.specs.rules.Settings.{Setting}
+use Rattle.iscsi_history.specs.rules.Trace.{Trace}
+use Rattle.iscsi_history.specs.rules.Items.{functions_at}
+use Rattle.iscsi_session.specs.promises.Standing.{Agrees}
+use Rattle.iscsi_session.specs.private.Steps.{KeepsPace}
+use Rattle.iscsi_session.specs.private.Functions.{owed}
+use Rattle.iscsi_session.proofs.AgendaLemmas.{Leads, left_functions}
+use Rattle.iscsi_session.proofs.session.Session.execute_waiting.Given as goal
+
+-- those that executed and those that wait still are the whole
+abbrev pub invariant-loop : goal.invariant-loop
+invariant-loop l = record {
+  due : (o : Setting) (t : Trace) → Agrees o l.initial.self t → Leads o t l.initial.out.items (functions_at o (number_expected l.initial.self.window) t) l.self l.out.items (left_functions o l.self);
+  places : l.self.window.places ≡ l.initial.self.window.places;
+  turned : l.self.window.turned ≡ l.initial.self.window.turned;
+  first : l.self.window.first ≡ l.initial.self.window.first;
+  taken : l.self.taken ≡ l.initial.self.taken;
+  pace : KeepsPace l.initial.self.window l.self.window;
+  spent : vec_len l.out + owed l.self.live l.self.sets + 6 * length l.self.waiting ≤ vec_len l.initial.out + owed l.initial.self.live l.initial.self.sets + 6 * length l.initial.self.waiting;
+  capacity : vec_capacity l.out ≡ vec_capacity l.initial.out;
+}
+
+abbrev pub decreases-loop : goal.decreases-loop
+decreases-loop l = length l.self.waiting
