@@ -1,5 +1,5 @@
 -- Tests joined by "and" and "or".
-use Rattle.std.proofs.Common.{◌≡◌, ◌&&◌, ◌||◌, not, Bool, true, false, refl, sym}
+use Rattle.std.proofs.Common.{◌≡◌, ◌&&◌, ◌||◌, not, Bool, true, false, refl, sym, ap, cond}
 use Rattle.std.proofs.lemmas.Bool.{false≢true}
 
 pub and_parts : (a b : Bool) → (a && b) ≡ true → (a ≡ true) × (b ≡ true)
@@ -57,3 +57,22 @@ or_false false = refl
 pub not_true : (b : Bool) → not b ≡ true → b ≡ false
 not_true true h = absurd (false≢true h)
 not_true false h = refl
+
+pub not_flip : (b v : Bool) → v ≡ not b → b ≡ not v
+not_flip true v is = ap not (sym is)
+not_flip false v is = ap not (sym is)
+
+abbrev pub alike : Bool → Bool → Bool
+alike a b = cond a b (not b)
+
+pub alike_same : (a b : Bool) → alike a b ≡ true → a ≡ b
+alike_same true true h = refl
+alike_same true false h = absurd (false≢true h)
+alike_same false true h = absurd (false≢true h)
+alike_same false false h = refl
+
+pub same_alike : (a b : Bool) → a ≡ b → alike a b ≡ true
+same_alike true true h = refl
+same_alike true false h = absurd (false≢true (sym h))
+same_alike false true h = absurd (false≢true h)
+same_alike false false h = refl

@@ -1,8 +1,9 @@
 -- How many of a list pass tests, one weaker than the other.
-use Rattle.std.proofs.Common.{◌≡◌, ℕ, ◌+◌, ◌≤◌, ◌&&◌, not, ⊎_elim, cond, Bool, true, false, List, [], ◌∷◌, filter, count_by, refl, ap, sym, ◌∙◌, arith}
+use Rattle.std.proofs.Common.{◌≡◌, ℕ, ◌+◌, ◌≤◌, ◌&&◌, not, ⊎_elim, cond, Bool, true, false, List, [], ◌∷◌, filter, count_by, refl, ap, sym, ◌∙◌, arith, length, ◌<◌, get_or, set, suc, zero, Some, find, ◌++◌, None, Option, drop, replicate}
 use Rattle.std.proofs.lemmas.Bool.{false≢true}
-use Rattle.std.proofs.lemmas.List.Sums.{sum_by-cons}
+use Rattle.std.proofs.lemmas.List.Sums.{sum_by-cons, sum_by-append}
 use Rattle.iscsi_history.proofs.ElementLemmas.{In}
+use Rattle.std.specs.List.{range_with_len}
 
 -- what a test counts for
 abbrev pub one : Bool → ℕ
@@ -66,3 +67,92 @@ pub count-split : {A : Type 0} (p q : A → Bool) (xs : List A) → count_by (λ
 count-split p q [] = refl
 count-split p q (x ∷ xs) =
     omega (arith, count-cons p x xs, count-cons (λ y. q y && p y) x xs, count-cons (λ y. not (q y) && p y) x xs, split_one (q x) (p x), count-split p q xs)
+
+pub few_counted : {A : Type 0} (p : A → Bool) (xs : List A) → count_by p xs ≤ length xs
+few_counted p [] = omega arith
+few_counted p (x ∷ xs) =
+    let is : count_by p (x ∷ xs) ≡ cond (p x) 1 0 + count_by p xs = sum_by-cons (λ y. cond (p y) 1 0) x xs in
+    let rest : count_by p xs ≤ length xs = few_counted p xs in
+    let one : cond (p x) 1 0 ≤ 1 = elim (p x) as (λ b. cond b 1 0 ≤ 1) [ true ↦ omega arith | false ↦ omega arith ] in
+    omega (arith, is, rest, one)
+
+-- one element more that counts
+pub count_set : {A : Type 0} (p : A → Bool) (ps : List A) (k : ℕ) (x d : A) → k < length ps → p (get_or ps k d) ≡ false → p x ≡ true → count_by p (set ps k x) ≡ count_by p ps + 1
+count_set p [] k x d lt before now = absurd (omega arith)
+count_set p (y ∷ ps) zero x d lt before now =
+    let new : count_by p (x ∷ ps) ≡ 1 + count_by p ps = sum_by-cons (λ z. cond (p z) 1 0) x ps ∙ ap (λ b. cond b 1 0 + count_by p ps) now in
+    let old : count_by p (y ∷ ps) ≡ 0 + count_by p ps = sum_by-cons (λ z. cond (p z) 1 0) y ps ∙ ap (λ b. cond b 1 0 + count_by p ps) before in
+    omega (arith, new, old)
+count_set p (y ∷ ps) (suc k) x d lt before now =
+    let new : count_by p (y ∷ set ps k x) ≡ cond (p y) 1 0 + count_by p (set ps k x) = sum_by-cons (λ z. cond (p z) 1 0) y (set ps k x) in
+    let old : count_by p (y ∷ ps) ≡ cond (p y) 1 0 + count_by p ps = sum_by-cons (λ z. cond (p z) 1 0) y ps in
+    let rest : count_by p (set ps k x) ≡ count_by p ps + 1 = count_set p ps k x d (omega arith) before now in
+    omega (arith, new, old, rest)
+
+pub at_most : {A : Type 0} (p : A → Bool) (ys : List A) → length (filter (λ z. not (p z)) ys) ≤ length ys
+at_most p [] = omega arith
+at_most p (z ∷ ys) =
+    let rest : length (filter (λ w. not (p w)) ys) ≤ length ys = at_most p ys in
+    elim (p z) as (λ b. length (cond (not b) (z ∷ filter (λ w. not (p w)) ys) (filter (λ w. not (p w)) ys)) ≤ suc (length ys)) [
+      | true ↦ omega (arith, rest)
+      | false ↦ omega (arith, rest)
+    ]
+
+-- at least one command fewer
+pub fewer : {A : Type 0} (p : A → Bool) (xs : List A) (x : A) → find p xs ≡ Some x → length (filter (λ y. not (p y)) xs) + 1 ≤ length xs
+fewer p [] x h = absurd cc
+fewer p (y ∷ xs) x h =
+    elim (p y) as (λ b. cond b (Some y) (find p xs) ≡ Some x → length (cond (not b) (y ∷ filter (λ z. not (p z)) xs) (filter (λ z. not (p z)) xs)) + 1 ≤ suc (length xs)) [
+      | true ↦ λ here. omega (arith, at_most p xs)
+      | false ↦ λ later. omega (arith, fewer p xs x later)
+    ] h
+
+pub count_shift : {A : Type 0} (p : Option A → Bool) (x : A) (ps : List (Option A)) → p None ≡ false → get_or ps 0 None ≡ Some x → count_by p (drop 1 ps ++ None ∷ []) + cond (p (Some x)) 1 0 ≡ count_by p ps
+count_shift p x [] none found = absurd cc
+count_shift p x (y ∷ ps) none found =
+    let first : count_by p (y ∷ ps) ≡ cond (p y) 1 0 + count_by p ps = sum_by-cons (λ z. cond (p z) 1 0) y ps in
+    let last : count_by p (ps ++ None ∷ []) ≡ count_by p ps + count_by p (None ∷ []) = sum_by-append (λ z. cond (p z) 1 0) ps (None ∷ []) in
+    let gone : count_by p (None ∷ []) ≡ 0 + 0 = sum_by-cons (λ z. cond (p z) 1 0) None [] ∙ ap (λ b. cond b 1 0 + 0) none in
+    omega (arith, first, last, gone, ap {B = ℕ} (λ z. cond (p z) 1 0) found)
+
+-- another element at a place
+pub count_replaced : {A : Type 0} (p : A → Bool) (ps : List A) (k : ℕ) (x d : A) → k < length ps → count_by p (set ps k x) + cond (p (get_or ps k d)) 1 0 ≡ count_by p ps + cond (p x) 1 0
+count_replaced p [] k x d lt = absurd (omega arith)
+count_replaced p (y ∷ ps) zero x d lt =
+    let new : count_by p (x ∷ ps) ≡ cond (p x) 1 0 + count_by p ps = sum_by-cons (λ z. cond (p z) 1 0) x ps in
+    let old : count_by p (y ∷ ps) ≡ cond (p y) 1 0 + count_by p ps = sum_by-cons (λ z. cond (p z) 1 0) y ps in
+    omega (arith, new, old)
+count_replaced p (y ∷ ps) (suc k) x d lt =
+    let new : count_by p (y ∷ set ps k x) ≡ cond (p y) 1 0 + count_by p (set ps k x) = sum_by-cons (λ z. cond (p z) 1 0) y (set ps k x) in
+    let old : count_by p (y ∷ ps) ≡ cond (p y) 1 0 + count_by p ps = sum_by-cons (λ z. cond (p z) 1 0) y ps in
+    let rest : count_by p (set ps k x) + cond (p (get_or ps k d)) 1 0 ≡ count_by p ps + cond (p x) 1 0 = count_replaced p ps k x d (omega arith) in
+    omega (arith, new, old, rest)
+
+-- at least the one that is found is left out
+pub fewer_left : {A : Type 0} (p q : A → Bool) (xs : List A) (x : A) → find p xs ≡ Some x → q x ≡ true → length (filter (λ y. not (q y)) xs) + 1 ≤ length xs
+fewer_left p q [] x found is = absurd cc
+fewer_left p q (y ∷ xs) x found is =
+    elim (p y) as (λ b. cond b (Some y) (find p xs) ≡ Some x → length (filter (λ z. not (q z)) (y ∷ xs)) + 1 ≤ suc (length xs)) [
+      | true ↦ λ here.
+          let same : y ≡ x = cc in
+          let out : q y ≡ true = ap q same ∙ is in
+          omega (arith, at_most q xs, ap (λ b. length (cond (not b) (y ∷ filter (λ z. not (q z)) xs) (filter (λ z. not (q z)) xs))) out)
+      | false ↦ λ there.
+          let rest : length (filter (λ z. not (q z)) xs) + 1 ≤ length xs = fewer_left p q xs x there is in
+          elim (q y) as (λ b. length (cond (not b) (y ∷ filter (λ z. not (q z)) xs) (filter (λ z. not (q z)) xs)) + 1 ≤ suc (length xs)) [
+            | true ↦ omega (arith, rest)
+            | false ↦ omega (arith, rest)
+          ]
+    ] found
+
+pub none_counted : {A : Type 0} (p : Option A → Bool) (n : ℕ) → p None ≡ false → count_by p (replicate n None) ≡ 0
+none_counted p zero h = refl
+none_counted p (suc n) h = sum_by-cons (λ y. cond (p y) 1 0) None (replicate n None) ∙ ap (λ b. cond b 1 0 + count_by p (replicate n None)) h ∙ (let rest : count_by p (replicate n None) ≡ 0 = none_counted p n h in omega (arith, rest))
+
+pub count_places : {A : Type 0} (p : Option A → Bool) (q : ℕ → Bool) (ps : List (Option A)) (e : ℕ) → ((k : ℕ) → k < length ps → p (get_or ps k None) ≡ q (e + k)) → count_by p ps ≡ count_by q (range_with_len e (length ps))
+count_places p q [] e h = refl
+count_places p q (x ∷ ps) e h =
+    sum_by-cons (λ y. cond (p y) 1 0) x ps
+    ∙ ap (λ b. cond b 1 0 + count_by p ps) (h 0 (omega arith) ∙ ap q (let z : e + 0 ≡ e = omega arith in z))
+    ∙ ap (λ n. cond (q e) 1 0 + n) (count_places p q ps (e + 1) (λ k lt. h (suc k) (omega arith) ∙ ap q (let z : e + suc k ≡ e + 1 + k = omega arith in z)))
+    ∙ sym (sum_by-cons (λ n. cond (q n) 1 0) e (range_with_len (e + 1) (length ps)))

@@ -1,12 +1,20 @@
 -- Which requests are held, and which are due.
-use Rattle.std.proofs.Common.{◌≡◌, ℕ, ◌==◌, ◌||◌, ◌⊎◌, inl, inr, ⊎_elim, cond, Bool, true, false, List, [], ◌∷◌, ◌++◌, Option, Some, None, option_map, refl, ap, sym, ◌∙◌, eq-eqb}
+use Rattle.std.proofs.Common.{◌≡◌, ℕ, ◌==◌, ◌||◌, ◌⊎◌, inl, inr, ⊎_elim, cond, Bool, true, false, List, [], ◌∷◌, ◌++◌, Option, Some, None, option_map, refl, ap, sym, ◌∙◌, eq-eqb, ◌&&◌, ◌<◌, arith, nat_lt}
 use Rattle.std.specs.List.{list_any, filter_map, cons_option}
 use Rattle.std.proofs.lemmas.Bool.{eqb-true}
 use Rattle.std.proofs.lemmas.List.{append-nil}
-use Rattle.iscsi_history.specs.rules.Trace.{Arrival, Mark, Admits, Delivers, Executes, Voids, Empties, Waits, Leaves, Enters, Sends, ClosesConn, ClosesSession, Ignores, Trace, shown, first_of, is_received, is_delivered, is_emptied, held, admitted, admits_at, delivers_number}
+use Rattle.iscsi_history.specs.rules.Trace.{Arrival, Mark, Admits, Delivers, Executes, Voids, Empties, Waits, Leaves, Enters, Sends, ClosesConn, ClosesSession, Ignores, Trace, shown, first_of, is_received, is_delivered, is_emptied, held, admitted, admits_at, delivers_number, received, empties_number}
 use Rattle.iscsi_history.specs.promises.Executed.{request_at}
 use Rattle.iscsi_history.proofs.TraceLemmas.{unadmitted}
 use Rattle.iscsi_history.proofs.DeliveryLemmas.{IsQuiet}
+use Rattle.std.proofs.lemmas.List.Folds.{list_any-append}
+use Rattle.iscsi_history.proofs.BoolLemmas.{or_false, and_first}
+use Rattle.iscsi_wire.specs.declared.request.Request.{Request}
+use Rattle.iscsi_history.specs.rules.Settings.{Setting}
+use Rattle.iscsi_history.proofs.ListLemmas.{first_itself}
+use Rattle.iscsi_history.specs.rules.Management.{held_command, held_requests, is_to}
+use Rattle.iscsi_wire.specs.Fields.{itt, opcode}
+use Rattle.std.proofs.lemmas.Bool.Decides.{nat_tests}
 
 -- ---- who was admitted at a number
 
@@ -112,3 +120,59 @@ admitted-cases t a n b h =
     this : (v : Bool) → first_of (cons_option (cond v (Some a) None) []) ≡ Some b → a ≡ b
     this true h = cc
     this false h = absurd cc
+
+-- ---- what is held was received
+
+pub held_received : (t : Trace) (n : ℕ) (h : Arrival) → held t n ≡ Some h → is_received t n ≡ true
+held_received t n h is = by_test (is_received t n) refl
+  where
+    by_test : (b : Bool) → is_received t n ≡ b → is_received t n ≡ true
+    by_test true said = said
+    by_test false said = absurd (let none : None ≡ Some h = sym (ap first_of (unadmitted n t said)) ∙ admitted_of_held t n h is in cc)
+
+-- what isn't received isn't held
+pub unreceived_unheld : (t : Trace) (n : ℕ) → is_received t n ≡ false → held t n ≡ None
+unreceived_unheld t n gone =
+    ap (λ xs. cond (is_delivered t n || is_emptied t n) None (first_of xs)) (unadmitted n t gone)
+    ∙ elim (is_delivered t n || is_emptied t n) as (λ b. (let x : Option Arrival = cond b None None in x) ≡ None) [ true ↦ refl | false ↦ refl ]
+
+-- ---- an admission
+
+-- the numbers received after an admission
+pub received-admits : (t : Trace) (a : Arrival) (k : ℕ) → is_received ((Admits a ∷ []) ∷ t) k ≡ (is_received t k || (a.number == k))
+received-admits t a k = list_any-append (λ n. n == k) (received t) (a.number ∷ []) ∙ ap (λ b. is_received t k || b) (or_false (a.number == k))
+
+pub request_at-admits : (t : Trace) (a : Arrival) (k : ℕ) → (a.number == k) ≡ false → request_at ((Admits a ∷ []) ∷ t) k ≡ request_at t k
+request_at-admits t a k apart = ap (λ x. cond (is_emptied t k) None (option_map (λ (b : Arrival). b.request) x)) (admitted-admits t a k apart)
+
+-- ---- a turn
+
+pub some_held : (b : Bool) (x : Option Arrival) (r : Request) → cond b (Some (option_map (λ (a : Arrival). a.request) x)) None ≡ Some (Some r) → (b ≡ true) × ((a : Arrival) × ((x ≡ Some a) × (a.request ≡ r)))
+some_held true None r h = absurd (let z : Some None ≡ Some (Some r) = h in cc)
+some_held true (Some a) r h = (refl, (a, (refl, cc)))
+some_held false x r h = absurd cc
+
+-- ---- held commands
+
+-- it is below the function's number
+pub held_command-below : (o : Setting) (t : Trace) (tag unit below : ℕ) (h : Arrival) → held_command o t tag unit below ≡ Some h → h.number < below
+held_command-below o t tag unit below h found =
+    let passes : (nat_lt h.number below && opcode h.request == 0x01 && itt h.request == tag && is_to o unit h.request) ≡ true = first_itself (λ x. nat_lt x.number below && opcode x.request == 0x01 && itt x.request == tag && is_to o unit x.request) (held_requests o t) h found in
+    by_test (and_first (nat_lt h.number below) (opcode h.request == 0x01) (and_first (nat_lt h.number below && opcode h.request == 0x01) (itt h.request == tag) (and_first (nat_lt h.number below && opcode h.request == 0x01 && itt h.request == tag) (is_to o unit h.request) passes)))
+  where
+    by_test : nat_lt h.number below ≡ true → h.number < below
+    by_test test = let lt : h.number < below = grind (arith, nat_tests) in lt
+
+-- ---- what an outcome makes of the session
+
+-- what is held after an item that admits nothing was held before
+pub held_before : (item : List Mark) (t : Trace) (n : ℕ) (h : Arrival) → filter_map (admits_at n) item ≡ [] → held (item ∷ t) n ≡ Some h → held t n ≡ Some h
+held_before item t n h none found = by_tests (list_any (delivers_number n) item) (is_delivered t n) (list_any (empties_number n) item) (is_emptied t n)
+    (sym (ap (λ xs. cond (is_delivered (item ∷ t) n || is_emptied (item ∷ t) n) None (first_of (shown (admits_at n) t ++ xs))) none ∙ ap (λ xs. cond (is_delivered (item ∷ t) n || is_emptied (item ∷ t) n) None (first_of xs)) (append-nil (shown (admits_at n) t))) ∙ found)
+  where
+    by_tests : (d d' f f' : Bool) → cond ((d || d') || (f || f')) None (admitted t n) ≡ Some h → cond (d' || f') None (admitted t n) ≡ Some h
+    by_tests true d' f f' k = absurd cc
+    by_tests false true f f' k = absurd cc
+    by_tests false false true f' k = absurd cc
+    by_tests false false false true k = absurd cc
+    by_tests false false false false k = k

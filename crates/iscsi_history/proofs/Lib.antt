@@ -38,3 +38,13 @@ pub mod ReplySince
 pub mod TurnLemmas
 pub mod FateLemmas
 pub mod MeaningTheorem
+pub mod NumberLemmas
+pub mod PlaceLemmas
+pub mod EmptyingMarks
+pub mod CommandItems
+pub mod EnabledItems
+pub mod ReceivedItems
+pub mod WaitingItems
+pub mod FlowItems
+pub mod ClosingItems
+pub mod SetLemmas

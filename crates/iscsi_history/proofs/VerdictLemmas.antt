@@ -117,3 +117,10 @@ refusal_answers level units r reply h = by_tests (itt r == 0xffff_ffff) (functio
     by_tests false false true u h = fits (Task (itt r) 5) refl h
     by_tests false false false (Some v) h = absurd cc
     by_tests false false false None h = fits (Task (itt r) 2) refl h
+
+-- where neither tag nor ATTR is wrong, the unit's table decides
+pub by_place : (r : Request) (used crowded : Bool) (place : Option (ℕ × Bool)) → (itt r == 0xffff_ffff) ≡ false → nat_lt 3 (attr_code r) ≡ false → used ≡ false → scsi_verdict r used crowded place ≡ scsi_to r crowded place
+by_place r used crowded place tag attr unused =
+    ap (λ b. cond b (Answer (Reject 9 r.bytes)) (cond (nat_lt 3 (attr_code r)) (Answer (Reject 9 r.bytes)) (cond used (Answer (Reject 7 r.bytes)) (scsi_to r crowded place)))) tag
+    ∙ ap (λ b. cond b (Answer (Reject 9 r.bytes)) (cond used (Answer (Reject 7 r.bytes)) (scsi_to r crowded place))) attr
+    ∙ ap (λ b. cond b (Answer (Reject 7 r.bytes)) (scsi_to r crowded place)) unused

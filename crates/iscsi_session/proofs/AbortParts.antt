@@ -1,7 +1,6 @@
 -- What ABORT TASK comes to, by what a session keeps, and by the definitions.
-use Rattle.std.proofs.Common.{◌≡◌, ℕ, ℤ, ◌+◌, ◌-◌, ◌<◌, ◌≤◌, ◌==◌, ◌&&◌, ◌^◌, not, ◌⊎◌, inl, inr, ⊎_elim, cond, Bool, true, false, nat_lt, nat_le, List, [], ◌∷◌, ◌++◌, length, map, filter, take, position, Option, Some, None, option_map, refl, ap, sym, subst, ◌∙◌, arith, eq-eqb}
+use Rattle.std.proofs.Common.{◌≡◌, ℕ, ℤ, ◌+◌, ◌-◌, ◌<◌, ◌≤◌, ◌==◌, ◌&&◌, ◌^◌, not, ◌⊎◌, inl, inr, ⊎_elim, cond, Bool, true, false, nat_lt, nat_le, List, [], ◌∷◌, ◌++◌, length, map, filter, take, position, Option, Some, None, option_map, refl, ap, sym, subst, ◌∙◌, arith}
 use Rattle.std.specs.List.{list_any, flat_map}
-use Rattle.std.proofs.lemmas.Bool.{cases_lt, eqb-true}
 use Rattle.std.proofs.lemmas.Bool.Decides.{nat_tests}
 use Rattle.iscsi_wire.specs.declared.request.Request.{Request}
 use Rattle.iscsi_wire.specs.Serial.{wire, lift}
@@ -15,7 +14,7 @@ use Rattle.iscsi_session.specs.declared.outcome.Outcome.{Outcome}
 use Rattle.iscsi_session.specs.declared.outcome.Outcome.TheVariants.{Respond, Abort, AbortAll, Empty as EmptyNumber, Void as VoidNumber}
 use Rattle.iscsi_commands.specs.declared.live.Live.{Live}
 use Rattle.iscsi_history.specs.rules.Settings.{Setting, is_known}
-use Rattle.iscsi_history.specs.rules.Trace.{Arrival, Command, Mark, Delivers, Executes, Voids, Empties, Leaves, Trace, first_of, contains, waiting, is_received, is_among, held, live, live_in}
+use Rattle.iscsi_history.specs.rules.Trace.{Arrival, Command, Mark, Delivers, Executes, Voids, Empties, Leaves, Trace, contains, waiting, is_received, held, live, live_in}
 use Rattle.iscsi_history.specs.rules.Execution.{exp_of, max_of, unfinished}
 use Rattle.iscsi_history.specs.rules.Management.{answer, live_with_tag, held_command, abort_missing, abort_task}
 use Rattle.iscsi_history.specs.rules.Agenda.{arrival_of}
@@ -24,51 +23,23 @@ use Rattle.iscsi_history.specs.rules.Trace.{are_apart}
 use Rattle.iscsi_history.specs.rules.Run.{effects_of_mark}
 use Rattle.iscsi_session.specs.private.Functions.{missing_at, tagged_in, abort_by, answer_if, outcome_by, covers_ticket, void_effects}
 use Rattle.iscsi_session.proofs.OpenConns.{open_of-same}
-use Rattle.iscsi_history.proofs.BoolLemmas.{and_parts, or_none, not_true}
-use Rattle.iscsi_session.proofs.NumberLemmas.{wire-lift}
+use Rattle.iscsi_history.proofs.BoolLemmas.{and_parts, not_true}
 use Rattle.iscsi_history.proofs.ApartLemmas.{apart-filter}
-use Rattle.iscsi_history.proofs.HeldLemmas.{held-number, admitted_of_held}
+use Rattle.iscsi_history.proofs.HeldLemmas.{held-number, admitted_of_held, held_command-below}
 use Rattle.iscsi_history.proofs.DeliveryLemmas.{IsQuiet, received-quiet, held-quiet}
 use Rattle.iscsi_session.proofs.WindowParts.{Next, turned_window, WindowAgrees-quiet, WindowAgrees-turned, expected_past_next}
 use Rattle.iscsi_history.proofs.NewlyLemmas.{Untouched}
+use Rattle.iscsi_history.proofs.NumberLemmas.{wire-lift, last_number, within_window}
+use Rattle.iscsi_history.proofs.EnabledItems.{EnabledSoFar-untouched}
+use Rattle.iscsi_history.proofs.CommandItems.{unfinished-untouched, only_one}
+use Rattle.iscsi_history.proofs.EmptyingMarks.{quiet-both}
 use Rattle.iscsi_session.proofs.CommandParts.{CommandsAgree-untouched}
 use Rattle.iscsi_session.proofs.ReplyParts.{RepliesAgree-quiet}
 use Rattle.iscsi_session.proofs.ArrivedLemmas.{ArrivalsAgree-quiet}
 use Rattle.iscsi_session.proofs.SetParts.{SetsAgree-untouched}
-use Rattle.iscsi_session.proofs.EnablingLemmas.{EnabledSoFar-untouched}
-use Rattle.iscsi_session.proofs.AgreeLemmas.{settled_expected, settled_max, unfinished-untouched}
-use Rattle.iscsi_session.proofs.MissingLemmas.{quiet-both, WindowAgrees-voided, WindowAgrees-emptied, inside_place, outside_place, VoidedAt, voided_at, emptied_at}
-use Rattle.iscsi_session.proofs.FindLemmas.{held_command-is, held_command-held, held_command-below, held_command-none, tagged_in-is}
-
--- ---- one command by its ticket
-
-none_filtered : (k : ℕ) (ds : List Command) → is_among k ds ≡ false → filter (λ d. d.ticket == k) ds ≡ []
-none_filtered k [] h = refl
-none_filtered k (d ∷ ds) h =
-    let parts = or_none (d.ticket == k) (is_among k ds) h in
-    ap (λ b. cond b (d ∷ filter (λ e. e.ticket == k) ds) (filter (λ e. e.ticket == k) ds)) parts.0 ∙ none_filtered k ds parts.1
-
--- a command that is found is the only one with its ticket
-pub only_one : (q : Command → Bool) (ds : List Command) (c : Command) → are_apart ds ≡ true → first_of (filter q ds) ≡ Some c → filter (λ d. d.ticket == c.ticket) ds ≡ c ∷ []
-only_one q [] c apart found = absurd cc
-only_one q (x ∷ ds) c apart found =
-    let parts = and_parts (not (is_among x.ticket ds)) (are_apart ds) apart in
-    let alone : is_among x.ticket ds ≡ false = not_true (is_among x.ticket ds) parts.0 in
-    let others : List Command = filter (λ d. d.ticket == c.ticket) ds in
-    elim (q x) as (λ b. first_of (cond b (x ∷ filter q ds) (filter q ds)) ≡ Some c → cond (x.ticket == c.ticket) (x ∷ others) others ≡ c ∷ []) [
-      | true ↦ λ here.
-          let same : x ≡ c = cc in
-          let ticket : x.ticket ≡ c.ticket = ap (λ (d : Command). d.ticket) same in
-          ap (λ b. cond b (x ∷ others) others) (eq-eqb x.ticket c.ticket ticket)
-          ∙ ap (λ ds'. x ∷ ds') (none_filtered c.ticket ds (ap (λ k. is_among k ds) (sym ticket) ∙ alone))
-          ∙ ap (λ d. d ∷ []) same
-      | false ↦ λ later.
-          let rest : others ≡ c ∷ [] = only_one q ds c parts.1 later in
-          elim (x.ticket == c.ticket) as (λ b. (x.ticket == c.ticket) ≡ b → cond b (x ∷ others) others ≡ c ∷ []) [
-            | true ↦ λ is. absurd (let none : [] ≡ c ∷ [] = sym (none_filtered c.ticket ds (ap (λ k. is_among k ds) (sym (eqb-true x.ticket c.ticket is)) ∙ alone)) ∙ rest in cc)
-            | false ↦ λ is. rest
-          ] refl
-    ] found
+use Rattle.iscsi_session.proofs.AgreeLemmas.{settled_expected, settled_max}
+use Rattle.iscsi_session.proofs.MissingLemmas.{WindowAgrees-voided, WindowAgrees-emptied, inside_place, outside_place, VoidedAt, voided_at, emptied_at}
+use Rattle.iscsi_session.proofs.FindLemmas.{held_command-is, held_command-held, held_command-none, tagged_in-is}
 
 -- ---- what it comes to
 
@@ -200,13 +171,6 @@ module _ (o : Setting) (s : Core) (t : Trace) (a : Arrival) (unit : ℕ) (f : Fo
 
 -- ---- an immediate function
 
--- the numbers up to MaxCmdSN
-within_window : (e n long unfinished : ℕ) → 1 ≤ e → unfinished ≤ long → nat_le n (e + long - 1 - unfinished) ≡ nat_lt n (e + (long - unfinished))
-within_window e n long unfinished some few = ⊎_elim
-    (λ inside. (let x : nat_le n (e + long - 1 - unfinished) ≡ true = grind (arith, nat_tests) in x) ∙ (let y : nat_lt n (e + (long - unfinished)) ≡ true = grind (arith, nat_tests) in sym y))
-    (λ beyond. (let x : nat_le n (e + long - 1 - unfinished) ≡ false = grind (arith, nat_tests) in x) ∙ (let y : nat_lt n (e + (long - unfinished)) ≡ false = grind (arith, nat_tests) in sym y))
-    (cases_lt n (e + (long - unfinished)))
-
 module _ (o : Setting) (s : Core) (t : Trace) (a : Arrival) (unit : ℕ) (f : Found o s t a unit) where
   -- a number is voided where it is in the window and below the function's own
   immediate_missing : is_immediate a.request ≡ true → exp_of o t ≡ number_expected s.window → max_of o t ≡ number_expected s.window + length s.window.places - 1 - s.window.unfinished → a.number ≡ lift (number_expected s.window) (cmd_sn a.request)
@@ -298,10 +262,6 @@ AbortsAs-arrived o s index t r unit h at_once inside waits =
     AbortsAs-settled o s ((Executes a ∷ []) ∷ t) a unit (Settled-executes o s t a h waits) at_once inside (ap (λ e. lift e (cmd_sn r)) (settled_expected o s t h))
 
 -- ---- a numbered function at its turn
-
--- the number of the request that turned last, by what the wire shows
-last_number : (e n sn : ℕ) → 2 ^ 32 ≤ e → n + 1 ≡ e → wire sn ≡ wire n → lift e sn ≡ n
-last_number e n sn big next shows = omega (arith, next, shows)
 
 -- no request is held below its number
 pub none_below : (w : Received) (r : Request) (unit n : ℕ) → n + 1 ≡ number_expected w → wire (cmd_sn r) ≡ wire n → find_command w (rtt r) unit (cmd_sn r) ≡ None

@@ -1,5 +1,5 @@
 -- The agenda: what is left of it, function by function and number by number.
-use Rattle.std.proofs.Common.{◌≡◌, ℕ, zero, suc, ◌+◌, ◌-◌, ◌<◌, ◌==◌, ◌&&◌, cond, Bool, true, false, List, [], ◌∷◌, ◌++◌, map, filter, find, length, Option, Some, None, is_some, refl, ap, sym, subst, ◌∙◌, arith, append_assoc}
+use Rattle.std.proofs.Common.{◌≡◌, ℕ, ◌+◌, ◌-◌, ◌<◌, ◌==◌, true, List, [], ◌∷◌, ◌++◌, filter, find, Option, Some, None, is_some, refl, ap, sym, subst, ◌∙◌, arith, append_assoc}
 use Rattle.std.specs.List.{list_all}
 use Rattle.std.proofs.lemmas.List.{append-nil}
 use Rattle.iscsi_wire.specs.declared.request.Request.{Request}
@@ -9,10 +9,10 @@ use Rattle.iscsi_history.specs.declared.effect.Effect.{Effect}
 use Rattle.iscsi_history.specs.declared.effect.Effect.TheVariants.{Deliver}
 use Rattle.iscsi_session.specs.declared.session.waiting.Waiting.{Waiting}
 use Rattle.iscsi_history.specs.rules.Settings.{Setting}
-use Rattle.iscsi_history.specs.rules.Trace.{Arrival, Mark, Trace, after_items, waiting, received, least_missing}
+use Rattle.iscsi_history.specs.rules.Trace.{Arrival, Mark, Trace, after_items, waiting, received}
 use Rattle.iscsi_history.specs.rules.Execution.{exp_of}
 use Rattle.iscsi_history.specs.rules.Management.{may_wait}
-use Rattle.iscsi_history.specs.rules.Items.{item_of, function_item, is_waiting, functions, functions_at, turn_at, agenda}
+use Rattle.iscsi_history.specs.rules.Items.{item_of, function_item, functions_at, turn_at, agenda}
 use Rattle.iscsi_history.specs.rules.Run.{effects_of_item, effects_of}
 use Rattle.iscsi_session.specs.promises.Standing.{Core, arrival_waiting, Agrees, Settled}
 use Rattle.iscsi_session.specs.private.Turning.{with_executed, executed_effects, next_arrived, turned_if, turn_effects, next_waiting, function_if, function_effects}
@@ -20,38 +20,13 @@ use Rattle.iscsi_history.proofs.TraceLemmas.{after_items-append}
 use Rattle.iscsi_history.proofs.Missing.{expected_past}
 use Rattle.iscsi_session.proofs.WindowParts.{Next, next_request, Passed, passed_at, WindowAgrees-passed}
 use Rattle.iscsi_session.proofs.ArrivedLemmas.{ArrivalsAgree-passed}
-use Rattle.iscsi_history.proofs.BoolLemmas.{and_parts}
-use Rattle.iscsi_history.proofs.ListLemmas.{list_all-filter, find-passes}
+use Rattle.iscsi_history.proofs.ListLemmas.{list_all-filter, find-passes, all_map}
+use Rattle.iscsi_history.proofs.ReceivedItems.{turn_receives_none, function_receives_none, functions_receive_none}
+use Rattle.iscsi_history.proofs.FlowItems.{agenda-halves, effects_of-append, same_exp, turns, turns-more}
 use Rattle.iscsi_session.proofs.WaitLemmas.{next_function, no_function}
-use Rattle.iscsi_session.proofs.ReceiveLemmas.{turn_receives_none, function_receives_none}
 use Rattle.iscsi_session.proofs.TurnLemmas.{turned_core, turned_is, turn_effects-are, numbered_held}
 use Rattle.iscsi_session.proofs.FunctionLemmas.{turned-item, waited-item, executed_expected, function_expected}
 use Rattle.iscsi_session.proofs.AgreeLemmas.{settled_expected}
-
--- ---- lists of items
-
-pub effects_of-append : (o : Setting) (now later : List (List Mark)) (t : Trace) → effects_of o t (now ++ later) ≡ effects_of o t now ++ effects_of o (after_items now t) later
-effects_of-append o [] later t = refl
-effects_of-append o (item ∷ now) later t = ap (λ es. effects_of_item o t item ++ es) (effects_of-append o now later (item ∷ t)) ∙ sym (append_assoc (effects_of_item o t item) (effects_of o (item ∷ t) now) (effects_of o (after_items now (item ∷ t)) later))
-
-pub same_exp : (o : Setting) (t t' : Trace) → received t ≡ received t' → exp_of o t ≡ exp_of o t'
-same_exp o t t' h = ap (λ ns. least_missing ns (length ns) (number_of_first o.first)) h
-
--- ---- the agenda in two halves: the functions of a number, and the rest
-
--- from the turn of a number on
-abbrev pub turns : Setting → ℕ → ℕ → Trace → List (List Mark)
-turns o n zero t = []
-turns o n (suc more) t = let now = turn_at o n t in now ++ agenda o (n + 1) more (after_items now t)
-
-agenda-halves : (o : Setting) (n m : ℕ) (t : Trace) → agenda o n m t ≡ functions_at o n t ++ turns o n m (after_items (functions_at o n t) t)
-agenda-halves o n zero t = sym (append-nil (functions_at o n t))
-agenda-halves o n (suc m) t =
-    let before : List (List Mark) = functions_at o n t in
-    let t' : Trace = after_items before t in
-    let turn : List (List Mark) = turn_at o n t' in
-    append_assoc before turn (agenda o (n + 1) m (after_items (before ++ turn) t))
-    ∙ ap (λ u. before ++ (turn ++ agenda o (n + 1) m u)) (after_items-append before turn t)
 
 -- ---- what is left
 
@@ -100,20 +75,6 @@ pub Due-start : (o : Setting) (s₀ : Core) (t₀ : Trace) (out₀ : List Effect
 Due-start o s₀ t₀ out₀ a = record { trace = t₀; agrees = a; same = refl; effects = refl; after = refl }
 
 -- ---- the functions of the next number
-
-all_map : {A B : Type 0} (p : B → Bool) (f : A → B) (xs : List A) → list_all p (map f xs) ≡ list_all (λ x. p (f x)) xs
-all_map p f [] = refl
-all_map p f (x ∷ xs) = ap (λ b. p (f x) && b) (all_map p f xs)
-
--- the functions of a number receive none
-functions_receive_none : (o : Setting) (as' : List Arrival) (t : Trace) → list_all (λ a. may_wait a.request) as' ≡ true → received (after_items (functions o as' t) t) ≡ received t
-functions_receive_none o [] t may = refl
-functions_receive_none o (a ∷ as') t may =
-    let parts = and_parts (may_wait a.request) (list_all (λ b. may_wait b.request) as') may in
-    elim (is_waiting a t) as (λ b. received (after_items (let now : List (List Mark) = cond b (function_item o t a ∷ []) [] in now ++ functions o as' (after_items now t)) t) ≡ received t) [
-      | true ↦ functions_receive_none o as' (function_item o t a ∷ t) parts.1 ∙ ap (λ ns. received t ++ ns) (function_receives_none o t a parts.0) ∙ append-nil (received t)
-      | false ↦ functions_receive_none o as' t parts.1
-    ]
 
 pub functions_at_receive_none : (o : Setting) (s : Core) (t : Trace) (n : ℕ) → Agrees o s t → received (after_items (functions_at o n t) t) ≡ received t
 functions_at_receive_none o s t n a =
@@ -171,9 +132,6 @@ Due-functions o t₀ out₀ whole s s' out out' d same agrees given =
     (given o d.trace d.agrees)
 
 -- ---- a turn
-
-turns-more : (o : Setting) (e f : ℕ) (t : Trace) → e < f → turns o e (f - e) t ≡ turn_at o e t ++ agenda o (e + 1) (f - (e + 1)) (after_items (turn_at o e t) t)
-turns-more o e f t past = ap (λ n. turns o e n t) (let z : f - e ≡ suc (f - (e + 1)) = omega arith in z)
 
 turned-request : (o : Setting) (t₀ : Trace) (out₀ : List Effect) (whole : List (List Mark)) (s : Core) (out : List Effect) (r : Request) → DueTurn o t₀ out₀ whole s out → at_place s.window 0 ≡ Some (Some r)
     → Due o t₀ out₀ whole (turned_if s (at_place s.window 0)) (out ++ turn_effects s (at_place s.window 0))

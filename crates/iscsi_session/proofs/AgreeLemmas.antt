@@ -1,9 +1,9 @@
 -- A session that agrees with what has happened agrees after one item more.
-use Rattle.std.proofs.Common.{◌≡◌, ℕ, ◌+◌, ◌-◌, ◌<◌, ◌≤◌, not, true, false, List, [], ◌∷◌, ◌++◌, length, nat_lt, refl, ap, sym, ◌∙◌, arith, count_by, set}
+use Rattle.std.proofs.Common.{◌≡◌, ℕ, ◌+◌, ◌-◌, ◌<◌, ◌≤◌, not, true, false, List, [], ◌∷◌, ◌++◌, length, nat_lt, refl, ap, sym, ◌∙◌, arith, set}
 use Rattle.std.specs.List.{list_all}
 use Rattle.std.proofs.lemmas.Bool.Decides.{nat_tests}
 use Rattle.iscsi_wire.specs.Serial.{wire}
-use Rattle.iscsi_wire.specs.Fields.{connection_of, is_immediate, cmd_sn}
+use Rattle.iscsi_wire.specs.Fields.{connection_of, cmd_sn}
 use Rattle.iscsi_window.specs.Windows.{number_expected, room_of}
 use Rattle.iscsi_history.specs.declared.effect.Effect.{Effect}
 use Rattle.iscsi_history.specs.declared.effect.Effect.TheVariants.{Ignore}
@@ -26,10 +26,11 @@ use Rattle.iscsi_session.proofs.ArrivedLemmas.{ArrivalsAgree-quiet, ArrivalsAgre
 use Rattle.iscsi_history.proofs.HeldLemmas.{held-here}
 use Rattle.iscsi_session.proofs.ReplyParts.{RepliesAgree-quiet}
 use Rattle.iscsi_history.proofs.MomentLemmas.{enables}
-use Rattle.iscsi_history.proofs.NewlyLemmas.{Untouched, live-untouched}
+use Rattle.iscsi_history.proofs.NewlyLemmas.{Untouched}
 use Rattle.iscsi_session.proofs.CommandParts.{CommandsAgree-untouched}
-use Rattle.iscsi_session.proofs.EnablingLemmas.{EnabledSoFar-untouched}
 use Rattle.iscsi_history.proofs.NewlyLemmas.{newly-untouched}
+use Rattle.iscsi_history.proofs.EnabledItems.{EnabledSoFar-untouched}
+use Rattle.iscsi_history.proofs.CommandItems.{unfinished-untouched, untouched-admits}
 use Rattle.iscsi_session.proofs.SetParts.{SetsAgree-untouched}
 
 -- ---- numbers
@@ -62,10 +63,6 @@ regular_live o s t a = list_all-filter (λ (c : Command). not (has (leaves_ticke
 
 pub agrees_unfinished : (o : Setting) (s : Core) (t : Trace) → Agrees o s t → unfinished t ≡ s.window.unfinished
 agrees_unfinished o s t a = sym a.unfinished
-
--- nothing enters or leaves
-pub unfinished-untouched : (item : List Mark) (t : Trace) → Untouched item → unfinished (item ∷ t) ≡ unfinished t
-unfinished-untouched item t u = ap (λ (cs : List Command). count_by (λ (c : Command). not (is_immediate c.arrival.request)) cs) (live-untouched item t u)
 
 pub settled_max : (o : Setting) (s : Core) (t : Trace) → Settled o s t → max_of o t ≡ number_expected s.window + length s.window.places - 1 - s.window.unfinished
 settled_max o s t h =
@@ -116,9 +113,6 @@ Stepped-ignored o s t why h =
     }
 
 -- ---- an admission
-
-pub untouched-admits : (a : Arrival) → Untouched (Admits a ∷ [])
-untouched-admits a = record { enters_none = refl; leaves_no = λ k. refl }
 
 pub Agrees-admitted : (o : Setting) (s : Core) (t : Trace) (a : Arrival) → Agrees o s t → number_expected s.window ≤ a.number → a.number < number_expected s.window + room_of s.window → is_received t a.number ≡ false → is_regular_request o a.request ≡ true → wire (cmd_sn a.request) ≡ wire a.number
     → Agrees o (record s { window = with_held s.window a; arrived = set s.arrived (a.number - number_expected s.window) a.event }) ((Admits a ∷ []) ∷ t)

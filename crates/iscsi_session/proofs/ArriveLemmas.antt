@@ -1,5 +1,5 @@
 -- The turns that are taken, and an arrival as a whole.
-use Rattle.std.proofs.Common.{◌&&◌, Bool, not, map, ◌≡◌, ℕ, ◌+◌, ◌-◌, ◌==◌, inl, inr, ⊎_elim, cond, true, false, nat_lt, List, [], ◌∷◌, ◌++◌, None, is_some, refl, ap, sym, subst, ◌∙◌, append_assoc}
+use Rattle.std.proofs.Common.{◌&&◌, not, map, ◌≡◌, ℕ, ◌+◌, ◌-◌, ◌==◌, inl, inr, ⊎_elim, cond, true, false, nat_lt, List, [], ◌∷◌, ◌++◌, None, is_some, refl, ap, sym, subst, ◌∙◌, append_assoc}
 use Rattle.std.specs.List.{list_all, list_any}
 use Rattle.std.proofs.lemmas.List.{append-nil}
 use Rattle.iscsi_wire.specs.declared.request.Request.{Request}
@@ -10,7 +10,6 @@ use Rattle.iscsi_window.specs.declared.answer.Offer.TheVariants.{Held}
 use Rattle.iscsi_window.specs.Windows.{at_place, offer_to, number_expected}
 use Rattle.iscsi_history.specs.declared.effect.Effect.{Effect}
 use Rattle.iscsi_history.specs.declared.effect.Effect.TheVariants.{Send, Ignore}
-use Rattle.iscsi_history.specs.declared.effect.Why.{Why}
 use Rattle.iscsi_history.specs.declared.effect.Why.TheVariants.{Closed, Data}
 use Rattle.iscsi_history.specs.declared.kind.Kind.TheVariants.{PassedOver, Unknown, Executes as ExecutesKind}
 use Rattle.iscsi_history.specs.rules.Settings.{Setting, is_known}
@@ -25,8 +24,8 @@ use Rattle.iscsi_session.specs.private.Steps.{with_reply, reply_effects, with_of
 use Rattle.iscsi_session.specs.private.Turning.{turned_if, turn_effects, deferral_by, immediate_as, immediate_effects}
 use Rattle.iscsi_history.specs.rules.Logout.{is_open}
 use Rattle.iscsi_session.specs.private.Closing.{is_among_open}
-use Rattle.iscsi_session.proofs.OpenConns.{open_of-same, filtered_among}
-use Rattle.iscsi_history.proofs.ListLemmas.{list_any-map}
+use Rattle.iscsi_session.proofs.OpenConns.{open_of-same}
+use Rattle.iscsi_history.proofs.ListLemmas.{list_any-map, filtered_among, is_none}
 use Rattle.iscsi_history.proofs.DeliveryLemmas.{IsQuiet}
 use Rattle.iscsi_session.proofs.WindowParts.{WindowAgrees-quiet}
 use Rattle.iscsi_session.proofs.ArrivedLemmas.{ArrivalsAgree-quiet}
@@ -36,13 +35,15 @@ use Rattle.iscsi_session.proofs.CommandParts.{CommandsAgree-untouched}
 use Rattle.iscsi_history.proofs.NewlyLemmas.{newly-untouched}
 use Rattle.iscsi_session.proofs.SetParts.{SetsAgree-untouched}
 use Rattle.iscsi_history.proofs.MomentLemmas.{enables}
-use Rattle.iscsi_session.proofs.EnablingLemmas.{EnabledSoFar-untouched}
-use Rattle.iscsi_session.proofs.AgreeLemmas.{settled_expected, unfinished-untouched, Stepped, Stepped-ignored}
+use Rattle.iscsi_history.proofs.EnabledItems.{EnabledSoFar-untouched}
+use Rattle.iscsi_history.proofs.CommandItems.{unfinished-untouched}
+use Rattle.iscsi_history.proofs.ReceivedItems.{immediate_receives_one, ignored_receives}
+use Rattle.iscsi_history.proofs.BoolLemmas.{not_flip}
+use Rattle.iscsi_session.proofs.AgreeLemmas.{settled_expected, Stepped, Stepped-ignored}
 use Rattle.iscsi_session.proofs.StepLemmas.{Offered}
-use Rattle.iscsi_session.proofs.ReceiveLemmas.{immediate_receives_one}
 use Rattle.iscsi_session.proofs.FunctionLemmas.{immediate-item}
 use Rattle.iscsi_session.proofs.AgendaLemmas.{DueTurn, whole_of, Due-start, Due-functions, turned-all}
-use Rattle.iscsi_session.proofs.PaceLemmas.{is_none, same_expected, stays_expected, immediate_stays}
+use Rattle.iscsi_session.proofs.PaceLemmas.{same_expected, stays_expected, immediate_stays}
 
 -- ---- turns
 
@@ -185,22 +186,6 @@ at_once_receives o s s' t a x none =
     (λ one. inr (one.0, all ∙ ap (λ ns. received t ++ ns) one.1))
     (immediate_receives_one o t a)
 
--- what isn't received
-pub passed_receives : (o : Setting) (t : Trace) (a : Arrival) → kind_of a.request ≡ PassedOver → HasOneMore (received t) (received (after_items (arrival_open o t a) t))
-passed_receives o t a kind = inl (ap (λ k. received (after_items (arrival_as o t a k) t)) kind ∙ append-nil (received t))
-
-pub rejected_receives : (o : Setting) (t : Trace) (a : Arrival) → kind_of a.request ≡ Unknown → HasOneMore (received t) (received (after_items (arrival_open o t a) t))
-rejected_receives o t a kind = inl (ap (λ k. received (after_items (arrival_as o t a k) t)) kind ∙ append-nil (received t))
-
-pub ignored_receives : (t : Trace) (items : List (List Mark)) (why : Why) → items ≡ ignored why → HasOneMore (received t) (received (after_items items t))
-ignored_receives t items why is = inl (ap (λ (is : List (List Mark)). received (after_items is t)) is ∙ append-nil (received t))
-
--- it is numbered
-pub is_numbered_arrival : (o : Setting) (index : ℕ) (t : Trace) (r : Request) → kind_of r ≡ ExecutesKind → is_immediate r ≡ false → arrival_open o t (arrival_of o index t r) ≡ numbered o t (arrival_of o index t r)
-is_numbered_arrival o index t r kind numbered_is =
-    let a : Arrival = arrival_of o index t r in
-    ap (arrival_as o t a) kind ∙ ap (λ b. cond b (with_turns o t (immediate_item o t a)) (numbered o t a)) numbered_is
-
 -- ---- an arrival on a connection that is closed
 
 -- the session knows which connections are open
@@ -210,10 +195,6 @@ open_is o s t conn h known =
     ∙ filtered_among (is_open o t) conn (map (λ (c : ℕ × ℕ). c.0) o.conns)
     ∙ ap (λ b. b && is_open o t conn) (list_any-map (λ c. c == conn) (λ (c : ℕ × ℕ). c.0) o.conns)
     ∙ ap (λ b. b && (b && not (is_closed conn t))) known
-
-not_flip : (b v : Bool) → v ≡ not b → b ≡ not v
-not_flip true v is = ap not (sym is)
-not_flip false v is = ap not (sym is)
 
 pub opened_arrival : (o : Setting) (s : Core) (index : ℕ) (t : Trace) (r : Request) → Agrees o s t → is_known (connection_of r) o.conns ≡ true → is_among_open (connection_of r) s.open_conns ≡ true
     → arrival o t (arrival_of o index t r) ≡ arrival_open o t (arrival_of o index t r)

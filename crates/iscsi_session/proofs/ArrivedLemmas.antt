@@ -1,5 +1,5 @@
 -- The events in which the requests arrived that a window holds.
-use Rattle.std.proofs.Common.{◌≡◌, ℕ, zero, suc, ◌+◌, ◌-◌, ◌<◌, ◌≤◌, ◌==◌, ◌||◌, ⊎_elim, cond, false, List, [], ◌∷◌, ◌++◌, length, drop, get_or, set, Option, Some, None, refl, ap, sym, ◌∙◌, arith, length-set, length-drop, true}
+use Rattle.std.proofs.Common.{◌≡◌, ℕ, suc, ◌+◌, ◌-◌, ◌<◌, ◌≤◌, ◌==◌, ◌||◌, ⊎_elim, cond, false, List, [], ◌∷◌, length, drop, get_or, set, Option, Some, None, refl, ap, sym, ◌∙◌, arith, length-set, length-drop, true}
 use Rattle.std.proofs.lemmas.Bool.{cases_lt, cases_eq}
 use Rattle.std.proofs.lemmas.Bool.Decides.{nat_tests}
 use Rattle.std.proofs.lemmas.List.{length_push, get_or-set_same, get_or-set_other}
@@ -11,7 +11,8 @@ use Rattle.iscsi_session.specs.promises.Standing.{WindowAgrees, ArrivalsAgree}
 use Rattle.iscsi_history.proofs.TraceLemmas.{unadmitted}
 use Rattle.iscsi_history.proofs.HeldLemmas.{held-admits, held-turned}
 use Rattle.iscsi_history.proofs.DeliveryLemmas.{IsQuiet, held-quiet}
-use Rattle.iscsi_session.proofs.WindowParts.{with_held, has_first, turned_window}
+use Rattle.iscsi_history.proofs.PlaceLemmas.{has_first, passed_at, passed_on}
+use Rattle.iscsi_session.proofs.WindowParts.{with_held, turned_window}
 
 pub ArrivalsAgree-quiet : (w : Received) (arrived : List ℕ) (t : Trace) (item : List Mark) → IsQuiet item → ArrivalsAgree w arrived t → ArrivalsAgree w arrived (item ∷ t)
 ArrivalsAgree-quiet w arrived t item q a = record { long = a.long; at_place = λ k b lt found. a.at_place k b lt (sym (held-quiet item t (number_expected w + k) q) ∙ found) }
@@ -35,21 +36,6 @@ ArrivalsAgree-admitted w arrived t a h low high here_is =
     }
 
 -- ---- a turn
-
--- the events, once the first place has passed
-abbrev pub passed_on : List ℕ → List ℕ
-passed_on arrived = drop 1 arrived ++ 0 ∷ []
-
-padded : (xs : List ℕ) (k : ℕ) → get_or (xs ++ 0 ∷ []) k 0 ≡ get_or xs k 0
-padded [] zero = refl
-padded [] (suc k) = refl
-padded (x ∷ xs) zero = refl
-padded (x ∷ xs) (suc k) = padded xs k
-
-passed_at : (xs : List ℕ) (k : ℕ) → get_or (passed_on xs) k 0 ≡ get_or xs (suc k) 0
-passed_at [] zero = refl
-passed_at [] (suc k) = refl
-passed_at (x ∷ xs) k = padded xs k
 
 long-passed : (w : Received) (arrived : List ℕ) (d : Option Request) → length arrived ≡ length w.places → at_place w 0 ≡ Some d → length (passed_on arrived) ≡ length (turned_window w).places
 long-passed w arrived d same place =

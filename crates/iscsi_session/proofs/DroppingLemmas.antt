@@ -9,8 +9,9 @@ use Rattle.iscsi_window.specs.Windows.{Received, number_expected, number_shown, 
 use Rattle.iscsi_history.specs.declared.effect.Effect.TheVariants.{Empty}
 use Rattle.iscsi_session.specs.promises.Standing.{is_held, is_place_known}
 use Rattle.iscsi_session.specs.private.Closing.{emptied_place, emptied_from, is_clear_below}
-use Rattle.iscsi_session.proofs.FindLemmas.{position-cons}
-use Rattle.iscsi_history.proofs.BoolLemmas.{and_parts}
+use Rattle.iscsi_history.proofs.BoolLemmas.{and_parts, not_true}
+use Rattle.iscsi_history.proofs.PlaceLemmas.{position-cons}
+use Rattle.iscsi_history.proofs.ListLemmas.{none_cons, some_cons}
 
 -- the first place that is concerned, and what is left to do after it
 record Dropped (scope : Option ℕ) (n : ℕ) (ps : List (Option (Option Request))) (k : ℕ) : Type 0 where
@@ -25,10 +26,6 @@ held_here : (scope : Option ℕ) (p : Option (Option Request)) → is_held_from 
 held_here scope None h = absurd (false≢true h)
 held_here scope (Some None) h = absurd (false≢true h)
 held_here scope (Some (Some r)) h = (refl, refl)
-
-some_cons : (x : Option ℕ) (k : ℕ) → option_map suc x ≡ Some k → (j : ℕ) × ((x ≡ Some j) × (k ≡ suc j))
-some_cons None k h = absurd cc
-some_cons (Some j) k h = (j, (refl, cc))
 
 dropped_first : (scope : Option ℕ) (n : ℕ) (ps : List (Option (Option Request))) (k : ℕ) → position (is_held_from scope) ps ≡ Some k → Dropped scope n ps k
 dropped_first scope n [] k found = absurd cc
@@ -75,10 +72,6 @@ record Undropped (scope : Option ℕ) (n : ℕ) (ps : List (Option (Option Reque
   rest : map (emptied_place scope) ps ≡ ps
   effects : emptied_from n scope ps ≡ []
 
-none_cons : (x : Option ℕ) → option_map suc x ≡ None → x ≡ None
-none_cons None h = refl
-none_cons (Some j) h = absurd cc
-
 undropped : (scope : Option ℕ) (n : ℕ) (ps : List (Option (Option Request))) → position (is_held_from scope) ps ≡ None → Undropped scope n ps
 undropped scope n [] none = record { rest = refl; effects = refl }
 undropped scope n (p ∷ ps) none = by_test (undropped scope (n + 1) ps) (is_held_from scope p) refl (sym (position-cons (is_held_from scope) p ps) ∙ none)
@@ -93,10 +86,6 @@ undropped scope n (p ∷ ps) none = by_test (undropped scope (n + 1) ps) (is_hel
 
 -- ---- place after place
 
-not_so : (b : Bool) → not b ≡ true → b ≡ false
-not_so true h = absurd (false≢true h)
-not_so false h = refl
-
 -- the request of the first place after those without one
 first_place : (scope : Option ℕ) (k : ℕ) (ps : List (Option (Option Request))) → is_clear_below scope k ps ≡ true → is_held_from scope (slice_index_or ps k None) ≡ true → position (is_held_from scope) ps ≡ Some k
 first_place scope k [] clear held = absurd (false≢true held)
@@ -104,7 +93,7 @@ first_place scope zero (p ∷ ps) clear held = position-cons (is_held_from scope
 first_place scope (suc k) (p ∷ ps) clear held =
     let parts = and_parts (not (is_held_from scope p)) (is_clear_below scope k ps) clear in
     position-cons (is_held_from scope) p ps
-    ∙ ap (λ b. cond b (Some 0) (option_map suc (position (is_held_from scope) ps))) (not_so (is_held_from scope p) parts.0)
+    ∙ ap (λ b. cond b (Some 0) (option_map suc (position (is_held_from scope) ps))) (not_true (is_held_from scope p) parts.0)
     ∙ ap (option_map suc) (first_place scope k ps parts.1 held)
 
 -- where no place has one, there is none
@@ -113,7 +102,7 @@ no_place scope [] clear = refl
 no_place scope (p ∷ ps) clear =
     let parts = and_parts (not (is_held_from scope p)) (is_clear_below scope (length ps) ps) clear in
     position-cons (is_held_from scope) p ps
-    ∙ ap (λ b. cond b (Some 0) (option_map suc (position (is_held_from scope) ps))) (not_so (is_held_from scope p) parts.0)
+    ∙ ap (λ b. cond b (Some 0) (option_map suc (position (is_held_from scope) ps))) (not_true (is_held_from scope p) parts.0)
     ∙ ap (option_map suc) (no_place scope ps parts.1)
 
 -- a place more

@@ -1,10 +1,8 @@
 -- The held requests that a Logout takes out, in the window.
-use Rattle.std.proofs.Common.{◌≡◌, ℕ, zero, suc, ◌+◌, ◌-◌, ◌<◌, ◌≤◌, ◌==◌, ◌&&◌, ◌||◌, ⊎_elim, cond, Bool, true, false, List, [], ◌∷◌, ◌++◌, length, map, filter, get_or, Option, Some, None, option_map, refl, ap, sym, ◌∙◌, arith, append_assoc, eq-eqb}
-use Rattle.std.specs.List.{list_any, filter_map, range_with_len, cons_option}
+use Rattle.std.proofs.Common.{◌≡◌, ℕ, zero, suc, ◌+◌, ◌-◌, ◌<◌, ◌≤◌, ◌==◌, ◌&&◌, ◌||◌, ⊎_elim, cond, Bool, true, false, List, [], ◌∷◌, ◌++◌, length, map, filter, get_or, Option, Some, None, option_map, refl, ap, sym, ◌∙◌, arith, eq-eqb}
 use Rattle.std.proofs.lemmas.Bool.{cases_lt, cases_eq}
 use Rattle.std.proofs.lemmas.Bool.Decides.{nat_tests}
 use Rattle.std.proofs.lemmas.List.{append-nil, length-map}
-use Rattle.std.proofs.lemmas.Grind.{flat_map-append}
 use Rattle.std.proofs.Math.ListN.{get_or-map}
 use Rattle.iscsi_wire.specs.declared.request.Request.{Request}
 use Rattle.iscsi_wire.specs.Serial.{wire, number_of_first}
@@ -13,69 +11,19 @@ use Rattle.iscsi_window.specs.Windows.{Received, number_expected, is_asked, is_h
 use Rattle.iscsi_history.specs.declared.effect.Effect.{Effect}
 use Rattle.iscsi_history.specs.declared.effect.Effect.TheVariants.{Empty}
 use Rattle.iscsi_history.specs.rules.Settings.{Setting}
-use Rattle.iscsi_history.specs.rules.Trace.{Arrival, Command, Mark, Empties, Leaves, Trace, has, shown, first_of, number_received, received, contains, is_received, delivers_number, is_delivered, empties_number, is_emptied, held, held_among, admitted, admits_at}
+use Rattle.iscsi_history.specs.rules.Trace.{Arrival, Command, Mark, Empties, Leaves, Trace, shown, first_of, received, contains, is_received, is_delivered, is_emptied, held, admitted, admits_at}
 use Rattle.iscsi_history.specs.rules.Execution.{exp_of}
 use Rattle.iscsi_history.specs.promises.Executed.{delivers, request_at}
 use Rattle.iscsi_history.specs.rules.Logout.{all_held}
 use Rattle.iscsi_session.specs.promises.Standing.{place_of, WindowAgrees, ArrivalsAgree}
 use Rattle.iscsi_session.specs.private.Closing.{emptied_place, emptied_from}
 use Rattle.iscsi_history.proofs.BoolLemmas.{or_false}
-use Rattle.iscsi_history.proofs.HeldLemmas.{held-number}
-use Rattle.iscsi_session.proofs.MissingLemmas.{unreceived_unheld}
+use Rattle.iscsi_history.proofs.HeldLemmas.{held-number, unreceived_unheld}
 use Rattle.iscsi_history.proofs.DeliveryLemmas.{IsQuiet, same_range}
+use Rattle.iscsi_history.proofs.EmptyingMarks.{EmptiesThese, SameNumbers, empties-these, held-same, held_from, held_from-none, held_from-parts, held_list, is_number_of, joined-same, request_at-same}
 use Rattle.iscsi_session.proofs.WindowParts.{expected_past_next}
 
--- ---- the items
-
--- an item that empties these numbers, and receives, admits and delivers nothing
-pub record EmptiesThese (item : List Mark) (out : ℕ → Bool) : Type 0 where
-  pub receives : filter_map number_received item ≡ []
-  pub admits : (k : ℕ) → filter_map (admits_at k) item ≡ []
-  pub delivers_none : filter_map delivers item ≡ []
-  pub delivers_no : (k : ℕ) → list_any (delivers_number k) item ≡ false
-  pub empties : (k : ℕ) → list_any (empties_number k) item ≡ out k
-
--- some of these requests has the number
-abbrev pub is_number_of : List Arrival → ℕ → Bool
-is_number_of hs n = list_any (λ (a : Arrival). a.number == n) hs
-
-empties-held : (hs : List Arrival) (rest : List Mark) → IsQuiet rest → EmptiesThese (map Empties hs ++ rest) (is_number_of hs)
-empties-held [] rest q = record { receives = q.receives; admits = q.admits; delivers_none = q.delivers_none; delivers_no = q.delivers_no; empties = q.empties_no }
-empties-held (h ∷ hs) rest q =
-    let e : EmptiesThese (map Empties hs ++ rest) (is_number_of hs) = empties-held hs rest q in
-    record { receives = e.receives; admits = e.admits; delivers_none = e.delivers_none; delivers_no = e.delivers_no; empties = λ k. ap (λ b. (h.number == k) || b) (e.empties k) }
-
--- commands leave, requests are taken out, and quiet marks follow
-pub empties-these : (cs : List Command) (hs : List Arrival) (rest : List Mark) → IsQuiet rest → EmptiesThese ((map Leaves cs ++ map Empties hs) ++ rest) (is_number_of hs)
-empties-these [] hs rest q = empties-held hs rest q
-empties-these (c ∷ cs) hs rest q =
-    let e : EmptiesThese ((map Leaves cs ++ map Empties hs) ++ rest) (is_number_of hs) = empties-these cs hs rest q in
-    record { receives = e.receives; admits = e.admits; delivers_none = e.delivers_none; delivers_no = e.delivers_no; empties = e.empties }
-
 -- ---- the requests that are held at the numbers of a range
-
--- the request that is held at a number, or none
-abbrev held_list : Trace → ℕ → List Arrival
-held_list t n = elim (held t n) [ Some a ↦ a ∷ [] | None ↦ [] ]
-
-abbrev held_from : Trace → ℕ → ℕ → List Arrival
-held_from t a count = held_among t (range_with_len a count)
-
-range-parts : (a m n : ℕ) → range_with_len a (m + n) ≡ range_with_len a m ++ range_with_len (a + m) n
-range-parts a zero n = ap (range_with_len a) (let z : 0 + n ≡ n = omega arith in z) ∙ ap (λ k. range_with_len k n) (let z : a ≡ a + 0 = omega arith in z)
-range-parts a (suc m) n =
-    ap (range_with_len a) (let z : suc m + n ≡ suc (m + n) = omega arith in z)
-    ∙ ap (λ ks. a ∷ ks) (range-parts (a + 1) m n ∙ ap (λ k. range_with_len (a + 1) m ++ range_with_len k n) (let z : a + 1 + m ≡ a + suc m = omega arith in z))
-
-module _ (t : Trace) where
-  held_from-parts : (a m n : ℕ) → held_from t a (m + n) ≡ held_from t a m ++ held_from t (a + m) n
-  held_from-parts a m n = ap (held_among t) (range-parts a m n) ∙ flat_map-append (held_list t) (range_with_len a m) (range_with_len (a + m) n)
-
-  held_from-none : (a count : ℕ) → ((n : ℕ) → a ≤ n → n < a + count → held t n ≡ None) → held_from t a count ≡ []
-  held_from-none a zero none = refl
-  held_from-none a (suc count) none =
-      ap (λ x. (let l : List Arrival = elim x [ Some b ↦ b ∷ [] | None ↦ [] ] in l) ++ held_from t (a + 1) count) (none a (omega arith) (omega arith))
-      ∙ held_from-none (a + 1) count (λ n l u. none n (omega arith) (omega arith))
 
 -- above the window nothing is held
 above_none : (o : Setting) (w : Received) (t : Trace) → WindowAgrees o w t → (n : ℕ) → number_expected w + length w.places ≤ n → held t n ≡ None
@@ -321,56 +269,11 @@ ArrivalsAgree-emptying o w arrived t scope cs rest h q a = ArrivalsAgree-taken (
 
 -- ---- items that are joined
 
--- two traces in which the same has happened to each number
-pub record SameNumbers (t t' : Trace) : Type 0 where
-  pub received_is : received t' ≡ received t
-  pub admitted_is : (n : ℕ) → admitted t' n ≡ admitted t n
-  pub delivered_is : (n : ℕ) → is_delivered t' n ≡ is_delivered t n
-  pub emptied_is : (n : ℕ) → is_emptied t' n ≡ is_emptied t n
-  pub delivers_is : shown delivers t' ≡ shown delivers t
-
-module _ (m : Mark) (ms : List Mark) (t : Trace) where
-  pub shown-joined : {A : Type 0} (view : Mark → Option A) → shown view ((m ∷ ms) ∷ t) ≡ shown view (ms ∷ (m ∷ []) ∷ t)
-  shown-joined {A} view = by_first (view m)
-    where
-      by_first : (x : Option A) → shown view t ++ cons_option x (filter_map view ms) ≡ (shown view t ++ cons_option x []) ++ filter_map view ms
-      by_first None = ap (λ xs. xs ++ filter_map view ms) (sym (append-nil (shown view t)))
-      by_first (Some x) = sym (append_assoc (shown view t) (x ∷ []) (filter_map view ms))
-
-  pub has-joined : (test : Mark → Bool) → has test ((m ∷ ms) ∷ t) ≡ has test (ms ∷ (m ∷ []) ∷ t)
-  has-joined test = by_tests (test m) (list_any test ms) (has test t)
-    where
-      by_tests : (a b c : Bool) → ((a || b) || c) ≡ (b || ((a || false) || c))
-      by_tests true true c = refl
-      by_tests true false c = refl
-      by_tests false true c = refl
-      by_tests false false c = refl
-
-  pub joined-same : SameNumbers (ms ∷ (m ∷ []) ∷ t) ((m ∷ ms) ∷ t)
-  joined-same = record {
-    received_is = shown-joined number_received;
-    admitted_is = λ n. ap first_of (shown-joined (admits_at n));
-    delivered_is = λ n. has-joined (delivers_number n);
-    emptied_is = λ n. has-joined (empties_number n);
-    delivers_is = shown-joined delivers;
-  }
-
 module _ (t t' : Trace) (s : SameNumbers t t') where
-  held-same : (n : ℕ) → held t' n ≡ held t n
-  held-same n =
-      ap (λ b. cond (b || is_emptied t' n) None (admitted t' n)) (s.delivered_is n)
-      ∙ ap (λ b. cond (is_delivered t n || b) None (admitted t' n)) (s.emptied_is n)
-      ∙ ap (λ x. cond (is_delivered t n || is_emptied t n) None x) (s.admitted_is n)
-
-  request_at-same : (n : ℕ) → request_at t' n ≡ request_at t n
-  request_at-same n =
-      ap (λ b. cond b None (option_map (λ (a : Arrival). a.request) (admitted t' n))) (s.emptied_is n)
-      ∙ ap (λ x. cond (is_emptied t n) None (option_map (λ (a : Arrival). a.request) x)) (s.admitted_is n)
-
   place_of-same : (n : ℕ) → place_of t' n ≡ place_of t n
   place_of-same n =
       ap (λ ns. cond (contains ns n) (Some (option_map (λ (a : Arrival). a.request) (held t' n))) None) s.received_is
-      ∙ ap (λ x. cond (is_received t n) (Some (option_map (λ (a : Arrival). a.request) x)) None) (held-same n)
+      ∙ ap (λ x. cond (is_received t n) (Some (option_map (λ (a : Arrival). a.request) x)) None) (held-same t t' s n)
 
   pub WindowAgrees-same : (o : Setting) (w : Received) → WindowAgrees o w t → WindowAgrees o w t'
   WindowAgrees-same o w h =
@@ -381,18 +284,18 @@ module _ (t t' : Trace) (s : SameNumbers t t') where
         below = λ n l u. same_received n ∙ h.below n l u;
         inside = λ k lt. h.inside k lt ∙ sym (place_of-same (number_expected w + k));
         above = λ n u. same_received n ∙ h.above n u;
-        past = λ n before. held-same n ∙ h.past n before;
+        past = λ n before. held-same t t' s n ∙ h.past n before;
         undelivered = λ n u. s.delivered_is n ∙ h.undelivered n u;
         unemptied = λ n gone. s.emptied_is n ∙ h.unemptied n (sym (same_received n) ∙ gone);
         requests = λ n b found. h.requests n b (sym (s.admitted_is n) ∙ found);
         numbers = λ n b found. h.numbers n b (sym (s.admitted_is n) ∙ found);
-        delivered = s.delivers_is ∙ h.delivered ∙ same_range t t' (number_of_first o.first) (number_expected w - number_of_first o.first) (λ k l u. sym (request_at-same k));
+        delivered = s.delivers_is ∙ h.delivered ∙ same_range t t' (number_of_first o.first) (number_expected w - number_of_first o.first) (λ k l u. sym (request_at-same t t' s k));
         few = h.few;
         free = h.free;
       }
 
   pub ArrivalsAgree-same : (w : Received) (arrived : List ℕ) → ArrivalsAgree w arrived t → ArrivalsAgree w arrived t'
-  ArrivalsAgree-same w arrived a = record { long = a.long; at_place = λ k b lt found. a.at_place k b lt (sym (held-same (number_expected w + k)) ∙ found) }
+  ArrivalsAgree-same w arrived a = record { long = a.long; at_place = λ k b lt found. a.at_place k b lt (sym (held-same t t' s (number_expected w + k)) ∙ found) }
 
 -- an item may be split at its first mark
 pub WindowAgrees-joined : (o : Setting) (w : Received) (t : Trace) (m : Mark) (ms : List Mark) → WindowAgrees o w (ms ∷ (m ∷ []) ∷ t) → WindowAgrees o w ((m ∷ ms) ∷ t)

@@ -1,42 +1,20 @@
 -- Which commands were free at some moment, after one item more.
-use Rattle.std.proofs.Common.{◌≡◌, ℕ, zero, suc, ◌+◌, ◌<◌, ◌≤◌, ◌==◌, ◌&&◌, ◌||◌, not, ⊎_elim, cond, Bool, true, false, List, [], ◌∷◌, ◌++◌, map, filter, find, Some, option_map, refl, ap, sym, ◌∙◌, arith}
-use Rattle.std.specs.List.{list_all, flat_map, range_with_len}
-use Rattle.std.proofs.lemmas.Bool.{cases_eq, eqb-true}
-use Rattle.std.proofs.lemmas.Bool.Decides.{nat_tests}
+use Rattle.std.proofs.Common.{◌≡◌, ℕ, ◌==◌, ◌&&◌, ◌||◌, not, cond, Bool, true, false, List, [], ◌∷◌, ◌++◌, map, filter, find, Some, option_map, refl, ap, sym, ◌∙◌}
+use Rattle.std.specs.List.{list_all}
+use Rattle.std.proofs.lemmas.Bool.{eqb-true}
 use Rattle.std.proofs.lemmas.List.{append-nil, map-append}
 use Rattle.iscsi_tasks.specs.declared.member.Member.{Member}
 use Rattle.iscsi_tasks.specs.Sets.{is_free, queued, is_free_among, looked_at, after_moment, is_new, next_in, given_in}
 use Rattle.iscsi_history.specs.declared.effect.Effect.TheVariants.{Enable}
 use Rattle.iscsi_history.specs.rules.Settings.{Setting}
-use Rattle.iscsi_history.specs.rules.Trace.{Command, Mark, Trace, live, live_in, is_among, queued_of, is_free_at, was_free}
-use Rattle.iscsi_history.specs.rules.Run.{newly_enabled}
+use Rattle.iscsi_history.specs.rules.Trace.{Command, Mark, Trace, live, live_in, is_among, queued_of, was_free}
 use Rattle.iscsi_session.specs.promises.Standing.{task_of, member_of, set_of}
 use Rattle.iscsi_session.specs.private.Steps.{as_given, enable_effects, enable_effect}
 use Rattle.iscsi_history.proofs.BoolLemmas.{and_parts, or_comm}
-use Rattle.iscsi_history.proofs.ListLemmas.{list_all-filter, all_of_filter}
+use Rattle.iscsi_history.proofs.ListLemmas.{list_all-filter, all_of_filter, filter-map, map-map, map_all}
 use Rattle.iscsi_history.proofs.MomentLemmas.{enables}
-use Rattle.iscsi_history.proofs.NewlyLemmas.{all_here, filter-twice, flat_map-none, is_here, new_in, new_in-more, new_in-none, was_free-stays}
-
--- ---- lists
-
--- functions that agree where a test passes
-pub map_all : {A B : Type 0} (f g : A → B) (p : A → Bool) (xs : List A) → list_all p xs ≡ true → ((x : A) → p x ≡ true → f x ≡ g x) → map f xs ≡ map g xs
-map_all f g p [] all same = refl
-map_all f g p (x ∷ xs) all same =
-    let parts = and_parts (p x) (list_all p xs) all in
-    ap (λ y. y ∷ map f xs) (same x parts.0) ∙ ap (λ ys. g x ∷ ys) (map_all f g p xs parts.1 same)
-
-pub filter-map : {A B : Type 0} (p : B → Bool) (f : A → B) (xs : List A) → filter p (map f xs) ≡ map f (filter (λ x. p (f x)) xs)
-filter-map p f [] = refl
-filter-map p f (x ∷ xs) =
-    elim (p (f x)) as (λ b. cond b (f x ∷ filter p (map f xs)) (filter p (map f xs)) ≡ map f (cond b (x ∷ filter (λ y. p (f y)) xs) (filter (λ y. p (f y)) xs))) [
-      | true ↦ ap (λ ys. f x ∷ ys) (filter-map p f xs)
-      | false ↦ filter-map p f xs
-    ]
-
-pub map-map : {A B C : Type 0} (g : B → C) (f : A → B) (xs : List A) → map g (map f xs) ≡ map (λ x. g (f x)) xs
-map-map g f [] = refl
-map-map g f (x ∷ xs) = ap (λ ys. g (f x) ∷ ys) (map-map g f xs)
+use Rattle.iscsi_history.proofs.NewlyLemmas.{all_here, filter-twice, is_here, new_in, new_in-more, was_free-stays}
+use Rattle.iscsi_history.proofs.EnabledItems.{was_before}
 
 -- ---- a set, after a moment
 
@@ -60,15 +38,6 @@ noted o t item unit =
     map-map (looked_at (map (member_of o t) cs)) (member_of o t) cs
     ∙ map_all (λ c. looked_at (map (member_of o t) cs) (member_of o t c)) (λ c. record { task = task_of o c; enabled = was_free c (item ∷ t); given = was_free c t }) (is_here unit cs) cs (all_here unit (item ∷ t))
     (λ c here. ap (λ b. let m : Member = record { task = task_of o c; enabled = b; given = was_free c t } in m) (noted_one o t item unit c here))
-
-was_before : (c : Command) (item : List Mark) (t : Trace) → (was_free c t || was_free c (item ∷ t)) ≡ was_free c (item ∷ t)
-was_before c item t = absorb (was_free c t) (is_free_at c (item ∷ t))
-  where
-    absorb : (a b : Bool) → (a || (b || a)) ≡ (b || a)
-    absorb true true = refl
-    absorb true false = refl
-    absorb false true = refl
-    absorb false false = refl
 
 -- once they are given, it is the set after the item
 pub noted_given : (o : Setting) (t : Trace) (item : List Mark) (unit : ℕ) → map as_given (after_moment (map (member_of o t) (live_in unit (item ∷ t)))) ≡ set_of o (item ∷ t) unit
@@ -106,20 +75,6 @@ set_of-stays o item t unit more now =
 
 pub set_of-same : (o : Setting) (item : List Mark) (t : Trace) (unit : ℕ) → live_in unit (item ∷ t) ≡ live_in unit t → set_of o (item ∷ t) unit ≡ set_of o t unit
 set_of-same o item t unit now = ap (map (member_of o (item ∷ t))) now ∙ set_of-stays o item t unit [] (now ∙ sym (append-nil (live_in unit t)))
-
-flat_map-one : {A : Type 0} (f : ℕ → List A) (from n k : ℕ) → from ≤ k → k < from + n → ((j : ℕ) → (j == k) ≡ false → f j ≡ []) → flat_map f (range_with_len from n) ≡ f k
-flat_map-one f from zero k low high none = absurd (omega arith)
-flat_map-one f from (suc n) k low high none =
-    ⊎_elim
-    (λ here.
-    ap (λ ys. f from ++ ys) (flat_map-none f (from + 1) n (λ j le. none j (let no : (j == k) ≡ false = grind (arith, nat_tests) in no)))
-    ∙ append-nil (f from) ∙ ap f here)
-    (λ apart. ap (λ ys. ys ++ flat_map f (range_with_len (from + 1) n)) (none from (let no : (from == k) ≡ false = grind (arith, nat_tests) in no)) ∙ flat_map-one f (from + 1) n k (omega arith) (omega arith) none)
-    (cases_eq from k)
-
--- one that touches a single unit enables commands of that one
-pub newly-one : (o : Setting) (item : List Mark) (t : Trace) (unit : ℕ) → unit < o.units → ((other : ℕ) → (other == unit) ≡ false → live_in other (item ∷ t) ≡ live_in other t) → newly_enabled o t item ≡ new_in t item unit
-newly-one o item t unit inside same = flat_map-one (new_in t item) 0 o.units unit (omega arith) (omega arith) (λ other apart. new_in-none item t other (same other apart))
 
 -- ---- a set that a command enters: only that one can be new
 

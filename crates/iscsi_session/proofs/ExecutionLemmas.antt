@@ -1,11 +1,10 @@
 -- A request executes.
-use Rattle.std.proofs.Common.{◌≡◌, ℕ, pos, ◌-ℤ◌, ◌+◌, ◌<◌, ◌==◌, ◌&&◌, ◌||◌, not, cond, Bool, true, false, nat_lt, nat_le, List, [], ◌∷◌, ◌++◌, length, map, filter, count_by, get_or, Option, Some, None, option_map, refl, ap, sym, subst, ◌∙◌, arith}
+use Rattle.std.proofs.Common.{◌≡◌, ℕ, pos, ◌-ℤ◌, ◌+◌, ◌<◌, ◌==◌, ◌&&◌, ◌||◌, not, cond, Bool, true, false, nat_lt, nat_le, List, [], ◌∷◌, ◌++◌, length, map, count_by, get_or, Option, Some, None, option_map, refl, ap, sym, subst, ◌∙◌, arith}
 use Rattle.std.specs.List.{list_any, list_all, filter_map, cons_option}
 use Rattle.std.proofs.lemmas.Bool.Decides.{nat_tests}
 use Rattle.std.proofs.lemmas.List.{append-nil, length-map}
 use Rattle.iscsi_wire.specs.declared.request.Request.{Request}
 use Rattle.iscsi_wire.specs.declared.reply.Reply.{Reply}
-use Rattle.iscsi_wire.specs.declared.reply.Reply.TheVariants.{Reject}
 use Rattle.iscsi_wire.specs.Serial.{number_of_first}
 use Rattle.iscsi_wire.specs.Fields.{connection_of, is_immediate, opcode, attr_code, itt}
 use Rattle.iscsi_window.specs.Windows.{Received, with_unfinished}
@@ -17,8 +16,8 @@ use Rattle.iscsi_commands.specs.declared.live.Live.{Live}
 use Rattle.iscsi_history.specs.declared.verdict.Verdict.{Verdict}
 use Rattle.iscsi_history.specs.declared.verdict.Verdict.TheVariants.{Nothing, Answer, Enter as EnterUnit}
 use Rattle.iscsi_history.specs.rules.Settings.{Setting, is_known}
-use Rattle.iscsi_history.specs.rules.Trace.{Arrival, Command, Mark, Enters, Sends, Trace, waiting, waiting_by, waiting_through, enters, leaves_ticket, sent_on, entered, live, live_in}
-use Rattle.iscsi_history.specs.rules.Execution.{unfinished, unit_named, attr_of, scsi_to, scsi_verdict, request_verdict, is_tag_live, is_crowded, is_full, place_named, verdict_of, next_command, marks_of}
+use Rattle.iscsi_history.specs.rules.Trace.{Arrival, Command, Mark, Enters, Sends, Trace, waiting, waiting_by, enters, leaves_ticket, sent_on, entered, live, live_in}
+use Rattle.iscsi_history.specs.rules.Execution.{unfinished, unit_named, attr_of, request_verdict, is_tag_live, is_crowded, is_full, place_named, verdict_of, next_command, marks_of}
 use Rattle.iscsi_history.specs.rules.Management.{may_wait, management_marks}
 use Rattle.iscsi_history.specs.rules.Items.{execution}
 use Rattle.iscsi_history.specs.rules.Run.{effects_of_mark, effects_of_item, newly_enabled, stat_sn_of}
@@ -27,27 +26,23 @@ use Rattle.iscsi_history.specs.promises.Enabling.{EnabledSoFar}
 use Rattle.iscsi_session.specs.private.Steps.{new_live, new_task, number_by, event_by, started, is_tag_kept, is_immediate_on, is_crowded_by, is_set_full, place_in, verdict_by, executed_as, execution_effects}
 use Rattle.iscsi_history.specs.rules.Logout.{logout_marks}
 use Rattle.iscsi_history.proofs.BoolLemmas.{and_both}
-use Rattle.iscsi_session.proofs.OpenConns.{ClosesNone, open_of-same, closes-more}
+use Rattle.iscsi_session.proofs.OpenConns.{open_of-same}
 use Rattle.iscsi_history.proofs.ListLemmas.{list_any-map, count_by-map, count_by-push}
 use Rattle.iscsi_history.proofs.DeliveryLemmas.{IsQuiet}
 use Rattle.iscsi_session.proofs.WindowParts.{Turned, WindowAgrees-started}
 use Rattle.iscsi_session.proofs.ReplyParts.{RepliesAgree-quiet, RepliesAgree-sent}
 use Rattle.iscsi_history.proofs.MomentLemmas.{enables}
 use Rattle.iscsi_history.proofs.NewlyLemmas.{never_free}
-use Rattle.iscsi_session.proofs.EnablingLemmas.{EnabledSoFar-untouched, EnabledSoFar-entered}
-use Rattle.iscsi_history.proofs.NewlyLemmas.{Untouched, live-untouched}
-use Rattle.iscsi_session.proofs.CommandParts.{CommandsAgree-untouched, EntersOne, live-entered, CommandsAgree-entered}
+use Rattle.iscsi_session.proofs.EnablingLemmas.{EnabledSoFar-entered}
+use Rattle.iscsi_history.proofs.NewlyLemmas.{Untouched}
+use Rattle.iscsi_session.proofs.CommandParts.{CommandsAgree-untouched, live-entered, CommandsAgree-entered}
 use Rattle.iscsi_history.proofs.NewlyLemmas.{newly-untouched}
 use Rattle.iscsi_session.proofs.SetParts.{SetsAgree-untouched, SetEntry, SetsAgree-entered}
-use Rattle.iscsi_session.proofs.AgreeLemmas.{unfinished-untouched}
 use Rattle.iscsi_history.proofs.VerdictLemmas.{named_below, Entering, entering_by}
-
--- where neither tag nor ATTR is wrong, the unit's table decides
-pub by_place : (r : Request) (used crowded : Bool) (place : Option (ℕ × Bool)) → (itt r == 0xffff_ffff) ≡ false → nat_lt 3 (attr_code r) ≡ false → used ≡ false → scsi_verdict r used crowded place ≡ scsi_to r crowded place
-by_place r used crowded place tag attr unused =
-    ap (λ b. cond b (Answer (Reject 9 r.bytes)) (cond (nat_lt 3 (attr_code r)) (Answer (Reject 9 r.bytes)) (cond used (Answer (Reject 7 r.bytes)) (scsi_to r crowded place)))) tag
-    ∙ ap (λ b. cond b (Answer (Reject 9 r.bytes)) (cond used (Answer (Reject 7 r.bytes)) (scsi_to r crowded place))) attr
-    ∙ ap (λ b. cond b (Answer (Reject 7 r.bytes)) (scsi_to r crowded place)) unused
+use Rattle.iscsi_history.proofs.ClosingItems.{ClosesNone, closes-more}
+use Rattle.iscsi_history.proofs.EnabledItems.{EnabledSoFar-untouched}
+use Rattle.iscsi_history.proofs.CommandItems.{EntersOne, unfinished-untouched, verdict-untouched}
+use Rattle.iscsi_history.proofs.EmptyingMarks.{quiet-marks}
 
 pub placed : (sets : List Members) (r : Request) (u : ℕ) (full : Bool) → place_in sets r ≡ Some (u, full) → (u < length sets) × (is_set_full (get_or sets u (opened 0)) ≡ full)
 placed sets r u full h = by_unit (unit_named (length sets) r) refl h
@@ -84,23 +79,7 @@ verdict_is o s t r commands sets =
     ∙ ap (λ b. request_verdict r (is_tag_live t (itt r)) b (place_in s.sets r)) (crowded_is s t r commands.commands)
     ∙ ap (request_verdict r (is_tag_live t (itt r)) (is_crowded t r)) (place_is o s t r sets)
 
--- it is the same after an item that nothing enters or leaves by
-verdict-untouched : (o : Setting) (t : Trace) (item : List Mark) (r : Request) → Untouched item → verdict_of o (item ∷ t) r ≡ verdict_of o t r
-verdict-untouched o t item r u =
-    ap (λ (cs : List Command). request_verdict r (list_any (λ c. itt c.arrival.request == itt r) cs) (is_immediate r && nat_le 8 (count_by (λ (c : Command). is_immediate c.arrival.request && connection_of c.arrival.request == connection_of r) cs)) (option_map {U = ℕ × Bool} (λ unit. (unit, nat_le o.depth (length (filter (λ (c : Command). c.unit == unit) cs)))) (unit_named o.units r))) (live-untouched item t u)
-
 -- ---- an execution
-
-pub quiet-marks : (t : Trace) (a : Arrival) (v : Verdict) → IsQuiet (marks_of t a v)
-quiet-marks t a Nothing = record { receives = refl; admits = λ n. refl; delivers_none = refl; delivers_no = λ n. refl; empties_no = λ n. refl }
-quiet-marks t a (Answer reply) = record { receives = refl; admits = λ n. refl; delivers_none = refl; delivers_no = λ n. refl; empties_no = λ n. refl }
-quiet-marks t a (EnterUnit unit) = record { receives = refl; admits = λ n. refl; delivers_none = refl; delivers_no = λ n. refl; empties_no = λ n. refl }
-
--- no function begins or ceases to wait by them
-pub calm-marks : (t : Trace) (a : Arrival) (v : Verdict) (ws : List Arrival) → waiting_through (marks_of t a v) ws ≡ ws
-calm-marks t a Nothing ws = refl
-calm-marks t a (Answer reply) ws = refl
-calm-marks t a (EnterUnit unit) ws = refl
 
 -- a request begins to execute. This is kept by then, and its item begins with this mark and this effect
 pub record Begun (o : Setting) (s : Core) (t : Trace) (m : Mark) (e : Effect) (a : Arrival) : Type 0 where

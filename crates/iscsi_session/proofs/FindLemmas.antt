@@ -1,6 +1,6 @@
 -- What ABORT TASK finds: a session's lookups against those of the definitions.
-use Rattle.std.proofs.Common.{◌≡◌, ℕ, zero, suc, ◌+◌, ◌-◌, ◌<◌, ◌≤◌, ◌==◌, ◌&&◌, not, ⊎_elim, cond, Bool, true, false, List, [], ◌∷◌, ◌++◌, length, map, filter, find, take, get_or, position, Option, Some, None, option_map, nat_lt, refl, ap, sym, subst, ◌∙◌, arith}
-use Rattle.std.specs.List.{range_with_len, position_or_len}
+use Rattle.std.proofs.Common.{◌≡◌, ℕ, zero, suc, ◌+◌, ◌-◌, ◌<◌, ◌≤◌, ◌==◌, ◌&&◌, ⊎_elim, cond, Bool, true, false, List, [], ◌∷◌, ◌++◌, length, map, filter, find, take, get_or, position, Option, Some, None, option_map, nat_lt, refl, ap, sym, subst, ◌∙◌, arith}
+use Rattle.std.specs.List.{range_with_len}
 use Rattle.std.proofs.lemmas.Bool.{cases_lt, lt-ltb, le-ltb}
 use Rattle.std.proofs.lemmas.Bool.Decides.{nat_tests}
 use Rattle.iscsi_wire.specs.declared.request.Request.{Request}
@@ -11,41 +11,11 @@ use Rattle.iscsi_commands.specs.declared.live.Live.{Live}
 use Rattle.iscsi_history.specs.rules.Settings.{Setting}
 use Rattle.iscsi_history.specs.rules.Trace.{Arrival, Command, Trace, first_of, is_received, held, held_among, live}
 use Rattle.iscsi_history.specs.rules.Execution.{exp_of}
-use Rattle.iscsi_history.specs.rules.Management.{is_to, held_requests, held_command, live_with_tag}
-use Rattle.iscsi_history.proofs.BoolLemmas.{and_first}
+use Rattle.iscsi_history.specs.rules.Management.{is_to, held_command, live_with_tag}
 use Rattle.iscsi_session.specs.promises.Standing.{Core, place_of, kept, WindowAgrees}
 use Rattle.iscsi_session.specs.private.Functions.{tagged_in}
-use Rattle.iscsi_history.proofs.HeldLemmas.{held-number}
-use Rattle.iscsi_session.proofs.MissingLemmas.{held_received}
-
--- ---- the first place that passes
-
-pub position-cons : {A : Type 0} (p : A → Bool) (x : A) (xs : List A) → position p (x ∷ xs) ≡ cond (p x) (Some 0) (option_map suc (position p xs))
-position-cons p x xs =
-    let k : ℕ = position_or_len p xs in
-    elim (p x) as (λ b. cond (nat_lt (cond (not b) (1 + k) 0) (suc (length xs))) (Some (cond (not b) (1 + k) 0)) None ≡ cond b (Some 0) (option_map suc (position p xs))) [
-      | true ↦ ap (λ b. cond b (Some 0) None) (lt-ltb 0 (suc (length xs)) (omega arith))
-      | false ↦ ⊎_elim
-          (λ lt. ap (λ b. cond b (Some (1 + k)) None) (lt-ltb (1 + k) (suc (length xs)) (omega arith)) ∙ ap (λ (n : ℕ). Some n) (let z : 1 + k ≡ suc k = omega arith in z) ∙ sym (ap (λ b. option_map suc (cond b (Some k) None)) (lt-ltb k (length xs) lt)))
-          (λ ge. ap (λ b. cond b (Some (1 + k)) None) (le-ltb (1 + k) (suc (length xs)) (omega arith)) ∙ sym (ap (λ b. option_map suc (cond b (Some k) None)) (le-ltb k (length xs) ge)))
-          (cases_lt k (length xs))
-    ]
-
-pub position-within : {A : Type 0} (p : A → Bool) (xs : List A) (k : ℕ) → position p xs ≡ Some k → k < length xs
-position-within p xs k h =
-    elim (nat_lt (position_or_len p xs) (length xs)) as (λ b. nat_lt (position_or_len p xs) (length xs) ≡ b → cond b (Some (position_or_len p xs)) None ≡ Some k → k < length xs) [
-      | true ↦ λ is found. let same : position_or_len p xs ≡ k = cc in let lt : position_or_len p xs < length xs = grind (arith, nat_tests) in subst (λ n. n < length xs) same lt
-      | false ↦ λ is found. absurd cc
-    ] refl h
-
--- what is found passes
-first_itself : {A : Type 0} (p : A → Bool) (xs : List A) (x : A) → first_of (filter p xs) ≡ Some x → p x ≡ true
-first_itself p [] x found = absurd cc
-first_itself p (y ∷ xs) x found =
-    elim (p y) as (λ b. p y ≡ b → first_of (cond b (y ∷ filter p xs) (filter p xs)) ≡ Some x → p x ≡ true) [
-      | true ↦ λ is here. let same : y ≡ x = cc in ap p (sym same) ∙ is
-      | false ↦ λ is later. first_itself p xs x later
-    ] refl found
+use Rattle.iscsi_history.proofs.HeldLemmas.{held-number, held_received}
+use Rattle.iscsi_history.proofs.PlaceLemmas.{position-cons}
 
 -- ---- held commands
 
@@ -179,15 +149,6 @@ held_command-is o w t tag unit sn h exp inside =
 -- and is held at a place of the window
 pub held_command-held : (o : Setting) (t : Trace) (tag unit below : ℕ) (h : Arrival) → held_command o t tag unit below ≡ Some h → (held t h.number ≡ Some h) × ((exp_of o t ≤ h.number) × (h.number < exp_of o t + o.window))
 held_command-held o t tag unit below h found = found_held o t tag unit below o.window (exp_of o t) h found
-
--- it is below the function's number
-pub held_command-below : (o : Setting) (t : Trace) (tag unit below : ℕ) (h : Arrival) → held_command o t tag unit below ≡ Some h → h.number < below
-held_command-below o t tag unit below h found =
-    let passes : (nat_lt h.number below && opcode h.request == 0x01 && itt h.request == tag && is_to o unit h.request) ≡ true = first_itself (λ x. nat_lt x.number below && opcode x.request == 0x01 && itt x.request == tag && is_to o unit x.request) (held_requests o t) h found in
-    by_test (and_first (nat_lt h.number below) (opcode h.request == 0x01) (and_first (nat_lt h.number below && opcode h.request == 0x01) (itt h.request == tag) (and_first (nat_lt h.number below && opcode h.request == 0x01 && itt h.request == tag) (is_to o unit h.request) passes)))
-  where
-    by_test : nat_lt h.number below ≡ true → h.number < below
-    by_test test = let lt : h.number < below = grind (arith, nat_tests) in lt
 
 -- none is held below ExpCmdSN
 pub held_command-none : (o : Setting) (t : Trace) (tag unit below : ℕ) → below ≤ exp_of o t → held_command o t tag unit below ≡ None

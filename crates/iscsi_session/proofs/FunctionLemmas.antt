@@ -1,12 +1,13 @@
 -- A request executes: a task management function or another one, at its turn, at its arrival, or once it has waited.
-use Rattle.std.proofs.Common.{◌≡◌, ℕ, ℤ, pos, ◌-ℤ◌, ◌+◌, ◌-◌, ◌<◌, ◌≤◌, ◌==◌, ◌&&◌, ◌||◌, not, ⊎_elim, cond, Bool, true, false, nat_lt, nat_le, int_lt, List, [], ◌∷◌, ◌++◌, length, map, filter, find, count_by, is_some, ◌⊎◌, inl, inr, Option, Some, None, refl, ap, sym, subst, ◌∙◌, arith, append_assoc, length-set, eq-eqb, Decides}
+use Rattle.std.proofs.Common.{◌≡◌, ℕ, ℤ, pos, ◌-ℤ◌, ◌+◌, ◌-◌, ◌<◌, ◌==◌, ◌&&◌, ◌||◌, not, cond, Bool, true, false, nat_lt, nat_le, List, [], ◌∷◌, ◌++◌, length, map, filter, find, count_by, is_some, ◌⊎◌, inl, inr, Option, Some, None, refl, ap, sym, subst, ◌∙◌, arith, length-set}
 use Rattle.std.specs.List.{list_any, list_all, filter_map, flat_map, cons_option}
 use Rattle.std.specs.Ordering.{int_eq}
-use Rattle.std.proofs.lemmas.Int.{ints}
-use Rattle.std.proofs.lemmas.Bool.{cases_eq, false≢true, eqb-true}
-use Rattle.std.proofs.lemmas.Bool.Decides.{nat_tests, Decides-int_eq}
+use Rattle.std.proofs.lemmas.Bool.{false≢true, eqb-true}
+use Rattle.std.proofs.lemmas.Bool.Decides.{nat_tests}
 use Rattle.std.proofs.lemmas.List.{append-nil, map-append}
 use Rattle.std.proofs.lemmas.List.Folds.{list_any-append, list_all-append}
+use Rattle.std.proofs.lemmas.List.Elements.{filter_map-append}
+use Rattle.std.proofs.lemmas.Grind.{flat_map-append}
 use Rattle.iscsi_wire.specs.declared.reply.Reply.{Reply}
 use Rattle.iscsi_wire.specs.declared.reply.Reply.TheVariants.{Task as TaskReply, Reject}
 use Rattle.iscsi_wire.specs.declared.request.Request.{Request}
@@ -29,7 +30,7 @@ use Rattle.iscsi_session.specs.declared.deferral.Deferral.TheVariants.{Now, Late
 use Rattle.iscsi_history.specs.declared.verdict.Verdict.{Verdict}
 use Rattle.iscsi_history.specs.declared.verdict.Verdict.TheVariants.{Nothing, Answer, Enter as EnterUnit}
 use Rattle.iscsi_history.specs.rules.Settings.{Setting, is_known}
-use Rattle.iscsi_history.specs.rules.Trace.{Arrival, Command, Mark, Executes, Delivers, Voids, Empties, Waits, Leaves, Trace, admits_at, delivers_number, empties_number, shown, first_of, is_received, is_delivered, is_emptied, held, admitted, waiting, waiting_by, waiting_through, live, live_in, enters, leaves_ticket, sent_on}
+use Rattle.iscsi_history.specs.rules.Trace.{Arrival, Command, Mark, Executes, Delivers, Voids, Empties, Waits, Leaves, Trace, admits_at, shown, is_received, held, waiting, waiting_by, waiting_through, live, live_in, enters, leaves_ticket, sent_on}
 use Rattle.iscsi_history.specs.rules.Execution.{exp_of, max_of, unit_named, reply_on, marks_of, verdict_of}
 use Rattle.iscsi_history.specs.rules.Management.{may_wait, waiting_on, refusal_to, refusal_of_function, answer, is_before, abort_all, abort_task, query, function_to, function_marks, management_marks}
 use Rattle.iscsi_history.specs.rules.Agenda.{arrival_of}
@@ -41,54 +42,37 @@ use Rattle.iscsi_session.specs.private.Steps.{count_reply, with_reply, reply_eff
 use Rattle.iscsi_session.specs.private.Turning.{position_by, next_position, without_waiting, performed, performed_effects, managed, managed_effects, with_executed, executed_effects, next_arrived, next_waiting, waiting_in, wait_by, function_if, function_effects, deferral_by, immediate_as, immediate_effects}
 use Rattle.iscsi_history.specs.rules.Logout.{logout_marks}
 use Rattle.iscsi_session.specs.private.Closing.{closing_by, closed_as, closed_effects}
-use Rattle.iscsi_session.proofs.OpenConns.{ClosesNone, open_of-same, closes-more}
+use Rattle.iscsi_session.proofs.OpenConns.{open_of-same}
 use Rattle.iscsi_session.proofs.LogoutItem.{logout-item}
 use Rattle.iscsi_session.proofs.LoggedOutLemmas.{closed_expected}
 use Rattle.iscsi_history.proofs.BoolLemmas.{and_parts, and_true}
-use Rattle.iscsi_history.proofs.ListLemmas.{count_by-map, list_any-map, list_all-filter, find-passes, any_filter, any_same}
+use Rattle.iscsi_history.proofs.ListLemmas.{count_by-map, list_any-map, list_all-filter, find-passes, any_filter, any_same, find-found}
 use Rattle.iscsi_history.proofs.TraceLemmas.{filter-same}
 use Rattle.iscsi_history.proofs.DeliveryLemmas.{IsQuiet}
-use Rattle.iscsi_history.proofs.HeldLemmas.{held-number, admitted_of_held}
-use Rattle.iscsi_session.proofs.WindowLemmas.{find-found}
+use Rattle.iscsi_history.proofs.HeldLemmas.{held-number, admitted_of_held, held_before}
 use Rattle.iscsi_session.proofs.WindowParts.{Next, turned_window, WindowAgrees-quiet}
 use Rattle.iscsi_session.proofs.ArrivedLemmas.{ArrivalsAgree-quiet}
-use Rattle.iscsi_session.proofs.ReceiveLemmas.{no_abort_task}
 use Rattle.iscsi_session.proofs.WaitLemmas.{kept_waiting}
 use Rattle.iscsi_history.proofs.NewlyLemmas.{Untouched, live_in-untouched}
 use Rattle.iscsi_session.proofs.CommandParts.{CommandsAgree-untouched}
 use Rattle.iscsi_session.proofs.ReplyParts.{RepliesAgree-quiet, RepliesAgree-sent}
 use Rattle.iscsi_history.proofs.MomentLemmas.{enables}
-use Rattle.iscsi_session.proofs.EnablingLemmas.{EnabledSoFar-untouched}
 use Rattle.iscsi_history.proofs.NewlyLemmas.{newly-untouched}
 use Rattle.iscsi_session.proofs.SetParts.{SetsAgree-untouched}
-use Rattle.iscsi_session.proofs.AgreeLemmas.{unfinished-untouched, settled_expected, settled_max}
+use Rattle.iscsi_session.proofs.AgreeLemmas.{settled_expected, settled_max}
 use Rattle.iscsi_history.proofs.VerdictLemmas.{named_below}
+use Rattle.iscsi_history.proofs.ClosingItems.{ClosesNone, closes-more}
+use Rattle.iscsi_history.proofs.ReceivedItems.{no_abort_task, may_immediate}
+use Rattle.iscsi_history.proofs.EnabledItems.{EnabledSoFar-untouched}
+use Rattle.iscsi_history.proofs.CommandItems.{unfinished-untouched}
+use Rattle.iscsi_history.proofs.NumberLemmas.{position_eq, position_lt}
+use Rattle.iscsi_history.proofs.EmptyingMarks.{quiet_executes}
 use Rattle.iscsi_session.proofs.ExecutionLemmas.{Begun, Executed, nothing_more, answered, executed-item, untouched-begun}
 use Rattle.iscsi_session.proofs.LeavingLemmas.{covered_in, leaving_item, leaving-item}
 use Rattle.iscsi_session.proofs.AbortParts.{numbered_outcome, EmptiesHeld, VoidsMissing, AbortsAs, AbortsAs-arrived, AbortsAs-turned, WindowAgrees-emptying, WindowAgrees-voiding, void_effects-are}
 use Rattle.iscsi_session.proofs.TurnLemmas.{turned_core, numbered_held, turn-begun, arrived_next, number_next, event_next}
 
 -- ---- a command is before a function, by positions
-
-position_lt : (x y f : ℕ) → int_lt (pos x -ℤ pos f) (pos y -ℤ pos f) ≡ nat_lt x y
-position_lt x y f = by_test (int_lt (pos x -ℤ pos f) (pos y -ℤ pos f)) refl
-  where
-    by_test : (b : Bool) → int_lt (pos x -ℤ pos f) (pos y -ℤ pos f) ≡ b → int_lt (pos x -ℤ pos f) (pos y -ℤ pos f) ≡ nat_lt x y
-    by_test true is = is ∙ (let lt : x < y = omega (arith, ints, is) in let z : nat_lt x y ≡ true = grind (arith, nat_tests) in sym z)
-    by_test false is = is ∙ (let le : y ≤ x = omega (arith, ints, is) in let z : nat_lt x y ≡ false = grind (arith, nat_tests) in sym z)
-
-position_eq : (x y f : ℕ) → int_eq (pos x -ℤ pos f) (pos y -ℤ pos f) ≡ (x == y)
-position_eq x y f = by_test (int_eq (pos x -ℤ pos f) (pos y -ℤ pos f)) refl
-  where
-    decides : Decides (int_eq (pos x -ℤ pos f) (pos y -ℤ pos f)) ((pos x -ℤ pos f) ≡ (pos y -ℤ pos f))
-    decides = Decides-int_eq (pos x -ℤ pos f) (pos y -ℤ pos f)
-
-    by_test : (b : Bool) → int_eq (pos x -ℤ pos f) (pos y -ℤ pos f) ≡ b → int_eq (pos x -ℤ pos f) (pos y -ℤ pos f) ≡ (x == y)
-    by_test true is = is ∙ (let same : x ≡ y = omega (arith, ints, decides.0 is) in sym (eq-eqb x y same))
-    by_test false is = is ∙ ⊎_elim
-        (λ same. absurd (false≢true (sym is ∙ decides.1 (ap (λ n. pos n -ℤ pos f) same))))
-        (λ apart. let no : (x == y) ≡ false = grind (arith, nat_tests) in sym no)
-        (cases_eq x y)
 
 covers_before : (o : Setting) (a : Arrival) (c : Command) → is_covered (Below (pos a.number -ℤ pos (number_of_first o.first)) a.event) (task_of o c) ≡ is_before a c
 covers_before o a c =
@@ -169,33 +153,7 @@ module _ (o : Setting) (s : Core) (t : Trace) (m : Mark) (e : Effect) (a : Arriv
         ]
       ] refl
 
--- ---- lists of marks
-
-filter_map-append : {A B : Type 0} (f : A → Option B) (xs ys : List A) → filter_map f (xs ++ ys) ≡ filter_map f xs ++ filter_map f ys
-filter_map-append f [] ys = refl
-filter_map-append f (x ∷ xs) ys =
-    elim (f x) as (λ y. cons_option y (filter_map f (xs ++ ys)) ≡ cons_option y (filter_map f xs) ++ filter_map f ys) [
-      | None ↦ filter_map-append f xs ys
-      | Some y ↦ ap (λ zs. y ∷ zs) (filter_map-append f xs ys)
-    ]
-
-flat_map-append : {A B : Type 0} (f : A → List B) (xs ys : List A) → flat_map f (xs ++ ys) ≡ flat_map f xs ++ flat_map f ys
-flat_map-append f [] ys = refl
-flat_map-append f (x ∷ xs) ys = ap (λ zs. f x ++ zs) (flat_map-append f xs ys) ∙ sym (append_assoc (f x) (flat_map f xs) (flat_map f ys))
-
 -- ---- what an outcome makes of the session
-
--- what is held after an item that admits nothing was held before
-held_before : (item : List Mark) (t : Trace) (n : ℕ) (h : Arrival) → filter_map (admits_at n) item ≡ [] → held (item ∷ t) n ≡ Some h → held t n ≡ Some h
-held_before item t n h none found = by_tests (list_any (delivers_number n) item) (is_delivered t n) (list_any (empties_number n) item) (is_emptied t n)
-    (sym (ap (λ xs. cond (is_delivered (item ∷ t) n || is_emptied (item ∷ t) n) None (first_of (shown (admits_at n) t ++ xs))) none ∙ ap (λ xs. cond (is_delivered (item ∷ t) n || is_emptied (item ∷ t) n) None (first_of xs)) (append-nil (shown (admits_at n) t))) ∙ found)
-  where
-    by_tests : (d d' f f' : Bool) → cond ((d || d') || (f || f')) None (admitted t n) ≡ Some h → cond (d' || f') None (admitted t n) ≡ Some h
-    by_tests true d' f f' k = absurd cc
-    by_tests false true f f' k = absurd cc
-    by_tests false false true f' k = absurd cc
-    by_tests false false false true k = absurd cc
-    by_tests false false false false k = k
 
 -- a window scope next number and length are the same
 record SameFrame (w w' : Received) : Type 0 where
@@ -433,9 +391,6 @@ turned-item o s t r h place x =
 
 -- ---- an immediate request begins to execute
 
-quiet_executes : (a : Arrival) (ms : List Mark) → IsQuiet ms → IsQuiet (Executes a ∷ ms)
-quiet_executes a ms q = record { receives = q.receives; admits = q.admits; delivers_none = q.delivers_none; delivers_no = q.delivers_no; empties_no = q.empties_no }
-
 immediate_begun : (o : Setting) (s s' : Core) (t : Trace) (a : Arrival) → Agrees o s t → s' ≡ record s { waiting = s'.waiting } → is_immediate a.request ≡ true → is_known (connection_of a.request) o.conns ≡ true
     → waiting_by (Executes a) (waiting t) ≡ map (arrival_waiting o.first) s'.waiting → list_all (λ w. may_wait w.request) s'.waiting ≡ true → list_all (λ w. is_known (connection_of w.request) o.conns) s'.waiting ≡ true
     → Begun o s' t (Executes a) (Immediate a.request) a
@@ -468,10 +423,6 @@ immediate_begun o s s' t a h is immediate known waits may waits_known =
 
 found_turn : (turned : ℕ) (ws : List Waiting) (w : Waiting) → find (λ v. v.turn == turned) ws ≡ Some w → w.turn ≡ turned
 found_turn turned ws w found = eqb-true w.turn turned (find-found (λ (v : Waiting). v.turn == turned) ws w found)
-
--- a function that may wait is immediate, and no ABORT TASK
-may_immediate : (r : Request) → may_wait r ≡ true → is_immediate r ≡ true
-may_immediate r may = (and_parts (is_immediate r) (function r == 2 || function r == 4 || function r == 5) may).0
 
 pub waited-item : (o : Setting) (s : Core) (t : Trace) (w : Waiting) → Agrees o s t → next_waiting s ≡ Some w
     → Agrees o (function_if s (Some w)) (function_item o t (arrival_waiting o.first w) ∷ t) × (function_effects s (Some w) ≡ effects_of_item o t (function_item o t (arrival_waiting o.first w)))

@@ -1,5 +1,5 @@
 -- The commands of a set that became enabled, given one after the other.
-use Rattle.std.proofs.Common.{◌≡◌, ℕ, zero, suc, ◌+◌, ◌&&◌, ◌||◌, not, cond, Bool, true, false, List, [], ◌∷◌, ◌++◌, map, filter, find, Some, None, option_map, replicate, refl, ap, sym, ◌∙◌, arith, count_by}
+use Rattle.std.proofs.Common.{◌≡◌, ℕ, ◌+◌, ◌&&◌, ◌||◌, not, cond, Bool, true, false, List, [], ◌∷◌, map, filter, find, Some, None, option_map, refl, ap, sym, ◌∙◌, arith, count_by}
 use Rattle.std.proofs.lemmas.List.Sums.{sum_by-cons}
 use Rattle.iscsi_tasks.specs.declared.member.Member.{Member}
 use Rattle.iscsi_tasks.specs.Sets.{is_new, next_in, given_in}
@@ -78,7 +78,3 @@ given_all unit (m ∷ ms) h = by_new (is_new m) refl (given_all unit ms) h
           unchanged = ap (λ b. cond b (record { task = m.task; enabled = m.enabled; given = true } ∷ ms) (m ∷ given_in ms)) is ∙ ap (λ xs. m ∷ xs) rest.unchanged;
           none_new = omega (arith, counted, rest.none_new);
         }
-
-pub replicate_more : {A : Type 0} (n : ℕ) (x : A) → replicate n x ++ x ∷ [] ≡ replicate (n + 1) x
-replicate_more zero x = refl
-replicate_more (suc n) x = ap (λ xs. x ∷ xs) (replicate_more n x) ∙ ap (λ m. replicate m x) (let z : suc (n + 1) ≡ suc n + 1 = omega arith in z)

@@ -1,5 +1,5 @@
 -- The live commands that a session keeps, beside its task sets.
-use Rattle.std.proofs.Common.{◌≡◌, ℕ, zero, suc, ◌+◌, ◌<◌, ◌≤◌, ◌==◌, ◌&&◌, not, ⊎_elim, cond, Bool, true, false, nat_lt, nat_le, List, [], ◌∷◌, ◌++◌, length, map, filter, find, take, drop, get_or, set, Option, Some, None, refl, ap, sym, ◌∙◌, arith, length-set, eq-eqb}
+use Rattle.std.proofs.Common.{◌≡◌, ℕ, zero, suc, ◌+◌, ◌<◌, ◌≤◌, ◌==◌, ◌&&◌, not, ⊎_elim, cond, Bool, true, false, nat_lt, nat_le, List, [], ◌∷◌, ◌++◌, length, map, filter, get_or, set, Option, Some, None, refl, ap, sym, ◌∙◌, arith, length-set, eq-eqb}
 use Rattle.std.specs.List.{list_all}
 use Rattle.std.proofs.lemmas.Bool.{cases_eq, eqb-true}
 use Rattle.std.proofs.lemmas.Bool.Decides.{nat_tests}
@@ -8,31 +8,15 @@ use Rattle.std.proofs.lemmas.List.Elements.{filter-append}
 use Rattle.std.proofs.lemmas.List.Folds.{list_all-append}
 use Rattle.iscsi_tasks.specs.declared.task.Task.{Task}
 use Rattle.iscsi_tasks.specs.declared.member.Member.{Member}
-use Rattle.iscsi_tasks.specs.Sets.{Members, opened, tasks_in, entered_to, left_by, with_ticket, without, is_enabled_in, looked_at, after_moment, is_new, given_in, given_by}
+use Rattle.iscsi_tasks.specs.Sets.{Members, opened, entered_to, is_enabled_in, after_moment, given_by}
 use Rattle.iscsi_commands.specs.declared.live.Live.{Live}
 use Rattle.iscsi_session.specs.promises.Standing.{Core, Match, are_ascending, are_within, tickets_of, tickets_in}
 use Rattle.iscsi_session.specs.private.Steps.{set_at, enabled_of, find_ticket, without_ticket, all_given, as_given, set_without}
 use Rattle.iscsi_history.proofs.BoolLemmas.{and_parts, and_both}
-use Rattle.iscsi_session.proofs.EnabledLemmas.{filter-map, map-map}
-use Rattle.iscsi_session.proofs.CommandParts.{filter-swap}
-use Rattle.iscsi_history.proofs.ListLemmas.{list_all-filter, filter-shorter}
-use Rattle.iscsi_session.proofs.WindowLemmas.{find-found}
-
-abbrev tickets : List Member → List ℕ
-tickets ms = map (λ m. m.task.ticket) ms
+use Rattle.iscsi_history.proofs.ListLemmas.{list_all-filter, filter-shorter, filter-map, map-map, filter-swap}
+use Rattle.iscsi_history.proofs.SetLemmas.{tickets, tickets-given_in, tickets-left, tickets-moment}
 
 -- ---- no call but entering and leaving changes the tickets
-
-tickets-given_in : (ms : List Member) → tickets (given_in ms) ≡ tickets ms
-tickets-given_in [] = refl
-tickets-given_in (m ∷ ms) =
-    elim (is_new m) as (λ b. tickets (cond b (record { task = m.task; enabled = m.enabled; given = true } ∷ ms) (m ∷ given_in ms)) ≡ m.task.ticket ∷ tickets ms) [
-      | true ↦ refl
-      | false ↦ ap (λ ts. m.task.ticket ∷ ts) (tickets-given_in ms)
-    ]
-
-tickets-moment : (ms : List Member) → tickets (after_moment ms) ≡ tickets ms
-tickets-moment ms = map-map (λ (m : Member). m.task.ticket) (looked_at ms) ms
 
 tickets-as_given : (ms : List Member) → tickets (map as_given ms) ≡ tickets ms
 tickets-as_given ms = map-map (λ (m : Member). m.task.ticket) as_given ms
@@ -41,24 +25,6 @@ tickets-entered : (s : Members) (task : Task) → tickets_of (given_by (entered_
 tickets-entered s task =
     let newcomer : Member = record { task = task; enabled = false; given = false } in
     tickets-given_in (after_moment (s.list ++ newcomer ∷ [])) ∙ tickets-moment (s.list ++ newcomer ∷ []) ∙ map-append (λ (m : Member). m.task.ticket) s.list (newcomer ∷ [])
-
-none_with : (k : ℕ) (ms : List Member) → find (λ (t : Task). t.ticket == k) (map (λ (m : Member). m.task) ms) ≡ None → filter (λ t. not (t == k)) (tickets ms) ≡ tickets ms
-none_with k [] h = refl
-none_with k (m ∷ ms) h =
-    elim (m.task.ticket == k) as (λ b. cond b (Some m.task) (find (λ (t : Task). t.ticket == k) (map (λ (x : Member). x.task) ms)) ≡ None → cond (not b) (m.task.ticket ∷ filter (λ t. not (t == k)) (tickets ms)) (filter (λ t. not (t == k)) (tickets ms)) ≡ m.task.ticket ∷ tickets ms) [
-      | true ↦ λ found. absurd cc
-      | false ↦ λ none. ap (λ ts. m.task.ticket ∷ ts) (none_with k ms none)
-    ] h
-
--- a command that leaves takes its ticket with it
-tickets-left : (s : Members) (k : ℕ) → tickets (left_by s (with_ticket k (tasks_in s))).list ≡ filter (λ t. not (t == k)) (tickets s.list)
-tickets-left s k = by_task (with_ticket k (tasks_in s)) refl
-  where
-    by_task : (x : Option Task) → with_ticket k (tasks_in s) ≡ x → tickets (left_by s x).list ≡ filter (λ t. not (t == k)) (tickets s.list)
-    by_task None is = sym (none_with k s.list is)
-    by_task (Some task) is =
-        let same : task.ticket ≡ k = eqb-true task.ticket k (find-found (λ (t : Task). t.ticket == k) (tasks_in s) task is) in
-        tickets-moment (without task.ticket s.list) ∙ ap (λ n. tickets (without n s.list)) same ∙ sym (filter-map (λ t. not (t == k)) (λ (m : Member). m.task.ticket) s.list)
 
 -- ---- a command enters
 
@@ -222,19 +188,3 @@ enabled_found s k (Some y) l h =
       | true ↦ λ here. here
       | false ↦ λ none. absurd cc
     ] h
-
--- ---- sets that were lent
-
-drop_length : {A : Type 0} (xs : List A) → drop (length xs) xs ≡ []
-drop_length [] = refl
-drop_length (x ∷ xs) = drop_length xs
-
-take_length : {A : Type 0} (xs : List A) → take (length xs) xs ≡ xs
-take_length [] = refl
-take_length (x ∷ xs) = ap (λ ys. x ∷ ys) (take_length xs)
-
--- what is written back where as many come back
-pub written : {A : Type 0} (n : ℕ) (new old : List A) → length new ≡ length old → n ≡ length old → take n (new ++ drop (length new) old) ≡ new
-written n new old same len =
-    ap (λ m. take n (new ++ drop m old)) same ∙ ap (λ ys. take n (new ++ ys)) (drop_length old) ∙ ap (take n) (append-nil new)
-    ∙ ap (λ m. take m new) (len ∙ sym same) ∙ take_length new

@@ -21,52 +21,25 @@ use Rattle.iscsi_session.specs.promises.Standing.{Core, stat_sn_on, kept, task_o
 use Rattle.iscsi_history.specs.rules.Trace.{are_apart}
 use Rattle.iscsi_session.specs.private.Steps.{set_at, all_given, as_given, enable_effects, is_numbered}
 use Rattle.iscsi_session.specs.private.Functions.{covers_ticket, is_gone, staying, set_staying, with_left, aborted, abort_effects}
-use Rattle.iscsi_session.proofs.OpenConns.{ClosesNone, open_of-same, closes-more}
-use Rattle.iscsi_history.proofs.BoolLemmas.{and_parts, and_both, or_none, or_second, not_true, and_false, and_comm}
-use Rattle.iscsi_history.proofs.ListLemmas.{list_any-map, count_by-map, list_all-filter, any_filter, any_same, fewer_counted}
+use Rattle.iscsi_session.proofs.OpenConns.{open_of-same}
+use Rattle.iscsi_history.proofs.BoolLemmas.{and_parts, and_both, or_none, or_second, not_true, and_comm, alike, alike_same, same_alike}
+use Rattle.iscsi_history.proofs.ListLemmas.{list_any-map, count_by-map, list_all-filter, any_filter, any_same, fewer_counted, map_all, filter-map, map-map, none_both, none_passes}
 use Rattle.iscsi_history.proofs.TraceLemmas.{filter-same, filter-true, weaker}
 use Rattle.iscsi_history.proofs.ApartLemmas.{eq_sym, unamong-filter, apart-filter}
 use Rattle.iscsi_history.proofs.DeliveryLemmas.{IsQuiet}
 use Rattle.iscsi_session.proofs.ReplyParts.{RepliesAgree-sent}
 use Rattle.iscsi_history.proofs.NewlyLemmas.{filter_all, both_all, filter-twice, is_here, all_here, newly-none}
-use Rattle.iscsi_session.proofs.EnabledLemmas.{map_all, filter-map, map-map, set_of-same}
+use Rattle.iscsi_session.proofs.EnabledLemmas.{set_of-same}
 use Rattle.iscsi_history.proofs.MomentLemmas.{enables}
-use Rattle.iscsi_session.proofs.CommandParts.{LeavesSome, live_in-left, CommandsAgree-left, are_all_in}
-use Rattle.iscsi_session.proofs.EnablingLemmas.{EnabledSoFar-left}
+use Rattle.iscsi_history.proofs.ClosingItems.{ClosesNone, closes-more}
+use Rattle.iscsi_history.proofs.CommandItems.{LeavesSome, live_in-left, are_all_in}
+use Rattle.iscsi_history.proofs.EnabledItems.{EnabledSoFar-left}
+use Rattle.iscsi_session.proofs.CommandParts.{CommandsAgree-left}
 use Rattle.iscsi_session.proofs.SetParts.{SetLeaving, SetsAgree-left, set-changed}
 use Rattle.iscsi_session.proofs.AgreeLemmas.{units_live}
 use Rattle.iscsi_session.proofs.ExecutionLemmas.{Begun}
 
--- ---- lists
-
-none_passes : {A : Type 0} (p : A → Bool) (xs : List A) → list_any p xs ≡ false → list_all (λ x. not (p x)) xs ≡ true
-none_passes p [] h = refl
-none_passes p (x ∷ xs) h =
-    let parts = or_none (p x) (list_any p xs) h in
-    and_both (not (p x)) (list_all (λ y. not (p y)) xs) (ap not parts.0) (none_passes p xs parts.1)
-
-none_both : {A : Type 0} (p q : A → Bool) (xs : List A) → list_any q xs ≡ false → list_any (λ x. p x && q x) xs ≡ false
-none_both p q [] h = refl
-none_both p q (x ∷ xs) h =
-    let parts = or_none (q x) (list_any q xs) h in
-    ap (λ b. (p x && b) || list_any (λ y. p y && q y) xs) parts.0 ∙ ap (λ b. b || list_any (λ y. p y && q y) xs) (and_false (p x)) ∙ none_both p q xs parts.1
-
 -- ---- a command has the ticket of one that passes just where it passes
-
-abbrev pub alike : Bool → Bool → Bool
-alike a b = cond a b (not b)
-
-pub alike_same : (a b : Bool) → alike a b ≡ true → a ≡ b
-alike_same true true h = refl
-alike_same true false h = absurd (false≢true h)
-alike_same false true h = absurd (false≢true h)
-alike_same false false h = refl
-
-same_alike : (a b : Bool) → a ≡ b → alike a b ≡ true
-same_alike true true h = refl
-same_alike true false h = absurd (false≢true (sym h))
-same_alike false true h = absurd (false≢true h)
-same_alike false false h = refl
 
 pub among_passing : (q : Command → Bool) (cs : List Command) → are_apart cs ≡ true → list_all (λ c. alike (is_among c.ticket (filter q cs)) (q c)) cs ≡ true
 among_passing q [] apart = refl

@@ -5,7 +5,7 @@ use Rattle.std.specs.List.{list_any, list_all}
 use Rattle.std.proofs.lemmas.Bool.{cases_eq, eqb-true, false≢true}
 use Rattle.std.proofs.lemmas.Bool.Decides.{nat_tests}
 use Rattle.std.proofs.lemmas.List.{get_or-set_same, get_or-set_other, take_more, map-append, append-nil}
-use Rattle.std.proofs.lemmas.List.Elements.{All-head, All-tail, filter-append}
+use Rattle.std.proofs.lemmas.List.Elements.{filter-append}
 use Rattle.std.proofs.lemmas.List.Folds.{list_any_none}
 use Rattle.std.proofs.lemmas.List.Sums.{sum_by-cons}
 use Rattle.iscsi_window.specs.Windows.{Received, with_unfinished}
@@ -20,47 +20,26 @@ use Rattle.iscsi_session.specs.promises.Standing.{Match, are_ascending, tickets_
 use Rattle.iscsi_session.specs.private.Steps.{all_given, as_given, is_numbered, find_ticket, without_ticket}
 use Rattle.iscsi_session.specs.private.Functions.{is_gone, staying, set_staying, finished_by, leaves, has_covered, covers_ticket, ungiven, ungiven_in}
 use Rattle.iscsi_history.proofs.BoolLemmas.{and_parts, and_both, or_none, or_first, or_second, or_false, and_true, and_false, not_true}
-use Rattle.iscsi_history.proofs.ListLemmas.{any_filter, any_same, list_any-map, count_by-map}
+use Rattle.iscsi_history.proofs.ListLemmas.{any_filter, any_same, list_any-map, count_by-map, filter-swap, filter-map, map-map, find-found, filter_every, filter_here, none_both, fewer_counted, none_out}
 use Rattle.iscsi_history.proofs.TraceLemmas.{filter-same, filter-true, weaker}
 use Rattle.iscsi_history.proofs.ApartLemmas.{eq_sym}
 use Rattle.iscsi_history.proofs.NewlyLemmas.{filter-twice, both_all}
-use Rattle.iscsi_session.proofs.CommandParts.{filter-swap}
-use Rattle.iscsi_session.proofs.EnabledLemmas.{filter-map, map-map}
-use Rattle.iscsi_session.proofs.WindowLemmas.{find-found, fewer}
+use Rattle.iscsi_history.proofs.CountLemmas.{fewer}
+use Rattle.iscsi_history.proofs.SetLemmas.{any_push, none_filtered, ticket_none, ticket_some, tickets}
+use Rattle.iscsi_history.proofs.NumberLemmas.{later_apart, none_above}
 
 -- ---- nothing is left to leave
-
-none_left : (p q : Member → Bool) (ms : List Member) → list_any q ms ≡ false → list_any (λ m. p m && q m) ms ≡ false
-none_left p q [] h = refl
-none_left p q (x ∷ ms) h =
-    let parts = or_none (q x) (list_any q ms) h in
-    ap (λ b. (p x && b) || list_any (λ m. p m && q m) ms) parts.0 ∙ ap (λ b. b || list_any (λ m. p m && q m) ms) (and_false (p x)) ∙ none_left p q ms parts.1
-
-none_filtered : (q : Member → Bool) (ms : List Member) → list_any q ms ≡ false → filter q ms ≡ []
-none_filtered q [] h = refl
-none_filtered q (x ∷ ms) h =
-    let parts = or_none (q x) (list_any q ms) h in
-    ap (λ b. cond b (x ∷ filter q ms) (filter q ms)) parts.0 ∙ none_filtered q ms parts.1
-
-all_kept : (q : Member → Bool) (ms : List Member) → list_any q ms ≡ false → filter (λ m. not (q m)) ms ≡ ms
-all_kept q [] h = refl
-all_kept q (x ∷ ms) h =
-    let parts = or_none (q x) (list_any q ms) h in
-    ap (λ b. cond (not b) (x ∷ filter (λ m. not (q m)) ms) (filter (λ m. not (q m)) ms)) parts.0 ∙ ap (λ ns. x ∷ ns) (all_kept q ms parts.1)
 
 pub none_has : (covers : Task → Bool) (now : Members) → All (λ t. covers t ≡ false) (tasks_in now) → has_covered covers now ≡ false
 none_has covers now none = sym (list_any-map covers (λ (m : Member). m.task) now.list) ∙ list_any_none covers (tasks_in now) none
 
 pub stay_none : (covers : Task → Bool) (now : Members) (lives : List Live) → has_covered covers now ≡ false → staying covers now lives ≡ lives
-stay_none covers now lives none = filter-same (λ (l : Live). not (is_gone covers now l.ticket)) (λ l. true) lives (λ l. ap not (none_left (λ m. m.task.ticket == l.ticket) (λ m. covers m.task) now.list none)) ∙ filter-true lives
+stay_none covers now lives none = filter-same (λ (l : Live). not (is_gone covers now l.ticket)) (λ l. true) lives (λ l. ap not (none_both (λ m. m.task.ticket == l.ticket) (λ m. covers m.task) now.list none)) ∙ filter-true lives
 
 pub leaves_none : (unit : ℕ) (covers : Task → Bool) (now : Members) → has_covered covers now ≡ false → leaves unit covers now.list ≡ []
 leaves_none unit covers now none = ap (map (λ (m : Member). Leave m.task.ticket unit)) (none_filtered (λ m. covers m.task) now.list none)
 
 -- ---- tickets go up along a set
-
-abbrev tickets : List Member → List ℕ
-tickets ms = map (λ m. m.task.ticket) ms
 
 abbrev rising : List ℕ → Bool
 rising [] = true
@@ -86,31 +65,11 @@ rising_in unit (x ∷ lives) up =
       | false ↦ rising_in unit lives parts.1
     ]
 
--- a later ticket is another
-later_apart : (k t : ℕ) → nat_lt k t ≡ true → (t == k) ≡ false
-later_apart k t test = let lt : k < t = grind (arith, nat_tests) in let no : (t == k) ≡ false = grind (arith, nat_tests) in no
-
-none_above : (k : ℕ) (ts : List ℕ) → list_all (λ u. nat_lt k u) ts ≡ true → list_any (λ t. t == k) ts ≡ false
-none_above k [] h = refl
-none_above k (t ∷ ts) h =
-    let parts = and_parts (nat_lt k t) (list_all (λ u. nat_lt k u) ts) h in
-    ap (λ b. b || list_any (λ u. u == k) ts) (later_apart k t parts.0) ∙ none_above k ts parts.1
-
-count_fewer : (p q : Member → Bool) (ms : List Member) → count_by p (filter q ms) ≤ count_by p ms
-count_fewer p q [] = omega arith
-count_fewer p q (x ∷ ms) =
-    let all : count_by p (x ∷ ms) ≡ cond (p x) 1 0 + count_by p ms = sum_by-cons (λ m. cond (p m) 1 0) x ms in
-    let rest : count_by p (filter q ms) ≤ count_by p ms = count_fewer p q ms in
-    elim (q x) as (λ b. count_by p (cond b (x ∷ filter q ms) (filter q ms)) ≤ count_by p (x ∷ ms)) [
-      | true ↦ omega (arith, all, rest, sum_by-cons (λ m. cond (p m) 1 0) x (filter q ms))
-      | false ↦ omega (arith, all, rest)
-    ]
-
 ungiven-staying : (covers : Task → Bool) (now : Members) → ungiven (set_staying covers now) ≤ ungiven now
 ungiven-staying covers now =
     let rest : List Member = uncovered covers now.list in
     elim (has_covered covers now) as (λ b. ungiven (cond b (record now { list = after_moment rest }) now) ≤ ungiven now) [
-      | true ↦ omega (arith, count_by-map (λ (m : Member). not m.given) (looked_at rest) rest, count_fewer (λ m. not m.given) (λ m. not (covers m.task)) now.list)
+      | true ↦ omega (arith, count_by-map (λ (m : Member). not m.given) (looked_at rest) rest, fewer_counted (λ m. not m.given) (λ m. not (covers m.task)) now.list)
       | false ↦ omega arith
     ]
 
@@ -166,14 +125,8 @@ tickets_staying covers now =
     let rest : List Member = uncovered covers now.list in
     elim (has_covered covers now) as (λ b. has_covered covers now ≡ b → tickets (cond b (record now { list = after_moment rest }) now).list ≡ tickets rest) [
       | true ↦ λ some. map-map (λ (m : Member). m.task.ticket) (looked_at rest) rest
-      | false ↦ λ none. ap tickets (sym (all_kept (λ m. covers m.task) now.list none))
+      | false ↦ λ none. ap tickets (sym (none_out (λ m. covers m.task) now.list none))
     ] refl
-
-filter_here : {A : Type 0} (p q : A → Bool) (xs : List A) → All (λ x. p x ≡ q x) xs → filter p xs ≡ filter q xs
-filter_here p q [] same = refl
-filter_here p q (x ∷ xs) same =
-    ap (λ b. cond b (x ∷ filter p xs) (filter p xs)) (All-head (λ y. p y ≡ q y) x xs same)
-    ∙ ap (λ ys. cond (q x) (x ∷ ys) ys) (filter_here p q xs (All-tail (λ y. p y ≡ q y) x xs same))
 
 -- the tickets that are left in its set
 left_tickets : (covers : Task → Bool) (now : Members) → rising (tickets now.list) ≡ true → tickets_of (set_staying covers now) ≡ filter (λ t. not (is_gone covers now t)) (tickets now.list)
@@ -215,12 +168,6 @@ apart_units unit other (x ∷ lives) apart up =
         | false ↦ rest
       ]
     ] refl
-
-filter_every : (p : ℕ → Bool) (ts : List ℕ) → list_all p ts ≡ true → filter p ts ≡ ts
-filter_every p [] all = refl
-filter_every p (t ∷ ts) all =
-    let parts = and_parts (p t) (list_all p ts) all in
-    ap (λ b. cond b (t ∷ filter p ts) (filter p ts)) parts.0 ∙ ap (λ us. t ∷ us) (filter_every p ts parts.1)
 
 -- ---- the sets and the live commands that are left
 
@@ -264,23 +211,11 @@ ungiven_in-staying sets unit covers inside =
 abbrev pub upto : ℕ → Members → Members
 upto n now = record now { list = take n now.list }
 
-any_push : (p : Member → Bool) (ms : List Member) (x : Member) → list_any p (ms ++ x ∷ []) ≡ (list_any p ms || p x)
-any_push p [] x = or_false (p x)
-any_push p (y ∷ ms) x = elim (p y) as (λ b. (b || list_any p (ms ++ x ∷ [])) ≡ ((b || list_any p ms) || p x)) [ true ↦ refl | false ↦ any_push p ms x ]
-
 -- what is told of a command, by whether it is covered
 pub told_at : (covers : Task → Bool) (ms : List Member) (k : ℕ) (d : Member) → k < length ms → option_and_then (λ t. ticket_if (covers t) t) (slice_get (map (λ (m : Member). m.task) ms) k) ≡ ticket_if (covers (get_or ms k d).task) (get_or ms k d).task
 told_at covers [] k d lt = absurd (omega arith)
 told_at covers (x ∷ ms) zero d lt = refl
 told_at covers (x ∷ ms) (suc k) d lt = told_at covers ms k d (omega arith)
-
-pub ticket_some : (b : Bool) (t : Task) (k : ℕ) → ticket_if b t ≡ Some k → (b ≡ true) × (t.ticket ≡ k)
-ticket_some true t k is = (refl, cc)
-ticket_some false t k is = absurd cc
-
-pub ticket_none : (b : Bool) (t : Task) → ticket_if b t ≡ None → b ≡ false
-ticket_none true t is = absurd cc
-ticket_none false t is = refl
 
 abbrev pub no_member : Member
 no_member = record { task = record { ticket = 0; conn = 0; itt = 0; attr = Simple; immediate = false; pos = pos 0; event = 0 }; enabled = false; given = false }

@@ -10,7 +10,7 @@ use Rattle.iscsi_session.specs.private.Steps.{AreCounted, is_numbered, set_at}
 use Rattle.iscsi_session.specs.private.Functions.{is_gone, staying, set_staying, finished_by, with_left}
 use Rattle.iscsi_session.specs.private.Invariant.{Inner, AreCommandsSound, IsSessionSound}
 use Rattle.iscsi_history.proofs.ListLemmas.{fewer_counted}
-use Rattle.iscsi_session.proofs.KeptLemmas.{written}
+use Rattle.iscsi_history.proofs.PlaceLemmas.{written}
 use Rattle.iscsi_session.proofs.LeavingParts.{Match-staying}
 use Rattle.iscsi_session.proofs.SoundLemmas.{places_sound, kept_sound, commands_sound_on}
 

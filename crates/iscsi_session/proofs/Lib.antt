@@ -1,9 +1,7 @@
 pub mod ListLemmas
 pub mod OpenConns
-pub mod NumberLemmas
 pub mod RefusalLemmas
 pub mod ArrivedLemmas
-pub mod ReceiveLemmas
 pub mod WaitLemmas
 pub mod AgreeLemmas
 pub mod TurnLemmas

@@ -24,19 +24,18 @@ use Rattle.iscsi_session.specs.promises.Standing.{Core, Agrees, WindowAgrees, Re
 use Rattle.iscsi_session.specs.private.Steps.{count_reply, reply_effects}
 use Rattle.iscsi_session.specs.private.Closing.{is_among_open, closing_by, units_of, covers_of, left_to, emptying_effects, still_open, session_closes, waiting_then, close_effects, all_enable_effects, logged_out, logout_effects, closed_as, closed_effects}
 use Rattle.iscsi_history.proofs.MomentLemmas.{enables}
-use Rattle.iscsi_session.proofs.EnabledLemmas.{filter-map}
 use Rattle.iscsi_session.proofs.ReplyParts.{RepliesAgree-sent}
-use Rattle.iscsi_history.proofs.ListLemmas.{list_all-filter, list_any-map}
+use Rattle.iscsi_history.proofs.ListLemmas.{list_all-filter, list_any-map, filter-map, filtered_among}
 use Rattle.iscsi_history.proofs.BoolLemmas.{or_false, or_second, and_false}
 use Rattle.iscsi_history.proofs.TraceLemmas.{filter-same}
-use Rattle.iscsi_session.proofs.OpenConns.{closed-same, filtered_among}
 use Rattle.iscsi_session.proofs.LoggedOutLemmas.{Keeps, left_keeps}
 use Rattle.iscsi_session.proofs.ExecutionLemmas.{Begun, Executed, answered}
 use Rattle.iscsi_history.proofs.DeliveryLemmas.{IsQuiet}
 use Rattle.iscsi_history.proofs.ApartLemmas.{eq_sym}
+use Rattle.iscsi_history.proofs.ClosingItems.{closed-same, closing_marks, quiet-closing}
 use Rattle.iscsi_session.proofs.EmptyingLemmas.{taken_requests, emptied_from-is}
-use Rattle.iscsi_session.proofs.LogoutSets.{closing_commands, emptied_marks, closing_marks, LogsOutAt, LogsOutAt-begun, commands-logged_out, sets-logged_out, unfinished-logged_out, enabled-logged_out, leaving-logged_out, enabling-logged_out, end_session-is, close_conn-is}
-use Rattle.iscsi_session.proofs.LogoutWindow.{quiet-closing, logged_out_window, logged_out_arrivals}
+use Rattle.iscsi_session.proofs.LogoutSets.{closing_commands, emptied_marks, LogsOutAt, LogsOutAt-begun, commands-logged_out, sets-logged_out, unfinished-logged_out, enabled-logged_out, leaving-logged_out, enabling-logged_out, end_session-is, close_conn-is}
+use Rattle.iscsi_session.proofs.LogoutWindow.{logged_out_window, logged_out_arrivals}
 
 -- ---- lists of such marks
 

@@ -2,8 +2,8 @@
 use Rattle.std.proofs.Common.{◌≡◌, ℕ, ◌+◌, ◌<◌, ◌==◌, ◌&&◌, ◌||◌, not, cond, Bool, true, false, List, [], ◌∷◌, ◌++◌, length, map, filter, Option, Some, None, nat_lt, refl, ap, sym, subst, ◌∙◌, arith, eq-eqb, append_assoc}
 use Rattle.std.specs.List.{list_any, list_all, filter_map, flat_map, range_with_len, cons_option}
 use Rattle.std.proofs.lemmas.Bool.Decides.{nat_tests}
-use Rattle.std.proofs.lemmas.List.{length-map, map-append}
-use Rattle.std.proofs.lemmas.List.Elements.{filter-append, filter_map-append}
+use Rattle.std.proofs.lemmas.List.{length-map}
+use Rattle.std.proofs.lemmas.List.Elements.{filter_map-append}
 use Rattle.std.proofs.lemmas.List.Folds.{list_any-append}
 use Rattle.std.proofs.Math.ListN.{get_or-map}
 use Rattle.iscsi_wire.specs.Fields.{connection_of}
@@ -24,37 +24,25 @@ use Rattle.iscsi_session.specs.promises.Standing.{Core, task_of, member_of, set_
 use Rattle.iscsi_session.specs.private.Steps.{set_at, all_given, as_given, enable_effects}
 use Rattle.iscsi_session.specs.private.Functions.{is_gone, set_staying, leaving_effects}
 use Rattle.iscsi_session.specs.private.Closing.{units_of, covers_of, all_leaving_effects, left_to, all_enable_effects}
-use Rattle.iscsi_history.proofs.BoolLemmas.{and_parts, or_none, or_false}
-use Rattle.iscsi_history.proofs.ListLemmas.{list_any-map, list_all-filter, any_filter, any_flat_map}
+use Rattle.iscsi_history.proofs.BoolLemmas.{and_parts, or_false, alike, alike_same}
+use Rattle.iscsi_history.proofs.ListLemmas.{list_any-map, list_all-filter, any_filter, any_flat_map, filter-map, any_in_range, flat_map_in_range, any_at, filter-flat_map, map-flat_map, none_out}
 use Rattle.iscsi_history.proofs.TraceLemmas.{filter-same}
 use Rattle.iscsi_history.proofs.ApartLemmas.{unamong-filter}
 use Rattle.iscsi_history.proofs.NewlyLemmas.{filter_all, new_in, new_in-none}
-use Rattle.iscsi_session.proofs.EnabledLemmas.{filter-map, set_of-same, noted_given, noted_effects}
+use Rattle.iscsi_session.proofs.EnabledLemmas.{set_of-same, noted_given, noted_effects}
 use Rattle.iscsi_history.proofs.MomentLemmas.{enables}
 use Rattle.iscsi_history.proofs.NewlyLemmas.{Untouched, live-untouched}
-use Rattle.iscsi_session.proofs.CommandParts.{LeavesSome, live_in-left, CommandsAgree-left}
-use Rattle.iscsi_session.proofs.EnablingLemmas.{EnabledSoFar-left}
+use Rattle.iscsi_history.proofs.CommandItems.{LeavesSome, live_in-left}
+use Rattle.iscsi_history.proofs.EnabledItems.{EnabledSoFar-left}
+use Rattle.iscsi_history.proofs.ClosingItems.{closing_marks, untouched-closing, untouched-emptied}
+use Rattle.iscsi_session.proofs.CommandParts.{CommandsAgree-left}
 use Rattle.iscsi_session.proofs.AgreeLemmas.{units_live}
 use Rattle.iscsi_session.proofs.ExecutionLemmas.{Begun}
-use Rattle.iscsi_session.proofs.LeavingLemmas.{numbered_live, gone_tickets, leaving_shown, alike, alike_same, among_passing, given_already, none_given}
+use Rattle.iscsi_session.proofs.LeavingLemmas.{numbered_live, gone_tickets, leaving_shown, among_passing, given_already, none_given}
 use Rattle.iscsi_session.proofs.LoggedOutLemmas.{left_keeps}
-use Rattle.iscsi_session.proofs.LogoutUnits.{any_in_range, flat_map_in_range, any_at, sets_left, gone_in, live_staying, effects_leaving, unfinished_left}
+use Rattle.iscsi_session.proofs.LogoutUnits.{sets_left, gone_in, live_staying, effects_leaving, unfinished_left}
 
 -- ---- lists
-
-filter-flat_map : {A B : Type 0} (p : B → Bool) (f : A → List B) (xs : List A) → filter p (flat_map f xs) ≡ flat_map (λ x. filter p (f x)) xs
-filter-flat_map p f [] = refl
-filter-flat_map p f (x ∷ xs) = filter-append p (f x) (flat_map f xs) ∙ ap (λ ys. filter p (f x) ++ ys) (filter-flat_map p f xs)
-
-map-flat_map : {A B C : Type 0} (g : B → C) (f : A → List B) (xs : List A) → map g (flat_map f xs) ≡ flat_map (λ x. map g (f x)) xs
-map-flat_map g f [] = refl
-map-flat_map g f (x ∷ xs) = map-append g (f x) (flat_map f xs) ∙ ap (λ ys. map g (f x) ++ ys) (map-flat_map g f xs)
-
-none_out : {A : Type 0} (p : A → Bool) (xs : List A) → list_any p xs ≡ false → filter (λ x. not (p x)) xs ≡ xs
-none_out p [] none = refl
-none_out p (x ∷ xs) none =
-    let parts = or_none (p x) (list_any p xs) none in
-    ap (λ b. cond (not b) (x ∷ filter (λ y. not (p y)) xs) (filter (λ y. not (p y)) xs)) parts.0 ∙ ap (λ ys. x ∷ ys) (none_out p xs parts.1)
 
 -- some command passes just where one of some unit does
 any_in_units : (p : Command → Bool) (n : ℕ) (cs : List Command) → list_all (λ c. nat_lt c.unit n) cs ≡ true → list_any (λ unit. list_any p (filter (λ (c : Command). c.unit == unit) cs)) (range_with_len 0 n) ≡ list_any p cs
@@ -298,23 +286,6 @@ module _ (o : Setting) (s : Core) (t : Trace) (m : Mark) (es rest : List Mark) (
       ∙ sym (map-flat_map (λ (c : Command). Enable c.ticket c.unit) (new_in t item) (range_with_len 0 o.units))
 
 -- ---- the marks of a Logout
-
-untouched-emptied : (as' : List Arrival) → Untouched (map Empties as')
-untouched-emptied [] = record { enters_none = refl; leaves_no = λ k. refl }
-untouched-emptied (a ∷ as') = let rest : Untouched (map Empties as') = untouched-emptied as' in record { enters_none = rest.enters_none; leaves_no = rest.leaves_no }
-
--- what follows those that are taken out
-abbrev pub closing_marks : Setting → Trace → Arrival → Option ℕ → List Mark
-closing_marks o t a None = parting a 0 ++ ClosesSession ∷ []
-closing_marks o t a (Some closing) = parting a 0 ++ ClosesConn closing ∷ cond (is_last_open o t closing) (ClosesSession ∷ []) []
-
-untouched-closing : (o : Setting) (t : Trace) (a : Arrival) (scope : Option ℕ) → Untouched (closing_marks o t a scope)
-untouched-closing o t a None = record { enters_none = refl; leaves_no = λ k. refl }
-untouched-closing o t a (Some closing) =
-    elim (is_last_open o t closing) as (λ b. Untouched (parting a 0 ++ ClosesConn closing ∷ cond b (ClosesSession ∷ []) [])) [
-      | true ↦ record { enters_none = refl; leaves_no = λ k. refl }
-      | false ↦ record { enters_none = refl; leaves_no = λ k. refl }
-    ]
 
 -- the held requests that are taken out
 abbrev pub emptied_marks : Setting → Trace → Option ℕ → List Mark

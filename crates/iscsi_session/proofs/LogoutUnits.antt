@@ -12,30 +12,9 @@ use Rattle.iscsi_session.specs.promises.Standing.{Core}
 use Rattle.iscsi_session.specs.private.Steps.{set_at, is_numbered}
 use Rattle.iscsi_session.specs.private.Functions.{is_gone, set_staying, with_left, leaving_effects}
 use Rattle.iscsi_session.specs.private.Closing.{with_all_left, all_leaving_effects}
-use Rattle.iscsi_history.proofs.BoolLemmas.{or_first, or_second}
 use Rattle.iscsi_history.proofs.TraceLemmas.{filter-same, filter-true}
 use Rattle.iscsi_history.proofs.NewlyLemmas.{filter-twice}
-
--- ---- functions over a range of numbers
-
-pub any_in_range : (f g : ℕ → Bool) (from n : ℕ) → ((j : ℕ) → from ≤ j → j < from + n → f j ≡ g j) → list_any f (range_with_len from n) ≡ list_any g (range_with_len from n)
-any_in_range f g from zero same = refl
-any_in_range f g from (suc n) same =
-    ap (λ b. b || list_any f (range_with_len (from + 1) n)) (same from (omega arith) (omega arith))
-    ∙ ap (λ b. g from || b) (any_in_range f g (from + 1) n (λ j low high. same j (omega arith) (omega arith)))
-
-pub flat_map_in_range : {A : Type 0} (f g : ℕ → List A) (from n : ℕ) → ((j : ℕ) → from ≤ j → j < from + n → f j ≡ g j) → flat_map f (range_with_len from n) ≡ flat_map g (range_with_len from n)
-flat_map_in_range f g from zero same = refl
-flat_map_in_range f g from (suc n) same =
-    ap (λ xs. xs ++ flat_map f (range_with_len (from + 1) n)) (same from (omega arith) (omega arith))
-    ∙ ap (λ xs. g from ++ xs) (flat_map_in_range f g (from + 1) n (λ j low high. same j (omega arith) (omega arith)))
-
-pub any_at : (f : ℕ → Bool) (from n j : ℕ) → from ≤ j → j < from + n → f j ≡ true → list_any f (range_with_len from n) ≡ true
-any_at f from zero j low high passes = absurd (omega arith)
-any_at f from (suc n) j low high passes =
-    ⊎_elim (λ here. or_first (f from) (list_any f (range_with_len (from + 1) n)) (ap f (sym here) ∙ passes))
-    (λ apart. or_second (f from) (list_any f (range_with_len (from + 1) n)) (any_at f (from + 1) n j (omega arith) (omega arith) passes))
-    (cases_eq j from)
+use Rattle.iscsi_history.proofs.ListLemmas.{any_in_range, flat_map_in_range}
 
 -- ---- a unit at a time
 

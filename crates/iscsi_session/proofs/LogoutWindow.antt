@@ -1,37 +1,21 @@
 -- The window after a Logout that closes a connection or the session.
-use Rattle.std.proofs.Common.{◌≡◌, ℕ, ◌≤◌, cond, Bool, true, false, List, [], ◌∷◌, ◌++◌, map, Option, Some, None, refl, ap, sym, subst, ◌∙◌}
+use Rattle.std.proofs.Common.{◌≡◌, ℕ, ◌≤◌, List, [], ◌∷◌, map, Option, ap, sym, subst, ◌∙◌}
 use Rattle.std.specs.List.{flat_map}
 use Rattle.iscsi_wire.specs.declared.request.Request.{Request}
-use Rattle.iscsi_wire.specs.Serial.{wire}
 use Rattle.iscsi_window.specs.Windows.{Received, with_unfinished}
-use Rattle.iscsi_history.specs.declared.effect.Effect.TheVariants.{Empty}
 use Rattle.iscsi_history.specs.rules.Settings.{Setting}
-use Rattle.iscsi_history.specs.rules.Trace.{Arrival, Command, Mark, Empties, ClosesConn, ClosesSession, Trace}
+use Rattle.iscsi_history.specs.rules.Trace.{Command, Mark, Empties, Trace}
 use Rattle.iscsi_history.specs.rules.Run.{effects_of_mark}
-use Rattle.iscsi_history.specs.rules.Logout.{is_last_open, parting}
 use Rattle.iscsi_session.specs.promises.Standing.{Core, WindowAgrees, ArrivalsAgree}
 use Rattle.iscsi_session.specs.private.Closing.{units_of, covers_of, left_to, emptying_effects, logged_out}
 use Rattle.iscsi_history.proofs.DeliveryLemmas.{IsQuiet}
+use Rattle.iscsi_history.proofs.ClosingItems.{emptied-shown}
 use Rattle.iscsi_session.proofs.LeavingLemmas.{WindowAgrees-fewer}
 use Rattle.iscsi_session.proofs.LoggedOutLemmas.{Keeps, left_keeps}
-use Rattle.iscsi_session.proofs.LogoutSets.{closing_commands, closing_marks}
+use Rattle.iscsi_session.proofs.LogoutSets.{closing_commands}
 use Rattle.iscsi_session.proofs.EmptyingLemmas.{taken_requests, taking_item, emptied_from-is, WindowAgrees-logged_out, ArrivalsAgree-logged_out}
 
--- ---- the marks that close something
-
-pub quiet-closing : (o : Setting) (t : Trace) (a : Arrival) (scope : Option ℕ) → IsQuiet (closing_marks o t a scope)
-quiet-closing o t a None = record { receives = refl; admits = λ n. refl; delivers_none = refl; delivers_no = λ n. refl; empties_no = λ n. refl }
-quiet-closing o t a (Some closing) = by_last (is_last_open o t closing)
-  where
-    by_last : (b : Bool) → IsQuiet (parting a 0 ++ ClosesConn closing ∷ (let ms : List Mark = cond b (ClosesSession ∷ []) [] in ms))
-    by_last true = record { receives = refl; admits = λ n. refl; delivers_none = refl; delivers_no = λ n. refl; empties_no = λ n. refl }
-    by_last false = record { receives = refl; admits = λ n. refl; delivers_none = refl; delivers_no = λ n. refl; empties_no = λ n. refl }
-
 -- ---- the effects
-
-emptied-shown : (o : Setting) (t : Trace) (hs : List Arrival) → map (λ (a : Arrival). Empty (wire a.number)) hs ≡ flat_map (effects_of_mark o t) (map Empties hs)
-emptied-shown o t [] = refl
-emptied-shown o t (h ∷ hs) = ap (λ es. Empty (wire h.number) ∷ es) (emptied-shown o t hs)
 
 -- those of the marks of an item after t'
 pub emptying_effects-are : (o : Setting) (s : Core) (t t' : Trace) (scope : Option ℕ) → WindowAgrees o s.window t → emptying_effects s scope ≡ flat_map (effects_of_mark o t') (map Empties (taken_requests o t scope))

@@ -1,5 +1,5 @@
 -- What a session keeps when a request executes: its window, the functions that wait, and how many effects are to come.
-use Rattle.std.proofs.Common.{◌≡◌, ℕ, ℤ, zero, suc, ◌+◌, ◌-◌, ◌*◌, ◌%◌, ◌^◌, ◌<◌, ◌≤◌, ◌==◌, ◌&&◌, ◌||◌, not, cond, Bool, true, false, nat_lt, nat_le, List, [], ◌∷◌, ◌++◌, length, take, filter, find, get_or, set, count_by, position, is_some, Option, Some, None, option_map, subst, refl, ap, sym, ◌∙◌, ⊎_elim, arith, eq-eqb, length-set}
+use Rattle.std.proofs.Common.{◌≡◌, ℕ, ℤ, zero, suc, ◌+◌, ◌-◌, ◌*◌, ◌<◌, ◌≤◌, ◌==◌, ◌&&◌, ◌||◌, not, cond, Bool, true, false, nat_lt, nat_le, List, [], ◌∷◌, ◌++◌, length, take, filter, find, get_or, set, count_by, position, is_some, Option, Some, None, option_map, subst, refl, ap, sym, ◌∙◌, ⊎_elim, arith, eq-eqb, length-set}
 use Rattle.std.specs.List.{list_any, list_all}
 use Rattle.std.specs.Option.{option_flatten}
 use Rattle.std.proofs.lemmas.Bool.{false≢true, eqb-true, cases_lt}
@@ -20,7 +20,7 @@ use Rattle.iscsi_tasks.specs.declared.task.Task.{Task}
 use Rattle.iscsi_tasks.specs.declared.member.Member.{Member}
 use Rattle.iscsi_tasks.specs.declared.cover.Cover.{Cover}
 use Rattle.iscsi_tasks.specs.declared.cover.Cover.TheVariants.{All as AllOfThem, Below}
-use Rattle.iscsi_tasks.specs.Sets.{Members, opened, is_covered, entered_to, looked_at, is_new, given_in, given_by}
+use Rattle.iscsi_tasks.specs.Sets.{Members, opened, is_covered, entered_to, looked_at, given_by}
 use Rattle.iscsi_session.specs.declared.outcome.Outcome.{Outcome}
 use Rattle.iscsi_session.specs.declared.outcome.Outcome.TheVariants.{Respond, Abort, AbortAll, Empty as EmptyNumber, Void as VoidNumber}
 use Rattle.iscsi_commands.specs.declared.live.Live.{Live}
@@ -39,11 +39,13 @@ use Rattle.iscsi_session.specs.private.Turning.{waiting_in, wait_by, deferral_by
 use Rattle.iscsi_session.specs.declared.closing.Closing.{Closing}
 use Rattle.iscsi_session.specs.private.Closing.{closing_by, closed_as}
 use Rattle.iscsi_session.proofs.LoggedOutLemmas.{Parts, closed_parts}
-use Rattle.iscsi_history.proofs.BoolLemmas.{and_first, and_second, and_false}
+use Rattle.iscsi_history.proofs.BoolLemmas.{and_first, and_second}
 use Rattle.iscsi_history.proofs.ListLemmas.{count_by-map, count_by-push, fewer_counted}
-use Rattle.iscsi_session.proofs.FindLemmas.{position-cons}
+use Rattle.iscsi_history.proofs.PlaceLemmas.{position-cons, taken_at, taken_fewer}
+use Rattle.iscsi_history.proofs.CountLemmas.{at_most}
+use Rattle.iscsi_history.proofs.SetLemmas.{ungiven_given}
 use Rattle.iscsi_session.proofs.MissingLemmas.{inside_place}
-use Rattle.iscsi_session.proofs.WindowLemmas.{at_most, Changed, emptied_changes, voided_changes}
+use Rattle.iscsi_session.proofs.WindowLemmas.{Changed, emptied_changes, voided_changes}
 
 -- ---- what is found by its place
 
@@ -70,23 +72,6 @@ found_nowhere p (x ∷ xs) h =
     later : (y : Option ℕ) → (y ≡ None → find p xs ≡ None) → option_map suc y ≡ None → find p xs ≡ None
     later None found said = found refl
     later (Some j) found said = absurd cc
-
--- at least the one that is found is left out
-pub fewer_left : {A : Type 0} (p q : A → Bool) (xs : List A) (x : A) → find p xs ≡ Some x → q x ≡ true → length (filter (λ y. not (q y)) xs) + 1 ≤ length xs
-fewer_left p q [] x found is = absurd cc
-fewer_left p q (y ∷ xs) x found is =
-    elim (p y) as (λ b. cond b (Some y) (find p xs) ≡ Some x → length (filter (λ z. not (q z)) (y ∷ xs)) + 1 ≤ suc (length xs)) [
-      | true ↦ λ here.
-          let same : y ≡ x = cc in
-          let out : q y ≡ true = ap q same ∙ is in
-          omega (arith, at_most q xs, ap (λ b. length (cond (not b) (y ∷ filter (λ z. not (q z)) xs) (filter (λ z. not (q z)) xs))) out)
-      | false ↦ λ there.
-          let rest : length (filter (λ z. not (q z)) xs) + 1 ≤ length xs = fewer_left p q xs x there is in
-          elim (q y) as (λ b. length (cond (not b) (y ∷ filter (λ z. not (q z)) xs) (filter (λ z. not (q z)) xs)) + 1 ≤ suc (length xs)) [
-            | true ↦ omega (arith, rest)
-            | false ↦ omega (arith, rest)
-          ]
-    ] found
 
 -- ---- an offer
 
@@ -203,10 +188,6 @@ later_by s r said may =
         | false ↦ λ ahead k. absurd cc
       ] refl h
     ] refl said
-
--- how far a number is ahead
-pub ahead_by : (e w : ℕ) → 2 ^ 32 ≤ e → e < lift e w → (w + (2 ^ 32 - wire e)) % 2 ^ 32 ≡ lift e w - e
-ahead_by e w big ahead = omega (arith, big, ahead)
 
 abbrev unless_refused : Core → Request → Option Reply → Deferral
 unless_refused s r x = elim x [ Some reply ↦ Now | None ↦ wait_by s r ]
@@ -341,21 +322,6 @@ module _ (s : Core) (r : Request) (number : ℤ) (event unit sn : ℕ) where
         | true ↦ λ here. tag_empties s r unit sn (find_command s.window (rtt r) unit (cmd_sn r)) (tagged_in s (rtt r) unit) refl here
         | false ↦ λ here. absurd (test_empties (function r == 5) (function r == 9) (function r == 10) (list_any (λ l. l.unit == unit && l.itt == rtt r) s.live) (list_any (λ l. l.unit == unit) s.live) (Below number event) sn here)
       ] said
-
--- ABORT TASK doesn't wait
-pub one_waits_not : (r : Request) → function r ≡ 1 → may_wait r ≡ false
-one_waits_not r is = ap (λ f. is_immediate r && (f == 2 || f == 4 || f == 5)) is ∙ and_false (is_immediate r)
-
-taken_at : {A : Type 0} (n : ℕ) (xs : List A) (k : ℕ) (d : A) → k < length (take n xs) → get_or (take n xs) k d ≡ get_or xs k d
-taken_at zero xs k d lt = absurd (omega (arith, lt))
-taken_at (suc n) [] k d lt = refl
-taken_at (suc n) (x ∷ xs) zero d lt = refl
-taken_at (suc n) (x ∷ xs) (suc k) d lt = taken_at n xs k d (omega (arith, lt))
-
-taken_fewer : {A : Type 0} (n : ℕ) (xs : List A) → length (take n xs) ≤ length xs
-taken_fewer zero xs = omega arith
-taken_fewer (suc n) [] = omega arith
-taken_fewer (suc n) (x ∷ xs) = omega (arith, taken_fewer n xs)
 
 -- a request is held at the number of a command that is found
 pub found_held : (w : Received) (tag unit sn k : ℕ) → IsSound w → find_command w tag unit sn ≡ Some k → is_some (held_at w (place_in w (number_shown w k))) ≡ true
@@ -517,17 +483,6 @@ placed_executed s r event numbered =
     ]
 
 -- ---- what may be to come
-
-ungiven_given : (ms : List Member) → count_by (λ m. not m.given) (given_in ms) ≤ count_by (λ m. not m.given) ms
-ungiven_given [] = omega arith
-ungiven_given (m ∷ ms) =
-    let p : Member → Bool = λ x. not x.given in
-    let given : Member = record { task = m.task; enabled = m.enabled; given = true } in
-    let all : count_by p (m ∷ ms) ≡ cond (p m) 1 0 + count_by p ms = sum_by-cons (λ x. cond (p x) 1 0) m ms in
-    elim (is_new m) as (λ b. count_by p (cond b (given ∷ ms) (m ∷ given_in ms)) ≤ count_by p (m ∷ ms)) [
-      | true ↦ let now : count_by p (given ∷ ms) ≡ 0 + count_by p ms = sum_by-cons (λ x. cond (p x) 1 0) given ms in omega (arith, all, now)
-      | false ↦ let now : count_by p (m ∷ given_in ms) ≡ cond (p m) 1 0 + count_by p (given_in ms) = sum_by-cons (λ x. cond (p x) 1 0) m (given_in ms) in omega (arith, all, now, ungiven_given ms)
-    ]
 
 ungiven_entered : (set : Members) (task : Task) → ungiven (given_by (entered_to set task)) ≤ ungiven set + 1
 ungiven_entered set task =

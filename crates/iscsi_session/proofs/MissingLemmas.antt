@@ -1,6 +1,5 @@
 -- A number that is received without a request, and a held request that is taken out, in the window.
 use Rattle.std.proofs.Common.{◌≡◌, ℕ, ◌+◌, ◌-◌, ◌^◌, ◌<◌, ◌≤◌, ◌==◌, ◌&&◌, ◌||◌, ⊎_elim, cond, Bool, true, false, List, [], ◌∷◌, ◌++◌, length, get_or, set, Option, Some, None, option_map, is_some, nat_lt, nat_le, refl, ap, sym, subst, ◌∙◌, arith, eq-eqb, length-set}
-use Rattle.std.specs.List.{list_any, filter_map, cons_option}
 use Rattle.std.specs.Option.{option_flatten}
 use Rattle.std.proofs.lemmas.Bool.{cases_eq, cases_lt, false≢true}
 use Rattle.std.proofs.lemmas.Bool.Decides.{nat_tests}
@@ -10,103 +9,21 @@ use Rattle.iscsi_wire.specs.Serial.{wire, lift, number_of_first}
 use Rattle.iscsi_window.specs.declared.answer.Place.TheVariants.{Inside, Outside as NoPlace}
 use Rattle.iscsi_window.specs.Windows.{Received, number_expected, room_of, at_place, with_place, place_in, received_at, is_received_at, held_at, voided, emptied, emptied_if}
 use Rattle.iscsi_history.specs.rules.Settings.{Setting}
-use Rattle.iscsi_history.specs.rules.Trace.{Arrival, Mark, Voids, Empties, Trace, shown, first_of, number_received, received, contains, is_received, delivers_number, is_delivered, empties_number, is_emptied, held, admitted, admits_at}
-use Rattle.iscsi_history.specs.promises.Executed.{delivers, request_at}
+use Rattle.iscsi_history.specs.rules.Trace.{Arrival, Mark, Voids, Empties, Trace, shown, first_of, contains, is_received, is_delivered, is_emptied, held}
+use Rattle.iscsi_history.specs.promises.Executed.{delivers}
 use Rattle.iscsi_session.specs.promises.Standing.{place_of, WindowAgrees}
 use Rattle.iscsi_history.proofs.BoolLemmas.{or_none, or_second, or_false}
-use Rattle.iscsi_history.proofs.TraceLemmas.{unadmitted, received-item}
-use Rattle.iscsi_history.proofs.HeldLemmas.{held-number, admitted_of_held}
+use Rattle.iscsi_history.proofs.HeldLemmas.{held-number, held_received, unreceived_unheld}
 use Rattle.iscsi_history.proofs.DeliveryLemmas.{IsQuiet, same_range}
-
--- ---- the items
-
--- an item that receives this number alone, and admits, delivers and empties nothing
-pub record VoidsOne (item : List Mark) (n : ℕ) : Type 0 where
-  pub receives : filter_map number_received item ≡ n ∷ []
-  pub admits : (k : ℕ) → filter_map (admits_at k) item ≡ []
-  pub delivers_none : filter_map delivers item ≡ []
-  pub delivers_no : (k : ℕ) → list_any (delivers_number k) item ≡ false
-  pub empties_no : (k : ℕ) → list_any (empties_number k) item ≡ false
-
--- an item that empties this number alone, and receives, admits and delivers nothing
-pub record EmptiesOne (item : List Mark) (n : ℕ) : Type 0 where
-  pub receives : filter_map number_received item ≡ []
-  pub admits : (k : ℕ) → filter_map (admits_at k) item ≡ []
-  pub delivers_none : filter_map delivers item ≡ []
-  pub delivers_no : (k : ℕ) → list_any (delivers_number k) item ≡ false
-  pub empties : (k : ℕ) → list_any (empties_number k) item ≡ (n == k)
-
-none_first : {A : Type 0} (x : Option A) → cons_option x [] ≡ [] → x ≡ None
-none_first None h = refl
-none_first (Some x) h = absurd cc
-
--- a quiet mark before quiet ones
-pub quiet-both : (m : Mark) (ms : List Mark) → IsQuiet (m ∷ []) → IsQuiet ms → IsQuiet (m ∷ ms)
-quiet-both m ms q qs = record {
-  receives = ap (λ x. cons_option x (filter_map number_received ms)) (none_first (number_received m) q.receives) ∙ qs.receives;
-  admits = λ k. ap (λ x. cons_option x (filter_map (admits_at k) ms)) (none_first (admits_at k m) (q.admits k)) ∙ qs.admits k;
-  delivers_none = ap (λ x. cons_option x (filter_map delivers ms)) (none_first (delivers m) q.delivers_none) ∙ qs.delivers_none;
-  delivers_no = λ k. ap (λ b. b || list_any (delivers_number k) ms) (sym (or_false (delivers_number k m)) ∙ q.delivers_no k) ∙ qs.delivers_no k;
-  empties_no = λ k. ap (λ b. b || list_any (empties_number k) ms) (sym (or_false (empties_number k m)) ∙ q.empties_no k) ∙ qs.empties_no k;
-}
-
-pub voids-one : (m : Mark) (n : ℕ) (ms : List Mark) → IsQuiet (m ∷ []) → IsQuiet ms → VoidsOne (m ∷ Voids n ∷ ms) n
-voids-one m n ms q qs = record {
-  receives = ap (λ x. cons_option x (n ∷ filter_map number_received ms)) (none_first (number_received m) q.receives) ∙ ap (λ ns. n ∷ ns) qs.receives;
-  admits = λ k. ap (λ x. cons_option x (filter_map (admits_at k) ms)) (none_first (admits_at k m) (q.admits k)) ∙ qs.admits k;
-  delivers_none = ap (λ x. cons_option x (filter_map delivers ms)) (none_first (delivers m) q.delivers_none) ∙ qs.delivers_none;
-  delivers_no = λ k. ap (λ b. b || list_any (delivers_number k) ms) (sym (or_false (delivers_number k m)) ∙ q.delivers_no k) ∙ qs.delivers_no k;
-  empties_no = λ k. ap (λ b. b || list_any (empties_number k) ms) (sym (or_false (empties_number k m)) ∙ q.empties_no k) ∙ qs.empties_no k;
-}
-
-pub empties-one : (m : Mark) (h : Arrival) (ms : List Mark) → IsQuiet (m ∷ []) → IsQuiet ms → EmptiesOne (m ∷ Empties h ∷ ms) h.number
-empties-one m h ms q qs = record {
-  receives = ap (λ x. cons_option x (filter_map number_received ms)) (none_first (number_received m) q.receives) ∙ qs.receives;
-  admits = λ k. ap (λ x. cons_option x (filter_map (admits_at k) ms)) (none_first (admits_at k m) (q.admits k)) ∙ qs.admits k;
-  delivers_none = ap (λ x. cons_option x (filter_map delivers ms)) (none_first (delivers m) q.delivers_none) ∙ qs.delivers_none;
-  delivers_no = λ k. ap (λ b. b || list_any (delivers_number k) ms) (sym (or_false (delivers_number k m)) ∙ q.delivers_no k) ∙ qs.delivers_no k;
-  empties = λ k. ap (λ b. b || ((h.number == k) || list_any (empties_number k) ms)) (sym (or_false (empties_number k m)) ∙ q.empties_no k) ∙ ap (λ b. (h.number == k) || b) (qs.empties_no k) ∙ or_false (h.number == k);
-}
-
--- ---- what is held was received
-
-pub held_received : (t : Trace) (n : ℕ) (h : Arrival) → held t n ≡ Some h → is_received t n ≡ true
-held_received t n h is = by_test (is_received t n) refl
-  where
-    by_test : (b : Bool) → is_received t n ≡ b → is_received t n ≡ true
-    by_test true said = said
-    by_test false said = absurd (let none : None ≡ Some h = sym (ap first_of (unadmitted n t said)) ∙ admitted_of_held t n h is in cc)
-
--- what isn't received isn't held
-pub unreceived_unheld : (t : Trace) (n : ℕ) → is_received t n ≡ false → held t n ≡ None
-unreceived_unheld t n gone =
-    ap (λ xs. cond (is_delivered t n || is_emptied t n) None (first_of xs)) (unadmitted n t gone)
-    ∙ elim (is_delivered t n || is_emptied t n) as (λ b. (let x : Option Arrival = cond b None None in x) ≡ None) [ true ↦ refl | false ↦ refl ]
+use Rattle.iscsi_history.proofs.EmptyingMarks.{EmptiesOne, VoidsOne, admitted-empties, admitted-voids, emptied-empties, empties-one, held-gone, held-other, held-voids, received-empties, received-voids, request_at-empties, request_at-voids, voids-one}
 
 -- ---- a number is received without a request
 
 module _ (item : List Mark) (t : Trace) (n : ℕ) (v : VoidsOne item n) where
-  received-voids : (k : ℕ) → is_received (item ∷ t) k ≡ (is_received t k || (n == k))
-  received-voids k = received-item item t k ∙ ap (λ ns. is_received t k || contains ns k) v.receives ∙ ap (λ b. is_received t k || b) (or_false (n == k))
-
-  admitted-voids : (k : ℕ) → shown (admits_at k) (item ∷ t) ≡ shown (admits_at k) t
-  admitted-voids k = ap (λ xs. shown (admits_at k) t ++ xs) (v.admits k) ∙ append-nil (shown (admits_at k) t)
-
-  held-voids : (k : ℕ) → held (item ∷ t) k ≡ held t k
-  held-voids k =
-      ap (λ b. cond ((b || is_delivered t k) || is_emptied (item ∷ t) k) None (admitted (item ∷ t) k)) (v.delivers_no k)
-      ∙ ap (λ b. cond (is_delivered t k || (b || is_emptied t k)) None (admitted (item ∷ t) k)) (v.empties_no k)
-      ∙ ap (λ xs. cond (is_delivered t k || is_emptied t k) None (first_of xs)) (admitted-voids k)
-
-  request_at-voids : (k : ℕ) → request_at (item ∷ t) k ≡ request_at t k
-  request_at-voids k =
-      ap (λ b. cond (b || is_emptied t k) None (option_map (λ (a : Arrival). a.request) (admitted (item ∷ t) k))) (v.empties_no k)
-      ∙ ap (λ xs. cond (is_emptied t k) None (option_map (λ (a : Arrival). a.request) (first_of xs))) (admitted-voids k)
-
   place_of-voids : (k : ℕ) → place_of (item ∷ t) k ≡ cond (is_received t k || (n == k)) (Some (option_map (λ (a : Arrival). a.request) (held t k))) None
   place_of-voids k =
-      ap (λ b. cond b (Some (option_map (λ (a : Arrival). a.request) (held (item ∷ t) k))) None) (received-voids k)
-      ∙ ap (λ x. cond (is_received t k || (n == k)) (Some (option_map (λ (a : Arrival). a.request) x)) None) (held-voids k)
+      ap (λ b. cond b (Some (option_map (λ (a : Arrival). a.request) (held (item ∷ t) k))) None) (received-voids item t n v k)
+      ∙ ap (λ x. cond (is_received t k || (n == k)) (Some (option_map (λ (a : Arrival). a.request) x)) None) (held-voids item t n v k)
 
   place_of-other : (k : ℕ) → (n == k) ≡ false → place_of (item ∷ t) k ≡ place_of t k
   place_of-other k apart = place_of-voids k ∙ ap (λ b. cond b (Some (option_map (λ (a : Arrival). a.request) (held t k))) None) (ap (λ b. is_received t k || b) apart ∙ or_false (is_received t k))
@@ -127,21 +44,21 @@ module _ (item : List Mark) (t : Trace) (n : ℕ) (v : VoidsOne item n) where
       record {
         first = h.first;
         size = long ∙ h.size;
-        below = λ k l u. received-voids k ∙ ap (λ b. b || (n == k)) (h.below k l u);
+        below = λ k l u. received-voids item t n v k ∙ ap (λ b. b || (n == k)) (h.below k l u);
         inside = λ k lt. ⊎_elim
             (λ here. ap (λ i. get_or (set w.places k₀ (Some None)) i None) here ∙ get_or-set_same w.places k₀ (Some None) None in_range
             ∙ sym (ap (place_of (item ∷ t)) (let z : e + k ≡ n = omega (arith, here) in z) ∙ place_of-here new))
             (λ apart. get_or-set_other w.places k₀ k (Some None) None apart ∙ h.inside k (omega (arith, long))
             ∙ sym (place_of-other (e + k) (let no : (n == e + k) ≡ false = grind (arith, nat_tests) in no)))
             (cases_eq k k₀);
-        above = λ k u. received-voids k ∙ ap (λ b. b || (n == k)) (h.above k (omega (arith, long))) ∙ (let far : n < k = omega (arith, long, in_range) in let no : (n == k) ≡ false = grind (arith, nat_tests) in no);
-        past = λ k before. held-voids k ∙ h.past k before;
+        above = λ k u. received-voids item t n v k ∙ ap (λ b. b || (n == k)) (h.above k (omega (arith, long))) ∙ (let far : n < k = omega (arith, long, in_range) in let no : (n == k) ≡ false = grind (arith, nat_tests) in no);
+        past = λ k before. held-voids item t n v k ∙ h.past k before;
         undelivered = λ k u. ap (λ b. b || is_delivered t k) (v.delivers_no k) ∙ h.undelivered k u;
-        unemptied = λ k gone. ap (λ b. b || is_emptied t k) (v.empties_no k) ∙ h.unemptied k (or_none (is_received t k) (n == k) (sym (received-voids k) ∙ gone)).0;
-        requests = λ k b found. h.requests k b (sym (ap first_of (admitted-voids k)) ∙ found);
-        numbers = λ k b found. h.numbers k b (sym (ap first_of (admitted-voids k)) ∙ found);
+        unemptied = λ k gone. ap (λ b. b || is_emptied t k) (v.empties_no k) ∙ h.unemptied k (or_none (is_received t k) (n == k) (sym (received-voids item t n v k) ∙ gone)).0;
+        requests = λ k b found. h.requests k b (sym (ap first_of (admitted-voids item t n v k)) ∙ found);
+        numbers = λ k b found. h.numbers k b (sym (ap first_of (admitted-voids item t n v k)) ∙ found);
         delivered = ap (λ rs. shown delivers t ++ rs) v.delivers_none ∙ append-nil (shown delivers t) ∙ h.delivered
-            ∙ same_range t (item ∷ t) (number_of_first o.first) (e - number_of_first o.first) (λ k l u. sym (request_at-voids k));
+            ∙ same_range t (item ∷ t) (number_of_first o.first) (e - number_of_first o.first) (λ k l u. sym (request_at-voids item t n v k));
         few = omega (arith, h.few, long);
         free = λ k big. get_or-set_other w.places k₀ k (Some None) None (λ same_place. omega (arith, same_place, big, long, h.few)) ∙ h.free k (omega (arith, big, long));
       }
@@ -153,45 +70,17 @@ WindowAgrees-voided o w t m n ms h q qs low high new = WindowAgrees-voids (m ∷
 -- ---- a request is taken out
 
 module _ (item : List Mark) (t : Trace) (n : ℕ) (v : EmptiesOne item n) where
-  received-empties : received (item ∷ t) ≡ received t
-  received-empties = ap (λ ns. received t ++ ns) v.receives ∙ append-nil (received t)
-
-  admitted-empties : (k : ℕ) → shown (admits_at k) (item ∷ t) ≡ shown (admits_at k) t
-  admitted-empties k = ap (λ xs. shown (admits_at k) t ++ xs) (v.admits k) ∙ append-nil (shown (admits_at k) t)
-
-  emptied-empties : (k : ℕ) → is_emptied (item ∷ t) k ≡ ((n == k) || is_emptied t k)
-  emptied-empties k = ap (λ b. b || is_emptied t k) (v.empties k)
-
-  held-empties : (k : ℕ) → held (item ∷ t) k ≡ cond (is_delivered t k || ((n == k) || is_emptied t k)) None (admitted t k)
-  held-empties k =
-      ap (λ b. cond ((b || is_delivered t k) || is_emptied (item ∷ t) k) None (admitted (item ∷ t) k)) (v.delivers_no k)
-      ∙ ap (λ b. cond (is_delivered t k || b) None (admitted (item ∷ t) k)) (emptied-empties k)
-      ∙ ap (λ xs. cond (is_delivered t k || ((n == k) || is_emptied t k)) None (first_of xs)) (admitted-empties k)
-
-  held-other : (k : ℕ) → (n == k) ≡ false → held (item ∷ t) k ≡ held t k
-  held-other k apart = held-empties k ∙ ap (λ b. cond (is_delivered t k || (b || is_emptied t k)) None (admitted t k)) apart
-
-  held-gone : held (item ∷ t) n ≡ None
-  held-gone =
-      held-empties n
-      ∙ ap (λ b. cond b None (admitted t n)) (or_second (is_delivered t n) ((n == n) || is_emptied t n) (ap (λ b. b || is_emptied t n) (eq-eqb n n refl)))
-
-  request_at-empties : (k : ℕ) → (n == k) ≡ false → request_at (item ∷ t) k ≡ request_at t k
-  request_at-empties k apart =
-      ap (λ b. cond b None (option_map (λ (a : Arrival). a.request) (admitted (item ∷ t) k))) (emptied-empties k ∙ ap (λ b. b || is_emptied t k) apart)
-      ∙ ap (λ xs. cond (is_emptied t k) None (option_map (λ (a : Arrival). a.request) (first_of xs))) (admitted-empties k)
-
   place_of-held : (k : ℕ) → place_of (item ∷ t) k ≡ cond (is_received t k) (Some (option_map (λ (a : Arrival). a.request) (held (item ∷ t) k))) None
-  place_of-held k = ap (λ ns. cond (contains ns k) (Some (option_map (λ (a : Arrival). a.request) (held (item ∷ t) k))) None) received-empties
+  place_of-held k = ap (λ ns. cond (contains ns k) (Some (option_map (λ (a : Arrival). a.request) (held (item ∷ t) k))) None) (received-empties item t n v)
 
   place_of-apart : (k : ℕ) → (n == k) ≡ false → place_of (item ∷ t) k ≡ place_of t k
-  place_of-apart k apart = place_of-held k ∙ ap (λ x. cond (is_received t k) (Some (option_map (λ (a : Arrival). a.request) x)) None) (held-other k apart)
+  place_of-apart k apart = place_of-held k ∙ ap (λ x. cond (is_received t k) (Some (option_map (λ (a : Arrival). a.request) x)) None) (held-other item t n v k apart)
 
   place_of-gone : is_received t n ≡ true → place_of (item ∷ t) n ≡ Some None
   place_of-gone there =
       place_of-held n
       ∙ ap (λ b. cond b (Some (option_map (λ (a : Arrival). a.request) (held (item ∷ t) n))) None) there
-      ∙ ap (λ x. let y : Option (Option Request) = Some (option_map (λ (a : Arrival). a.request) x) in y) held-gone
+      ∙ ap (λ x. let y : Option (Option Request) = Some (option_map (λ (a : Arrival). a.request) x) in y) (held-gone item t n v)
 
   pub WindowAgrees-empties : (o : Setting) (w : Received) (h : Arrival) → WindowAgrees o w t → held t n ≡ Some h → number_expected w ≤ n → n < number_expected w + length w.places
       → WindowAgrees o (with_place w (n - number_expected w) (Some None)) (item ∷ t)
@@ -202,7 +91,7 @@ module _ (item : List Mark) (t : Trace) (n : ℕ) (v : EmptiesOne item n) where
       let at : e + k₀ ≡ n = omega arith in
       let long : length (set w.places k₀ (Some None)) ≡ length w.places = length-set w.places k₀ (Some None) in
       let there : is_received t n ≡ true = held_received t n h is in
-      let same_received : (k : ℕ) → is_received (item ∷ t) k ≡ is_received t k = λ k. ap (λ ns. contains ns k) received-empties in
+      let same_received : (k : ℕ) → is_received (item ∷ t) k ≡ is_received t k = λ k. ap (λ ns. contains ns k) (received-empties item t n v) in
       let apart_of : (k : ℕ) → is_received t k ≡ false → (n == k) ≡ false = λ k gone. ⊎_elim (λ same. absurd (false≢true (sym gone ∙ ap (is_received t) (sym same) ∙ there))) (λ apart. let no : (n == k) ≡ false = grind (arith, nat_tests) in no) (cases_eq n k) in
       let kept_here : get_or w.places k₀ None ≡ Some (Some h.request) = a.inside k₀ in_range ∙ ap (place_of t) at
       ∙ ap (λ b. cond b (Some (option_map (λ (x : Arrival). x.request) (held t n))) None) there ∙ ap (λ x. let y : Option (Option Request) = Some (option_map (λ (z : Arrival). z.request) x) in y) is in
@@ -218,13 +107,13 @@ module _ (item : List Mark) (t : Trace) (n : ℕ) (v : EmptiesOne item n) where
             ∙ sym (place_of-apart (e + k) (let no : (n == e + k) ≡ false = grind (arith, nat_tests) in no)))
             (cases_eq k k₀);
         above = λ k u. same_received k ∙ a.above k (omega (arith, long));
-        past = λ k before. held-other k (let far : k < n = omega (arith, before, low) in let no : (n == k) ≡ false = grind (arith, nat_tests) in no) ∙ a.past k before;
+        past = λ k before. held-other item t n v k (let far : k < n = omega (arith, before, low) in let no : (n == k) ≡ false = grind (arith, nat_tests) in no) ∙ a.past k before;
         undelivered = λ k u. ap (λ b. b || is_delivered t k) (v.delivers_no k) ∙ a.undelivered k u;
-        unemptied = λ k gone. let before : is_received t k ≡ false = sym (same_received k) ∙ gone in emptied-empties k ∙ ap (λ b. b || is_emptied t k) (apart_of k before) ∙ a.unemptied k before;
-        requests = λ k b found. a.requests k b (sym (ap first_of (admitted-empties k)) ∙ found);
-        numbers = λ k b found. a.numbers k b (sym (ap first_of (admitted-empties k)) ∙ found);
+        unemptied = λ k gone. let before : is_received t k ≡ false = sym (same_received k) ∙ gone in emptied-empties item t n v k ∙ ap (λ b. b || is_emptied t k) (apart_of k before) ∙ a.unemptied k before;
+        requests = λ k b found. a.requests k b (sym (ap first_of (admitted-empties item t n v k)) ∙ found);
+        numbers = λ k b found. a.numbers k b (sym (ap first_of (admitted-empties item t n v k)) ∙ found);
         delivered = ap (λ rs. shown delivers t ++ rs) v.delivers_none ∙ append-nil (shown delivers t) ∙ a.delivered
-            ∙ same_range t (item ∷ t) (number_of_first o.first) (e - number_of_first o.first) (λ k l u. sym (request_at-empties k (let no : (n == k) ≡ false = let lt : k < n = omega (arith, a.first) in grind (arith, nat_tests) in no)));
+            ∙ same_range t (item ∷ t) (number_of_first o.first) (e - number_of_first o.first) (λ k l u. sym (request_at-empties item t n v k (let no : (n == k) ≡ false = let lt : k < n = omega (arith, a.first) in grind (arith, nat_tests) in no)));
         few = omega (arith, a.few, long);
         free = λ k big. get_or-set_other w.places k₀ k (Some None) None (λ same_place. omega (arith, same_place, big, long, not_last)) ∙ a.free k (omega (arith, big, long));
       }

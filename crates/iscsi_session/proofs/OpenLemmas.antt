@@ -1,8 +1,7 @@
 -- A session that was opened, and how many requests one holds.
-use Rattle.std.proofs.Common.{eq-eqb, ◌≡◌, ℕ, zero, suc, ◌+◌, ◌-◌, ◌*◌, ◌<◌, ◌==◌, ◌&&◌, ◌||◌, cond, Bool, true, false, List, [], ◌∷◌, length, map, filter, get_or, replicate, Option, Some, None, option_map, is_some, refl, ap, sym, ◌∙◌, arith, count_by}
+use Rattle.std.proofs.Common.{◌≡◌, ℕ, ◌+◌, ◌-◌, ◌*◌, ◌<◌, ◌==◌, cond, true, false, List, [], ◌∷◌, length, map, filter, get_or, replicate, Option, Some, None, option_map, is_some, refl, ap, sym, ◌∙◌, arith, count_by}
 use Rattle.std.specs.List.{filter_map, range_with_len, list_all}
-use Rattle.std.proofs.lemmas.List.Sums.{sum_by-cons}
-use Rattle.std.proofs.lemmas.List.{length-map}
+use Rattle.std.proofs.lemmas.List.{length-map, length-replicate}
 use Rattle.iscsi_wire.specs.Serial.{wire, number_of_first}
 use Rattle.iscsi_window.specs.Windows.{Received, number_expected, opened}
 use Rattle.iscsi_tasks.specs.Sets.{Members, opened as opened_set}
@@ -13,22 +12,15 @@ use Rattle.iscsi_history.specs.rules.Trace.{Arrival, Trace, first_of, is_receive
 use Rattle.iscsi_history.specs.rules.Run.{trace_of}
 use Rattle.iscsi_history.specs.promises.Executed.{request_at}
 use Rattle.iscsi_session.specs.promises.Standing.{Core, Settled, StandsFor, place_of, is_held, stat_sn_on, held_count, effect_bound_of, kept, arrival_waiting}
-use Rattle.iscsi_history.specs.rules.Logout.{is_open}
-use Rattle.iscsi_history.proofs.BoolLemmas.{or_second}
-use Rattle.iscsi_session.proofs.EnablingLemmas.{EnabledSoFar-none}
-use Rattle.iscsi_session.proofs.MissingLemmas.{unreceived_unheld}
+use Rattle.iscsi_history.proofs.EnabledItems.{EnabledSoFar-none}
+use Rattle.iscsi_history.proofs.HeldLemmas.{unreceived_unheld}
+use Rattle.iscsi_history.proofs.ClosingItems.{all_open}
+use Rattle.iscsi_history.proofs.CountLemmas.{count_places}
+use Rattle.iscsi_history.proofs.PlaceLemmas.{nothing_at}
+use Rattle.iscsi_history.proofs.SetLemmas.{set_opened}
 use Rattle.iscsi_session.proofs.AgreeLemmas.{settled_expected}
 use Rattle.iscsi_history.specs.rules.Management.{may_wait}
 use Rattle.iscsi_session.specs.declared.session.waiting.Waiting.{Waiting}
-
-nothing_at : {A : Type 0} (n k : ℕ) → get_or (replicate {A = Option A} n None) k None ≡ None
-nothing_at zero k = refl
-nothing_at (suc n) zero = refl
-nothing_at (suc n) (suc k) = nothing_at n k
-
-pub so_many : {A : Type 0} (n : ℕ) (x : A) → length (replicate n x) ≡ n
-so_many zero x = refl
-so_many (suc n) x = ap suc (so_many n x)
 
 first_number : (cid : ℕ) (cs : List (ℕ × ℕ)) → stat_sn_on cid cs ≡ wire (elim (first_of (filter (λ c. c.0 == cid) cs)) [ Some c ↦ c.1 | None ↦ 0 ] + 0)
 first_number cid [] = refl
@@ -37,19 +29,6 @@ first_number cid (c ∷ cs) =
       | true ↦ ap wire (let z : c.1 ≡ c.1 + 0 = omega arith in z)
       | false ↦ first_number cid cs
     ]
-
-pub set_opened : (n u depth : ℕ) → u < n → get_or (replicate n (opened_set depth)) u (opened_set 0) ≡ opened_set depth
-set_opened zero u depth lt = absurd (omega arith)
-set_opened (suc n) zero depth lt = refl
-set_opened (suc n) (suc u) depth lt = set_opened n u depth (omega arith)
-
--- each connection of the session is open
-all_open : (o : Setting) (cs : List (ℕ × ℕ)) → ((cid : ℕ) → is_known cid cs ≡ true → is_known cid o.conns ≡ true) → filter (is_open o []) (map (λ (c : ℕ × ℕ). c.0) cs) ≡ map (λ (c : ℕ × ℕ). c.0) cs
-all_open o [] within = refl
-all_open o (c ∷ cs) within =
-    let rest : List ℕ = filter (is_open o []) (map (λ (d : ℕ × ℕ). d.0) cs) in
-    ap (λ b. cond (b && true) (c.0 ∷ rest) rest) (within c.0 (ap (λ b. b || is_known c.0 cs) (eq-eqb c.0 c.0 refl)))
-    ∙ ap (λ ds. c.0 ∷ ds) (all_open o cs (λ cid known. within cid (or_second (c.0 == cid) (is_known cid cs) known)))
 
 pub Settled-opened : (o : Setting) (s : Core) → s.window ≡ opened o.first o.window → s.events ≡ o.events → s.conns ≡ o.conns → s.entered ≡ 0 → s.live ≡ [] → s.sets ≡ replicate o.units (opened_set o.depth) → s.level ≡ o.level → s.arrived ≡ replicate o.window 0 → s.waiting ≡ [] → s.open_conns ≡ map (λ (c : ℕ × ℕ). c.0) o.conns → Settled o s []
 Settled-opened o s window events conns entered none sets level arrived waits cids =
@@ -63,7 +42,7 @@ Settled-opened o s window events conns entered none sets level arrived waits cid
         events = events;
         window = record {
           first = first;
-          size = ap (λ (w : Received). length w.places) window ∙ so_many o.window None;
+          size = ap (λ (w : Received). length w.places) window ∙ length-replicate o.window None;
           below = λ n low high. absurd (omega (arith, first, turned));
           inside = λ k lt. nothing k;
           above = λ n high. refl;
@@ -89,7 +68,7 @@ Settled-opened o s window events conns entered none sets level arrived waits cid
           unleft = λ k h. refl;
         };
         sets = record {
-          units = ap length sets ∙ so_many o.units (opened_set o.depth);
+          units = ap length sets ∙ length-replicate o.units (opened_set o.depth);
           depths = λ u lt. ap (λ (m : Members). m.depth) (set u lt);
           lists = λ u lt. ap (λ (m : Members). m.list) (set u lt);
         };
@@ -97,7 +76,7 @@ Settled-opened o s window events conns entered none sets level arrived waits cid
         enabled = EnabledSoFar-none o;
         level = level;
         arrived = record {
-          long = ap length arrived ∙ so_many o.window 0 ∙ sym (ap (λ (w : Received). length w.places) window ∙ so_many o.window None);
+          long = ap length arrived ∙ length-replicate o.window 0 ∙ sym (ap (λ (w : Received). length w.places) window ∙ length-replicate o.window None);
           at_place = λ k a lt found. absurd cc;
         };
         waiting = record { list = sym (ap (map (arrival_waiting o.first)) waits); may = ap (list_all (λ (w : Waiting). may_wait w.request)) waits; known = ap (list_all (λ (w : Waiting). is_known (connection_of w.request) o.conns)) waits };
@@ -107,22 +86,6 @@ Settled-opened o s window events conns entered none sets level arrived waits cid
     }
 
 -- ---- how many are held
-
-pub none_counted : {A : Type 0} (p : Option A → Bool) (n : ℕ) → p None ≡ false → count_by p (replicate n None) ≡ 0
-none_counted p zero h = refl
-none_counted p (suc n) h = sum_by-cons (λ y. cond (p y) 1 0) None (replicate n None) ∙ ap (λ b. cond b 1 0 + count_by p (replicate n None)) h ∙ (let rest : count_by p (replicate n None) ≡ 0 = none_counted p n h in omega (arith, rest))
-
-pub all_none : {A : Type 0} (p : Option A → Bool) (n : ℕ) → p None ≡ true → list_all p (replicate n None) ≡ true
-all_none p zero h = refl
-all_none p (suc n) h = ap (λ b. b && list_all p (replicate n None)) h ∙ all_none p n h
-
-count_places : {A : Type 0} (p : Option A → Bool) (q : ℕ → Bool) (ps : List (Option A)) (e : ℕ) → ((k : ℕ) → k < length ps → p (get_or ps k None) ≡ q (e + k)) → count_by p ps ≡ count_by q (range_with_len e (length ps))
-count_places p q [] e h = refl
-count_places p q (x ∷ ps) e h =
-    sum_by-cons (λ y. cond (p y) 1 0) x ps
-    ∙ ap (λ b. cond b 1 0 + count_by p ps) (h 0 (omega arith) ∙ ap q (let z : e + 0 ≡ e = omega arith in z))
-    ∙ ap (λ n. cond (q e) 1 0 + n) (count_places p q ps (e + 1) (λ k lt. h (suc k) (omega arith) ∙ ap q (let z : e + suc k ≡ e + 1 + k = omega arith in z)))
-    ∙ sym (sum_by-cons (λ n. cond (q n) 1 0) e (range_with_len (e + 1) (length ps)))
 
 held_shown : (x : Option Arrival) → is_held (Some (option_map (λ (a : Arrival). a.request) x)) ≡ is_some x
 held_shown None = refl

@@ -1,7 +1,5 @@
 -- How many effects live commands may bring: each leaves once, and is enabled once before.
-use Rattle.std.proofs.Common.{◌≡◌, ℕ, suc, ◌+◌, ◌*◌, ◌<◌, ◌≤◌, ◌==◌, not, cond, true, false, nat_le, Bool, List, [], ◌∷◌, length, filter, get_or, count_by, ⊎_elim, ap, sym, ◌∙◌, arith}
-use Rattle.std.proofs.lemmas.Bool.{cases_lt}
-use Rattle.std.proofs.lemmas.Bool.Decides.{nat_tests}
+use Rattle.std.proofs.Common.{◌≡◌, ℕ, suc, ◌+◌, ◌*◌, ◌<◌, ◌≤◌, ◌==◌, not, cond, nat_le, List, [], ◌∷◌, length, filter, get_or, count_by, ap, sym, ◌∙◌, arith}
 use Rattle.std.proofs.lemmas.List.{length-map}
 use Rattle.std.proofs.lemmas.List.Sums.{sum_by-cons, length-filter, count_by-le-length}
 use Rattle.iscsi_tasks.specs.declared.member.Member.{Member}
@@ -9,27 +7,7 @@ use Rattle.iscsi_tasks.specs.Sets.{Members, opened}
 use Rattle.iscsi_commands.specs.declared.live.Live.{Live}
 use Rattle.iscsi_session.specs.promises.Standing.{Match, tickets_of, tickets_in}
 use Rattle.iscsi_session.specs.private.Functions.{ungiven, ungiven_in, owed}
-
-one_unit : (n u : ℕ) → cond (n == u) 1 0 + cond (nat_le (u + 1) n) 1 0 ≤ cond (nat_le u n) 1 0
-one_unit n u =
-    ⊎_elim (λ below.
-    let x : (n == u) ≡ false = grind (arith, nat_tests) in
-    let y : nat_le (u + 1) n ≡ false = grind (arith, nat_tests) in
-    omega (arith, ap {B = ℕ} (λ b. cond b 1 0) x, ap {B = ℕ} (λ b. cond b 1 0) y))
-    (λ from. ⊎_elim (λ at.
-    let y : nat_le (u + 1) n ≡ false = grind (arith, nat_tests) in
-    let z : nat_le u n ≡ true = grind (arith, nat_tests) in
-    omega (arith, at_most (n == u), ap {B = ℕ} (λ b. cond b 1 0) y, ap {B = ℕ} (λ b. cond b 1 0) z))
-    (λ above.
-    let x : (n == u) ≡ false = grind (arith, nat_tests) in
-    let z : nat_le u n ≡ true = grind (arith, nat_tests) in
-    omega (arith, ap {B = ℕ} (λ b. cond b 1 0) x, at_most (nat_le (u + 1) n), ap {B = ℕ} (λ b. cond b 1 0) z))
-    (cases_lt n (u + 1)))
-    (cases_lt n u)
-  where
-    at_most : (b : Bool) → cond b 1 0 ≤ 1
-    at_most true = omega arith
-    at_most false = omega arith
+use Rattle.iscsi_history.proofs.NumberLemmas.{one_unit}
 
 -- those of a unit, and those of later units
 unit_and_later : (u : ℕ) (lives : List Live) → count_by (λ l. l.unit == u) lives + count_by (λ l. nat_le (u + 1) l.unit) lives ≤ count_by (λ l. nat_le u l.unit) lives

@@ -43,10 +43,6 @@ same_expected w w' first turned = ap (λ f. number_of_first f + w'.turned) first
 pub stays_expected : (more : ℕ) (s s' : Core) → Stays more s s' → number_expected s'.window ≡ number_expected s.window
 stays_expected more s s' h = same_expected s.window s'.window h.first h.turned
 
-pub is_none : {A : Type 0} (x : Option A) → is_some x ≡ false → x ≡ None
-is_none None h = refl
-is_none (Some a) h = absurd cc
-
 -- ---- a function
 
 left_fewer : (s : Core) (unit : ℕ) (covers : Task → Bool) → (with_left s unit covers).window.unfinished ≤ s.window.unfinished

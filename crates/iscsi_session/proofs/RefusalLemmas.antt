@@ -1,6 +1,5 @@
 -- The first event of a run that is refused.
-use Rattle.std.proofs.Common.{◌≡◌, ℕ, ◌+◌, inl, not, cond, Bool, true, false, List, [], ◌∷◌, ◌++◌, Option, Some, None, refl, ap, sym, ◌∙◌, nat_lt, ◌<◌, ◌⊎◌, inr, length, take, drop, get_or, Ok, Err, arith, length-take}
-use Rattle.std.specs.List.{list_all}
+use Rattle.std.proofs.Common.{◌≡◌, ℕ, ◌+◌, inl, not, cond, Bool, true, false, List, Option, Some, None, refl, ap, sym, ◌∙◌, nat_lt, ◌<◌, ◌⊎◌, inr, length, take, drop, get_or, Ok, Err, arith, length-take}
 use Rattle.iscsi_history.specs.declared.event.Event.{Event}
 use Rattle.iscsi_session.specs.declared.fault.SessionFault.{SessionFault}
 use Rattle.iscsi_session.specs.declared.fault.SessionFault.TheVariants.{UnknownConnection, Exhausted, NoMemory}
@@ -8,7 +7,6 @@ use Rattle.iscsi_history.specs.rules.Settings.{Setting}
 use Rattle.iscsi_history.specs.rules.Agenda.{belongs}
 use Rattle.iscsi_session.specs.promises.Refusals.{first_refusal, refusal_after, refusal_of, RefusesAs, RunRefusesAs}
 use Rattle.std.proofs.lemmas.List.{drop_more}
-use Rattle.iscsi_history.proofs.BoolLemmas.{and_parts, and_both}
 
 -- an event that isn't refused comes on a connection of the session
 pub taken_belongs : (o : Setting) (h : List Event) (e : Event) → refusal_of o h e ≡ None → belongs o e ≡ true
@@ -17,13 +15,6 @@ taken_belongs o h e none = by_test (belongs o e) (nat_lt (length h) o.events) no
     by_test : (b c : Bool) → (let x : Option SessionFault = cond (not b) (Some UnknownConnection) (cond c None (Some Exhausted)) in x) ≡ None → b ≡ true
     by_test true c h = refl
     by_test false c h = absurd cc
-
--- so do the events with it
-pub belong_more : (o : Setting) (h : List Event) (e : Event) → list_all (belongs o) h ≡ true → belongs o e ≡ true → list_all (belongs o) (h ++ e ∷ []) ≡ true
-belong_more o [] e before here = and_both (belongs o e) true here refl
-belong_more o (d ∷ h) e before here =
-    let parts = and_parts (belongs o d) (list_all (belongs o) h) before in
-    and_both (belongs o d) (list_all (belongs o) (h ++ e ∷ [])) parts.0 (belong_more o h e parts.1 here)
 
 abbrev first_of_two : Option SessionFault → Option SessionFault → Option SessionFault
 first_of_two x y = elim x [ Some fault ↦ Some fault | None ↦ y ]

@@ -1,9 +1,8 @@
 -- Connections that agree with what has happened agree after one item more.
-use Rattle.std.proofs.Common.{◌≡◌, ℕ, ◌+◌, ◌==◌, ◌||◌, cond, Bool, true, false, List, [], ◌∷◌, ◌++◌, count_by, refl, ap, sym, ◌∙◌, arith}
+use Rattle.std.proofs.Common.{◌≡◌, ℕ, ◌+◌, ◌==◌, ◌||◌, cond, true, false, List, [], ◌∷◌, ◌++◌, count_by, refl, ap, sym, ◌∙◌, arith}
 use Rattle.std.specs.List.{filter_map}
 use Rattle.std.proofs.lemmas.Bool.{false≢true, eqb-true}
 use Rattle.std.proofs.lemmas.List.{append-nil}
-use Rattle.std.proofs.lemmas.List.Sums.{sum_by-append}
 use Rattle.iscsi_wire.specs.Serial.{wire}
 use Rattle.iscsi_history.specs.rules.Settings.{Setting, is_known}
 use Rattle.iscsi_history.specs.rules.Trace.{Mark, Trace, shown, sent_on}
@@ -11,8 +10,8 @@ use Rattle.iscsi_history.specs.rules.Run.{stat_sn_of, first_stat_sn}
 use Rattle.iscsi_session.specs.promises.Standing.{stat_sn_on, RepliesAgree}
 use Rattle.iscsi_session.specs.private.Steps.{count_reply}
 use Rattle.iscsi_session.proofs.ListLemmas.{cids-count_reply}
-use Rattle.iscsi_history.proofs.ListLemmas.{is_known-cids}
-use Rattle.iscsi_session.proofs.NumberLemmas.{wire-next}
+use Rattle.iscsi_history.proofs.ListLemmas.{is_known-cids, count_by-push}
+use Rattle.iscsi_history.proofs.NumberLemmas.{wire-next}
 
 stat_sn_on-same : (cid : ℕ) (conns : List (ℕ × ℕ)) → is_known cid conns ≡ true → stat_sn_on cid (count_reply cid conns) ≡ wire (stat_sn_on cid conns + 1)
 stat_sn_on-same cid [] known = absurd (false≢true known)
@@ -31,16 +30,13 @@ stat_sn_on-other cid other (c ∷ conns) apart =
       | false ↦ λ is. ap (λ n. cond (c.0 == cid) (wire c.1) n) (stat_sn_on-other cid other conns apart)
     ] refl
 
-counts_one : (p : ℕ → Bool) (ns : List ℕ) (n : ℕ) → count_by p (ns ++ n ∷ []) ≡ count_by p ns + cond (p n) 1 0
-counts_one p ns n = sum_by-append (λ k. cond (p k) 1 0) ns (n ∷ []) ∙ (let z : count_by p ns + (0 + cond (p n) 1 0) ≡ count_by p ns + cond (p n) 1 0 = omega arith in z)
-
 -- the next StatSN of a connection, after a reply on one
 replied : (o : Setting) (conns : List (ℕ × ℕ)) (t : Trace) (item : List Mark) (conn cid : ℕ) → RepliesAgree o conns t → is_known conn o.conns ≡ true → is_known cid o.conns ≡ true → filter_map sent_on item ≡ conn ∷ []
     → stat_sn_on cid (count_reply conn conns) ≡ stat_sn_of o (item ∷ t) cid
 replied o conns t item conn cid a known_conn known sends =
     let n : ℕ = count_by (λ k. k == cid) (shown sent_on t) in
     let first : ℕ = first_stat_sn o cid in
-    let more : stat_sn_of o (item ∷ t) cid ≡ wire (first + (n + cond (conn == cid) 1 0)) = ap (λ ns. wire (first + count_by (λ k. k == cid) (shown sent_on t ++ ns))) sends ∙ ap (λ m. wire (first + m)) (counts_one (λ k. k == cid) (shown sent_on t) conn) in
+    let more : stat_sn_of o (item ∷ t) cid ≡ wire (first + (n + cond (conn == cid) 1 0)) = ap (λ ns. wire (first + count_by (λ k. k == cid) (shown sent_on t ++ ns))) sends ∙ ap (λ m. wire (first + m)) (count_by-push (λ k. k == cid) (shown sent_on t) conn) in
     elim (conn == cid) as (λ b. (conn == cid) ≡ b → stat_sn_on cid (count_reply conn conns) ≡ wire (first + (n + cond b 1 0))) [
       | true ↦ λ is. ap (λ c. stat_sn_on cid (count_reply c conns)) (eqb-true conn cid is) ∙ stat_sn_on-same cid conns (is_known-cids cid conns o.conns a.cids ∙ known) ∙ ap (λ m. wire (m + 1)) (a.stat_sns cid known) ∙ wire-next (first + n) ∙ ap wire (let z : first + n + 1 ≡ first + (n + 1) = omega arith in z)
       | false ↦ λ is. stat_sn_on-other cid conn conns is ∙ a.stat_sns cid known ∙ ap (λ m. wire (first + m)) (let z : n ≡ n + 0 = omega arith in z)

@@ -13,10 +13,13 @@ use Rattle.iscsi_history.specs.rules.Run.{newly_enabled}
 use Rattle.iscsi_session.specs.promises.Standing.{task_of, member_of, set_of, SetsAgree, CommandsAgree}
 use Rattle.iscsi_session.specs.private.Steps.{all_given, as_given, enable_effects, enable_effect}
 use Rattle.iscsi_history.proofs.NewlyLemmas.{never_free}
-use Rattle.iscsi_session.proofs.EnabledLemmas.{filter-map, noted_given, noted_effects, newly-one, set_of-same, EnteredSet, set-entered}
+use Rattle.iscsi_session.proofs.EnabledLemmas.{noted_given, noted_effects, set_of-same, EnteredSet, set-entered}
 use Rattle.iscsi_history.proofs.MomentLemmas.{enables}
 use Rattle.iscsi_history.proofs.NewlyLemmas.{Untouched, live_in-untouched}
-use Rattle.iscsi_session.proofs.CommandParts.{EntersOne, live_in-entered, live_in-elsewhere, LeavesSome, live_in-left, live_in-left_elsewhere, are_all_in}
+use Rattle.iscsi_history.proofs.ListLemmas.{filter-map}
+use Rattle.iscsi_history.proofs.EnabledItems.{newly-one}
+use Rattle.iscsi_history.proofs.CommandItems.{EntersOne, LeavesSome, live_in-left, live_in-left_elsewhere, are_all_in}
+use Rattle.iscsi_session.proofs.CommandParts.{live_in-entered, live_in-elsewhere}
 
 pub SetsAgree-untouched : (o : Setting) (sets : List Members) (t : Trace) (item : List Mark) → Untouched item → SetsAgree o sets t → SetsAgree o sets (item ∷ t)
 SetsAgree-untouched o sets t item u a = record {

@@ -1,7 +1,6 @@
 -- What holds of every session holds on, where only some of its fields change.
 use Rattle.std.proofs.Common.{◌≡◌, ◌∙◌, ◌+◌, ◌<◌, ◌≤◌, ◌==◌, not, ap, sym, subst, arith, nat_lt, nat_le, length, filter, count_by, is_some, Bool, true, List, Option, Some, ℕ, All, cond, ◌&&◌, ◌++◌, [], ◌∷◌}
 use Rattle.std.specs.List.{list_all}
-use Rattle.std.proofs.lemmas.Bool.Decides.{nat_tests}
 use Rattle.std.proofs.lemmas.List.Folds.{list_all-append}
 use Rattle.iscsi_wire.specs.Fields.{connection_of}
 use Rattle.iscsi_wire.specs.declared.request.Request.{Request}
@@ -17,6 +16,7 @@ use Rattle.iscsi_session.specs.private.Invariant.{Inner, IsWindowSound, AreComma
 use Rattle.iscsi_history.proofs.ListLemmas.{count_by-push, list_all-filter, fewer_counted}
 use Rattle.iscsi_session.proofs.ListLemmas.{are_known-replied, are_places_known-replied, are_waiting_known-replied}
 use Rattle.iscsi_history.proofs.TraceLemmas.{weaker}
+use Rattle.iscsi_history.proofs.NumberLemmas.{later_event}
 use Rattle.iscsi_session.proofs.WindowLemmas.{Changed, Advanced}
 use Rattle.iscsi_session.proofs.CountLemmas.{length-replied, AreCounted-replied}
 use Rattle.iscsi_session.proofs.KeptLemmas.{ascending-push, within-push, ascending-kept}
@@ -186,12 +186,6 @@ fewer_sound {s} inv stays rest more =
     })) more
 
 -- ---- an event and a reply
-
--- what arrived before did so before the next event too
-later_event : (event taken : ℕ) → nat_lt event taken ≡ true → nat_lt event (taken + 1) ≡ true
-later_event event taken before =
-    let lt : event < taken = grind (arith, nat_tests) in
-    grind (arith, nat_tests)
 
 -- one event more was taken
 pub taken_sound : {s : Inner} → IsSessionSound s → s.taken < s.events → IsSessionSound (record s { taken = s.taken + 1 })

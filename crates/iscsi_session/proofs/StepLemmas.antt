@@ -1,6 +1,6 @@
 -- An arrival, a completion, and an event as a whole.
 use Rattle.std.proofs.Common.{◌≡◌, ℕ, ◌+◌, ◌-◌, ◌<◌, ◌≤◌, ◌==◌, ◌&&◌, ◌||◌, not, ⊎_elim, cond, Bool, true, false, List, [], ◌∷◌, ◌++◌, length, filter, Option, Some, None, option_map, is_some, count_by, refl, ap, sym, subst, ◌∙◌, arith, nat_lt, nat_le, set}
-use Rattle.std.specs.List.{list_any, list_all}
+use Rattle.std.specs.List.{list_any}
 use Rattle.std.proofs.lemmas.Bool.{cases_lt, eqb-true}
 use Rattle.std.proofs.lemmas.Bool.Decides.{nat_tests}
 use Rattle.std.proofs.lemmas.List.{append-nil}
@@ -23,8 +23,8 @@ use Rattle.iscsi_history.specs.declared.event.Event.TheVariants.{Arrive, Done}
 use Rattle.iscsi_commands.specs.declared.live.Live.{Live}
 use Rattle.iscsi_session.specs.declared.fault.SessionFault.TheVariants.{UnknownConnection, Exhausted}
 use Rattle.iscsi_history.specs.rules.Settings.{Setting, is_known}
-use Rattle.iscsi_history.specs.rules.Trace.{Arrival, Command, Mark, Admits, Leaves, Trace, first_of, is_received, held, live, live_in, was_free, is_among}
-use Rattle.iscsi_history.specs.rules.Execution.{exp_of, max_of, unfinished, ignored, completion, sense_of_status, reply_on}
+use Rattle.iscsi_history.specs.rules.Trace.{Arrival, Command, Mark, Admits, Trace, first_of, is_received, held, live, live_in, was_free, is_among}
+use Rattle.iscsi_history.specs.rules.Execution.{exp_of, max_of, unfinished, ignored, completion, sense_of_status}
 use Rattle.iscsi_history.specs.rules.Agenda.{with_turns, numbered, arrival_of, command_of, items_of}
 use Rattle.iscsi_history.specs.rules.Items.{agenda}
 use Rattle.iscsi_history.specs.rules.Run.{stat_sn_of, newly_enabled, effects_of, trace_of}
@@ -33,52 +33,23 @@ use Rattle.iscsi_session.specs.promises.Refusals.{refusal_of}
 use Rattle.iscsi_session.specs.promises.Standing.{Core, CommandsAgree, place_of, kept, is_regular, is_regular_request, member_of, WindowAgrees, Agrees, Settled, StandsFor, ArrivalsAgree}
 use Rattle.iscsi_session.specs.private.Steps.{set_at, set_left, enable_effects, finished, with_offered, comes_on, refusal_by, find_ticket, without_ticket, enabled_of, find_enabled, without_command, leave_effects, after_completion, completion_effects, counted, noted_at}
 use Rattle.iscsi_session.proofs.OpenConns.{open_of-same}
-use Rattle.iscsi_history.proofs.BoolLemmas.{and_parts, and_both, or_false, and_true}
-use Rattle.iscsi_session.proofs.NumberLemmas.{wire-lift}
-use Rattle.iscsi_history.proofs.ListLemmas.{list_any-map, is_known-cids}
+use Rattle.iscsi_history.proofs.BoolLemmas.{and_both, or_false}
+use Rattle.iscsi_history.proofs.ListLemmas.{list_any-map, is_known-cids, first_itself}
 use Rattle.iscsi_history.proofs.ApartLemmas.{eq_sym, count-without, one_unit}
 use Rattle.iscsi_history.proofs.TraceLemmas.{all_among}
-use Rattle.iscsi_history.proofs.DeliveryLemmas.{IsQuiet}
 use Rattle.iscsi_session.proofs.WindowParts.{WindowAgrees-quiet, WindowAgrees-finished, with_held}
 use Rattle.iscsi_session.proofs.ReplyParts.{RepliesAgree-sent}
 use Rattle.iscsi_history.proofs.MomentLemmas.{enables}
-use Rattle.iscsi_session.proofs.CommandParts.{LeavesSome, live-left, CommandsAgree-left, live_early, find_kept, first_passing, none_passing}
-use Rattle.iscsi_session.proofs.EnablingLemmas.{EnabledSoFar-left}
+use Rattle.iscsi_session.proofs.CommandParts.{CommandsAgree-left, live_early, find_kept}
 use Rattle.iscsi_history.proofs.NewlyLemmas.{newly-untouched}
+use Rattle.iscsi_history.proofs.NumberLemmas.{wire-lift}
+use Rattle.iscsi_history.proofs.CommandItems.{LeavesSome, live-left, first_passing, none_passing, untouched-admits, among_unit, completion_item, first_passes, quiet-completion}
+use Rattle.iscsi_history.proofs.EnabledItems.{EnabledSoFar-left}
 use Rattle.iscsi_session.proofs.SetParts.{SetLeaving, SetsAgree-left, left_by-one}
-use Rattle.iscsi_session.proofs.AgreeLemmas.{Regular, regular_parts, regular_live, units_live, settled_expected, settled_max, Stepped, Stepped-ignored, untouched-admits, Agrees-admitted}
+use Rattle.iscsi_session.proofs.AgreeLemmas.{Regular, regular_parts, regular_live, units_live, settled_expected, settled_max, Stepped, Stepped-ignored, Agrees-admitted}
 use Rattle.iscsi_session.proofs.ArrivedLemmas.{ArrivalsAgree-quiet}
 
 -- ---- a completion
-
-first_passes : (p q : Command → Bool) (cs : List Command) (c : Command) → list_all q cs ≡ true → first_of (filter p cs) ≡ Some c → q c ≡ true
-first_passes p q [] c all found = absurd cc
-first_passes p q (x ∷ cs) c all found =
-    let parts = and_parts (q x) (list_all q cs) all in
-    elim (p x) as (λ b. first_of (cond b (x ∷ filter p cs) (filter p cs)) ≡ Some c → q c ≡ true) [
-      | true ↦ λ here. let same : x ≡ c = cc in ap q (sym same) ∙ parts.0
-      | false ↦ λ later. first_passes p q cs c parts.1 later
-    ] found
-
--- the first that passes does
-first_itself : (p : Command → Bool) (cs : List Command) (c : Command) → first_of (filter p cs) ≡ Some c → p c ≡ true
-first_itself p [] c found = absurd cc
-first_itself p (x ∷ cs) c found =
-    elim (p x) as (λ b. p x ≡ b → first_of (cond b (x ∷ filter p cs) (filter p cs)) ≡ Some c → p c ≡ true) [
-      | true ↦ λ is here. let same : x ≡ c = cc in ap p (sym same) ∙ is
-      | false ↦ λ is later. first_itself p cs c later
-    ] refl found
-
-abbrev completion_item : Command → ℕ → List Mark
-completion_item c status = Leaves c ∷ reply_on c.arrival (Scsi (itt c.arrival.request) status (sense_of_status status))
-
-quiet-completion : (c : Command) (status : ℕ) → IsQuiet (completion_item c status)
-quiet-completion c status = record { receives = refl; admits = λ n. refl; delivers_none = refl; delivers_no = λ n. refl; empties_no = λ n. refl }
-
--- the command is among those of its unit
-among_unit : (k : ℕ) (cs : List Command) → list_any (λ (d : Command). d.ticket == k && true) cs ≡ is_among k cs
-among_unit k [] = refl
-among_unit k (c ∷ cs) = ap (λ b. b || list_any (λ (d : Command). d.ticket == k && true) cs) (and_true (c.ticket == k)) ∙ ap (λ b. (c.ticket == k) || b) (among_unit k cs)
 
 -- a numbered command gives its place back
 window-finished : (o : Setting) (w : Received) (t : Trace) (c : Command) → WindowAgrees o w t → WindowAgrees o (finished w (kept c)) t

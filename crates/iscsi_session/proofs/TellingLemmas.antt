@@ -1,15 +1,11 @@
 -- Each unit is told of its commands, one unit after the other.
-use Rattle.std.proofs.Common.{◌≡◌, ℕ, zero, suc, ◌+◌, ◌-◌, ◌<◌, ◌||◌, ⊎_elim, Bool, true, false, List, [], ◌∷◌, ◌++◌, length, map, set, get_or, refl, ap, sym, ◌∙◌, arith}
+use Rattle.std.proofs.Common.{◌≡◌, ℕ, zero, suc, ◌+◌, ◌<◌, ◌||◌, ⊎_elim, Bool, true, false, List, [], ◌∷◌, ◌++◌, length, map, set, get_or, refl, ap, sym, ◌∙◌, arith}
 use Rattle.std.specs.List.{range_with_len, flat_map}
 use Rattle.std.proofs.lemmas.Bool.{cases_eq}
 use Rattle.std.proofs.lemmas.List.{get_or-set_same, get_or-set_other}
 use Rattle.iscsi_tasks.specs.declared.member.Member.{Member}
 use Rattle.iscsi_tasks.specs.Sets.{Members, opened}
 use Rattle.iscsi_session.specs.private.Steps.{as_given, all_given, enable_effects}
-
--- the units from one on
-pub range_step : (u end : ℕ) → u < end → range_with_len u (end - u) ≡ u ∷ range_with_len (u + 1) (end - (u + 1))
-range_step u end lt = ap (range_with_len u) (let z : end - u ≡ suc (end - (u + 1)) = omega (arith, lt) in z)
 
 given_again : (ms : List Member) → map as_given (map as_given ms) ≡ map as_given ms
 given_again [] = refl

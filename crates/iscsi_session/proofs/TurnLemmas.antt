@@ -12,8 +12,9 @@ use Rattle.iscsi_session.specs.private.Steps.{number_by, event_by}
 use Rattle.iscsi_session.specs.private.Turning.{with_executed, executed_effects, next_arrived, turned_if, turn_effects}
 use Rattle.iscsi_history.proofs.BoolLemmas.{and_parts, not_true}
 use Rattle.iscsi_history.proofs.HeldLemmas.{held-number, admitted_of_held}
-use Rattle.iscsi_session.proofs.WindowParts.{Next, has_first, turned_window, WindowAgrees-turned}
-use Rattle.iscsi_session.proofs.ArrivedLemmas.{passed_on, ArrivalsAgree-turned}
+use Rattle.iscsi_history.proofs.PlaceLemmas.{has_first, passed_on}
+use Rattle.iscsi_session.proofs.WindowParts.{Next, turned_window, WindowAgrees-turned}
+use Rattle.iscsi_session.proofs.ArrivedLemmas.{ArrivalsAgree-turned}
 use Rattle.iscsi_session.proofs.ExecutionLemmas.{Begun}
 
 -- ---- the state after a turn

@@ -1,11 +1,9 @@
 -- What an offer and a completion change of what a session keeps.
-use Rattle.std.proofs.Common.{◌≡◌, ℕ, zero, suc, ◌+◌, ◌-◌, ◌<◌, ◌≤◌, ◌&&◌, not, cond, Bool, true, false, List, [], ◌∷◌, ◌++◌, length, filter, drop, find, get_or, set, Option, Some, None, option_map, is_some, refl, ap, sym, ◌∙◌, arith, nat_lt, nat_le, count_by, length-set}
+use Rattle.std.proofs.Common.{◌≡◌, ℕ, suc, ◌+◌, ◌-◌, ◌<◌, ◌≤◌, ◌&&◌, cond, Bool, true, false, List, [], ◌∷◌, ◌++◌, length, drop, get_or, Option, Some, None, option_map, is_some, refl, ap, ◌∙◌, arith, nat_lt, nat_le, count_by, length-set}
 use Rattle.std.specs.List.{list_all}
 use Rattle.std.specs.Option.{option_flatten}
 use Rattle.std.proofs.lemmas.Bool.Decides.{nat_tests}
 use Rattle.std.proofs.lemmas.List.{length_push}
-use Rattle.std.proofs.lemmas.List.Folds.{list_all-append}
-use Rattle.std.proofs.lemmas.List.Sums.{sum_by-cons, sum_by-append}
 use Rattle.iscsi_session.specs.promises.Standing.{is_held, is_place_known}
 use Rattle.iscsi_window.specs.declared.answer.Turned.{Turned}
 use Rattle.iscsi_wire.specs.declared.request.Request.{Request}
@@ -15,35 +13,8 @@ use Rattle.iscsi_window.specs.declared.answer.Offer.TheVariants.{Held, Duplicate
 use Rattle.iscsi_window.specs.declared.answer.Place.{Place}
 use Rattle.iscsi_window.specs.declared.answer.Place.TheVariants.{Inside, Outside as NoPlace}
 use Rattle.iscsi_window.specs.Windows.{Received, number_expected, room_of, at_place, advanced, advanced_if, turned_by, offer_at, offer_to, place_in, IsInside, held_at, is_received_at, received_at, offered_to, voided, emptied, emptied_if, with_place}
-use Rattle.iscsi_history.proofs.BoolLemmas.{and_parts, and_both}
-
--- ---- counts
-
-pub few_counted : {A : Type 0} (p : A → Bool) (xs : List A) → count_by p xs ≤ length xs
-few_counted p [] = omega arith
-few_counted p (x ∷ xs) =
-    let is : count_by p (x ∷ xs) ≡ cond (p x) 1 0 + count_by p xs = sum_by-cons (λ y. cond (p y) 1 0) x xs in
-    let rest : count_by p xs ≤ length xs = few_counted p xs in
-    let one : cond (p x) 1 0 ≤ 1 = elim (p x) as (λ b. cond b 1 0 ≤ 1) [ true ↦ omega arith | false ↦ omega arith ] in
-    omega (arith, is, rest, one)
-
--- one element more that counts
-pub count_set : {A : Type 0} (p : A → Bool) (ps : List A) (k : ℕ) (x d : A) → k < length ps → p (get_or ps k d) ≡ false → p x ≡ true → count_by p (set ps k x) ≡ count_by p ps + 1
-count_set p [] k x d lt before now = absurd (omega arith)
-count_set p (y ∷ ps) zero x d lt before now =
-    let new : count_by p (x ∷ ps) ≡ 1 + count_by p ps = sum_by-cons (λ z. cond (p z) 1 0) x ps ∙ ap (λ b. cond b 1 0 + count_by p ps) now in
-    let old : count_by p (y ∷ ps) ≡ 0 + count_by p ps = sum_by-cons (λ z. cond (p z) 1 0) y ps ∙ ap (λ b. cond b 1 0 + count_by p ps) before in
-    omega (arith, new, old)
-count_set p (y ∷ ps) (suc k) x d lt before now =
-    let new : count_by p (y ∷ set ps k x) ≡ cond (p y) 1 0 + count_by p (set ps k x) = sum_by-cons (λ z. cond (p z) 1 0) y (set ps k x) in
-    let old : count_by p (y ∷ ps) ≡ cond (p y) 1 0 + count_by p ps = sum_by-cons (λ z. cond (p z) 1 0) y ps in
-    let rest : count_by p (set ps k x) ≡ count_by p ps + 1 = count_set p ps k x d (omega arith) before now in
-    omega (arith, new, old, rest)
-
-pub all_set : {A : Type 0} (p : A → Bool) (ps : List A) (k : ℕ) (x : A) → list_all p ps ≡ true → p x ≡ true → list_all p (set ps k x) ≡ true
-all_set p [] k x all now = refl
-all_set p (y ∷ ps) zero x all now = and_both (p x) (list_all p ps) now (and_parts (p y) (list_all p ps) all).1
-all_set p (y ∷ ps) (suc k) x all now = let h = and_parts (p y) (list_all p ps) all in and_both (p y) (list_all p (set ps k x)) h.0 (all_set p ps k x h.1 now)
+use Rattle.iscsi_history.proofs.PlaceLemmas.{all_set, all_shift, some_within}
+use Rattle.iscsi_history.proofs.CountLemmas.{count_replaced, count_shift}
 
 -- ---- a request that is held
 
@@ -74,49 +45,7 @@ taken s r said =
     let h = by_test s r n (nat_le (number_expected s) n && nat_lt n (number_expected s + room_of s)) refl said in
     record { k = h.0; inside = h.1.0; empty = h.1.1.0; window = h.1.1.1 }
 
--- ---- a command that leaves
-
-pub at_most : {A : Type 0} (p : A → Bool) (ys : List A) → length (filter (λ z. not (p z)) ys) ≤ length ys
-at_most p [] = omega arith
-at_most p (z ∷ ys) =
-    let rest : length (filter (λ w. not (p w)) ys) ≤ length ys = at_most p ys in
-    elim (p z) as (λ b. length (cond (not b) (z ∷ filter (λ w. not (p w)) ys) (filter (λ w. not (p w)) ys)) ≤ suc (length ys)) [
-      | true ↦ omega (arith, rest)
-      | false ↦ omega (arith, rest)
-    ]
-
--- at least one command fewer
-pub fewer : {A : Type 0} (p : A → Bool) (xs : List A) (x : A) → find p xs ≡ Some x → length (filter (λ y. not (p y)) xs) + 1 ≤ length xs
-fewer p [] x h = absurd cc
-fewer p (y ∷ xs) x h =
-    elim (p y) as (λ b. cond b (Some y) (find p xs) ≡ Some x → length (cond (not b) (y ∷ filter (λ z. not (p z)) xs) (filter (λ z. not (p z)) xs)) + 1 ≤ suc (length xs)) [
-      | true ↦ λ here. omega (arith, at_most p xs)
-      | false ↦ λ later. omega (arith, fewer p xs x later)
-    ] h
-
-pub find-found : {A : Type 0} (p : A → Bool) (xs : List A) (x : A) → find p xs ≡ Some x → p x ≡ true
-find-found p [] x h = absurd cc
-find-found p (y ∷ xs) x h =
-    elim (p y) as (λ b. p y ≡ b → cond b (Some y) (find p xs) ≡ Some x → p x ≡ true) [
-      | true ↦ λ is here. let same : y ≡ x = cc in ap p (sym same) ∙ is
-      | false ↦ λ is later. find-found p xs x later
-    ] refl h
-
 -- ---- a turn
-
-count_shift : {A : Type 0} (p : Option A → Bool) (x : A) (ps : List (Option A)) → p None ≡ false → get_or ps 0 None ≡ Some x → count_by p (drop 1 ps ++ None ∷ []) + cond (p (Some x)) 1 0 ≡ count_by p ps
-count_shift p x [] none found = absurd cc
-count_shift p x (y ∷ ps) none found =
-    let first : count_by p (y ∷ ps) ≡ cond (p y) 1 0 + count_by p ps = sum_by-cons (λ z. cond (p z) 1 0) y ps in
-    let last : count_by p (ps ++ None ∷ []) ≡ count_by p ps + count_by p (None ∷ []) = sum_by-append (λ z. cond (p z) 1 0) ps (None ∷ []) in
-    let gone : count_by p (None ∷ []) ≡ 0 + 0 = sum_by-cons (λ z. cond (p z) 1 0) None [] ∙ ap (λ b. cond b 1 0 + 0) none in
-    omega (arith, first, last, gone, ap {B = ℕ} (λ z. cond (p z) 1 0) found)
-
-all_shift : {A : Type 0} (p : Option A → Bool) (x : A) (ps : List (Option A)) → p None ≡ true → get_or ps 0 None ≡ Some x → list_all p ps ≡ true → (p (Some x) ≡ true) × (list_all p (drop 1 ps ++ None ∷ []) ≡ true)
-all_shift p x [] none found all = absurd cc
-all_shift p x (y ∷ ps) none found all =
-    let h = and_parts (p y) (list_all p ps) all in
-    (ap p (sym found) ∙ h.0, list_all-append p ps (None ∷ []) ∙ ap (λ b. b && list_all p (None ∷ [])) h.1 ∙ ap (λ b. b && true) none)
 
 -- the window has turned a number, at which this was kept
 pub record Advanced (w : Received) (q : Option Request) : Type 0 where
@@ -154,24 +83,6 @@ advanced_at w t said = by_place (at_place w 0) refl said
         }
 
 -- ---- a number that is emptied or voided
-
--- another element at a place
-pub count_replaced : {A : Type 0} (p : A → Bool) (ps : List A) (k : ℕ) (x d : A) → k < length ps → count_by p (set ps k x) + cond (p (get_or ps k d)) 1 0 ≡ count_by p ps + cond (p x) 1 0
-count_replaced p [] k x d lt = absurd (omega arith)
-count_replaced p (y ∷ ps) zero x d lt =
-    let new : count_by p (x ∷ ps) ≡ cond (p x) 1 0 + count_by p ps = sum_by-cons (λ z. cond (p z) 1 0) x ps in
-    let old : count_by p (y ∷ ps) ≡ cond (p y) 1 0 + count_by p ps = sum_by-cons (λ z. cond (p z) 1 0) y ps in
-    omega (arith, new, old)
-count_replaced p (y ∷ ps) (suc k) x d lt =
-    let new : count_by p (y ∷ set ps k x) ≡ cond (p y) 1 0 + count_by p (set ps k x) = sum_by-cons (λ z. cond (p z) 1 0) y (set ps k x) in
-    let old : count_by p (y ∷ ps) ≡ cond (p y) 1 0 + count_by p ps = sum_by-cons (λ z. cond (p z) 1 0) y ps in
-    let rest : count_by p (set ps k x) + cond (p (get_or ps k d)) 1 0 ≡ count_by p ps + cond (p x) 1 0 = count_replaced p ps k x d (omega arith) in
-    omega (arith, new, old, rest)
-
-some_within : {A : Type 0} (ps : List (Option A)) (k : ℕ) (x : A) → get_or ps k None ≡ Some x → k < length ps
-some_within [] k x h = absurd cc
-some_within (p ∷ ps) zero x h = omega arith
-some_within (p ∷ ps) (suc k) x h = omega (arith, some_within ps k x h)
 
 -- what the window has become: so many held requests fewer are counted in it, and so many received numbers more
 pub record Changed (old new : Received) (fewer_held more : ℕ) : Type 0 where

@@ -1,5 +1,5 @@
 -- A window that agrees with what has happened agrees after one item more.
-use Rattle.std.proofs.Common.{◌≡◌, ℕ, zero, suc, ◌+◌, ◌-◌, ◌<◌, ◌≤◌, ◌||◌, cond, false, List, [], ◌∷◌, ◌++◌, Some, None, option_map, refl, ap, sym, ◌∙◌, arith, ◌==◌, ⊎_elim, Bool, true, length, drop, get_or, set, Option, eq-eqb, length-set, length-drop}
+use Rattle.std.proofs.Common.{◌≡◌, ℕ, ◌+◌, ◌-◌, ◌<◌, ◌≤◌, ◌||◌, cond, false, List, [], ◌∷◌, ◌++◌, Some, None, option_map, refl, ap, sym, ◌∙◌, arith, ◌==◌, ⊎_elim, Bool, true, length, drop, get_or, set, Option, eq-eqb, length-set, length-drop}
 use Rattle.std.specs.List.{list_any, cons_option}
 use Rattle.std.proofs.lemmas.List.{append-nil, length_push, get_or_append_left, get_or-drop, get_or-set_same, get_or-set_other}
 use Rattle.iscsi_wire.specs.declared.request.Request.{Request}
@@ -10,14 +10,14 @@ use Rattle.iscsi_history.specs.promises.Executed.{request_at, executed_below, de
 use Rattle.iscsi_session.specs.promises.Standing.{place_of, is_regular_request, WindowAgrees}
 use Rattle.std.proofs.lemmas.Bool.{cases_lt, cases_eq, false≢true}
 use Rattle.std.proofs.lemmas.Bool.Decides.{nat_tests}
-use Rattle.std.proofs.lemmas.List.Folds.{list_any-append}
 use Rattle.iscsi_wire.specs.Fields.{cmd_sn}
 use Rattle.iscsi_window.specs.Windows.{Received, number_expected, room_of, at_place, with_place, with_unfinished}
 use Rattle.iscsi_history.specs.rules.Execution.{exp_of}
 use Rattle.iscsi_history.proofs.BoolLemmas.{or_none, or_second, or_false}
 use Rattle.iscsi_history.proofs.Missing.{expected_is, expected_low, expected_gone}
-use Rattle.iscsi_history.proofs.HeldLemmas.{held-delivered, admitted-number, admitted-cases, admitted-admits, held-admits, held-here, held-number, held-turned, request_at-turned, admitted_of_held, held_unemptied}
+use Rattle.iscsi_history.proofs.HeldLemmas.{held-delivered, admitted-number, admitted-cases, held-admits, held-here, held-number, held-turned, request_at-turned, admitted_of_held, held_unemptied, received-admits, request_at-admits, some_held}
 use Rattle.iscsi_history.proofs.DeliveryLemmas.{held-quiet, IsQuiet, same_range, received-quiet, executed_below-quiet, delivered-quiet, admitted-quiet, executed_below-more}
+use Rattle.iscsi_history.proofs.PlaceLemmas.{has_first, last_none}
 
 -- the window keeps the same of each number
 pub place_of-quiet : (item : List Mark) (t : Trace) (n : ℕ) → IsQuiet item → place_of (item ∷ t) n ≡ place_of t n
@@ -74,10 +74,6 @@ WindowAgrees-quiet o w t item q a = record {
 
 -- ---- an admission
 
--- the numbers received after an admission
-received-admits : (t : Trace) (a : Arrival) (k : ℕ) → is_received ((Admits a ∷ []) ∷ t) k ≡ (is_received t k || (a.number == k))
-received-admits t a k = list_any-append (λ n. n == k) (received t) (a.number ∷ []) ∙ ap (λ b. is_received t k || b) (or_false (a.number == k))
-
 -- the window with the request at its place
 abbrev pub with_held : Received → Arrival → Received
 with_held w a = with_place w (a.number - number_expected w) (Some (Some a.request))
@@ -91,9 +87,6 @@ place_of-here : (t : Trace) (a : Arrival) → is_received t a.number ≡ false �
 place_of-here t a new undelivered unemptied =
     ap (λ b. cond b (Some (option_map (λ (x : Arrival). x.request) (held ((Admits a ∷ []) ∷ t) a.number))) None) (received-admits t a a.number ∙ or_second (is_received t a.number) (a.number == a.number) (eq-eqb a.number a.number refl))
     ∙ ap (λ x. let y : Option (Option Request) = Some (option_map (λ (z : Arrival). z.request) x) in y) (held-here t a new undelivered unemptied)
-
-request_at-admits : (t : Trace) (a : Arrival) (k : ℕ) → (a.number == k) ≡ false → request_at ((Admits a ∷ []) ∷ t) k ≡ request_at t k
-request_at-admits t a k apart = ap (λ x. cond (is_emptied t k) None (option_map (λ (b : Arrival). b.request) x)) (admitted-admits t a k apart)
 
 pub WindowAgrees-admitted : (o : Setting) (w : Received) (t : Trace) (a : Arrival) → WindowAgrees o w t → number_expected w ≤ a.number → a.number < number_expected w + room_of w → is_received t a.number ≡ false → is_regular_request o a.request ≡ true → wire (cmd_sn a.request) ≡ wire a.number
     → WindowAgrees o (with_held w a) ((Admits a ∷ []) ∷ t)
@@ -135,27 +128,12 @@ pub record Next (w : Received) (t : Trace) (r : Request) : Type 0 where
   pub request_is : arrival.request ≡ r
   pub received_is : is_received t (number_expected w) ≡ true
 
-pub has_first : {A : Type 0} (ps : List (Option A)) (x : A) → get_or ps 0 None ≡ Some x → 0 < length ps
-has_first [] x h = absurd cc
-has_first (p ∷ ps) x h = omega arith
-
-some_held : (b : Bool) (x : Option Arrival) (r : Request) → cond b (Some (option_map (λ (a : Arrival). a.request) x)) None ≡ Some (Some r) → (b ≡ true) × ((a : Arrival) × ((x ≡ Some a) × (a.request ≡ r)))
-some_held true None r h = absurd (let z : Some None ≡ Some (Some r) = h in cc)
-some_held true (Some a) r h = (refl, (a, (refl, cc)))
-some_held false x r h = absurd cc
-
 pub next_request : (o : Setting) (w : Received) (t : Trace) (r : Request) → WindowAgrees o w t → at_place w 0 ≡ Some (Some r) → Next w t r
 next_request o w t r a h =
     let e : ℕ = number_expected w in
     let at : e + 0 ≡ e = omega arith in
     let facts = some_held (is_received t e) (held t e) r (sym (ap (place_of t) at) ∙ sym (a.inside 0 (has_first w.places (Some r) h)) ∙ h) in
     record { arrival = facts.1.0; held_is = facts.1.1.0; request_is = facts.1.1.1; received_is = facts.0 }
-
-last_none : {A : Type 0} (xs : List (Option A)) (k : ℕ) → length xs ≤ k → get_or (xs ++ None ∷ []) k None ≡ None
-last_none [] zero h = refl
-last_none [] (suc k) h = refl
-last_none (x ∷ xs) zero h = absurd (omega arith)
-last_none (x ∷ xs) (suc k) h = last_none xs k (omega arith)
 
 place_of-turned : (t : Trace) (a : Arrival) (ms : List Mark) (n : ℕ) → IsQuiet ms → (a.number == n) ≡ false → place_of ((Delivers a ∷ ms) ∷ t) n ≡ place_of t n
 place_of-turned t a ms n q apart =

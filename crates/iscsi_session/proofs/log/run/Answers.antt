@@ -18,10 +18,10 @@ use Rattle.iscsi_history.specs.promises.Flow.{FlowsThrough}
 use Rattle.iscsi_history.specs.promises.Aborts.{AbortsHoldIn}
 use Rattle.iscsi_history.specs.promises.Closes.{ClosesHoldIn}
 use Rattle.iscsi_history.proofs.AbortTheorem.{aborts_hold_in}
-use Rattle.iscsi_session.proofs.FlowLemmas.{FlowsThrough-push}
 use Rattle.iscsi_session.specs.promises.Refusals.{refusal_of, refusal_of_options, first_refusal}
 use Rattle.iscsi_session.specs.promises.Standing.{Core, StandsFor}
 use Rattle.iscsi_history.proofs.RunLemmas.{run_of-push}
+use Rattle.iscsi_history.proofs.FlowItems.{FlowsThrough-push}
 use Rattle.iscsi_session.proofs.RefusalLemmas.{taken_none, refused_cases, refusal_more, refusal_here, options_refused, event_refused, run_taken}
 use Rattle.iscsi_history.specs.promises.Enabling.{EnablesByTheRule}
 use Rattle.iscsi_session.proofs.PromiseLemmas.{stands_delivers, stands_enables, stands_closes}

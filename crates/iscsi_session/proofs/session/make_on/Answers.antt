@@ -14,8 +14,12 @@ use Rattle.iscsi_history.specs.rules.Management.{may_wait}
 use Rattle.iscsi_session.specs.private.Turning.{waiting_in}
 use Rattle.iscsi_session.specs.private.Steps.{is_numbered, AreCounted}
 use Rattle.iscsi_session.proofs.CountLemmas.{AreCounted-opened}
-use Rattle.iscsi_session.proofs.OpenLemmas.{set_opened, Settled-opened, none_counted, all_none, so_many}
+use Rattle.iscsi_session.proofs.OpenLemmas.{Settled-opened}
 use Rattle.iscsi_session.proofs.session.make_on.Goals as goal
+use Rattle.iscsi_history.proofs.SetLemmas.{set_opened}
+use Rattle.iscsi_history.proofs.CountLemmas.{none_counted}
+use Rattle.iscsi_history.proofs.PlaceLemmas.{all_none}
+use Rattle.std.proofs.lemmas.List.{length-replicate as so_many}
 
 pub invariant_of-result : goal.invariant_of-result
 invariant_of-result c = c.connections.invariant

@@ -6,8 +6,9 @@ use Rattle.iscsi_session.specs.promises.Standing.{Core}
 use Rattle.iscsi_session.specs.private.Steps.{set_at, all_given, enable_effects}
 use Rattle.iscsi_session.specs.private.Functions.{with_given}
 use Rattle.iscsi_session.specs.private.Closing.{with_all_given}
-use Rattle.iscsi_session.proofs.TellingLemmas.{range_step, given_all, told_more, told_all, told_later}
+use Rattle.iscsi_session.proofs.TellingLemmas.{given_all, told_more, told_all, told_later}
 use Rattle.iscsi_session.proofs.session.Session.announce_all.Goals as goal
+use Rattle.iscsi_history.proofs.ListLemmas.{range_step}
 
 pub loop-unit-preserved : goal.loop-unit-preserved
 loop-unit-preserved c =

@@ -3,7 +3,7 @@ use Rattle.iscsi_tasks.specs.Sets.{Members, opened, is_new}
 use Rattle.iscsi_session.specs.promises.Standing.{Core}
 use Rattle.iscsi_session.specs.private.Steps.{all_given}
 use Rattle.iscsi_session.specs.private.Functions.{ungiven_in, owed}
-use Rattle.iscsi_session.proofs.KeptLemmas.{written}
+use Rattle.iscsi_history.proofs.PlaceLemmas.{written}
 use Rattle.iscsi_session.proofs.LeavingParts.{owed-given, Match-given}
 use Rattle.iscsi_session.proofs.SoundLemmas.{sets_sound}
 use Rattle.iscsi_session.proofs.session.Session.announce_enabled.Goals as goal

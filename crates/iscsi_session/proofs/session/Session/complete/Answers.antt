@@ -9,11 +9,12 @@ use Rattle.iscsi_connections.specs.Connected.{Connected}
 use Rattle.iscsi_session.specs.promises.Standing.{Core, Match, are_within}
 use Rattle.iscsi_session.specs.private.Steps.{AreCounted, is_numbered, counted_on, finished, find_ticket, without_ticket, set_without, all_given}
 use Rattle.iscsi_history.proofs.BoolLemmas.{and_second}
-use Rattle.iscsi_history.proofs.ListLemmas.{find-passes}
-use Rattle.iscsi_session.proofs.WindowLemmas.{fewer, find-found}
+use Rattle.iscsi_history.proofs.ListLemmas.{find-passes, find-found}
+use Rattle.iscsi_history.proofs.CountLemmas.{fewer}
+use Rattle.iscsi_history.proofs.PlaceLemmas.{written}
 use Rattle.iscsi_history.specs.rules.Settings.{is_known}
 use Rattle.iscsi_session.proofs.CountLemmas.{count-left, some_counted, AreCounted-left}
-use Rattle.iscsi_session.proofs.KeptLemmas.{enabled_found, Match-left, few_left, written}
+use Rattle.iscsi_session.proofs.KeptLemmas.{enabled_found, Match-left, few_left}
 use Rattle.iscsi_session.proofs.SoundLemmas.{places_sound, kept_sound, commands_sound_on}
 use Rattle.iscsi_session.proofs.session.Session.complete.Goals as goal
 

@@ -10,7 +10,8 @@ use Rattle.iscsi_session.specs.promises.Standing.{Core, is_held}
 use Rattle.iscsi_session.specs.private.Functions.{owed}
 use Rattle.iscsi_session.specs.private.Turning.{with_executed, executed_effects, with_advanced, turned_if, turn_effects}
 use Rattle.iscsi_history.proofs.BoolLemmas.{and_first, not_true}
-use Rattle.iscsi_session.proofs.WindowLemmas.{few_counted, Advanced, advanced_at}
+use Rattle.iscsi_history.proofs.CountLemmas.{few_counted}
+use Rattle.iscsi_session.proofs.WindowLemmas.{Advanced, advanced_at}
 use Rattle.iscsi_session.proofs.ManageLemmas.{Placed, placed_executed, waiting_executed}
 use Rattle.iscsi_session.proofs.SoundLemmas.{window_sound, advanced_sound, arrivals_sound}
 use Rattle.iscsi_session.proofs.session.Session.deliver_next.Goals as goal

@@ -9,7 +9,8 @@ use Rattle.iscsi_history.specs.rules.Run.{effects_of}
 use Rattle.iscsi_session.specs.promises.Standing.{Core, Settled}
 use Rattle.iscsi_session.specs.private.Turning.{deferral_by}
 use Rattle.iscsi_history.proofs.ListLemmas.{is_known-cids}
-use Rattle.iscsi_session.proofs.ArriveLemmas.{passed_over, rejected_opcode, passed_receives, rejected_receives, AtOnce, at_once, at_once_settled, at_once_effects, at_once_receives, is_numbered_arrival}
+use Rattle.iscsi_history.proofs.ReceivedItems.{passed_receives, rejected_receives, is_numbered_arrival}
+use Rattle.iscsi_session.proofs.ArriveLemmas.{passed_over, rejected_opcode, AtOnce, at_once, at_once_settled, at_once_effects, at_once_receives}
 use Rattle.iscsi_session.proofs.PaceLemmas.{immediate_stays}
 use Rattle.iscsi_session.proofs.session.Session.dispatch.Goals as goal
 

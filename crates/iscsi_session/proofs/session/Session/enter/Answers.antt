@@ -3,6 +3,7 @@ use Rattle.std.specs.List.{list_any}
 use Rattle.std.proofs.lemmas.Bool.Decides.{nat_tests}
 use Rattle.iscsi_slots.specs.Queued.{Queued}
 use Rattle.iscsi_history.proofs.BoolLemmas.{and_parts}
+use Rattle.iscsi_history.proofs.PlaceLemmas.{written}
 use Rattle.std.proofs.lemmas.Int.{to_z-of_z}
 use Rattle.iscsi_wire.specs.declared.request.Request.{Request}
 use Rattle.iscsi_wire.specs.Serial.{number_of_first}
@@ -21,7 +22,7 @@ use Rattle.iscsi_connections.specs.Connected.{Connected}
 use Rattle.iscsi_session.specs.promises.Standing.{Core, are_known, are_within, Match}
 use Rattle.iscsi_session.specs.private.Steps.{is_numbered, immediate_in, counted_on, started, number_by, event_by, new_live, new_task, with_command, enable_effect, entry_effects}
 use Rattle.iscsi_session.proofs.CountLemmas.{AreCounted-entered, room_for_one}
-use Rattle.iscsi_session.proofs.KeptLemmas.{newest_in, Match-entered, written}
+use Rattle.iscsi_session.proofs.KeptLemmas.{newest_in, Match-entered}
 use Rattle.iscsi_session.proofs.PaceLemmas.{started_turned}
 use Rattle.iscsi_session.proofs.SoundLemmas.{places_sound, commands_sound_on, entered_sound}
 use Rattle.iscsi_session.proofs.session.Session.enter.Goals as goal

@@ -13,7 +13,8 @@ use Rattle.iscsi_session.specs.promises.Standing.{Core}
 use Rattle.iscsi_session.specs.private.Functions.{owed}
 use Rattle.iscsi_session.specs.private.Turning.{performed, performed_effects, next_waiting, next_position, without_waiting, function_if, function_effects}
 use Rattle.iscsi_history.proofs.ListLemmas.{find-passes}
-use Rattle.iscsi_session.proofs.ManageLemmas.{fewer_left, waiting_performed}
+use Rattle.iscsi_history.proofs.CountLemmas.{fewer_left}
+use Rattle.iscsi_session.proofs.ManageLemmas.{waiting_performed}
 use Rattle.iscsi_session.proofs.FunctionLemmas.{waited_places}
 use Rattle.iscsi_session.proofs.SoundLemmas.{fewer_sound}
 use Rattle.iscsi_session.proofs.session.Session.execute_next_waiting.Goals as goal

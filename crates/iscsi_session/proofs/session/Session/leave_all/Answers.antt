@@ -7,7 +7,7 @@ use Rattle.iscsi_session.specs.promises.Standing.{Core}
 use Rattle.iscsi_session.specs.private.Functions.{with_left, leaving_effects}
 use Rattle.iscsi_session.specs.private.Closing.{covers_of, with_all_left, all_leaving_effects}
 use Rattle.iscsi_session.proofs.LoggedOutLemmas.{left_one}
-use Rattle.iscsi_session.proofs.TellingLemmas.{range_step}
+use Rattle.iscsi_history.proofs.ListLemmas.{range_step}
 use Rattle.iscsi_session.proofs.session.Session.leave_all.Goals as goal
 
 pub loop-unit-preserved : goal.loop-unit-preserved

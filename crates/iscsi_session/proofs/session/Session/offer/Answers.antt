@@ -6,11 +6,13 @@ use Rattle.iscsi_window.specs.declared.answer.Offer.TheVariants.{Held}
 use Rattle.iscsi_window.specs.Windows.{Received, offer_to, offered_to, with_place}
 use Rattle.iscsi_history.specs.rules.Settings.{is_known}
 use Rattle.iscsi_session.specs.promises.Standing.{Core, is_held, is_place_known}
-use Rattle.iscsi_session.proofs.WindowLemmas.{few_counted, count_set, all_set, Taken, taken}
+use Rattle.iscsi_session.proofs.WindowLemmas.{Taken, taken}
 use Rattle.iscsi_session.proofs.ManageLemmas.{length-noted, unheld_same}
 use Rattle.iscsi_session.specs.private.Invariant.{IsWindowSound}
 use Rattle.iscsi_session.proofs.SoundLemmas.{window_sound, same_sound, arrivals_sound}
 use Rattle.iscsi_session.proofs.session.Session.offer.Goals as goal
+use Rattle.iscsi_history.proofs.CountLemmas.{few_counted, count_set}
+use Rattle.iscsi_history.proofs.PlaceLemmas.{all_set}
 
 pub overflow_add-self : goal.overflow_add-self
 overflow_add-self c = let inv = c.self.invariant in omega (arith, inv.window.most, inv.window.held_is, few_counted is_held c.self.inside.window.places)

@@ -3,7 +3,8 @@ use Rattle.iscsi_wire.specs.Fields.{cmd_sn, rtt}
 use Rattle.iscsi_window.specs.Windows.{IsSound, place_in, held_at}
 use Rattle.iscsi_session.specs.promises.Standing.{Core}
 use Rattle.iscsi_history.proofs.VerdictLemmas.{named_below}
-use Rattle.iscsi_session.proofs.ManageLemmas.{Emptying, outcome_empties, outcome_voids, one_waits_not, found_held}
+use Rattle.iscsi_history.proofs.ReceivedItems.{one_waits_not}
+use Rattle.iscsi_session.proofs.ManageLemmas.{Emptying, outcome_empties, outcome_voids, found_held}
 use Rattle.iscsi_session.proofs.session.Session.perform.Goals as goal
 
 pub outcome-outcome-requires : goal.outcome-outcome-requires

@@ -6,8 +6,9 @@ use Rattle.iscsi_history.specs.rules.Trace.{after_items}
 use Rattle.iscsi_history.specs.rules.Agenda.{numbered, arrival_of}
 use Rattle.iscsi_session.specs.promises.Standing.{Core, Settled}
 use Rattle.iscsi_history.proofs.ListLemmas.{is_known-cids}
+use Rattle.iscsi_history.proofs.ReceivedItems.{ignored_receives}
 use Rattle.iscsi_session.proofs.StepLemmas.{Offered, offered}
-use Rattle.iscsi_session.proofs.ArriveLemmas.{held_settled, held_effects, held_receives, ignored_receives}
+use Rattle.iscsi_session.proofs.ArriveLemmas.{held_settled, held_effects, held_receives}
 use Rattle.iscsi_session.proofs.session.Session.receive_numbered.Goals as goal
 
 pub returns-in-Held-clause-settled : goal.returns-in-Held-clause-settled

@@ -5,7 +5,7 @@ use Rattle.iscsi_tasks.specs.Sets.{Members}
 use Rattle.iscsi_history.specs.rules.Execution.{scsi_to}
 use Rattle.iscsi_session.specs.promises.Standing.{Core}
 use Rattle.iscsi_session.specs.private.Steps.{is_tag_kept, is_crowded_by, place_in}
-use Rattle.iscsi_session.proofs.ExecutionLemmas.{by_place}
+use Rattle.iscsi_history.proofs.VerdictLemmas.{by_place}
 use Rattle.iscsi_session.proofs.session.Session.scsi_verdict.Goals as goal
 use Rattle.iscsi_session.proofs.session.Session.scsi_verdict.Goals.{then-itt, else-itt}
 

@@ -11,9 +11,10 @@ use Rattle.iscsi_history.specs.rules.Settings.{is_known}
 use Rattle.iscsi_history.specs.rules.Management.{may_wait}
 use Rattle.iscsi_session.specs.promises.Standing.{Core}
 use Rattle.iscsi_session.specs.private.Turning.{waiting_in, with_waiting}
-use Rattle.iscsi_session.proofs.ManageLemmas.{Waits, waits_more, Later, later, ahead_by}
+use Rattle.iscsi_session.proofs.ManageLemmas.{Waits, waits_more, Later, later}
 use Rattle.iscsi_session.proofs.SoundLemmas.{functions_sound}
 use Rattle.iscsi_session.proofs.session.Session.wait.Goals as goal
+use Rattle.iscsi_history.proofs.NumberLemmas.{ahead_by}
 
 abbrev waiting_of : Request → ℕ → ℕ → Waiting
 waiting_of r turn event = record { request = r; turn = turn; event = event }

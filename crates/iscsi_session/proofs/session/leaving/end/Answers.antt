@@ -5,8 +5,7 @@ use Rattle.iscsi_slots.specs.Queued.{Queued}
 use Rattle.iscsi_commands.specs.declared.live.Live.{Live}
 use Rattle.iscsi_history.specs.rules.Settings.{is_known}
 use Rattle.iscsi_session.specs.private.Steps.{AreCounted, is_numbered, finished, find_ticket, without_ticket}
-use Rattle.iscsi_history.proofs.ListLemmas.{find-passes}
-use Rattle.iscsi_session.proofs.WindowLemmas.{find-found}
+use Rattle.iscsi_history.proofs.ListLemmas.{find-passes, find-found}
 use Rattle.iscsi_session.proofs.CountLemmas.{count-left, some_counted, AreCounted-left}
 use Rattle.iscsi_session.proofs.session.leaving.end.Goals as goal
 

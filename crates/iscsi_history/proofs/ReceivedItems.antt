@@ -1,21 +1,26 @@
--- Which numbers an item receives: ABORT TASK alone may receive one, where it is immediate.
-use Rattle.std.proofs.Common.{append_assoc, ◌≡◌, ℕ, ◌==◌, ◌&&◌, ◌||◌, not, ◌⊎◌, inl, inr, cond, Bool, true, false, List, [], ◌∷◌, ◌++◌, map, filter, Option, Some, None, refl, ap, sym, ◌∙◌, nat_lt, nat_le, ◌+◌}
-use Rattle.std.specs.List.{list_any, filter_map}
-use Rattle.std.proofs.lemmas.Bool.{false≢true, eqb-true}
+-- Which numbers an event and its items receive: none, or one.
+use Rattle.std.proofs.Common.{List, ℕ, [], ◌∷◌, ◌≡◌, ◌⊎◌, ◌++◌, map, refl, ◌&&◌, cond, false, inl, inr, nat_le, nat_lt, true, ap, None, Option, Some, Bool, filter, ◌==◌, ◌∙◌, sym, ◌||◌, append_assoc, ◌+◌, not}
+use Rattle.std.specs.List.{filter_map, list_any, list_all}
+use Rattle.std.proofs.lemmas.Bool.{eqb-true, false≢true}
 use Rattle.std.proofs.lemmas.List.Elements.{filter_map-append}
-use Rattle.iscsi_wire.specs.declared.reply.Reply.TheVariants.{Reject}
-use Rattle.iscsi_wire.specs.declared.request.Request.{Request}
+use Rattle.std.proofs.lemmas.List.{append-nil}
+use Rattle.iscsi_wire.specs.Fields.{is_immediate, ref_cmd_sn, function, itt, rtt, cid, header_of, opcode, connection_of}
 use Rattle.iscsi_wire.specs.Serial.{lift}
-use Rattle.iscsi_wire.specs.Fields.{connection_of, header_of, is_immediate, opcode, function, itt, rtt, cid, ref_cmd_sn}
+use Rattle.iscsi_wire.specs.declared.request.Request.{Request}
+use Rattle.iscsi_wire.specs.declared.reply.Reply.TheVariants.{Reject}
+use Rattle.iscsi_history.specs.rules.Trace.{Mark, number_received, Command, Leaves, Arrival, Trace, Voids, is_received, Empties, live_in, Executes, ClosesSession, ClosesConn, Delivers, Waits, after_items, received}
+use Rattle.iscsi_history.specs.declared.verdict.Verdict.TheVariants.{Answer, Enter as EnterUnit, Nothing}
 use Rattle.iscsi_history.specs.declared.verdict.Verdict.{Verdict}
-use Rattle.iscsi_history.specs.declared.verdict.Verdict.TheVariants.{Nothing, Answer, Enter as EnterUnit}
+use Rattle.iscsi_history.specs.rules.Execution.{marks_of, exp_of, max_of, unit_named, reply_on, NO_TAG, verdict_of, ignored}
 use Rattle.iscsi_history.specs.rules.Settings.{Setting}
-use Rattle.iscsi_history.specs.rules.Trace.{Arrival, Command, Mark, Delivers, Executes, Voids, Empties, Waits, Leaves, ClosesConn, ClosesSession, Trace, number_received, is_received, live_in}
-use Rattle.iscsi_history.specs.rules.Execution.{exp_of, max_of, NO_TAG, unit_named, marks_of, verdict_of, reply_on}
-use Rattle.iscsi_history.specs.rules.Management.{may_wait, refusal_of_function, waiting_on, answer, held_command, live_with_tag, abort_missing, abort_task, is_before, abort_all, function_to, function_marks, management_marks}
-use Rattle.iscsi_history.specs.rules.Logout.{is_open, is_last_open, taken_out, parting, end_session, close_conn, logout_marks}
-use Rattle.iscsi_history.specs.rules.Items.{marks_after, execution, waiting_item, immediate_item, function_item, item_of}
-use Rattle.iscsi_history.proofs.BoolLemmas.{and_false}
+use Rattle.iscsi_history.specs.rules.Management.{abort_missing, answer, abort_all, is_before, abort_task, function_to, held_command, live_with_tag, function_marks, may_wait, management_marks, refusal_of_function, waiting_on}
+use Rattle.iscsi_history.specs.rules.Items.{function_item, marks_after, item_of, execution, waiting_item, immediate_item, functions, is_waiting}
+use Rattle.iscsi_history.specs.rules.Logout.{taken_out, end_session, parting, close_conn, is_last_open, is_open, logout_marks}
+use Rattle.iscsi_history.specs.promises.Flow.{HasOneMore}
+use Rattle.iscsi_history.specs.declared.kind.Kind.TheVariants.{PassedOver, Unknown, Executes as ExecutesKind}
+use Rattle.iscsi_history.specs.rules.Agenda.{arrival_as, arrival_open, kind_of, arrival_of, numbered, with_turns}
+use Rattle.iscsi_history.specs.declared.effect.Why.{Why}
+use Rattle.iscsi_history.proofs.BoolLemmas.{and_false, and_parts}
 use Rattle.iscsi_history.proofs.AbortMarks.{view_taken}
 
 abbrev received_by : List Mark → List ℕ
@@ -228,3 +233,45 @@ immediate_receives_one o t a =
       ]
       | false ↦ executed_one o t a
     ]
+
+-- ---- an arrival that isn't numbered
+
+-- what isn't received
+pub passed_receives : (o : Setting) (t : Trace) (a : Arrival) → kind_of a.request ≡ PassedOver → HasOneMore (received t) (received (after_items (arrival_open o t a) t))
+passed_receives o t a kind = inl (ap (λ k. received (after_items (arrival_as o t a k) t)) kind ∙ append-nil (received t))
+
+pub rejected_receives : (o : Setting) (t : Trace) (a : Arrival) → kind_of a.request ≡ Unknown → HasOneMore (received t) (received (after_items (arrival_open o t a) t))
+rejected_receives o t a kind = inl (ap (λ k. received (after_items (arrival_as o t a k) t)) kind ∙ append-nil (received t))
+
+pub ignored_receives : (t : Trace) (items : List (List Mark)) (why : Why) → items ≡ ignored why → HasOneMore (received t) (received (after_items items t))
+ignored_receives t items why is = inl (ap (λ (is : List (List Mark)). received (after_items is t)) is ∙ append-nil (received t))
+
+-- it is numbered
+pub is_numbered_arrival : (o : Setting) (index : ℕ) (t : Trace) (r : Request) → kind_of r ≡ ExecutesKind → is_immediate r ≡ false → arrival_open o t (arrival_of o index t r) ≡ numbered o t (arrival_of o index t r)
+is_numbered_arrival o index t r kind numbered_is =
+    let a : Arrival = arrival_of o index t r in
+    ap (arrival_as o t a) kind ∙ ap (λ b. cond b (with_turns o t (immediate_item o t a)) (numbered o t a)) numbered_is
+
+-- ---- the functions of the next number
+
+-- the functions of a number receive none
+pub functions_receive_none : (o : Setting) (as' : List Arrival) (t : Trace) → list_all (λ a. may_wait a.request) as' ≡ true → received (after_items (functions o as' t) t) ≡ received t
+functions_receive_none o [] t may = refl
+functions_receive_none o (a ∷ as') t may =
+    let parts = and_parts (may_wait a.request) (list_all (λ b. may_wait b.request) as') may in
+    elim (is_waiting a t) as (λ b. received (after_items (let now : List (List Mark) = cond b (function_item o t a ∷ []) [] in now ++ functions o as' (after_items now t)) t) ≡ received t) [
+      | true ↦ functions_receive_none o as' (function_item o t a ∷ t) parts.1 ∙ ap (λ ns. received t ++ ns) (function_receives_none o t a parts.0) ∙ append-nil (received t)
+      | false ↦ functions_receive_none o as' t parts.1
+    ]
+
+-- ---- what ABORT TASK comes to
+
+-- ABORT TASK doesn't wait
+pub one_waits_not : (r : Request) → function r ≡ 1 → may_wait r ≡ false
+one_waits_not r is = ap (λ f. is_immediate r && (f == 2 || f == 4 || f == 5)) is ∙ and_false (is_immediate r)
+
+-- ---- once it has waited
+
+-- a function that may wait is immediate, and no ABORT TASK
+pub may_immediate : (r : Request) → may_wait r ≡ true → is_immediate r ≡ true
+may_immediate r may = (and_parts (is_immediate r) (function r == 2 || function r == 4 || function r == 5) may).0

@@ -1,0 +1,105 @@
+-- Places of a list: what is read and written there, and the first one that passes a test.
+use Rattle.std.proofs.Common.{Bool, List, [], refl, set, suc, true, zero, ℕ, ◌∷◌, ◌≡◌, ◌&&◌, ◌++◌, None, Option, Some, ap, drop, get_or, sym, ◌∙◌, ◌<◌, arith, length, ◌≤◌, take, replicate, ◌+◌, cond, false, nat_lt, not, option_map, position, ⊎_elim, subst}
+use Rattle.std.specs.List.{list_all, position_or_len}
+use Rattle.std.proofs.lemmas.List.Folds.{list_all-append}
+use Rattle.std.proofs.lemmas.List.{append-nil}
+use Rattle.std.proofs.lemmas.Bool.{cases_lt, le-ltb, lt-ltb}
+use Rattle.std.proofs.lemmas.Bool.Decides.{nat_tests}
+use Rattle.iscsi_history.proofs.BoolLemmas.{and_both, and_parts}
+
+pub all_set : {A : Type 0} (p : A → Bool) (ps : List A) (k : ℕ) (x : A) → list_all p ps ≡ true → p x ≡ true → list_all p (set ps k x) ≡ true
+all_set p [] k x all now = refl
+all_set p (y ∷ ps) zero x all now = and_both (p x) (list_all p ps) now (and_parts (p y) (list_all p ps) all).1
+all_set p (y ∷ ps) (suc k) x all now = let h = and_parts (p y) (list_all p ps) all in and_both (p y) (list_all p (set ps k x)) h.0 (all_set p ps k x h.1 now)
+
+pub all_shift : {A : Type 0} (p : Option A → Bool) (x : A) (ps : List (Option A)) → p None ≡ true → get_or ps 0 None ≡ Some x → list_all p ps ≡ true → (p (Some x) ≡ true) × (list_all p (drop 1 ps ++ None ∷ []) ≡ true)
+all_shift p x [] none found all = absurd cc
+all_shift p x (y ∷ ps) none found all =
+    let h = and_parts (p y) (list_all p ps) all in
+    (ap p (sym found) ∙ h.0, list_all-append p ps (None ∷ []) ∙ ap (λ b. b && list_all p (None ∷ [])) h.1 ∙ ap (λ b. b && true) none)
+
+pub some_within : {A : Type 0} (ps : List (Option A)) (k : ℕ) (x : A) → get_or ps k None ≡ Some x → k < length ps
+some_within [] k x h = absurd cc
+some_within (p ∷ ps) zero x h = omega arith
+some_within (p ∷ ps) (suc k) x h = omega (arith, some_within ps k x h)
+
+pub has_first : {A : Type 0} (ps : List (Option A)) (x : A) → get_or ps 0 None ≡ Some x → 0 < length ps
+has_first [] x h = absurd cc
+has_first (p ∷ ps) x h = omega arith
+
+pub last_none : {A : Type 0} (xs : List (Option A)) (k : ℕ) → length xs ≤ k → get_or (xs ++ None ∷ []) k None ≡ None
+last_none [] zero h = refl
+last_none [] (suc k) h = refl
+last_none (x ∷ xs) zero h = absurd (omega arith)
+last_none (x ∷ xs) (suc k) h = last_none xs k (omega arith)
+
+-- the events, once the first place has passed
+abbrev pub passed_on : List ℕ → List ℕ
+passed_on arrived = drop 1 arrived ++ 0 ∷ []
+
+padded : (xs : List ℕ) (k : ℕ) → get_or (xs ++ 0 ∷ []) k 0 ≡ get_or xs k 0
+padded [] zero = refl
+padded [] (suc k) = refl
+padded (x ∷ xs) zero = refl
+padded (x ∷ xs) (suc k) = padded xs k
+
+pub passed_at : (xs : List ℕ) (k : ℕ) → get_or (passed_on xs) k 0 ≡ get_or xs (suc k) 0
+passed_at [] zero = refl
+passed_at [] (suc k) = refl
+passed_at (x ∷ xs) k = padded xs k
+
+pub taken_at : {A : Type 0} (n : ℕ) (xs : List A) (k : ℕ) (d : A) → k < length (take n xs) → get_or (take n xs) k d ≡ get_or xs k d
+taken_at zero xs k d lt = absurd (omega (arith, lt))
+taken_at (suc n) [] k d lt = refl
+taken_at (suc n) (x ∷ xs) zero d lt = refl
+taken_at (suc n) (x ∷ xs) (suc k) d lt = taken_at n xs k d (omega (arith, lt))
+
+pub taken_fewer : {A : Type 0} (n : ℕ) (xs : List A) → length (take n xs) ≤ length xs
+taken_fewer zero xs = omega arith
+taken_fewer (suc n) [] = omega arith
+taken_fewer (suc n) (x ∷ xs) = omega (arith, taken_fewer n xs)
+
+drop_length : {A : Type 0} (xs : List A) → drop (length xs) xs ≡ []
+drop_length [] = refl
+drop_length (x ∷ xs) = drop_length xs
+
+take_length : {A : Type 0} (xs : List A) → take (length xs) xs ≡ xs
+take_length [] = refl
+take_length (x ∷ xs) = ap (λ ys. x ∷ ys) (take_length xs)
+
+-- what is written back where as many come back
+pub written : {A : Type 0} (n : ℕ) (new old : List A) → length new ≡ length old → n ≡ length old → take n (new ++ drop (length new) old) ≡ new
+written n new old same len =
+    ap (λ m. take n (new ++ drop m old)) same ∙ ap (λ ys. take n (new ++ ys)) (drop_length old) ∙ ap (take n) (append-nil new)
+    ∙ ap (λ m. take m new) (len ∙ sym same) ∙ take_length new
+
+pub nothing_at : {A : Type 0} (n k : ℕ) → get_or (replicate {A = Option A} n None) k None ≡ None
+nothing_at zero k = refl
+nothing_at (suc n) zero = refl
+nothing_at (suc n) (suc k) = nothing_at n k
+
+pub all_none : {A : Type 0} (p : Option A → Bool) (n : ℕ) → p None ≡ true → list_all p (replicate n None) ≡ true
+all_none p zero h = refl
+all_none p (suc n) h = ap (λ b. b && list_all p (replicate n None)) h ∙ all_none p n h
+
+pub replicate_more : {A : Type 0} (n : ℕ) (x : A) → replicate n x ++ x ∷ [] ≡ replicate (n + 1) x
+replicate_more zero x = refl
+replicate_more (suc n) x = ap (λ xs. x ∷ xs) (replicate_more n x) ∙ ap (λ m. replicate m x) (let z : suc (n + 1) ≡ suc n + 1 = omega arith in z)
+
+pub position-cons : {A : Type 0} (p : A → Bool) (x : A) (xs : List A) → position p (x ∷ xs) ≡ cond (p x) (Some 0) (option_map suc (position p xs))
+position-cons p x xs =
+    let k : ℕ = position_or_len p xs in
+    elim (p x) as (λ b. cond (nat_lt (cond (not b) (1 + k) 0) (suc (length xs))) (Some (cond (not b) (1 + k) 0)) None ≡ cond b (Some 0) (option_map suc (position p xs))) [
+      | true ↦ ap (λ b. cond b (Some 0) None) (lt-ltb 0 (suc (length xs)) (omega arith))
+      | false ↦ ⊎_elim
+          (λ lt. ap (λ b. cond b (Some (1 + k)) None) (lt-ltb (1 + k) (suc (length xs)) (omega arith)) ∙ ap (λ (n : ℕ). Some n) (let z : 1 + k ≡ suc k = omega arith in z) ∙ sym (ap (λ b. option_map suc (cond b (Some k) None)) (lt-ltb k (length xs) lt)))
+          (λ ge. ap (λ b. cond b (Some (1 + k)) None) (le-ltb (1 + k) (suc (length xs)) (omega arith)) ∙ sym (ap (λ b. option_map suc (cond b (Some k) None)) (le-ltb k (length xs) ge)))
+          (cases_lt k (length xs))
+    ]
+
+pub position-within : {A : Type 0} (p : A → Bool) (xs : List A) (k : ℕ) → position p xs ≡ Some k → k < length xs
+position-within p xs k h =
+    elim (nat_lt (position_or_len p xs) (length xs)) as (λ b. nat_lt (position_or_len p xs) (length xs) ≡ b → cond b (Some (position_or_len p xs)) None ≡ Some k → k < length xs) [
+      | true ↦ λ is found. let same : position_or_len p xs ≡ k = cc in let lt : position_or_len p xs < length xs = grind (arith, nat_tests) in subst (λ n. n < length xs) same lt
+      | false ↦ λ is found. absurd cc
+    ] refl h
