@@ -11,7 +11,7 @@ use Rattle.iscsi_history.specs.declared.event.Event.TheVariants.{Arrive, Done}
 use Rattle.iscsi_history.specs.declared.kind.Kind.{Kind}
 use Rattle.iscsi_history.specs.declared.kind.Kind.TheVariants.{PassedOver, Unknown, Executes as ExecutesKind}
 use Rattle.iscsi_history.specs.rules.Settings.{Setting, is_known}
-use Rattle.iscsi_history.specs.rules.Trace.{Arrival, Command, Mark, Admits, Trace, after_items, first_of, is_received, held, waiting, live, was_free, is_closed}
+use Rattle.iscsi_history.specs.rules.Trace.{Arrival, Command, Mark, Admits, Trace, after_items, is_received, held, waiting, live, was_free, is_closed}
 use Rattle.iscsi_history.specs.rules.Execution.{exp_of, max_of, unfinished, ignored, completion, sense_of_status}
 use Rattle.iscsi_history.specs.rules.Logout.{is_open}
 use Rattle.iscsi_history.specs.rules.Items.{immediate_item, function_item, item_of, is_waiting, functions, functions_at, turn_at, at_number, agenda}
@@ -20,7 +20,7 @@ use Rattle.iscsi_history.specs.rules.Run.{after_event, after_events, trace_of}
 use Rattle.iscsi_history.proofs.BoolLemmas.{and_parts, and_both, or_none}
 use Rattle.iscsi_history.proofs.TraceLemmas.{after_items-append}
 use Rattle.iscsi_history.proofs.Missing.{expected_low}
-use Rattle.iscsi_history.proofs.ElementLemmas.{In, in-filter}
+use Rattle.iscsi_history.proofs.ElementLemmas.{In, in-filter, first-in}
 use Rattle.iscsi_history.proofs.CloseLemmas.{Sound, Clear, clear-none, clear-item, open-item}
 use Rattle.iscsi_history.proofs.CloseItems.{sound_item, sound_function, function_closes_none, sound_ignored, sound_rejected, sound_admitted, sound_completed, sound_immediate}
 
@@ -119,10 +119,6 @@ arrival_sound o t a known x =
           | true ↦ turns_sound o t (immediate_item o t a) x (sound_immediate o t a (clear_of o t x) here)
           | false ↦ numbered_sound o t a here x
         ]
-
-first-in : {A : Type 0} (xs : List A) (x : A) → first_of xs ≡ Some x → In x xs
-first-in [] x h = absurd cc
-first-in (y ∷ xs) x h = inl cc
 
 completion_sound : (o : Setting) (t : Trace) (ticket status : ℕ) → Sounds o t → Sounds o (after_items (completion status (command_of t ticket)) t)
 completion_sound o t ticket status x = by_command (command_of t ticket) refl

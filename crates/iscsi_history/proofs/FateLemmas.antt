@@ -14,6 +14,7 @@ use Rattle.iscsi_history.proofs.AbortMarks.{none_mapped, none_viewed}
 use Rattle.iscsi_history.proofs.BoolLemmas.{or_false}
 use Rattle.iscsi_history.proofs.ElementLemmas.{In}
 use Rattle.iscsi_history.proofs.ListLemmas.{list_any-map}
+use Rattle.iscsi_history.proofs.HeldLemmas.{unreceived_unheld}
 use Rattle.iscsi_history.proofs.TraceLemmas.{received-item, unadmitted}
 use Rattle.iscsi_history.proofs.Forms.{Start, AtTurn, AtArrival, AfterWaiting, start_mark, Deeds, if_some, marks_done, Form, Ignored, Rejected, Received, Postponed, Completed, Executed, marks_of_form, begun, Starts, Each, IsDone, IsFormed, HasForm, HaveForms}
 use Rattle.iscsi_history.proofs.NumberingLemmas.{to_list, unseen, passed}
@@ -71,14 +72,6 @@ admitted-first t n item a new here = ap (λ xs. first_of (xs ++ filter_map (admi
 held-kept : (t : Trace) (n : ℕ) (item : List Mark) → list_any (empties_number n) item ≡ false → list_any (delivers_number n) item ≡ false → filter_map (admits_at n) item ≡ [] → held (item ∷ t) n ≡ held t n
 held-kept t n item unemptied undelivered none =
     held_by (item ∷ t) n (is_emptied t n) (is_delivered t n) (admitted t n) (ap (λ b. b || is_emptied t n) unemptied) (ap (λ b. b || is_delivered t n) undelivered) (admitted-same t n item none)
-
--- nothing is held where nothing is received
-unheld : (t : Trace) (n : ℕ) → is_received t n ≡ false → held t n ≡ None
-unheld t n new = held_by t n (is_emptied t n) (is_delivered t n) None refl refl (ap first_of (unadmitted n t new)) ∙ either (is_delivered t n || is_emptied t n)
-  where
-    either : (b : Bool) → cond {A = Option Arrival} b None None ≡ None
-    either true = refl
-    either false = refl
 
 -- an item joins its facts to those of before
 joined : (t : Trace) (n : ℕ) (item : List Mark) (r v e d r' v' e' d' : Bool) (as' : List Arrival) (h x : Option Arrival) → NumberIs t n r v e d h → ItemAt n item r' v' e' d' as' → held (item ∷ t) n ≡ x
@@ -254,8 +247,8 @@ touch_executed o now t n start a d starts x = by_tests (void_at n d) (emptied_at
     by_tests true false false p q r i = VoidsNow (new p) i
     by_tests false true false p q r i = let taken : (b : Arrival) × HeldBefore t n start a b = out q in EmptiesNow taken.0 taken.1.before i
     by_tests false false true p q r i = DeliversNow a (turn r) i
-    by_tests true true dl p q r i = let taken : (b : Arrival) × HeldBefore t n start a b = out q in absurd (none_some taken.0 (sym (unheld t n (new p)) ∙ taken.1.before))
-    by_tests true false true p q r i = absurd (none_some a (sym (unheld t n (new p)) ∙ turn r))
+    by_tests true true dl p q r i = let taken : (b : Arrival) × HeldBefore t n start a b = out q in absurd (none_some taken.0 (sym (unreceived_unheld t n (new p)) ∙ taken.1.before))
+    by_tests true false true p q r i = absurd (none_some a (sym (unreceived_unheld t n (new p)) ∙ turn r))
     by_tests false true true p q r i = absurd (false≢true (sym (out q).1.apart ∙ r))
 
 -- so does an item of any form

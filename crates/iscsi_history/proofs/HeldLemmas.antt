@@ -1,9 +1,9 @@
 -- Which requests are held, and which are due.
-use Rattle.std.proofs.Common.{◌≡◌, ℕ, ◌==◌, ◌||◌, ◌⊎◌, inl, inr, ⊎_elim, cond, Bool, true, false, List, [], ◌∷◌, ◌++◌, Option, Some, None, option_map, refl, ap, sym, ◌∙◌, eq-eqb, ◌&&◌, ◌<◌, arith, nat_lt}
-use Rattle.std.specs.List.{list_any, filter_map, cons_option}
+use Rattle.std.proofs.Common.{◌≡◌, ℕ, ◌==◌, ◌||◌, ◌⊎◌, inl, inr, ⊎_elim, cond, Bool, true, false, List, [], ◌∷◌, ◌++◌, Option, Some, None, option_map, refl, ap, sym, ◌∙◌, eq-eqb, ◌&&◌, ◌<◌, ◌≤◌, ◌+◌, zero, suc, filter, arith, nat_lt, subst}
+use Rattle.std.specs.List.{list_any, filter_map, cons_option, range_with_len}
 use Rattle.std.proofs.lemmas.Bool.{eqb-true}
 use Rattle.std.proofs.lemmas.List.{append-nil}
-use Rattle.iscsi_history.specs.rules.Trace.{Arrival, Mark, Admits, Delivers, Executes, Voids, Empties, Waits, Leaves, Enters, Sends, ClosesConn, ClosesSession, Ignores, Trace, shown, first_of, is_received, is_delivered, is_emptied, held, admitted, admits_at, delivers_number, received, empties_number}
+use Rattle.iscsi_history.specs.rules.Trace.{Arrival, Mark, Admits, Delivers, Executes, Voids, Empties, Waits, Leaves, Enters, Sends, ClosesConn, ClosesSession, Ignores, Trace, shown, first_of, is_received, is_delivered, is_emptied, held, admitted, admits_at, delivers_number, received, empties_number, held_among}
 use Rattle.iscsi_history.specs.promises.Executed.{request_at}
 use Rattle.iscsi_history.proofs.TraceLemmas.{unadmitted}
 use Rattle.iscsi_history.proofs.DeliveryLemmas.{IsQuiet}
@@ -153,6 +153,51 @@ some_held true (Some a) r h = (refl, (a, (refl, cc)))
 some_held false x r h = absurd cc
 
 -- ---- held commands
+
+-- ---- the held command that a function asks for
+
+-- a SCSI Command with this tag and unit, of a number below
+abbrev pub is_sought : Setting → ℕ → ℕ → ℕ → Arrival → Bool
+is_sought o tag unit below h = nat_lt h.number below && opcode h.request == 0x01 && itt h.request == tag && is_to o unit h.request
+
+module _ (o : Setting) (t : Trace) (tag unit below : ℕ) where
+  -- none from the number below on
+  pub none_below : (count e : ℕ) → below ≤ e → filter (is_sought o tag unit below) (held_among t (range_with_len e count)) ≡ []
+  none_below zero e past = refl
+  none_below (suc count) e past = by_held (none_below count (e + 1) (omega arith)) (held t e) refl
+    where
+      rest : List Arrival
+      rest = held_among t (range_with_len (e + 1) count)
+
+      by_held : filter (is_sought o tag unit below) rest ≡ [] → (x : Option Arrival) → held t e ≡ x → filter (is_sought o tag unit below) (elim (held t e) [ Some a ↦ a ∷ [] | None ↦ [] ] ++ rest) ≡ []
+      by_held none None is = ap (λ y. filter (is_sought o tag unit below) ((let l : List Arrival = elim y [ Some a ↦ a ∷ [] | None ↦ [] ] in l) ++ rest)) is ∙ none
+      by_held none (Some a) is =
+          let number : a.number ≡ e = held-number t e a is in
+          let no : nat_lt a.number below ≡ false = grind (arith, nat_tests) in
+          ap (λ y. filter (is_sought o tag unit below) ((let l : List Arrival = elim y [ Some b ↦ b ∷ [] | None ↦ [] ] in l) ++ rest)) is
+          ∙ ap (λ b. cond (b && opcode a.request == 0x01 && itt a.request == tag && is_to o unit a.request) (a ∷ filter (is_sought o tag unit below) rest) (filter (is_sought o tag unit below) rest)) no
+          ∙ none
+
+  -- the one that is found is held, at a number of the range
+  pub found_held : (count e : ℕ) (h : Arrival) → first_of (filter (is_sought o tag unit below) (held_among t (range_with_len e count))) ≡ Some h
+      → (held t h.number ≡ Some h) × ((e ≤ h.number) × (h.number < e + count))
+  found_held zero e h found = absurd cc
+  found_held (suc count) e h found =
+      by_held (λ f. let p = found_held count (e + 1) h f in (p.0, (omega (arith, p.1.0), omega (arith, p.1.1)))) (held t e) refl found
+    where
+      rest : List Arrival
+      rest = held_among t (range_with_len (e + 1) count)
+
+      by_held : (first_of (filter (is_sought o tag unit below) rest) ≡ Some h → (held t h.number ≡ Some h) × ((e ≤ h.number) × (h.number < e + suc count))) → (x : Option Arrival) → held t e ≡ x
+          → first_of (filter (is_sought o tag unit below) ((let l : List Arrival = elim x [ Some a ↦ a ∷ [] | None ↦ [] ] in l) ++ rest)) ≡ Some h
+          → (held t h.number ≡ Some h) × ((e ≤ h.number) × (h.number < e + suc count))
+      by_held later None is f = later f
+      by_held later (Some a) is f =
+          let number : a.number ≡ e = held-number t e a is in
+          elim (is_sought o tag unit below a) as (λ b. first_of (cond b (a ∷ filter (is_sought o tag unit below) rest) (filter (is_sought o tag unit below) rest)) ≡ Some h → (held t h.number ≡ Some h) × ((e ≤ h.number) × (h.number < e + suc count))) [
+            | true ↦ λ here. let same : a ≡ h = cc in subst (λ (b : Arrival). (held t b.number ≡ Some b) × ((e ≤ b.number) × (b.number < e + suc count))) same (ap (held t) number ∙ is, (omega (arith, number), omega (arith, number)))
+            | false ↦ λ not_here. later not_here
+          ] f
 
 -- it is below the function's number
 pub held_command-below : (o : Setting) (t : Trace) (tag unit below : ℕ) (h : Arrival) → held_command o t tag unit below ≡ Some h → h.number < below

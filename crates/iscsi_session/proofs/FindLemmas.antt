@@ -14,7 +14,7 @@ use Rattle.iscsi_history.specs.rules.Execution.{exp_of}
 use Rattle.iscsi_history.specs.rules.Management.{is_to, held_command, live_with_tag}
 use Rattle.iscsi_session.specs.promises.Standing.{Core, place_of, kept, WindowAgrees}
 use Rattle.iscsi_session.specs.private.Functions.{tagged_in}
-use Rattle.iscsi_history.proofs.HeldLemmas.{held-number, held_received}
+use Rattle.iscsi_history.proofs.HeldLemmas.{held-number, held_received, is_sought, none_below, found_held}
 use Rattle.iscsi_history.proofs.PlaceLemmas.{position-cons}
 
 -- ---- held commands
@@ -30,49 +30,7 @@ is_to-unit o unit r inside = by_lun (unit_of (lun r))
         (λ ge. ap (λ b. elim (let y : Option ℕ = cond b (Some v) None in y) [ Some u ↦ u == unit | None ↦ false ]) (le-ltb v o.units ge) ∙ (let no : (v == unit) ≡ false = grind (arith, nat_tests) in sym no))
         (cases_lt v o.units)
 
--- a SCSI Command with this tag and unit, of a number below
-abbrev pub is_sought : Setting → ℕ → ℕ → ℕ → Arrival → Bool
-is_sought o tag unit below h = nat_lt h.number below && opcode h.request == 0x01 && itt h.request == tag && is_to o unit h.request
-
 module _ (o : Setting) (t : Trace) (tag unit below : ℕ) where
-  -- none from the number below on
-  pub none_below : (count e : ℕ) → below ≤ e → filter (is_sought o tag unit below) (held_among t (range_with_len e count)) ≡ []
-  none_below zero e past = refl
-  none_below (suc count) e past = by_held (none_below count (e + 1) (omega arith)) (held t e) refl
-    where
-      rest : List Arrival
-      rest = held_among t (range_with_len (e + 1) count)
-
-      by_held : filter (is_sought o tag unit below) rest ≡ [] → (x : Option Arrival) → held t e ≡ x → filter (is_sought o tag unit below) (elim (held t e) [ Some a ↦ a ∷ [] | None ↦ [] ] ++ rest) ≡ []
-      by_held none None is = ap (λ y. filter (is_sought o tag unit below) ((let l : List Arrival = elim y [ Some a ↦ a ∷ [] | None ↦ [] ] in l) ++ rest)) is ∙ none
-      by_held none (Some a) is =
-          let number : a.number ≡ e = held-number t e a is in
-          let no : nat_lt a.number below ≡ false = grind (arith, nat_tests) in
-          ap (λ y. filter (is_sought o tag unit below) ((let l : List Arrival = elim y [ Some b ↦ b ∷ [] | None ↦ [] ] in l) ++ rest)) is
-          ∙ ap (λ b. cond (b && opcode a.request == 0x01 && itt a.request == tag && is_to o unit a.request) (a ∷ filter (is_sought o tag unit below) rest) (filter (is_sought o tag unit below) rest)) no
-          ∙ none
-
-  -- the one that is found is held, at a number of the range
-  pub found_held : (count e : ℕ) (h : Arrival) → first_of (filter (is_sought o tag unit below) (held_among t (range_with_len e count))) ≡ Some h
-      → (held t h.number ≡ Some h) × ((e ≤ h.number) × (h.number < e + count))
-  found_held zero e h found = absurd cc
-  found_held (suc count) e h found =
-      by_held (λ f. let p = found_held count (e + 1) h f in (p.0, (omega (arith, p.1.0), omega (arith, p.1.1)))) (held t e) refl found
-    where
-      rest : List Arrival
-      rest = held_among t (range_with_len (e + 1) count)
-
-      by_held : (first_of (filter (is_sought o tag unit below) rest) ≡ Some h → (held t h.number ≡ Some h) × ((e ≤ h.number) × (h.number < e + suc count))) → (x : Option Arrival) → held t e ≡ x
-          → first_of (filter (is_sought o tag unit below) ((let l : List Arrival = elim x [ Some a ↦ a ∷ [] | None ↦ [] ] in l) ++ rest)) ≡ Some h
-          → (held t h.number ≡ Some h) × ((e ≤ h.number) × (h.number < e + suc count))
-      by_held later None is f = later f
-      by_held later (Some a) is f =
-          let number : a.number ≡ e = held-number t e a is in
-          elim (is_sought o tag unit below a) as (λ b. first_of (cond b (a ∷ filter (is_sought o tag unit below) rest) (filter (is_sought o tag unit below) rest)) ≡ Some h → (held t h.number ≡ Some h) × ((e ≤ h.number) × (h.number < e + suc count))) [
-            | true ↦ λ here. let same : a ≡ h = cc in subst (λ (b : Arrival). (held t b.number ≡ Some b) × ((e ≤ b.number) × (b.number < e + suc count))) same (ap (held t) number ∙ is, (omega (arith, number), omega (arith, number)))
-            | false ↦ λ not_here. later not_here
-          ] f
-
   fuse : (e : ℕ) (y : Option ℕ) → option_map (λ k. e + 1 + k) y ≡ option_map (λ k. e + k) (option_map suc y)
   fuse e None = refl
   fuse e (Some k) = ap (λ (n : ℕ). Some n) (let z : e + 1 + k ≡ e + suc k = omega arith in z)
@@ -103,7 +61,7 @@ module _ (o : Setting) (t : Trace) (tag unit below : ℕ) where
 
       past : below ≤ e → goal
       past ge =
-          ap (λ as'. option_map (λ (h : Arrival). h.number) (first_of as')) (none_below (suc (length ps)) e ge)
+          ap (λ as'. option_map (λ (h : Arrival). h.number) (first_of as')) (none_below o t tag unit below (suc (length ps)) e ge)
           ∙ sym (ap (λ n. option_map (λ k. e + k) (position (is_command tag unit) (take n (p ∷ ps)))) (let z : below - e ≡ 0 = omega arith in z))
 
       at_first : p ≡ place_of t e
