@@ -1,28 +1,31 @@
 -- Items by which commands enter and leave, and the commands with a ticket.
-use Rattle.std.proofs.Common.{List, ap, count_by, not, ◌∷◌, ◌≡◌, [], refl, ◌&&◌, ◌==◌, Bool, filter, length, nat_le, option_map, ℕ, ◌++◌, ◌∙◌, ◌+◌, false, ◌||◌, cond, sym, true, None, Some, eq-eqb}
-use Rattle.std.specs.List.{list_any, filter_map, list_all}
+use Rattle.std.proofs.Common.{List, ap, count_by, not, ◌∷◌, ◌≡◌, [], refl, ◌&&◌, ◌==◌, Bool, filter, length, nat_le, option_map, ℕ, ◌++◌, ◌∙◌, ◌+◌, false, ◌||◌, cond, sym, true, None, Some, eq-eqb, ◌<◌, arith, nat_lt, map, subst}
+use Rattle.std.specs.List.{list_any, filter_map, list_all, range_with_len, flat_map}
 use Rattle.std.proofs.lemmas.List.{append-nil}
-use Rattle.std.proofs.lemmas.Bool.{eqb-true}
+use Rattle.std.proofs.lemmas.Bool.{eqb-true, false≢true}
 use Rattle.iscsi_wire.specs.Fields.{is_immediate, connection_of, itt}
 use Rattle.iscsi_wire.specs.declared.request.Request.{Request}
 use Rattle.iscsi_wire.specs.declared.reply.Reply.TheVariants.{Scsi}
-use Rattle.iscsi_history.specs.rules.Trace.{Command, Mark, Trace, Admits, Arrival, entered, enters, leaves_ticket, live, live_in, is_among, are_apart, first_of, Leaves}
+use Rattle.iscsi_history.specs.rules.Trace.{Command, Mark, Trace, Admits, Arrival, entered, enters, leaves_ticket, live, live_in, is_among, are_apart, first_of, Leaves, waiting_through, sent_on}
 use Rattle.iscsi_history.specs.rules.Execution.{unfinished, request_verdict, unit_named, verdict_of, reply_on, sense_of_status}
 use Rattle.iscsi_history.specs.rules.Settings.{Setting}
-use Rattle.iscsi_history.proofs.NewlyLemmas.{Untouched, live-untouched}
-use Rattle.iscsi_history.proofs.TraceLemmas.{live-leaves}
-use Rattle.iscsi_history.proofs.ListLemmas.{filter-swap}
-use Rattle.iscsi_history.proofs.BoolLemmas.{and_parts, or_false, or_none, not_true, and_true}
-use Rattle.iscsi_history.proofs.ApartLemmas.{unamong-filter}
+use Rattle.iscsi_history.proofs.NewlyLemmas.{Untouched, live-untouched, both_all}
+use Rattle.iscsi_history.proofs.TraceLemmas.{live-leaves, weaker}
+use Rattle.iscsi_history.proofs.ListLemmas.{filter-swap, any_at, any_in_range, none_passes}
+use Rattle.iscsi_history.proofs.BoolLemmas.{and_parts, or_false, or_none, not_true, and_true, alike, and_both, same_alike, or_second}
+use Rattle.iscsi_history.proofs.ApartLemmas.{unamong-filter, eq_sym}
 use Rattle.iscsi_history.proofs.DeliveryLemmas.{IsQuiet}
+use Rattle.std.proofs.lemmas.Bool.Decides.{nat_tests}
+use Rattle.iscsi_wire.specs.declared.reply.Reply.{Reply}
+use Rattle.iscsi_history.proofs.ClosingItems.{ClosesNone}
+use Rattle.iscsi_history.specs.declared.effect.Effect.TheVariants.{Leave, Send}
+use Rattle.iscsi_history.specs.rules.Run.{effects_of_mark, stat_sn_of}
 
--- ---- numbers
+-- ---- an item that nothing enters or leaves by
 
 -- nothing enters or leaves
 pub unfinished-untouched : (item : List Mark) (t : Trace) → Untouched item → unfinished (item ∷ t) ≡ unfinished t
 unfinished-untouched item t u = ap (λ (cs : List Command). count_by (λ (c : Command). not (is_immediate c.arrival.request)) cs) (live-untouched item t u)
-
--- ---- an admission
 
 pub untouched-admits : (a : Arrival) → Untouched (Admits a ∷ [])
 untouched-admits a = record { enters_none = refl; leaves_no = λ k. refl }
@@ -135,36 +138,6 @@ none_passing w k (x ∷ cs) none =
       | false ↦ λ h. none_passing w k cs h
     ] none
 
--- ---- one command by its ticket
-
-none_filtered : (k : ℕ) (ds : List Command) → is_among k ds ≡ false → filter (λ d. d.ticket == k) ds ≡ []
-none_filtered k [] h = refl
-none_filtered k (d ∷ ds) h =
-    let parts = or_none (d.ticket == k) (is_among k ds) h in
-    ap (λ b. cond b (d ∷ filter (λ e. e.ticket == k) ds) (filter (λ e. e.ticket == k) ds)) parts.0 ∙ none_filtered k ds parts.1
-
--- a command that is found is the only one with its ticket
-pub only_one : (q : Command → Bool) (ds : List Command) (c : Command) → are_apart ds ≡ true → first_of (filter q ds) ≡ Some c → filter (λ d. d.ticket == c.ticket) ds ≡ c ∷ []
-only_one q [] c apart found = absurd cc
-only_one q (x ∷ ds) c apart found =
-    let parts = and_parts (not (is_among x.ticket ds)) (are_apart ds) apart in
-    let alone : is_among x.ticket ds ≡ false = not_true (is_among x.ticket ds) parts.0 in
-    let others : List Command = filter (λ d. d.ticket == c.ticket) ds in
-    elim (q x) as (λ b. first_of (cond b (x ∷ filter q ds) (filter q ds)) ≡ Some c → cond (x.ticket == c.ticket) (x ∷ others) others ≡ c ∷ []) [
-      | true ↦ λ here.
-          let same : x ≡ c = cc in
-          let ticket : x.ticket ≡ c.ticket = ap (λ (d : Command). d.ticket) same in
-          ap (λ b. cond b (x ∷ others) others) (eq-eqb x.ticket c.ticket ticket)
-          ∙ ap (λ ds'. x ∷ ds') (none_filtered c.ticket ds (ap (λ k. is_among k ds) (sym ticket) ∙ alone))
-          ∙ ap (λ d. d ∷ []) same
-      | false ↦ λ later.
-          let rest : others ≡ c ∷ [] = only_one q ds c parts.1 later in
-          elim (x.ticket == c.ticket) as (λ b. (x.ticket == c.ticket) ≡ b → cond b (x ∷ others) others ≡ c ∷ []) [
-            | true ↦ λ is. absurd (let none : [] ≡ c ∷ [] = sym (none_filtered c.ticket ds (ap (λ k. is_among k ds) (sym (eqb-true x.ticket c.ticket is)) ∙ alone)) ∙ rest in cc)
-            | false ↦ λ is. rest
-          ] refl
-    ] found
-
 -- ---- a completion
 
 pub first_passes : (p q : Command → Bool) (cs : List Command) (c : Command) → list_all q cs ≡ true → first_of (filter p cs) ≡ Some c → q c ≡ true
@@ -186,3 +159,130 @@ quiet-completion c status = record { receives = refl; admits = λ n. refl; deliv
 pub among_unit : (k : ℕ) (cs : List Command) → list_any (λ (d : Command). d.ticket == k && true) cs ≡ is_among k cs
 among_unit k [] = refl
 among_unit k (c ∷ cs) = ap (λ b. b || list_any (λ (d : Command). d.ticket == k && true) cs) (and_true (c.ticket == k)) ∙ ap (λ b. (c.ticket == k) || b) (among_unit k cs)
+
+-- ---- the commands of the units, one unit after the other
+
+-- some command passes just where one of some unit does
+pub any_in_units : (p : Command → Bool) (n : ℕ) (cs : List Command) → list_all (λ c. nat_lt c.unit n) cs ≡ true → list_any (λ unit. list_any p (filter (λ (c : Command). c.unit == unit) cs)) (range_with_len 0 n) ≡ list_any p cs
+any_in_units p n [] inside = never (range_with_len 0 n)
+  where
+    never : (us : List ℕ) → list_any (λ unit. false) us ≡ false
+    never [] = refl
+    never (u ∷ us) = never us
+any_in_units p n (x ∷ cs) inside =
+    let parts = and_parts (nat_lt x.unit n) (list_all (λ c. nat_lt c.unit n) cs) inside in
+    let here : ℕ → Bool = λ unit. list_any p (filter (λ (c : Command). c.unit == unit) (x ∷ cs)) in
+    elim (p x) as (λ b. p x ≡ b → list_any here (range_with_len 0 n) ≡ (b || list_any p cs)) [
+      | true ↦ λ is. any_at here 0 n x.unit (omega arith) (below x.unit parts.0)
+          (ap (λ b. list_any p (cond b (x ∷ filter (λ (c : Command). c.unit == x.unit) cs) (filter (λ (c : Command). c.unit == x.unit) cs))) (eq-eqb x.unit x.unit refl)
+          ∙ ap (λ b. b || list_any p (filter (λ (c : Command). c.unit == x.unit) cs)) is)
+      | false ↦ λ is. any_in_range here (λ unit. list_any p (filter (λ (c : Command). c.unit == unit) cs)) 0 n (λ unit low high. without unit is) ∙ any_in_units p n cs parts.1
+    ] refl
+  where
+    below : (u : ℕ) → nat_lt u n ≡ true → u < 0 + n
+    below u test = let lt : u < n = grind (arith, nat_tests) in omega (arith, lt)
+
+    without : (unit : ℕ) → p x ≡ false → list_any p (filter (λ (c : Command). c.unit == unit) (x ∷ cs)) ≡ list_any p (filter (λ (c : Command). c.unit == unit) cs)
+    without unit is =
+        let rest : List Command = filter (λ (c : Command). c.unit == unit) cs in
+        elim (x.unit == unit) as (λ b. list_any p (cond b (x ∷ rest) rest) ≡ list_any p rest) [
+          | true ↦ ap (λ b. b || list_any p rest) is
+          | false ↦ refl
+        ]
+
+-- ---- the marks by which commands leave
+
+pub leaves_only : (cs : List Command) (ms : List Mark) (k : ℕ) → list_any (leaves_ticket k) (map Leaves cs ++ ms) ≡ (is_among k cs || list_any (leaves_ticket k) ms)
+leaves_only [] ms k = refl
+leaves_only (c ∷ cs) ms k = ap (λ b. (c.ticket == k) || b) (leaves_only cs ms k) ∙ assoc (c.ticket == k) (is_among k cs) (list_any (leaves_ticket k) ms)
+  where
+    assoc : (a b d : Bool) → (a || (b || d)) ≡ ((a || b) || d)
+    assoc true b d = refl
+    assoc false b d = refl
+
+pub enters_only : (cs : List Command) (ms : List Mark) → filter_map enters (map Leaves cs ++ ms) ≡ filter_map enters ms
+enters_only [] ms = refl
+enters_only (c ∷ cs) ms = enters_only cs ms
+
+-- ---- commands leave, and a function is answered
+
+pub quiet-leaving : (cs : List Command) (a : Arrival) (reply : Reply) → IsQuiet (map Leaves cs ++ reply_on a reply)
+quiet-leaving [] a reply = record { receives = refl; admits = λ n. refl; delivers_none = refl; delivers_no = λ n. refl; empties_no = λ n. refl }
+quiet-leaving (c ∷ cs) a reply =
+    let q : IsQuiet (map Leaves cs ++ reply_on a reply) = quiet-leaving cs a reply in
+    record { receives = q.receives; admits = λ n. q.admits n; delivers_none = q.delivers_none; delivers_no = λ n. q.delivers_no n; empties_no = λ n. q.empties_no n }
+
+pub leaving-enters : (cs : List Command) (a : Arrival) (reply : Reply) → filter_map enters (map Leaves cs ++ reply_on a reply) ≡ []
+leaving-enters [] a reply = refl
+leaving-enters (c ∷ cs) a reply = leaving-enters cs a reply
+
+pub leaving-calm : (cs : List Command) (a : Arrival) (reply : Reply) (ws : List Arrival) → waiting_through (map Leaves cs ++ reply_on a reply) ws ≡ ws
+leaving-calm [] a reply ws = refl
+leaving-calm (c ∷ cs) a reply ws = leaving-calm cs a reply ws
+
+pub leaving-closes : (cs : List Command) (a : Arrival) (reply : Reply) → ClosesNone (map Leaves cs ++ reply_on a reply)
+leaving-closes [] a reply = record { session = refl; conns = λ c. refl }
+leaving-closes (c ∷ cs) a reply = let none : ClosesNone (map Leaves cs ++ reply_on a reply) = leaving-closes cs a reply in record { session = none.session; conns = λ k. none.conns k }
+
+pub leaving-sends : (cs : List Command) (a : Arrival) (reply : Reply) → filter_map sent_on (map Leaves cs ++ reply_on a reply) ≡ connection_of a.request ∷ []
+leaving-sends [] a reply = refl
+leaving-sends (c ∷ cs) a reply = leaving-sends cs a reply
+
+pub leaving-tickets : (cs : List Command) (a : Arrival) (reply : Reply) (k : ℕ) → list_any (leaves_ticket k) (map Leaves cs ++ reply_on a reply) ≡ is_among k cs
+leaving-tickets [] a reply k = refl
+leaving-tickets (c ∷ cs) a reply k = ap (λ b. (c.ticket == k) || b) (leaving-tickets cs a reply k)
+
+pub leaving-shown : (o : Setting) (t : Trace) (cs : List Command) (a : Arrival) (reply : Reply)
+    → flat_map (effects_of_mark o t) (map Leaves cs ++ reply_on a reply) ≡ map (λ (c : Command). Leave c.ticket c.unit) cs ++ Send (connection_of a.request) (stat_sn_of o t (connection_of a.request)) reply ∷ []
+leaving-shown o t [] a reply = refl
+leaving-shown o t (c ∷ cs) a reply = ap (λ es. Leave c.ticket c.unit ∷ es) (leaving-shown o t cs a reply)
+
+-- ---- a command has the ticket of one that passes just where it passes
+
+pub among_passing : (q : Command → Bool) (cs : List Command) → are_apart cs ≡ true → list_all (λ c. alike (is_among c.ticket (filter q cs)) (q c)) cs ≡ true
+among_passing q [] apart = refl
+among_passing q (x ∷ cs) apart =
+    let parts = and_parts (not (is_among x.ticket cs)) (are_apart cs) apart in
+    let rest : List Command = filter q cs in
+    let gone : is_among x.ticket cs ≡ false = not_true (is_among x.ticket cs) parts.0 in
+    and_both (alike (is_among x.ticket (filter q (x ∷ cs))) (q x)) (list_all (λ c. alike (is_among c.ticket (filter q (x ∷ cs))) (q c)) cs)
+    (elim (q x) as (λ b. alike (is_among x.ticket (cond b (x ∷ rest) rest)) b ≡ true) [
+      | true ↦ same_alike (is_among x.ticket (x ∷ rest)) true (ap (λ b. b || is_among x.ticket rest) (eq-eqb x.ticket x.ticket refl))
+      | false ↦ same_alike (is_among x.ticket rest) false (unamong-filter q x.ticket cs gone)
+    ])
+    (weaker (λ c. not (c.ticket == x.ticket) && alike (is_among c.ticket rest) (q c)) (λ c. alike (is_among c.ticket (filter q (x ∷ cs))) (q c)) cs
+    (λ c h.
+    let both = and_parts (not (c.ticket == x.ticket)) (alike (is_among c.ticket rest) (q c)) h in
+    let apart_here : (x.ticket == c.ticket) ≡ false = eq_sym x.ticket c.ticket ∙ not_true (c.ticket == x.ticket) both.0 in
+    elim (q x) as (λ b. alike (is_among c.ticket (cond b (x ∷ rest) rest)) (q c) ≡ true) [
+      | true ↦ ap (λ b. alike (b || is_among c.ticket rest) (q c)) apart_here ∙ both.1
+      | false ↦ both.1
+    ])
+    (both_all (λ c. not (c.ticket == x.ticket)) (λ c. alike (is_among c.ticket rest) (q c)) cs (none_passes (λ c. c.ticket == x.ticket) cs gone) (among_passing q cs parts.1)))
+
+-- no other command has the ticket of the first that passes
+pub ticket_alone : (q : Command → Bool) (cs : List Command) (c : Command) → are_apart cs ≡ true → first_of (filter q cs) ≡ Some c → (filter (λ d. d.ticket == c.ticket) cs ≡ c ∷ []) × (is_among c.ticket cs ≡ true)
+ticket_alone q [] c apart found = absurd cc
+ticket_alone q (x ∷ cs) c apart found =
+    let parts = and_parts (not (is_among x.ticket cs)) (are_apart cs) apart in
+    let gone : is_among x.ticket cs ≡ false = not_true (is_among x.ticket cs) parts.0 in
+    elim (q x) as (λ b. first_of (cond b (x ∷ filter q cs) (filter q cs)) ≡ Some c → (filter (λ d. d.ticket == c.ticket) (x ∷ cs) ≡ c ∷ []) × (is_among c.ticket (x ∷ cs) ≡ true)) [
+      | true ↦ λ here.
+          let same : x ≡ c = cc in
+          subst (λ (d : Command). (filter (λ e. e.ticket == d.ticket) (x ∷ cs) ≡ d ∷ []) × (is_among d.ticket (x ∷ cs) ≡ true)) same
+          (ap (λ b. cond b (x ∷ filter (λ e. e.ticket == x.ticket) cs) (filter (λ e. e.ticket == x.ticket) cs)) (eq-eqb x.ticket x.ticket refl) ∙ ap (λ ds. x ∷ ds) (none_with x.ticket cs gone), ap (λ b. b || is_among x.ticket cs) (eq-eqb x.ticket x.ticket refl))
+      | false ↦ λ later.
+          let rest = ticket_alone q cs c parts.1 later in
+          let other : (x.ticket == c.ticket) ≡ false =
+          elim (x.ticket == c.ticket) as (λ b. (x.ticket == c.ticket) ≡ b → b ≡ false) [
+            | true ↦ λ is. absurd (false≢true (sym gone ∙ ap (λ k. is_among k cs) (eqb-true x.ticket c.ticket is) ∙ rest.1))
+            | false ↦ λ is. refl
+          ] refl in
+          (ap (λ b. cond b (x ∷ filter (λ e. e.ticket == c.ticket) cs) (filter (λ e. e.ticket == c.ticket) cs)) other ∙ rest.0, or_second (x.ticket == c.ticket) (is_among c.ticket cs) rest.1)
+    ] found
+  where
+    none_with : (k : ℕ) (ds : List Command) → is_among k ds ≡ false → filter (λ e. e.ticket == k) ds ≡ []
+    none_with k [] h = refl
+    none_with k (d ∷ ds) h =
+        let parts = or_none (d.ticket == k) (is_among k ds) h in
+        ap (λ b. cond b (d ∷ filter (λ e. e.ticket == k) ds) (filter (λ e. e.ticket == k) ds)) parts.0 ∙ none_with k ds parts.1

@@ -68,6 +68,8 @@ count-split p q [] = refl
 count-split p q (x ∷ xs) =
     omega (arith, count-cons p x xs, count-cons (λ y. q y && p y) x xs, count-cons (λ y. not (q y) && p y) x xs, split_one (q x) (p x), count-split p q xs)
 
+-- ---- one element after the other
+
 pub few_counted : {A : Type 0} (p : A → Bool) (xs : List A) → count_by p xs ≤ length xs
 few_counted p [] = omega arith
 few_counted p (x ∷ xs) =
@@ -89,6 +91,8 @@ count_set p (y ∷ ps) (suc k) x d lt before now =
     let rest : count_by p (set ps k x) ≡ count_by p ps + 1 = count_set p ps k x d (omega arith) before now in
     omega (arith, new, old, rest)
 
+-- ---- what is left out
+
 pub at_most : {A : Type 0} (p : A → Bool) (ys : List A) → length (filter (λ z. not (p z)) ys) ≤ length ys
 at_most p [] = omega arith
 at_most p (z ∷ ys) =
@@ -106,6 +110,8 @@ fewer p (y ∷ xs) x h =
       | true ↦ λ here. omega (arith, at_most p xs)
       | false ↦ λ later. omega (arith, fewer p xs x later)
     ] h
+
+-- ---- places
 
 pub count_shift : {A : Type 0} (p : Option A → Bool) (x : A) (ps : List (Option A)) → p None ≡ false → get_or ps 0 None ≡ Some x → count_by p (drop 1 ps ++ None ∷ []) + cond (p (Some x)) 1 0 ≡ count_by p ps
 count_shift p x [] none found = absurd cc

@@ -13,12 +13,10 @@ use Rattle.iscsi_history.proofs.ListLemmas.{none_first, range-parts}
 use Rattle.iscsi_history.proofs.BoolLemmas.{or_false, or_second}
 use Rattle.iscsi_history.proofs.TraceLemmas.{received-item}
 
--- ---- an immediate request begins to execute
+-- ---- quiet items
 
 pub quiet_executes : (a : Arrival) (ms : List Mark) → IsQuiet ms → IsQuiet (Executes a ∷ ms)
 quiet_executes a ms q = record { receives = q.receives; admits = q.admits; delivers_none = q.delivers_none; delivers_no = q.delivers_no; empties_no = q.empties_no }
-
--- ---- an execution
 
 pub quiet-marks : (t : Trace) (a : Arrival) (v : Verdict) → IsQuiet (marks_of t a v)
 quiet-marks t a Nothing = record { receives = refl; admits = λ n. refl; delivers_none = refl; delivers_no = λ n. refl; empties_no = λ n. refl }
@@ -122,7 +120,7 @@ module _ (item : List Mark) (t : Trace) (n : ℕ) (v : EmptiesOne item n) where
       ap (λ b. cond b None (option_map (λ (a : Arrival). a.request) (admitted (item ∷ t) k))) (emptied-empties k ∙ ap (λ b. b || is_emptied t k) apart)
       ∙ ap (λ xs. cond (is_emptied t k) None (option_map (λ (a : Arrival). a.request) (first_of xs))) (admitted-empties k)
 
--- ---- the items
+-- ---- requests are taken out together
 
 -- an item that empties these numbers, and receives, admits and delivers nothing
 pub record EmptiesThese (item : List Mark) (out : ℕ → Bool) : Type 0 where

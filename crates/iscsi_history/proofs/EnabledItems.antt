@@ -16,8 +16,6 @@ use Rattle.iscsi_history.proofs.TraceLemmas.{weaker}
 use Rattle.iscsi_history.proofs.ListLemmas.{any_all}
 use Rattle.iscsi_history.proofs.CommandItems.{LeavesSome, live-left, none_any}
 
--- ---- a set, after a moment
-
 pub was_before : (c : Command) (item : List Mark) (t : Trace) → (was_free c t || was_free c (item ∷ t)) ≡ was_free c (item ∷ t)
 was_before c item t = absorb (was_free c t) (is_free_at c (item ∷ t))
   where
@@ -26,8 +24,6 @@ was_before c item t = absorb (was_free c t) (is_free_at c (item ∷ t))
     absorb true false = refl
     absorb false true = refl
     absorb false false = refl
-
--- ---- a unit that nothing leaves
 
 flat_map-one : {A : Type 0} (f : ℕ → List A) (from n k : ℕ) → from ≤ k → k < from + n → ((j : ℕ) → (j == k) ≡ false → f j ≡ []) → flat_map f (range_with_len from n) ≡ f k
 flat_map-one f from zero k low high none = absurd (omega arith)
@@ -42,6 +38,8 @@ flat_map-one f from (suc n) k low high none =
 -- one that touches a single unit enables commands of that one
 pub newly-one : (o : Setting) (item : List Mark) (t : Trace) (unit : ℕ) → unit < o.units → ((other : ℕ) → (other == unit) ≡ false → live_in other (item ∷ t) ≡ live_in other t) → newly_enabled o t item ≡ new_in t item unit
 newly-one o item t unit inside same = flat_map-one (new_in t item) 0 o.units unit (omega arith) (omega arith) (λ other apart. new_in-none item t other (same other apart))
+
+-- ---- what the effects show
 
 left_marks : (o : Setting) (t : Trace) (k : ℕ) (item : List Mark) → list_any (is_leave k) (flat_map (effects_of_mark o t) item) ≡ list_any (leaves_ticket k) item
 left_marks o t k [] = refl
@@ -131,7 +129,7 @@ exact-untouched o item t u x k =
     ∙ sym (same_enabled item t k (λ unit. []) (λ unit. live_in-untouched item t u unit ∙ sym (append-nil (live_in unit t))))
     ∙ ap (list_any (λ c. c.ticket == k && was_free c (item ∷ t))) (sym (live-untouched item t u))
 
--- ---- a command enters
+-- ---- commands leave
 
 -- those with other tickets don't matter
 any_without : (w : Command → Bool) (out : ℕ → Bool) (k : ℕ) (cs : List Command) → out k ≡ false → list_any (λ d. d.ticket == k && w d) (filter (λ d. not (out d.ticket)) cs) ≡ list_any (λ d. d.ticket == k && w d) cs

@@ -42,8 +42,6 @@ agenda-halves o n (suc m) t =
     append_assoc before turn (agenda o (n + 1) m (after_items (before ++ turn) t))
     ∙ ap (λ u. before ++ (turn ++ agenda o (n + 1) m u)) (after_items-append before turn t)
 
--- ---- a turn
-
 pub turns-more : (o : Setting) (e f : ℕ) (t : Trace) → e < f → turns o e (f - e) t ≡ turn_at o e t ++ agenda o (e + 1) (f - (e + 1)) (after_items (turn_at o e t) t)
 turns-more o e f t past = ap (λ n. turns o e n t) (let z : f - e ≡ suc (f - (e + 1)) = omega arith in z)
 

@@ -15,6 +15,7 @@ use Rattle.iscsi_history.proofs.ListLemmas.{first_itself}
 use Rattle.iscsi_history.specs.rules.Management.{held_command, held_requests, is_to}
 use Rattle.iscsi_wire.specs.Fields.{itt, opcode}
 use Rattle.std.proofs.lemmas.Bool.Decides.{nat_tests}
+use Rattle.iscsi_history.specs.rules.Execution.{exp_of}
 
 -- ---- who was admitted at a number
 
@@ -136,7 +137,7 @@ unreceived_unheld t n gone =
     ap (λ xs. cond (is_delivered t n || is_emptied t n) None (first_of xs)) (unadmitted n t gone)
     ∙ elim (is_delivered t n || is_emptied t n) as (λ b. (let x : Option Arrival = cond b None None in x) ≡ None) [ true ↦ refl | false ↦ refl ]
 
--- ---- an admission
+-- ---- an admission, and an item without one
 
 -- the numbers received after an admission
 pub received-admits : (t : Trace) (a : Arrival) (k : ℕ) → is_received ((Admits a ∷ []) ∷ t) k ≡ (is_received t k || (a.number == k))
@@ -145,14 +146,24 @@ received-admits t a k = list_any-append (λ n. n == k) (received t) (a.number �
 pub request_at-admits : (t : Trace) (a : Arrival) (k : ℕ) → (a.number == k) ≡ false → request_at ((Admits a ∷ []) ∷ t) k ≡ request_at t k
 request_at-admits t a k apart = ap (λ x. cond (is_emptied t k) None (option_map (λ (b : Arrival). b.request) x)) (admitted-admits t a k apart)
 
--- ---- a turn
+-- what is held after an item that admits nothing was held before
+pub held_before : (item : List Mark) (t : Trace) (n : ℕ) (h : Arrival) → filter_map (admits_at n) item ≡ [] → held (item ∷ t) n ≡ Some h → held t n ≡ Some h
+held_before item t n h none found = by_tests (list_any (delivers_number n) item) (is_delivered t n) (list_any (empties_number n) item) (is_emptied t n)
+    (sym (ap (λ xs. cond (is_delivered (item ∷ t) n || is_emptied (item ∷ t) n) None (first_of (shown (admits_at n) t ++ xs))) none ∙ ap (λ xs. cond (is_delivered (item ∷ t) n || is_emptied (item ∷ t) n) None (first_of xs)) (append-nil (shown (admits_at n) t))) ∙ found)
+  where
+    by_tests : (d d' f f' : Bool) → cond ((d || d') || (f || f')) None (admitted t n) ≡ Some h → cond (d' || f') None (admitted t n) ≡ Some h
+    by_tests true d' f f' k = absurd cc
+    by_tests false true f f' k = absurd cc
+    by_tests false false true f' k = absurd cc
+    by_tests false false false true k = absurd cc
+    by_tests false false false false k = k
+
+-- ---- by what the window sees of a number
 
 pub some_held : (b : Bool) (x : Option Arrival) (r : Request) → cond b (Some (option_map (λ (a : Arrival). a.request) x)) None ≡ Some (Some r) → (b ≡ true) × ((a : Arrival) × ((x ≡ Some a) × (a.request ≡ r)))
 some_held true None r h = absurd (let z : Some None ≡ Some (Some r) = h in cc)
 some_held true (Some a) r h = (refl, (a, (refl, cc)))
 some_held false x r h = absurd cc
-
--- ---- held commands
 
 -- ---- the held command that a function asks for
 
@@ -208,16 +219,10 @@ held_command-below o t tag unit below h found =
     by_test : nat_lt h.number below ≡ true → h.number < below
     by_test test = let lt : h.number < below = grind (arith, nat_tests) in lt
 
--- ---- what an outcome makes of the session
+-- and is held at a place of the window
+pub held_command-held : (o : Setting) (t : Trace) (tag unit below : ℕ) (h : Arrival) → held_command o t tag unit below ≡ Some h → (held t h.number ≡ Some h) × ((exp_of o t ≤ h.number) × (h.number < exp_of o t + o.window))
+held_command-held o t tag unit below h found = found_held o t tag unit below o.window (exp_of o t) h found
 
--- what is held after an item that admits nothing was held before
-pub held_before : (item : List Mark) (t : Trace) (n : ℕ) (h : Arrival) → filter_map (admits_at n) item ≡ [] → held (item ∷ t) n ≡ Some h → held t n ≡ Some h
-held_before item t n h none found = by_tests (list_any (delivers_number n) item) (is_delivered t n) (list_any (empties_number n) item) (is_emptied t n)
-    (sym (ap (λ xs. cond (is_delivered (item ∷ t) n || is_emptied (item ∷ t) n) None (first_of (shown (admits_at n) t ++ xs))) none ∙ ap (λ xs. cond (is_delivered (item ∷ t) n || is_emptied (item ∷ t) n) None (first_of xs)) (append-nil (shown (admits_at n) t))) ∙ found)
-  where
-    by_tests : (d d' f f' : Bool) → cond ((d || d') || (f || f')) None (admitted t n) ≡ Some h → cond (d' || f') None (admitted t n) ≡ Some h
-    by_tests true d' f f' k = absurd cc
-    by_tests false true f f' k = absurd cc
-    by_tests false false true f' k = absurd cc
-    by_tests false false false true k = absurd cc
-    by_tests false false false false k = k
+-- none is held below ExpCmdSN
+pub held_command-none : (o : Setting) (t : Trace) (tag unit below : ℕ) → below ≤ exp_of o t → held_command o t tag unit below ≡ None
+held_command-none o t tag unit below past = ap first_of (none_below o t tag unit below o.window (exp_of o t) past)

@@ -41,10 +41,10 @@ pub mod MeaningTheorem
 pub mod NumberLemmas
 pub mod PlaceLemmas
 pub mod EmptyingMarks
+pub mod ClosingItems
 pub mod CommandItems
 pub mod EnabledItems
 pub mod ReceivedItems
 pub mod WaitingItems
 pub mod FlowItems
-pub mod ClosingItems
 pub mod SetLemmas

@@ -1,4 +1,4 @@
--- Lists of connections and commands.
+-- Lists of connections and commands, and lists at large.
 use Rattle.std.proofs.Common.{◌≡◌, ℕ, suc, ◌+◌, ◌<◌, ◌≤◌, ◌==◌, ◌&&◌, ◌||◌, not, cond, Bool, true, false, List, [], ◌∷◌, ◌++◌, length, map, filter, find, count_by, Some, None, refl, ap, sym, ◌∙◌, arith, nat_lt, Option, is_some, option_map, All, zero, ◌-◌, ⊎_elim}
 use Rattle.std.specs.List.{list_any, list_all, flat_map, position, position_or_len, cons_option, range_with_len}
 use Rattle.std.proofs.lemmas.Bool.{false≢true, eqb-true, cases_eq}
@@ -123,6 +123,8 @@ pub list_all-same : {A : Type 0} (p q : A → Bool) (xs : List A) → ((x : A) �
 list_all-same p q [] h = refl
 list_all-same p q (x ∷ xs) h = ap (λ b. b && list_all p xs) (h x) ∙ ap (λ b. q x && b) (list_all-same p q xs h)
 
+-- ---- options
+
 pub none_first : {A : Type 0} (x : Option A) → cons_option x [] ≡ [] → x ≡ None
 none_first None h = refl
 none_first (Some x) h = absurd cc
@@ -138,6 +140,8 @@ some_cons (Some j) k h = (j, (refl, cc))
 pub none_cons : (x : Option ℕ) → option_map suc x ≡ None → x ≡ None
 none_cons None h = refl
 none_cons (Some j) h = absurd cc
+
+-- ---- maps and filters
 
 -- functions that agree where a test passes
 pub map_all : {A B : Type 0} (f g : A → B) (p : A → Bool) (xs : List A) → list_all p xs ≡ true → ((x : A) → p x ≡ true → f x ≡ g x) → map f xs ≡ map g xs
@@ -231,6 +235,8 @@ none_out p (x ∷ xs) none =
     let parts = or_none (p x) (list_any p xs) none in
     ap (λ b. cond (not b) (x ∷ filter (λ y. not (p y)) xs) (filter (λ y. not (p y)) xs)) parts.0 ∙ ap (λ ys. x ∷ ys) (none_out p xs parts.1)
 
+-- ---- a CID among those that pass
+
 pub filtered_among : (p : ℕ → Bool) (c : ℕ) (cs : List ℕ) → list_any (λ k. k == c) (filter p cs) ≡ (list_any (λ k. k == c) cs && p c)
 filtered_among p c [] = refl
 filtered_among p c (k ∷ cs) = by_test (p k) refl (filtered_among p c cs)
@@ -252,6 +258,8 @@ filtered_among p c (k ∷ cs) = by_test (p k) refl (filtered_among p c cs)
           | true ↦ λ here. let no : p c ≡ false = ap p (sym (eqb-true k c here)) ∙ is in later ∙ ap (λ b. rest && b) no ∙ and_false rest ∙ sym no
           | false ↦ λ here. later
         ] refl
+
+-- ---- ranges of numbers
 
 pub range-parts : (a m n : ℕ) → range_with_len a (m + n) ≡ range_with_len a m ++ range_with_len (a + m) n
 range-parts a zero n = ap (range_with_len a) (let z : 0 + n ≡ n = omega arith in z) ∙ ap (λ k. range_with_len k n) (let z : a ≡ a + 0 = omega arith in z)

@@ -6,8 +6,9 @@ use Rattle.std.proofs.lemmas.Bool.{cases_eq, cases_lt, false≢true}
 use Rattle.std.proofs.lemmas.Bool.Decides.{nat_tests, Decides-int_eq}
 use Rattle.std.proofs.lemmas.Int.{ints}
 use Rattle.iscsi_wire.specs.Serial.{lift, wire}
-use Rattle.iscsi_history.specs.rules.Execution.{unfinished}
 use Rattle.iscsi_history.proofs.BoolLemmas.{and_parts}
+
+-- ---- on the wire
 
 -- a number is the next one just where the wire shows it as the next one
 pub is_next_number : (e w : ℕ) → 2 ^ 32 ≤ e → w < 2 ^ 32 → (lift e w == e) ≡ (w == wire e)
@@ -30,6 +31,8 @@ wire-lift e w = omega arith
 -- a number that goes up by one, on the wire
 pub wire-next : (n : ℕ) → wire (wire n + 1) ≡ wire (n + 1)
 wire-next n = omega arith
+
+-- ---- by order
 
 -- the numbers up to MaxCmdSN
 pub within_window : (e n long unfinished : ℕ) → 1 ≤ e → unfinished ≤ long → nat_le n (e + long - 1 - unfinished) ≡ nat_lt n (e + (long - unfinished))

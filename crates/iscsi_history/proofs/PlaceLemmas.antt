@@ -1,11 +1,13 @@
 -- Places of a list: what is read and written there, and the first one that passes a test.
-use Rattle.std.proofs.Common.{Bool, List, [], refl, set, suc, true, zero, ℕ, ◌∷◌, ◌≡◌, ◌&&◌, ◌++◌, None, Option, Some, ap, drop, get_or, sym, ◌∙◌, ◌<◌, arith, length, ◌≤◌, take, replicate, ◌+◌, cond, false, nat_lt, not, option_map, position, ⊎_elim, subst}
+use Rattle.std.proofs.Common.{Bool, List, [], refl, set, suc, true, zero, ℕ, ◌∷◌, ◌≡◌, ◌&&◌, ◌++◌, None, Option, Some, ap, drop, get_or, sym, ◌∙◌, ◌<◌, arith, length, ◌≤◌, take, replicate, ◌+◌, cond, false, nat_lt, not, option_map, position, ⊎_elim, subst, find}
 use Rattle.std.specs.List.{list_all, position_or_len}
 use Rattle.std.proofs.lemmas.List.Folds.{list_all-append}
 use Rattle.std.proofs.lemmas.List.{append-nil}
 use Rattle.std.proofs.lemmas.Bool.{cases_lt, le-ltb, lt-ltb}
 use Rattle.std.proofs.lemmas.Bool.Decides.{nat_tests}
 use Rattle.iscsi_history.proofs.BoolLemmas.{and_both, and_parts}
+
+-- ---- what is written, and what moves up
 
 pub all_set : {A : Type 0} (p : A → Bool) (ps : List A) (k : ℕ) (x : A) → list_all p ps ≡ true → p x ≡ true → list_all p (set ps k x) ≡ true
 all_set p [] k x all now = refl
@@ -48,6 +50,8 @@ passed_at [] zero = refl
 passed_at [] (suc k) = refl
 passed_at (x ∷ xs) k = padded xs k
 
+-- ---- the first ones
+
 pub taken_at : {A : Type 0} (n : ℕ) (xs : List A) (k : ℕ) (d : A) → k < length (take n xs) → get_or (take n xs) k d ≡ get_or xs k d
 taken_at zero xs k d lt = absurd (omega (arith, lt))
 taken_at (suc n) [] k d lt = refl
@@ -73,6 +77,8 @@ written n new old same len =
     ap (λ m. take n (new ++ drop m old)) same ∙ ap (λ ys. take n (new ++ ys)) (drop_length old) ∙ ap (take n) (append-nil new)
     ∙ ap (λ m. take m new) (len ∙ sym same) ∙ take_length new
 
+-- ---- the same everywhere
+
 pub nothing_at : {A : Type 0} (n k : ℕ) → get_or (replicate {A = Option A} n None) k None ≡ None
 nothing_at zero k = refl
 nothing_at (suc n) zero = refl
@@ -85,6 +91,8 @@ all_none p (suc n) h = ap (λ b. b && list_all p (replicate n None)) h ∙ all_n
 pub replicate_more : {A : Type 0} (n : ℕ) (x : A) → replicate n x ++ x ∷ [] ≡ replicate (n + 1) x
 replicate_more zero x = refl
 replicate_more (suc n) x = ap (λ xs. x ∷ xs) (replicate_more n x) ∙ ap (λ m. replicate m x) (let z : suc (n + 1) ≡ suc n + 1 = omega arith in z)
+
+-- ---- the first place that passes
 
 pub position-cons : {A : Type 0} (p : A → Bool) (x : A) (xs : List A) → position p (x ∷ xs) ≡ cond (p x) (Some 0) (option_map suc (position p xs))
 position-cons p x xs =
@@ -103,3 +111,27 @@ position-within p xs k h =
       | true ↦ λ is found. let same : position_or_len p xs ≡ k = cc in let lt : position_or_len p xs < length xs = grind (arith, nat_tests) in subst (λ n. n < length xs) same lt
       | false ↦ λ is found. absurd cc
     ] refl h
+
+pub found_there : {A : Type 0} (p : A → Bool) (xs : List A) (k : ℕ) (d : A) → position p xs ≡ Some k → find p xs ≡ Some (get_or xs k d)
+found_there p [] k d h = absurd cc
+found_there p (x ∷ xs) k d h =
+    elim (p x) as (λ b. cond b (Some 0) (option_map suc (position p xs)) ≡ Some k → cond b (Some x) (find p xs) ≡ Some (get_or (x ∷ xs) k d)) [
+      | true ↦ λ here. let same : 0 ≡ k = cc in ap (λ i. Some (get_or (x ∷ xs) i d)) same
+      | false ↦ λ there. later (position p xs) (λ j is. found_there p xs j d is) there
+    ] (sym (position-cons p x xs) ∙ h)
+  where
+    later : (y : Option ℕ) → ((j : ℕ) → y ≡ Some j → find p xs ≡ Some (get_or xs j d)) → option_map suc y ≡ Some k → find p xs ≡ Some (get_or (x ∷ xs) k d)
+    later None found said = absurd cc
+    later (Some j) found said = let same : suc j ≡ k = cc in found j refl ∙ ap (λ i. Some (get_or (x ∷ xs) i d)) same
+
+pub found_nowhere : {A : Type 0} (p : A → Bool) (xs : List A) → position p xs ≡ None → find p xs ≡ None
+found_nowhere p [] h = refl
+found_nowhere p (x ∷ xs) h =
+    elim (p x) as (λ b. cond b (Some 0) (option_map suc (position p xs)) ≡ None → cond b (Some x) (find p xs) ≡ None) [
+      | true ↦ λ here. absurd cc
+      | false ↦ λ there. later (position p xs) (λ is. found_nowhere p xs is) there
+    ] (sym (position-cons p x xs) ∙ h)
+  where
+    later : (y : Option ℕ) → (y ≡ None → find p xs ≡ None) → option_map suc y ≡ None → find p xs ≡ None
+    later None found said = found refl
+    later (Some j) found said = absurd cc

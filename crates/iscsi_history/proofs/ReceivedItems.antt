@@ -264,13 +264,11 @@ functions_receive_none o (a ∷ as') t may =
       | false ↦ functions_receive_none o as' t parts.1
     ]
 
--- ---- what ABORT TASK comes to
+-- ---- who waits
 
 -- ABORT TASK doesn't wait
 pub one_waits_not : (r : Request) → function r ≡ 1 → may_wait r ≡ false
 one_waits_not r is = ap (λ f. is_immediate r && (f == 2 || f == 4 || f == 5)) is ∙ and_false (is_immediate r)
-
--- ---- once it has waited
 
 -- a function that may wait is immediate, and no ABORT TASK
 pub may_immediate : (r : Request) → may_wait r ≡ true → is_immediate r ≡ true

@@ -1,13 +1,18 @@
 -- A unit's set of commands: its tickets, and what has been shown of it.
-use Rattle.std.proofs.Common.{List, map, ℕ, [], ap, cond, false, refl, true, ◌∷◌, ◌≡◌, ◌==◌, None, Some, filter, find, not, Option, sym, ◌∙◌, ◌<◌, arith, get_or, replicate, suc, zero, ◌+◌, Bool, count_by, ◌≤◌, ◌++◌, ◌||◌}
-use Rattle.std.specs.List.{list_any}
+use Rattle.std.proofs.Common.{List, map, ℕ, [], ap, cond, false, refl, true, ◌∷◌, ◌≡◌, ◌==◌, None, Some, filter, find, not, Option, sym, ◌∙◌, ◌<◌, arith, get_or, replicate, suc, zero, ◌+◌, Bool, count_by, ◌≤◌, ◌++◌, ◌||◌, ◌&&◌, nat_lt, length, eq-eqb, pos, take}
+use Rattle.std.specs.List.{list_any, list_all}
 use Rattle.std.proofs.lemmas.Bool.{eqb-true}
 use Rattle.std.proofs.lemmas.List.Sums.{sum_by-cons}
 use Rattle.iscsi_tasks.specs.declared.member.Member.{Member}
-use Rattle.iscsi_tasks.specs.Sets.{given_in, is_new, after_moment, looked_at, Members, left_by, tasks_in, with_ticket, without, opened as opened_set, ticket_if}
+use Rattle.iscsi_tasks.specs.Sets.{given_in, is_new, after_moment, looked_at, Members, left_by, tasks_in, with_ticket, without, opened as opened_set, ticket_if, covered_at, is_covered}
 use Rattle.iscsi_tasks.specs.declared.task.Task.{Task}
 use Rattle.iscsi_history.proofs.ListLemmas.{map-map, filter-map, find-found}
-use Rattle.iscsi_history.proofs.BoolLemmas.{or_none, or_false}
+use Rattle.iscsi_history.proofs.BoolLemmas.{or_none, or_false, and_parts, or_first, or_second, and_false}
+use Rattle.iscsi_history.proofs.ApartLemmas.{eq_sym}
+use Rattle.iscsi_history.proofs.NumberLemmas.{later_apart, none_above}
+use Rattle.std.specs.Prelude.{option_and_then, slice_get}
+use Rattle.iscsi_tasks.specs.declared.task.Attr.TheVariants.{Simple}
+use Rattle.iscsi_tasks.specs.declared.cover.Cover.{Cover}
 
 abbrev pub tickets : List Member → List ℕ
 tickets ms = map (λ m. m.task.ticket) ms
@@ -69,8 +74,6 @@ none_filtered q (x ∷ ms) h =
     let parts = or_none (q x) (list_any q ms) h in
     ap (λ b. cond b (x ∷ filter q ms) (filter q ms)) parts.0 ∙ none_filtered q ms parts.1
 
--- ---- one command after the other
-
 pub any_push : (p : Member → Bool) (ms : List Member) (x : Member) → list_any p (ms ++ x ∷ []) ≡ (list_any p ms || p x)
 any_push p [] x = or_false (p x)
 any_push p (y ∷ ms) x = elim (p y) as (λ b. (b || list_any p (ms ++ x ∷ [])) ≡ ((b || list_any p ms) || p x)) [ true ↦ refl | false ↦ any_push p ms x ]
@@ -82,3 +85,106 @@ ticket_some false t k is = absurd cc
 pub ticket_none : (b : Bool) (t : Task) → ticket_if b t ≡ None → b ≡ false
 ticket_none true t is = absurd cc
 ticket_none false t is = refl
+
+-- ---- tickets go up along a set
+
+pub none_found : (covers : Task → Bool) (ms : List Member) → find covers (map (λ (m : Member). m.task) ms) ≡ None → list_any (λ m. covers m.task) ms ≡ false
+none_found covers [] none = refl
+none_found covers (x ∷ ms) none =
+    elim (covers x.task) as (λ b. cond b (Some x.task) (find covers (map (λ (m : Member). m.task) ms)) ≡ None → (b || list_any (λ (m : Member). covers m.task) ms) ≡ false) [
+      | true ↦ λ here. absurd cc
+      | false ↦ λ later. none_found covers ms later
+    ] none
+
+pub some_covered : (covers : Task → Bool) (ms : List Member) (task : Task) → find covers (map (λ (m : Member). m.task) ms) ≡ Some task → list_any (λ m. covers m.task) ms ≡ true
+some_covered covers [] task found = absurd cc
+some_covered covers (x ∷ ms) task found =
+    elim (covers x.task) as (λ b. cond b (Some x.task) (find covers (map (λ (m : Member). m.task) ms)) ≡ Some task → (b || list_any (λ (m : Member). covers m.task) ms) ≡ true) [
+      | true ↦ λ here. refl
+      | false ↦ λ later. some_covered covers ms task later
+    ] found
+
+abbrev pub rising : List ℕ → Bool
+rising [] = true
+rising (t ∷ ts) = list_all (λ u. nat_lt t u) ts && rising ts
+
+-- ---- who leaves, by tickets
+
+all_at : (p : ℕ → Bool) (ms : List Member) (k : ℕ) (d : Member) → list_all p (tickets ms) ≡ true → k < length ms → p (get_or ms k d).task.ticket ≡ true
+all_at p [] k d all lt = absurd (omega arith)
+all_at p (x ∷ ms) zero d all lt = (and_parts (p x.task.ticket) (list_all p (tickets ms)) all).0
+all_at p (x ∷ ms) (suc k) d all lt = all_at p ms k d (and_parts (p x.task.ticket) (list_all p (tickets ms)) all).1 (omega arith)
+
+pub none_covered : (covers : Task → Bool) (k : ℕ) (ms : List Member) → list_any (λ t. t == k) (tickets ms) ≡ false → list_any (λ m. m.task.ticket == k && covers m.task) ms ≡ false
+none_covered covers k [] h = refl
+none_covered covers k (x ∷ ms) h =
+    let parts = or_none (x.task.ticket == k) (list_any (λ t. t == k) (tickets ms)) h in
+    ap (λ b. (b && covers x.task) || list_any (λ m. m.task.ticket == k && covers m.task) ms) parts.0 ∙ none_covered covers k ms parts.1
+
+-- a command is gone just where it is covered
+pub gone_each : (covers : Task → Bool) (ms : List Member) (k : ℕ) (d : Member) → rising (tickets ms) ≡ true → k < length ms → list_any (λ m. m.task.ticket == (get_or ms k d).task.ticket && covers m.task) ms ≡ covers (get_or ms k d).task
+gone_each covers [] k d up lt = absurd (omega arith)
+gone_each covers (x ∷ ms) zero d up lt =
+    let parts = and_parts (list_all (λ u. nat_lt x.task.ticket u) (tickets ms)) (rising (tickets ms)) up in
+    ap (λ b. (b && covers x.task) || list_any (λ m. m.task.ticket == x.task.ticket && covers m.task) ms) (eq-eqb x.task.ticket x.task.ticket refl)
+    ∙ ap (λ b. covers x.task || b) (none_covered covers x.task.ticket ms (none_above x.task.ticket (tickets ms) parts.0)) ∙ or_false (covers x.task)
+gone_each covers (x ∷ ms) (suc k) d up lt =
+    let parts = and_parts (list_all (λ u. nat_lt x.task.ticket u) (tickets ms)) (rising (tickets ms)) up in
+    let t : ℕ = (get_or ms k d).task.ticket in
+    let apart : (x.task.ticket == t) ≡ false = eq_sym x.task.ticket t ∙ later_apart x.task.ticket t (all_at (λ u. nat_lt x.task.ticket u) ms k d parts.0 (omega arith)) in
+    ap (λ b. (b && covers x.task) || list_any (λ m. m.task.ticket == t && covers m.task) ms) apart ∙ gone_each covers ms k d parts.1 (omega arith)
+
+-- ---- one command after the other
+
+-- what is told of a command, by whether it is covered
+pub told_at : (covers : Task → Bool) (ms : List Member) (k : ℕ) (d : Member) → k < length ms → option_and_then (λ t. ticket_if (covers t) t) (slice_get (map (λ (m : Member). m.task) ms) k) ≡ ticket_if (covers (get_or ms k d).task) (get_or ms k d).task
+told_at covers [] k d lt = absurd (omega arith)
+told_at covers (x ∷ ms) zero d lt = refl
+told_at covers (x ∷ ms) (suc k) d lt = told_at covers ms k d (omega arith)
+
+abbrev pub no_member : Member
+no_member = record { task = record { ticket = 0; conn = 0; itt = 0; attr = Simple; immediate = false; pos = pos 0; event = 0 }; enabled = false; given = false }
+
+-- how a command of the set is told
+pub told_some : (cover : Cover) (now : Members) (at k : ℕ) (r : Option ℕ) → at < length now.list → r ≡ covered_at cover (tasks_in now) at → r ≡ Some k
+    → (is_covered cover (get_or now.list at no_member).task ≡ true) × ((get_or now.list at no_member).task.ticket ≡ k)
+told_some cover now at k r inside is some =
+    let task : Task = (get_or now.list at no_member).task in
+    ticket_some (is_covered cover task) task k (sym (told_at (is_covered cover) now.list at no_member inside) ∙ sym is ∙ some)
+
+pub told_none : (cover : Cover) (now : Members) (at : ℕ) (r : Option ℕ) → at < length now.list → r ≡ covered_at cover (tasks_in now) at → r ≡ None → is_covered cover (get_or now.list at no_member).task ≡ false
+told_none cover now at r inside is none =
+    let task : Task = (get_or now.list at no_member).task in
+    ticket_none (is_covered cover task) task (sym (told_at (is_covered cover) now.list at no_member inside) ∙ sym is ∙ none)
+
+pub has_ticket_at : (ms : List Member) (k : ℕ) (d : Member) → k < length ms → list_any (λ u. u == (get_or ms k d).task.ticket) (tickets ms) ≡ true
+has_ticket_at [] k d lt = absurd (omega arith)
+has_ticket_at (x ∷ ms) zero d lt = or_first (x.task.ticket == x.task.ticket) (list_any (λ u. u == x.task.ticket) (tickets ms)) (eq-eqb x.task.ticket x.task.ticket refl)
+has_ticket_at (x ∷ ms) (suc k) d lt = or_second (x.task.ticket == (get_or ms k d).task.ticket) (list_any (λ u. u == (get_or ms k d).task.ticket) (tickets ms)) (has_ticket_at ms k d (omega arith))
+
+-- none of those before it has its ticket
+pub unlike_before : (ms : List Member) (k : ℕ) (d : Member) → rising (tickets ms) ≡ true → k < length ms → list_any (λ u. u == (get_or ms k d).task.ticket) (tickets (take k ms)) ≡ false
+unlike_before [] k d up lt = absurd (omega arith)
+unlike_before (x ∷ ms) zero d up lt = refl
+unlike_before (x ∷ ms) (suc k) d up lt =
+    let parts = and_parts (list_all (λ u. nat_lt x.task.ticket u) (tickets ms)) (rising (tickets ms)) up in
+    let t : ℕ = (get_or ms k d).task.ticket in
+    ap (λ b. b || list_any (λ u. u == t) (tickets (take k ms))) (eq_sym x.task.ticket t ∙ later_apart x.task.ticket t (all_at (λ u. nat_lt x.task.ticket u) ms k d parts.0 (omega arith)))
+    ∙ unlike_before ms k d parts.1 (omega arith)
+
+-- ---- the one with a ticket
+
+pub one_gone : (k j : ℕ) (ms : List Member) → list_any (λ m. m.task.ticket == j && m.task.ticket == k) ms ≡ (j == k && list_any (λ m. m.task.ticket == k) ms)
+one_gone k j [] = sym (and_false (j == k))
+one_gone k j (x ∷ ms) =
+    let has : Bool = list_any (λ (m : Member). m.task.ticket == k) ms in
+    let both : Bool = list_any (λ (m : Member). m.task.ticket == j && m.task.ticket == k) ms in
+    elim (x.task.ticket == k) as (λ b. (x.task.ticket == k) ≡ b → ((x.task.ticket == j && b) || both) ≡ (j == k && (b || has))) [
+      | true ↦ λ is. elim (j == k) as (λ b. (j == k) ≡ b → ((x.task.ticket == j && true) || both) ≡ (b && true)) [
+        | true ↦ λ same. ap (λ b. (b && true) || both) (eq-eqb x.task.ticket j (eqb-true x.task.ticket k is ∙ sym (eqb-true j k same)))
+        | false ↦ λ other.
+            ap (λ b. (b && true) || both) (ap (λ n. n == j) (eqb-true x.task.ticket k is) ∙ eq_sym k j ∙ other)
+            ∙ one_gone k j ms ∙ ap (λ b. b && has) other
+      ] refl
+      | false ↦ λ is. ap (λ b. b || both) (and_false (x.task.ticket == j)) ∙ one_gone k j ms
+    ] refl

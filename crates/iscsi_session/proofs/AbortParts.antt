@@ -25,13 +25,13 @@ use Rattle.iscsi_session.specs.private.Functions.{missing_at, tagged_in, abort_b
 use Rattle.iscsi_session.proofs.OpenConns.{open_of-same}
 use Rattle.iscsi_history.proofs.BoolLemmas.{and_parts, not_true}
 use Rattle.iscsi_history.proofs.ApartLemmas.{apart-filter}
-use Rattle.iscsi_history.proofs.HeldLemmas.{held-number, admitted_of_held, held_command-below}
+use Rattle.iscsi_history.proofs.HeldLemmas.{held-number, admitted_of_held, held_command-below, held_command-held, held_command-none}
 use Rattle.iscsi_history.proofs.DeliveryLemmas.{IsQuiet, received-quiet, held-quiet}
 use Rattle.iscsi_session.proofs.WindowParts.{Next, turned_window, WindowAgrees-quiet, WindowAgrees-turned, expected_past_next}
 use Rattle.iscsi_history.proofs.NewlyLemmas.{Untouched}
 use Rattle.iscsi_history.proofs.NumberLemmas.{wire-lift, last_number, within_window}
 use Rattle.iscsi_history.proofs.EnabledItems.{EnabledSoFar-untouched}
-use Rattle.iscsi_history.proofs.CommandItems.{unfinished-untouched, only_one}
+use Rattle.iscsi_history.proofs.CommandItems.{unfinished-untouched, ticket_alone}
 use Rattle.iscsi_history.proofs.EmptyingMarks.{quiet-both}
 use Rattle.iscsi_session.proofs.CommandParts.{CommandsAgree-untouched}
 use Rattle.iscsi_session.proofs.ReplyParts.{RepliesAgree-quiet}
@@ -39,7 +39,7 @@ use Rattle.iscsi_session.proofs.ArrivedLemmas.{ArrivalsAgree-quiet}
 use Rattle.iscsi_session.proofs.SetParts.{SetsAgree-untouched}
 use Rattle.iscsi_session.proofs.AgreeLemmas.{settled_expected, settled_max}
 use Rattle.iscsi_session.proofs.MissingLemmas.{WindowAgrees-voided, WindowAgrees-emptied, inside_place, outside_place, VoidedAt, voided_at, emptied_at}
-use Rattle.iscsi_session.proofs.FindLemmas.{held_command-is, held_command-held, held_command-none, tagged_in-is}
+use Rattle.iscsi_session.proofs.FindLemmas.{held_command-is, tagged_in-is}
 
 -- ---- what it comes to
 
@@ -109,7 +109,7 @@ module _ (o : Setting) (s : Core) (t : Trace) (a : Arrival) (unit : ℕ) (f : Fo
         marks = ap (λ x. marks_by o t a x (held_command o t (rtt a.request) unit a.number)) found;
         ticket_is = refl;
         found = found;
-        one = only_one (λ d. itt d.arrival.request == rtt a.request) (live_in unit t) c (apart-filter (λ d. d.unit == unit) (live t) f.apart) found;
+        one = (ticket_alone (λ d. itt d.arrival.request == rtt a.request) (live_in unit t) c (apart-filter (λ d. d.unit == unit) (live t) f.apart) found).0;
       })
 
   none_live : live_with_tag t (rtt a.request) unit ≡ None

@@ -14,7 +14,7 @@ use Rattle.iscsi_history.specs.rules.Execution.{exp_of}
 use Rattle.iscsi_history.specs.rules.Management.{is_to, held_command, live_with_tag}
 use Rattle.iscsi_session.specs.promises.Standing.{Core, place_of, kept, WindowAgrees}
 use Rattle.iscsi_session.specs.private.Functions.{tagged_in}
-use Rattle.iscsi_history.proofs.HeldLemmas.{held-number, held_received, is_sought, none_below, found_held}
+use Rattle.iscsi_history.proofs.HeldLemmas.{held-number, held_received, is_sought, none_below}
 use Rattle.iscsi_history.proofs.PlaceLemmas.{position-cons}
 
 -- ---- held commands
@@ -103,14 +103,6 @@ held_command-is o w t tag unit sn h exp inside =
     ap (λ n. option_map (λ (x : Arrival). x.number) (first_of (filter (is_sought o tag unit (lift n sn)) (held_among t (range_with_len n o.window))))) exp
     ∙ ap (λ n. option_map (λ (x : Arrival). x.number) (first_of (filter (is_sought o tag unit (lift e sn)) (held_among t (range_with_len e n))))) (sym h.size)
     ∙ found_numbers o t tag unit (lift e sn) w.places e inside h.inside
-
--- and is held at a place of the window
-pub held_command-held : (o : Setting) (t : Trace) (tag unit below : ℕ) (h : Arrival) → held_command o t tag unit below ≡ Some h → (held t h.number ≡ Some h) × ((exp_of o t ≤ h.number) × (h.number < exp_of o t + o.window))
-held_command-held o t tag unit below h found = found_held o t tag unit below o.window (exp_of o t) h found
-
--- none is held below ExpCmdSN
-pub held_command-none : (o : Setting) (t : Trace) (tag unit below : ℕ) → below ≤ exp_of o t → held_command o t tag unit below ≡ None
-held_command-none o t tag unit below past = ap first_of (none_below o t tag unit below o.window (exp_of o t) past)
 
 -- ---- live commands
 

@@ -1,7 +1,7 @@
 -- Commands of a unit leave together, and the function that took them out is answered.
-use Rattle.std.proofs.Common.{◌≡◌, ℕ, ◌+◌, ◌-◌, ◌<◌, ◌≤◌, ◌==◌, ◌&&◌, ◌||◌, not, cond, Bool, true, false, List, [], ◌∷◌, ◌++◌, length, map, filter, count_by, get_or, set, Some, refl, ap, sym, subst, ◌∙◌, arith, eq-eqb}
-use Rattle.std.specs.List.{list_any, list_all, filter_map, flat_map, cons_option}
-use Rattle.std.proofs.lemmas.Bool.{false≢true, eqb-true}
+use Rattle.std.proofs.Common.{◌≡◌, ℕ, ◌+◌, ◌-◌, ◌<◌, ◌≤◌, ◌==◌, ◌&&◌, ◌||◌, not, cond, Bool, true, false, List, [], ◌∷◌, ◌++◌, length, map, filter, count_by, get_or, set, Some, refl, ap, sym, subst, ◌∙◌, arith}
+use Rattle.std.specs.List.{list_any, filter_map, flat_map, cons_option}
+use Rattle.std.proofs.lemmas.Bool.{eqb-true}
 use Rattle.std.proofs.lemmas.List.{get_or-set_same, set-set}
 use Rattle.iscsi_wire.specs.declared.reply.Reply.{Reply}
 use Rattle.iscsi_wire.specs.declared.reply.Reply.TheVariants.{Task as TaskReply}
@@ -14,7 +14,7 @@ use Rattle.iscsi_history.specs.declared.effect.Effect.{Effect}
 use Rattle.iscsi_history.specs.declared.effect.Effect.TheVariants.{Enable, Leave, Send}
 use Rattle.iscsi_commands.specs.declared.live.Live.{Live}
 use Rattle.iscsi_history.specs.rules.Settings.{Setting}
-use Rattle.iscsi_history.specs.rules.Trace.{first_of, Arrival, Command, Mark, Leaves, Trace, waiting, waiting_by, waiting_through, enters, entered, has, leaves_ticket, live, live_in, is_among, was_free, sent_on}
+use Rattle.iscsi_history.specs.rules.Trace.{first_of, Arrival, Command, Mark, Leaves, Trace, waiting, waiting_by, enters, entered, has, leaves_ticket, live, live_in, is_among, was_free, sent_on}
 use Rattle.iscsi_history.specs.rules.Execution.{unfinished, reply_on}
 use Rattle.iscsi_history.specs.rules.Run.{effects_of_mark, effects_of_item, newly_enabled, stat_sn_of}
 use Rattle.iscsi_session.specs.promises.Standing.{Core, stat_sn_on, kept, task_of, member_of, set_of, WindowAgrees, CommandsAgree, SetsAgree, Agrees}
@@ -22,78 +22,21 @@ use Rattle.iscsi_history.specs.rules.Trace.{are_apart}
 use Rattle.iscsi_session.specs.private.Steps.{set_at, all_given, as_given, enable_effects, is_numbered}
 use Rattle.iscsi_session.specs.private.Functions.{covers_ticket, is_gone, staying, set_staying, with_left, aborted, abort_effects}
 use Rattle.iscsi_session.proofs.OpenConns.{open_of-same}
-use Rattle.iscsi_history.proofs.BoolLemmas.{and_parts, and_both, or_none, or_second, not_true, and_comm, alike, alike_same, same_alike}
-use Rattle.iscsi_history.proofs.ListLemmas.{list_any-map, count_by-map, list_all-filter, any_filter, any_same, fewer_counted, map_all, filter-map, map-map, none_both, none_passes}
+use Rattle.iscsi_history.proofs.BoolLemmas.{and_parts, and_comm, alike, alike_same}
+use Rattle.iscsi_history.proofs.ListLemmas.{list_any-map, count_by-map, list_all-filter, any_filter, any_same, fewer_counted, map_all, filter-map, map-map, none_both}
 use Rattle.iscsi_history.proofs.TraceLemmas.{filter-same, filter-true, weaker}
-use Rattle.iscsi_history.proofs.ApartLemmas.{eq_sym, unamong-filter, apart-filter}
-use Rattle.iscsi_history.proofs.DeliveryLemmas.{IsQuiet}
+use Rattle.iscsi_history.proofs.ApartLemmas.{unamong-filter, apart-filter}
 use Rattle.iscsi_session.proofs.ReplyParts.{RepliesAgree-sent}
-use Rattle.iscsi_history.proofs.NewlyLemmas.{filter_all, both_all, filter-twice, is_here, all_here, newly-none}
+use Rattle.iscsi_history.proofs.NewlyLemmas.{filter_all, filter-twice, is_here, all_here, newly-none}
 use Rattle.iscsi_session.proofs.EnabledLemmas.{set_of-same}
 use Rattle.iscsi_history.proofs.MomentLemmas.{enables}
-use Rattle.iscsi_history.proofs.ClosingItems.{ClosesNone, closes-more}
-use Rattle.iscsi_history.proofs.CommandItems.{LeavesSome, live_in-left, are_all_in}
+use Rattle.iscsi_history.proofs.ClosingItems.{closes-more}
+use Rattle.iscsi_history.proofs.CommandItems.{LeavesSome, live_in-left, are_all_in, among_passing, leaving-calm, leaving-closes, leaving-enters, leaving-sends, leaving-shown, leaving-tickets, quiet-leaving, ticket_alone}
 use Rattle.iscsi_history.proofs.EnabledItems.{EnabledSoFar-left}
 use Rattle.iscsi_session.proofs.CommandParts.{CommandsAgree-left}
 use Rattle.iscsi_session.proofs.SetParts.{SetLeaving, SetsAgree-left, set-changed}
 use Rattle.iscsi_session.proofs.AgreeLemmas.{units_live}
 use Rattle.iscsi_session.proofs.ExecutionLemmas.{Begun}
-
--- ---- a command has the ticket of one that passes just where it passes
-
-pub among_passing : (q : Command → Bool) (cs : List Command) → are_apart cs ≡ true → list_all (λ c. alike (is_among c.ticket (filter q cs)) (q c)) cs ≡ true
-among_passing q [] apart = refl
-among_passing q (x ∷ cs) apart =
-    let parts = and_parts (not (is_among x.ticket cs)) (are_apart cs) apart in
-    let rest : List Command = filter q cs in
-    let gone : is_among x.ticket cs ≡ false = not_true (is_among x.ticket cs) parts.0 in
-    and_both (alike (is_among x.ticket (filter q (x ∷ cs))) (q x)) (list_all (λ c. alike (is_among c.ticket (filter q (x ∷ cs))) (q c)) cs)
-    (elim (q x) as (λ b. alike (is_among x.ticket (cond b (x ∷ rest) rest)) b ≡ true) [
-      | true ↦ same_alike (is_among x.ticket (x ∷ rest)) true (ap (λ b. b || is_among x.ticket rest) (eq-eqb x.ticket x.ticket refl))
-      | false ↦ same_alike (is_among x.ticket rest) false (unamong-filter q x.ticket cs gone)
-    ])
-    (weaker (λ c. not (c.ticket == x.ticket) && alike (is_among c.ticket rest) (q c)) (λ c. alike (is_among c.ticket (filter q (x ∷ cs))) (q c)) cs
-    (λ c h.
-    let both = and_parts (not (c.ticket == x.ticket)) (alike (is_among c.ticket rest) (q c)) h in
-    let apart_here : (x.ticket == c.ticket) ≡ false = eq_sym x.ticket c.ticket ∙ not_true (c.ticket == x.ticket) both.0 in
-    elim (q x) as (λ b. alike (is_among c.ticket (cond b (x ∷ rest) rest)) (q c) ≡ true) [
-      | true ↦ ap (λ b. alike (b || is_among c.ticket rest) (q c)) apart_here ∙ both.1
-      | false ↦ both.1
-    ])
-    (both_all (λ c. not (c.ticket == x.ticket)) (λ c. alike (is_among c.ticket rest) (q c)) cs (none_passes (λ c. c.ticket == x.ticket) cs gone) (among_passing q cs parts.1)))
-
--- ---- the marks
-
-quiet-leaving : (cs : List Command) (a : Arrival) (reply : Reply) → IsQuiet (map Leaves cs ++ reply_on a reply)
-quiet-leaving [] a reply = record { receives = refl; admits = λ n. refl; delivers_none = refl; delivers_no = λ n. refl; empties_no = λ n. refl }
-quiet-leaving (c ∷ cs) a reply =
-    let q : IsQuiet (map Leaves cs ++ reply_on a reply) = quiet-leaving cs a reply in
-    record { receives = q.receives; admits = λ n. q.admits n; delivers_none = q.delivers_none; delivers_no = λ n. q.delivers_no n; empties_no = λ n. q.empties_no n }
-
-leaving-enters : (cs : List Command) (a : Arrival) (reply : Reply) → filter_map enters (map Leaves cs ++ reply_on a reply) ≡ []
-leaving-enters [] a reply = refl
-leaving-enters (c ∷ cs) a reply = leaving-enters cs a reply
-
-leaving-calm : (cs : List Command) (a : Arrival) (reply : Reply) (ws : List Arrival) → waiting_through (map Leaves cs ++ reply_on a reply) ws ≡ ws
-leaving-calm [] a reply ws = refl
-leaving-calm (c ∷ cs) a reply ws = leaving-calm cs a reply ws
-
-pub leaving-closes : (cs : List Command) (a : Arrival) (reply : Reply) → ClosesNone (map Leaves cs ++ reply_on a reply)
-leaving-closes [] a reply = record { session = refl; conns = λ c. refl }
-leaving-closes (c ∷ cs) a reply = let none : ClosesNone (map Leaves cs ++ reply_on a reply) = leaving-closes cs a reply in record { session = none.session; conns = λ k. none.conns k }
-
-leaving-sends : (cs : List Command) (a : Arrival) (reply : Reply) → filter_map sent_on (map Leaves cs ++ reply_on a reply) ≡ connection_of a.request ∷ []
-leaving-sends [] a reply = refl
-leaving-sends (c ∷ cs) a reply = leaving-sends cs a reply
-
-leaving-tickets : (cs : List Command) (a : Arrival) (reply : Reply) (k : ℕ) → list_any (leaves_ticket k) (map Leaves cs ++ reply_on a reply) ≡ is_among k cs
-leaving-tickets [] a reply k = refl
-leaving-tickets (c ∷ cs) a reply k = ap (λ b. (c.ticket == k) || b) (leaving-tickets cs a reply k)
-
-leaving-shown : (o : Setting) (t : Trace) (cs : List Command) (a : Arrival) (reply : Reply)
-    → flat_map (effects_of_mark o t) (map Leaves cs ++ reply_on a reply) ≡ map (λ (c : Command). Leave c.ticket c.unit) cs ++ Send (connection_of a.request) (stat_sn_of o t (connection_of a.request)) reply ∷ []
-leaving-shown o t [] a reply = refl
-leaving-shown o t (c ∷ cs) a reply = ap (λ es. Leave c.ticket c.unit ∷ es) (leaving-shown o t cs a reply)
 
 -- ---- the window
 
@@ -162,33 +105,6 @@ module _ (o : Setting) (t : Trace) (old : Members) (unit : ℕ) (list_is : old.l
       ∙ map-map (λ (m : Member). Leave m.task.ticket unit) (member_of o t) (filter q here)
       ∙ map_all (λ (c : Command). Leave c.ticket unit) (λ (c : Command). Leave c.ticket c.unit) (is_here unit here) (filter q here) (list_all-filter q (is_here unit here) here (all_here unit t))
       (λ c h. ap (λ u. Leave c.ticket u) (sym (eqb-true c.unit unit (and_parts (c.unit == unit) (is_among c.ticket here) h).0)))
-
--- no other command has the ticket of the first that passes
-pub ticket_alone : (q : Command → Bool) (cs : List Command) (c : Command) → are_apart cs ≡ true → first_of (filter q cs) ≡ Some c → (filter (λ d. d.ticket == c.ticket) cs ≡ c ∷ []) × (is_among c.ticket cs ≡ true)
-ticket_alone q [] c apart found = absurd cc
-ticket_alone q (x ∷ cs) c apart found =
-    let parts = and_parts (not (is_among x.ticket cs)) (are_apart cs) apart in
-    let gone : is_among x.ticket cs ≡ false = not_true (is_among x.ticket cs) parts.0 in
-    elim (q x) as (λ b. first_of (cond b (x ∷ filter q cs) (filter q cs)) ≡ Some c → (filter (λ d. d.ticket == c.ticket) (x ∷ cs) ≡ c ∷ []) × (is_among c.ticket (x ∷ cs) ≡ true)) [
-      | true ↦ λ here.
-          let same : x ≡ c = cc in
-          subst (λ (d : Command). (filter (λ e. e.ticket == d.ticket) (x ∷ cs) ≡ d ∷ []) × (is_among d.ticket (x ∷ cs) ≡ true)) same
-          (ap (λ b. cond b (x ∷ filter (λ e. e.ticket == x.ticket) cs) (filter (λ e. e.ticket == x.ticket) cs)) (eq-eqb x.ticket x.ticket refl) ∙ ap (λ ds. x ∷ ds) (none_with x.ticket cs gone), ap (λ b. b || is_among x.ticket cs) (eq-eqb x.ticket x.ticket refl))
-      | false ↦ λ later.
-          let rest = ticket_alone q cs c parts.1 later in
-          let other : (x.ticket == c.ticket) ≡ false =
-          elim (x.ticket == c.ticket) as (λ b. (x.ticket == c.ticket) ≡ b → b ≡ false) [
-            | true ↦ λ is. absurd (false≢true (sym gone ∙ ap (λ k. is_among k cs) (eqb-true x.ticket c.ticket is) ∙ rest.1))
-            | false ↦ λ is. refl
-          ] refl in
-          (ap (λ b. cond b (x ∷ filter (λ e. e.ticket == c.ticket) cs) (filter (λ e. e.ticket == c.ticket) cs)) other ∙ rest.0, or_second (x.ticket == c.ticket) (is_among c.ticket cs) rest.1)
-    ] found
-  where
-    none_with : (k : ℕ) (ds : List Command) → is_among k ds ≡ false → filter (λ e. e.ticket == k) ds ≡ []
-    none_with k [] h = refl
-    none_with k (d ∷ ds) h =
-        let parts = or_none (d.ticket == k) (is_among k ds) h in
-        ap (λ b. cond b (d ∷ filter (λ e. e.ticket == k) ds) (filter (λ e. e.ticket == k) ds)) parts.0 ∙ none_with k ds parts.1
 
 -- the first command of a unit that passes is the one that its ticket covers
 pub covered_one : (o : Setting) (t : Trace) (unit : ℕ) (q : Command → Bool) (c : Command) → are_apart (live t) ≡ true → first_of (filter q (live_in unit t)) ≡ Some c → covered_in o t unit (covers_ticket c.ticket) ≡ c ∷ []

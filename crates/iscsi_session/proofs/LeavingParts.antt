@@ -1,6 +1,6 @@
 -- Covered commands of a unit leave: what is left of its set and of the live commands.
-use Rattle.std.proofs.Common.{◌≡◌, ℕ, zero, suc, ◌+◌, ◌-◌, ◌<◌, ◌≤◌, ◌==◌, ◌&&◌, ◌||◌, ◌++◌, not, ⊎_elim, cond, Bool, true, false, nat_lt, pos, List, [], ◌∷◌, length, map, filter, find, count_by, All, take, get_or, set, Option, Some, None, is_some, refl, ap, sym, ◌∙◌, arith, eq-eqb, length-set}
-use Rattle.std.specs.Prelude.{IsSome, option_and_then, slice_get}
+use Rattle.std.proofs.Common.{◌≡◌, ℕ, zero, suc, ◌+◌, ◌-◌, ◌<◌, ◌≤◌, ◌==◌, ◌&&◌, ◌||◌, ◌++◌, not, ⊎_elim, cond, Bool, true, false, nat_lt, List, [], ◌∷◌, length, map, filter, count_by, All, take, get_or, set, Option, Some, None, is_some, refl, ap, sym, ◌∙◌, arith, length-set}
+use Rattle.std.specs.Prelude.{IsSome}
 use Rattle.std.specs.List.{list_any, list_all}
 use Rattle.std.proofs.lemmas.Bool.{cases_eq, eqb-true, false≢true}
 use Rattle.std.proofs.lemmas.Bool.Decides.{nat_tests}
@@ -10,22 +10,20 @@ use Rattle.std.proofs.lemmas.List.Folds.{list_any_none}
 use Rattle.std.proofs.lemmas.List.Sums.{sum_by-cons}
 use Rattle.iscsi_window.specs.Windows.{Received, with_unfinished}
 use Rattle.iscsi_tasks.specs.declared.task.Task.{Task}
-use Rattle.iscsi_tasks.specs.declared.task.Attr.TheVariants.{Simple}
-use Rattle.iscsi_tasks.specs.declared.cover.Cover.{Cover}
 use Rattle.iscsi_tasks.specs.declared.member.Member.{Member}
-use Rattle.iscsi_tasks.specs.Sets.{Members, opened, tasks_in, left_by, with_ticket, looked_at, after_moment, uncovered, is_new, ticket_if, is_covered, covered_at}
+use Rattle.iscsi_tasks.specs.Sets.{Members, opened, tasks_in, left_by, with_ticket, looked_at, after_moment, uncovered, is_new}
 use Rattle.iscsi_history.specs.declared.effect.Effect.TheVariants.{Leave}
 use Rattle.iscsi_commands.specs.declared.live.Live.{Live}
 use Rattle.iscsi_session.specs.promises.Standing.{Match, are_ascending, tickets_of, tickets_in}
 use Rattle.iscsi_session.specs.private.Steps.{all_given, as_given, is_numbered, find_ticket, without_ticket}
 use Rattle.iscsi_session.specs.private.Functions.{is_gone, staying, set_staying, finished_by, leaves, has_covered, covers_ticket, ungiven, ungiven_in}
-use Rattle.iscsi_history.proofs.BoolLemmas.{and_parts, and_both, or_none, or_first, or_second, or_false, and_true, and_false, not_true}
+use Rattle.iscsi_history.proofs.BoolLemmas.{and_parts, and_both, or_second, or_false, and_true, and_false, not_true}
 use Rattle.iscsi_history.proofs.ListLemmas.{any_filter, any_same, list_any-map, count_by-map, filter-swap, filter-map, map-map, find-found, filter_every, filter_here, none_both, fewer_counted, none_out}
 use Rattle.iscsi_history.proofs.TraceLemmas.{filter-same, filter-true, weaker}
 use Rattle.iscsi_history.proofs.ApartLemmas.{eq_sym}
 use Rattle.iscsi_history.proofs.NewlyLemmas.{filter-twice, both_all}
 use Rattle.iscsi_history.proofs.CountLemmas.{fewer}
-use Rattle.iscsi_history.proofs.SetLemmas.{any_push, none_filtered, ticket_none, ticket_some, tickets}
+use Rattle.iscsi_history.proofs.SetLemmas.{any_push, none_filtered, tickets, gone_each, has_ticket_at, none_covered, none_found, one_gone, rising, some_covered, unlike_before}
 use Rattle.iscsi_history.proofs.NumberLemmas.{later_apart, none_above}
 
 -- ---- nothing is left to leave
@@ -40,10 +38,6 @@ pub leaves_none : (unit : ℕ) (covers : Task → Bool) (now : Members) → has_
 leaves_none unit covers now none = ap (map (λ (m : Member). Leave m.task.ticket unit)) (none_filtered (λ m. covers m.task) now.list none)
 
 -- ---- tickets go up along a set
-
-abbrev rising : List ℕ → Bool
-rising [] = true
-rising (t ∷ ts) = list_all (λ u. nat_lt t u) ts && rising ts
 
 later_in : (k unit : ℕ) (lives : List Live) → list_all (λ m. nat_lt k m.ticket) lives ≡ true → list_all (λ u. nat_lt k u) (tickets_in unit lives) ≡ true
 later_in k unit [] h = refl
@@ -78,47 +72,7 @@ ungiven_in-set [] unit new lt = absurd (omega arith)
 ungiven_in-set (x ∷ sets) zero new lt = omega arith
 ungiven_in-set (x ∷ sets) (suc unit) new lt = omega (arith, ungiven_in-set sets unit new (omega arith))
 
-pub none_found : (covers : Task → Bool) (ms : List Member) → find covers (map (λ (m : Member). m.task) ms) ≡ None → list_any (λ m. covers m.task) ms ≡ false
-none_found covers [] none = refl
-none_found covers (x ∷ ms) none =
-    elim (covers x.task) as (λ b. cond b (Some x.task) (find covers (map (λ (m : Member). m.task) ms)) ≡ None → (b || list_any (λ (m : Member). covers m.task) ms) ≡ false) [
-      | true ↦ λ here. absurd cc
-      | false ↦ λ later. none_found covers ms later
-    ] none
-
-some_covered : (covers : Task → Bool) (ms : List Member) (task : Task) → find covers (map (λ (m : Member). m.task) ms) ≡ Some task → list_any (λ m. covers m.task) ms ≡ true
-some_covered covers [] task found = absurd cc
-some_covered covers (x ∷ ms) task found =
-    elim (covers x.task) as (λ b. cond b (Some x.task) (find covers (map (λ (m : Member). m.task) ms)) ≡ Some task → (b || list_any (λ (m : Member). covers m.task) ms) ≡ true) [
-      | true ↦ λ here. refl
-      | false ↦ λ later. some_covered covers ms task later
-    ] found
-
 -- ---- who leaves, by tickets
-
-all_at : (p : ℕ → Bool) (ms : List Member) (k : ℕ) (d : Member) → list_all p (tickets ms) ≡ true → k < length ms → p (get_or ms k d).task.ticket ≡ true
-all_at p [] k d all lt = absurd (omega arith)
-all_at p (x ∷ ms) zero d all lt = (and_parts (p x.task.ticket) (list_all p (tickets ms)) all).0
-all_at p (x ∷ ms) (suc k) d all lt = all_at p ms k d (and_parts (p x.task.ticket) (list_all p (tickets ms)) all).1 (omega arith)
-
-none_covered : (covers : Task → Bool) (k : ℕ) (ms : List Member) → list_any (λ t. t == k) (tickets ms) ≡ false → list_any (λ m. m.task.ticket == k && covers m.task) ms ≡ false
-none_covered covers k [] h = refl
-none_covered covers k (x ∷ ms) h =
-    let parts = or_none (x.task.ticket == k) (list_any (λ t. t == k) (tickets ms)) h in
-    ap (λ b. (b && covers x.task) || list_any (λ m. m.task.ticket == k && covers m.task) ms) parts.0 ∙ none_covered covers k ms parts.1
-
--- a command is gone just where it is covered
-gone_each : (covers : Task → Bool) (ms : List Member) (k : ℕ) (d : Member) → rising (tickets ms) ≡ true → k < length ms → list_any (λ m. m.task.ticket == (get_or ms k d).task.ticket && covers m.task) ms ≡ covers (get_or ms k d).task
-gone_each covers [] k d up lt = absurd (omega arith)
-gone_each covers (x ∷ ms) zero d up lt =
-    let parts = and_parts (list_all (λ u. nat_lt x.task.ticket u) (tickets ms)) (rising (tickets ms)) up in
-    ap (λ b. (b && covers x.task) || list_any (λ m. m.task.ticket == x.task.ticket && covers m.task) ms) (eq-eqb x.task.ticket x.task.ticket refl)
-    ∙ ap (λ b. covers x.task || b) (none_covered covers x.task.ticket ms (none_above x.task.ticket (tickets ms) parts.0)) ∙ or_false (covers x.task)
-gone_each covers (x ∷ ms) (suc k) d up lt =
-    let parts = and_parts (list_all (λ u. nat_lt x.task.ticket u) (tickets ms)) (rising (tickets ms)) up in
-    let t : ℕ = (get_or ms k d).task.ticket in
-    let apart : (x.task.ticket == t) ≡ false = eq_sym x.task.ticket t ∙ later_apart x.task.ticket t (all_at (λ u. nat_lt x.task.ticket u) ms k d parts.0 (omega arith)) in
-    ap (λ b. (b && covers x.task) || list_any (λ m. m.task.ticket == t && covers m.task) ms) apart ∙ gone_each covers ms k d parts.1 (omega arith)
 
 tickets_staying : (covers : Task → Bool) (now : Members) → tickets_of (set_staying covers now) ≡ tickets (uncovered covers now.list)
 tickets_staying covers now =
@@ -211,27 +165,6 @@ ungiven_in-staying sets unit covers inside =
 abbrev pub upto : ℕ → Members → Members
 upto n now = record now { list = take n now.list }
 
--- what is told of a command, by whether it is covered
-pub told_at : (covers : Task → Bool) (ms : List Member) (k : ℕ) (d : Member) → k < length ms → option_and_then (λ t. ticket_if (covers t) t) (slice_get (map (λ (m : Member). m.task) ms) k) ≡ ticket_if (covers (get_or ms k d).task) (get_or ms k d).task
-told_at covers [] k d lt = absurd (omega arith)
-told_at covers (x ∷ ms) zero d lt = refl
-told_at covers (x ∷ ms) (suc k) d lt = told_at covers ms k d (omega arith)
-
-abbrev pub no_member : Member
-no_member = record { task = record { ticket = 0; conn = 0; itt = 0; attr = Simple; immediate = false; pos = pos 0; event = 0 }; enabled = false; given = false }
-
--- how a command of the set is told
-pub told_some : (cover : Cover) (now : Members) (at k : ℕ) (r : Option ℕ) → at < length now.list → r ≡ covered_at cover (tasks_in now) at → r ≡ Some k
-    → (is_covered cover (get_or now.list at no_member).task ≡ true) × ((get_or now.list at no_member).task.ticket ≡ k)
-told_some cover now at k r inside is some =
-    let task : Task = (get_or now.list at no_member).task in
-    ticket_some (is_covered cover task) task k (sym (told_at (is_covered cover) now.list at no_member inside) ∙ sym is ∙ some)
-
-pub told_none : (cover : Cover) (now : Members) (at : ℕ) (r : Option ℕ) → at < length now.list → r ≡ covered_at cover (tasks_in now) at → r ≡ None → is_covered cover (get_or now.list at no_member).task ≡ false
-told_none cover now at r inside is none =
-    let task : Task = (get_or now.list at no_member).task in
-    ticket_none (is_covered cover task) task (sym (told_at (is_covered cover) now.list at no_member inside) ∙ sym is ∙ none)
-
 pub without_shorter : (k : ℕ) (lives : List Live) → IsSome (find_ticket k lives) → length (without_ticket k lives) + 1 ≤ length lives
 without_shorter k lives there = by_found (find_ticket k lives) refl there
   where
@@ -257,21 +190,6 @@ some_found k (x ∷ lives) h = elim (x.ticket == k) as (λ b. (b || list_any (λ
   | true ↦ λ now. refl
   | false ↦ λ later. some_found k lives later
 ] h
-
-has_ticket_at : (ms : List Member) (k : ℕ) (d : Member) → k < length ms → list_any (λ u. u == (get_or ms k d).task.ticket) (tickets ms) ≡ true
-has_ticket_at [] k d lt = absurd (omega arith)
-has_ticket_at (x ∷ ms) zero d lt = or_first (x.task.ticket == x.task.ticket) (list_any (λ u. u == x.task.ticket) (tickets ms)) (eq-eqb x.task.ticket x.task.ticket refl)
-has_ticket_at (x ∷ ms) (suc k) d lt = or_second (x.task.ticket == (get_or ms k d).task.ticket) (list_any (λ u. u == (get_or ms k d).task.ticket) (tickets ms)) (has_ticket_at ms k d (omega arith))
-
--- none of those before it has its ticket
-unlike_before : (ms : List Member) (k : ℕ) (d : Member) → rising (tickets ms) ≡ true → k < length ms → list_any (λ u. u == (get_or ms k d).task.ticket) (tickets (take k ms)) ≡ false
-unlike_before [] k d up lt = absurd (omega arith)
-unlike_before (x ∷ ms) zero d up lt = refl
-unlike_before (x ∷ ms) (suc k) d up lt =
-    let parts = and_parts (list_all (λ u. nat_lt x.task.ticket u) (tickets ms)) (rising (tickets ms)) up in
-    let t : ℕ = (get_or ms k d).task.ticket in
-    ap (λ b. b || list_any (λ u. u == t) (tickets (take k ms))) (eq_sym x.task.ticket t ∙ later_apart x.task.ticket t (all_at (λ u. nat_lt x.task.ticket u) ms k d parts.0 (omega arith)))
-    ∙ unlike_before ms k d parts.1 (omega arith)
 
 module _ (now : Members) (unit : ℕ) (covers : Task → Bool) (lives : List Live) (at : ℕ) (d : Member) (inside : at < length now.list) where
   abbrev task : Task
@@ -359,21 +277,6 @@ one_there k now = by_task (with_ticket k (tasks_in now)) refl
 pub one_found : (k unit : ℕ) (now : Members) (lives : List Live) → tickets_of now ≡ tickets_in unit lives → has_covered (covers_ticket k) now ≡ true → IsSome (find_ticket k lives)
 one_found k unit now lives match has =
     some_found k lives (some_live k unit lives (ap (list_any (λ u. u == k)) (sym match) ∙ list_any-map (λ u. u == k) (λ (m : Member). m.task.ticket) now.list ∙ has))
-
-one_gone : (k j : ℕ) (ms : List Member) → list_any (λ m. m.task.ticket == j && m.task.ticket == k) ms ≡ (j == k && list_any (λ m. m.task.ticket == k) ms)
-one_gone k j [] = sym (and_false (j == k))
-one_gone k j (x ∷ ms) =
-    let has : Bool = list_any (λ (m : Member). m.task.ticket == k) ms in
-    let both : Bool = list_any (λ (m : Member). m.task.ticket == j && m.task.ticket == k) ms in
-    elim (x.task.ticket == k) as (λ b. (x.task.ticket == k) ≡ b → ((x.task.ticket == j && b) || both) ≡ (j == k && (b || has))) [
-      | true ↦ λ is. elim (j == k) as (λ b. (j == k) ≡ b → ((x.task.ticket == j && true) || both) ≡ (b && true)) [
-        | true ↦ λ same. ap (λ b. (b && true) || both) (eq-eqb x.task.ticket j (eqb-true x.task.ticket k is ∙ sym (eqb-true j k same)))
-        | false ↦ λ other.
-            ap (λ b. (b && true) || both) (ap (λ n. n == j) (eqb-true x.task.ticket k is) ∙ eq_sym k j ∙ other)
-            ∙ one_gone k j ms ∙ ap (λ b. b && has) other
-      ] refl
-      | false ↦ λ is. ap (λ b. b || both) (and_false (x.task.ticket == j)) ∙ one_gone k j ms
-    ] refl
 
 pub one_live : (k : ℕ) (now : Members) (lives : List Live) → cond (has_covered (covers_ticket k) now) (without_ticket k lives) lives ≡ staying (covers_ticket k) now lives
 one_live k now lives = sym (

@@ -1,7 +1,6 @@
 -- A Logout Request executes.
-use Rattle.std.proofs.Common.{eq-eqb, ◌≡◌, ℕ, ◌==◌, ◌&&◌, ◌||◌, not, cond, Bool, true, false, List, [], ◌∷◌, ◌++◌, map, filter, Option, Some, None, refl, ap, sym, subst, ◌∙◌, append_assoc}
+use Rattle.std.proofs.Common.{◌≡◌, ℕ, ◌==◌, ◌&&◌, ◌||◌, not, cond, Bool, true, false, List, [], ◌∷◌, ◌++◌, map, filter, Option, Some, None, refl, ap, sym, subst, ◌∙◌, append_assoc}
 use Rattle.std.specs.List.{list_any, list_all, filter_map, flat_map, cons_option}
-use Rattle.std.proofs.lemmas.Bool.{false≢true}
 use Rattle.iscsi_wire.specs.declared.reply.Reply.{Reply}
 use Rattle.iscsi_wire.specs.declared.reply.Reply.TheVariants.{Logout, Reject}
 use Rattle.iscsi_wire.specs.declared.request.Request.{Request}
@@ -26,60 +25,19 @@ use Rattle.iscsi_session.specs.private.Closing.{is_among_open, closing_by, units
 use Rattle.iscsi_history.proofs.MomentLemmas.{enables}
 use Rattle.iscsi_session.proofs.ReplyParts.{RepliesAgree-sent}
 use Rattle.iscsi_history.proofs.ListLemmas.{list_all-filter, list_any-map, filter-map, filtered_among}
-use Rattle.iscsi_history.proofs.BoolLemmas.{or_false, or_second, and_false}
+use Rattle.iscsi_history.proofs.BoolLemmas.{or_false}
 use Rattle.iscsi_history.proofs.TraceLemmas.{filter-same}
 use Rattle.iscsi_session.proofs.LoggedOutLemmas.{Keeps, left_keeps}
 use Rattle.iscsi_session.proofs.ExecutionLemmas.{Begun, Executed, answered}
 use Rattle.iscsi_history.proofs.DeliveryLemmas.{IsQuiet}
 use Rattle.iscsi_history.proofs.ApartLemmas.{eq_sym}
-use Rattle.iscsi_history.proofs.ClosingItems.{closed-same, closing_marks, quiet-closing}
+use Rattle.iscsi_history.proofs.ClosingItems.{closed-same, closing_marks, quiet-closing, emptied_any, emptied_sends, emptied_shown, emptied_waits, is_nil, last_is, left_any, left_sends, left_shown, left_waits, nil_is, none_open}
+use Rattle.iscsi_history.proofs.NewlyLemmas.{filter-twice}
 use Rattle.iscsi_session.proofs.EmptyingLemmas.{taken_requests, emptied_from-is}
 use Rattle.iscsi_session.proofs.LogoutSets.{closing_commands, emptied_marks, LogsOutAt, LogsOutAt-begun, commands-logged_out, sets-logged_out, unfinished-logged_out, enabled-logged_out, leaving-logged_out, enabling-logged_out, end_session-is, close_conn-is}
 use Rattle.iscsi_session.proofs.LogoutWindow.{logged_out_window, logged_out_arrivals}
 
--- ---- lists of such marks
-
-emptied_sends : (hs : List Arrival) (rest : List Mark) → filter_map sent_on (map Empties hs ++ rest) ≡ filter_map sent_on rest
-emptied_sends [] rest = refl
-emptied_sends (h ∷ hs) rest = emptied_sends hs rest
-
-left_sends : (cs : List Command) (rest : List Mark) → filter_map sent_on (map Leaves cs ++ rest) ≡ filter_map sent_on rest
-left_sends [] rest = refl
-left_sends (c ∷ cs) rest = left_sends cs rest
-
-emptied_waits : (hs : List Arrival) (rest : List Mark) (ws : List Arrival) → waiting_through (map Empties hs ++ rest) ws ≡ waiting_through rest ws
-emptied_waits [] rest ws = refl
-emptied_waits (h ∷ hs) rest ws = emptied_waits hs rest ws
-
-left_waits : (cs : List Command) (rest : List Mark) (ws : List Arrival) → waiting_through (map Leaves cs ++ rest) ws ≡ waiting_through rest ws
-left_waits [] rest ws = refl
-left_waits (c ∷ cs) rest ws = left_waits cs rest ws
-
-emptied_shown : (o : Setting) (t : Trace) (hs : List Arrival) (rest : List Mark) → flat_map (effects_of_mark o t) (map Empties hs ++ rest) ≡ map (λ (h : Arrival). Empty (wire h.number)) hs ++ flat_map (effects_of_mark o t) rest
-emptied_shown o t [] rest = refl
-emptied_shown o t (h ∷ hs) rest = ap (λ es. Empty (wire h.number) ∷ es) (emptied_shown o t hs rest)
-
-left_shown : (o : Setting) (t : Trace) (cs : List Command) (rest : List Mark) → flat_map (effects_of_mark o t) (map Leaves cs ++ rest) ≡ map (λ (c : Command). Leave c.ticket c.unit) cs ++ flat_map (effects_of_mark o t) rest
-left_shown o t [] rest = refl
-left_shown o t (c ∷ cs) rest = ap (λ es. Leave c.ticket c.unit ∷ es) (left_shown o t cs rest)
-
-emptied_any : (test : Mark → Bool) (hs : List Arrival) (rest : List Mark) → ((h : Arrival) → test (Empties h) ≡ false) → list_any test (map Empties hs ++ rest) ≡ list_any test rest
-emptied_any test [] rest none = refl
-emptied_any test (h ∷ hs) rest none = ap (λ b. b || list_any test (map Empties hs ++ rest)) (none h) ∙ emptied_any test hs rest none
-
-left_any : (test : Mark → Bool) (cs : List Command) (rest : List Mark) → ((c : Command) → test (Leaves c) ≡ false) → list_any test (map Leaves cs ++ rest) ≡ list_any test rest
-left_any test [] rest none = refl
-left_any test (c ∷ cs) rest none = ap (λ b. b || list_any test (map Leaves cs ++ rest)) (none c) ∙ left_any test cs rest none
-
 -- ---- what is open afterwards
-
-abbrev is_nil : List ℕ → Bool
-is_nil [] = true
-is_nil (c ∷ cs) = false
-
-nil_is : (cs : List ℕ) → is_nil cs ≡ true → cs ≡ []
-nil_is [] h = refl
-nil_is (c ∷ cs) h = absurd (false≢true h)
 
 closes_is : (cs : List ℕ) → session_closes cs ≡ cond (is_nil cs) (CloseSession ∷ []) []
 closes_is [] = refl
@@ -96,40 +54,6 @@ none_stay (c ∷ cids) = none_stay cids
 none_wait : (ws : List Waiting) → filter (λ w. not (is_asked None (connection_of w.request))) ws ≡ []
 none_wait [] = refl
 none_wait (w ∷ ws) = none_wait ws
-
-none_open : (o : Setting) (t : Trace) (cids : List ℕ) → ((c : ℕ) → is_closed c t ≡ true) → filter (is_open o t) cids ≡ []
-none_open o t [] all = refl
-none_open o t (c ∷ cids) all =
-    ap (λ b. cond b (c ∷ filter (is_open o t) cids) (filter (is_open o t) cids)) (ap (λ b. is_known c o.conns && not b) (all c) ∙ and_false (is_known c o.conns))
-    ∙ none_open o t cids all
-
-twice_filtered : (p q : ℕ → Bool) (cids : List ℕ) → filter p (filter q cids) ≡ filter (λ c. q c && p c) cids
-twice_filtered p q [] = refl
-twice_filtered p q (c ∷ cids) =
-    elim (q c) as (λ b. filter p (cond b (c ∷ filter q cids) (filter q cids)) ≡ cond (b && p c) (c ∷ filter (λ k. q k && p k) cids) (filter (λ k. q k && p k) cids)) [
-      | true ↦ elim (p c) as (λ v. cond v (c ∷ filter p (filter q cids)) (filter p (filter q cids)) ≡ cond v (c ∷ filter (λ k. q k && p k) cids) (filter (λ k. q k && p k) cids)) [
-        | true ↦ ap (λ xs. c ∷ xs) (twice_filtered p q cids)
-        | false ↦ twice_filtered p q cids
-      ]
-      | false ↦ twice_filtered p q cids
-    ]
-
--- none stays open but for the one that closes
-last_is : (o : Setting) (t : Trace) (closing : ℕ) (ds : List (ℕ × ℕ)) → ((k : ℕ) → is_known k ds ≡ true → is_known k o.conns ≡ true)
-    → is_nil (filter (λ k. is_open o t k && not (k == closing)) (map (λ (d : ℕ × ℕ). d.0) ds)) ≡ list_all (λ d. (d.0 == closing) || is_closed d.0 t) ds
-last_is o t closing [] within = refl
-last_is o t closing (d ∷ ds) within =
-    let rest : List ℕ = filter (λ k. is_open o t k && not (k == closing)) (map (λ (x : ℕ × ℕ). x.0) ds) in
-    let later = last_is o t closing ds (λ k known. within k (or_second (d.0 == k) (is_known k ds) known)) in
-    ap (λ b. is_nil (cond ((b && not (is_closed d.0 t)) && not (d.0 == closing)) (d.0 ∷ rest) rest)) (within d.0 (ap (λ b. b || is_known d.0 ds) (eq-eqb d.0 d.0 refl)))
-    ∙ by_tests (d.0 == closing) (is_closed d.0 t) rest later
-  where
-    by_tests : (here closed : Bool) (rest : List ℕ) → is_nil rest ≡ list_all (λ x. (x.0 == closing) || is_closed x.0 t) ds
-        → is_nil (cond (not closed && not here) (d.0 ∷ rest) rest) ≡ ((here || closed) && list_all (λ x. (x.0 == closing) || is_closed x.0 t) ds)
-    by_tests true true rest later = later
-    by_tests true false rest later = later
-    by_tests false true rest later = later
-    by_tests false false rest later = refl
 
 -- ---- a connection or the session is closed
 
@@ -196,7 +120,7 @@ module _ (o : Setting) (s : Core) (t : Trace) (m : Mark) (e : Effect) (a : Arriv
   last_open : (closing : ℕ) → is_nil (still_open (Some closing) s.open_conns) ≡ is_last_open o t₁ closing
   last_open closing =
       ap (λ cs. is_nil (still_open (Some closing) cs)) b.open_is
-      ∙ ap is_nil (twice_filtered (λ c. not (c == closing)) (is_open o t) cids)
+      ∙ ap is_nil (filter-twice (λ c. not (c == closing)) (is_open o t) cids)
       ∙ last_is o t closing o.conns (λ c known. known)
       ∙ all_same o.conns
     where
@@ -289,7 +213,7 @@ module _ (o : Setting) (s : Core) (t : Trace) (m : Mark) (e : Effect) (a : Arriv
       both_open false u c g = refl
 
       filtered : still_open (Some closing) (open_of o t) ≡ filter (λ c. is_open o t c && not (c == closing)) cids
-      filtered = twice_filtered (λ c. not (c == closing)) (is_open o t) cids
+      filtered = filter-twice (λ c. not (c == closing)) (is_open o t) cids
 
       by_last : (v : Bool) → is_last_open o t₁ closing ≡ v → still_open (Some closing) (open_of o t) ≡ open_of o (item ∷ t)
       by_last true is =

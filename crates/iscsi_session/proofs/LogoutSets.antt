@@ -1,7 +1,6 @@
 -- The live commands and the task sets after the commands of a Logout left, against what happened.
-use Rattle.std.proofs.Common.{◌≡◌, ℕ, ◌+◌, ◌<◌, ◌==◌, ◌&&◌, ◌||◌, not, cond, Bool, true, false, List, [], ◌∷◌, ◌++◌, length, map, filter, Option, Some, None, nat_lt, refl, ap, sym, subst, ◌∙◌, arith, eq-eqb, append_assoc}
+use Rattle.std.proofs.Common.{◌≡◌, ℕ, ◌<◌, ◌==◌, ◌&&◌, ◌||◌, not, cond, Bool, true, false, List, [], ◌∷◌, ◌++◌, length, map, filter, Option, Some, None, nat_lt, refl, ap, sym, subst, ◌∙◌, arith, append_assoc}
 use Rattle.std.specs.List.{list_any, list_all, filter_map, flat_map, range_with_len, cons_option}
-use Rattle.std.proofs.lemmas.Bool.Decides.{nat_tests}
 use Rattle.std.proofs.lemmas.List.{length-map}
 use Rattle.std.proofs.lemmas.List.Elements.{filter_map-append}
 use Rattle.std.proofs.lemmas.List.Folds.{list_any-append}
@@ -24,53 +23,23 @@ use Rattle.iscsi_session.specs.promises.Standing.{Core, task_of, member_of, set_
 use Rattle.iscsi_session.specs.private.Steps.{set_at, all_given, as_given, enable_effects}
 use Rattle.iscsi_session.specs.private.Functions.{is_gone, set_staying, leaving_effects}
 use Rattle.iscsi_session.specs.private.Closing.{units_of, covers_of, all_leaving_effects, left_to, all_enable_effects}
-use Rattle.iscsi_history.proofs.BoolLemmas.{and_parts, or_false, alike, alike_same}
-use Rattle.iscsi_history.proofs.ListLemmas.{list_any-map, list_all-filter, any_filter, any_flat_map, filter-map, any_in_range, flat_map_in_range, any_at, filter-flat_map, map-flat_map, none_out}
+use Rattle.iscsi_history.proofs.BoolLemmas.{or_false, alike, alike_same}
+use Rattle.iscsi_history.proofs.ListLemmas.{list_any-map, list_all-filter, any_filter, any_flat_map, filter-map, any_in_range, flat_map_in_range, filter-flat_map, map-flat_map, none_out}
 use Rattle.iscsi_history.proofs.TraceLemmas.{filter-same}
 use Rattle.iscsi_history.proofs.ApartLemmas.{unamong-filter}
 use Rattle.iscsi_history.proofs.NewlyLemmas.{filter_all, new_in, new_in-none}
 use Rattle.iscsi_session.proofs.EnabledLemmas.{set_of-same, noted_given, noted_effects}
 use Rattle.iscsi_history.proofs.MomentLemmas.{enables}
 use Rattle.iscsi_history.proofs.NewlyLemmas.{Untouched, live-untouched}
-use Rattle.iscsi_history.proofs.CommandItems.{LeavesSome, live_in-left}
+use Rattle.iscsi_history.proofs.CommandItems.{LeavesSome, live_in-left, among_passing, any_in_units, enters_only, leaves_only}
 use Rattle.iscsi_history.proofs.EnabledItems.{EnabledSoFar-left}
 use Rattle.iscsi_history.proofs.ClosingItems.{closing_marks, untouched-closing, untouched-emptied}
 use Rattle.iscsi_session.proofs.CommandParts.{CommandsAgree-left}
 use Rattle.iscsi_session.proofs.AgreeLemmas.{units_live}
 use Rattle.iscsi_session.proofs.ExecutionLemmas.{Begun}
-use Rattle.iscsi_session.proofs.LeavingLemmas.{numbered_live, gone_tickets, leaving_shown, among_passing, given_already, none_given}
+use Rattle.iscsi_session.proofs.LeavingLemmas.{numbered_live, gone_tickets, leaving_shown, given_already, none_given}
 use Rattle.iscsi_session.proofs.LoggedOutLemmas.{left_keeps}
 use Rattle.iscsi_session.proofs.LogoutUnits.{sets_left, gone_in, live_staying, effects_leaving, unfinished_left}
-
--- ---- lists
-
--- some command passes just where one of some unit does
-any_in_units : (p : Command → Bool) (n : ℕ) (cs : List Command) → list_all (λ c. nat_lt c.unit n) cs ≡ true → list_any (λ unit. list_any p (filter (λ (c : Command). c.unit == unit) cs)) (range_with_len 0 n) ≡ list_any p cs
-any_in_units p n [] inside = never (range_with_len 0 n)
-  where
-    never : (us : List ℕ) → list_any (λ unit. false) us ≡ false
-    never [] = refl
-    never (u ∷ us) = never us
-any_in_units p n (x ∷ cs) inside =
-    let parts = and_parts (nat_lt x.unit n) (list_all (λ c. nat_lt c.unit n) cs) inside in
-    let here : ℕ → Bool = λ unit. list_any p (filter (λ (c : Command). c.unit == unit) (x ∷ cs)) in
-    elim (p x) as (λ b. p x ≡ b → list_any here (range_with_len 0 n) ≡ (b || list_any p cs)) [
-      | true ↦ λ is. any_at here 0 n x.unit (omega arith) (below x.unit parts.0)
-          (ap (λ b. list_any p (cond b (x ∷ filter (λ (c : Command). c.unit == x.unit) cs) (filter (λ (c : Command). c.unit == x.unit) cs))) (eq-eqb x.unit x.unit refl)
-          ∙ ap (λ b. b || list_any p (filter (λ (c : Command). c.unit == x.unit) cs)) is)
-      | false ↦ λ is. any_in_range here (λ unit. list_any p (filter (λ (c : Command). c.unit == unit) cs)) 0 n (λ unit low high. without unit is) ∙ any_in_units p n cs parts.1
-    ] refl
-  where
-    below : (u : ℕ) → nat_lt u n ≡ true → u < 0 + n
-    below u test = let lt : u < n = grind (arith, nat_tests) in omega (arith, lt)
-
-    without : (unit : ℕ) → p x ≡ false → list_any p (filter (λ (c : Command). c.unit == unit) (x ∷ cs)) ≡ list_any p (filter (λ (c : Command). c.unit == unit) cs)
-    without unit is =
-        let rest : List Command = filter (λ (c : Command). c.unit == unit) cs in
-        elim (x.unit == unit) as (λ b. list_any p (cond b (x ∷ rest) rest) ≡ list_any p rest) [
-          | true ↦ ap (λ b. b || list_any p rest) is
-          | false ↦ refl
-        ]
 
 -- ---- the commands of a Logout
 
@@ -85,18 +54,6 @@ closing_commands o t scope = filter (λ (c : Command). is_asked scope (connectio
 covers_asked : (o : Setting) (scope : Option ℕ) (c : Command) → covers_of scope (task_of o c) ≡ asked_for scope c
 covers_asked o None c = refl
 covers_asked o (Some conn) c = refl
-
-leaves_only : (cs : List Command) (ms : List Mark) (k : ℕ) → list_any (leaves_ticket k) (map Leaves cs ++ ms) ≡ (is_among k cs || list_any (leaves_ticket k) ms)
-leaves_only [] ms k = refl
-leaves_only (c ∷ cs) ms k = ap (λ b. (c.ticket == k) || b) (leaves_only cs ms k) ∙ assoc (c.ticket == k) (is_among k cs) (list_any (leaves_ticket k) ms)
-  where
-    assoc : (a b d : Bool) → (a || (b || d)) ≡ ((a || b) || d)
-    assoc true b d = refl
-    assoc false b d = refl
-
-enters_only : (cs : List Command) (ms : List Mark) → filter_map enters (map Leaves cs ++ ms) ≡ filter_map enters ms
-enters_only [] ms = refl
-enters_only (c ∷ cs) ms = enters_only cs ms
 
 -- the set of a unit, after the covered ones left, and what its unit is told
 record SetLoggedOut (o : Setting) (t : Trace) (item : List Mark) (unit : ℕ) (set : Members) : Type 0 where

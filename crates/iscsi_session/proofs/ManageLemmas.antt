@@ -1,5 +1,5 @@
 -- What a session keeps when a request executes: its window, the functions that wait, and how many effects are to come.
-use Rattle.std.proofs.Common.{◌≡◌, ℕ, ℤ, zero, suc, ◌+◌, ◌-◌, ◌*◌, ◌<◌, ◌≤◌, ◌==◌, ◌&&◌, ◌||◌, not, cond, Bool, true, false, nat_lt, nat_le, List, [], ◌∷◌, ◌++◌, length, take, filter, find, get_or, set, count_by, position, is_some, Option, Some, None, option_map, subst, refl, ap, sym, ◌∙◌, ⊎_elim, arith, eq-eqb, length-set}
+use Rattle.std.proofs.Common.{◌≡◌, ℕ, ℤ, zero, suc, ◌+◌, ◌-◌, ◌*◌, ◌<◌, ◌≤◌, ◌==◌, ◌&&◌, ◌||◌, not, cond, Bool, true, false, nat_lt, nat_le, List, [], ◌∷◌, ◌++◌, length, take, filter, get_or, set, count_by, is_some, Option, Some, None, subst, refl, ap, sym, ◌∙◌, ⊎_elim, arith, eq-eqb, length-set}
 use Rattle.std.specs.List.{list_any, list_all}
 use Rattle.std.specs.Option.{option_flatten}
 use Rattle.std.proofs.lemmas.Bool.{false≢true, eqb-true, cases_lt}
@@ -41,37 +41,11 @@ use Rattle.iscsi_session.specs.private.Closing.{closing_by, closed_as}
 use Rattle.iscsi_session.proofs.LoggedOutLemmas.{Parts, closed_parts}
 use Rattle.iscsi_history.proofs.BoolLemmas.{and_first, and_second}
 use Rattle.iscsi_history.proofs.ListLemmas.{count_by-map, count_by-push, fewer_counted}
-use Rattle.iscsi_history.proofs.PlaceLemmas.{position-cons, taken_at, taken_fewer}
+use Rattle.iscsi_history.proofs.PlaceLemmas.{taken_at, taken_fewer}
 use Rattle.iscsi_history.proofs.CountLemmas.{at_most}
 use Rattle.iscsi_history.proofs.SetLemmas.{ungiven_given}
 use Rattle.iscsi_session.proofs.MissingLemmas.{inside_place}
 use Rattle.iscsi_session.proofs.WindowLemmas.{Changed, emptied_changes, voided_changes}
-
--- ---- what is found by its place
-
-pub found_there : {A : Type 0} (p : A → Bool) (xs : List A) (k : ℕ) (d : A) → position p xs ≡ Some k → find p xs ≡ Some (get_or xs k d)
-found_there p [] k d h = absurd cc
-found_there p (x ∷ xs) k d h =
-    elim (p x) as (λ b. cond b (Some 0) (option_map suc (position p xs)) ≡ Some k → cond b (Some x) (find p xs) ≡ Some (get_or (x ∷ xs) k d)) [
-      | true ↦ λ here. let same : 0 ≡ k = cc in ap (λ i. Some (get_or (x ∷ xs) i d)) same
-      | false ↦ λ there. later (position p xs) (λ j is. found_there p xs j d is) there
-    ] (sym (position-cons p x xs) ∙ h)
-  where
-    later : (y : Option ℕ) → ((j : ℕ) → y ≡ Some j → find p xs ≡ Some (get_or xs j d)) → option_map suc y ≡ Some k → find p xs ≡ Some (get_or (x ∷ xs) k d)
-    later None found said = absurd cc
-    later (Some j) found said = let same : suc j ≡ k = cc in found j refl ∙ ap (λ i. Some (get_or (x ∷ xs) i d)) same
-
-pub found_nowhere : {A : Type 0} (p : A → Bool) (xs : List A) → position p xs ≡ None → find p xs ≡ None
-found_nowhere p [] h = refl
-found_nowhere p (x ∷ xs) h =
-    elim (p x) as (λ b. cond b (Some 0) (option_map suc (position p xs)) ≡ None → cond b (Some x) (find p xs) ≡ None) [
-      | true ↦ λ here. absurd cc
-      | false ↦ λ there. later (position p xs) (λ is. found_nowhere p xs is) there
-    ] (sym (position-cons p x xs) ∙ h)
-  where
-    later : (y : Option ℕ) → (y ≡ None → find p xs ≡ None) → option_map suc y ≡ None → find p xs ≡ None
-    later None found said = found refl
-    later (Some j) found said = absurd cc
 
 -- ---- an offer
 

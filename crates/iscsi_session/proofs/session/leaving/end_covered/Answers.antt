@@ -6,6 +6,7 @@ use Rattle.iscsi_tasks.specs.Sets.{Members, tasks_in, is_covered, covered_at}
 use Rattle.iscsi_history.specs.declared.effect.Effect.{Effect}
 use Rattle.iscsi_history.specs.declared.effect.Effect.TheVariants.{Leave}
 use Rattle.iscsi_history.proofs.ListLemmas.{fewer_counted}
+use Rattle.iscsi_history.proofs.SetLemmas.{no_member, told_some, told_none}
 use Rattle.iscsi_connections.specs.Connected.{Connected}
 use Rattle.iscsi_commands.specs.declared.live.Live.{Live}
 use Rattle.iscsi_session.specs.private.Steps.{AreCounted, is_numbered, find_ticket, without_ticket}
@@ -13,7 +14,7 @@ use Rattle.iscsi_session.specs.promises.Standing.{are_ascending, are_known, tick
 use Rattle.iscsi_session.specs.private.Functions.{staying, finished_by, leaves, has_covered}
 use Rattle.iscsi_session.proofs.KeptLemmas.{ascending-kept}
 use Rattle.iscsi_session.proofs.ListLemmas.{are_known-left}
-use Rattle.iscsi_session.proofs.LeavingParts.{none_has, stay_none, leaves_none, finished_none, finished_on, upto, no_member, told_some, told_none, there_yet, passed_live, passed_leaves, more_live, more_leaves, without_shorter}
+use Rattle.iscsi_session.proofs.LeavingParts.{none_has, stay_none, leaves_none, finished_none, finished_on, upto, there_yet, passed_live, passed_leaves, more_live, more_leaves, without_shorter}
 use Rattle.iscsi_session.proofs.session.leaving.end_covered.Goals as goal
 
 -- where none may be covered, none is

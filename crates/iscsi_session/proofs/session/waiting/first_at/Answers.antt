@@ -1,5 +1,5 @@
 use Rattle.std.proofs.Common.{◌≡◌, ◌==◌, ◌∙◌, position, Some, None, sym}
-use Rattle.iscsi_session.proofs.ManageLemmas.{found_there, found_nowhere}
+use Rattle.iscsi_history.proofs.PlaceLemmas.{found_there, found_nowhere}
 use Rattle.iscsi_session.proofs.session.waiting.first_at.Goals as goal
 
 pub returns-in_err-at : goal.returns-in_err-at
