@@ -15,7 +15,7 @@ use Rattle.iscsi_session.specs.declared.outcome.Outcome.TheVariants.{Respond, Ab
 use Rattle.iscsi_commands.specs.declared.live.Live.{Live}
 use Rattle.iscsi_history.specs.rules.Settings.{Setting, is_known}
 use Rattle.iscsi_history.specs.rules.Trace.{Arrival, Command, Mark, Delivers, Executes, Voids, Empties, Leaves, Trace, contains, waiting, is_received, held, live, live_in}
-use Rattle.iscsi_history.specs.rules.Execution.{exp_of, max_of, unfinished}
+use Rattle.iscsi_history.specs.rules.Execution.{exp_of, max_of}
 use Rattle.iscsi_history.specs.rules.Management.{answer, live_with_tag, held_command, abort_missing, abort_task}
 use Rattle.iscsi_history.specs.rules.Agenda.{arrival_of}
 use Rattle.iscsi_session.specs.promises.Standing.{Core, task_of, kept, arrival_waiting, WindowAgrees, Agrees, Settled}

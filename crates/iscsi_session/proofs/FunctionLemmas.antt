@@ -30,7 +30,7 @@ use Rattle.iscsi_session.specs.declared.deferral.Deferral.TheVariants.{Now, Late
 use Rattle.iscsi_history.specs.declared.verdict.Verdict.{Verdict}
 use Rattle.iscsi_history.specs.declared.verdict.Verdict.TheVariants.{Nothing, Answer, Enter as EnterUnit}
 use Rattle.iscsi_history.specs.rules.Settings.{Setting, is_known}
-use Rattle.iscsi_history.specs.rules.Trace.{Arrival, Command, Mark, Executes, Delivers, Voids, Empties, Waits, Leaves, Trace, admits_at, shown, is_received, held, waiting, waiting_by, waiting_through, live, live_in, enters, leaves_ticket, sent_on}
+use Rattle.iscsi_history.specs.rules.Trace.{Arrival, Command, Mark, Executes, Delivers, Voids, Empties, Waits, Leaves, Trace, admits_at, is_received, held, waiting, waiting_by, waiting_through, live, live_in, enters, leaves_ticket, sent_on}
 use Rattle.iscsi_history.specs.rules.Execution.{exp_of, max_of, unit_named, reply_on, marks_of, verdict_of}
 use Rattle.iscsi_history.specs.rules.Management.{may_wait, waiting_on, refusal_to, refusal_of_function, answer, is_before, abort_all, abort_task, query, function_to, function_marks, management_marks}
 use Rattle.iscsi_history.specs.rules.Agenda.{arrival_of}

@@ -42,7 +42,6 @@ use Rattle.iscsi_session.proofs.LoggedOutLemmas.{Parts, closed_parts}
 use Rattle.iscsi_history.proofs.BoolLemmas.{and_first, and_second}
 use Rattle.iscsi_history.proofs.ListLemmas.{count_by-map, count_by-push, fewer_counted}
 use Rattle.iscsi_history.proofs.PlaceLemmas.{taken_at, taken_fewer}
-use Rattle.iscsi_history.proofs.CountLemmas.{at_most}
 use Rattle.iscsi_history.proofs.SetLemmas.{ungiven_given}
 use Rattle.iscsi_session.proofs.MissingLemmas.{inside_place}
 use Rattle.iscsi_session.proofs.WindowLemmas.{Changed, emptied_changes, voided_changes}

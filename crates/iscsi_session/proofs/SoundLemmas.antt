@@ -1,5 +1,5 @@
 -- What holds of every session holds on, where only some of its fields change.
-use Rattle.std.proofs.Common.{◌≡◌, ◌∙◌, ◌+◌, ◌<◌, ◌≤◌, ◌==◌, not, ap, sym, subst, arith, nat_lt, nat_le, length, filter, count_by, is_some, Bool, true, List, Option, Some, ℕ, All, cond, ◌&&◌, ◌++◌, [], ◌∷◌}
+use Rattle.std.proofs.Common.{◌≡◌, ◌∙◌, ◌+◌, ◌<◌, ◌≤◌, ◌==◌, not, ap, sym, subst, arith, nat_lt, nat_le, length, filter, count_by, is_some, Bool, true, List, Option, Some, ℕ, cond, ◌&&◌, ◌++◌, [], ◌∷◌}
 use Rattle.std.specs.List.{list_all}
 use Rattle.std.proofs.lemmas.List.Folds.{list_all-append}
 use Rattle.iscsi_wire.specs.Fields.{connection_of}

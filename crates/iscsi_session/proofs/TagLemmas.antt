@@ -1,5 +1,5 @@
 -- A live command is found by its tag, which no other one has.
-use Rattle.std.proofs.Common.{◌≡◌, ℕ, zero, suc, ◌<◌, ◌==◌, ◌||◌, ◌&&◌, cond, Bool, true, false, is_some, List, [], ◌∷◌, find, get_or, All, Option, Some, None, refl, ap, sym, ◌∙◌, arith, ne_eqb}
+use Rattle.std.proofs.Common.{◌≡◌, ℕ, zero, suc, ◌==◌, ◌||◌, ◌&&◌, cond, Bool, true, false, is_some, List, [], ◌∷◌, find, All, Option, Some, None, refl, ap, sym, ◌∙◌, arith, ne_eqb}
 use Rattle.std.specs.List.{list_any}
 use Rattle.std.proofs.lemmas.Bool.{eqb-true}
 use Rattle.std.proofs.lemmas.List.Elements.{All-head, All-tail}

@@ -1,4 +1,4 @@
-use Rattle.std.proofs.Common.{deque_capacity, vec_capacity, ◌+◌, [], rules, ℕ, ◌*◌, ◌≡◌, ◌≤◌, ◌∙◌, ap, sym, subst, arith, length, count_by, is_some, replicate, None, refl, nat_lt, get_or, List}
+use Rattle.std.proofs.Common.{vec_capacity, ◌+◌, [], rules, ℕ, ◌*◌, ◌≡◌, ◌≤◌, ◌∙◌, ap, sym, subst, arith, length, count_by, is_some, replicate, None, refl, nat_lt, get_or, List}
 use Rattle.std.specs.List.{list_all}
 use Rattle.iscsi_window.specs.Windows.{Received, opened}
 use Rattle.iscsi_tasks.specs.Sets.{Members, opened as opened_set}

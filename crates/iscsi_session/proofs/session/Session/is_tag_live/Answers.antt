@@ -1,4 +1,4 @@
-use Rattle.std.proofs.Common.{rules, ◌≡◌, ◌==◌, ◌∙◌, is_some, find, ap, sym}
+use Rattle.std.proofs.Common.{◌==◌, ◌∙◌, is_some, find, ap, sym}
 use Rattle.iscsi_commands.specs.declared.live.Live.{Live}
 use Rattle.iscsi_session.specs.promises.Standing.{Core}
 use Rattle.iscsi_session.proofs.TagLemmas.{any_found}
