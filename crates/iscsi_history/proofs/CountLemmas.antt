@@ -70,14 +70,6 @@ count-split p q (x ∷ xs) =
 
 -- ---- one element after the other
 
-pub few_counted : {A : Type 0} (p : A → Bool) (xs : List A) → count_by p xs ≤ length xs
-few_counted p [] = omega arith
-few_counted p (x ∷ xs) =
-    let is : count_by p (x ∷ xs) ≡ cond (p x) 1 0 + count_by p xs = sum_by-cons (λ y. cond (p y) 1 0) x xs in
-    let rest : count_by p xs ≤ length xs = few_counted p xs in
-    let one : cond (p x) 1 0 ≤ 1 = elim (p x) as (λ b. cond b 1 0 ≤ 1) [ true ↦ omega arith | false ↦ omega arith ] in
-    omega (arith, is, rest, one)
-
 -- one element more that counts
 pub count_set : {A : Type 0} (p : A → Bool) (ps : List A) (k : ℕ) (x d : A) → k < length ps → p (get_or ps k d) ≡ false → p x ≡ true → count_by p (set ps k x) ≡ count_by p ps + 1
 count_set p [] k x d lt before now = absurd (omega arith)

@@ -176,10 +176,6 @@ filter-swap p q (x ∷ xs) =
       ]
     ] refl
 
-pub all_map : {A B : Type 0} (p : B → Bool) (f : A → B) (xs : List A) → list_all p (map f xs) ≡ list_all (λ x. p (f x)) xs
-all_map p f [] = refl
-all_map p f (x ∷ xs) = ap (λ b. p (f x) && b) (all_map p f xs)
-
 -- what is found passes
 pub first_itself : {A : Type 0} (p : A → Bool) (xs : List A) (x : A) → first_of (filter p xs) ≡ Some x → p x ≡ true
 first_itself p [] x found = absurd cc

@@ -88,10 +88,6 @@ pub all_none : {A : Type 0} (p : Option A → Bool) (n : ℕ) → p None ≡ tru
 all_none p zero h = refl
 all_none p (suc n) h = ap (λ b. b && list_all p (replicate n None)) h ∙ all_none p n h
 
-pub replicate_more : {A : Type 0} (n : ℕ) (x : A) → replicate n x ++ x ∷ [] ≡ replicate (n + 1) x
-replicate_more zero x = refl
-replicate_more (suc n) x = ap (λ xs. x ∷ xs) (replicate_more n x) ∙ ap (λ m. replicate m x) (let z : suc (n + 1) ≡ suc n + 1 = omega arith in z)
-
 -- ---- the first place that passes
 
 pub position-cons : {A : Type 0} (p : A → Bool) (x : A) (xs : List A) → position p (x ∷ xs) ≡ cond (p x) (Some 0) (option_map suc (position p xs))

@@ -2,6 +2,7 @@
 use Rattle.std.proofs.Common.{◌≡◌, ℕ, ◌+◌, ◌-◌, ◌<◌, ◌==◌, true, List, [], ◌∷◌, ◌++◌, filter, find, Option, Some, None, is_some, refl, ap, sym, subst, ◌∙◌, arith, append_assoc}
 use Rattle.std.specs.List.{list_all}
 use Rattle.std.proofs.lemmas.List.{append-nil}
+use Rattle.std.proofs.lemmas.List.Folds.{list_all-map}
 use Rattle.iscsi_wire.specs.declared.request.Request.{Request}
 use Rattle.iscsi_wire.specs.Serial.{number_of_first}
 use Rattle.iscsi_window.specs.Windows.{number_expected, at_place, advanced_if}
@@ -20,7 +21,7 @@ use Rattle.iscsi_history.proofs.TraceLemmas.{after_items-append}
 use Rattle.iscsi_history.proofs.Missing.{expected_past}
 use Rattle.iscsi_session.proofs.WindowParts.{Next, next_request, Passed, passed_at, WindowAgrees-passed}
 use Rattle.iscsi_session.proofs.ArrivedLemmas.{ArrivalsAgree-passed}
-use Rattle.iscsi_history.proofs.ListLemmas.{list_all-filter, find-passes, all_map}
+use Rattle.iscsi_history.proofs.ListLemmas.{list_all-filter, find-passes}
 use Rattle.iscsi_history.proofs.ReceivedItems.{turn_receives_none, function_receives_none, functions_receive_none}
 use Rattle.iscsi_history.proofs.FlowItems.{agenda-halves, effects_of-append, same_exp, turns, turns-more}
 use Rattle.iscsi_session.proofs.WaitLemmas.{next_function, no_function}
@@ -79,7 +80,7 @@ Due-start o s₀ t₀ out₀ a = record { trace = t₀; agrees = a; same = refl;
 pub functions_at_receive_none : (o : Setting) (s : Core) (t : Trace) (n : ℕ) → Agrees o s t → received (after_items (functions_at o n t) t) ≡ received t
 functions_at_receive_none o s t n a =
     functions_receive_none o (filter (λ b. b.number == n) (waiting t)) t
-    (list_all-filter (λ (b : Arrival). b.number == n) (λ b. may_wait b.request) (waiting t) (ap (list_all (λ (b : Arrival). may_wait b.request)) a.waiting.list ∙ all_map (λ (b : Arrival). may_wait b.request) (arrival_waiting o.first) s.waiting ∙ a.waiting.may))
+    (list_all-filter (λ (b : Arrival). b.number == n) (λ b. may_wait b.request) (waiting t) (ap (list_all (λ (b : Arrival). may_wait b.request)) a.waiting.list ∙ list_all-map (λ (b : Arrival). may_wait b.request) (arrival_waiting o.first) s.waiting ∙ a.waiting.may))
 
 -- ---- what is left of the functions of the next number
 

@@ -1,5 +1,6 @@
 use Rattle.std.proofs.Common.{rules, ◌≡◌, ◌<◌, ◌≤◌, ◌+◌, ◌∙◌, ◌++◌, ◌∷◌, [], not, cond, false, List, Option, Some, None, drop, length, length-drop, subst, ap, sym, arith, is_some, count_by, ℕ}
 use Rattle.std.proofs.lemmas.List.{length_push}
+use Rattle.std.proofs.lemmas.List.Sums.{count_by-le-length as few_counted}
 use Rattle.iscsi_wire.specs.declared.request.Request.{Request}
 use Rattle.iscsi_wire.specs.Fields.{connection_of, is_immediate}
 use Rattle.iscsi_window.specs.Windows.{Received, at_place, advanced}
@@ -10,7 +11,6 @@ use Rattle.iscsi_session.specs.promises.Standing.{Core, is_held}
 use Rattle.iscsi_session.specs.private.Functions.{owed}
 use Rattle.iscsi_session.specs.private.Turning.{with_executed, executed_effects, with_advanced, turned_if, turn_effects}
 use Rattle.iscsi_history.proofs.BoolLemmas.{and_first, not_true}
-use Rattle.iscsi_history.proofs.CountLemmas.{few_counted}
 use Rattle.iscsi_session.proofs.WindowLemmas.{Advanced, advanced_at}
 use Rattle.iscsi_session.proofs.ManageLemmas.{Placed, placed_executed, waiting_executed}
 use Rattle.iscsi_session.proofs.SoundLemmas.{window_sound, advanced_sound, arrivals_sound}

@@ -1,8 +1,8 @@
 use Rattle.std.proofs.lemmas.List.{length-map}
 use Rattle.std.proofs.Common.{◌≡◌, ℕ, sym, ◌≤◌, ◌+◌, ◌*◌, ◌∙◌, ap, arith, length, count_by}
+use Rattle.std.proofs.lemmas.List.Sums.{count_by-le-length as few_counted}
 use Rattle.iscsi_session.specs.promises.Standing.{Core, is_held}
 use Rattle.iscsi_session.proofs.OpenLemmas.{bound_is}
-use Rattle.iscsi_history.proofs.CountLemmas.{few_counted}
 use Rattle.iscsi_session.proofs.CountLemmas.{few_live}
 use Rattle.iscsi_session.proofs.ManageLemmas.{few_waiting}
 use Rattle.iscsi_session.proofs.session.Session.effect_bound.Goals as goal

@@ -1,5 +1,6 @@
 use Rattle.std.proofs.Common.{rules, ◌≡◌, ◌<◌, ◌-◌, ◌&&◌, not, ◌+◌, ◌∙◌, ap, sym, subst, arith, length, length-set, count_by, is_some, List, Some, None, refl, true, ℕ}
 use Rattle.std.specs.List.{list_all}
+use Rattle.std.proofs.lemmas.List.Sums.{count_by-le-length as few_counted}
 use Rattle.iscsi_wire.specs.declared.request.Request.{Request}
 use Rattle.iscsi_wire.specs.Fields.{connection_of}
 use Rattle.iscsi_window.specs.declared.answer.Offer.TheVariants.{Held}
@@ -11,7 +12,7 @@ use Rattle.iscsi_session.proofs.ManageLemmas.{length-noted, unheld_same}
 use Rattle.iscsi_session.specs.private.Invariant.{IsWindowSound}
 use Rattle.iscsi_session.proofs.SoundLemmas.{window_sound, same_sound, arrivals_sound}
 use Rattle.iscsi_session.proofs.session.Session.offer.Goals as goal
-use Rattle.iscsi_history.proofs.CountLemmas.{few_counted, count_set}
+use Rattle.iscsi_history.proofs.CountLemmas.{count_set}
 use Rattle.iscsi_history.proofs.PlaceLemmas.{all_set}
 
 pub overflow_add-self : goal.overflow_add-self
