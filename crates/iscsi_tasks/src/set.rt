@@ -1,7 +1,7 @@
 //! The task set: its commands in the order in which they entered.
 
-ghost use Rattle.std.specs.Prelude.{Err, ◌≡◌, ◌+◌, ◌<◌, ◌≤◌, ◌⊎◌, ◌↔◌, List, [], ◌∷◌, length, filter, slice_index_or, Option, Some, false, All, IsTrue, IfOk, IfErr, OnOk, OnErr, if◌then◌else◌};
-ghost use Rattle.iscsi_tasks.specs.Sets.{tasks_in, opened, InOrder, IsNewest, entered_to, refused_by, left_by, with_ticket, with_tag, first_covered, is_covered, covered_at, set_staying, is_enabled_in, next_in, given_by, StaysFree};
+ghost use Rattle.std.specs.Prelude.{Err, ◌≡◌, ◌+◌, ◌<◌, ◌≤◌, ◌⊎◌, ◌↔◌, List, [], ◌∷◌, length, filter, slice_index_or, position, IsSome, Option, Some, false, All, IsTrue, IfOk, IfErr, OnOk, OnErr};
+ghost use Rattle.iscsi_tasks.specs.Sets.{tasks_in, opened, InOrder, IsNewest, entered_to, refused_by, left_by, with_ticket, with_tag, first_covered, is_covered, covered_at, set_staying, is_enabled_in, is_enabled_with, next_in, given_by, StaysFree};
 ghost use Rattle.iscsi_tasks.specs.Changes.{Change, Entered, Left, AllBelow, StandsFor, live, IsEnabled, next_after, after_giving, after_leaving, after_all_left};
 ghost use Rattle.iscsi_tasks.specs.Counted.{is_free_behind, covered_from_with, covered_from_after};
 
@@ -142,21 +142,16 @@ impl TaskSet {
         Some(self.take_out(at))
     }
 
-    /// The command with this ticket leaves, if it is enabled: whether it did. Otherwise nothing changes.
+    /// The command at this place, counted from the oldest, leaves.
     ///
-    /// It looks for the ticket once. What grows with the set is what grows for `leave`.
-    pub fn leave_enabled(&mut self, ticket: u64) -> bool
-        ensures answer { result ≡ is_enabled_in ticket self.old.list }
-        ensures state { self.new ≡ (if is_enabled_in ticket self.old.list
-            then left_by self.old (with_ticket ticket (tasks_in self.old)) else self.old) }
-        ensures stands { (h : List Change) → StandsFor self.old h →
-            (IsTrue result ↔ IsEnabled ticket h) × StandsFor self.new (if result then Left ticket ∷ h else h) }
+    /// What grows with the set is what grows for `leave`. It looks for no ticket.
+    pub fn leave_at(&mut self, place: u32) -> Task
+        requires { place < length self.old.list }
+        ensures answer { (d : Member) → result ≡ (slice_index_or self.old.list place d).task }
+        ensures state { self.new ≡ left_by self.old (Some result) }
+        ensures stands { (h : List Change) → StandsFor self.old h → StandsFor self.new (Left result.ticket ∷ h) }
     {
-        let Some(at) = enabled_place(&self.members, ticket) else {
-            return false;
-        };
-        self.take_out(at);
-        true
+        self.take_out(place as usize)
     }
 
     /// The oldest of the covered commands leaves. Where none is covered, nothing changes.
@@ -209,6 +204,15 @@ impl TaskSet {
         }
         remove_covered(&mut self.members, &mut self.counts, cover);
         self.covered_from = covered_from_after(self.covered_from, cover, &self.members);
+    }
+
+    /// The place of the command with this ticket, counted from the oldest, if it is in the set and enabled.
+    pub fn enabled_place(&self, ticket: u64) -> Option<u32>
+        ensures answer { result ≡ position (is_enabled_with ticket) self.now.list }
+        ensures since { (h : List Change) → StandsFor self.now h → IsSome result ↔ IsEnabled ticket h }
+    {
+        let at = enabled_place(&self.members, ticket)?;
+        Some(at as u32)
     }
 
     /// Whether a command with this ticket is in the set and enabled.
