@@ -197,7 +197,7 @@ held_before item t n h none found = by_tests (list_any (delivers_number n) item)
     by_tests false false false true k = absurd cc
     by_tests false false false false k = k
 
--- a window scope next number and length are the same
+-- a window whose next number and length are the same
 record SameFrame (w w' : Received) : Type 0 where
   expected : number_expected w' ≡ number_expected w
   long : length w'.places ≡ length w.places

@@ -1,6 +1,6 @@
 //! The task set: its commands in the order in which they entered.
 
-ghost use Rattle.std.specs.Prelude.{Err, ◌≡◌, ◌+◌, ◌<◌, ◌≤◌, ◌⊎◌, ◌↔◌, List, [], ◌∷◌, length, filter, slice_index_or, position, IsSome, Option, Some, false, All, IsTrue, IfOk, IfErr, OnOk, OnErr};
+ghost use Rattle.std.specs.Prelude.{Err, ◌≡◌, ◌+◌, ◌<◌, ◌≤◌, ◌⊎◌, ◌↔◌, List, [], ◌∷◌, length, filter, slice_index_or, position, IsSome, Option, Some, false, All, IsTrue, IfSome, IfOk, IfErr, OnOk, OnErr};
 ghost use Rattle.iscsi_tasks.specs.Sets.{tasks_in, opened, InOrder, IsNewest, entered_to, refused_by, left_by, with_ticket, with_tag, first_covered, is_covered, covered_at, set_staying, is_enabled_in, is_enabled_with, next_in, given_by, StaysFree};
 ghost use Rattle.iscsi_tasks.specs.Changes.{Change, Entered, Left, AllBelow, StandsFor, live, IsEnabled, next_after, after_giving, after_leaving, after_all_left};
 ghost use Rattle.iscsi_tasks.specs.Counted.{is_free_behind, covered_from_with, covered_from_after};
@@ -209,6 +209,8 @@ impl TaskSet {
     /// The place of the command with this ticket, counted from the oldest, if it is in the set and enabled.
     pub fn enabled_place(&self, ticket: u64) -> Option<u32>
         ensures answer { result ≡ position (is_enabled_with ticket) self.now.list }
+        ensures command { IfSome result (λ k. (k < length self.now.list) × ((d : Member) →
+            with_ticket ticket (tasks_in self.now) ≡ Some (slice_index_or self.now.list k d).task)) }
         ensures since { (h : List Change) → StandsFor self.now h → IsSome result ↔ IsEnabled ticket h }
     {
         let at = enabled_place(&self.members, ticket)?;
