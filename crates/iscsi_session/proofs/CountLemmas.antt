@@ -17,7 +17,7 @@ use Rattle.iscsi_session.proofs.ListLemmas.{cids-count_reply}
 
 -- ---- how many are live
 
--- those of the first connection are a carry_out_logout of all
+-- those of the first connection are a part of all
 first_part : (cid : ℕ) (lives : List Live) → count_by (λ l. l.immediate) lives ≡ immediate_in lives cid + count_by (λ l. l.immediate) (filter (λ l. not (l.conn == cid)) lives)
 first_part cid [] = refl
 first_part cid (x ∷ lives) =

@@ -155,7 +155,7 @@ module _ (o : Setting) (s : Core) (t : Trace) (m : Mark) (e : Effect) (a : Arriv
 
 -- ---- what an outcome makes of the session
 
--- a window scope next number and length are the same
+-- a window whose next number and length are the same
 record SameFrame (w w' : Received) : Type 0 where
   expected : number_expected w' ≡ number_expected w
   long : length w'.places ≡ length w.places

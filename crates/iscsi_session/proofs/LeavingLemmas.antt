@@ -83,7 +83,7 @@ module _ (o : Setting) (t : Trace) (old : Members) (unit : ℕ) (list_is : old.l
       either true false = refl
       either false v = refl
 
-  -- the members that stay are those scope tickets do
+  -- the members that stay are those whose tickets do
   pub staying_members : are_apart (live t) ≡ true → filter (λ m. not (covers m.task)) old.list ≡ filter (λ m. not (is_gone covers old m.task.ticket)) old.list
   staying_members apart =
       let here : List Command = live_in unit t in

@@ -42,3 +42,4 @@ pub mod ManageLemmas
 pub mod PaceLemmas
 pub mod OwedLemmas
 pub mod PromiseLemmas
+pub mod FoundLemmas

@@ -90,7 +90,7 @@ emptied_fewer scope (p ∷ ps) =
     less (Some None) = omega arith
     less (Some (Some r)) = elim (is_asked scope (connection_of r)) as (λ b. cond (is_held (let x : Option (Option Request) = cond b (Some None) (Some (Some r)) in x)) 1 0 ≤ 1) [ true ↦ omega arith | false ↦ omega arith ]
 
--- ---- the effects, one carry_out_logout after the other
+-- ---- the effects, one part after the other
 
 abbrev closing : Option ℕ → List ℕ → List Effect
 closing None conns = session_closes (still_open None conns)

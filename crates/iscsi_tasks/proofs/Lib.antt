@@ -12,3 +12,5 @@ pub mod CoverLemmas
 pub mod CoveredFromLemmas
 pub mod StayingLemmas
 pub mod AllLeftLemmas
+pub mod RosterLemmas
+pub mod KeepLemmas

@@ -1,6 +1,6 @@
 -- A command is found by its ticket, since tickets go up along the set.
-use Rattle.std.proofs.Common.{◌≡◌, ℕ, zero, suc, ◌<◌, ◌≤◌, ◌==◌, ◌&&◌, ◌≢◌, not, cond, Bool, true, false, List, [], ◌∷◌, length, map, filter, find, get_or, All, Some, None, Result, Ok, Err, option_map, slice_get, refl, ap, sym, ◌∙◌, arith, subst, ⊎_elim, ne_eqb, eq-eqb}
-use Rattle.std.specs.List.{remove, position_or_len}
+use Rattle.std.proofs.Common.{◌≡◌, ℕ, zero, suc, ◌<◌, ◌≤◌, ◌==◌, ◌&&◌, ◌≢◌, not, cond, Bool, true, false, List, [], ◌∷◌, length, map, filter, find, position, get_or, All, Option, Some, None, is_some, Result, Ok, Err, option_map, slice_get, refl, ap, sym, ◌∙◌, arith, subst, ⊎_elim, ne_eqb, eq-eqb}
+use Rattle.std.specs.List.{list_any, remove, position_or_len}
 use Rattle.std.specs.List.Sorted.{IsSearchInRange, IsBinarySearchResult, IsNonDecreasingBy}
 use Rattle.std.specs.Ordering.{nat_cmp, ordering_index}
 use Rattle.std.specs.Result.{result_ok}
@@ -12,26 +12,12 @@ use Rattle.std.proofs.lemmas.List.Folds.{find_at, list_any_at, list_any_none}
 use Rattle.std.proofs.lemmas.List.Elements.{All-head, All-tail}
 use Rattle.iscsi_tasks.specs.declared.member.Member.{Member}
 use Rattle.iscsi_tasks.specs.declared.task.Task.{Task}
-use Rattle.iscsi_tasks.specs.Sets.{Members, InOrder, without, is_enabled_in, with_ticket, tasks_in}
-use Rattle.iscsi_tasks.specs.Counted.{IsPlaceOf}
+use Rattle.iscsi_tasks.specs.Sets.{Members, InOrder, without, is_enabled_with, is_enabled_in, with_ticket, tasks_in}
+use Rattle.iscsi_tasks.specs.Rosters.{BLANK}
+use Rattle.iscsi_tasks.specs.Counted.{IsPlaceOf, IsEnabledPlace}
 use Rattle.iscsi_tasks.proofs.GivingLemmas.{InOrder-head, InOrder-tail}
 use Rattle.iscsi_tasks.proofs.ListLemmas.{find-map}
-use Rattle.iscsi_tasks.proofs.PlaceLemmas.{place_is}
-
-module _ (list : List Member) (order : InOrder list) (ticket : ℕ) where
-  -- the comparisons with the ticket rise along the set, as a binary search asks
-  comparisons_rise : IsNonDecreasingBy (λ m. ordering_index (nat_cmp m.task.ticket ticket)) list
-  comparisons_rise i j d le within =
-      let tickets_rise : (get_or list i d).task.ticket ≤ (get_or list j d).task.ticket =
-      ⊎_elim (λ same. subst (λ n. (get_or list i d).task.ticket ≤ (get_or list n d).task.ticket) same (omega arith)) (λ apart. let up : (get_or list i d).task.ticket < (get_or list j d).task.ticket = order i j d (omega arith) within in omega arith) (cases_eq i j) in
-      grind (arith, nat_tests)
-
-  pub searched : (r : Result ℕ ℕ) → IsSearchInRange r (length list) → IsBinarySearchResult (λ m. nat_cmp m.task.ticket ticket) list r → IsPlaceOf list ticket (result_ok r)
-  searched (Ok k) within equal = (within, λ d. ranked _ ticket _ (sym (equal d)))
-  searched (Err k) within parted = λ j d l. ⊎_elim
-      (λ below. let lower : (get_or list j d).task.ticket < ticket = ranked _ ticket _ (sym ((parted comparisons_rise).0 j d (omega arith) below)) in ne_eqb _ _ (λ e. omega arith))
-      (λ above. let higher : ticket < (get_or list j d).task.ticket = ranked _ ticket _ (sym ((parted comparisons_rise).1 j d above l)) in ne_eqb _ _ (λ e. omega arith))
-      (cases_lt j k)
+use Rattle.iscsi_tasks.proofs.PlaceLemmas.{place_is, no_place, position_of, position_none}
 
 -- ---- the command at a place
 
@@ -98,3 +84,22 @@ present_at s inside ticket at task same order place is =
     let order_here : InOrder s.list = subst (λ (x : Members). InOrder x.list) same order in
     let here : IsPlaceOf s.list ticket (Some at) = subst (λ (x : Members). IsPlaceOf x.list ticket (Some at)) same place in
     found s.list order_here ticket at here.0 here.1 d ∙ ap Some (sym (is d))
+
+-- a place is found where the command is enabled
+pub enabled_found : (list : List Member) (ticket : ℕ) (r : Option ℕ) → IsEnabledPlace list ticket r → is_some r ≡ is_enabled_in ticket list
+enabled_found list ticket None none = sym none
+enabled_found list ticket (Some k) found = sym found.1
+
+-- where no element passes, none at a place does
+none_passes : {X : Type 0} (p : X → Bool) (xs : List X) → list_any p xs ≡ false → (k : ℕ) (d : X) → k < length xs → p (get_or xs k d) ≡ false
+none_passes p xs none k d within = ⊎_elim (λ passes. absurd (let yes = list_any_at p xs k d within passes in cc)) (λ fails. fails) (cases_Bool (p (get_or xs k d)))
+
+-- and it is the first place where one is
+pub enabled_place_is : (list : List Member) (ticket : ℕ) (r : Option ℕ) → InOrder list → IsEnabledPlace list ticket r → r ≡ position (is_enabled_with ticket) list
+enabled_place_is list ticket None order off = position_none (is_enabled_with ticket) list (no_place (is_enabled_with ticket) list (λ j d l. none_passes (is_enabled_with ticket) list off j d l))
+enabled_place_is list ticket (Some k) order found =
+    let d : Member = BLANK in
+    let is : (get_or list k d).enabled ≡ true = enabled_at list order ticket k found.0.0 found.0.1 d ∙ found.1 in
+    position_of (is_enabled_with ticket) list k
+    (place_is (is_enabled_with ticket) list k d found.0.0 (λ j l. and_left _ _ (apart list order ticket k found.0.0 found.0.1 j d (omega arith) (λ e. omega arith))) (and_from _ _ (eq-eqb _ _ (found.0.1 d)) is))
+    found.0.0

@@ -1,5 +1,5 @@
 -- What a set keeps beside its commands, so that none of them is tested again.
-use Rattle.std.specs.Prelude.{◌≡◌, ℕ, ℤ, pos, ◌+ℤ◌, int_lt, map, ◌+◌, ◌-◌, ◌^◌, ◌<◌, ◌≤◌, ◌==◌, ◌&&◌, ◌||◌, not, max, min, nat_lt, Bool, true, false, List, length, All, slice_index_or, count_by, Option, MatchOption, if◌then◌else◌}
+use Rattle.std.specs.Prelude.{◌≡◌, ℕ, ℤ, pos, ◌+ℤ◌, int_lt, map, ◌+◌, ◌-◌, ◌^◌, ◌<◌, ◌≤◌, ◌==◌, ◌&&◌, ◌||◌, not, max, min, nat_lt, Bool, true, false, List, length, All, slice_index_or, count_by, Option, Some, MatchOption, if◌then◌else◌}
 use Rattle.std.specs.Int.{int_min}
 use Rattle.std.specs.List.{position_or_len, fold}
 use Rattle.iscsi_tasks.specs.declared.task.Attr.{Attr}
@@ -9,7 +9,7 @@ use Rattle.iscsi_tasks.specs.declared.cover.Cover.{Cover}
 use Rattle.iscsi_tasks.specs.declared.cover.Cover.TheVariants.{All as AllOfThem, Conn, Below}
 use Rattle.iscsi_tasks.specs.declared.member.Member.{Member}
 use Rattle.iscsi_tasks.specs.declared.counts.Counts.{Counts}
-use Rattle.iscsi_tasks.specs.Sets.{is_head_of, is_ordered_of, is_new, is_covered, InOrder, is_free_among}
+use Rattle.iscsi_tasks.specs.Sets.{is_head_of, is_ordered_of, is_new, is_covered, is_enabled_in, InOrder, is_free_among}
 
 abbrev pub is_head_in : Member → Bool
 is_head_in m = is_head_of m.task.attr
@@ -20,6 +20,10 @@ is_ordered_in m = is_ordered_of m.task.attr
 -- the place of the command with this ticket, or none
 abbrev pub IsPlaceOf : List Member → ℕ → Option ℕ → Type 0
 IsPlaceOf list ticket r = MatchOption r (All (λ m. (m.task.ticket == ticket) ≡ false) list) (λ k. (k < length list) × ((d : Member) → (slice_index_or list k d).task.ticket ≡ ticket))
+
+-- the same, of one that is enabled
+abbrev pub IsEnabledPlace : List Member → ℕ → Option ℕ → Type 0
+IsEnabledPlace list ticket r = MatchOption r (is_enabled_in ticket list ≡ false) (λ k. IsPlaceOf list ticket (Some k) × (is_enabled_in ticket list ≡ true))
 
 -- a HEAD OF QUEUE command is enabled
 abbrev pub AreHeadsEnabled : List Member → Type 0

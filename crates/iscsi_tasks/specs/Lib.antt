@@ -2,3 +2,4 @@ pub mod Rules
 pub mod Sets
 pub mod Changes
 pub mod Counted
+pub mod Rosters

@@ -102,8 +102,11 @@ set_staying covers set =
 
 -- ---- enabled commands
 
+abbrev pub is_enabled_with : ℕ → Member → Bool
+is_enabled_with ticket m = m.task.ticket == ticket && m.enabled
+
 abbrev pub is_enabled_in : ℕ → List Member → Bool
-is_enabled_in ticket list = list_any (λ m. m.task.ticket == ticket && m.enabled) list
+is_enabled_in ticket list = list_any (is_enabled_with ticket) list
 
 -- it is enabled, and wasn't given yet
 abbrev pub is_new : Member → Bool

@@ -9,6 +9,7 @@ mod cover;
 mod fault;
 mod member;
 mod queue;
+mod roster;
 mod set;
 mod task;
 

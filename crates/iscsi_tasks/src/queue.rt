@@ -2,92 +2,131 @@
 
 ghost use Rattle.std.specs.Prelude.{◌≡◌, ℕ, ◌+◌, ◌<◌, ◌≤◌, ◌==◌, [], ◌∷◌, ◌++◌, map, take, drop, length, position, slice_index_or, find, option_map, option_and_then, slice_get, All, true, false};
 ghost use Rattle.std.specs.List.{position_or_len, remove};
-ghost use Rattle.std.specs.VecDeque.{deque_len, deque_capacity};
 ghost use Rattle.iscsi_tasks.specs.Sets.{InOrder, after_moment, is_head_of, is_covered, is_new, next_in, given_in, uncovered, list_staying, ticket_if};
-ghost use Rattle.iscsi_tasks.specs.Counted.{IsPlaceOf, IsCounted, AreHeadsEnabled, is_ordered_in, free_to, enabled_now, covered_from_in};
+ghost use Rattle.iscsi_tasks.specs.Counted.{IsPlaceOf, IsEnabledPlace, IsCounted, AreHeadsEnabled, is_ordered_in, free_to, enabled_now, covered_from_in};
 
 use crate::counts::{Counts, shifted_by};
 use crate::cover::Cover;
 use crate::member::Member;
+use crate::roster::Roster;
 use crate::task::Task;
-use std::collections::VecDeque;
-
-/// The commands of a set, oldest first.
-pub(crate) type Queue = VecDeque<Member>;
 
 /// Where the command with this ticket is.
-pub(crate) fn place_of(members: &Queue, ticket: u64) -> Option<usize>
+pub(crate) fn place_of(members: &Roster, ticket: u64) -> Option<usize>
     requires { InOrder members.now.items }
     ensures { IsPlaceOf members.now.items ticket result }
 {
     if is_first(members, ticket) {
         return Some(0);
     }
-    members
-        .binary_search_by_key(&ticket, |m| m.task.ticket)
-        .ok()
-}
-
-/// Whether the oldest command has this ticket, as most that leave have.
-fn is_first(members: &Queue, ticket: u64) -> bool
-    ensures { result ≡ true → (0 < length members.now.items)
-        × ((d : Member) → (slice_index_or members.now.items 0 d).task.ticket ≡ ticket) }
-{
-    match members.front() {
-        Some(member) => member.task.ticket == ticket,
-        None => false,
+    let at = first_from(members, ticket);
+    if at < members.len() && members.at(at).task.ticket == ticket {
+        Some(at)
+    } else {
+        None
     }
 }
 
+/// The place of the command with this ticket, if it is enabled.
+pub(crate) fn enabled_place(members: &Roster, ticket: u64) -> Option<usize>
+    requires { InOrder members.now.items }
+    ensures { IsEnabledPlace members.now.items ticket result }
+{
+    let at = place_of(members, ticket)?;
+    if members.at(at).enabled {
+        Some(at)
+    } else {
+        None
+    }
+}
+
+/// How many commands have a lower ticket, by binary search.
+fn first_from(members: &Roster, ticket: u64) -> usize
+    requires { InOrder members.now.items }
+    ensures within { result ≤ length members.now.items }
+    ensures below { (k : ℕ) (d : Member) → k < result → (slice_index_or members.now.items k d).task.ticket < ticket }
+    ensures above { (k : ℕ) (d : Member) → result ≤ k → k < length members.now.items →
+        ticket ≤ (slice_index_or members.now.items k d).task.ticket }
+{
+    let mut low = 0;
+    let mut high = members.len();
+    while low < high {
+        let middle = low + (high - low) / 2;
+        if members.at(middle).task.ticket < ticket {
+            low = middle + 1;
+        } else {
+            high = middle;
+        }
+    }
+    low
+}
+
+/// Whether the oldest command has this ticket, as most that leave have.
+fn is_first(members: &Roster, ticket: u64) -> bool
+    ensures { result ≡ true → (0 < length members.now.items)
+        × ((d : Member) → (slice_index_or members.now.items 0 d).task.ticket ≡ ticket) }
+{
+    members.len() > 0 && members.at(0).task.ticket == ticket
+}
+
 /// The oldest command with this tag. It looks along the set.
-pub(crate) fn with_tag(members: &Queue, itt: u32) -> Option<Task>
+pub(crate) fn with_tag(members: &Roster, itt: u32) -> Option<Task>
     ensures { result ≡ option_map (λ m. m.task) (find (λ m. m.task.itt == itt) members.now.items) }
 {
-    let member = members.iter().find(|m| m.task.itt == itt)?;
-    Some(member.task)
+    for k in 0..members.len() {
+        let task = members.at(k).task;
+        if task.itt == itt {
+            return Some(task);
+        }
+    }
+    None
 }
 
 /// The place of the oldest command that is covered. It looks along the set.
-pub(crate) fn first_covered(members: &Queue, cover: &Cover) -> Option<usize>
+pub(crate) fn first_covered(members: &Roster, cover: &Cover) -> Option<usize>
     ensures { result ≡ position (λ m. is_covered cover.now m.task) members.now.items }
 {
-    members.iter().position(|m| cover.covers(&m.task))
+    for place in 0..members.len() {
+        if cover.covers(&members.at(place).task) {
+            return Some(place);
+        }
+    }
+    None
 }
 
 /// The ticket of the command at this place, if it is covered.
-pub(crate) fn covered_at(members: &Queue, at: usize, cover: &Cover) -> Option<u64>
+pub(crate) fn covered_at(members: &Roster, at: usize, cover: &Cover) -> Option<u64>
     ensures { result ≡ option_and_then (λ m. ticket_if (is_covered cover.now m.task) m.task)
         (slice_get members.now.items at) }
 {
-    let member = members.get(at)?;
-    if cover.covers(&member.task) {
-        Some(member.task.ticket)
+    if at < members.len() && cover.covers(&members.at(at).task) {
+        Some(members.at(at).task.ticket)
     } else {
         None
     }
 }
 
 /// From which number on functions may cover one of the commands. It looks at each of them.
-pub(crate) fn covered_from_in(members: &Queue) -> i64
+pub(crate) fn covered_from_in(members: &Roster) -> i64
     ensures { result ≡ covered_from_in members.now.items }
 {
     let mut least = i64::MAX;
     for k in 0..members.len() {
-        least = least.min(members[k].task.covered_from());
+        least = least.min(members.at(k).task.covered_from());
     }
     least
 }
 
 /// The command enters behind all others.
-pub(crate) fn push(members: &mut Queue, counts: &mut Counts, task: Task, enabled: bool)
+pub(crate) fn push(members: &mut Roster, counts: &mut Counts, task: Task, enabled: bool)
     requires counted { IsCounted counts.old members.old.items }
     requires len { length members.old.items < 1024 }
-    requires room { deque_len members.old < deque_capacity members.old }
+    requires room { length members.old.items < members.old.room }
     requires newest { All (λ m. m.task.ticket < task.ticket) members.old.items }
     requires head { is_head_of task.attr ≡ true → enabled ≡ true }
     ensures items { members.new.items ≡ members.old.items ++ record { task = task; enabled = enabled; given = false }
         ∷ [] }
-    ensures capacity { deque_capacity members.new ≡ deque_capacity members.old }
+    ensures room { members.new.room ≡ members.old.room }
     ensures counted { IsCounted counts.new members.new.items }
 {
     let member = Member {
@@ -96,42 +135,29 @@ pub(crate) fn push(members: &mut Queue, counts: &mut Counts, task: Task, enabled
         given: false,
     };
     *counts = counts.with_last(members.len(), &member);
-    members.push_back_reserved(member);
+    members.push(member);
 }
 
-/// The command at this place leaves. The later ones close up, or the earlier ones where they are fewer.
-pub(crate) fn remove(members: &mut Queue, counts: &mut Counts, at: usize)
+/// The command at this place leaves. The later ones close up.
+pub(crate) fn remove(members: &mut Roster, counts: &mut Counts, at: usize)
     requires counted { IsCounted counts.old members.old.items }
     requires at { at < length members.old.items }
     ensures items { members.new.items ≡ remove members.old.items at }
-    ensures capacity { deque_capacity members.new ≡ deque_capacity members.old }
+    ensures room { members.new.room ≡ members.old.room }
     ensures counted { IsCounted counts.new members.new.items }
 {
-    let attr = members[at].task.attr;
-    take_out(members, at);
+    let attr = members.at(at).task.attr;
+    members.remove(at);
     let ordered_at = next_ordered(members, shifted_by(at, counts.ordered_at));
     *counts = counts.without(at, attr, ordered_at);
 }
 
-/// Takes a command out. The oldest one, which most that leave are, moves no other.
-fn take_out(members: &mut Queue, at: usize)
-    requires { at < length members.old.items }
-    ensures items { members.new.items ≡ remove members.old.items at }
-    ensures capacity { deque_capacity members.new ≡ deque_capacity members.old }
-{
-    if at == 0 {
-        members.pop_front();
-    } else {
-        members.remove(at);
-    }
-}
-
 /// The covered commands leave, all of them before one moment. The later ones close up.
-pub(crate) fn remove_covered(members: &mut Queue, counts: &mut Counts, cover: &Cover)
+pub(crate) fn remove_covered(members: &mut Roster, counts: &mut Counts, cover: &Cover)
     requires counted { IsCounted counts.old members.old.items }
     requires len { length members.old.items ≤ 1024 }
     ensures items { members.new.items ≡ list_staying (is_covered cover.now) members.old.items }
-    ensures capacity { deque_capacity members.new ≡ deque_capacity members.old }
+    ensures room { members.new.room ≡ members.old.room }
     ensures counted { IsCounted counts.new members.new.items }
 {
     let len = members.len();
@@ -143,16 +169,22 @@ pub(crate) fn remove_covered(members: &mut Queue, counts: &mut Counts, cover: &C
     enable_free(members, counts);
 }
 
-/// The commands that aren't covered stay.
-fn keep_uncovered(members: &mut Queue, cover: &Cover)
+/// The commands that aren't covered stay. Those that leave do so from the youngest on.
+fn keep_uncovered(members: &mut Roster, cover: &Cover)
     ensures items { members.new.items ≡ uncovered (is_covered cover.now) members.old.items }
-    ensures capacity { deque_capacity members.new ≡ deque_capacity members.old }
+    ensures room { members.new.room ≡ members.old.room }
 {
-    members.retain(|m| !cover.covers(&m.task));
+    let mut k = members.len();
+    while k > 0 {
+        k -= 1;
+        if cover.covers(&members.at(k).task) {
+            members.remove(k);
+        }
+    }
 }
 
 /// The counts of these commands. It looks at each of them.
-fn counts_of(members: &Queue) -> Counts
+fn counts_of(members: &Roster) -> Counts
     requires order { InOrder members.now.items }
     requires heads { AreHeadsEnabled members.now.items }
     requires len { length members.now.items ≤ 1024 }
@@ -160,19 +192,19 @@ fn counts_of(members: &Queue) -> Counts
 {
     let mut counts = Counts::new();
     for k in 0..members.len() {
-        counts = counts.with_last(k, &members[k]);
+        counts = counts.with_last(k, members.at(k));
     }
     counts
 }
 
 /// The place of the oldest ORDERED command, none of which is before place `from`.
-fn next_ordered(members: &Queue, from: usize) -> usize
+fn next_ordered(members: &Roster, from: usize) -> usize
     requires from { from ≤ length members.now.items }
     requires before { (k : ℕ) (d : Member) → k < from → is_ordered_in (slice_index_or members.now.items k d) ≡ false }
     ensures { result ≡ position_or_len is_ordered_in members.now.items }
 {
     for k in from..members.len() {
-        if members[k].task.attr.is_ordered() {
+        if members.at(k).task.attr.is_ordered() {
             return k;
         }
     }
@@ -180,10 +212,10 @@ fn next_ordered(members: &Queue, from: usize) -> usize
 }
 
 /// Enables the commands that became free as another one left.
-pub(crate) fn enable_free(members: &mut Queue, counts: &mut Counts)
+pub(crate) fn enable_free(members: &mut Roster, counts: &mut Counts)
     requires { IsCounted counts.old members.old.items }
     ensures items { members.new.items ≡ after_moment members.old.items }
-    ensures capacity { deque_capacity members.new ≡ deque_capacity members.old }
+    ensures room { members.new.room ≡ members.old.room }
     ensures counted { IsCounted counts.new members.new.items }
 {
     if counts.heads > 0 {
@@ -198,24 +230,26 @@ pub(crate) fn enable_free(members: &mut Queue, counts: &mut Counts)
 }
 
 /// Enables the commands up to place `to`, of which those before place `from` are enabled.
-fn enable(members: &mut Queue, from: usize, to: usize)
+fn enable(members: &mut Roster, from: usize, to: usize)
     requires from { from ≤ to }
     requires to { to ≤ length members.old.items }
     requires enabled { (k : ℕ) (d : Member) → k < from → (slice_index_or members.old.items k d).enabled ≡ true }
     ensures items { members.new.items ≡ map enabled_now (take to members.old.items) ++ drop to members.old.items }
-    ensures capacity { deque_capacity members.new ≡ deque_capacity members.old }
+    ensures room { members.new.room ≡ members.old.room }
 {
     for k in from..to {
-        members[k].enabled = true;
+        let mut member = *members.at(k);
+        member.enabled = true;
+        members.set(k, member);
     }
 }
 
 /// Gives the oldest ticket that is enabled and wasn't given before.
-pub(crate) fn give_next(members: &mut Queue, counts: &mut Counts) -> Option<u64>
+pub(crate) fn give_next(members: &mut Roster, counts: &mut Counts) -> Option<u64>
     requires { IsCounted counts.old members.old.items }
     ensures ticket { result ≡ next_in members.old.items }
     ensures items { members.new.items ≡ given_in members.old.items }
-    ensures capacity { deque_capacity members.new ≡ deque_capacity members.old }
+    ensures room { members.new.room ≡ members.old.room }
     ensures counted { IsCounted counts.new members.new.items }
     // Once there is none, no place is looked at again until a command is enabled.
     ensures none { result ≡ None → counts.new.new_from ≡ counts.new.new_to }
@@ -225,20 +259,22 @@ pub(crate) fn give_next(members: &mut Queue, counts: &mut Counts) -> Option<u64>
         return None;
     };
     counts.new_from = k + 1;
-    members[k].given = true;
-    Some(members[k].task.ticket)
+    let mut member = *members.at(k);
+    member.given = true;
+    members.set(k, member);
+    Some(member.task.ticket)
 }
 
 /// The place of the oldest command that is enabled and wasn't given, all of which are from place `from` on and before
 /// place `to`.
-fn first_new(members: &Queue, from: usize, to: usize) -> Option<usize>
+fn first_new(members: &Roster, from: usize, to: usize) -> Option<usize>
     requires to { to ≤ length members.now.items }
     requires new { (k : ℕ) (d : Member) → k < length members.now.items →
         is_new (slice_index_or members.now.items k d) ≡ true → (from ≤ k) × (k < to) }
     ensures { result ≡ position is_new members.now.items }
 {
     for k in from..to {
-        if members[k].is_new() {
+        if members.at(k).is_new() {
             return Some(k);
         }
     }

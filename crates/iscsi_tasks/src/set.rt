@@ -1,8 +1,8 @@
 //! The task set: its commands in the order in which they entered.
 
-ghost use Rattle.std.specs.Prelude.{Err, ◌≡◌, ◌+◌, ◌<◌, ◌≤◌, ◌⊎◌, ◌↔◌, List, [], ◌∷◌, length, filter, slice_index_or, Option, Some, false, All, IsTrue, IfOk, IfErr, OnOk, OnErr};
-ghost use Rattle.iscsi_tasks.specs.Sets.{tasks_in, opened, InOrder, IsNewest, entered_to, refused_by, left_by, with_ticket, with_tag, first_covered, is_covered, covered_at, set_staying, is_enabled_in, next_in, given_by, StaysFree};
-ghost use Rattle.iscsi_tasks.specs.Changes.{Change, Entered, AllBelow, StandsFor, live, IsEnabled, next_after, after_giving, after_leaving, after_all_left};
+ghost use Rattle.std.specs.Prelude.{Err, ◌≡◌, ◌+◌, ◌<◌, ◌≤◌, ◌⊎◌, ◌↔◌, List, [], ◌∷◌, length, filter, slice_index_or, position, IsSome, Option, Some, false, All, IsTrue, IfSome, IfOk, IfErr, OnOk, OnErr};
+ghost use Rattle.iscsi_tasks.specs.Sets.{tasks_in, opened, InOrder, IsNewest, entered_to, refused_by, left_by, with_ticket, with_tag, first_covered, is_covered, covered_at, set_staying, is_enabled_in, is_enabled_with, next_in, given_by, StaysFree};
+ghost use Rattle.iscsi_tasks.specs.Changes.{Change, Entered, Left, AllBelow, StandsFor, live, IsEnabled, next_after, after_giving, after_leaving, after_all_left};
 ghost use Rattle.iscsi_tasks.specs.Counted.{is_free_behind, covered_from_with, covered_from_after};
 
 use crate::counts::Counts;
@@ -10,9 +10,10 @@ use crate::cover::Cover;
 use crate::fault::TaskFault;
 use crate::member::Member;
 use crate::queue::{
-    Queue, covered_at, covered_from_in, enable_free, first_covered, give_next, place_of, push,
-    remove, remove_covered, with_tag,
+    covered_at, covered_from_in, enable_free, enabled_place, first_covered, give_next, place_of,
+    push, remove, remove_covered, with_tag,
 };
+use crate::roster::Roster;
 use crate::task::{Attr, Task};
 use std::alloc::Global;
 use std::marker::Model;
@@ -41,12 +42,11 @@ pub struct TaskSet {
     /// No function with a number below this one covers a command of the set.
     covered_from: i64,
     counts: Counts,
-    members: Queue,
+    members: Roster,
 }
 
 impl Model for TaskSet {
     ghost use Rattle.std.specs.Prelude.{◌≡◌};
-    ghost use Rattle.std.specs.VecDeque.{deque_capacity};
     ghost use Rattle.iscsi_tasks.specs.Sets.{Members};
     ghost use Rattle.iscsi_tasks.specs.Counted.{IsKept};
 
@@ -54,7 +54,7 @@ impl Model for TaskSet {
 
     ghost view = { λ s. record { depth = s.depth; looked = s.looked; list = s.members.items } };
 
-    ghost invariant = { λ s. IsKept s.depth (deque_capacity s.members) s.covered_from s.counts s.members.items };
+    ghost invariant = { λ s. IsKept s.depth s.members.room s.covered_from s.counts s.members.items };
 }
 
 impl TaskSet {
@@ -69,7 +69,7 @@ impl TaskSet {
         if depth < 1 || depth > MOST_TASKS {
             return Err(TaskFault::BadDepth);
         }
-        let members = Queue::with_capacity(alloc, depth as usize).map_err(|_| TaskFault::NoMemory)?;
+        let members = Roster::with_room(alloc, depth as usize).map_err(|_| TaskFault::NoMemory)?;
         Ok(TaskSet {
             depth,
             looked: 0,
@@ -129,8 +129,8 @@ impl TaskSet {
 
     /// The command with this ticket leaves. Where there is none, nothing changes.
     ///
-    /// What grows with the set is that the commands on one side of it close up, by moving memory: the side with fewer,
-    /// so none where the oldest leaves.
+    /// What grows with the set is that the commands behind it close up, by moving two bytes for each; none where the oldest
+    /// leaves.
     pub fn leave(&mut self, ticket: u64) -> Option<Task>
         ensures answer { result ≡ with_ticket ticket (tasks_in self.old) }
         ensures state { self.new ≡ left_by self.old (with_ticket ticket (tasks_in self.old)) }
@@ -140,6 +140,18 @@ impl TaskSet {
     {
         let at = place_of(&self.members, ticket)?;
         Some(self.take_out(at))
+    }
+
+    /// The command at this place, counted from the oldest, leaves.
+    ///
+    /// What grows with the set is what grows for `leave`. It looks for no ticket.
+    pub fn leave_at(&mut self, place: u32) -> Task
+        requires { place < length self.old.list }
+        ensures answer { (d : Member) → result ≡ (slice_index_or self.old.list place d).task }
+        ensures state { self.new ≡ left_by self.old (Some result) }
+        ensures stands { (h : List Change) → StandsFor self.old h → StandsFor self.new (Left result.ticket ∷ h) }
+    {
+        self.take_out(place as usize)
     }
 
     /// The oldest of the covered commands leaves. Where none is covered, nothing changes.
@@ -194,15 +206,23 @@ impl TaskSet {
         self.covered_from = covered_from_after(self.covered_from, cover, &self.members);
     }
 
+    /// The place of the command with this ticket, counted from the oldest, if it is in the set and enabled.
+    pub fn enabled_place(&self, ticket: u64) -> Option<u32>
+        ensures answer { result ≡ position (is_enabled_with ticket) self.now.list }
+        ensures command { IfSome result (λ k. (k < length self.now.list) × ((d : Member) →
+            with_ticket ticket (tasks_in self.now) ≡ Some (slice_index_or self.now.list k d).task)) }
+        ensures since { (h : List Change) → StandsFor self.now h → IsSome result ↔ IsEnabled ticket h }
+    {
+        let at = enabled_place(&self.members, ticket)?;
+        Some(at as u32)
+    }
+
     /// Whether a command with this ticket is in the set and enabled.
     pub fn is_enabled(&self, ticket: u64) -> bool
         ensures answer { result ≡ is_enabled_in ticket self.now.list }
         ensures since { (h : List Change) → StandsFor self.now h → IsTrue result ↔ IsEnabled ticket h }
     {
-        match place_of(&self.members, ticket) {
-            Some(at) => self.members[at].enabled,
-            None => false,
-        }
+        enabled_place(&self.members, ticket).is_some()
     }
 
     /// The oldest command with this Initiator Task Tag.
@@ -234,7 +254,7 @@ impl TaskSet {
         ensures answer { (d : Member) → result ≡ (slice_index_or self.old.list at d).task }
         ensures state { self.new ≡ left_by self.old (Some result) }
     {
-        let task = self.members[at].task;
+        let task = self.members.at(at).task;
         remove(&mut self.members, &mut self.counts, at);
         enable_free(&mut self.members, &mut self.counts);
         task
@@ -264,7 +284,7 @@ fn covered_from_with(covered_from: i64, len: usize, task: &Task) -> i64
 
 /// From which number on functions may cover commands of a set, once this has covered none of them. For a function it is
 /// determined anew, so that the next one like it needn't look along the set.
-fn covered_from_after(covered_from: i64, cover: &Cover, members: &Queue) -> i64
+fn covered_from_after(covered_from: i64, cover: &Cover, members: &Roster) -> i64
     ensures { result ≡ covered_from_after covered_from cover.now members.now.items }
 {
     match *cover {

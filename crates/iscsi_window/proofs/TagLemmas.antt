@@ -144,7 +144,7 @@ turned_counted counts xs x c read = by_list xs c read
         }
 
 -- a full ring that gets a place more gives its first one up
-keep_full : (xs : List (Option (Option Request))) (capacity : ℕ) → 0 < length xs → length xs ≡ capacity → keep_last capacity (xs ++ None ∷ []) ≡ drop 1 xs ++ None ∷ []
+pub keep_full : (xs : List (Option (Option Request))) (capacity : ℕ) → 0 < length xs → length xs ≡ capacity → keep_last capacity (xs ++ None ∷ []) ≡ drop 1 xs ++ None ∷ []
 keep_full [] capacity some full = absurd (omega arith)
 keep_full (x ∷ xs) capacity some full =
     let one : length (x ∷ xs ++ None ∷ []) - capacity ≡ 1 = omega (arith, full, length-append (x ∷ xs) (let y : List (Option (Option Request)) = None ∷ [] in y)) in

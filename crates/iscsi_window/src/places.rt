@@ -2,6 +2,7 @@
 
 ghost use Rattle.std.specs.Prelude.{◌≡◌, ℕ, List, [], ◌∷◌, ◌++◌, ◌≤◌, ◌<◌, length, drop, replicate, slice_set, slice_index_or, Option, None, IfOk, position, take};
 ghost use Rattle.circular_buffer.specs.Buffer.{buffer};
+ghost use Rattle.iscsi_window.specs.Tags.{group_of, clear_with};
 ghost use Rattle.iscsi_window.specs.Windows.{is_command, is_held_from};
 
 use crate::tags::TagCounts;
@@ -19,24 +20,27 @@ pub(crate) type Received = Option<Option<Request>>;
 /// As many of them as the window has places, at every time.
 type Ring = HeapCircularBuffer<Received>;
 
-/// The places, of which contracts see the ring alone. The counters say where a search need not look.
+/// The places, of which contracts see the ring alone. The counters, and how many places at the front hold no request, say
+/// where a search need not look.
 #[derive(Drop)]
 pub(crate) struct Places {
     ring: Ring,
     tags: TagCounts,
+    /// None of the first so many places holds a request.
+    clear: u32,
 }
 
 impl Model for Places {
     ghost use Rattle.std.specs.Prelude.{Option};
     ghost use Rattle.circular_buffer.specs.Buffer.{Buffer};
     ghost use Rattle.iscsi_wire.specs.declared.request.Request.{Request};
-    ghost use Rattle.iscsi_window.specs.Tags.{IsCounted};
+    ghost use Rattle.iscsi_window.specs.Tags.{IsCounted, IsClear};
 
     ghost Value = { Buffer (Option (Option Request)) };
 
     ghost view = { λ p. p.ring };
 
-    ghost invariant = { λ p. IsCounted p.tags p.ring.items };
+    ghost invariant = { λ p. IsCounted p.tags p.ring.items × IsClear p.clear p.ring.items };
 }
 
 /// So many places, and nothing received.
@@ -46,7 +50,11 @@ pub(crate) fn empty_places(alloc: Global, size: u32) -> Result<Places, AllocErro
 {
     let ring = empty_ring(alloc, size)?;
     let tags = TagCounts::open(alloc)?;
-    Ok(Places { ring, tags })
+    Ok(Places {
+        ring,
+        tags,
+        clear: 0,
+    })
 }
 
 /// A full ring of places where nothing was received.
@@ -75,6 +83,18 @@ pub(crate) fn put(places: &mut Places, k: u32, received: Received)
         places.tags.lower(place);
         places.tags.raise(&received);
         *place = received;
+        places.clear = clear_with(places.clear, k, &received);
+    }
+}
+
+/// How many places at the front hold no request, once place `k` has this.
+fn clear_with(clear: u32, k: u32, received: &Received) -> u32
+    requires { k < 1024 }
+    ensures { result ≡ clear_with clear k (group_of received.now) }
+{
+    match received {
+        Some(Some(_)) => clear.min(k),
+        _ => { if k == clear { k + 1 } else { clear } }
     }
 }
 
@@ -87,6 +107,7 @@ pub(crate) fn turn_first(places: &mut Places)
     if let Some(first) = places.ring.get(0) {
         places.tags.lower(first);
     }
+    places.clear = places.clear.saturating_sub(1);
     // The ring is full, so its first place makes way.
     places.ring.push_back(None);
 }
@@ -115,7 +136,8 @@ pub(crate) fn holds_from(received: &Received, conn: Option<u16>) -> bool
     }
 }
 
-/// The first of the places below `end` where a SCSI Command with this tag and to this unit is held.
+/// The first of the places below `end` where a SCSI Command with this tag and to this unit is held. It looks at none of
+/// those at the front that hold no request.
 pub(crate) fn first_command(places: &Places, end: u32, itt: u32, unit: u16) -> Option<u32>
     requires { length places.now.items ≤ 1024 }
     ensures { result ≡ position (is_command itt unit) (take end places.now.items) }
@@ -123,12 +145,23 @@ pub(crate) fn first_command(places: &Places, end: u32, itt: u32, unit: u16) -> O
     if places.tags.is_none(itt) {
         return None;
     }
-    let k = places
-        .ring
-        .iter()
-        .take(end as usize)
-        .position(|received| holds_command(received, itt, unit))?;
-    Some(k as u32)
+    let end = end.min(places.ring.len() as u32);
+    for k in places.clear..end {
+        if holds_command_at(places, k, itt, unit) {
+            return Some(k);
+        }
+    }
+    None
+}
+
+/// Whether a SCSI Command with this tag and to this unit is held at place `k`.
+fn holds_command_at(places: &Places, k: u32, itt: u32, unit: u16) -> bool
+    ensures { result ≡ is_command itt unit (slice_index_or places.now.items k None) }
+{
+    match places.ring.get(k as usize) {
+        Some(received) => holds_command(received, itt, unit),
+        None => false,
+    }
 }
 
 /// The first place where a request is held that came on connection `conn`, or on any for None.

@@ -1,9 +1,9 @@
 //! The completion of a command by its unit.
 
-ghost use Rattle.std.specs.Prelude.{ℕ, ◌*◌, ◌≡◌, ◌==◌, ◌&&◌, ◌+◌, ◌<◌, ◌≤◌, true, false, if◌then◌else◌, ◌++◌, IfSome, length, vec_len, vec_capacity};
+ghost use Rattle.std.specs.Prelude.{ℕ, ◌*◌, ◌≡◌, ◌==◌, ◌&&◌, ◌+◌, ◌<◌, ◌≤◌, true, false, if◌then◌else◌, ◌++◌, IfSome, option_map, length, vec_len, vec_capacity};
 ghost use Rattle.iscsi_history.specs.rules.Settings.{is_known as known_in};
 ghost use Rattle.iscsi_history.specs.rules.Execution.{sense_of_status};
-ghost use Rattle.iscsi_session.specs.private.Steps.{find_enabled, after_completion, completion_effects, counted_on, finished};
+ghost use Rattle.iscsi_session.specs.private.Steps.{IsFound, find_enabled, after_completion, completion_effects, counted_on, finished};
 
 use crate::session::sets::CHECK_CONDITION;
 use crate::session::{Session, sets};
@@ -20,6 +20,17 @@ const INTERNAL_FAILURE: Sense = Sense {
     ascq: 0x00,
 };
 
+/// A live command that is enabled, and where it is.
+#[derive(Clone, Copy)]
+struct Enabled {
+    /// Its place among the live commands.
+    at: usize,
+    /// Its place in the set of its unit.
+    place: u32,
+    /// What is kept of it.
+    command: Live,
+}
+
 impl Session {
     /// Takes a completion: the command leaves and is answered, and others may become enabled.
     ///
@@ -31,13 +42,14 @@ impl Session {
         ensures spent { vec_len out.new ≤ vec_len out.old + 2 * length self.old.live + 1 }
         ensures capacity { vec_capacity out.new ≡ vec_capacity out.old }
     {
-        let Some(command) = self.find_enabled(ticket) else {
+        let Some(found) = self.find_enabled(ticket) else {
             out.push_reserved(Effect::Ignore { why: Why::Stale });
             return;
         };
+        let command = found.command;
         let stat_sn = self.next_stat_sn(command.conn);
         finish(&mut self.window, &mut self.connections, &command);
-        self.live.remove(command.ticket);
+        self.live.remove_at(found.at);
         out.push_reserved(Effect::Leave {
             ticket: command.ticket,
             unit: command.unit,
@@ -51,20 +63,20 @@ impl Session {
                 sense: sense_of(status),
             },
         });
-        sets::leave(&mut self.sets, &command, out);
+        sets::leave(&mut self.sets, &command, found.place, out);
     }
 
-    /// The live command with this ticket, if it is enabled.
-    fn find_enabled(&self, ticket: u64) -> Option<Live>
-        ensures command { result ≡ find_enabled self.now ticket }
-        ensures known { IfSome result (λ l. known_in l.conn self.now.conns ≡ true) }
+    /// The live command with this ticket, if it is enabled. Its ticket is looked for once among the live commands, and once
+    /// in its set.
+    fn find_enabled(&self, ticket: u64) -> Option<Enabled>
+        ensures command { option_map (λ e. e.command) result ≡ find_enabled self.now ticket }
+        ensures known { IfSome result (λ e. known_in e.command.conn self.now.conns ≡ true) }
+        ensures places { IfSome result (λ e. IsFound self.now e.at e.place e.command) }
     {
-        let command = self.live.find(ticket)?;
-        if self.sets[usize::from(command.unit)].is_enabled(ticket) {
-            Some(command)
-        } else {
-            None
-        }
+        let at = self.live.place(ticket)?;
+        let command = *self.live.at(at);
+        let place = self.sets[usize::from(command.unit)].enabled_place(ticket)?;
+        Some(Enabled { at, place, command })
     }
 }
 

@@ -175,7 +175,8 @@ fn end(window: &mut Window, connections: &mut Connections, live: &mut Commands, 
     ensures counted { AreCounted connections.new.immediate connections.old.conns live.new.items }
     ensures capacity { live.new.room ≡ live.old.room }
 {
-    let command = live.find(ticket).unwrap();
+    let at = live.place(ticket).unwrap();
+    let command = *live.at(at);
     finish(window, connections, &command);
-    live.remove(ticket);
+    live.remove_at(at);
 }

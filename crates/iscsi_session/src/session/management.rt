@@ -185,7 +185,7 @@ impl Session {
         true
     }
 
-    /// Executes a function, scope number less the first CmdSN is this one, and which arrived in this event.
+    /// Executes a function, whose number less the first CmdSN is this one, and which arrived in this event.
     pub(crate) fn manage(
         &mut self,
         request: &Request,

@@ -1,7 +1,8 @@
 //! The task sets of a session's units.
 
-ghost use Rattle.std.specs.Prelude.{false, ◌≡◌, ◌+◌, ◌<◌, ◌≤◌, ◌++◌, length, count_by, replicate, slice_index_or, slice_set, IfSome, vec_len, vec_capacity};
-ghost use Rattle.iscsi_tasks.specs.Sets.{opened, IsNewest, entered_to, is_new, next_in, given_by};
+ghost use Rattle.std.specs.Prelude.{false, ◌≡◌, ◌+◌, ◌<◌, ◌≤◌, ◌++◌, length, count_by, replicate, slice_index_or, slice_set, Some, IfSome, vec_len, vec_capacity};
+ghost use Rattle.iscsi_tasks.specs.declared.member.Member.{Member};
+ghost use Rattle.iscsi_tasks.specs.Sets.{opened, tasks_in, with_ticket, IsNewest, entered_to, is_new, next_in, given_by};
 ghost use Rattle.iscsi_history.specs.rules.Execution.{scsi_to, unit_named};
 ghost use Rattle.iscsi_session.specs.private.Steps.{is_set_full, place_in, all_given, enable_effect, enable_effects, set_without};
 
@@ -106,9 +107,13 @@ pub(crate) fn enter(sets: &mut [TaskSet], unit: u16, task: Task, out: &mut Vec<E
     }
 }
 
-/// A command leaves its set, and others may become enabled by that.
-pub(crate) fn leave(sets: &mut [TaskSet], command: &Live, out: &mut Vec<Effect>)
+/// A command leaves its set, where it has this place, and others may become enabled by that.
+pub(crate) fn leave(sets: &mut [TaskSet], command: &Live, place: u32, out: &mut Vec<Effect>)
     requires unit { command.now.unit < length sets.old }
+    requires place { place < length (slice_index_or sets.old command.now.unit (opened 0)).list }
+    requires command { (d : Member) →
+        with_ticket command.now.ticket (tasks_in (slice_index_or sets.old command.now.unit (opened 0)))
+        ≡ Some (slice_index_or (slice_index_or sets.old command.now.unit (opened 0)).list place d).task }
     requires room { vec_len out.old + length (set_without command.now sets.old).list ≤ vec_capacity out.old }
     ensures sets { sets.new ≡ slice_set sets.old command.now.unit (all_given (set_without command.now sets.old)) }
     ensures effects { out.new.items ≡ out.old.items
@@ -117,7 +122,7 @@ pub(crate) fn leave(sets: &mut [TaskSet], command: &Live, out: &mut Vec<Effect>)
     ensures capacity { vec_capacity out.new ≡ vec_capacity out.old }
 {
     let set = &mut sets[usize::from(command.unit)];
-    set.leave(command.ticket);
+    set.leave_at(place);
     enable_new(set, command.unit, out);
 }
 

@@ -17,4 +17,4 @@ loop-k-init c = subst (λ (x : Counts). IsCounted x (take 0 c.args.members.now.i
 pub loop-k-preserved : goal.loop-k-preserved
 loop-k-preserved c =
     subst (λ (x : Counts). IsCounted x (take (c.loop-k.k + 1) c.args.members.now.items)) (sym c.with_last-counts.ensures)
-    (counted_more c.loop-k.counts c.args.members.now.items c.loop-k.k c.index.result.now (omega arith) (sym c.index.ensures) c.requires.order c.requires.heads c.loop-k.invariant)
+    (counted_more c.loop-k.counts c.args.members.now.items c.loop-k.k c.at.result.now (omega arith) (sym (c.at.ensures c.at.result.now)) c.requires.order c.requires.heads c.loop-k.invariant)

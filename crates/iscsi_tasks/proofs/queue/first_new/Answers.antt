@@ -7,7 +7,7 @@ use Rattle.iscsi_tasks.proofs.queue.first_new.Goals as goal
 pub returns-then-is_new : goal.returns-then-is_new
 returns-then-is_new c =
     position_of is_new c.args.members.now.items c.loop-k.k
-    (place_is is_new c.args.members.now.items c.loop-k.k c.index.result.now (omega arith) (λ j l. c.loop-k.invariant j c.index.result.now l (omega arith)) (search rules))
+    (place_is is_new c.args.members.now.items c.loop-k.k c.at.result.now (omega arith) (λ j l. c.loop-k.invariant j c.at.result.now l (omega arith)) (search rules))
     (omega arith)
 
 pub returns : goal.returns

@@ -1,9 +1,11 @@
-use Rattle.std.proofs.Common.{◌≡◌, ◌<◌, ◌∙◌, ℕ, List, Some, position, length, get_or, set, true, false, ap, sym, get_or-set_same}
+use Rattle.std.proofs.Common.{◌+◌, subst, arith, ◌≡◌, ◌<◌, ◌∙◌, ℕ, List, Some, position, length, get_or, set, true, false, ap, sym, get_or-set_same}
 use Rattle.std.proofs.lemmas.List.{get_or_default}
 use Rattle.std.proofs.lemmas.List.Quantifiers.{position-Some}
+use Rattle.iscsi_slots.specs.Queued.{Queued}
 use Rattle.iscsi_tasks.specs.declared.member.Member.{Member}
 use Rattle.iscsi_tasks.specs.Sets.{is_new}
-use Rattle.iscsi_tasks.specs.Counted.{given_now}
+use Rattle.iscsi_tasks.specs.Counted.{IsCounted, given_now}
+use Rattle.iscsi_tasks.specs.Rosters.{BLANK}
 use Rattle.iscsi_tasks.proofs.PlaceLemmas.{none_at_position}
 use Rattle.iscsi_tasks.proofs.GivingLemmas.{next_in_none, next_in_at, given_in_none, given_in_at}
 use Rattle.iscsi_tasks.proofs.CountLemmas.{counted_none, counted_given}
@@ -27,25 +29,32 @@ found list k d is = position-Some is_new list k d is
 pub returns-clause-ticket : goal.returns-clause-ticket
 returns-clause-ticket c =
     let list = c.args.members.now.items in
-    let m = c.index_mut.result.now in
+    let m = c.at-member.result.now in
     let at = found list c.in-Some.k m (sym c.first_new.ensures ∙ c.in-Some.is) in
-    ap (λ (x : Member). Some x.task.ticket) (c.index.ensures ∙ get_or-set_same list c.in-Some.k (given_now m) c.index.result.now at.0)
-    ∙ ap (λ (x : Member). Some x.task.ticket) c.index_mut.ensures.value
-    ∙ sym (next_in_at list c.in-Some.k m at.0 at.2 at.1)
+    ap (λ (x : Member). Some x.task.ticket) (c.at-member.ensures m) ∙ sym (next_in_at list c.in-Some.k m at.0 at.2 at.1)
 
 pub returns-clause-items : goal.returns-clause-items
 returns-clause-items c =
     let list = c.args.members.now.items in
-    let m = c.index_mut.result.now in
+    let m = c.at-member.result.now in
     let at = found list c.in-Some.k m (sym c.first_new.ensures ∙ c.in-Some.is) in
-    ap (λ (x : Member). set list c.in-Some.k (given_now x)) c.index_mut.ensures.value
+    ap (λ (q : Queued Member). q.items) c.set.ensures ∙ ap (λ (x : Member). set list c.in-Some.k (given_now x)) (c.at-member.ensures m)
     ∙ sym (given_in_at list c.in-Some.k m at.0 at.2 at.1)
 
 pub returns-clause-counted : goal.returns-clause-counted
 returns-clause-counted c =
     let list = c.args.members.now.items in
-    let m = c.index_mut.result.now in
+    let m = c.at-member.result.now in
     let at = found list c.in-Some.k m (sym c.first_new.ensures ∙ c.in-Some.is) in
-    counted_given c.args.counts.now list c.in-Some.k m c.requires at.0
-    (λ d. get_or_default list c.in-Some.k d m at.0 ∙ sym c.index_mut.ensures.value)
-    (λ j d l. (found list c.in-Some.k d (sym c.first_new.ensures ∙ c.in-Some.is)).2 j l)
+    subst (λ (xs : List Member). IsCounted (record c.args.counts.now { new_from = c.in-Some.k + 1 }) xs) (sym (ap (λ (q : Queued Member). q.items) c.set.ensures))
+    (counted_given c.args.counts.now list c.in-Some.k m c.requires at.0
+    (λ d. get_or_default list c.in-Some.k d m at.0 ∙ sym (c.at-member.ensures m))
+    (λ j d l. (found list c.in-Some.k d (sym c.first_new.ensures ∙ c.in-Some.is)).2 j l))
+
+pub overflow_add-counts : goal.overflow_add-counts
+overflow_add-counts c =
+    let list = c.args.members.now.items in
+    let d : Member = BLANK in
+    let at = found list c.in-Some.k d (sym c.first_new.ensures ∙ c.in-Some.is) in
+    let below = (c.requires.new c.in-Some.k d at.0 at.1).1 in
+    omega (arith, below)

@@ -1,13 +1,14 @@
-use Rattle.std.proofs.Common.{rules, sym, subst}
-use Rattle.std.specs.List.Sorted.{IsSearchInRange}
-use Rattle.std.proofs.lemmas.List.Sorted.{answers_always}
-use Rattle.iscsi_tasks.specs.Counted.{IsPlaceOf}
-use Rattle.iscsi_tasks.proofs.SearchLemmas.{searched}
+use Rattle.std.proofs.Common.{ap, sym, ◌∙◌, arith}
+use Rattle.iscsi_slots.proofs.HalvingLemmas.{not_there}
+use Rattle.iscsi_tasks.specs.declared.member.Member.{Member}
+use Rattle.iscsi_tasks.proofs.queue.place_of.Goals.{else-at-len-via-then-at-len+else-at-ticket, else-at-len-via-else-at-len}
 use Rattle.iscsi_tasks.proofs.queue.place_of.Goals as goal
 
-pub returns : goal.returns
-returns c =
-    let facts = c.binary_search_by_key.ensures in
-    let by_key = facts.position (λ m. m.task.ticket) (answers_always _ _ _ (λ f a r g called. search rules)) in
-    let bound = subst (λ n. IsSearchInRange c.binary_search_by_key.result n) c.args.members.now.ok.0 facts.bound in
-    subst (IsPlaceOf c.args.members.now.items c.args.ticket) (sym c.ok.ensures.value) (searched c.args.members.now.items c.requires c.args.ticket c.binary_search_by_key.result bound by_key)
+pub returns-else-at-len : goal.returns-else-at-len
+returns-else-at-len c =
+    let found = c.first_from-at.ensures in
+    not_there (λ m. m.task.ticket) c.args.members.now.items c.args.ticket c.first_from-at.result c.requires found.below found.above
+    (λ within d same. elim c.else-at-len.branch [
+      | else-at-len-via-then-at-len+else-at-ticket w ↦ w.if-at-ticket.false (ap (λ (m : Member). m.task.ticket) (w.at.ensures d) ∙ same)
+      | else-at-len-via-else-at-len w ↦ let over = w.if-at-len.false in let is = c.len.ensures in absurd (omega (arith, over, within, is))
+    ])

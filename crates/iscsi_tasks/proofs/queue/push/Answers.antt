@@ -1,4 +1,5 @@
 use Rattle.std.proofs.Common.{◌≡◌, List, false, length, sym, subst, arith, ◌∙◌, ap}
+use Rattle.iscsi_slots.specs.Queued.{Queued}
 use Rattle.iscsi_tasks.specs.declared.member.Member.{Member}
 use Rattle.iscsi_tasks.specs.declared.counts.Counts.{Counts}
 use Rattle.iscsi_tasks.specs.Counted.{IsCounted, is_ordered_in, with_last}
@@ -14,6 +15,6 @@ returns-clause-counted c =
     let m : Member = record { task = c.args.task; enabled = c.args.enabled; given = false } in
     let len : c.len.result ≡ length list = omega arith in
     let counts : with_last c.args.counts.now (length list) m ≡ c.with_last.result = ap (λ n. with_last c.args.counts.now n m) (sym len) ∙ sym c.with_last.ensures in
-    subst (λ (x : Counts). IsCounted x c.push_back_reserved.new.self.items) counts
-    (subst (λ (xs : List Member). IsCounted (with_last c.args.counts.now (length list) m) xs) (sym c.push_back_reserved.ensures.items)
+    subst (λ (x : Counts). IsCounted x c.push.new.self.items) counts
+    (subst (λ (xs : List Member). IsCounted (with_last c.args.counts.now (length list) m) xs) (sym (ap (λ (q : Queued Member). q.items) c.push.ensures))
     (counted_push c.args.counts.now list c.requires.counted m c.requires.newest c.requires.head))

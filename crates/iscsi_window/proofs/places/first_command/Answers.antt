@@ -1,26 +1,35 @@
-use Rattle.std.proofs.Common.{rules, tests, ◌≡◌, ◌%◌, get_or, ◌∙◌, ap, sym, position, take}
-use Rattle.std.proofs.lemmas.Iterator.{YieldsList-from_take}
-use Rattle.std.proofs.lemmas.Iterator.Consumers.{YieldsList-from_rest}
-use Rattle.std.proofs.lemmas.Iterator.Search.{position_from_yields_List}
+use Rattle.std.proofs.Common.{◌≡◌, ◌%◌, ◌∙◌, get_or, None, length, ap, sym, position, take, arith, ⊎_elim, Option}
+use Rattle.std.proofs.lemmas.Bool.{eqb-true, cases_eq}
+use Rattle.iscsi_wire.specs.declared.request.Request.{Request}
+use Rattle.circular_buffer.specs.Buffer.{Buffer}
 use Rattle.iscsi_window.specs.Windows.{is_command}
-use Rattle.std.proofs.lemmas.Bool.{eqb-true}
 use Rattle.iscsi_window.proofs.TagLemmas.{none_found}
+use Rattle.iscsi_window.proofs.ClearLemmas.{no_command, found_below, none_below}
 use Rattle.iscsi_window.proofs.places.first_command.Goals as goal
-
-pub returns-in_err-k : goal.returns-in_err-k
-returns-in_err-k c =
-    c.from_residual.ensures ∙ sym c.in_err-k.was
-    ∙ position_from_yields_List (is_command c.args.itt c.args.unit) _ _ c.position.result c.position.ensures.ran (YieldsList-from_take c.args.end (YieldsList-from_rest c.places.inside.ring.items (c.take.ensures.source ∙ c.iter.ensures.rest)) c.take.ensures.count) (λ x b q k. search (rules, tests))
-    ∙ ap (λ b. position (is_command c.args.itt c.args.unit) (take c.args.end b.items)) c.places.view_is
-
-pub returns : goal.returns
-returns c =
-    sym c.in_ok-k.was
-    ∙ position_from_yields_List (is_command c.args.itt c.args.unit) _ _ c.position.result c.position.ensures.ran (YieldsList-from_take c.args.end (YieldsList-from_rest c.places.inside.ring.items (c.take.ensures.source ∙ c.iter.ensures.rest)) c.take.ensures.count) (λ x b q k. search (rules, tests))
-    ∙ ap (λ b. position (is_command c.args.itt c.args.unit) (take c.args.end b.items)) c.places.view_is
 
 pub returns-then-is_none : goal.returns-then-is_none
 returns-then-is_none c =
     let zero : get_or c.places.inside.tags (c.args.itt % 4093) 0 ≡ 0 = eqb-true (get_or c.places.inside.tags (c.args.itt % 4093) 0) 0 (sym c.is_none.ensures ∙ c.if-is_none.true) in
-    sym (none_found c.places.inside.tags c.places.inside.ring.items c.args.itt c.args.unit c.args.end c.places.invariant zero)
+    sym (none_found c.places.inside.tags c.places.inside.ring.items c.args.itt c.args.unit c.args.end c.places.invariant.0 zero)
     ∙ ap (λ b. position (is_command c.args.itt c.args.unit) (take c.args.end b.items)) c.places.view_is
+
+pub loop-k-init : goal.loop-k-init
+loop-k-init c = λ j below.
+    no_command c.args.itt c.args.unit (get_or c.args.places.now.items j None) (ap (λ b. Rattle.iscsi_window.specs.Tags.group_of (get_or b.items j None)) (sym c.places.view_is) ∙ c.places.invariant.1 j below)
+
+pub loop-k-preserved : goal.loop-k-preserved
+loop-k-preserved c = λ j below. ⊎_elim
+    (λ same. ap (λ n. is_command c.args.itt c.args.unit (get_or c.args.places.now.items n None)) same ∙ sym c.holds_command_at.ensures ∙ c.if-holds_command_at.false)
+    (λ apart. c.loop-k.invariant j (omega (arith, below, apart)))
+    (cases_eq j c.loop-k.k)
+
+pub returns-then-holds_command_at : goal.returns-then-holds_command_at
+returns-then-holds_command_at c =
+    let long = ap (λ (b : Buffer (Option (Option Request))). length b.items) c.places.view_is in
+    found_below (is_command c.args.itt c.args.unit) c.args.places.now.items c.args.end None c.loop-k.k
+    (omega (arith, long)) (omega arith) c.loop-k.invariant (sym c.holds_command_at.ensures ∙ c.if-holds_command_at.true)
+
+pub returns : goal.returns
+returns c =
+    let long = ap (λ (b : Buffer (Option (Option Request))). length b.items) c.places.view_is in
+    none_below (is_command c.args.itt c.args.unit) c.args.places.now.items c.args.end None (λ j short within. c.loop-k.invariant j (omega (arith, long, short, within)))

@@ -7,6 +7,8 @@ use Rattle.iscsi_history.specs.rules.Settings.{is_known}
 use Rattle.iscsi_session.specs.private.Steps.{AreCounted, is_numbered, finished, find_ticket, without_ticket}
 use Rattle.iscsi_history.proofs.ListLemmas.{find-passes, find-found}
 use Rattle.iscsi_session.proofs.CountLemmas.{count-left, some_counted, AreCounted-left}
+use Rattle.iscsi_commands.specs.Commands.{IsTicketPlace}
+use Rattle.iscsi_session.proofs.FoundLemmas.{placed, some_place}
 use Rattle.iscsi_session.proofs.session.leaving.end.Goals as goal
 
 -- the command, by its own ticket
@@ -21,19 +23,19 @@ ended lives ticket l there =
 
 pub finish-requires-clause-numbered : goal.finish-requires-clause-numbered
 finish-requires-clause-numbered c = λ no.
-    let l : Live = c.unwrap-command.result in
-    omega (arith, c.requires.numbered, count-left is_numbered c.args.ticket c.args.live.now.items l c.requires.ascending (sym c.find.ensures ∙ c.unwrap-command.ensures), ap {B = ℕ} (λ b. cond (not b) 1 0) no)
+    let l : Live = c.at.result.now in
+    omega (arith, c.requires.numbered, count-left is_numbered c.args.ticket c.args.live.now.items l c.requires.ascending (placed c.args.live.now.items c.args.ticket c.unwrap-at.result c.at.result.now c.place.ensures.ascending (subst (IsTicketPlace c.args.live.now.items c.args.ticket) c.unwrap-at.ensures c.place.ensures.place) c.at.ensures).found, ap {B = ℕ} (λ b. cond (not b) 1 0) no)
 
 pub finish-requires-clause-known : goal.finish-requires-clause-known
 finish-requires-clause-known c =
-    find-passes (λ (x : Live). x.ticket == c.args.ticket) (λ (x : Live). is_known x.conn c.args.connections.now.conns) c.args.live.now.items c.unwrap-command.result c.requires.known (sym c.find.ensures ∙ c.unwrap-command.ensures)
+    find-passes (λ (x : Live). x.ticket == c.args.ticket) (λ (x : Live). is_known x.conn c.args.connections.now.conns) c.args.live.now.items c.at.result.now c.requires.known (placed c.args.live.now.items c.args.ticket c.unwrap-at.result c.at.result.now c.place.ensures.ascending (subst (IsTicketPlace c.args.live.now.items c.args.ticket) c.unwrap-at.ensures c.place.ensures.place) c.at.ensures).found
 
 pub finish-requires-clause-some : goal.finish-requires-clause-some
 finish-requires-clause-some c = λ yes.
-    let there : find_ticket c.args.ticket c.args.live.now.items ≡ Some c.unwrap-command.result = sym c.find.ensures ∙ c.unwrap-command.ensures in
-    let e : Ended c.args.live.now.items c.args.ticket c.unwrap-command.result = ended c.args.live.now.items c.args.ticket c.unwrap-command.result there in
-    let known : is_known c.unwrap-command.result.conn c.args.connections.now.conns ≡ true = find-passes (λ (x : Live). x.ticket == c.args.ticket) (λ (x : Live). is_known x.conn c.args.connections.now.conns) c.args.live.now.items c.unwrap-command.result c.requires.known there in
-    some_counted c.args.connections.now.immediate c.args.connections.now.conns c.args.live.now.items c.unwrap-command.result c.requires.counted c.requires.ascending e.found known yes
+    let there : find_ticket c.args.ticket c.args.live.now.items ≡ Some c.at.result.now = (placed c.args.live.now.items c.args.ticket c.unwrap-at.result c.at.result.now c.place.ensures.ascending (subst (IsTicketPlace c.args.live.now.items c.args.ticket) c.unwrap-at.ensures c.place.ensures.place) c.at.ensures).found in
+    let e : Ended c.args.live.now.items c.args.ticket c.at.result.now = ended c.args.live.now.items c.args.ticket c.at.result.now there in
+    let known : is_known c.at.result.now.conn c.args.connections.now.conns ≡ true = find-passes (λ (x : Live). x.ticket == c.args.ticket) (λ (x : Live). is_known x.conn c.args.connections.now.conns) c.args.live.now.items c.at.result.now c.requires.known there in
+    some_counted c.args.connections.now.immediate c.args.connections.now.conns c.args.live.now.items c.at.result.now c.requires.counted c.requires.ascending e.found known yes
 
 -- a numbered command gives its place back
 finished_is : (w : Received) (l : Live) (left all : ℕ) → left + cond (not l.immediate) 1 0 ≡ all → all ≤ w.unfinished → finished w l ≡ with_unfinished w (w.unfinished + left - all)
@@ -45,15 +47,22 @@ finished_is w l left all counted few =
 
 pub returns-clause-window : goal.returns-clause-window
 returns-clause-window c =
-    let l : Live = c.unwrap-command.result in
+    let l : Live = c.at.result.now in
     let lives : List Live = c.args.live.now.items in
     c.finish.ensures.window
-    ∙ finished_is c.args.window.now l (count_by is_numbered (without_ticket c.args.ticket lives)) (count_by is_numbered lives) (count-left is_numbered c.args.ticket lives l c.requires.ascending (sym c.find.ensures ∙ c.unwrap-command.ensures)) c.requires.numbered
+    ∙ finished_is c.args.window.now l (count_by is_numbered (without_ticket c.args.ticket lives)) (count_by is_numbered lives) (count-left is_numbered c.args.ticket lives l c.requires.ascending (placed c.args.live.now.items c.args.ticket c.unwrap-at.result c.at.result.now c.place.ensures.ascending (subst (IsTicketPlace c.args.live.now.items c.args.ticket) c.unwrap-at.ensures c.place.ensures.place) c.at.ensures).found) c.requires.numbered
 
 pub returns-clause-counted : goal.returns-clause-counted
 returns-clause-counted c =
-    let l : Live = c.unwrap-command.result in
+    let l : Live = c.at.result.now in
     let lives : List Live = c.args.live.now.items in
-    let e : Ended lives c.args.ticket l = ended lives c.args.ticket l (sym c.find.ensures ∙ c.unwrap-command.ensures) in
-    subst (λ (ls : List Live). AreCounted c.finish.new.connections.immediate c.args.connections.now.conns ls) (ap (λ k. without_ticket k lives) e.is ∙ sym (ap (λ (q : Queued Live). q.items) c.remove.ensures))
+    let e : Ended lives c.args.ticket l = ended lives c.args.ticket l (placed c.args.live.now.items c.args.ticket c.unwrap-at.result c.at.result.now c.place.ensures.ascending (subst (IsTicketPlace c.args.live.now.items c.args.ticket) c.unwrap-at.ensures c.place.ensures.place) c.at.ensures).found in
+    subst (λ (ls : List Live). AreCounted c.finish.new.connections.immediate c.args.connections.now.conns ls) (ap (λ k. without_ticket k lives) e.is ∙ sym (ap (λ (q : Queued Live). q.items) c.remove_at.ensures ∙ (placed c.args.live.now.items c.args.ticket c.unwrap-at.result c.at.result.now c.place.ensures.ascending (subst (IsTicketPlace c.args.live.now.items c.args.ticket) c.unwrap-at.ensures c.place.ensures.place) c.at.ensures).rest))
     (AreCounted-left c.args.connections.now.immediate c.finish.new.connections.immediate c.args.connections.now.conns lives l c.requires.counted c.finish.ensures.long c.finish.ensures.counted c.requires.ascending e.found)
+
+pub unwrap-at-requires : goal.unwrap-at-requires
+unwrap-at-requires c = some_place c.args.live.now.items c.args.ticket c.place.result c.place.ensures.place c.requires.there
+
+pub returns-clause-live : goal.returns-clause-live
+returns-clause-live c =
+    ap (λ (q : Queued Live). q.items) c.remove_at.ensures ∙ (placed c.args.live.now.items c.args.ticket c.unwrap-at.result c.at.result.now c.place.ensures.ascending (subst (IsTicketPlace c.args.live.now.items c.args.ticket) c.unwrap-at.ensures c.place.ensures.place) c.at.ensures).rest

@@ -16,13 +16,13 @@ after : (c : goal.After-push) → after_moment (c.self.inside.members.items ++ r
 after c =
     let list = c.self.inside.members.items in
     let newest = subst (λ (s : Members). IsNewest c.args.task.ticket s) (sym c.self.view_is) c.requires in
-    let enabled : c.test_free-enabled.result ≡ is_free_behind c.self.inside.counts (length list) c.args.task.attr = c.test_free-enabled.ensures.value ∙ ap (λ n. is_free_behind c.self.inside.counts n c.args.task.attr) (c.len-len.ensures ∙ c.self.inside.members.ok.0) in
+    let enabled : c.test_free-enabled.result ≡ is_free_behind c.self.inside.counts (length list) c.args.task.attr = c.test_free-enabled.ensures.value ∙ ap (λ n. is_free_behind c.self.inside.counts n c.args.task.attr) c.len-len.ensures in
     moment_entered c.self.inside.counts c.args.task list c.self.invariant.counted c.self.invariant.settled newest
     ∙ ap (λ b. list ++ record { task = c.args.task; enabled = b; given = false } ∷ []) (sym enabled)
     ∙ sym c.push.ensures.items
 
 room : (c : goal.After-push) → (length c.self.inside.members.items < c.self.inside.depth) × (length c.push.new.members.items ≡ length c.self.inside.members.items + 1)
-room c = (omega (arith, c.self.invariant.within, c.self.inside.members.ok.0), ap length c.push.ensures.items ∙ length_push c.self.inside.members.items (record { task = c.args.task; enabled = c.test_free-enabled.result; given = false }))
+room c = (omega (arith, c.self.invariant.within), ap length c.push.ensures.items ∙ length_push c.self.inside.members.items (record { task = c.args.task; enabled = c.test_free-enabled.result; given = false }))
 
 -- no function with a number below the new one covers a command
 covered_on : (c : goal.After-push) → IsCoveredFrom (to_z w64 (of_z w64 c.covered_from_with-self-inside.result)) (map (λ m. m.task) c.push.new.members.items)
@@ -30,7 +30,7 @@ covered_on c =
     let i = c.self.inside in
     let tasks : List Task = map (λ m. m.task) i.members.items in
     let same : to_z w64 (of_z w64 i.covered_from) ≡ i.covered_from = to_z-of_z w64 i.covered_from (search rules) in
-    let len : c.len-len.result ≡ length tasks = c.len-len.ensures ∙ i.members.ok.0 ∙ sym (length-map i.members.items (λ m. m.task)) in
+    let len : c.len-len.result ≡ length tasks = c.len-len.ensures ∙ sym (length-map i.members.items (λ m. m.task)) in
     let number : to_z w64 (of_z w64 c.covered_from_with-self-inside.result) ≡ covered_from_with i.covered_from (length tasks) c.args.task =
     to_z-of_z w64 c.covered_from_with-self-inside.result (search rules) ∙ c.covered_from_with-self-inside.ensures
     ∙ ap (λ n. covered_from_with n c.len-len.result c.args.task) same ∙ ap (λ n. covered_from_with i.covered_from n c.args.task) len in
@@ -44,7 +44,7 @@ pub invariant_of-self-2 : goal.invariant_of-self-2
 invariant_of-self-2 c = record {
   least = c.self.invariant.least;
   within = omega (arith, (room c).0, (room c).1);
-  room_left = omega (arith, c.self.invariant.room_left, c.push.ensures.capacity);
+  room_left = omega (arith, c.self.invariant.room_left, c.push.ensures.room);
   most = c.self.invariant.most;
   counted = c.push.ensures.counted;
   settled = subst IsSettled (after c) (settled_after (c.self.inside.members.items ++ record { task = c.args.task; enabled = false; given = false } ∷ []));

@@ -41,7 +41,7 @@ invariant_of-self c =
     record {
       least = c.self.invariant.least;
       within = omega (arith, long, most, c.self.invariant.within);
-      room_left = omega (arith, c.self.invariant.room_left, c.remove_covered.ensures.capacity);
+      room_left = omega (arith, c.self.invariant.room_left, c.remove_covered.ensures.room);
       most = c.self.invariant.most;
       counted = c.remove_covered.ensures.counted;
       settled = subst IsSettled (sym items) (settled-staying (is_covered cover) i.members.items c.self.invariant.settled);

@@ -15,7 +15,7 @@ invariant_of-self c =
     record {
       least = c.self.invariant.least;
       within = omega (arith, long, kept, c.self.invariant.within);
-      room_left = omega (arith, c.self.invariant.room_left, c.give_next.ensures.capacity);
+      room_left = omega (arith, c.self.invariant.room_left, c.give_next.ensures.room);
       most = c.self.invariant.most;
       counted = c.give_next.ensures.counted;
       settled = subst IsSettled (sym c.give_next.ensures.items) (settled-given list c.self.invariant.settled);
