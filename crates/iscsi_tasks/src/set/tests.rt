@@ -24,7 +24,12 @@ fn task(ticket: u64, attr: Attr) -> Task {
 fn is_newest(set: &TaskSet, ticket: u64) -> bool
     ensures { IsTrue result → IsNewest ticket set.now }
 {
-    set.members.iter().all(|m| m.task.ticket < ticket)
+    for k in 0..set.members.len() {
+        if ticket <= set.members.at(k).task.ticket {
+            return false;
+        }
+    }
+    true
 }
 
 fn enter(rt: &impl Abort, set: &mut TaskSet, task: Task) -> Result<(), Task> {
@@ -87,6 +92,22 @@ fn heads_and_ordered(rt: HostRuntime) -> Result<(), Fail> {
     assert_eq!(rt; set.len(), 0);
     assert_eq!(rt; set.looked(), 1);
     assert_eq!(rt; set.leave(6), None);
+    Ok(())
+}
+
+#[test]
+fn an_enabled_command_leaves_from_its_place(rt: HostRuntime) -> Result<(), Fail> {
+    let mut set = TaskSet::open(rt.alloc(), 4)?;
+    for (ticket, attr) in [(1, Attr::Ordered), (2, Attr::Simple), (3, Attr::Head)] {
+        assert_eq!(rt; enter(&rt, &mut set, task(ticket, attr)), Ok(()));
+    }
+    assert_eq!(rt; set.enabled_place(1), Some(0));
+    assert_eq!(rt; set.enabled_place(2), None);
+    assert_eq!(rt; set.enabled_place(4), None);
+    let place = set.enabled_place(3).expect(&rt, "enabled");
+    assert_eq!(rt; set.leave_at(place), task(3, Attr::Head));
+    assert_eq!(rt; set.enabled_place(3), None);
+    assert_eq!(rt; set.len(), 2);
     Ok(())
 }
 
