@@ -89,7 +89,7 @@ impl Order {
         if k == 0 {
             self.head += 1;
         } else {
-            self.places.remove(self.head + k);
+            close_up(&mut self.places, self.head + k);
         }
     }
 }
@@ -120,5 +120,16 @@ fn move_up(order: &mut Vec<u16>, head: usize)
 {
     let len = order.len() - head;
     order.copy_within(head.., 0);
+    order.truncate(len);
+}
+
+/// The slots behind a place move up by one, over the slot that is there.
+fn close_up(order: &mut Vec<u16>, at: usize)
+    requires { at < length order.old.items }
+    ensures slots { order.new.items ≡ remove order.old.items at }
+    ensures capacity { vec_capacity order.new ≡ vec_capacity order.old }
+{
+    let len = order.len() - 1;
+    order.copy_within(at + 1.., at);
     order.truncate(len);
 }

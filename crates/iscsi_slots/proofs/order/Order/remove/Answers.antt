@@ -15,6 +15,6 @@ pub returns-else-k-eq0 : goal.returns-else-k-eq0
 returns-else-k-eq0 c =
     let long = length-drop c.self.inside.head c.self.inside.places.items in
     let l = subst (λ o. c.args.k < length o.items) (sym c.self.view_is) c.requires in
-    ap (λ xs. queued (drop c.self.inside.head xs) c.self.inside.room) c.remove.ensures.items
+    ap (λ xs. queued (drop c.self.inside.head xs) c.self.inside.room) c.close_up.ensures.slots
     ∙ ap (λ xs. queued xs c.self.inside.room) (drop-remove c.self.inside.places.items c.self.inside.head c.args.k (omega (arith, long, l)))
     ∙ ap (λ o. queued (remove o.items c.args.k) o.room) c.self.view_is
