@@ -1,35 +1,38 @@
 -- How many places at the front hold no request, and a search behind them.
-use Rattle.std.proofs.Common.{◌≡◌, ◌∙◌, ℕ, zero, suc, ◌+◌, ◌-◌, ◌<◌, ◌++◌, Bool, true, false, cond, List, [], ◌∷◌, length, nat_lt, take, drop, set, get_or, position, Option, Some, None, arith, ap, sym, refl, subst, ⊎_elim, get_or-set_same, get_or-set_other, eq-eqb}
+use Rattle.std.proofs.Common.{◌≡◌, ◌∙◌, ℕ, zero, suc, ◌-◌, ◌<◌, ◌++◌, Bool, true, false, cond, List, [], ◌∷◌, length, min, nat_lt, take, drop, set, get_or, position, Option, Some, None, arith, ap, sym, refl, subst, ⊎_elim, get_or-set_same, get_or-set_other}
 use Rattle.std.specs.List.{slice_get}
-use Rattle.std.proofs.lemmas.Bool.{cases_eq, lt-ltb, ne_eqb}
+use Rattle.std.proofs.lemmas.Bool.{cases_eq, lt-ltb}
 use Rattle.std.proofs.lemmas.Option.{slice_get_within}
 use Rattle.std.proofs.lemmas.List.{get_or-take, length-take}
 use Rattle.std.proofs.lemmas.List.Sums.{position_or_len_is}
 use Rattle.std.proofs.lemmas.List.Quantifiers.{position-Some}
 use Rattle.circular_buffer.specs.Buffer.{Buffer, buffer, keep_last}
 use Rattle.iscsi_wire.specs.declared.request.Request.{Request}
-use Rattle.iscsi_window.specs.Windows.{is_command}
-use Rattle.iscsi_window.specs.Tags.{group_of, IsClear, clear_with}
+use Rattle.iscsi_window.specs.Windows.{is_command, is_held_from}
+use Rattle.iscsi_window.specs.Tags.{group_of, IsClear}
 use Rattle.iscsi_window.proofs.TagLemmas.{keep_full}
 
+-- a place that holds no request has no group
+pub no_group : (x : Option (Option Request)) → is_held_from None x ≡ false → group_of x ≡ None
+no_group None off = refl
+no_group (Some None) off = refl
+no_group (Some (Some r)) off = absurd cc
+
 -- a place is written
-pub put_clear : (xs : List (Option (Option Request))) (k : ℕ) (v : Option (Option Request)) (clear : ℕ) → k < length xs → IsClear clear xs → IsClear (clear_with clear k (group_of v)) (set xs k v)
-put_clear xs k v clear within none = by_group (group_of v) refl
-  where
-    here : group_of v ≡ None → (j : ℕ) → j ≡ k → group_of (get_or (set xs k v) j None) ≡ None
-    here is j same = ap (λ n. group_of (get_or (set xs k v) n None)) same ∙ ap group_of (get_or-set_same xs k v None within) ∙ is
+module _ (xs : List (Option (Option Request))) (k : ℕ) (v : Option (Option Request)) (clear : ℕ) (none : IsClear clear xs) where
+  there : (j : ℕ) → (j ≡ k → ⊥) → j < clear → group_of (get_or (set xs k v) j None) ≡ None
+  there j apart below = ap group_of (get_or-set_other xs k j v None apart) ∙ none j below
 
-    there : (j : ℕ) → (j ≡ k → ⊥) → j < clear → group_of (get_or (set xs k v) j None) ≡ None
-    there j apart below = ap group_of (get_or-set_other xs k j v None apart) ∙ none j below
+  -- with a request or with none: those before it aren't changed
+  pub clear_before : IsClear (min clear k) (set xs k v)
+  clear_before j below = there j (λ same. omega (arith, same, below)) (omega (arith, below))
 
-    by_group : (g : Option ℕ) → group_of v ≡ g → IsClear (clear_with clear k g) (set xs k v)
-    by_group (Some g) is = λ j below. there j (λ same. omega (arith, same, below)) (omega (arith, below))
-    by_group None is = ⊎_elim
-        (λ same. subst (λ n. IsClear n (set xs k v)) (sym (ap (λ b. cond b (k + 1) clear) (eq-eqb k clear same)))
-        (λ j below. ⊎_elim (here is j) (λ apart. there j apart (omega (arith, below, apart, same))) (cases_eq j k)))
-        (λ other. subst (λ n. IsClear n (set xs k v)) (sym (ap (λ b. cond b (k + 1) clear) (ne_eqb k clear other)))
-        (λ j below. ⊎_elim (here is j) (λ apart. there j apart below) (cases_eq j k)))
-        (cases_eq k clear)
+  -- with none
+  pub clear_still : k < length xs → is_held_from None v ≡ false → IsClear clear (set xs k v)
+  clear_still within off j below = ⊎_elim
+      (λ same. ap (λ n. group_of (get_or (set xs k v) n None)) same ∙ ap group_of (get_or-set_same xs k v None within) ∙ no_group v off)
+      (λ apart. there j apart below)
+      (cases_eq j k)
 
 -- the first place turns
 push_none : (xs : List (Option (Option Request))) (j : ℕ) → get_or (xs ++ None ∷ []) j None ≡ get_or xs j None

@@ -1,5 +1,5 @@
 -- Held requests, counted by groups of tags: those of one group leave the same remainder on division by 4093.
-use Rattle.std.specs.Prelude.{◌≡◌, ℕ, ◌+◌, ◌-◌, ◌%◌, ◌<◌, ◌≤◌, ◌==◌, Bool, false, min, List, length, count_by, slice_set, slice_index, slice_index_or, Option, Some, None, if◌then◌else◌}
+use Rattle.std.specs.Prelude.{◌≡◌, ℕ, ◌+◌, ◌-◌, ◌%◌, ◌<◌, ◌≤◌, ◌==◌, Bool, false, List, length, count_by, slice_set, slice_index, slice_index_or, Option, Some, None}
 use Rattle.iscsi_wire.specs.Fields.{itt}
 use Rattle.iscsi_wire.specs.declared.request.Request.{Request}
 
@@ -34,8 +34,3 @@ pub record IsCounted (counts : List ℕ) (places : List (Option (Option Request)
 -- none of the first so many places holds a request
 abbrev pub IsClear : ℕ → List (Option (Option Request)) → Type 0
 IsClear clear places = (k : ℕ) → k < clear → group_of (slice_index_or places k None) ≡ None
-
--- how many of them are known to, once the request of a place is of this group, or there is none
-abbrev pub clear_with : ℕ → ℕ → Option ℕ → ℕ
-clear_with clear k (Some g) = min clear k
-clear_with clear k None = if k == clear then k + 1 else clear

@@ -1,8 +1,8 @@
 //! The places of a window, and how many requests they hold of each group of tags.
 
-ghost use Rattle.std.specs.Prelude.{◌≡◌, ℕ, List, [], ◌∷◌, ◌++◌, ◌≤◌, ◌<◌, length, drop, replicate, slice_set, slice_index_or, Option, None, IfOk, position, take};
+ghost use Rattle.std.specs.Prelude.{◌≡◌, ℕ, List, [], ◌∷◌, ◌++◌, ◌≤◌, ◌<◌, length, drop, replicate, slice_set, slice_index_or, Option, None, IfOk, position, take, min, false};
 ghost use Rattle.circular_buffer.specs.Buffer.{buffer};
-ghost use Rattle.iscsi_window.specs.Tags.{group_of, clear_with};
+ghost use Rattle.iscsi_window.specs.Tags.{IsClear};
 ghost use Rattle.iscsi_window.specs.Windows.{is_command, is_held_from};
 
 use crate::tags::TagCounts;
@@ -83,19 +83,40 @@ pub(crate) fn put(places: &mut Places, k: u32, received: Received)
         places.tags.lower(place);
         places.tags.raise(&received);
         *place = received;
-        places.clear = clear_with(places.clear, k, &received);
+        let is_held = holds_from(&received, None);
+        places.clear = clear_after(&places.ring, places.clear, k, is_held);
     }
 }
 
-/// How many places at the front hold no request, once place `k` has this.
-fn clear_with(clear: u32, k: u32, received: &Received) -> u32
-    requires { k < 1024 }
-    ensures { result ≡ clear_with clear k (group_of received.now) }
+/// How many places at the front hold no request, once place `k` was written, with a request or with none. The first so many
+/// of the others don't.
+fn clear_after(ring: &Ring, clear: u32, k: u32, is_held: bool) -> u32
+    requires held { IsClear (min clear k) ring.now.items }
+    requires none { is_held ≡ false → IsClear clear ring.now.items }
+    requires few { length ring.now.items ≤ 1024 }
+    ensures { IsClear result ring.now.items }
 {
-    match received {
-        Some(Some(_)) => clear.min(k),
-        _ => { if k == clear { k + 1 } else { clear } }
+    if is_held {
+        clear.min(k)
+    } else {
+        clear_from(ring, clear)
     }
+}
+
+/// How many places at the front hold no request, where the first so many don't.
+fn clear_from(ring: &Ring, clear: u32) -> u32
+    requires none { IsClear clear ring.now.items }
+    requires few { length ring.now.items ≤ 1024 }
+    ensures { IsClear result ring.now.items }
+{
+    let mut at = clear;
+    while let Some(received) = ring.get(at as usize) {
+        if holds_from(received, None) {
+            break;
+        }
+        at += 1;
+    }
+    at
 }
 
 /// Takes the first place off, and adds one at the end, where nothing was received.

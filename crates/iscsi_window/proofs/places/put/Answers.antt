@@ -1,11 +1,11 @@
-use Rattle.std.proofs.Common.{◌∙◌, ap, sym, arith}
+use Rattle.std.proofs.Common.{◌∙◌, ap, sym, length-set}
 use Rattle.circular_buffer.specs.Buffer.{buffer}
 use Rattle.std.specs.List.{slice_get}
 use Rattle.std.specs.Option.{option_copied_mut}
 use Rattle.iscsi_window.proofs.PlaceLemmas.{past_from_slice_get}
 use Rattle.iscsi_window.proofs.TagLemmas.{read_held, read_few, put_counted}
 use Rattle.std.proofs.lemmas.Option.{slice_get_within}
-use Rattle.iscsi_window.proofs.ClearLemmas.{put_clear}
+use Rattle.iscsi_window.proofs.ClearLemmas.{clear_before, clear_still}
 use Rattle.iscsi_window.proofs.places.put.Goals as goal
 
 pub lower-requires : goal.lower-requires
@@ -18,14 +18,20 @@ pub invariant_of-places : goal.invariant_of-places
 invariant_of-places c =
     let read = sym c.get_mut.ensures.value ∙ ap option_copied_mut c.in-Some.is in (
       rw (c.raise.ensures, c.lower.ensures) (put_counted c.places.inside.tags c.places.inside.ring.items c.args.k _ c.args.received c.places.invariant.0 read),
-      rw c.clear_with-places-inside.ensures (put_clear c.places.inside.ring.items c.args.k c.args.received c.places.inside.clear (slice_get_within c.places.inside.ring.items c.args.k _ read) c.places.invariant.1),
+      c.clear_after-places-inside.ensures,
     )
 
-pub clear_with-places-inside-requires : goal.clear_with-places-inside-requires
-clear_with-places-inside-requires c =
+pub clear_after-places-inside-requires-clause-held : goal.clear_after-places-inside-requires-clause-held
+clear_after-places-inside-requires-clause-held c = clear_before c.places.inside.ring.items c.args.k c.args.received c.places.inside.clear c.places.invariant.1
+
+pub clear_after-places-inside-requires-clause-none : goal.clear_after-places-inside-requires-clause-none
+clear_after-places-inside-requires-clause-none c = λ off.
     let read = sym c.get_mut.ensures.value ∙ ap option_copied_mut c.in-Some.is in
-    let within = slice_get_within c.places.inside.ring.items c.args.k _ read in
-    omega (arith, within, c.places.invariant.0.few)
+    clear_still c.places.inside.ring.items c.args.k c.args.received c.places.inside.clear c.places.invariant.1
+    (slice_get_within c.places.inside.ring.items c.args.k _ read) (sym c.holds_from-is_held.ensures ∙ off)
+
+pub clear_after-places-inside-requires-clause-few : goal.clear_after-places-inside-requires-clause-few
+clear_after-places-inside-requires-clause-few c = simp length-set c.places.invariant.0.few
 
 pub returns-in_default : goal.returns-in_default
 returns-in_default c =
