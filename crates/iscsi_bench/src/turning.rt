@@ -8,8 +8,9 @@ use std::alloc::Global;
 /// A count of events and of their effects.
 type Counts = (u64, u64);
 
-/// The events of so many blocks by the session alone: of commands, and of their completions. Of so many connections and
-/// units the last are busy. So many commands wait, dormant, behind one at the head of the queue that is never completed.
+/// The events of so many blocks by the session alone: of commands, and of their completions. Of so many connections
+/// and units the last are busy. So many commands wait, dormant, behind one at the head of the queue that is never
+/// completed.
 pub(crate) fn session(
     alloc: Global,
     conns: u32,

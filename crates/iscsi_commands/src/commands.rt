@@ -14,8 +14,8 @@ use std::marker::Model;
 
 /// The live commands, in the order in which they entered. No two have the same tag.
 ///
-/// A command keeps its slot until it is taken out. Its place in either order is found by binary search, so the cost of a call
-/// is bounded for any tags that an initiator chooses.
+/// A command keeps its slot until it is taken out. Its place in either order is found by binary search, so the cost
+/// of a call is bounded for any tags that an initiator chooses.
 #[derive(Drop)]
 pub struct Commands {
     slots: Slots<Live>,
@@ -141,8 +141,8 @@ impl Commands {
     }
 }
 
-/// How many commands of an order have a lower key. Where all or none have, as where the oldest command leaves or one with
-/// the greatest tag enters, it looks at the two ends alone.
+/// How many commands of an order have a lower key. Where all or none have, as where the oldest command leaves or one
+/// with the greatest tag enters, it looks at the two ends alone.
 fn first_from(order: &Order, slots: &Slots<Live>, by: Key, key: u64) -> usize
     requires within { (k : ℕ) → k < length order.now.items →
         slice_index_or order.now.items k 0 < length slots.now.values }

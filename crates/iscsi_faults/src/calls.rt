@@ -4,8 +4,8 @@ use crate::told::Halt;
 use iscsi_session::{Event, Options};
 use std::alloc::{AllocError, Global};
 
-/// The options that the words give: the first CmdSN, the size of the window, how many units there are, the depth of their
-/// sets, the protocol level, and the most events.
+/// The options that the words give: the first CmdSN, the size of the window, how many units there are, the depth of
+/// their sets, the protocol level, and the most events.
 #[derive(Drop)]
 pub(crate) struct Given {
     first: u32,

@@ -1,10 +1,10 @@
-//! The driver of `tests/loops` and `tests/faults`: it reads a script of calls from standard input, makes them of a session
-//! or of a loop with its ports, and prints what each of them answered.
+//! The driver of `tests/loops` and `tests/faults`: it reads a script of calls from standard input, makes them of a
+//! session or of a loop with its ports, and prints what each of them answered.
 //!
-//! A call that is refused for want of memory is made again, and what is printed is the second answer. So a run in which a
-//! request for memory is refused prints the same as one with ample memory. Where `open`, `serve` or the driver's own work
-//! is refused, all is begun anew. On standard error it tells how many calls were made again. What the thread layer refuses
-//! for another reason, the driver tells.
+//! A call that is refused for want of memory is made again, and what is printed is the second answer. So a run in
+//! which a request for memory is refused prints the same as one with ample memory. Where `open`, `serve` or the
+//! driver's own work is refused, all is begun anew. On standard error it tells how many calls were made again. What
+//! the thread layer refuses for another reason, the driver tells.
 #![tactic(auto)]
 
 mod calls;

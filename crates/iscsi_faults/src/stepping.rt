@@ -35,8 +35,8 @@ fn open(alloc: Global, options: Options) -> Result<Session, Halt> {
     }
 }
 
-/// Steps the session and tells what came of it. The list of the effects is a new one each time, so that each event asks for
-/// memory.
+/// Steps the session and tells what came of it. The list of the effects is a new one each time, so that each event
+/// asks for memory.
 fn step(alloc: Global, session: &mut Session, event: &Event, told: &mut Told) -> Result<(), Halt> {
     let mut effects = Vec::new(alloc);
     let numbers = take(session, event, &mut effects, told)?;

@@ -20,7 +20,8 @@ use owner::Owner;
 use parts::Parts;
 use std::alloc::Global;
 
-/// A session on the side of C or plain Rust: closed, or the owner of a host. In a clause `inside` is the host, if it is open.
+/// A session on the side of C or plain Rust: closed, or the owner of a host. In a clause `inside` is the host, if it
+/// is open.
 ///
 /// It begins as zeros, and a foreign caller never writes nor copies its fields.
 #[repr(C)]

@@ -206,7 +206,8 @@ pub fn common_arrival(line: &[u8]) -> Option<(u16, [u8; 48])>
     Some((u16::from(*d - b'0'), header))
 }
 
-/// A number of up to 18 digits at the front of a line, and what stands after the blank that ends it. `None` decides nothing.
+/// A number of up to 18 digits at the front of a line, and what stands after the blank that ends it. `None` decides
+/// nothing.
 #[inline(always)]
 fn few_first(bytes: &[u8]) -> Option<(u64, &[u8])>
     ensures { IfSome result (λ r. (decimal_of (2 ^ 64 - 1) (before_first is_blank bytes.now) ≡ Some r.0)

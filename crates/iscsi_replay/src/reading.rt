@@ -230,8 +230,8 @@ pub fn read_recording<R: Source>(
     requires { R.has_failed reader.old ≡ false }
     // Where no read answered an error and memory lasted, the answer is that of the bytes that the reader had.
     ensures read { IfSome (R.remaining reader.old) (λ bytes. Answers result (view recording.new) (read_of bytes)) }
-    // A fault is answered once the bytes seen make it certain, or at the end of the input. `Read` is answered only where
-    // they make none certain, and no more is read after a chunk that makes one certain.
+    // A fault is answered once the bytes seen make it certain, or at the end of the input. `Read` is answered only
+    // where they make none certain, and no more is read after a chunk that makes one certain.
     ensures order { ReadsInOrder read_of result (R.remaining reader.old) (R.remaining reader.new) }
     ensures failed { IsErrOf result ReplayFault.Read ↔ (R.has_failed reader.new ≡ true) }
     ensures kinds { IfErr result (λ e. (e ≢ ReplayFault.Write) × (e ≢ ReplayFault.BadSettings)) }

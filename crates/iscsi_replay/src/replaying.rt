@@ -104,7 +104,8 @@ fn write_chunk<W: Sink>(lines: &mut Lines, writer: &mut W) -> Result<(), ReplayF
     Ok(())
 }
 
-/// Writes the report of events on these connections, by a session that takes so many. On `Err` a front of it is written.
+/// Writes the report of events on these connections, by a session that takes so many. On `Err` a front of it is
+/// written.
 pub fn write_report<E: EventSource, W: Sink>(
     alloc: Global,
     settings: &Settings,
@@ -162,8 +163,8 @@ pub fn replay<R: Source, W: Sink>(
     // The bytes are a recording, and the report of its events is written, and nothing else.
     ensures ok { OnOk result (IfSome (R.remaining reader.old)
         (λ bytes. Reported settings.now (read_of bytes) (W.contents writer.old) (W.contents writer.new))) }
-    // It is the report of a log that keeps all promises: of delivery, enabling, aborts, closes, flow, the life of a command,
-    // replies and their numbers, and the order of effects.
+    // It is the report of a log that keeps all promises: of delivery, enabling, aborts, closes, flow, the life of a
+    // command, replies and their numbers, and the order of effects.
     ensures promises { OnOk result (IfSome (R.remaining reader.old)
         (λ bytes. KeepsWord settings.now (read_of bytes) (W.contents writer.old) (W.contents writer.new))) }
     // The answer is that of the bytes, unless memory ran out or a read or a write failed.

@@ -156,8 +156,8 @@ fn run_threads<T: Threads + Wait + Sync>(
 /// completions that the recording has are passed over. Once every header was taken and no command is live, the report
 /// of the events as the session took them is written. Their order may differ from run to run.
 ///
-/// The posting threads don't keep to the command window: a numbered request that arrives outside it is ignored (RFC 7143
-/// section 4.2.2.1), and isn't posted again.
+/// The posting threads don't keep to the command window: a numbered request that arrives outside it is ignored (RFC
+/// 7143 section 4.2.2.1), and isn't posted again.
 ///
 /// `BadSettings` stands before all others, and then come the refusals of reading. Then there are `NoThread`, where a
 /// thread can't be made, and `Exhausted`, where the arrivals and the answers are more than 2,097,152 events. After
@@ -174,9 +174,9 @@ pub fn replay_threads<T: Threads + Wait + Sync, R: Source, W: Sink>(
     requires write_fresh { W.has_failed writer.old ≡ false }
     ensures bad { IsErrOf result ReplayFault.BadSettings ↔ (are_valid settings.now ≡ false) }
     ensures untouched { IsErrOf result ReplayFault.BadSettings → (reader.new ≡ reader.old) × (writer.new ≡ writer.old) }
-    // The bytes are a recording, and the report of a journal is written, and nothing else: of each connection the journal
-    // has the recording's headers in their order, of each unit answers in the order of its jobs, and at its end no command
-    // is live. It is the report of a log that keeps all promises.
+    // The bytes are a recording, and the report of a journal is written, and nothing else: of each connection the
+    // journal has the recording's headers in their order, of each unit answers in the order of its jobs, and at its
+    // end no command is live. It is the report of a log that keeps all promises.
     ensures ok { OnOk result (IfSome (R.remaining reader.old)
         (λ bytes. ThreadsReported settings.now (read_of bytes) (W.contents writer.old) (W.contents writer.new))) }
     // The answer is that of the bytes, unless memory ran out, a read or a write failed, or threads stopped.
@@ -188,8 +188,8 @@ pub fn replay_threads<T: Threads + Wait + Sync, R: Source, W: Sink>(
     // A fault is answered once the bytes seen make it certain, or at the end of the input, and `Read` only where they
     // make none certain. The threads begin at the end of the input.
     ensures order { ReadsInOrder read_of result (R.remaining reader.old) (R.remaining reader.new) }
-    // A refusal that reading or the threads give leaves the writer as it was, whatever was known of its bytes and of the
-    // reader's.
+    // A refusal that reading or the threads give leaves the writer as it was, whatever was known of its bytes and of
+    // the reader's.
     ensures unwritten { IfErr result (λ e. ComesOfReading e → writer.new ≡ writer.old) }
     // The writer is as it was, or the input was read to its end, and is a recording.
     ensures whole { (writer.new ≡ writer.old) ⊎ IsReadWhole (R.remaining reader.old) (R.remaining reader.new) }

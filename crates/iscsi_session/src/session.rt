@@ -187,9 +187,9 @@ impl Session {
         ensures flow { (o : Setting) (h : List Event) → StandsFor o self.old h →
             OnOk result (Flows o (trace_of o h) (trace_of o (h ++ event.now ∷ []))) }
 
-        // The log of those events and this one keeps the promises: the numbered requests that it delivers are those received
-        // without a gap, in CmdSN order; it enables what the rules of task sets enable; what a completed abort covers is over;
-        // nothing goes on where it was closed.
+        // The log of those events and this one keeps the promises: the numbered requests that it delivers are those
+        // received without a gap, in CmdSN order; it enables what the rules of task sets enable; what a completed
+        // abort covers is over; nothing goes on where it was closed.
         ensures delivery { (o : Setting) (h : List Event) → StandsFor o self.old h →
             let all = h ++ event.now ∷ [] in OnOk result (delivered (run_of o all) ≡ executed o all) }
         ensures enabling { (o : Setting) (h : List Event) → StandsFor o self.old h →
@@ -199,8 +199,8 @@ impl Session {
         ensures closes { (o : Setting) (h : List Event) → StandsFor o self.old h →
             let all = h ++ event.now ∷ [] in OnOk result (ClosesHoldIn o all (run_of o all)) }
 
-        // Each command is started at most once, and each request answered at most once; the StatSNs of a connection count
-        // its replies; the effects of an item stand in order; and the definitions mean what they say.
+        // Each command is started at most once, and each request answered at most once; the StatSNs of a connection
+        // count its replies; the effects of an item stand in order; and the definitions mean what they say.
         ensures started_once { (o : Setting) (h : List Event) → StandsFor o self.old h →
             let all = h ++ event.now ∷ [] in OnOk result (StartsOnce (run_of o all)) }
         ensures answered_once { (o : Setting) (h : List Event) → StandsFor o self.old h →
@@ -212,7 +212,8 @@ impl Session {
         ensures meaning { (o : Setting) (h : List Event) → StandsFor o self.old h →
             OnOk result (MeansWhatItSays o (trace_of o (h ++ event.now ∷ []))) }
 
-        // No event gives more effects than the bound, and with that much room memory isn't wanting. `out` keeps its room.
+        // No event gives more effects than the bound, and with that much room memory isn't wanting. `out` keeps its
+        // room.
         ensures bound { (o : Setting) (h : List Event) → StandsFor o self.old h →
             OnOk result (length (next_entry o h event.now).effects ≤ effect_bound_of o (trace_of o h)) }
         ensures room { (o : Setting) (h : List Event) → StandsFor o self.old h →

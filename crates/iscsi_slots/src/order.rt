@@ -7,7 +7,8 @@ ghost use Rattle.iscsi_slots.specs.Queued.{queued};
 use std::alloc::{AllocError, Global};
 use std::marker::Model;
 
-/// Slots in an order. A slot is a number of two bytes, so that what moves when one comes or goes among the others is short.
+/// Slots in an order. A slot is a number of two bytes, so that what moves when one comes or goes among the others is
+/// short.
 #[derive(Drop)]
 pub struct Order {
     /// The slots, from `head` on.
@@ -94,8 +95,8 @@ impl Order {
     }
 }
 
-/// Makes a place at the end of an order of so many places: where its first slot stands then. When it is full, the places
-/// before that are taken away.
+/// Makes a place at the end of an order of so many places: where its first slot stands then. When it is full, the
+/// places before that are taken away.
 fn make_place(order: &mut Vec<u16>, head: usize, places: usize) -> usize
     requires head { head ≤ length order.old.items }
     requires some { length (drop head order.old.items) < places }

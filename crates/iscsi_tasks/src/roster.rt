@@ -11,8 +11,8 @@ use std::marker::Model;
 
 /// The members of a set, in the order in which they entered.
 ///
-/// A member keeps its slot until it leaves. So what closes up when one leaves from among the others is two bytes for each
-/// behind it.
+/// A member keeps its slot until it leaves. So what closes up when one leaves from among the others is two bytes for
+/// each behind it.
 #[derive(Drop)]
 pub(crate) struct Roster {
     slots: Slots<Member>,

@@ -97,8 +97,8 @@ impl TaskSet {
         self.depth
     }
 
-    /// How many commands the last call of `enter` tested for being free: 1 where the command entered, and 0 where the set
-    /// was full or `enter` wasn't called yet.
+    /// How many commands the last call of `enter` tested for being free: 1 where the command entered, and 0 where the
+    /// set was full or `enter` wasn't called yet.
     pub fn looked(&self) -> u32
         ensures { result ≡ self.now.looked }
     {
@@ -129,8 +129,8 @@ impl TaskSet {
 
     /// The command with this ticket leaves. Where there is none, nothing changes.
     ///
-    /// What grows with the set is that the commands behind it close up, by moving two bytes for each; none where the oldest
-    /// leaves.
+    /// What grows with the set is that the commands behind it close up, by moving two bytes for each; none where the
+    /// oldest leaves.
     pub fn leave(&mut self, ticket: u64) -> Option<Task>
         ensures answer { result ≡ with_ticket ticket (tasks_in self.old) }
         ensures state { self.new ≡ left_by self.old (with_ticket ticket (tasks_in self.old)) }
@@ -156,8 +156,8 @@ impl TaskSet {
 
     /// The oldest of the covered commands leaves. Where none is covered, nothing changes.
     ///
-    /// It looks along the set: aborts are rare, and what they cover is no part of its order. For a function whose number
-    /// is below all that the set held since one last covered nothing, or since it was empty, it looks at none.
+    /// It looks along the set: aborts are rare, and what they cover is no part of its order. For a function whose
+    /// number is below all that the set held since one last covered nothing, or since it was empty, it looks at none.
     pub fn leave_first(&mut self, cover: &Cover) -> Option<Task>
         ensures answer { result ≡ first_covered cover.now (tasks_in self.old) }
         ensures state { self.new ≡ left_by self.old (first_covered cover.now (tasks_in self.old)) }
@@ -237,8 +237,8 @@ impl TaskSet {
 
     /// The oldest enabled ticket that no call gave before.
     ///
-    /// It looks at the commands from the first to the last that may be new. Where a caller asks after each change until there
-    /// is none, those are the commands that the last change enabled, and it looks at each of them once.
+    /// It looks at the commands from the first to the last that may be new. Where a caller asks after each change
+    /// until there is none, those are the commands that the last change enabled, and it looks at each of them once.
     pub fn next_new(&mut self) -> Option<u64>
         ensures answer { result ≡ next_in self.old.list }
         ensures state { self.new ≡ given_by self.old }

@@ -24,9 +24,9 @@ use std::sync::Wait;
 use std::thread;
 use std::thread::{PromisedHandle, Scope, Threads};
 
-/// Posts each list of headers in a thread of its own, in the order of the connections, answers the jobs of each unit in a
-/// thread of its own by what `work` says, and runs the loop here. It ends when every list was posted, every header was
-/// taken, and no command is live; then all threads have ended.
+/// Posts each list of headers in a thread of its own, in the order of the connections, answers the jobs of each unit
+/// in a thread of its own by what `work` says, and runs the loop here. It ends when every list was posted, every
+/// header was taken, and no command is live; then all threads have ended.
 ///
 /// `BadOptions` where an option is outside its limits, a CID stands twice, or there isn't one list for each
 /// connection; then `NoMemory`, `NoThread` where no thread can be made, and `Exhausted` where the lists and their

@@ -20,8 +20,8 @@ pub(crate) type Received = Option<Option<Request>>;
 /// As many of them as the window has places, at every time.
 type Ring = HeapCircularBuffer<Received>;
 
-/// The places, of which contracts see the ring alone. The counters, and how many places at the front hold no request, say
-/// where a search need not look.
+/// The places, of which contracts see the ring alone. The counters, and how many places at the front hold no request,
+/// say where a search need not look.
 #[derive(Drop)]
 pub(crate) struct Places {
     ring: Ring,
@@ -88,8 +88,8 @@ pub(crate) fn put(places: &mut Places, k: u32, received: Received)
     }
 }
 
-/// How many places at the front hold no request, once place `k` was written, with a request or with none. The first so many
-/// of the others don't.
+/// How many places at the front hold no request, once place `k` was written, with a request or with none. The first
+/// so many of the others don't.
 fn clear_after(ring: &Ring, clear: u32, k: u32, is_held: bool) -> u32
     requires held { IsClear (min clear k) ring.now.items }
     requires none { is_held ≡ false → IsClear clear ring.now.items }

@@ -26,8 +26,8 @@ const SETTINGS: Settings = Settings {
     level: 1,
 };
 
-// One command has one order of events, so its report is known. The unit's answer comes of its thread: the recording's is
-// passed over.
+// One command has one order of events, so its report is known. The unit's answer comes of its thread: the recording's
+// is passed over.
 #[test]
 fn reports_one_command(rt: HostRuntime) {
     let mut sink = Watched::new(Vec::new(rt.alloc()));

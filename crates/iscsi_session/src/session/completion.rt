@@ -66,8 +66,8 @@ impl Session {
         sets::leave(&mut self.sets, &command, found.place, out);
     }
 
-    /// The live command with this ticket, if it is enabled. Its ticket is looked for once among the live commands, and once
-    /// in its set.
+    /// The live command with this ticket, if it is enabled. Its ticket is looked for once among the live commands,
+    /// and once in its set.
     fn find_enabled(&self, ticket: u64) -> Option<Enabled>
         ensures command { option_map (λ e. e.command) result ≡ find_enabled self.now ticket }
         ensures known { IfSome result (λ e. known_in e.command.conn self.now.conns ≡ true) }

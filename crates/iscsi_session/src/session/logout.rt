@@ -145,8 +145,8 @@ impl Session {
         }
     }
 
-    /// The request that is held `ahead` numbers after the expected one is taken out, if it is of the connection, or of any
-    /// for None.
+    /// The request that is held `ahead` numbers after the expected one is taken out, if it is of the connection, or
+    /// of any for None.
     fn empty_at(&mut self, ahead: u32, scope: Option<u16>, out: &mut Vec<Effect>)
         requires room { vec_len out.old + count_by is_held self.old.window.places ≤ vec_capacity out.old }
         requires lowest { is_clear_below scope ahead self.old.window.places ≡ true }
