@@ -62,9 +62,21 @@ def must(words, stdin=subprocess.DEVNULL, **how):
         raise NotBuilt("\n".join([*ran.stdout.split("\n")[-20:], f"{' '.join(words)}: failed"]))
 
 
+def is_current(program):
+    """Whether a program is there, and no source is newer."""
+    if not program.exists():
+        return False
+    built = program.stat().st_mtime
+    parts = [path for part in ("src", "specs", "proofs") for path in TOP.glob(f"crates/*/{part}")]
+    sources = [TOP / "crates.txt", *(path for part in parts for path in [part, *part.rglob("*")])]
+    return all(path.stat().st_mtime <= built for path in sources)
+
+
 def build():
     """Builds the program and the driver, where they are missing or older than their sources."""
     must([str(TOP / "iscsi-replay"), "--help"])
+    if is_current(DRIVER):
+        return
     driver = DRIVER.parents[1]
     words = (driver / "args").read_text().split()
     with (driver / "stdin").open() as script:
