@@ -49,8 +49,10 @@ fn read(recording: &[u8]) -> (Vec<Connection>, Vec<Event>) {
     (connections, events)
 }
 
-/// The options that the words of the program say, and whether they have `--threads`.
-fn options_of<'a>(mut words: impl Iterator<Item = &'a str>) -> (Options, bool) {
+/// The options that the words of the program say, and whether they have `--threads`. An option and its value are two
+/// words, or one with `=` between them.
+fn options_of(words: &str) -> (Options, bool) {
+    let mut words = words.split_whitespace().flat_map(|word| word.splitn(2, '='));
     let (mut options, mut threads) = (Options::default(), false);
     while let Some(word) = words.next() {
         if word == "--threads" {
@@ -168,7 +170,7 @@ fn examples() {
             let recording = fs::read(&path).expect("a recording");
             let first =
                 String::from_utf8_lossy(recording.split(|byte| *byte == b'\n').next().unwrap_or(&[])).into_owned();
-            let words = first.strip_prefix("# iscsi-replay: ").unwrap_or("").split_whitespace();
+            let words = first.strip_prefix("# iscsi-replay: ").unwrap_or("");
             let wanted = fs::read(path.with_extension("report")).expect("its report");
             judge_report(&path.display().to_string(), &options_of(words).0, &recording, &wanted);
             count += 1;
@@ -197,7 +199,7 @@ fn cases() {
     assert!(cases.len() > 50, "{} cases", cases.len());
     for case in cases {
         let words = fs::read_to_string(case.join("args")).unwrap_or_default();
-        let (options, threads) = options_of(words.split_whitespace());
+        let (options, threads) = options_of(&words);
         let recording = fs::read(case.join("recording")).expect("a recording");
         let wanted = fs::read(case.join("report")).expect("a report");
         // With threads the program passes the completions of the recording over, and makes its own.
@@ -219,11 +221,6 @@ fn reports_read_again() {
             recording.lines().filter(|line| line.starts_with("conn ")).map(|line| line.to_string() + "\n").collect();
         let wanted = fs::read_to_string(case.join("report")).expect("a report");
         again += &wanted;
-        judge_report(
-            &case.display().to_string(),
-            &options_of(words.split_whitespace()).0,
-            again.as_bytes(),
-            wanted.as_bytes(),
-        );
+        judge_report(&case.display().to_string(), &options_of(&words).0, again.as_bytes(), wanted.as_bytes());
     }
 }

@@ -157,6 +157,3 @@ pub fn settings<'a>(alloc: Global, words: &'a [&'a str]) -> Result<Option<(Setti
     };
     Ok(Some((settings, has_flag(&matches, "threads"))))
 }
-
-#[cfg(test)]
-mod tests;

@@ -85,6 +85,3 @@ impl Conns {
         list
     }
 }
-
-#[cfg(test)]
-mod tests;

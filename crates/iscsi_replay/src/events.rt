@@ -129,13 +129,6 @@ impl Events {
         }
     }
 
-    /// How many there are.
-    pub fn len(&self) -> usize
-        ensures { result ≡ length self.now }
-    {
-        self.count
-    }
-
     /// Tells whether there are none.
     pub fn is_empty(&self) -> bool
         ensures { result ≡ (length self.now == 0) }
@@ -209,6 +202,3 @@ impl EventSource for Cursor<'_> {
         true
     }
 }
-
-#[cfg(test)]
-mod tests;

@@ -15,8 +15,6 @@ mod program;
 mod reading;
 mod recording;
 mod replaying;
-#[cfg(test)]
-mod session_tests;
 mod settings;
 mod sink;
 mod source;

@@ -246,6 +246,3 @@ pub fn read_recording<R: Source>(
     *recording = reading.finish()?;
     Ok(())
 }
-
-#[cfg(test)]
-mod tests;

@@ -203,6 +203,3 @@ pub fn replay<R: Source, W: Sink>(
         writer,
     )
 }
-
-#[cfg(test)]
-mod tests;

@@ -211,6 +211,3 @@ pub fn replay_threads<T: Threads + Wait + Sync, R: Source, W: Sink>(
         writer,
     )
 }
-
-#[cfg(test)]
-mod tests;

@@ -33,6 +33,3 @@ pub use serving::{serve, serve_unlogged};
 pub use session_loop::Loop;
 pub use turn::Turn;
 pub use working::UnitWork;
-
-#[cfg(test)]
-mod tests;

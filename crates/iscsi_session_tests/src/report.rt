@@ -1,7 +1,7 @@
-//! The lines of a report.
+//! The lines of a report that no recording reaches: the greatest numbers, and lines that are put behind others.
 
-use iscsi_session::{Attr, Effect, Event, Numbers, Why, put_effect, put_event};
-use iscsi_wire::{Reply, Request, Sense};
+use iscsi_session::{Attr, Effect, Event, Numbers, put_effect, put_event};
+use iscsi_wire::Reply;
 use std::alloc::Global;
 use std::process::Abort;
 use std::test::Fail;
@@ -30,32 +30,6 @@ fn check_effects(rt: &impl Abort, alloc: Global, cases: &[(Effect, &str)]) -> Re
 }
 
 #[test]
-fn lines_of_requests_and_numbers(rt: HostRuntime) -> Result<(), Fail> {
-    let first = Request::read(0, &header(0xfe, 0xa1));
-    let second = Request::read(65535, &header(1, 0x0b));
-    check_effects(
-        &rt,
-        rt.alloc(),
-        &[
-            (
-                Effect::Deliver { request: first },
-                "  deliver 0 ffff00fe 00be00a1\n",
-            ),
-            (
-                Effect::Immediate { request: second },
-                "  immediate 65535 ffff0001 00be000b\n",
-            ),
-            (
-                Effect::Wait { request: first },
-                "  wait 0 ffff00fe 00be00a1\n",
-            ),
-            (Effect::Void { sn: 0x12cd_ef90 }, "  void 12cdef90\n"),
-            (Effect::Empty { sn: 5 }, "  empty 00000005\n"),
-        ],
-    )
-}
-
-#[test]
 fn lines_of_tasks(rt: HostRuntime) -> Result<(), Fail> {
     let enter = |ticket, unit, attr| Effect::Enter { ticket, unit, attr };
     check_effects(
@@ -75,62 +49,6 @@ fn lines_of_tasks(rt: HostRuntime) -> Result<(), Fail> {
                     unit: 3,
                 },
                 "  leave 100\n",
-            ),
-        ],
-    )
-}
-
-#[test]
-fn lines_of_ends_and_ignored_events(rt: HostRuntime) -> Result<(), Fail> {
-    let ignore = |why| Effect::Ignore { why };
-    check_effects(
-        &rt,
-        rt.alloc(),
-        &[
-            (Effect::CloseConn { conn: 42 }, "  close-conn 42\n"),
-            (Effect::CloseSession, "  close-session\n"),
-            (ignore(Why::Outside), "  ignore outside\n"),
-            (ignore(Why::Duplicate), "  ignore duplicate\n"),
-            (ignore(Why::Closed), "  ignore closed\n"),
-            (ignore(Why::Stale), "  ignore stale\n"),
-            (ignore(Why::Data), "  ignore data\n"),
-        ],
-    )
-}
-
-#[test]
-fn lines_of_replies(rt: HostRuntime) -> Result<(), Fail> {
-    let scsi = Reply::Scsi {
-        itt: 0xa3,
-        status: 2,
-        sense: Some(Sense {
-            key: 5,
-            asc: 0x25,
-            ascq: 0,
-        }),
-    };
-    let nop = Reply::Nop { itt: 0xb1 };
-    let send = |conn, stat_sn, reply| Effect::Send {
-        conn,
-        stat_sn,
-        reply,
-    };
-    check_effects(
-        &rt,
-        rt.alloc(),
-        &[
-            (
-                send(1, 3, scsi),
-                "  send 1 \
-                 21800002000000140000000000000000000000a300000000\
-                 000000030000000200000021000000000000000000000000\
-                 0012700005000000000a00000000250000000000\n",
-            ),
-            (
-                send(2, 1, nop),
-                "  send 2 \
-                 20800000000000000000000000000000000000b1ffffffff\
-                 000000010000000200000021000000000000000000000000\n",
             ),
         ],
     )
