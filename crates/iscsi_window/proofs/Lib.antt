@@ -4,4 +4,4 @@ pub mod PlaceLemmas
 pub mod SinceLemmas
 pub mod SoundLemmas
 pub mod TagLemmas
-pub mod ClearLemmas
+pub mod BoundLemmas

@@ -1,5 +1,5 @@
 -- Places that are read and written, also beyond the last one.
-use Rattle.std.proofs.Common.{◌≡◌, ℕ, zero, suc, ◌<◌, length, arith, List, [], ◌∷◌, get_or, set, slice_get, Option, None, ap, refl}
+use Rattle.std.proofs.Common.{is_some, false, ◌≡◌, ℕ, zero, suc, ◌<◌, length, arith, List, [], ◌∷◌, get_or, set, slice_get, Option, Some, None, ap, sym, refl}
 use Rattle.std.specs.Option.{option_flatten}
 
 pub option_flatten-slice_get : {X : Type 0} (xs : List (Option X)) (k : ℕ) → option_flatten (slice_get xs k) ≡ get_or xs k None
@@ -12,6 +12,16 @@ past_from_slice_get [] k y none = refl
 past_from_slice_get (x ∷ xs) zero y none = cc
 past_from_slice_get (x ∷ xs) (suc k) y none = ap (λ zs. x ∷ zs) (past_from_slice_get xs k y none)
 
+-- what stands at a place, written there, changes nothing
+pub set_same : {X : Type 0} (xs : List X) (k : ℕ) (x : X) → slice_get xs k ≡ Some x → set xs k x ≡ xs
+set_same [] k x read = cc
+set_same (y ∷ xs) zero x read = let same : y ≡ x = cc in ap (λ z. z ∷ xs) (sym same)
+set_same (y ∷ xs) (suc k) x read = ap (λ zs. y ∷ zs) (set_same xs k x read)
+
 pub first_is : {X : Type 0} (xs : List X) → 0 < length xs → slice_get xs 0 ≡ None → ⊥
 first_is [] some none = omega arith
 first_is (x ∷ xs) some none = cc
+
+pub none_there : {X : Type 0} (x : Option X) → is_some x ≡ false → x ≡ None
+none_there None none = refl
+none_there (Some x) none = cc

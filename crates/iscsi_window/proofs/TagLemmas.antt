@@ -24,23 +24,24 @@ one_of g x h is same = ap (is_group g) is ∙ eq-eqb h g (sym same)
 none_of : (g : ℕ) (x : Option ℕ) (h : ℕ) → x ≡ Some h → (g ≡ h → ⊥) → is_group g x ≡ false
 none_of g x h is other = ap (is_group g) is ∙ ne_eqb h g (λ e. other (sym e))
 
-group_of_true : (g : ℕ) (x : Option ℕ) → is_group g x ≡ true → x ≡ Some g
+pub group_of_true : (g : ℕ) (x : Option ℕ) → is_group g x ≡ true → x ≡ Some g
 group_of_true g None passes = cc
 group_of_true g (Some h) passes = ap Some (eqb-true h g passes)
 
 -- a counter that a group of a place has stands in the table
-group_within : (place : Option (Option Request)) (g : ℕ) → group_of place ≡ Some g → g < 4093
+pub group_within : (place : Option (Option Request)) (g : ℕ) → group_of place ≡ Some g → g < 4093
 group_within None g is = cc
 group_within (Some None) g is = cc
 group_within (Some (Some r)) g is = let same : Some (itt r % 4093) ≡ Some g = is in let eq : itt r % 4093 ≡ g = cc in omega (arith, eq)
 
-is_held : (counts : List ℕ) (xs : List (Option (Option Request))) (k g : ℕ) → IsCounted counts xs → k < length xs → group_of (get_or xs k None) ≡ Some g → 0 < get_or counts g 0
+pub is_held : (counts : List ℕ) (xs : List (Option (Option Request))) (k g : ℕ) → IsCounted counts xs → k < length xs → group_of (get_or xs k None) ≡ Some g → 0 < get_or counts g 0
 is_held counts xs k g c within is =
     let least : cond (is_of g (get_or xs k None)) 1 0 ≤ count_by (is_of g) xs = get_or-le-sum_by (λ x. cond (is_of g x) 1 0) xs k None within in
     let one : ◌≡◌ {A = ℕ} (cond (is_of g (get_or xs k None)) 1 0) 1 = ap (λ b. cond b 1 0) (one_of g (group_of (get_or xs k None)) g is refl) in
     omega (arith, least, one, c.exact g)
 
-is_few : (counts : List ℕ) (xs : List (Option (Option Request))) (g : ℕ) → IsCounted counts xs → get_or counts g 0 ≤ 1024
+-- a counter has room for one more
+pub is_few : (counts : List ℕ) (xs : List (Option (Option Request))) (g : ℕ) → IsCounted counts xs → get_or counts g 0 < 65535
 is_few counts xs g c = omega (arith, c.exact g, c.few, count_by-le-length (is_of g) xs)
 
 -- what was there is taken back
@@ -76,7 +77,7 @@ lowered_counted counts xs k c within = by_group (group_of (get_or xs k None)) re
     }
 
 -- what comes there is counted, where nothing was
-raised_counted : (counts : List ℕ) (xs : List (Option (Option Request))) (k : ℕ) (v : Option (Option Request)) → IsCounted counts xs → k < length xs → get_or xs k None ≡ None → IsCounted (raised counts (group_of v)) (set xs k v)
+pub raised_counted : (counts : List ℕ) (xs : List (Option (Option Request))) (k : ℕ) (v : Option (Option Request)) → IsCounted counts xs → k < length xs → get_or xs k None ≡ None → IsCounted (raised counts (group_of v)) (set xs k v)
 raised_counted counts xs k v c within free = by_group (group_of v) refl
   where
     more : (g : ℕ) → count_by (is_of g) (set xs k v) ≡ get_or counts g 0 + cond (is_group g (group_of v)) 1 0
@@ -119,12 +120,6 @@ put_within counts xs k v c within =
 
 pub read_held : (counts : List ℕ) (xs : List (Option (Option Request))) (k : ℕ) (x : Option (Option Request)) → IsCounted counts xs → slice_get xs k ≡ Some x → (g : ℕ) → group_of x ≡ Some g → 0 < get_or counts g 0
 read_held counts xs k x c read g is = is_held counts xs k g c (slice_get_within xs k x read) (ap group_of (get_or_from_slice_get xs k x None read) ∙ is)
-
-pub read_few : (counts : List ℕ) (xs : List (Option (Option Request))) (k : ℕ) (x : Option (Option Request)) → IsCounted counts xs → slice_get xs k ≡ Some x → (g : ℕ) → get_or (lowered counts (group_of x)) g 0 < 65535
-read_few counts xs k x c read g =
-    let less = lowered_counted counts xs k c (slice_get_within xs k x read) in
-    let few : get_or (lowered counts (group_of (get_or xs k None))) g 0 ≤ 1024 = is_few (lowered counts (group_of (get_or xs k None))) (set xs k None) g less in
-    subst (λ y. get_or (lowered counts (group_of y)) g 0 < 65535) (get_or_from_slice_get xs k x None read) (omega (arith, few))
 
 pub put_counted : (counts : List ℕ) (xs : List (Option (Option Request))) (k : ℕ) (x v : Option (Option Request)) → IsCounted counts xs → slice_get xs k ≡ Some x → IsCounted (raised (lowered counts (group_of x)) (group_of v)) (set xs k v)
 put_counted counts xs k x v c read = subst (λ y. IsCounted (raised (lowered counts (group_of y)) (group_of v)) (set xs k v)) (get_or_from_slice_get xs k x None read) (put_within counts xs k v c (slice_get_within xs k x read))
@@ -176,7 +171,7 @@ opened_counted size few = record {
 -- ---- a search
 
 -- a command with a tag is of the tag's group
-command_of : (tag unit : ℕ) (x : Option (Option Request)) → is_command tag unit x ≡ true → is_of (tag % 4093) x ≡ true
+pub command_of : (tag unit : ℕ) (x : Option (Option Request)) → is_command tag unit x ≡ true → is_of (tag % 4093) x ≡ true
 command_of tag unit None is = is
 command_of tag unit (Some None) is = is
 command_of tag unit (Some (Some r)) is =

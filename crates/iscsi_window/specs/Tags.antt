@@ -1,5 +1,5 @@
 -- Held requests, counted by groups of tags: those of one group leave the same remainder on division by 4093.
-use Rattle.std.specs.Prelude.{◌≡◌, ℕ, ◌+◌, ◌-◌, ◌%◌, ◌<◌, ◌≤◌, ◌==◌, Bool, false, List, length, count_by, slice_set, slice_index, slice_index_or, Option, Some, None}
+use Rattle.std.specs.Prelude.{◌≡◌, ℕ, ◌+◌, ◌-◌, ◌%◌, ◌^◌, ◌<◌, ◌≤◌, ◌==◌, min, Bool, true, false, if◌then◌else◌, List, length, count_by, slice_set, slice_index, slice_index_or, Option, Some, None}
 use Rattle.iscsi_wire.specs.Fields.{itt}
 use Rattle.iscsi_wire.specs.declared.request.Request.{Request}
 
@@ -31,6 +31,23 @@ pub record IsCounted (counts : List ℕ) (places : List (Option (Option Request)
   pub few : length places ≤ 1024
   pub exact : (g : ℕ) → slice_index counts g ≡ count_by (is_of g) places
 
--- none of the first so many places holds a request
-abbrev pub IsClear : ℕ → List (Option (Option Request)) → Type 0
-IsClear clear places = (k : ℕ) → k < clear → group_of (slice_index_or places k None) ≡ None
+abbrev pub is_none_of : List ℕ → Option ℕ → Bool
+is_none_of counts None = true
+is_none_of counts (Some g) = slice_index counts g == 0
+
+-- a request of the group has this number from now on, the only one or one more
+abbrev pub occupied : List ℕ → Option ℕ → ℕ → Bool → List ℕ
+occupied bounds None number is_only = bounds
+occupied bounds (Some g) number true = slice_set bounds g number
+occupied bounds (Some g) number false = slice_set bounds g (min number (slice_index bounds g))
+
+-- the group's request with this number is taken out
+abbrev pub vacated : List ℕ → Option ℕ → ℕ → List ℕ
+vacated bounds None number = bounds
+vacated bounds (Some g) number = if slice_index bounds g == number then slice_set bounds g (min (number + 1) (2 ^ 64 - 1)) else bounds
+
+-- no request of a group is held for a number below the group's bound; the first place has number `turned`
+pub record AreBounds (bounds : List ℕ) (turned : ℕ) (places : List (Option (Option Request))) : Type 0 where
+  pub as_many : length bounds ≡ 4093
+  pub small : (g : ℕ) → slice_index bounds g < 2 ^ 64
+  pub below : (k g : ℕ) → group_of (slice_index_or places k None) ≡ Some g → slice_index bounds g ≤ turned + k

@@ -1,11 +1,10 @@
-//! The places of a window, and how many requests they hold of each group of tags.
+//! The places of a window, with how many requests they hold of each group of tags, and from where on.
 
-ghost use Rattle.std.specs.Prelude.{◌≡◌, ℕ, List, [], ◌∷◌, ◌++◌, ◌≤◌, ◌<◌, length, drop, replicate, slice_set, slice_index_or, Option, None, IfOk, position, take, min, false};
+ghost use Rattle.std.specs.Prelude.{◌≡◌, ℕ, List, [], ◌∷◌, ◌++◌, ◌≤◌, ◌<◌, length, drop, replicate, slice_set, slice_index_or, Option, Some, None, IfOk, position, take, not, is_some, if◌then◌else◌};
 ghost use Rattle.circular_buffer.specs.Buffer.{buffer};
-ghost use Rattle.iscsi_window.specs.Tags.{IsClear};
 ghost use Rattle.iscsi_window.specs.Windows.{is_command, is_held_from};
 
-use crate::tags::TagCounts;
+use crate::tags::{TagBounds, TagCounts};
 use circular_buffer::HeapCircularBuffer;
 use iscsi_wire::{Request, unit_of};
 use std::alloc::{AllocError, Global};
@@ -20,27 +19,27 @@ pub(crate) type Received = Option<Option<Request>>;
 /// As many of them as the window has places, at every time.
 type Ring = HeapCircularBuffer<Received>;
 
-/// The places, of which contracts see the ring alone. The counters, and how many places at the front hold no request,
-/// say where a search need not look.
+/// The places, of which contracts see the ring alone. The counters and bounds say where a search need not look.
 #[derive(Drop)]
 pub(crate) struct Places {
     ring: Ring,
     tags: TagCounts,
-    /// None of the first so many places holds a request.
-    clear: u32,
+    bounds: TagBounds,
+    /// How many places turned, which is the number of the first place. It counts no further than it can.
+    turned: u64,
 }
 
 impl Model for Places {
     ghost use Rattle.std.specs.Prelude.{Option};
     ghost use Rattle.circular_buffer.specs.Buffer.{Buffer};
     ghost use Rattle.iscsi_wire.specs.declared.request.Request.{Request};
-    ghost use Rattle.iscsi_window.specs.Tags.{IsCounted, IsClear};
+    ghost use Rattle.iscsi_window.specs.Tags.{IsCounted, AreBounds};
 
     ghost Value = { Buffer (Option (Option Request)) };
 
     ghost view = { λ p. p.ring };
 
-    ghost invariant = { λ p. IsCounted p.tags p.ring.items × IsClear p.clear p.ring.items };
+    ghost invariant = { λ p. IsCounted p.tags p.ring.items × AreBounds p.bounds p.turned p.ring.items };
 }
 
 /// So many places, and nothing received.
@@ -50,10 +49,12 @@ pub(crate) fn empty_places(alloc: Global, size: u32) -> Result<Places, AllocErro
 {
     let ring = empty_ring(alloc, size)?;
     let tags = TagCounts::open(alloc)?;
+    let bounds = TagBounds::open(alloc)?;
     Ok(Places {
         ring,
         tags,
-        clear: 0,
+        bounds,
+        turned: 0,
     })
 }
 
@@ -75,48 +76,40 @@ pub(crate) fn at(places: &Places, k: u32) -> Received
     places.ring.get(k as usize).copied().flatten()
 }
 
-/// Writes place `k`. Beyond the last place nothing is written.
-pub(crate) fn put(places: &mut Places, k: u32, received: Received)
-    ensures { places.new ≡ buffer (slice_set places.old.items k received) places.old.capacity }
+/// Receives the number of place `k`, with a request that is held for it or with none, and answers true. Where it was
+/// received before, the answer is false and nothing changes.
+pub(crate) fn fill(places: &mut Places, k: u32, held: Option<Request>) -> bool
+    requires { k < length places.old.items }
+    ensures answer { result ≡ not (is_some (slice_index_or places.old.items k None)) }
+    ensures state { places.new ≡ buffer
+        (if is_some (slice_index_or places.old.items k None) then places.old.items else slice_set places.old.items k (Some held))
+        places.old.capacity }
+{
+    let Some(place) = places.ring.get_mut(k as usize) else {
+        unreachable!();
+    };
+    if place.is_some() {
+        return false;
+    }
+    let received = Some(held);
+    let number = places.turned.saturating_add(k as u64);
+    let is_only = places.tags.is_none_like(&received);
+    places.bounds.occupy(&received, number, is_only);
+    places.tags.raise(&received);
+    *place = received;
+    true
+}
+
+/// Place `k` holds no request from now on, and its number stays received. Beyond the last place nothing changes.
+pub(crate) fn clear(places: &mut Places, k: u32)
+    ensures { places.new ≡ buffer (slice_set places.old.items k (Some None)) places.old.capacity }
 {
     if let Some(place) = places.ring.get_mut(k as usize) {
+        let number = places.turned.saturating_add(k as u64);
+        places.bounds.vacate(place, number);
         places.tags.lower(place);
-        places.tags.raise(&received);
-        *place = received;
-        let is_held = holds_from(&received, None);
-        places.clear = clear_after(&places.ring, places.clear, k, is_held);
+        *place = Some(None);
     }
-}
-
-/// How many places at the front hold no request, once place `k` was written, with a request or with none. The first
-/// so many of the others don't.
-fn clear_after(ring: &Ring, clear: u32, k: u32, is_held: bool) -> u32
-    requires held { IsClear (min clear k) ring.now.items }
-    requires none { is_held ≡ false → IsClear clear ring.now.items }
-    requires few { length ring.now.items ≤ 1024 }
-    ensures { IsClear result ring.now.items }
-{
-    if is_held {
-        clear.min(k)
-    } else {
-        clear_from(ring, clear)
-    }
-}
-
-/// How many places at the front hold no request, where the first so many don't.
-fn clear_from(ring: &Ring, clear: u32) -> u32
-    requires none { IsClear clear ring.now.items }
-    requires few { length ring.now.items ≤ 1024 }
-    ensures { IsClear result ring.now.items }
-{
-    let mut at = clear;
-    while let Some(received) = ring.get(at as usize) {
-        if holds_from(received, None) {
-            break;
-        }
-        at += 1;
-    }
-    at
 }
 
 /// Takes the first place off, and adds one at the end, where nothing was received.
@@ -128,7 +121,7 @@ pub(crate) fn turn_first(places: &mut Places)
     if let Some(first) = places.ring.get(0) {
         places.tags.lower(first);
     }
-    places.clear = places.clear.saturating_sub(1);
+    places.turned = places.turned.saturating_add(1);
     // The ring is full, so its first place makes way.
     places.ring.push_back(None);
 }
@@ -157,8 +150,8 @@ pub(crate) fn holds_from(received: &Received, conn: Option<u16>) -> bool
     }
 }
 
-/// The first of the places below `end` where a SCSI Command with this tag and to this unit is held. It looks at none of
-/// those at the front that hold no request.
+/// The first of the places below `end` where a SCSI Command with this tag and to this unit is held. It looks from the
+/// bound of the tag's group on.
 pub(crate) fn first_command(places: &Places, end: u32, itt: u32, unit: u16) -> Option<u32>
     requires { length places.now.items ≤ 1024 }
     ensures { result ≡ position (is_command itt unit) (take end places.now.items) }
@@ -167,7 +160,8 @@ pub(crate) fn first_command(places: &Places, end: u32, itt: u32, unit: u16) -> O
         return None;
     }
     let end = end.min(places.ring.len() as u32);
-    for k in places.clear..end {
+    let bound = places.bounds.of(itt).saturating_sub(places.turned);
+    for k in bound.min(end as u64) as u32..end {
         if holds_command_at(places, k, itt, unit) {
             return Some(k);
         }

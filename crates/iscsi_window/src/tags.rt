@@ -1,7 +1,7 @@
-//! How many of the held requests have a tag of each group.
+//! Of each group of tags: how many held requests have one, and a number below which none is held.
 
 ghost use Rattle.std.specs.Prelude.{◌≡◌, ℕ, ◌%◌, ◌<◌, ◌==◌, replicate, slice_index, Some, IfOk};
-ghost use Rattle.iscsi_window.specs.Tags.{group_of, raised, lowered};
+ghost use Rattle.iscsi_window.specs.Tags.{group_of, raised, lowered, is_none_of, occupied, vacated};
 
 use crate::places::Received;
 use std::alloc::{AllocError, Global};
@@ -46,6 +46,16 @@ impl TagCounts {
         self.counts[(itt % GROUPS) as usize] == 0
     }
 
+    /// Whether no request is held that is of the group of this one. True where this is none.
+    pub(crate) fn is_none_like(&self, received: &Received) -> bool
+        ensures { result ≡ is_none_of self.now (group_of received.now) }
+    {
+        match received {
+            Some(Some(request)) => self.is_none(request.itt()),
+            _ => true,
+        }
+    }
+
     /// Counts what a place gets, if that is a request.
     pub(crate) fn raise(&mut self, received: &Received)
         requires { (g : ℕ) → slice_index self.old g < 65535 }
@@ -63,6 +73,62 @@ impl TagCounts {
     {
         if let Some(Some(request)) = received {
             self.counts[(request.itt() % GROUPS) as usize] -= 1;
+        }
+    }
+}
+
+/// A bound for each group. Numbers are those of places, counted from the window's first one on.
+#[derive(Drop)]
+pub(crate) struct TagBounds {
+    bounds: Vec<u64>,
+}
+
+impl Model for TagBounds {
+    ghost use Rattle.std.specs.Prelude.{◌≡◌, ℕ, List, length};
+
+    ghost Value = { List ℕ };
+
+    ghost view = { λ t. t.bounds.items };
+
+    ghost invariant = { λ t. length t.bounds.items ≡ 4093 };
+}
+
+impl TagBounds {
+    /// Bounds that are all 0.
+    pub(crate) fn open(alloc: Global) -> Result<TagBounds, AllocError>
+        ensures { IfOk result (λ t. t ≡ replicate 4093 0) }
+    {
+        let bounds = vec![in alloc; 0; GROUPS as usize]?;
+        Ok(TagBounds { bounds })
+    }
+
+    /// The bound of the tag's group.
+    pub(crate) fn of(&self, itt: u32) -> u64
+        ensures { result ≡ slice_index self.now (itt % 4093) }
+    {
+        self.bounds[(itt % GROUPS) as usize]
+    }
+
+    /// A place with this number gets a request, if it is one: the only one of its group, or one more.
+    pub(crate) fn occupy(&mut self, received: &Received, number: u64, is_only: bool)
+        ensures { self.new ≡ occupied self.old (group_of received.now) number is_only }
+    {
+        if let Some(Some(request)) = received {
+            let bound = &mut self.bounds[(request.itt() % GROUPS) as usize];
+            *bound = if is_only { number } else { number.min(*bound) };
+        }
+    }
+
+    /// The place with this number gives up what it had. Where that was the first request of its group, the next one
+    /// has a greater number.
+    pub(crate) fn vacate(&mut self, received: &Received, number: u64)
+        ensures { self.new ≡ vacated self.old (group_of received.now) number }
+    {
+        if let Some(Some(request)) = received {
+            let bound = &mut self.bounds[(request.itt() % GROUPS) as usize];
+            if *bound == number {
+                *bound = number.saturating_add(1);
+            }
         }
     }
 }

@@ -11,7 +11,7 @@ ghost use Rattle.iscsi_window.specs.History.{Change, Started, Finished, is_recei
 use crate::answer::{Offer, Place, Turned};
 use crate::fault::WindowFault;
 use crate::places::{
-    Places, at, empty_places, first_command, first_held, holds_from, put, turn_first,
+    Places, at, clear, empty_places, fill, first_command, first_held, holds_from, turn_first,
 };
 use iscsi_wire::{Request, serial_lt};
 use std::alloc::Global;
@@ -150,11 +150,11 @@ impl Window {
         let Place::Inside(k) = self.place(request.cmd_sn()) else {
             return Offer::Outside;
         };
-        if at(&self.places, k).is_some() {
-            return Offer::Duplicate;
+        if fill(&mut self.places, k, Some(*request)) {
+            Offer::Held
+        } else {
+            Offer::Duplicate
         }
-        put(&mut self.places, k, Some(Some(*request)));
-        Offer::Held
     }
 
     /// Receives the number with nothing held for it, and answers true. Where it was received before, the
@@ -171,18 +171,15 @@ impl Window {
         let Place::Inside(k) = self.place(w) else {
             unreachable!();
         };
-        if at(&self.places, k).is_some() {
-            return false;
-        }
-        put(&mut self.places, k, Some(None));
-        true
+        fill(&mut self.places, k, None)
     }
 
     /// The lowest number, below the one that the wire shows as `below`, for which a SCSI Command with this
     /// tag and to this unit is held.
     ///
-    /// Where no request is held whose tag leaves the same remainder on division by 4,093, it looks at no place.
-    /// An initiator that chooses its tags to leave the same one makes it look at each place below `below`.
+    /// Where no request is held whose tag leaves the same remainder on division by 4,093, it looks at no place, and
+    /// else at none below the first of those requests. An initiator that chooses its tags to leave the same remainder
+    /// makes it look at each place below `below`.
     pub fn find_held(&self, itt: u32, unit: u16, below: u32) -> Option<u32>
         ensures answer { result ≡ option_map (number_shown self.now) (find_command self.now itt unit below) }
         ensures answer_since { (h : List Change) → StandsFor self.now h →
@@ -208,7 +205,7 @@ impl Window {
             return None;
         };
         let request = at(&self.places, k).flatten()?;
-        put(&mut self.places, k, Some(None));
+        clear(&mut self.places, k);
         Some(request)
     }
 
@@ -221,7 +218,7 @@ impl Window {
     {
         let k = first_held(&self.places, conn)?;
         let sn = self.exp().wrapping_add(k);
-        put(&mut self.places, k, Some(None));
+        clear(&mut self.places, k);
         Some(sn)
     }
 
@@ -239,7 +236,7 @@ impl Window {
         if !holds_from(&at(&self.places, ahead), conn) {
             return None;
         }
-        put(&mut self.places, ahead, Some(None));
+        clear(&mut self.places, ahead);
         Some(self.exp().wrapping_add(ahead))
     }
 

@@ -1,10 +1,10 @@
-use Rattle.std.proofs.Common.{◌≡◌, ◌%◌, ◌∙◌, get_or, None, length, ap, sym, position, take, arith, ⊎_elim, Option}
+use Rattle.std.proofs.Common.{◌≡◌, ◌%◌, ◌<◌, ◌-◌, ◌∙◌, get_or, None, length, ap, sym, position, take, arith, ⊎_elim, Option}
 use Rattle.std.proofs.lemmas.Bool.{eqb-true, cases_eq}
 use Rattle.iscsi_wire.specs.declared.request.Request.{Request}
 use Rattle.circular_buffer.specs.Buffer.{Buffer}
 use Rattle.iscsi_window.specs.Windows.{is_command}
 use Rattle.iscsi_window.proofs.TagLemmas.{none_found}
-use Rattle.iscsi_window.proofs.ClearLemmas.{no_command, found_below, none_below}
+use Rattle.iscsi_window.proofs.BoundLemmas.{none_before, found_below, none_below}
 use Rattle.iscsi_window.proofs.places.first_command.Goals as goal
 
 pub returns-then-is_none : goal.returns-then-is_none
@@ -15,7 +15,9 @@ returns-then-is_none c =
 
 pub loop-k-init : goal.loop-k-init
 loop-k-init c = λ j below.
-    no_command c.args.itt c.args.unit (get_or c.args.places.now.items j None) (ap (λ b. Rattle.iscsi_window.specs.Tags.group_of (get_or b.items j None)) (sym c.places.view_is) ∙ c.places.invariant.1 j below)
+    let short : j < get_or c.places.inside.bounds (c.args.itt % 4093) 0 - c.places.inside.turned = omega (arith, below, c.of.ensures, c.saturating_sub-bound.ensures) in
+    ap (λ b. is_command c.args.itt c.args.unit (get_or b.items j None)) (sym c.places.view_is)
+    ∙ none_before c.places.inside.bounds c.places.inside.turned c.places.inside.ring.items c.args.itt c.args.unit j c.places.invariant.1 short
 
 pub loop-k-preserved : goal.loop-k-preserved
 loop-k-preserved c = λ j below. ⊎_elim

@@ -6,9 +6,9 @@ use Rattle.iscsi_window.proofs.window.Window.drop_first.Goals as goal
 pub invariant_of-self : goal.invariant_of-self
 invariant_of-self c =
     let i = c.self.inside in
-    keeps_put i.first i.turned i.unfinished i.size c.in_ok-k.k (Some None) i.places c.put.new.places c.self.invariant
+    keeps_put i.first i.turned i.unfinished i.size c.in_ok-k.k (Some None) i.places c.clear.new.places c.self.invariant
     (held_within (record { first = i.first; turned = i.turned; unfinished = i.unfinished; places = i.places.items }) c.args.conn c.in_ok-k.k c.self.invariant.2 (sym c.first_held.ensures ∙ c.in_ok-k.was))
-    c.put.ensures
+    c.clear.ensures
 
 pub returns-in_err-k-clause-answer : goal.returns-in_err-k-clause-answer
 returns-in_err-k-clause-answer c = search rules

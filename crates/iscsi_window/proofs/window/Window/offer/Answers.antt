@@ -15,18 +15,6 @@ returns-in_default-clause-answer_since c = λ h st. returns-in_default-clause-an
 pub returns-in_default-clause-stands : goal.returns-in_default-clause-stands
 returns-in_default-clause-stands c = λ h st. StandsFor-offer c.args.self.now c.args.request.now _ _ h st (returns-in_default-clause-answer c) (returns-in_default-clause-state c)
 
-pub returns-then-is_some-clause-answer : goal.returns-then-is_some-clause-answer
-returns-then-is_some-clause-answer c = search rules
-
-pub returns-then-is_some-clause-state : goal.returns-then-is_some-clause-state
-returns-then-is_some-clause-state c = search rules
-
-pub returns-then-is_some-clause-answer_since : goal.returns-then-is_some-clause-answer_since
-returns-then-is_some-clause-answer_since c = λ h st. returns-then-is_some-clause-answer c ∙ offered_since c.args.self.now c.args.request.now h (subst IsSound c.self.view_is c.self.invariant.2) st
-
-pub returns-then-is_some-clause-stands : goal.returns-then-is_some-clause-stands
-returns-then-is_some-clause-stands c = λ h st. StandsFor-offer c.args.self.now c.args.request.now _ _ h st (returns-then-is_some-clause-answer c) (returns-then-is_some-clause-state c)
-
 pub returns-clause-answer : goal.returns-clause-answer
 returns-clause-answer c = search rules
 

@@ -1,18 +1,6 @@
-use Rattle.std.proofs.Common.{rules, ◌∙◌, not, true, false, ap}
+use Rattle.std.proofs.Common.{rules, ◌∙◌, not, ap}
 use Rattle.iscsi_window.proofs.SinceLemmas.{voided_since, StandsFor-void}
 use Rattle.iscsi_window.proofs.window.Window.void.Goals as goal
-
-pub returns-then-is_some-clause-answer : goal.returns-then-is_some-clause-answer
-returns-then-is_some-clause-answer c = search rules
-
-pub returns-then-is_some-clause-state : goal.returns-then-is_some-clause-state
-returns-then-is_some-clause-state c = search rules
-
-pub returns-then-is_some-clause-answer_since : goal.returns-then-is_some-clause-answer_since
-returns-then-is_some-clause-answer_since c = λ h st. returns-then-is_some-clause-answer c ∙ ap not (voided_since c.args.self.now c.args.w h st c.requires)
-
-pub returns-then-is_some-clause-stands : goal.returns-then-is_some-clause-stands
-returns-then-is_some-clause-stands c = λ h st. StandsFor-void c.args.self.now c.args.w false _ h st c.requires (returns-then-is_some-clause-answer c) (returns-then-is_some-clause-state c)
 
 pub returns-clause-answer : goal.returns-clause-answer
 returns-clause-answer c = search rules
@@ -24,4 +12,4 @@ pub returns-clause-answer_since : goal.returns-clause-answer_since
 returns-clause-answer_since c = λ h st. returns-clause-answer c ∙ ap not (voided_since c.args.self.now c.args.w h st c.requires)
 
 pub returns-clause-stands : goal.returns-clause-stands
-returns-clause-stands c = λ h st. StandsFor-void c.args.self.now c.args.w true _ h st c.requires (returns-clause-answer c) (returns-clause-state c)
+returns-clause-stands c = λ h st. StandsFor-void c.args.self.now c.args.w _ _ h st c.requires (returns-clause-answer c) (returns-clause-state c)

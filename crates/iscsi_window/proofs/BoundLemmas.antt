@@ -1,0 +1,198 @@
+-- The bounds stay right where a place is written, and where the first one turns; a search from a bound on.
+use Rattle.std.proofs.Common.{◌≡◌, ◌∙◌, ℕ, zero, suc, ◌+◌, ◌-◌, ◌%◌, ◌^◌, ◌<◌, ◌≤◌, ◌==◌, ◌++◌, Bool, true, false, cond, List, [], ◌∷◌, length, min, nat_lt, take, drop, replicate, set, get_or, position, Option, Some, None, arith, ap, sym, refl, subst, ⊎_elim, length-set, get_or-set_same, get_or-set_other}
+use Rattle.std.specs.List.{slice_get}
+use Rattle.std.proofs.lemmas.Bool.{cases_eq, cases_lt, lt-ltb, eqb-true}
+use Rattle.std.proofs.lemmas.Option.{slice_get_within}
+use Rattle.std.proofs.lemmas.List.{get_or_past, get_or-take, get_or-replicate, length-take, length-replicate}
+use Rattle.std.proofs.lemmas.List.Sums.{position_or_len_is}
+use Rattle.std.proofs.lemmas.List.Quantifiers.{position-Some}
+use Rattle.circular_buffer.specs.Buffer.{Buffer, buffer, keep_last}
+use Rattle.iscsi_wire.specs.declared.request.Request.{Request}
+use Rattle.iscsi_window.specs.Windows.{is_command}
+use Rattle.iscsi_window.specs.Tags.{group_of, is_none_of, occupied, vacated, IsCounted, AreBounds}
+use Rattle.iscsi_window.proofs.TagLemmas.{keep_full, group_within, group_of_true, command_of, is_held}
+
+-- ---- at the opening
+
+nothing_at : (size k : ℕ) → group_of (get_or (let xs : List (Option (Option Request)) = replicate size None in xs) k None) ≡ None
+nothing_at zero k = refl
+nothing_at (suc size) zero = refl
+nothing_at (suc size) (suc k) = nothing_at size k
+
+zeros : (n g : ℕ) → get_or {A = ℕ} (replicate n 0) g 0 ≡ 0
+zeros n g = ⊎_elim (λ lt. get_or-replicate n g 0 0 lt) (λ ge. get_or_past (replicate n 0) g 0 (simp length-replicate ge)) (cases_lt g n)
+
+pub opened_bounds : (size : ℕ) → AreBounds (replicate 4093 0) 0 (replicate size None)
+opened_bounds size = record {
+  as_many = length-replicate {A = ℕ} 4093 0;
+  small = λ g. omega (arith, zeros 4093 g);
+  below = λ k g is. omega (arith, zeros 4093 g);
+}
+
+-- ---- a place is written
+
+-- one bound is set anew: to a number that is above no request of its group
+module _ (bounds : List ℕ) (turned : ℕ) (xs ys : List (Option (Option Request))) (h n : ℕ)
+    (old : AreBounds bounds turned xs) (within : h < 4093) (fits : n < 2 ^ 64)
+    (of_it : (j : ℕ) → group_of (get_or ys j None) ≡ Some h → n ≤ turned + j)
+    (of_others : (j g : ℕ) → (g ≡ h → ⊥) → group_of (get_or ys j None) ≡ Some g → get_or bounds g 0 ≤ turned + j)
+  where
+    here : get_or (set bounds h n) h 0 ≡ n
+    here = get_or-set_same bounds h n 0 (omega (arith, within, old.as_many))
+
+    there : (g : ℕ) → (g ≡ h → ⊥) → get_or (set bounds h n) g 0 ≡ get_or bounds g 0
+    there g other = get_or-set_other bounds h g n 0 other
+
+    pub set_bound : AreBounds (set bounds h n) turned ys
+    set_bound = record {
+      as_many = length-set bounds h n ∙ old.as_many;
+      small = λ g. ⊎_elim
+          (λ same. subst (λ i. get_or (set bounds h n) i 0 < 2 ^ 64) (sym same) (omega (arith, here, fits)))
+          (λ other. omega (arith, there g other, old.small g))
+          (cases_eq g h);
+      below = λ j g is. ⊎_elim
+          (λ same. subst (λ i. get_or (set bounds h n) i 0 ≤ turned + j) (sym same) (omega (arith, here, of_it j (is ∙ ap Some same))))
+          (λ other. omega (arith, there g other, of_others j g other is))
+          (cases_eq g h);
+    }
+
+-- what a place has after another one was written
+module _ (xs : List (Option (Option Request))) (k : ℕ) (v : Option (Option Request)) where
+  pub elsewhere : (j : ℕ) (x : Option ℕ) → (j ≡ k → ⊥) → group_of (get_or (set xs k v) j None) ≡ x → group_of (get_or xs j None) ≡ x
+  elsewhere j x apart is = ap group_of (sym (get_or-set_other xs k j v None apart)) ∙ is
+
+  pub written : (j : ℕ) (x : Option ℕ) → k < length xs → j ≡ k → group_of (get_or (set xs k v) j None) ≡ x → group_of v ≡ x
+  written j x within same is =
+      ap group_of (sym (get_or-set_same xs k v None within)) ∙ ap (λ i. group_of (get_or (set xs k v) i None)) (sym same) ∙ is
+
+-- a request comes, or a number with none
+module _ (counts bounds : List ℕ) (turned : ℕ) (xs : List (Option (Option Request))) (k : ℕ) (v : Option (Option Request))
+    (counted : IsCounted counts xs) (old : AreBounds bounds turned xs) (within : k < length xs) where
+  number : ℕ
+  number = min (turned + k) (2 ^ 64 - 1)
+
+  -- none of a group that has no request
+  none_of : (j h : ℕ) → get_or counts h 0 ≡ 0 → group_of (get_or xs j None) ≡ Some h → ⊥
+  none_of j h none is = ⊎_elim
+      (λ short. let some : 0 < get_or counts h 0 = is_held counts xs j h counted short is in omega (arith, some, none))
+      (λ past. let nothing : get_or xs j None ≡ None = get_or_past xs j None past in let gone : group_of (get_or xs j None) ≡ None = ap group_of nothing in cc)
+      (cases_lt j (length xs))
+
+  by_group : (x : Option ℕ) (is_only : Bool) → group_of v ≡ x → is_none_of counts x ≡ is_only → AreBounds (occupied bounds x (min (turned + k) (2 ^ 64 - 1)) is_only) turned (set xs k v)
+  by_group None is_only none is = record {
+    as_many = old.as_many;
+    small = old.small;
+    below = λ j g here. ⊎_elim
+        (λ same. let one : group_of v ≡ Some g = written xs k v j (Some g) within same here in absurd cc)
+        (λ apart. old.below j g (elsewhere xs k v j (Some g) apart here))
+        (cases_eq j k);
+  }
+  by_group (Some h) true some is =
+      set_bound bounds turned xs (set xs k v) h (min (turned + k) (2 ^ 64 - 1)) old (group_within v h some) (omega arith)
+      (λ j here. ⊎_elim
+      (λ same. omega (arith, same))
+      (λ apart. absurd (none_of j h (eqb-true (get_or counts h 0) 0 is) (elsewhere xs k v j (Some h) apart here)))
+      (cases_eq j k))
+      (λ j g other here. ⊎_elim
+      (λ same. let one : Some h ≡ Some g = sym some ∙ written xs k v j (Some g) within same here in let eq : g ≡ h = cc in absurd (other eq))
+      (λ apart. old.below j g (elsewhere xs k v j (Some g) apart here))
+      (cases_eq j k))
+  by_group (Some h) false some is =
+      set_bound bounds turned xs (set xs k v) h (min (min (turned + k) (2 ^ 64 - 1)) (get_or bounds h 0)) old (group_within v h some) (omega arith)
+      (λ j here. ⊎_elim
+      (λ same. omega (arith, same))
+      (λ apart. let l = old.below j h (elsewhere xs k v j (Some h) apart here) in omega (arith, l))
+      (cases_eq j k))
+      (λ j g other here. ⊎_elim
+      (λ same. let one : Some h ≡ Some g = sym some ∙ written xs k v j (Some g) within same here in let eq : g ≡ h = cc in absurd (other eq))
+      (λ apart. old.below j g (elsewhere xs k v j (Some g) apart here))
+      (cases_eq j k))
+
+  pub bounds_filled : AreBounds (occupied bounds (group_of v) (min (turned + k) (2 ^ 64 - 1)) (is_none_of counts (group_of v))) turned (set xs k v)
+  bounds_filled = by_group (group_of v) (is_none_of counts (group_of v)) refl refl
+
+-- a request is taken out
+module _ (bounds : List ℕ) (turned : ℕ) (xs : List (Option (Option Request))) (k : ℕ) (old : AreBounds bounds turned xs) (within : k < length xs) where
+  others : (j g : ℕ) → group_of (get_or (set xs k (Some None)) j None) ≡ Some g → (j ≡ k → ⊥) × (get_or bounds g 0 ≤ turned + j)
+  others j g here = ⊎_elim
+      (λ same. let one : None ≡ Some g = written xs k (Some None) j (Some g) within same here in absurd cc)
+      (λ apart. (apart, old.below j g (elsewhere xs k (Some None) j (Some g) apart here)))
+      (cases_eq j k)
+
+  still : AreBounds bounds turned (set xs k (Some None))
+  still = record { as_many = old.as_many; small = old.small; below = λ j g here. (others j g here).1 }
+
+  by_bound : (h : ℕ) (b : Bool) → h < 4093 → (get_or bounds h 0 == min (turned + k) (2 ^ 64 - 1)) ≡ b
+      → AreBounds (cond b (set bounds h (min (min (turned + k) (2 ^ 64 - 1) + 1) (2 ^ 64 - 1))) bounds) turned (set xs k (Some None))
+  by_bound h false few is = still
+  by_bound h true few is =
+      let bound : get_or bounds h 0 ≡ min (turned + k) (2 ^ 64 - 1) = eqb-true (get_or bounds h 0) (min (turned + k) (2 ^ 64 - 1)) is in
+      set_bound bounds turned xs (set xs k (Some None)) h (min (min (turned + k) (2 ^ 64 - 1) + 1) (2 ^ 64 - 1)) old few (omega arith)
+      (λ j here. let o = others j h here in let l : get_or bounds h 0 ≤ turned + j = o.1 in ⊎_elim (λ same. absurd (o.0 same)) (λ apart. omega (arith, l, bound, apart)) (cases_eq j k))
+      (λ j g other here. (others j g here).1)
+
+  pub bounds_cleared : (x : Option (Option Request)) → AreBounds (vacated bounds (group_of x) (min (turned + k) (2 ^ 64 - 1))) turned (set xs k (Some None))
+  bounds_cleared None = still
+  bounds_cleared (Some None) = still
+  bounds_cleared (Some (Some r)) = by_bound _ _ (group_within (Some (Some r)) _ refl) refl
+
+-- ---- the first place turns
+
+push_none : (xs : List (Option (Option Request))) (j : ℕ) → get_or (xs ++ None ∷ []) j None ≡ get_or xs j None
+push_none [] zero = refl
+push_none [] (suc j) = refl
+push_none (x ∷ xs) zero = refl
+push_none (x ∷ xs) (suc j) = push_none xs j
+
+turned_at : (xs : List (Option (Option Request))) (j : ℕ) → get_or (drop 1 xs ++ None ∷ []) j None ≡ get_or xs (suc j) None
+turned_at [] zero = refl
+turned_at [] (suc j) = refl
+turned_at (x ∷ xs) j = push_none xs j
+
+pub turn_bounds : (bounds : List ℕ) (turned : ℕ) (old new : Buffer (Option (Option Request))) (x : Option (Option Request)) → AreBounds bounds turned old.items → slice_get old.items 0 ≡ Some x → length old.items ≡ old.capacity
+    → new ≡ buffer (keep_last old.capacity (old.items ++ None ∷ [])) old.capacity → AreBounds bounds (min (turned + 1) (2 ^ 64 - 1)) new.items
+turn_bounds bounds turned old new x b read full put =
+    subst (λ n. AreBounds bounds (min (turned + 1) (2 ^ 64 - 1)) n.items) (sym put)
+    (subst (AreBounds bounds (min (turned + 1) (2 ^ 64 - 1))) (sym (keep_full old.items old.capacity (slice_get_within old.items 0 x read) full))
+    (record {
+      as_many = b.as_many;
+      small = b.small;
+      below = λ j g here. let l = b.below (suc j) g (ap group_of (sym (turned_at old.items j)) ∙ here) in omega (arith, l, b.small g);
+    }))
+
+-- ---- a search
+
+-- no such command is held below the bound of its tag
+pub none_before : (bounds : List ℕ) (turned : ℕ) (xs : List (Option (Option Request))) (tag unit k : ℕ) → AreBounds bounds turned xs → k < get_or bounds (tag % 4093) 0 - turned → is_command tag unit (get_or xs k None) ≡ false
+none_before bounds turned xs tag unit k b short = by_answer (is_command tag unit (get_or xs k None)) refl
+  where
+    by_answer : (p : Bool) → is_command tag unit (get_or xs k None) ≡ p → p ≡ false
+    by_answer false is = refl
+    by_answer true is =
+        let l = b.below k (tag % 4093) (group_of_true (tag % 4093) (group_of (get_or xs k None)) (command_of tag unit (get_or xs k None) is)) in
+        absurd (omega (arith, l, short))
+
+module _ {X : Type 0} (p : X → Bool) (xs : List X) (end : ℕ) (d : X) where
+  -- the first place that passes
+  pub found_below : (k : ℕ) → k < length xs → k < end → ((j : ℕ) → j < k → p (get_or xs j d) ≡ false) → p (get_or xs k d) ≡ true → Some k ≡ position p (take end xs)
+  found_below k within short before here =
+      let inside : k < length (take end xs) = omega (arith, length-take end xs, within, short) in
+      let is = position_or_len_is p (take end xs) k d (omega (arith, inside))
+      (λ j l. ap p (get_or-take end xs j d (omega (arith, l, short))) ∙ before j l)
+      (λ l. ap p (get_or-take end xs k d short) ∙ here) in
+      sym (ap (λ n. cond (nat_lt n (length (take end xs))) (Some n) None) is ∙ ap (λ b. cond b (Some k) None) (lt-ltb k (length (take end xs)) inside))
+
+  -- none passes
+  pub none_below : ((j : ℕ) → j < end → j < length xs → p (get_or xs j d) ≡ false) → None ≡ position p (take end xs)
+  none_below none = sym (by_place (position p (take end xs)) refl)
+    where
+      by_place : (r : Option ℕ) → position p (take end xs) ≡ r → r ≡ None
+      by_place None is = refl
+      by_place (Some k) is =
+          let found = position-Some p (take end xs) k d is in
+          let within : k < length (take end xs) = found.0 in
+          let short : k < end = omega (arith, within, length-take end xs) in
+          let there : k < length xs = omega (arith, within, length-take end xs) in
+          let passes : p (get_or xs k d) ≡ true = ap p (sym (get_or-take end xs k d short)) ∙ found.1 in
+          let fails = none k short there in
+          absurd cc
