@@ -1,6 +1,6 @@
 //! The live commands.
 
-ghost use Rattle.std.specs.Prelude.{◌≡◌, ◌==◌, ◌<◌, ◌≤◌, ◌++◌, [], ◌∷◌, ℕ, false, length, slice_index_or, All, IfOk};
+ghost use Rattle.std.specs.Prelude.{◌≡◌, ◌==◌, ◌<◌, ◌≤◌, ◌++◌, [], ◌∷◌, ℕ, true, false, length, slice_index_or, All, IfOk};
 ghost use Rattle.std.specs.List.{remove, list_any};
 ghost use Rattle.iscsi_slots.specs.Queued.{queued};
 ghost use Rattle.iscsi_commands.specs.Commands.{AreAscending, AreTagsApart, IsTicketPlace, find_ticket, find_tag, without_ticket};
@@ -71,10 +71,7 @@ impl Commands {
         ensures place { IsTicketPlace self.now.items ticket result }
         ensures ascending { AreAscending self.now.items }
     {
-        if self.len() > 0 && self.at(0).ticket == ticket {
-            return Some(0);
-        }
-        let at = first_from(&self.by_ticket, &self.slots, Key::Ticket, ticket);
+        let at = first_from(&self.by_ticket, &self.slots, Key::Ticket, ticket, 0);
         if at < self.len() && self.at(at).ticket == ticket {
             Some(at)
         } else {
@@ -95,7 +92,8 @@ impl Commands {
         ensures command { result ≡ find_tag itt self.now.items }
         ensures alone { AreTagsApart self.now.items }
     {
-        let at = first_from(&self.by_tag, &self.slots, Key::Tag, u64::from(itt));
+        let newest = self.by_tag.len();
+        let at = first_from(&self.by_tag, &self.slots, Key::Tag, u64::from(itt), newest);
         if at < self.by_tag.len() {
             let command = self.slots.at(self.by_tag.at(at));
             if command.itt == itt {
@@ -112,20 +110,27 @@ impl Commands {
         requires unused { list_any (λ l. l.itt == command.itt) self.old.items ≡ false }
         ensures { self.new ≡ queued (self.old.items ++ command ∷ []) self.old.room }
     {
-        let at = first_from(&self.by_tag, &self.slots, Key::Tag, u64::from(command.itt));
+        let newest = self.by_tag.len();
+        let at = first_from(
+            &self.by_tag,
+            &self.slots,
+            Key::Tag,
+            u64::from(command.itt),
+            newest,
+        );
         let slot = self.slots.put(command);
         self.by_ticket.push(slot);
         self.by_tag.insert(at, slot);
     }
 
-    /// The command at a place leaves.
+    /// The command at a place leaves. Where tags were given out in order, it has the same place by tag.
     pub fn remove_at(&mut self, k: usize)
         requires { k < length self.old.items }
         ensures { self.new ≡ queued (remove self.old.items k) self.old.room }
     {
         let slot = self.by_ticket.at(k);
         let itt = self.slots.at(slot).itt;
-        let at = first_from(&self.by_tag, &self.slots, Key::Tag, u64::from(itt));
+        let at = first_from(&self.by_tag, &self.slots, Key::Tag, u64::from(itt), k);
         self.by_ticket.remove(k);
         self.by_tag.remove(at);
         self.slots.give_back(slot);
@@ -141,26 +146,54 @@ impl Commands {
     }
 }
 
-/// How many commands of an order have a lower key. Where all or none have, as where the oldest command leaves or one
-/// with the greatest tag enters, it looks at the two ends alone.
-fn first_from(order: &Order, slots: &Slots<Live>, by: Key, key: u64) -> usize
+/// How many commands of an order have a lower key. Where that is `guess`, it looks at the two places beside it alone.
+fn first_from(order: &Order, slots: &Slots<Live>, by: Key, key: u64, guess: usize) -> usize
     requires within { (k : ℕ) → k < length order.now.items →
         slice_index_or order.now.items k 0 < length slots.now.values }
     requires sorted { IsSortedBy by slots.now.values order.now.items }
+    requires guess { guess ≤ length order.now.items }
     ensures within { result ≤ length order.now.items }
     ensures below { (k : ℕ) (d : Live) → k < result →
         key_of by (slice_index_or (commands slots.now.values order.now.items) k d) < key }
     ensures above { (k : ℕ) (d : Live) → result ≤ k → k < length order.now.items →
         key ≤ key_of by (slice_index_or (commands slots.now.values order.now.items) k d) }
 {
-    let len = order.len();
-    if len == 0 || key_at(order, slots, by, len - 1) < key {
-        return len;
+    if is_above_before(order, slots, by, key, guess)
+        && is_reached_from(order, slots, by, key, guess)
+    {
+        guess
+    } else {
+        halve(order, slots, by, key)
     }
-    if key <= key_at(order, slots, by, 0) {
-        return 0;
+}
+
+/// Whether a key is above those of all commands before a place.
+fn is_above_before(order: &Order, slots: &Slots<Live>, by: Key, key: u64, at: usize) -> bool
+    requires within { (k : ℕ) → k < length order.now.items →
+        slice_index_or order.now.items k 0 < length slots.now.values }
+    requires sorted { IsSortedBy by slots.now.values order.now.items }
+    requires place { at ≤ length order.now.items }
+    ensures { result ≡ true → (k : ℕ) (d : Live) → k < at →
+        key_of by (slice_index_or (commands slots.now.values order.now.items) k d) < key }
+{
+    if at == 0 {
+        return true;
     }
-    halve(order, slots, by, key)
+    key_at(order, slots, by, at - 1) < key
+}
+
+/// Whether the commands from a place on have this key or greater ones.
+fn is_reached_from(order: &Order, slots: &Slots<Live>, by: Key, key: u64, at: usize) -> bool
+    requires within { (k : ℕ) → k < length order.now.items →
+        slice_index_or order.now.items k 0 < length slots.now.values }
+    requires sorted { IsSortedBy by slots.now.values order.now.items }
+    ensures { result ≡ true → (k : ℕ) (d : Live) → at ≤ k → k < length order.now.items →
+        key ≤ key_of by (slice_index_or (commands slots.now.values order.now.items) k d) }
+{
+    if at >= order.len() {
+        return true;
+    }
+    key <= key_at(order, slots, by, at)
 }
 
 /// The key of the command at a place of an order.

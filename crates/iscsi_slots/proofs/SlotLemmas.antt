@@ -1,5 +1,5 @@
 -- The slots of a queue, and the values in them.
-use Rattle.std.proofs.Common.{◌≡◌, ◌≢◌, ℕ, zero, suc, ◌+◌, ◌<◌, ◌≤◌, cond, false, List, [], ◌∷◌, ◌++◌, length, map, drop, get_or, set, refl, ap, sym, subst, ◌∙◌, arith, ⊎_elim, eq-eqb, ne_eqb}
+use Rattle.std.proofs.Common.{◌≡◌, ◌≢◌, ℕ, zero, suc, ◌+◌, ◌<◌, ◌≤◌, cond, false, List, [], ◌∷◌, ◌++◌, length, map, take, drop, get_or, set, refl, ap, sym, subst, ◌∙◌, arith, ⊎_elim, eq-eqb, ne_eqb}
 use Rattle.std.specs.List.{remove, insert}
 use Rattle.std.proofs.lemmas.Bool.{cases_eq, cases_lt}
 use Rattle.std.proofs.lemmas.List.{get_or-set_other, get_or-set_same, get_or_append_left}
@@ -72,6 +72,13 @@ drop-remove [] (suc n) k within = absurd (omega arith)
 drop-remove (x ∷ xs) (suc n) k within =
     let same : suc n + k ≡ suc (n + k) = omega arith in
     ap (λ i. drop (suc n) (remove (x ∷ xs) i)) same ∙ drop-remove xs n k (omega arith)
+
+-- those before a place move over it
+pub drop-moved_down : {X : Type 0} (xs : List X) (n k i : ℕ) → n + k < length xs → i ≡ n + 1 + k → drop (suc n) ((take (suc n) xs ++ take k (drop n xs)) ++ drop i xs) ≡ remove (drop n xs) k
+drop-moved_down [] n k i within is = absurd (omega arith)
+drop-moved_down (x ∷ xs) n k zero within is = absurd (omega arith)
+drop-moved_down (x ∷ xs) zero k (suc i) within is = let same : i ≡ k = omega arith in ap (λ j. take k (x ∷ xs) ++ drop j xs) same
+drop-moved_down (x ∷ xs) (suc n) k (suc i) within is = drop-moved_down xs n k i (omega arith) (omega arith)
 
 module _ {X : Type 0} (blank : X) (slots : List X) where
   -- the values of slots that were there are the same behind a new one

@@ -1,6 +1,6 @@
 //! An order of slots.
 
-ghost use Rattle.std.specs.Prelude.{◌≡◌, ◌*◌, ◌<◌, ◌≤◌, ◌++◌, [], ◌∷◌, length, drop, slice_index_or, vec_capacity, IfOk};
+ghost use Rattle.std.specs.Prelude.{◌≡◌, ◌+◌, ◌*◌, ◌<◌, ◌≤◌, ◌++◌, [], ◌∷◌, length, drop, slice_index_or, vec_capacity, IfOk};
 ghost use Rattle.std.specs.List.{remove, insert};
 ghost use Rattle.iscsi_slots.specs.Queued.{queued};
 
@@ -82,12 +82,13 @@ impl Order {
         inserted.unwrap();
     }
 
-    /// Takes the slot at a place out. Those behind it close up; none moves where it is the first one.
+    /// Takes the slot at a place out. Those on the shorter side of it close up; none moves where it is the first one.
     pub fn remove(&mut self, k: usize)
         requires { k < length self.old.items }
         ensures { self.new ≡ queued (remove self.old.items k) self.old.room }
     {
-        if k == 0 {
+        if k < self.len() / 2 {
+            close_down(&mut self.places, self.head, k);
             self.head += 1;
         } else {
             close_up(&mut self.places, self.head + k);
@@ -133,4 +134,16 @@ fn close_up(order: &mut Vec<u16>, at: usize)
     let len = order.len() - 1;
     order.copy_within(at + 1.., at);
     order.truncate(len);
+}
+
+/// So many slots from the first one on, which stands at `head`, move down by one, over the slot that is there.
+fn close_down(order: &mut Vec<u16>, head: usize, count: usize)
+    requires { head + count < length order.old.items }
+    ensures slots { drop (head + 1) order.new.items ≡ remove (drop head order.old.items) count }
+    ensures len { length order.new.items ≡ length order.old.items }
+    ensures capacity { vec_capacity order.new ≡ vec_capacity order.old }
+{
+    if count > 0 {
+        order.copy_within(head..head + count, head + 1);
+    }
 }

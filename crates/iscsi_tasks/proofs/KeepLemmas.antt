@@ -1,5 +1,5 @@
 -- Members that are covered leave, from the youngest on.
-use Rattle.std.proofs.Common.{◌≡◌, ℕ, zero, suc, ◌+◌, ◌<◌, ◌≤◌, not, cond, Bool, true, false, List, [], ◌∷◌, ◌++◌, length, take, drop, filter, get_or, refl, ap, sym, ◌∙◌, arith}
+use Rattle.std.proofs.Common.{◌≡◌, ℕ, zero, suc, ◌<◌, not, cond, Bool, true, false, List, [], ◌∷◌, ◌++◌, length, take, drop, filter, get_or, refl, ap, sym, arith}
 use Rattle.std.specs.List.{remove}
 
 module _ {X : Type 0} (covers : X → Bool) where

@@ -1,5 +1,5 @@
 -- The members in the slots of an order.
-use Rattle.std.proofs.Common.{◌≡◌, ℕ, ◌<◌, List, length, get_or, sym, ◌∙◌}
+use Rattle.std.proofs.Common.{◌≡◌, ℕ, ◌<◌, List, length, get_or}
 use Rattle.std.proofs.lemmas.List.{length-map}
 use Rattle.iscsi_tasks.specs.declared.member.Member.{Member}
 use Rattle.iscsi_tasks.specs.Rosters.{BLANK, members, AreEnlisted}

@@ -1,12 +1,7 @@
 -- A command is found by its ticket, since tickets go up along the set.
-use Rattle.std.proofs.Common.{◌≡◌, ℕ, zero, suc, ◌<◌, ◌≤◌, ◌==◌, ◌&&◌, ◌≢◌, not, cond, Bool, true, false, List, [], ◌∷◌, length, map, filter, find, position, get_or, All, Option, Some, None, is_some, Result, Ok, Err, option_map, slice_get, refl, ap, sym, ◌∙◌, arith, subst, ⊎_elim, ne_eqb, eq-eqb}
+use Rattle.std.proofs.Common.{◌≡◌, ℕ, zero, suc, ◌<◌, ◌==◌, ◌&&◌, ◌≢◌, not, cond, Bool, true, false, List, [], ◌∷◌, length, map, filter, find, position, get_or, All, Option, Some, None, is_some, option_map, slice_get, refl, ap, sym, ◌∙◌, arith, subst, ⊎_elim, ne_eqb, eq-eqb}
 use Rattle.std.specs.List.{list_any, remove, position_or_len}
-use Rattle.std.specs.List.Sorted.{IsSearchInRange, IsBinarySearchResult, IsNonDecreasingBy}
-use Rattle.std.specs.Ordering.{nat_cmp, ordering_index}
-use Rattle.std.specs.Result.{result_ok}
-use Rattle.std.proofs.lemmas.Cmp.{ranked}
 use Rattle.std.proofs.lemmas.Bool.{cases_eq, cases_lt, cases_Bool, and_from, and_left, and_right}
-use Rattle.std.proofs.lemmas.Bool.Decides.{nat_tests}
 use Rattle.std.proofs.lemmas.List.{get_or_default}
 use Rattle.std.proofs.lemmas.List.Folds.{find_at, list_any_at, list_any_none}
 use Rattle.std.proofs.lemmas.List.Elements.{All-head, All-tail}

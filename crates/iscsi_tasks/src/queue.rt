@@ -11,12 +11,16 @@ use crate::member::Member;
 use crate::roster::Roster;
 use crate::task::Task;
 
-/// Where the command with this ticket is.
-pub(crate) fn place_of(members: &Roster, ticket: u64) -> Option<usize>
+/// Where the command with this ticket is. It looks at the place `guess` first, and then at the oldest command, which
+/// most that leave are.
+pub(crate) fn place_of(members: &Roster, ticket: u64, guess: usize) -> Option<usize>
     requires { InOrder members.now.items }
     ensures { IsPlaceOf members.now.items ticket result }
 {
-    if is_first(members, ticket) {
+    if is_at(members, guess, ticket) {
+        return Some(guess);
+    }
+    if is_at(members, 0, ticket) {
         return Some(0);
     }
     let at = first_from(members, ticket);
@@ -27,12 +31,12 @@ pub(crate) fn place_of(members: &Roster, ticket: u64) -> Option<usize>
     }
 }
 
-/// The place of the command with this ticket, if it is enabled.
-pub(crate) fn enabled_place(members: &Roster, ticket: u64) -> Option<usize>
+/// The place of the command with this ticket, if it is enabled. It looks at the place `guess` first.
+pub(crate) fn enabled_place(members: &Roster, ticket: u64, guess: usize) -> Option<usize>
     requires { InOrder members.now.items }
     ensures { IsEnabledPlace members.now.items ticket result }
 {
-    let at = place_of(members, ticket)?;
+    let at = place_of(members, ticket, guess)?;
     if members.at(at).enabled {
         Some(at)
     } else {
@@ -61,12 +65,12 @@ fn first_from(members: &Roster, ticket: u64) -> usize
     low
 }
 
-/// Whether the oldest command has this ticket, as most that leave have.
-fn is_first(members: &Roster, ticket: u64) -> bool
-    ensures { result ≡ true → (0 < length members.now.items)
-        × ((d : Member) → (slice_index_or members.now.items 0 d).task.ticket ≡ ticket) }
+/// Whether the command at a place has this ticket.
+fn is_at(members: &Roster, at: usize, ticket: u64) -> bool
+    ensures { result ≡ true → (at < length members.now.items)
+        × ((d : Member) → (slice_index_or members.now.items at d).task.ticket ≡ ticket) }
 {
-    members.len() > 0 && members.at(0).task.ticket == ticket
+    at < members.len() && members.at(at).task.ticket == ticket
 }
 
 /// The oldest command with this tag. It looks along the set.
@@ -138,7 +142,7 @@ pub(crate) fn push(members: &mut Roster, counts: &mut Counts, task: Task, enable
     members.push(member);
 }
 
-/// The command at this place leaves. The later ones close up.
+/// The command at this place leaves. The others close up.
 pub(crate) fn remove(members: &mut Roster, counts: &mut Counts, at: usize)
     requires counted { IsCounted counts.old members.old.items }
     requires at { at < length members.old.items }
@@ -152,7 +156,7 @@ pub(crate) fn remove(members: &mut Roster, counts: &mut Counts, at: usize)
     *counts = counts.without(at, attr, ordered_at);
 }
 
-/// The covered commands leave, all of them before one moment. The later ones close up.
+/// The covered commands leave, all of them before one moment. The others close up.
 pub(crate) fn remove_covered(members: &mut Roster, counts: &mut Counts, cover: &Cover)
     requires counted { IsCounted counts.old members.old.items }
     requires len { length members.old.items ≤ 1024 }

@@ -12,7 +12,7 @@ use std::marker::Model;
 /// The members of a set, in the order in which they entered.
 ///
 /// A member keeps its slot until it leaves. So what closes up when one leaves from among the others is two bytes for
-/// each behind it.
+/// each on the shorter side of it.
 #[derive(Drop)]
 pub(crate) struct Roster {
     slots: Slots<Member>,
@@ -76,7 +76,7 @@ impl Roster {
         self.order.push(slot);
     }
 
-    /// The member at a place leaves. Those behind it close up; none moves where it is the oldest one.
+    /// The member at a place leaves. Those on the shorter side of it close up; none moves where it is the oldest one.
     pub(crate) fn remove(&mut self, k: usize)
         requires { k < length self.old.items }
         ensures { self.new ≡ queued (remove self.old.items k) self.old.room }

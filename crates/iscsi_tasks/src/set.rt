@@ -129,8 +129,8 @@ impl TaskSet {
 
     /// The command with this ticket leaves. Where there is none, nothing changes.
     ///
-    /// What grows with the set is that the commands behind it close up, by moving two bytes for each; none where the
-    /// oldest leaves.
+    /// What grows with the set is that the commands on its shorter side close up, by moving two bytes for each; none
+    /// where the oldest leaves.
     pub fn leave(&mut self, ticket: u64) -> Option<Task>
         ensures answer { result ≡ with_ticket ticket (tasks_in self.old) }
         ensures state { self.new ≡ left_by self.old (with_ticket ticket (tasks_in self.old)) }
@@ -138,7 +138,7 @@ impl TaskSet {
             (result ≡ with_ticket ticket (live h)) × StandsFor self.new (after_leaving result h) }
         ensures stays_free { StaysFree }
     {
-        let at = place_of(&self.members, ticket)?;
+        let at = place_of(&self.members, ticket, 0)?;
         Some(self.take_out(at))
     }
 
@@ -207,13 +207,16 @@ impl TaskSet {
     }
 
     /// The place of the command with this ticket, counted from the oldest, if it is in the set and enabled.
-    pub fn enabled_place(&self, ticket: u64) -> Option<u32>
+    ///
+    /// The place `guess` is looked at first, and may be any: a caller that keeps the commands of several units in one
+    /// order may give the place there, which is that of the set where all are of one unit.
+    pub fn enabled_place(&self, ticket: u64, guess: usize) -> Option<u32>
         ensures answer { result ≡ position (is_enabled_with ticket) self.now.list }
         ensures command { IfSome result (λ k. (k < length self.now.list) × ((d : Member) →
             with_ticket ticket (tasks_in self.now) ≡ Some (slice_index_or self.now.list k d).task)) }
         ensures since { (h : List Change) → StandsFor self.now h → IsSome result ↔ IsEnabled ticket h }
     {
-        let at = enabled_place(&self.members, ticket)?;
+        let at = enabled_place(&self.members, ticket, guess)?;
         Some(at as u32)
     }
 
@@ -222,7 +225,7 @@ impl TaskSet {
         ensures answer { result ≡ is_enabled_in ticket self.now.list }
         ensures since { (h : List Change) → StandsFor self.now h → IsTrue result ↔ IsEnabled ticket h }
     {
-        enabled_place(&self.members, ticket).is_some()
+        enabled_place(&self.members, ticket, 0).is_some()
     }
 
     /// The oldest command with this Initiator Task Tag.

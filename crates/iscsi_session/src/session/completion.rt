@@ -75,7 +75,7 @@ impl Session {
     {
         let at = self.live.place(ticket)?;
         let command = *self.live.at(at);
-        let place = self.sets[usize::from(command.unit)].enabled_place(ticket)?;
+        let place = self.sets[usize::from(command.unit)].enabled_place(ticket, at)?;
         Some(Enabled { at, place, command })
     }
 }

@@ -101,12 +101,12 @@ fn an_enabled_command_leaves_from_its_place(rt: HostRuntime) -> Result<(), Fail>
     for (ticket, attr) in [(1, Attr::Ordered), (2, Attr::Simple), (3, Attr::Head)] {
         assert_eq!(rt; enter(&rt, &mut set, task(ticket, attr)), Ok(()));
     }
-    assert_eq!(rt; set.enabled_place(1), Some(0));
-    assert_eq!(rt; set.enabled_place(2), None);
-    assert_eq!(rt; set.enabled_place(4), None);
-    let place = set.enabled_place(3).expect(&rt, "enabled");
+    assert_eq!(rt; set.enabled_place(1, 0), Some(0));
+    assert_eq!(rt; set.enabled_place(2, 1), None);
+    assert_eq!(rt; set.enabled_place(4, 9), None);
+    let place = set.enabled_place(3, 1).expect(&rt, "enabled");
     assert_eq!(rt; set.leave_at(place), task(3, Attr::Head));
-    assert_eq!(rt; set.enabled_place(3), None);
+    assert_eq!(rt; set.enabled_place(3, 0), None);
     assert_eq!(rt; set.len(), 2);
     Ok(())
 }

@@ -1,4 +1,4 @@
-use Rattle.std.proofs.Common.{◌≡◌, ◌+◌, ℤ, pos, ◌^◌, ◌-◌, take, w64, to_z, of_z, rules, ap, sym, ◌∙◌, arith, get_or}
+use Rattle.std.proofs.Common.{ℤ, take, w64, to_z, of_z, rules, ap, sym, ◌∙◌, arith}
 use Rattle.std.specs.Int.{int_min}
 use Rattle.std.proofs.lemmas.Int.{to_z-of_z}
 use Rattle.std.proofs.lemmas.List.Sums.{fold_more}

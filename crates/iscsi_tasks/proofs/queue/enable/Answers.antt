@@ -1,4 +1,4 @@
-use Rattle.std.proofs.Common.{refl, arith, ap, ◌∙◌, set, length, length-set}
+use Rattle.std.proofs.Common.{refl, arith, ap, ◌∙◌, length, length-set}
 use Rattle.std.proofs.lemmas.List.Edits.{map_over_more}
 use Rattle.iscsi_slots.specs.Queued.{Queued}
 use Rattle.iscsi_tasks.specs.declared.member.Member.{Member}

@@ -1,4 +1,4 @@
-use Rattle.std.proofs.Common.{sym, subst, ap, ◌∙◌, None, Option, ℕ}
+use Rattle.std.proofs.Common.{sym, subst, ap, ◌∙◌}
 use Rattle.iscsi_tasks.specs.declared.member.Member.{Member}
 use Rattle.iscsi_tasks.specs.Counted.{IsEnabledPlace}
 use Rattle.iscsi_tasks.proofs.SearchLemmas.{enabled_at, not_enabled}

@@ -1,4 +1,4 @@
-use Rattle.std.proofs.Common.{◌+◌, subst, arith, ◌≡◌, ◌<◌, ◌∙◌, ℕ, List, Some, position, length, get_or, set, true, false, ap, sym, get_or-set_same}
+use Rattle.std.proofs.Common.{◌+◌, subst, arith, ◌≡◌, ◌<◌, ◌∙◌, ℕ, List, Some, position, length, get_or, set, true, false, ap, sym}
 use Rattle.std.proofs.lemmas.List.{get_or_default}
 use Rattle.std.proofs.lemmas.List.Quantifiers.{position-Some}
 use Rattle.iscsi_slots.specs.Queued.{Queued}

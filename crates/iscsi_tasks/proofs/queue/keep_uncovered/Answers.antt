@@ -1,9 +1,9 @@
-use Rattle.std.proofs.Common.{◌≡◌, ◌+◌, ◌-◌, ◌<◌, suc, length, get_or, ap, sym, ◌∙◌, arith}
+use Rattle.std.proofs.Common.{◌≡◌, ◌-◌, ◌<◌, suc, length, get_or, ap, sym, ◌∙◌, arith}
 use Rattle.std.specs.List.{remove}
 use Rattle.iscsi_slots.specs.Queued.{Queued}
 use Rattle.iscsi_tasks.specs.declared.member.Member.{Member}
 use Rattle.iscsi_tasks.specs.Sets.{is_covered}
-use Rattle.iscsi_tasks.proofs.KeepLemmas.{kept_from, kept_all, kept_at, kept_without, kept_with}
+use Rattle.iscsi_tasks.proofs.KeepLemmas.{kept_from, kept_at, kept_without, kept_with}
 use Rattle.iscsi_tasks.proofs.queue.keep_uncovered.Goals as goal
 
 pub loop-k-preserved-then-covers : goal.loop-k-preserved-then-covers

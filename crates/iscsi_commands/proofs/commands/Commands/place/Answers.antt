@@ -3,7 +3,7 @@ use Rattle.iscsi_slots.specs.Places.{AreAscending}
 use Rattle.iscsi_slots.proofs.HalvingLemmas.{not_there}
 use Rattle.iscsi_commands.specs.declared.live.Live.{Live}
 use Rattle.iscsi_commands.proofs.KeptLemmas.{length-commands, ticket_within}
-use Rattle.iscsi_commands.proofs.commands.Commands.place.Goals.{else-at-len-via-then-at-len+else-at-ticket-2, else-at-len-via-else-at-len}
+use Rattle.iscsi_commands.proofs.commands.Commands.place.Goals.{else-at-len-via-then-at-len+else-at-ticket, else-at-len-via-else-at-len}
 use Rattle.iscsi_commands.proofs.commands.Commands.place.Goals as goal
 
 pub first_from-at-requires-clause-within : goal.first_from-at-requires-clause-within
@@ -22,6 +22,6 @@ returns-else-at-len-clause-place c =
     (subst (λ xs. (k : ℕ) (d : Live) → k < at → (get_or xs k d).ticket < c.args.ticket) items found.below)
     (subst (λ xs. (k : ℕ) (d : Live) → at ≤ k → k < length xs → c.args.ticket ≤ (get_or xs k d).ticket) items (λ k d from l. found.above k d from (omega (arith, l, long))))
     (λ within d same. elim c.else-at-len.branch [
-      | else-at-len-via-then-at-len+else-at-ticket-2 w ↦ w.if-at-ticket-2.false (ap (λ (l : Live). l.ticket) (w.at-then-at-len.ensures d) ∙ same)
-      | else-at-len-via-else-at-len w ↦ let over = w.if-at-len.false in let so_long = ap length items in let is = c.len-2.ensures.len in absurd (omega (arith, over, within, is, long, so_long))
+      | else-at-len-via-then-at-len+else-at-ticket w ↦ w.if-at-ticket.false (ap (λ (l : Live). l.ticket) (w.at.ensures d) ∙ same)
+      | else-at-len-via-else-at-len w ↦ let over = w.if-at-len.false in let so_long = ap length items in let is = c.len.ensures.len in absurd (omega (arith, over, within, is, long, so_long))
     ])

@@ -1,6 +1,6 @@
 use Rattle.std.proofs.Common.{◌<◌, ◌++◌, [], ◌∷◌, length, get_or, ap, sym, subst, ◌∙◌, arith}
 use Rattle.std.specs.List.{remove}
-use Rattle.iscsi_slots.specs.Queued.{Queued, queued}
+use Rattle.iscsi_slots.specs.Queued.{queued}
 use Rattle.iscsi_slots.specs.Slots.{Slotted}
 use Rattle.iscsi_slots.proofs.SlotLemmas.{map-remove}
 use Rattle.iscsi_slots.proofs.ShareLemmas.{shared_without}

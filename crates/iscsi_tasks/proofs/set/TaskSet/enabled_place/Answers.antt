@@ -1,4 +1,4 @@
-use Rattle.std.proofs.Common.{◌≡◌, ◌∙◌, ◌<◌, length, get_or, IfSome, ap, sym, subst, None, Some, is_some, false, true, position, Option, ℕ, IsSome}
+use Rattle.std.proofs.Common.{◌≡◌, ◌∙◌, ◌<◌, length, get_or, IfSome, ap, sym, subst, None, Some, false, true, position, Option, ℕ, IsSome}
 use Rattle.iscsi_tasks.specs.declared.member.Member.{Member}
 use Rattle.iscsi_tasks.specs.Sets.{Members, tasks_in, with_ticket, is_enabled_with, is_enabled_in}
 use Rattle.iscsi_tasks.specs.Changes.{IsEnabled}

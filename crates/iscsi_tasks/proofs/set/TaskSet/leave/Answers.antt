@@ -1,10 +1,7 @@
-use Rattle.std.proofs.Common.{◌≡◌, ◌==◌, ◌∷◌, ◌∙◌, ℕ, All, Some, None, false, get_or, ap, sym, subst}
-use Rattle.iscsi_tasks.specs.declared.task.Task.{Task}
-use Rattle.iscsi_tasks.specs.declared.member.Member.{Member}
-use Rattle.iscsi_tasks.specs.Sets.{Members, InOrder, left_by, tasks_in, with_ticket}
+use Rattle.std.proofs.Common.{◌≡◌, ◌==◌, ◌∷◌, ◌∙◌, ℕ, All, None, false, ap, sym, subst}
+use Rattle.iscsi_tasks.specs.Sets.{Members, left_by, tasks_in, with_ticket}
 use Rattle.iscsi_tasks.specs.Changes.{Left, StandsFor, after_leaving}
 use Rattle.iscsi_tasks.proofs.RuleLemmas.{stays_free}
-use Rattle.iscsi_tasks.specs.Counted.{IsPlaceOf}
 use Rattle.iscsi_tasks.proofs.SearchLemmas.{present_at, not_found}
 use Rattle.iscsi_tasks.proofs.HistoryLemmas.{StandsFor-left}
 use Rattle.iscsi_tasks.proofs.set.TaskSet.leave.Goals as goal

@@ -1,4 +1,4 @@
-use Rattle.std.proofs.Common.{◌∙◌, ◌∷◌, ap, sym, subst}
+use Rattle.std.proofs.Common.{◌∷◌, sym, subst}
 use Rattle.iscsi_tasks.specs.Sets.{Members}
 use Rattle.iscsi_tasks.specs.Changes.{Left, StandsFor}
 use Rattle.iscsi_tasks.proofs.HistoryLemmas.{StandsFor-left}

@@ -1,0 +1,15 @@
+use Rattle.std.proofs.Common.{◌≡◌, ◌+◌, ◌-◌, ◌∙◌, suc, drop, drop-drop, ap, sym, arith}
+use Rattle.std.specs.List.{remove}
+use Rattle.iscsi_slots.proofs.SlotLemmas.{drop-moved_down}
+use Rattle.iscsi_slots.proofs.order.close_down.Goals as goal
+
+pub returns-then-count-gt0-clause-slots : goal.returns-then-count-gt0-clause-slots
+returns-then-count-gt0-clause-slots c =
+    let next : c.args.head + 1 ≡ suc c.args.head = omega arith in
+    let many : c.args.head + c.args.count - c.args.head ≡ c.args.count = omega arith in
+    rw (c.copy_within.ensures.items, many, next) (drop-moved_down c.args.order.now.items c.args.head c.args.count (suc c.args.head + c.args.count) c.requires (omega arith))
+
+pub returns-else-count-gt0-clause-slots : goal.returns-else-count-gt0-clause-slots
+returns-else-count-gt0-clause-slots c =
+    let none : 0 ≡ c.args.count = omega (arith, c.if-count-gt0.false) in
+    sym (drop-drop 1 c.args.head c.args.order.now.items) ∙ ap (remove (drop c.args.head c.args.order.now.items)) none
