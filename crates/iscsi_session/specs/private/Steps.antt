@@ -1,6 +1,5 @@
 -- What a session keeps after a part of an event, and the effects, by what it keeps before. For private contracts alone.
-use Rattle.std.specs.Prelude.{All, ◌≡◌, false, ◌<◌, ℕ, pos, ◌-ℤ◌, ◌+◌, ◌-◌, ◌≤◌, ◌==◌, ◌&&◌, ◌||◌, not, count_by, nat_lt, nat_le, nat_eq, Bool, true, List, [], ◌∷◌, ◌++◌, length, map, filter, find, slice_index_or, slice_set, Option, Some, None, option_map, if◌then◌else◌}
-use Rattle.std.specs.Option.{MatchOption}
+use Rattle.std.specs.Prelude.{◌≡◌, ◌<◌, ℕ, pos, ◌-ℤ◌, ◌+◌, ◌-◌, ◌≤◌, ◌==◌, ◌&&◌, ◌||◌, not, count_by, nat_lt, nat_le, Bool, true, List, [], ◌∷◌, ◌++◌, length, map, filter, slice_index_or, slice_set, Option, Some, None, option_map, if◌then◌else◌}
 use Rattle.std.specs.List.{list_any, remove}
 use Rattle.iscsi_wire.specs.declared.request.Request.{Request}
 use Rattle.iscsi_wire.specs.declared.reply.Reply.{Reply}

@@ -98,13 +98,14 @@ impl Session {
         requires { is_immediate request.now ≡ true }
         ensures { result ≡ deferral_by self.now request.now }
     {
-        if request.opcode() == TASK_MANAGEMENT
-            && may_wait(request)
-            && self.refusal_of_function(request).is_none()
-        {
-            self.wait_for(request)
-        } else {
-            Deferral::Now
+        if request.opcode() != TASK_MANAGEMENT || !may_wait(request) {
+            return Deferral::Now;
+        }
+        match self.wait_for(request) {
+            Deferral::Now => Deferral::Now,
+            // What is refused executes at once, whatever its number is.
+            _ if self.refusal_of_function(request).is_some() => Deferral::Now,
+            by_number => by_number,
         }
     }
 

@@ -1,8 +1,6 @@
-use Rattle.std.proofs.Common.{◌≡◌, ◌==◌, ◌&&◌, ◌∙◌, ◌<◌, ap, sym, subst, List, Option, Some, None, true, false, arith, length, nat_le, nat_lt, cond, ℕ, get_or, option_map}
-use Rattle.std.specs.List.{remove}
+use Rattle.std.proofs.Common.{◌≡◌, ◌==◌, ◌&&◌, ◌∙◌, ◌<◌, ap, sym, subst, List, Some, None, true, false, arith, length, nat_le, nat_lt, cond, ℕ, get_or, option_map}
 use Rattle.std.proofs.lemmas.Bool.Decides.{nat_tests}
 use Rattle.std.proofs.lemmas.List.{get_or_default}
-use Rattle.iscsi_tasks.specs.declared.member.Member.{Member}
 use Rattle.iscsi_tasks.specs.Sets.{Members, opened, tasks_in, with_ticket, is_enabled_in}
 use Rattle.iscsi_commands.specs.declared.live.Live.{Live}
 use Rattle.iscsi_session.specs.declared.session.completion.Enabled.{Enabled}
@@ -12,7 +10,7 @@ use Rattle.iscsi_session.specs.private.Steps.{IsFound, set_at, find_ticket, find
 use Rattle.iscsi_history.proofs.BoolLemmas.{and_second}
 use Rattle.iscsi_history.proofs.ListLemmas.{find-passes}
 use Rattle.iscsi_slots.proofs.SortedLemmas.{find_nowhere}
-use Rattle.iscsi_session.proofs.FoundLemmas.{IsPlaced, placed, enabled_where}
+use Rattle.iscsi_session.proofs.FoundLemmas.{placed, enabled_where}
 use Rattle.iscsi_session.proofs.session.Session.find_enabled.Goals as goal
 
 -- the unit of a live command is one of the session
