@@ -6,10 +6,10 @@ use Rattle.std.proofs.lemmas.List.Quantifiers.{position-Some}
 use Rattle.iscsi_wire.specs.Serial.{wire}
 use Rattle.iscsi_connections.specs.declared.connections.Connection.{Connection}
 use Rattle.iscsi_connections.specs.Connected.{Connected, stat_sn_on, count_reply, counted_on}
-use Rattle.iscsi_connections.specs.Placed.{cid_and_stat_sn, cids_of, open_in, connected}
+use Rattle.iscsi_connections.specs.Placed.{cid_and_stat_sn, cids_of, connected}
 use Rattle.iscsi_connections.proofs.PlaceLemmas.{has_cid}
 use Rattle.iscsi_connections.proofs.CountLemmas.{count_reply-at, stat_sn_on-at, counted_place, counted_up, counted_down}
-use Rattle.iscsi_connections.proofs.ViewLemmas.{open_set, seen}
+use Rattle.iscsi_connections.proofs.ViewLemmas.{open_set}
 
 abbrev pub count_of : Connection → ℕ
 count_of c = c.immediate
@@ -39,25 +39,20 @@ module _ (list : List Connection) (cid k : ℕ) (found : position (has_cid cid) 
   number_is fits =
       let there = position-Some (has_cid cid) (map cid_and_stat_sn list) k (cid_and_stat_sn read) found in
       let whole : wire read.stat_sn ≡ read.stat_sn = omega arith in
-      sym whole ∙ ap (λ (p : ℕ × ℕ). wire p.1) (sym here)
-      ∙ sym (stat_sn_on-at (map cid_and_stat_sn list) cid k (cid_and_stat_sn read) there.0 there.1 there.2)
+      cc (here, stat_sn_on-at (map cid_and_stat_sn list) cid k (cid_and_stat_sn read) there.0 there.1 there.2)
 
   conns_numbered : map cid_and_stat_sn (set list k (numbered read ((read.stat_sn + 1) % 4294967296))) ≡ count_reply cid (map cid_and_stat_sn list)
   conns_numbered =
       let there = position-Some (has_cid cid) (map cid_and_stat_sn list) k (cid_and_stat_sn read) found in
-      map-set cid_and_stat_sn list k (numbered read ((read.stat_sn + 1) % 4294967296))
-      ∙ ap (λ (p : ℕ × ℕ). set (map cid_and_stat_sn list) k (p.0, wire (p.1 + 1))) (sym here)
-      ∙ count_reply-at (map cid_and_stat_sn list) cid k (cid_and_stat_sn read) there.0 there.1 there.2
+      cc (map-set cid_and_stat_sn list k (numbered read ((read.stat_sn + 1) % 4294967296)), here, count_reply-at (map cid_and_stat_sn list) cid k (cid_and_stat_sn read) there.0 there.1 there.2)
 
-  read_is : (f : Connection → ℕ) (new : Connection) → f new ≡ f read → f new ≡ f (get_or list k new)
+  read_is : {A : Type 0} (f : Connection → A) (new : Connection) → f new ≡ f read → f new ≡ f (get_or list k new)
   read_is f new same = same ∙ ap f (is ∙ get_or_default list k read new within)
 
   pub view_numbered : connected (set list k (numbered read ((read.stat_sn + 1) % 4294967296))) ≡ (let old : Connected = connected list in record old { conns = count_reply cid old.conns })
   view_numbered =
       let new : Connection = numbered read ((read.stat_sn + 1) % 4294967296) in
-      ap (λ cs. seen cs (open_in (set list k new)) (map count_of (set list k new))) conns_numbered
-      ∙ ap (λ os. seen (count_reply cid (map cid_and_stat_sn list)) os (map count_of (set list k new))) (open_set list k new (read_is (λ c. c.cid) new refl) (ap (λ (c : Connection). c.is_open) (is ∙ get_or_default list k read new within)))
-      ∙ ap (λ ns. seen (count_reply cid (map cid_and_stat_sn list)) (open_in list) ns) (map-set_same count_of list k new new (read_is count_of new refl))
+      cc (conns_numbered, open_set list k new (read_is (λ c. c.cid) new refl) (read_is (λ c. c.is_open) new refl), map-set_same count_of list k new new (read_is count_of new refl))
 
   pub cids_numbered : cids_of (set list k (numbered read ((read.stat_sn + 1) % 4294967296))) ≡ cids_of list
   cids_numbered =
@@ -70,8 +65,7 @@ module _ (list : List Connection) (cid k : ℕ) (found : position (has_cid cid) 
   counts_long = length-map list count_of ∙ sym long
 
   pub count_is : counted_on cid (map cid_and_stat_sn list) (map count_of list) ≡ read.immediate
-  count_is = counted_place (map cid_and_stat_sn list) (map count_of list) cid k found counts_long read.immediate
-      ∙ get_or-map count_of list k read read.immediate within ∙ ap count_of (sym is)
+  count_is = cc (counted_place (map cid_and_stat_sn list) (map count_of list) cid k found counts_long read.immediate, get_or-map count_of list k read read.immediate within)
 
   read_count : read.immediate ≡ get_or (map count_of list) k read.immediate
   read_count = ap count_of is ∙ sym (get_or-map count_of list k read read.immediate within)
@@ -79,18 +73,14 @@ module _ (list : List Connection) (cid k : ℕ) (found : position (has_cid cid) 
   pub view_counting : (n : ℕ) → connected (set list k (counting read n)) ≡ (let old : Connected = connected list in record old { immediate = map count_of (set list k (counting read n)) })
   view_counting n =
       let new : Connection = counting read n in
-      ap (λ cs. seen cs (open_in (set list k new)) (map count_of (set list k new))) (map-set_same cid_and_stat_sn list k new new (ap cid_and_stat_sn (is ∙ get_or_default list k read new within)))
-      ∙ ap (λ os. seen (map cid_and_stat_sn list) os (map count_of (set list k new))) (open_set list k new (read_is (λ c. c.cid) new refl) (ap (λ (c : Connection). c.is_open) (is ∙ get_or_default list k read new within)))
+      cc (map-set_same cid_and_stat_sn list k new new (read_is cid_and_stat_sn new refl), open_set list k new (read_is (λ c. c.cid) new refl) (read_is (λ c. c.is_open) new refl))
 
   pub cids_counting : (n : ℕ) → cids_of (set list k (counting read n)) ≡ cids_of list
   cids_counting n = map-set_same (λ (c : Connection). c.cid) list k (counting read n) (counting read n) (read_is (λ c. c.cid) (counting read n) refl)
 
   pub counting_up : (other : ℕ) → counted_on other (map cid_and_stat_sn list) (map count_of (set list k (counting read (read.immediate + 1)))) ≡ counted_on other (map cid_and_stat_sn list) (map count_of list) + cond (cid == other) 1 0
-  counting_up other =
-      ap (counted_on other (map cid_and_stat_sn list)) (map-set count_of list k (counting read (read.immediate + 1)))
-      ∙ counted_up (map cid_and_stat_sn list) (map count_of list) cid k found counts_long read.immediate other read_count
+  counting_up other = cc (map-set count_of list k (counting read (read.immediate + 1)), counted_up (map cid_and_stat_sn list) (map count_of list) cid k found counts_long read.immediate other read_count)
 
   pub counting_down : (other : ℕ) → 1 ≤ read.immediate → counted_on other (map cid_and_stat_sn list) (map count_of (set list k (counting read (read.immediate - 1)))) + cond (cid == other) 1 0 ≡ counted_on other (map cid_and_stat_sn list) (map count_of list)
   counting_down other some =
-      ap (λ ns. counted_on other (map cid_and_stat_sn list) ns + cond (cid == other) 1 0) (map-set count_of list k (counting read (read.immediate - 1)))
-      ∙ counted_down (map cid_and_stat_sn list) (map count_of list) cid k found counts_long read.immediate other read_count some
+      cc (map-set count_of list k (counting read (read.immediate - 1)), counted_down (map cid_and_stat_sn list) (map count_of list) cid k found counts_long read.immediate other read_count some)

@@ -208,3 +208,32 @@ turned-all o t₀ out₀ whole s out d none =
         ap received (sym ends) ∙ d.same,
       ),
     )
+
+-- ---- where no function waits for the next number
+
+pub none_wait : (o : Setting) (t : Trace) (s : Core) (out : List Effect) → next_waiting s ≡ None → Agrees o s t
+    → Agrees o s (after_items (functions_at o (number_expected s.window) t) t) × (out ≡ out ++ effects_of o t (functions_at o (number_expected s.window) t))
+none_wait o t s out none a = functions-done o t out (left_functions o s t) s out none (record { trace = t; agrees = a; same = refl; effects = refl; after = refl })
+
+-- what an agenda comes to, from a state on
+pub record Carried (o : Setting) (s f : Core) (t : Trace) (out out' : List Effect) : Type 0 where
+  pub settled : Settled o f (after_items (whole_of o s t) t)
+  pub effects_are : out' ≡ out ++ effects_of o t (whole_of o s t)
+  pub received_is : received (after_items (whole_of o s t) t) ≡ received t
+
+-- its first number turns
+pub Carried-turned : (o : Setting) (s s' f : Core) (t : Trace) (out out' out'' : List Effect) (p : Option (Option Request)) → next_waiting s ≡ None → at_place s.window 0 ≡ p → is_some p ≡ true
+    → s' ≡ turned_if s p → out' ≡ out ++ turn_effects s p → Agrees o s t → ((t : Trace) → Agrees o s' t → Carried o s' f t out' out'') → Carried o s f t out out''
+Carried-turned o s s' f t out out' out'' p none here some now given a rest =
+    let whole : List (List Mark) = whole_of o s t in
+    let due : DueTurn o t out whole s out = Due-functions o t out whole s s out out (Due-start o s t out a) refl (λ o t a. (none_wait o t s out none a).0) (λ o t a. (none_wait o t s out none a).1) in
+    let d : Due o t out whole s' out' = subst (λ (v : Core). Due o t out whole v out') (ap (turned_if s) here ∙ sym now)
+    (subst (λ es. Due o t out whole (turned_if s (at_place s.window 0)) es) (ap (λ q. out ++ turn_effects s q) here ∙ sym given) (turned-one o t out whole s out p here some due)) in
+    let left : whole_of o s' d.trace ≡ left_before o t s' d.trace = ap (λ e. agenda o (number_expected s'.window) (e - number_expected s'.window) d.trace) (same_exp o d.trace t d.same) in
+    let ends : after_items (whole_of o s' d.trace) d.trace ≡ after_items whole t = ap (λ items. after_items items d.trace) left ∙ d.after in
+    let c : Carried o s' f d.trace out' out'' = rest d.trace d.agrees in
+    record {
+      settled = subst (Settled o f) ends c.settled;
+      effects_are = c.effects_are ∙ ap (λ items. out' ++ effects_of o d.trace items) left ∙ d.effects;
+      received_is = ap received (sym ends) ∙ c.received_is ∙ d.same;
+    }

@@ -1,20 +1,19 @@
 -- A session that agrees with what has happened agrees after one item more.
-use Rattle.std.proofs.Common.{◌≡◌, ℕ, ◌+◌, ◌-◌, ◌<◌, ◌≤◌, not, true, false, List, [], ◌∷◌, ◌++◌, length, nat_lt, refl, ap, sym, ◌∙◌, arith, set}
-use Rattle.std.specs.List.{list_all}
-use Rattle.std.proofs.lemmas.Bool.Decides.{nat_tests}
+use Rattle.std.proofs.Common.{◌≡◌, ℕ, ◌+◌, ◌-◌, ◌<◌, ◌≤◌, not, true, false, List, [], ◌∷◌, length, nat_lt, refl, sym, ◌∙◌, arith, set}
+use Rattle.std.specs.List.{filter_map, list_all}
+use Rattle.std.proofs.lemmas.Bool.{ltb-true}
 use Rattle.iscsi_wire.specs.Serial.{wire}
 use Rattle.iscsi_wire.specs.Fields.{connection_of, cmd_sn}
-use Rattle.iscsi_window.specs.Windows.{number_expected, room_of}
+use Rattle.iscsi_window.specs.Windows.{Received, number_expected, room_of}
 use Rattle.iscsi_history.specs.declared.effect.Effect.{Effect}
 use Rattle.iscsi_history.specs.declared.effect.Effect.TheVariants.{Ignore}
-use Rattle.iscsi_history.specs.declared.effect.Numbers.{Numbers}
 use Rattle.iscsi_history.specs.declared.effect.Why.{Why}
 use Rattle.iscsi_commands.specs.declared.live.Live.{Live}
 use Rattle.iscsi_history.specs.rules.Settings.{Setting, is_known}
-use Rattle.iscsi_history.specs.rules.Trace.{Arrival, Command, Mark, Admits, Ignores, Trace, after_items, has, entered, leaves_ticket, live, is_received}
-use Rattle.iscsi_history.specs.rules.Execution.{exp_of, max_of, unfinished, ignored}
+use Rattle.iscsi_history.specs.rules.Trace.{Arrival, Command, Mark, Admits, Ignores, Trace, after_items, has, entered, sent_on, waiting, leaves_ticket, live, is_received}
+use Rattle.iscsi_history.specs.rules.Execution.{exp_of, max_of, ignored}
 use Rattle.iscsi_history.specs.rules.Run.{effects_of, numbers_of}
-use Rattle.iscsi_session.specs.promises.Standing.{Core, CommandsAgree, is_regular, is_regular_request, Agrees, Settled}
+use Rattle.iscsi_session.specs.promises.Standing.{Core, CommandsAgree, WindowAgrees, ArrivalsAgree, is_regular, is_regular_request, Agrees, Settled}
 use Rattle.iscsi_session.specs.private.Steps.{numbers_by}
 use Rattle.iscsi_history.proofs.BoolLemmas.{and_parts}
 use Rattle.iscsi_history.proofs.ListLemmas.{list_all-filter}
@@ -23,12 +22,11 @@ use Rattle.iscsi_history.proofs.TraceLemmas.{weaker}
 use Rattle.iscsi_history.proofs.DeliveryLemmas.{quiet-ignored}
 use Rattle.iscsi_session.proofs.WindowParts.{next_expected, WindowAgrees-quiet, with_held, WindowAgrees-admitted}
 use Rattle.iscsi_session.proofs.ArrivedLemmas.{ArrivalsAgree-quiet, ArrivalsAgree-admitted}
+use Rattle.iscsi_history.proofs.ClosingItems.{ClosesNone}
 use Rattle.iscsi_history.proofs.HeldLemmas.{held-here}
 use Rattle.iscsi_session.proofs.ReplyParts.{RepliesAgree-quiet}
-use Rattle.iscsi_history.proofs.MomentLemmas.{enables}
-use Rattle.iscsi_history.proofs.NewlyLemmas.{Untouched}
+use Rattle.iscsi_history.proofs.NewlyLemmas.{Untouched, newly-untouched}
 use Rattle.iscsi_session.proofs.CommandParts.{CommandsAgree-untouched}
-use Rattle.iscsi_history.proofs.NewlyLemmas.{newly-untouched}
 use Rattle.iscsi_history.proofs.EnabledItems.{EnabledSoFar-untouched}
 use Rattle.iscsi_history.proofs.CommandItems.{unfinished-untouched, untouched-admits}
 use Rattle.iscsi_session.proofs.SetParts.{SetsAgree-untouched}
@@ -45,45 +43,46 @@ pub record Regular (o : Setting) (c : Command) : Type 0 where
 
 pub regular_parts : (o : Setting) (c : Command) → is_regular o c ≡ true → Regular o c
 regular_parts o c h =
-    let parts = and_parts (nat_lt c.unit o.units) (is_known (connection_of c.arrival.request) o.conns) h in
-    record { unit = below parts.0; known = parts.1 }
-  where
-    below : nat_lt c.unit o.units ≡ true → c.unit < o.units
-    below test = let lt : c.unit < o.units = grind (arith, nat_tests) in lt
-
--- each live command is in a unit of the session
-pub units_live : (o : Setting) (lives : List Live) (n : ℕ) (t : Trace) → CommandsAgree o lives n t → list_all (λ c. nat_lt c.unit o.units) (live t) ≡ true
-units_live o lives n t a =
-    weaker (is_regular o) (λ c. nat_lt c.unit o.units) (live t) (λ c h. (and_parts (nat_lt c.unit o.units) (is_known (connection_of c.arrival.request) o.conns) h).0)
-    (list_all-filter (λ (c : Command). not (has (leaves_ticket c.ticket) t)) (is_regular o) (entered t) a.regular)
+    let parts = and_parts _ _ h in
+    record { unit = ltb-true c.unit o.units parts.0; known = parts.1 }
 
 -- the live commands are regular
-pub regular_live : (o : Setting) (s : Core) (t : Trace) → Agrees o s t → list_all (is_regular o) (live t) ≡ true
-regular_live o s t a = list_all-filter (λ (c : Command). not (has (leaves_ticket c.ticket) t)) (is_regular o) (entered t) a.commands.regular
+pub regular_live : (o : Setting) (lives : List Live) (n : ℕ) (t : Trace) → CommandsAgree o lives n t → list_all (is_regular o) (live t) ≡ true
+regular_live o lives n t a = list_all-filter (λ (c : Command). not (has (leaves_ticket c.ticket) t)) (is_regular o) (entered t) a.regular
 
-pub agrees_unfinished : (o : Setting) (s : Core) (t : Trace) → Agrees o s t → unfinished t ≡ s.window.unfinished
-agrees_unfinished o s t a = sym a.unfinished
+-- each is in a unit of the session
+pub units_live : (o : Setting) (lives : List Live) (n : ℕ) (t : Trace) → CommandsAgree o lives n t → list_all (λ c. nat_lt c.unit o.units) (live t) ≡ true
+units_live o lives n t a = weaker (is_regular o) (λ c. nat_lt c.unit o.units) (live t) (λ c h. (and_parts _ _ h).0) (regular_live o lives n t a)
 
 pub settled_max : (o : Setting) (s : Core) (t : Trace) → Settled o s t → max_of o t ≡ number_expected s.window + length s.window.places - 1 - s.window.unfinished
-settled_max o s t h =
-    let e = settled_expected o s t h in
-    let u = agrees_unfinished o s t h.agrees in
-    let w = h.agrees.window.size in
-    ap (λ x. x + o.window - 1 - unfinished t) e ∙ ap (λ x. number_expected s.window + o.window - 1 - x) u ∙ ap (λ x. number_expected s.window + x - 1 - s.window.unfinished) (sym w)
+settled_max o s t h = omega (arith, settled_expected o s t h, h.agrees.unfinished, h.agrees.window.size)
 
 pub settled_numbers : (o : Setting) (s : Core) (t : Trace) → Settled o s t → numbers_by s ≡ numbers_of o t
-settled_numbers o s t h =
-    ap (λ e. pair_of e (number_expected s.window + length s.window.places - 1 - s.window.unfinished)) (sym (settled_expected o s t h))
-    ∙ ap (pair_of (exp_of o t)) (sym (settled_max o s t h))
-  where
-    pair_of : ℕ → ℕ → Numbers
-    pair_of e m = record { exp = wire e; max = wire m }
+settled_numbers o s t h = cc (settled_expected o s t h, settled_max o s t h)
 
 -- ---- one step: what is kept, and the effects
 
 pub record Stepped (o : Setting) (s : Core) (t : Trace) (items : List (List Mark)) (effects : List Effect) : Type 0 where
   pub settled : Settled o s (after_items items t)
   pub effects_are : effects ≡ effects_of o t items
+
+-- ---- an item by which no command enters or leaves, no reply goes out and nothing closes
+
+pub Agrees-untouched : (o : Setting) (s : Core) (w : Received) (arrived : List ℕ) (t : Trace) (item : List Mark) → Untouched item → filter_map sent_on item ≡ [] → ClosesNone item → waiting (item ∷ t) ≡ waiting t → Agrees o s t
+    → w.unfinished ≡ s.window.unfinished → WindowAgrees o w (item ∷ t) → ArrivalsAgree w arrived (item ∷ t) → Agrees o (record s { window = w; arrived = arrived }) (item ∷ t)
+Agrees-untouched o s w arrived t item u sends_none closes_none waits a same window events = record {
+  events = a.events;
+  window = window;
+  replies = RepliesAgree-quiet o s.conns t item sends_none a.replies;
+  commands = CommandsAgree-untouched o s.live s.entered t item u a.commands;
+  sets = SetsAgree-untouched o s.sets t item u a.sets;
+  unfinished = same ∙ a.unfinished ∙ sym (unfinished-untouched item t u);
+  enabled = EnabledSoFar-untouched o item t u a.enabled;
+  level = a.level;
+  arrived = events;
+  waiting = record { list = waits ∙ a.waiting.list; may = a.waiting.may; known = a.waiting.known };
+  open_conns = a.open_conns ∙ sym (open_of-same o item t closes_none);
+}
 
 -- ---- an ignored event
 
@@ -94,22 +93,11 @@ Stepped-ignored o s t why h =
     let u : Untouched item = record { enters_none = refl; leaves_no = λ k. refl } in
     record {
       settled = record {
-        agrees = record {
-          events = a.events;
-          window = WindowAgrees-quiet o s.window t item (quiet-ignored why) a.window;
-          replies = RepliesAgree-quiet o s.conns t item refl a.replies;
-          commands = CommandsAgree-untouched o s.live s.entered t item u a.commands;
-          sets = SetsAgree-untouched o s.sets t item u a.sets;
-          unfinished = a.unfinished ∙ sym (unfinished-untouched item t u);
-          enabled = EnabledSoFar-untouched o item t u a.enabled;
-          level = a.level;
-          arrived = ArrivalsAgree-quiet s.window s.arrived t item (quiet-ignored why) a.arrived;
-          waiting = record { list = a.waiting.list; may = a.waiting.may; known = a.waiting.known };
-          open_conns = a.open_conns ∙ sym (open_of-same o item t (record { session = refl; conns = λ c. refl }));
-        };
+        agrees = Agrees-untouched o s s.window s.arrived t item u refl (record { session = refl; conns = λ c. refl }) refl a refl
+            (WindowAgrees-quiet o s.window t item (quiet-ignored why) a.window) (ArrivalsAgree-quiet s.window s.arrived t item (quiet-ignored why) a.arrived);
         none_due = h.none_due;
       };
-      effects_are = sym (ap (λ cs. (Ignore why ∷ enables cs) ++ []) (newly-untouched o t item u));
+      effects_are = cc (newly-untouched o t item u);
     }
 
 -- ---- an admission
@@ -117,18 +105,6 @@ Stepped-ignored o s t why h =
 pub Agrees-admitted : (o : Setting) (s : Core) (t : Trace) (a : Arrival) → Agrees o s t → number_expected s.window ≤ a.number → a.number < number_expected s.window + room_of s.window → is_received t a.number ≡ false → is_regular_request o a.request ≡ true → wire (cmd_sn a.request) ≡ wire a.number
     → Agrees o (record s { window = with_held s.window a; arrived = set s.arrived (a.number - number_expected s.window) a.event }) ((Admits a ∷ []) ∷ t)
 Agrees-admitted o s t a h low high new regular shows =
-    let item : List Mark = Admits a ∷ [] in
-    let u : Untouched item = untouched-admits a in
-    record {
-      events = h.events;
-      window = WindowAgrees-admitted o s.window t a h.window low high new regular shows;
-      replies = RepliesAgree-quiet o s.conns t item refl h.replies;
-      commands = CommandsAgree-untouched o s.live s.entered t item u h.commands;
-      sets = SetsAgree-untouched o s.sets t item u h.sets;
-      unfinished = h.unfinished ∙ sym (unfinished-untouched item t u);
-      enabled = EnabledSoFar-untouched o item t u h.enabled;
-      level = h.level;
-      arrived = ArrivalsAgree-admitted s.window s.arrived t a h.arrived low high (held-here t a new (h.window.undelivered a.number low) (h.window.unemptied a.number new));
-      waiting = record { list = h.waiting.list; may = h.waiting.may; known = h.waiting.known };
-      open_conns = h.open_conns ∙ sym (open_of-same o item t (record { session = refl; conns = λ c. refl }));
-    }
+    Agrees-untouched o s (with_held s.window a) (set s.arrived (a.number - number_expected s.window) a.event) t (Admits a ∷ []) (untouched-admits a) refl (record { session = refl; conns = λ c. refl }) refl h refl
+    (WindowAgrees-admitted o s.window t a h.window low high new regular shows)
+    (ArrivalsAgree-admitted s.window s.arrived t a h.arrived low high (held-here t a new (h.window.undelivered a.number low) (h.window.unemptied a.number new)))

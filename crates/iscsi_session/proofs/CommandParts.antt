@@ -1,21 +1,20 @@
 -- The live commands that are kept agree with what has happened after one item more.
-use Rattle.std.proofs.Common.{◌≡◌, ℕ, ◌+◌, ◌<◌, ◌≤◌, ◌==◌, ◌&&◌, ◌||◌, not, ⊎_elim, cond, Bool, true, false, List, [], ◌∷◌, ◌++◌, length, map, filter, Some, option_map, refl, ap, sym, subst, ◌∙◌, arith, eq-eqb}
+use Rattle.std.proofs.Common.{◌≡◌, ℕ, ◌+◌, ◌<◌, ◌==◌, not, ⊎_elim, Bool, true, false, List, [], ◌∷◌, ◌++◌, length, map, filter, option_map, refl, ap, sym, ◌∙◌, arith, eq-eqb}
 use Rattle.std.specs.List.{list_all}
-use Rattle.std.proofs.lemmas.Bool.{cases_lt, false≢true}
-use Rattle.std.proofs.lemmas.Bool.Decides.{nat_tests}
+use Rattle.std.proofs.lemmas.Bool.{cases_lt, ne_eqb}
 use Rattle.std.proofs.lemmas.List.{append-nil, length_push, map-append}
 use Rattle.std.proofs.lemmas.List.Elements.{filter-append}
-use Rattle.std.proofs.lemmas.List.Folds.{list_any-append, list_all-append}
+use Rattle.std.proofs.lemmas.List.Folds.{list_any-append}
 use Rattle.iscsi_commands.specs.declared.live.Live.{Live}
 use Rattle.iscsi_history.specs.rules.Settings.{Setting}
-use Rattle.iscsi_history.specs.rules.Trace.{Command, Mark, Trace, has, entered, leaves_ticket, live, live_in, is_among, first_of}
+use Rattle.iscsi_history.specs.rules.Trace.{Command, Mark, Trace, has, entered, leaves_ticket, live, live_in, is_among, first_of, are_apart}
 use Rattle.iscsi_session.specs.promises.Standing.{kept, is_regular, CommandsAgree}
-use Rattle.iscsi_history.specs.rules.Trace.{are_apart}
 use Rattle.iscsi_session.specs.private.Steps.{find_ticket}
 use Rattle.iscsi_history.proofs.ApartLemmas.{eq_sym, unamong-filter, apart-push, apart-filter}
 use Rattle.iscsi_history.proofs.TraceLemmas.{live-enters}
 use Rattle.iscsi_history.proofs.NewlyLemmas.{Untouched, live-untouched}
 use Rattle.iscsi_history.proofs.ListLemmas.{filter-map}
+use Rattle.iscsi_session.proofs.ListLemmas.{list_all-push}
 use Rattle.iscsi_history.proofs.CommandItems.{EntersOne, LeavesSome, entered-untouched, live-left}
 
 pub CommandsAgree-untouched : (o : Setting) (lives : List Live) (n : ℕ) (t : Trace) (item : List Mark) → Untouched item → CommandsAgree o lives n t → CommandsAgree o lives n (item ∷ t)
@@ -27,27 +26,21 @@ CommandsAgree-untouched o lives n t item u a =
       regular = ap (list_all (is_regular o)) entries ∙ a.regular;
       apart = ap are_apart same ∙ a.apart;
       count_is = a.count_is ∙ ap length (sym entries);
-      fresh = λ k lt. ap (is_among k) entries ∙ a.fresh k (subst (λ (cs : List Command). length cs < k) entries lt);
-      unleft = λ k lt. ap (λ b. b || has (leaves_ticket k) t) (u.leaves_no k) ∙ a.unleft k (subst (λ (cs : List Command). length cs < k) entries lt);
+      fresh = λ k lt. ap (is_among k) entries ∙ a.fresh k (rw entries at lt);
+      unleft = λ k lt. cc (u.leaves_no k, a.unleft k (rw entries at lt));
     }
 
 -- ---- a command enters
 
-pub live-entered : (o : Setting) (lives : List Live) (n : ℕ) (item : List Mark) (t : Trace) (c : Command) → CommandsAgree o lives n t → EntersOne item t c → live (item ∷ t) ≡ live t ++ c ∷ []
-live-entered o lives n item t c a e = live-enters item t c e.one e.leaves_no (a.unleft c.ticket (omega (arith, e.ticket)))
+module _ (o : Setting) (lives : List Live) (n : ℕ) (item : List Mark) (t : Trace) (c : Command) (a : CommandsAgree o lives n t) (e : EntersOne item t c) where
+  pub live-entered : live (item ∷ t) ≡ live t ++ c ∷ []
+  live-entered = live-enters item t c e.one e.leaves_no (a.unleft c.ticket (omega (arith, e.ticket)))
 
-pub live_in-entered : (o : Setting) (lives : List Live) (n : ℕ) (item : List Mark) (t : Trace) (c : Command) → CommandsAgree o lives n t → EntersOne item t c → live_in c.unit (item ∷ t) ≡ live_in c.unit t ++ c ∷ []
-live_in-entered o lives n item t c a e =
-    ap (filter (λ (d : Command). d.unit == c.unit)) (live-entered o lives n item t c a e)
-    ∙ filter-append (λ (d : Command). d.unit == c.unit) (live t) (c ∷ [])
-    ∙ ap (λ b. live_in c.unit t ++ cond b (c ∷ []) []) (eq-eqb c.unit c.unit refl)
+  pub live_in-entered : live_in c.unit (item ∷ t) ≡ live_in c.unit t ++ c ∷ []
+  live_in-entered = cc (live-entered, filter-append (λ (d : Command). d.unit == c.unit) (live t) (c ∷ []), eq-eqb c.unit c.unit refl)
 
-pub live_in-elsewhere : (o : Setting) (lives : List Live) (n : ℕ) (item : List Mark) (t : Trace) (c : Command) → CommandsAgree o lives n t → EntersOne item t c → (other : ℕ) → (other == c.unit) ≡ false → live_in other (item ∷ t) ≡ live_in other t
-live_in-elsewhere o lives n item t c a e other apart =
-    ap (filter (λ (d : Command). d.unit == other)) (live-entered o lives n item t c a e)
-    ∙ filter-append (λ (d : Command). d.unit == other) (live t) (c ∷ [])
-    ∙ ap (λ b. live_in other t ++ cond b (c ∷ []) []) (eq_sym c.unit other ∙ apart)
-    ∙ append-nil (live_in other t)
+  pub live_in-elsewhere : (other : ℕ) → (other == c.unit) ≡ false → live_in other (item ∷ t) ≡ live_in other t
+  live_in-elsewhere other apart = cc (live-entered, filter-append (λ (d : Command). d.unit == other) (live t) (c ∷ []), eq_sym c.unit other, append-nil (live_in other t))
 
 pub CommandsAgree-entered : (o : Setting) (lives : List Live) (n : ℕ) (t : Trace) (item : List Mark) (c : Command) → CommandsAgree o lives n t → EntersOne item t c → is_regular o c ≡ true
     → CommandsAgree o (lives ++ kept c ∷ []) (n + 1) (item ∷ t)
@@ -57,13 +50,12 @@ CommandsAgree-entered o lives n t item c a e regular =
     let one : length (entered (item ∷ t)) ≡ length (entered t) + 1 = ap length entries ∙ length_push (entered t) c in
     let new : is_among c.ticket (entered t) ≡ false = a.fresh c.ticket (omega (arith, e.ticket)) in
     record {
-      commands = ap (λ ls. ls ++ kept c ∷ []) a.commands ∙ sym (map-append kept (live t) (c ∷ [])) ∙ ap (map kept) (sym more);
-      regular = ap (list_all (is_regular o)) entries ∙ list_all-append (is_regular o) (entered t) (c ∷ []) ∙ ap (λ b. b && list_all (is_regular o) (c ∷ [])) a.regular ∙ ap (λ b. b && true) regular;
-      apart = ap are_apart more ∙ apart-push (live t) c a.apart (unamong-filter (λ (d : Command). not (has (leaves_ticket d.ticket) t)) c.ticket (entered t) new);
-      count_is = ap (λ m. m + 1) a.count_is ∙ sym one;
-      fresh = λ k u. ap (is_among k) entries ∙ list_any-append (λ (d : Command). d.ticket == k) (entered t) (c ∷ []) ∙ ap (λ b. b || ((c.ticket == k) || false)) (a.fresh k (omega (arith, one)))
-          ∙ ap (λ b. b || false) (let later : c.ticket < k = omega (arith, one, e.ticket) in let no : (c.ticket == k) ≡ false = grind (arith, nat_tests) in no);
-      unleft = λ k u. ap (λ b. b || has (leaves_ticket k) t) (e.leaves_no k) ∙ a.unleft k (omega (arith, one));
+      commands = cc (a.commands, map-append kept (live t) (c ∷ []));
+      regular = rw entries (list_all-push (is_regular o) (entered t) c a.regular regular);
+      apart = rw more (apart-push (live t) c a.apart (unamong-filter (λ (d : Command). not (has (leaves_ticket d.ticket) t)) c.ticket (entered t) new));
+      count_is = omega (arith, a.count_is, one);
+      fresh = λ k u. cc (list_any-append (λ (d : Command). d.ticket == k) (entered t) (c ∷ []), a.fresh k (omega (arith, one)), ne_eqb c.ticket k (omega (arith, one, e.ticket)));
+      unleft = λ k u. cc (e.leaves_no k, a.unleft k (omega (arith, one)));
     }
 
 -- ---- commands leave
@@ -75,29 +67,22 @@ CommandsAgree-left o lives n t item out a l early =
     let fewer : live (item ∷ t) ≡ filter (λ c. not (out c.ticket)) (live t) = live-left item t out l in
     let entries : entered (item ∷ t) ≡ entered t = ap (λ cs. entered t ++ cs) l.enters_none ∙ append-nil (entered t) in
     record {
-      commands = ap (filter (λ (x : Live). not (out x.ticket))) a.commands ∙ filter-map (λ (x : Live). not (out x.ticket)) kept (live t) ∙ ap (map kept) (sym fewer);
-      regular = ap (list_all (is_regular o)) entries ∙ a.regular;
-      apart = ap are_apart fewer ∙ apart-filter (λ c. not (out c.ticket)) (live t) a.apart;
-      count_is = a.count_is ∙ ap length (sym entries);
-      fresh = λ k lt. ap (is_among k) entries ∙ a.fresh k (subst (λ (cs : List Command). length cs < k) entries lt);
-      unleft = λ k lt.
-          let late : length (entered t) < k = subst (λ (cs : List Command). length cs < k) entries lt in
-          ap (λ b. b || has (leaves_ticket k) t) (l.some k ∙ early k late) ∙ a.unleft k late;
+      commands = cc (a.commands, filter-map (λ (x : Live). not (out x.ticket)) kept (live t));
+      regular = rw entries a.regular;
+      apart = rw fewer (apart-filter (λ c. not (out c.ticket)) (live t) a.apart);
+      count_is = rw entries a.count_is;
+      fresh = λ k lt. cc (a.fresh k (rw entries at lt));
+      unleft = λ k lt. let late = rw entries at lt in cc (l.some k, early k late, a.unleft k late);
     }
 
 -- a live command has no ticket that is yet to come
 pub live_early : (o : Setting) (lives : List Live) (n : ℕ) (t : Trace) (ticket : ℕ) → CommandsAgree o lives n t → is_among ticket (live t) ≡ true → (k : ℕ) → length (entered t) < k → (k == ticket) ≡ false
 live_early o lives n t ticket a among k late =
-    let low : ticket ≤ length (entered t) = ⊎_elim (λ later. absurd (false≢true (sym (unamong-filter (λ (d : Command). not (has (leaves_ticket d.ticket) t)) ticket (entered t) (a.fresh ticket later)) ∙ among))) (λ low. low) (cases_lt (length (entered t)) ticket) in
-    let differ : (k == ticket) ≡ false = grind (arith, nat_tests) in
-    differ
+    let low = ⊎_elim (λ later. absurd (cc (unamong-filter (λ (d : Command). not (has (leaves_ticket d.ticket) t)) ticket (entered t) (a.fresh ticket later)))) (λ low. low) (cases_lt (length (entered t)) ticket) in
+    ne_eqb k ticket (omega (arith, low))
 
 -- ---- the command with a ticket
 
 pub find_kept : (ticket : ℕ) (cs : List Command) → find_ticket ticket (map kept cs) ≡ option_map kept (first_of (filter (λ c. c.ticket == ticket) cs))
 find_kept ticket [] = refl
-find_kept ticket (c ∷ cs) =
-    elim (c.ticket == ticket) as (λ b. cond b (Some (kept c)) (find_ticket ticket (map kept cs)) ≡ option_map kept (first_of (cond b (c ∷ filter (λ d. d.ticket == ticket) cs) (filter (λ d. d.ticket == ticket) cs)))) [
-      | true ↦ refl
-      | false ↦ find_kept ticket cs
-    ]
+find_kept ticket (c ∷ cs) = grind (arith, find_kept ticket cs)

@@ -1,5 +1,5 @@
 -- A live command that is found by its ticket: where it is among the live ones, and in its set.
-use Rattle.std.proofs.Common.{◌≡◌, ℕ, ◌<◌, true, false, List, length, get_or, position, is_some, IsSome, Option, Some, None, refl, ap, sym, ◌∙◌}
+use Rattle.std.proofs.Common.{◌≡◌, ℕ, ◌<◌, List, length, get_or, position, is_some, IsSome, Option, Some, None, refl, ap, sym, ◌∙◌}
 use Rattle.std.specs.List.{remove}
 use Rattle.std.proofs.lemmas.List.Folds.{list_any_at, list_any_none}
 use Rattle.std.proofs.lemmas.List.Quantifiers.{position-Some}
@@ -30,7 +30,7 @@ placed lives ticket at l up place read =
 
 -- a live command has a place
 pub some_place : (lives : List Live) (ticket : ℕ) (r : Option ℕ) → IsTicketPlace lives ticket r → IsSome (find_ticket ticket lives) → IsSome r
-some_place lives ticket None nowhere there = absurd (let none : is_some (find_ticket ticket lives) ≡ false = ap is_some (find_nowhere (λ (l : Live). l.ticket) ticket lives nowhere) in let some : is_some (find_ticket ticket lives) ≡ true = there in cc)
+some_place lives ticket None nowhere there = rw (find_nowhere (λ (l : Live). l.ticket) ticket lives nowhere) at there
 some_place lives ticket (Some at) place there = refl
 
 -- a place is answered where the command is enabled in its set

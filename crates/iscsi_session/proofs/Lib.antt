@@ -32,9 +32,7 @@ pub mod DroppingLemmas
 pub mod TellingLemmas
 pub mod LoggedOutLemmas
 pub mod LogoutUnits
-pub mod LogoutSets
 pub mod EmptyingLemmas
-pub mod LogoutWindow
 pub mod LogoutItem
 pub mod FunctionLemmas
 pub mod AgendaLemmas

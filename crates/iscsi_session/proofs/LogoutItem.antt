@@ -1,59 +1,92 @@
 -- A Logout Request executes.
-use Rattle.std.proofs.Common.{◌≡◌, ℕ, ◌==◌, ◌&&◌, ◌||◌, not, cond, Bool, true, false, List, [], ◌∷◌, ◌++◌, map, filter, Option, Some, None, refl, ap, sym, subst, ◌∙◌, append_assoc}
-use Rattle.std.specs.List.{list_any, list_all, filter_map, flat_map, cons_option}
+use Rattle.std.proofs.Common.{◌≡◌, ℕ, ◌<◌, ◌==◌, ◌&&◌, ◌||◌, not, cond, Bool, true, false, List, [], ◌∷◌, ◌++◌, length, map, filter, nat_lt, Option, Some, None, refl, sym, ◌∙◌, arith, append_assoc}
+use Rattle.std.specs.List.{list_any, list_all, filter_map, flat_map}
+use Rattle.std.proofs.lemmas.List.{length-map}
+use Rattle.std.proofs.lemmas.List.Elements.{filter_map-append}
+use Rattle.std.proofs.Math.ListN.{get_or-map}
 use Rattle.iscsi_wire.specs.declared.reply.Reply.{Reply}
 use Rattle.iscsi_wire.specs.declared.reply.Reply.TheVariants.{Logout, Reject}
 use Rattle.iscsi_wire.specs.declared.request.Request.{Request}
-use Rattle.iscsi_wire.specs.Serial.{wire}
 use Rattle.iscsi_wire.specs.Fields.{connection_of, header_of, itt, function, cid}
 use Rattle.iscsi_window.specs.Windows.{is_asked}
+use Rattle.iscsi_tasks.specs.declared.task.Task.{Task}
+use Rattle.iscsi_tasks.specs.Sets.{opened}
 use Rattle.iscsi_session.specs.declared.closing.Closing.{Closing}
 use Rattle.iscsi_session.specs.declared.closing.Closing.TheVariants.{Refused, Session, Conn}
 use Rattle.iscsi_history.specs.declared.effect.Effect.{Effect}
-use Rattle.iscsi_history.specs.declared.effect.Effect.TheVariants.{Leave, Empty, Send, CloseConn, CloseSession}
+use Rattle.iscsi_history.specs.declared.effect.Effect.TheVariants.{Leave, Send, CloseConn, CloseSession}
 use Rattle.iscsi_session.specs.declared.session.waiting.Waiting.{Waiting}
 use Rattle.iscsi_history.specs.declared.verdict.Verdict.TheVariants.{Answer}
 use Rattle.iscsi_history.specs.rules.Settings.{Setting, is_known}
-use Rattle.iscsi_history.specs.rules.Trace.{Arrival, Command, Mark, Leaves, Empties, ClosesConn, ClosesSession, Trace, waiting, waiting_by, waiting_through, sent_on, closes_conn, closes_session, has, is_ended, is_closed}
-use Rattle.iscsi_history.specs.rules.Execution.{NO_TAG, reply_on}
-use Rattle.iscsi_history.specs.rules.Logout.{is_open, is_last_open, parting, end_session, close_conn, logout_marks}
+use Rattle.iscsi_history.specs.rules.Trace.{Arrival, Command, Mark, Leaves, Empties, ClosesConn, ClosesSession, Trace, waiting, waiting_by, waiting_through, sent_on, closes_conn, closes_session, has, is_ended, enters, entered, leaves_ticket, live, live_in, is_among}
+use Rattle.iscsi_history.specs.rules.Execution.{NO_TAG, reply_on, unfinished}
+use Rattle.iscsi_history.specs.rules.Logout.{live_of_units, is_open, is_last_open, taken_out, parting, end_session, close_conn, logout_marks}
 use Rattle.iscsi_history.specs.rules.Management.{may_wait}
 use Rattle.iscsi_history.specs.rules.Run.{effects_of_mark, effects_of_item, newly_enabled, stat_sn_of}
-use Rattle.iscsi_session.specs.promises.Standing.{Core, Agrees, WindowAgrees, RepliesAgree, CommandsAgree, arrival_waiting, open_of}
-use Rattle.iscsi_session.specs.private.Steps.{count_reply, reply_effects}
-use Rattle.iscsi_session.specs.private.Closing.{is_among_open, closing_by, units_of, covers_of, left_to, emptying_effects, still_open, session_closes, waiting_then, close_effects, all_enable_effects, logged_out, logout_effects, closed_as, closed_effects}
+use Rattle.iscsi_session.specs.promises.Standing.{Core, Agrees, WindowAgrees, ArrivalsAgree, CommandsAgree, SetsAgree, arrival_waiting, open_of, task_of}
+use Rattle.iscsi_session.specs.private.Steps.{set_at, all_given}
+use Rattle.iscsi_session.specs.private.Functions.{set_staying}
+use Rattle.iscsi_session.specs.private.Closing.{is_among_open, closing_by, units_of, covers_of, all_leaving_effects, left_to, still_open, waiting_then, close_effects, all_enable_effects, logged_out, logout_effects, closed_as, closed_effects}
 use Rattle.iscsi_history.proofs.MomentLemmas.{enables}
 use Rattle.iscsi_session.proofs.ReplyParts.{RepliesAgree-sent}
-use Rattle.iscsi_history.proofs.ListLemmas.{list_all-filter, list_any-map, filter-map, filtered_among}
-use Rattle.iscsi_history.proofs.BoolLemmas.{or_false}
+use Rattle.iscsi_history.proofs.ListLemmas.{list_all-filter, list_all-same, list_any-map, any_filter, any_flat_map, any_in_range, flat_map_in_range, filter-flat_map, map-flat_map, filter-map, filtered_among}
+use Rattle.iscsi_history.proofs.BoolLemmas.{or_false, and_false, alike, alike_same}
 use Rattle.iscsi_history.proofs.TraceLemmas.{filter-same}
-use Rattle.iscsi_session.proofs.LoggedOutLemmas.{Keeps, left_keeps}
-use Rattle.iscsi_session.proofs.ExecutionLemmas.{Begun, Executed, answered}
+use Rattle.iscsi_history.proofs.ApartLemmas.{eq_sym, unamong-filter}
 use Rattle.iscsi_history.proofs.DeliveryLemmas.{IsQuiet}
-use Rattle.iscsi_history.proofs.ApartLemmas.{eq_sym}
-use Rattle.iscsi_history.proofs.ClosingItems.{closed-same, closing_marks, quiet-closing, emptied_any, emptied_sends, emptied_shown, emptied_waits, is_nil, last_is, left_any, left_sends, left_shown, left_waits, nil_is, none_open}
-use Rattle.iscsi_history.proofs.NewlyLemmas.{filter-twice}
-use Rattle.iscsi_session.proofs.EmptyingLemmas.{taken_requests, emptied_from-is}
-use Rattle.iscsi_session.proofs.LogoutSets.{closing_commands, emptied_marks, LogsOutAt, LogsOutAt-begun, commands-logged_out, sets-logged_out, unfinished-logged_out, enabled-logged_out, leaving-logged_out, enabling-logged_out, end_session-is, close_conn-is}
-use Rattle.iscsi_session.proofs.LogoutWindow.{logged_out_window, logged_out_arrivals}
+use Rattle.iscsi_history.proofs.NewlyLemmas.{Untouched, live-untouched, filter_all, filter-none, filter-twice}
+use Rattle.iscsi_history.proofs.CommandItems.{LeavesSome, live_in-left, among_passing, any_in_units, enters_only, leaves_only}
+use Rattle.iscsi_history.proofs.EnabledItems.{EnabledSoFar-left}
+use Rattle.iscsi_history.proofs.ClosingItems.{closed-same, closing_marks, quiet-closing, untouched-closing, untouched-emptied, emptied_any, emptied_sends, emptied_shown, emptied_waits, is_nil, last_is, left_any, left_sends, left_shown, left_waits, nil_is}
+use Rattle.iscsi_session.proofs.CommandParts.{CommandsAgree-left}
+use Rattle.iscsi_session.proofs.AgreeLemmas.{units_live}
+use Rattle.iscsi_session.proofs.ExecutionLemmas.{Begun, Executed, answered}
+use Rattle.iscsi_session.proofs.LeavingLemmas.{WindowAgrees-fewer, numbered_live, gone_tickets, leaving_shown, SetLeft, set_left}
+use Rattle.iscsi_session.proofs.LoggedOutLemmas.{Keeps, left_keeps}
+use Rattle.iscsi_session.proofs.LogoutUnits.{sets_left, gone_in, live_staying, effects_leaving, unfinished_left}
+use Rattle.iscsi_session.proofs.EmptyingLemmas.{taken_requests, emptied_from-is, WindowAgrees-logged_out, ArrivalsAgree-logged_out}
+
+-- ---- what the closing marks come to
+
+module _ (o : Setting) (t : Trace) (a : Arrival) where
+  -- whether the session closes
+  abbrev ends : Option ℕ → Bool
+  ends None = true
+  ends (Some closing) = is_last_open o t closing
+
+  -- whether this connection is the one that closes
+  abbrev hits : Option ℕ → ℕ → Bool
+  hits None c = false
+  hits (Some closing) c = closing == c
+
+  closing_ends : (x : Option ℕ) → list_any closes_session (closing_marks o t a x) ≡ ends x
+  closing_ends x = grind arith
+
+  closing_hits : (x : Option ℕ) (c : ℕ) → list_any (closes_conn c) (closing_marks o t a x) ≡ hits x c
+  closing_hits x c = grind arith
+
+  -- the reply goes out
+  closing_sends : (x : Option ℕ) → filter_map sent_on (closing_marks o t a x) ≡ connection_of a.request ∷ []
+  closing_sends x = grind arith
+
+  -- what closes is shown
+  abbrev closes_shown : Option ℕ → List Effect
+  closes_shown None = CloseSession ∷ []
+  closes_shown (Some closing) = CloseConn closing ∷ cond (is_last_open o t closing) (CloseSession ∷ []) []
+
+  closing_shown : (before : Trace) (x : Option ℕ) → flat_map (effects_of_mark o before) (closing_marks o t a x) ≡ Send (connection_of a.request) (stat_sn_of o before (connection_of a.request)) (Logout (itt a.request) 0) ∷ closes_shown x
+  closing_shown before x = grind arith
 
 -- ---- what is open afterwards
-
-closes_is : (cs : List ℕ) → session_closes cs ≡ cond (is_nil cs) (CloseSession ∷ []) []
-closes_is [] = refl
-closes_is (c ∷ cs) = refl
-
-then_is : (cs : List ℕ) (ws : List Waiting) → waiting_then cs ws ≡ cond (is_nil cs) [] ws
-then_is [] ws = refl
-then_is (c ∷ cs) ws = refl
 
 none_stay : (cids : List ℕ) → still_open None cids ≡ []
 none_stay [] = refl
 none_stay (c ∷ cids) = none_stay cids
 
-none_wait : (ws : List Waiting) → filter (λ w. not (is_asked None (connection_of w.request))) ws ≡ []
-none_wait [] = refl
-none_wait (w ∷ ws) = none_wait ws
+-- ---- the covered commands
+
+covers_asked : (o : Setting) (scope : Option ℕ) (c : Command) → covers_of scope (task_of o c) ≡ is_asked scope (connection_of c.arrival.request)
+covers_asked o scope c = grind arith
 
 -- ---- a connection or the session is closed
 
@@ -61,8 +94,15 @@ module _ (o : Setting) (s : Core) (t : Trace) (m : Mark) (e : Effect) (a : Arriv
   abbrev t₁ : Trace
   t₁ = (m ∷ []) ∷ t
 
+  abbrev covers : Task → Bool
+  covers = covers_of scope
+
+  -- a command of one of these connections
+  abbrev asked : Command → Bool
+  asked c = is_asked scope (connection_of c.arrival.request)
+
   abbrev cs : List Command
-  cs = closing_commands o t₁ scope
+  cs = filter asked (live_of_units o t₁)
 
   abbrev hs : List Arrival
   hs = taken_requests o t₁ scope
@@ -76,204 +116,205 @@ module _ (o : Setting) (s : Core) (t : Trace) (m : Mark) (e : Effect) (a : Arriv
   abbrev item : List Mark
   item = m ∷ marks
 
+  grouped : marks ≡ map Leaves cs ++ (map Empties hs ++ rest)
+  grouped = append_assoc (map Leaves cs) (map Empties hs) rest
+
   abbrev conn : ℕ
   conn = connection_of a.request
-
-  abbrev reply : Reply
-  reply = Logout (itt a.request) 0
 
   abbrev left : Core
   left = left_to s scope
 
-  abbrev cids : List ℕ
-  cids = map (λ (c : ℕ × ℕ). c.0) o.conns
-
-  p : LogsOutAt o s t m (emptied_marks o t₁ scope) rest
-  p = LogsOutAt-begun o s t m e a b scope
-
   k : Keeps s left
-  k = left_keeps s (units_of s) (covers_of scope)
+  k = left_keeps s (units_of s) covers
+
+  -- ---- the commands that leave
+
+  -- the tickets that leave
+  abbrev out : ℕ → Bool
+  out n = is_among n (filter asked (live t))
+
+  abbrev goes : ℕ → Command → Bool
+  goes n c = asked c && (c.ticket == n)
+
+  regular : list_all (λ c. nat_lt c.unit o.units) (live t) ≡ true
+  regular = units_live o s.live s.entered t b.commands
+
+  out_is : (n : ℕ) → out n ≡ list_any (goes n) (live t)
+  out_is n = any_filter (λ (c : Command). c.ticket == n) asked (live t)
+
+  -- the commands are those of before the mark
+  units_are : live_of_units o t₁ ≡ live_of_units o t
+  units_are = rw (live-untouched (m ∷ []) t (record { enters_none = rw b.enters_no; leaves_no = λ n. rw (b.leaves_no n) }))
+
+  cs_out : (n : ℕ) → is_among n cs ≡ out n
+  cs_out n = rw (units_are, out_is n, any_filter (λ (c : Command). c.ticket == n) asked (live_of_units o t), any_flat_map) (any_in_units (goes n) o.units (live t) regular)
+
+  leaves : LeavesSome item out
+  leaves =
+      let quiet : Untouched (map Empties hs) = untouched-emptied hs in
+      let quiet_rest : Untouched rest = untouched-closing o t₁ a scope in
+      record {
+        enters_none = rw (b.enters_no, filter_map-append enters (map Leaves cs ++ map Empties hs) rest, enters_only cs (map Empties hs), quiet.enters_none, quiet_rest.enters_none);
+        some = λ n. rw (b.leaves_no n, grouped, leaves_only cs (map Empties hs ++ rest) n, emptied_any (leaves_ticket n) hs rest (λ h. refl), quiet_rest.leaves_no n, or_false) (cs_out n);
+      }
+
+  early : (n : ℕ) → length (entered t) < n → out n ≡ false
+  early n late = unamong-filter asked n (live t) (unamong-filter _ n (entered t) (b.commands.fresh n late))
+
+  covered_are : (unit : ℕ) → filter (λ c. covers (task_of o c)) (live_in unit t) ≡ filter asked (live_in unit t)
+  covered_are unit = filter-same _ _ (live_in unit t) (covers_asked o scope)
+
+  -- the covered ones of the sets have these tickets
+  gone_is : (n : ℕ) → gone_in covers s (units_of s) n ≡ out n
+  gone_is n =
+      rw (b.sets.units, out_is n) (any_in_range _ (λ unit. list_any (goes n) (live_in unit t)) 0 o.units
+      (λ unit low high. rw (gone_tickets o t (set_at s unit) unit (b.sets.lists unit (omega arith)) covers n, covered_are unit) (any_filter (λ (c : Command). c.ticket == n) asked (live_in unit t)))
+      ∙ any_in_units (goes n) o.units (live t) regular)
+
+  commands : CommandsAgree o left.live s.entered (item ∷ t)
+  commands = simp (live_staying covers s 0 (length s.sets), gone_is) (CommandsAgree-left o s.live s.entered t item out b.commands leaves early)
+
+  numbered : left.window.unfinished ≡ unfinished (item ∷ t)
+  numbered = rw (unfinished_left covers s (units_of s) (b.unfinished_is ∙ sym (numbered_live o s.live s.entered t b.commands))) (numbered_live o left.live s.entered (item ∷ t) commands)
+
+  -- the effects of leaving
+  abbrev leave_of : Command → Effect
+  leave_of c = Leave c.ticket c.unit
+
+  leaving : all_leaving_effects s (units_of s) covers ≡ map leave_of cs
+  leaving =
+      rw (effects_leaving covers s 0 (length s.sets), b.sets.units, units_are, filter-flat_map, map-flat_map) (flat_map_in_range _ _ 0 o.units
+      (λ unit low high. rw (leaving_shown o t (set_at s unit) unit (b.sets.lists unit (omega arith)) covers, covered_are unit)))
+
+  -- ---- the sets
+
+  -- the commands of a unit that stay
+  stay_in : (unit : ℕ) → live_in unit (item ∷ t) ≡ filter (λ c. not (covers (task_of o c))) (live_in unit t)
+  stay_in unit =
+      let decides : Command → Bool = λ c. alike (is_among c.ticket (filter asked (live t))) (asked c) in
+      live_in-left item t out unit leaves
+      ∙ filter_all _ _ decides (live_in unit t) (list_all-filter (λ (c : Command). c.unit == unit) decides (live t) (among_passing asked (live t) b.commands.apart))
+      (λ c h. rw (alike_same (is_among c.ticket (filter asked (live t))) (asked c) h, covers_asked o scope c))
+
+  set_after : (unit : ℕ) → unit < o.units → SetLeft o t item unit (set_at s unit) (set_staying covers (set_at s unit))
+  set_after unit inside = set_left o t item unit (set_at s unit) covers (b.sets.lists unit inside) (stay_in unit)
+
+  units_same : length left.sets ≡ o.units
+  units_same = k.units ∙ b.sets.units
+
+  set_is : (unit : ℕ) → unit < o.units → set_at left unit ≡ set_staying covers (set_at s unit)
+  set_is unit inside = sets_left covers s 0 (length s.sets) unit (omega arith) (omega arith) (omega (arith, b.sets.units))
+
+  sets : SetsAgree o (map all_given left.sets) (item ∷ t)
+  sets = record {
+    units = length-map left.sets all_given ∙ units_same;
+    depths = λ unit inside. rw (get_or-map all_given left.sets unit (opened 0), set_is unit inside) ((set_after unit inside).depth ∙ b.sets.depths unit inside);
+    lists = λ unit inside. rw (get_or-map all_given left.sets unit (opened 0), set_is unit inside) (set_after unit inside).given;
+  }
+
+  enabling : all_enable_effects left ≡ enables (newly_enabled o t item)
+  enabling =
+      rw (units_same, map-flat_map) (flat_map_in_range _ _ 0 o.units (λ unit low high. rw (set_is unit (omega arith)) (set_after unit (omega arith)).effects))
+
+  -- ---- the window
 
   quiet_none : IsQuiet []
-  quiet_none = record { receives = refl; admits = λ n. refl; delivers_none = refl; delivers_no = λ n. refl; empties_no = λ n. refl }
+  quiet_none = grind arith
 
   before : WindowAgrees o s.window t₁
   before = b.window [] quiet_none
 
-  quiet : IsQuiet rest
-  quiet = quiet-closing o t₁ a scope
+  left_agrees : WindowAgrees o left.window t₁
+  left_agrees = rw k.same (WindowAgrees-fewer o s.window t₁ left.window.unfinished k.unfinished before)
 
-  grouped : marks ≡ map Leaves cs ++ (map Empties hs ++ rest)
-  grouped = append_assoc (map Leaves cs) (map Empties hs) rest
+  window : WindowAgrees o (logged_out s a.request scope).window (item ∷ t)
+  window = WindowAgrees-logged_out o left.window t m scope cs rest left_agrees (quiet-closing o t₁ a scope)
 
-  -- the reply goes out
+  arrived : ArrivalsAgree (logged_out s a.request scope).window left.arrived (item ∷ t)
+  arrived =
+      let now : ArrivalsAgree s.window s.arrived t₁ = b.arrived [] quiet_none in
+      ArrivalsAgree-logged_out o left.window t m scope cs rest left_agrees (quiet-closing o t₁ a scope) left.arrived (rw k.same (record { long = now.long; at_place = now.at_place }))
+
+  -- ---- the connections
+
+  abbrev cids : List ℕ
+  cids = map (λ (c : ℕ × ℕ). c.0) o.conns
+
   sends : filter_map sent_on item ≡ conn ∷ []
-  sends =
-      ap (λ x. cons_option x (filter_map sent_on marks)) b.sends_no ∙ ap (filter_map sent_on) grouped
-      ∙ left_sends cs (map Empties hs ++ rest) ∙ emptied_sends hs rest ∙ rest_sends scope
-    where
-      rest_sends : (x : Option ℕ) → filter_map sent_on (closing_marks o t₁ a x) ≡ conn ∷ []
-      rest_sends None = refl
-      rest_sends (Some closing) = elim (is_last_open o t₁ closing) as (λ v. filter_map sent_on (parting a 0 ++ ClosesConn closing ∷ (let ms : List Mark = cond v (ClosesSession ∷ []) [] in ms)) ≡ conn ∷ []) [ true ↦ refl | false ↦ refl ]
+  sends = rw (b.sends_no, grouped, left_sends, emptied_sends) (closing_sends o t₁ a scope)
 
   -- none stays open but for the one that closes
   last_open : (closing : ℕ) → is_nil (still_open (Some closing) s.open_conns) ≡ is_last_open o t₁ closing
   last_open closing =
-      ap (λ cs. is_nil (still_open (Some closing) cs)) b.open_is
-      ∙ ap is_nil (filter-twice (λ c. not (c == closing)) (is_open o t) cids)
-      ∙ last_is o t closing o.conns (λ c known. known)
-      ∙ all_same o.conns
+      rw (b.open_is, filter-twice, last_is o t closing o.conns (λ c known. known)) (list_all-same _ _ o.conns (λ d. rw (closed-same d.0 (m ∷ []) t b.closes_no)))
+
+  closes_are : (x : Option ℕ) → close_effects s x ≡ closes_shown o t₁ a x
+  closes_are None = rw none_stay
+  closes_are (Some closing) = grind (arith, last_open closing)
+
+  -- what the item closes, the closing marks do
+  closes : (test : Mark → Bool) → (test m || false) ≡ false → ((c : Command) → test (Leaves c) ≡ false) → ((h : Arrival) → test (Empties h) ≡ false) → has test (item ∷ t) ≡ (list_any test rest || has test t)
+  closes test no_first no_leave no_empty = rw (sym (or_false (test m)) ∙ no_first, grouped, left_any test cs (map Empties hs ++ rest) no_leave, emptied_any test hs rest no_empty)
+
+  abbrev opens : Option ℕ → ℕ → Bool
+  opens x c = is_known c o.conns && not ((ends o t₁ a x || is_ended t) || (hits o t₁ a x c || has (closes_conn c) t))
+
+  open_after : open_of o (item ∷ t) ≡ filter (opens scope) cids
+  open_after = filter-same _ _ cids (λ c.
+      rw (closes closes_session b.closes_no.session (λ d. refl) (λ h. refl), closes (closes_conn c) (b.closes_no.conns c) (λ d. refl) (λ h. refl), closing_ends o t₁ a scope, closing_hits o t₁ a scope c))
+
+  stays_open : (x : Option ℕ) → still_open x (open_of o t) ≡ filter (opens x) cids
+  stays_open None = rw none_stay (sym (filter-none (opens None) cids (λ c. and_false (is_known c o.conns))))
+  stays_open (Some closing) = by_last (is_last_open o t₁ closing) refl
     where
-      all_same : (ds : List (ℕ × ℕ)) → list_all (λ d. (d.0 == closing) || is_closed d.0 t) ds ≡ list_all (λ d. (d.0 == closing) || is_closed d.0 t₁) ds
-      all_same [] = refl
-      all_same (d ∷ ds) = ap (λ v. ((d.0 == closing) || v) && list_all (λ d. (d.0 == closing) || is_closed d.0 t) ds) (sym (closed-same d.0 (m ∷ []) t b.closes_no)) ∙ ap (λ v. ((d.0 == closing) || is_closed d.0 t₁) && v) (all_same ds)
+      by_last : (v : Bool) → is_last_open o t₁ closing ≡ v → still_open (Some closing) (open_of o t) ≡ filter (opens (Some closing)) cids
+      by_last true is =
+          nil_is _ (rw b.open_is at (last_open closing) ∙ is) ∙ sym (filter-none (opens (Some closing)) cids (λ c. rw is (and_false (is_known c o.conns))))
+      by_last false is = rw filter-twice (filter-same _ _ cids (λ c. grind (arith, is, eq_sym closing c)))
 
-  -- what closes is shown
-  abbrev closes_shown : Option ℕ → List Effect
-  closes_shown None = CloseSession ∷ []
-  closes_shown (Some closing) = CloseConn closing ∷ cond (is_last_open o t₁ closing) (CloseSession ∷ []) []
+  -- ---- what waits still
 
-  closes_are : (x : Option ℕ) → close_effects s x ≡ closes_shown x
-  closes_are None = ap session_closes (none_stay s.open_conns)
-  closes_are (Some closing) = ap (λ es. CloseConn closing ∷ es) (closes_is (still_open (Some closing) s.open_conns) ∙ ap (λ v. cond v (CloseSession ∷ []) []) (last_open closing))
+  abbrev stays : Waiting → Bool
+  stays w = not (is_asked scope (connection_of w.request))
 
-  rest_shown : (x : Option ℕ) → flat_map (effects_of_mark o t) (closing_marks o t₁ a x) ≡ Send conn (stat_sn_of o t conn) reply ∷ closes_shown x
-  rest_shown None = refl
-  rest_shown (Some closing) =
-      elim (is_last_open o t₁ closing) as (λ v. flat_map (effects_of_mark o t) (parting a 0 ++ ClosesConn closing ∷ (let ms : List Mark = cond v (ClosesSession ∷ []) [] in ms)) ≡ Send conn (stat_sn_of o t conn) reply ∷ CloseConn closing ∷ cond v (CloseSession ∷ []) []) [ true ↦ refl | false ↦ refl ]
-
-  -- what waits still
   waits : waiting_through marks (waiting_by m (waiting t)) ≡ map (arrival_waiting o.first) (logged_out s a.request scope).waiting
-  waits =
-      ap (waiting_through marks) b.waiting
-      ∙ ap (λ ms. waiting_through ms (map (arrival_waiting o.first) s.waiting)) grouped
-      ∙ left_waits cs (map Empties hs ++ rest) (map (arrival_waiting o.first) s.waiting)
-      ∙ emptied_waits hs rest (map (arrival_waiting o.first) s.waiting)
-      ∙ rest_waits scope
-      ∙ sym (ap (λ ws. map (arrival_waiting o.first) (waiting_then (still_open scope left.open_conns) (filter (λ w. not (is_asked scope (connection_of w.request))) ws))) k.waiting
-      ∙ ap (λ cs. map (arrival_waiting o.first) (waiting_then (still_open scope cs) (filter (λ w. not (is_asked scope (connection_of w.request))) s.waiting))) k.open_conns)
+  waits = rw (b.waiting, append_assoc, left_waits, emptied_waits, k.same) (rest_waits scope)
     where
-      then_nil : (cs : List ℕ) → waiting_then cs [] ≡ []
-      then_nil [] = refl
-      then_nil (c ∷ cs) = refl
-
       rest_waits : (x : Option ℕ) → waiting_through (closing_marks o t₁ a x) (map (arrival_waiting o.first) s.waiting)
           ≡ map (arrival_waiting o.first) (waiting_then (still_open x s.open_conns) (filter (λ w. not (is_asked x (connection_of w.request))) s.waiting))
-      rest_waits None = sym (ap (map (arrival_waiting o.first)) (ap (waiting_then (still_open None s.open_conns)) (none_wait s.waiting) ∙ then_nil (still_open None s.open_conns)))
-      rest_waits (Some closing) =
-          let stays : List Waiting = filter (λ w. not (connection_of w.request == closing)) s.waiting in
-          elim (is_last_open o t₁ closing) as (λ v. waiting_through (parting a 0 ++ ClosesConn closing ∷ (let ms : List Mark = cond v (ClosesSession ∷ []) [] in ms)) (map (arrival_waiting o.first) s.waiting) ≡ map (arrival_waiting o.first) (cond v [] stays)) [
-            | true ↦ refl
-            | false ↦ filter-map (λ (c : Arrival). not (connection_of c.request == closing)) (arrival_waiting o.first) s.waiting
-          ]
-          ∙ ap (map (arrival_waiting o.first)) (ap (λ v. cond v [] stays) (sym (last_open closing)) ∙ sym (then_is (still_open (Some closing) s.open_conns) stays))
+      rest_waits None = rw none_stay
+      rest_waits (Some closing) = grind (arith, last_open closing, filter-map (λ (c : Arrival). not (connection_of c.request == closing)) (arrival_waiting o.first) s.waiting)
 
-  -- what is open still
-  any_marks : (test : Mark → Bool) → ((c : Command) → test (Leaves c) ≡ false) → ((h : Arrival) → test (Empties h) ≡ false) → list_any test marks ≡ list_any test rest
-  any_marks test no_leave no_empty = ap (list_any test) grouped ∙ left_any test cs (map Empties hs ++ rest) no_leave ∙ emptied_any test hs rest no_empty
+  still_all : (test : Waiting → Bool) → list_all test s.waiting ≡ true → list_all test (logged_out s a.request scope).waiting ≡ true
+  still_all test h = rw k.same (grind (arith, list_all-filter stays test s.waiting h))
 
-  ended : (v : Bool) → list_any closes_session rest ≡ v → is_ended (item ∷ t) ≡ (v || is_ended t)
-  ended v is =
-      ap (λ x. (x || list_any closes_session marks) || is_ended t) (sym (or_false (closes_session m)) ∙ b.closes_no.session)
-      ∙ ap (λ x. x || is_ended t) (any_marks closes_session (λ c. refl) (λ h. refl) ∙ is)
+  -- ---- the whole
 
-  closed_at : (c : ℕ) (v : Bool) → list_any (closes_conn c) rest ≡ v → has (closes_conn c) (item ∷ t) ≡ (v || has (closes_conn c) t)
-  closed_at c v is =
-      ap (λ x. (x || list_any (closes_conn c) marks) || has (closes_conn c) t) (sym (or_false (closes_conn c m)) ∙ b.closes_no.conns c)
-      ∙ ap (λ x. x || has (closes_conn c) t) (any_marks (closes_conn c) (λ d. refl) (λ h. refl) ∙ is)
-
-  -- the session is closed
-  all_closed : list_any closes_session rest ≡ true → (c : ℕ) → is_closed c (item ∷ t) ≡ true
-  all_closed is c = ap (λ v. v || has (closes_conn c) (item ∷ t)) (ended true is)
-
-  abbrev StaysOpen : Option ℕ → Type 0
-  StaysOpen x = list_any closes_session (closing_marks o t₁ a x) ≡ list_any closes_session rest → ((c : ℕ) → list_any (closes_conn c) (closing_marks o t₁ a x) ≡ list_any (closes_conn c) rest) → still_open x (open_of o t) ≡ open_of o (item ∷ t)
-
-  stays_open : (x : Option ℕ) → StaysOpen x
-  stays_open None same_ended same_closed = none_stay (open_of o t) ∙ sym (none_open o (item ∷ t) cids (all_closed (sym same_ended)))
-  stays_open (Some closing) same_ended same_closed = by_last (is_last_open o t₁ closing) refl
-    where
-      tail : Bool → List Mark
-      tail v = cond v (ClosesSession ∷ []) []
-
-      at_closing : (c : ℕ) (v : Bool) → list_any (closes_conn c) (parting a 0 ++ ClosesConn closing ∷ tail v) ≡ (closing == c)
-      at_closing c true = or_false (closing == c)
-      at_closing c false = or_false (closing == c)
-
-      of_session : (v : Bool) → list_any closes_session (parting a 0 ++ ClosesConn closing ∷ tail v) ≡ v
-      of_session true = refl
-      of_session false = refl
-
-      both_open : (n u c g : Bool) → ((n && not (u || g)) && not c) ≡ (n && not (u || (c || g)))
-      both_open true true c g = refl
-      both_open true false true true = refl
-      both_open true false true false = refl
-      both_open true false false true = refl
-      both_open true false false false = refl
-      both_open false u c g = refl
-
-      filtered : still_open (Some closing) (open_of o t) ≡ filter (λ c. is_open o t c && not (c == closing)) cids
-      filtered = filter-twice (λ c. not (c == closing)) (is_open o t) cids
-
-      by_last : (v : Bool) → is_last_open o t₁ closing ≡ v → still_open (Some closing) (open_of o t) ≡ open_of o (item ∷ t)
-      by_last true is =
-          nil_is (still_open (Some closing) (open_of o t)) (ap (λ cs. is_nil (still_open (Some closing) cs)) (sym b.open_is) ∙ last_open closing ∙ is)
-          ∙ sym (none_open o (item ∷ t) cids (all_closed (sym same_ended ∙ of_session (is_last_open o t₁ closing) ∙ is)))
-      by_last false is =
-          filtered
-          ∙ filter-same (λ c. is_open o t c && not (c == closing)) (is_open o (item ∷ t)) cids
-          (λ c.
-          both_open (is_known c o.conns) (is_ended t) (c == closing) (has (closes_conn c) t)
-          ∙ ap (λ v. is_known c o.conns && not (is_ended t || (v || has (closes_conn c) t))) (eq_sym c closing)
-          ∙ sym (ap (λ v. is_known c o.conns && not (v || has (closes_conn c) (item ∷ t))) (ended false (sym same_ended ∙ of_session (is_last_open o t₁ closing) ∙ is))
-          ∙ ap (λ v. is_known c o.conns && not (is_ended t || v)) (closed_at c (closing == c) (sym (same_closed c) ∙ at_closing c (is_last_open o t₁ closing)))))
-
-  -- the whole
   agrees : Agrees o (logged_out s a.request scope) (item ∷ t)
   agrees = record {
-    events = k.events ∙ b.events;
-    window = logged_out_window o s t m a.request scope rest quiet before;
-    replies = subst (λ (conns : List (ℕ × ℕ)). RepliesAgree o (count_reply conn conns) (item ∷ t)) (sym k.conns) (RepliesAgree-sent o s.conns t item conn sends b.known b.replies);
-    commands = subst (λ n. CommandsAgree o left.live n (item ∷ t)) (sym k.entered) (commands-logged_out o s t m (emptied_marks o t₁ scope) rest p scope);
-    sets = sets-logged_out o s t m (emptied_marks o t₁ scope) rest p scope;
-    unfinished = unfinished-logged_out o s t m (emptied_marks o t₁ scope) rest p scope;
-    enabled = enabled-logged_out o s t m (emptied_marks o t₁ scope) rest p scope;
-    level = k.level ∙ b.level;
-    arrived = logged_out_arrivals o s t m a.request scope rest quiet before (b.arrived [] quiet_none);
-    waiting = record {
-      list = waits;
-      may = kept_all (λ w. may_wait w.request) b.may;
-      known = kept_all (λ w. is_known (connection_of w.request) o.conns) b.waiting_known;
-    };
-    open_conns = ap (still_open scope) (k.open_conns ∙ b.open_is) ∙ stays_open scope refl (λ c. refl);
+    events = rw k.same b.events;
+    window = window;
+    replies = rw k.same (RepliesAgree-sent o s.conns t item conn sends b.known b.replies);
+    commands = rw k.same commands;
+    sets = sets;
+    unfinished = numbered;
+    enabled = EnabledSoFar-left o item t out leaves (units_live o left.live s.entered (item ∷ t) commands) b.enabled;
+    level = rw k.same b.level;
+    arrived = arrived;
+    waiting = record { list = waits; may = still_all (λ w. may_wait w.request) b.may; known = still_all (λ w. is_known (connection_of w.request) o.conns) b.waiting_known };
+    open_conns = rw (k.same, b.open_is, open_after) (stays_open scope);
   }
-    where
-      then_all : (test : Waiting → Bool) (cs : List ℕ) (ws : List Waiting) → list_all test ws ≡ true → list_all test (waiting_then cs ws) ≡ true
-      then_all test [] ws h = refl
-      then_all test (c ∷ cs) ws h = h
-
-      kept_all : (test : Waiting → Bool) → list_all test s.waiting ≡ true → list_all test (logged_out s a.request scope).waiting ≡ true
-      kept_all test h =
-          let stays : Waiting → Bool = λ w. not (is_asked scope (connection_of w.request)) in
-          then_all test (still_open scope left.open_conns) (filter stays left.waiting) (list_all-filter stays test left.waiting (ap (list_all test) k.waiting ∙ h))
 
   shown : e ∷ logout_effects s a.request scope ≡ effects_of_item o t item
-  shown =
-      let left_es : List Effect = map (λ (c : Command). Leave c.ticket c.unit) cs in
-      let empty_es : List Effect = map (λ (h : Arrival). Empty (wire h.number)) hs in
-      let sent : List Effect = Send conn (stat_sn_of o t conn) reply ∷ [] in
-      let enabled_es : List Effect = enables (newly_enabled o t item) in
-      ap (λ es. e ∷ ((((es ++ emptying_effects s scope) ++ reply_effects s conn reply) ++ close_effects s scope) ++ all_enable_effects left)) (leaving-logged_out o s t m (emptied_marks o t₁ scope) rest p scope)
-      ∙ ap (λ es. e ∷ ((((left_es ++ es) ++ reply_effects s conn reply) ++ close_effects s scope) ++ all_enable_effects left)) (emptied_from-is o s.window t₁ scope before)
-      ∙ ap (λ n. e ∷ ((((left_es ++ empty_es) ++ Send conn n reply ∷ []) ++ close_effects s scope) ++ all_enable_effects left)) (b.replies.stat_sns conn b.known)
-      ∙ ap (λ es. e ∷ ((((left_es ++ empty_es) ++ sent) ++ es) ++ all_enable_effects left)) (closes_are scope)
-      ∙ ap (λ es. e ∷ ((((left_es ++ empty_es) ++ sent) ++ closes_shown scope) ++ es)) (enabling-logged_out o s t m (emptied_marks o t₁ scope) rest p scope)
-      ∙ ap (λ es. e ∷ (es ++ enabled_es)) (append_assoc (left_es ++ empty_es) sent (closes_shown scope) ∙ append_assoc left_es empty_es (sent ++ closes_shown scope))
-      ∙ sym (ap (λ es. (es ++ flat_map (effects_of_mark o t) marks) ++ enabled_es) b.shows
-      ∙ ap (λ es. e ∷ (es ++ enabled_es)) (ap (flat_map (effects_of_mark o t)) grouped ∙ left_shown o t cs (map Empties hs ++ rest)
-      ∙ ap (λ es. left_es ++ es) (emptied_shown o t hs rest ∙ ap (λ es. empty_es ++ es) (rest_shown scope))))
+  shown = simp (leaving, emptied_from-is o s.window t₁ scope before, b.replies.stat_sns conn b.known, closes_are scope, enabling, b.shows, append_assoc, left_shown, emptied_shown, closing_shown o t₁ a t scope)
 
 -- ---- the table
+
+-- two choices by the same test
+either : {A B : Type 0} (P : A → B → Type 0) (test : Bool) {x y : A} {x' y' : B} → P x x' → P y y' → P (cond test x y) (cond test x' y')
+either P true p q = p
+either P false p q = q
 
 module _ (o : Setting) (s : Core) (t : Trace) (m : Mark) (e : Effect) (a : Arrival) (b : Begun o s t m e a) where
   abbrev began : Trace
@@ -286,50 +327,24 @@ module _ (o : Setting) (s : Core) (t : Trace) (m : Mark) (e : Effect) (a : Arriv
   refused r = let done : Executed o s t m e a (Answer r) = answered o s t m e a b r in (done.agrees, done.effects)
 
   session_ends : Closes Session (end_session o began a)
-  session_ends = subst (Closes Session) (sym (end_session-is o began a)) (agrees o s t m e a b None, shown o s t m e a b None)
+  session_ends = rw (append_assoc (taken_out o began (λ conn. true)) (parting a 0) (ClosesSession ∷ [])) (agrees o s t m e a b None, shown o s t m e a b None)
 
   conn_closes : (closing : ℕ) → Closes (Conn closing) (close_conn o began a closing)
-  conn_closes closing = subst (Closes (Conn closing)) (sym (close_conn-is o began a closing)) (agrees o s t m e a b (Some closing), shown o s t m e a b (Some closing))
+  conn_closes closing =
+      rw (append_assoc (taken_out o began (λ conn. conn == closing)) (parting a 0) (ClosesConn closing ∷ cond (is_last_open o began closing) (ClosesSession ∷ []) []))
+      (agrees o s t m e a b (Some closing), shown o s t m e a b (Some closing))
 
   -- the session knows whether the connection is open
   open_same : (c : ℕ) → is_among_open c s.open_conns ≡ is_open o began c
-  open_same c =
-      ap (is_among_open c) b.open_is
-      ∙ filtered_among (is_open o t) c (map (λ (d : ℕ × ℕ). d.0) o.conns)
-      ∙ ap (λ v. v && is_open o t c) (list_any-map (λ d. d == c) (λ (d : ℕ × ℕ). d.0) o.conns)
-      ∙ twice (is_known c o.conns) (not (is_closed c t))
-      ∙ ap (λ v. is_known c o.conns && not v) (sym (closed-same c (m ∷ []) t b.closes_no))
-    where
-      twice : (u v : Bool) → (u && (u && v)) ≡ (u && v)
-      twice true v = refl
-      twice false v = refl
+  open_same c = rw (b.open_is, filtered_among (is_open o t) c (map (λ (d : ℕ × ℕ). d.0) o.conns), list_any-map (λ d. d == c) (λ (d : ℕ × ℕ). d.0) o.conns, closed-same c (m ∷ []) t b.closes_no) (grind arith)
 
-  by_reason : Closes (closing_by s a.request) (logout_marks o began a)
-  by_reason =
+  pub logout-item : Agrees o (closed_as s a.request (closing_by s a.request)) ((m ∷ logout_marks o ((m ∷ []) ∷ t) a) ∷ t)
+      × (e ∷ closed_effects s a.request (closing_by s a.request) ≡ effects_of_item o t (m ∷ logout_marks o ((m ∷ []) ∷ t) a))
+  logout-item =
       let r : Request = a.request in
-      let bad : Reply = Reject 9 (header_of r) in
-      elim (itt r == NO_TAG) as (λ u. Closes (cond u (Refused bad) (cond (function r == 0) Session (cond (function r == 1) (cond (is_among_open (cid r) s.open_conns) (Conn (cid r)) (Refused (Logout (itt r) 1))) (cond (function r == 2) (Refused (Logout (itt r) 2)) (Refused bad)))))
-      (cond u (reply_on a bad) (cond (function r == 0) (end_session o began a) (cond (function r == 1) (cond (is_open o began (cid r)) (close_conn o began a (cid r)) (parting a 1)) (cond (function r == 2) (parting a 2) (reply_on a bad)))))) [
-        | true ↦ refused bad
-        | false ↦ elim (function r == 0) as (λ u. Closes (cond u Session (cond (function r == 1) (cond (is_among_open (cid r) s.open_conns) (Conn (cid r)) (Refused (Logout (itt r) 1))) (cond (function r == 2) (Refused (Logout (itt r) 2)) (Refused bad))))
-            (cond u (end_session o began a) (cond (function r == 1) (cond (is_open o began (cid r)) (close_conn o began a (cid r)) (parting a 1)) (cond (function r == 2) (parting a 2) (reply_on a bad))))) [
-              | true ↦ session_ends
-              | false ↦ elim (function r == 1) as (λ u. Closes (cond u (cond (is_among_open (cid r) s.open_conns) (Conn (cid r)) (Refused (Logout (itt r) 1))) (cond (function r == 2) (Refused (Logout (itt r) 2)) (Refused bad)))
-                  (cond u (cond (is_open o began (cid r)) (close_conn o began a (cid r)) (parting a 1)) (cond (function r == 2) (parting a 2) (reply_on a bad)))) [
-                    | true ↦ subst (λ v. Closes (cond v (Conn (cid r)) (Refused (Logout (itt r) 1))) (cond (is_open o began (cid r)) (close_conn o began a (cid r)) (parting a 1))) (sym (open_same (cid r)))
-                        (elim (is_open o began (cid r)) as (λ v. Closes (cond v (Conn (cid r)) (Refused (Logout (itt r) 1))) (cond v (close_conn o began a (cid r)) (parting a 1))) [
-                          | true ↦ conn_closes (cid r)
-                          | false ↦ refused (Logout (itt r) 1)
-                        ])
-                    | false ↦ elim (function r == 2) as (λ u. Closes (cond u (Refused (Logout (itt r) 2)) (Refused bad)) (cond u (parting a 2) (reply_on a bad))) [
-                      | true ↦ refused (Logout (itt r) 2)
-                      | false ↦ refused bad
-                    ]
-                  ]
-            ]
-      ]
-
-pub logout-item : (o : Setting) (s : Core) (t : Trace) (m : Mark) (e : Effect) (a : Arrival) → Begun o s t m e a
-    → Agrees o (closed_as s a.request (closing_by s a.request)) ((m ∷ logout_marks o ((m ∷ []) ∷ t) a) ∷ t)
-    × (e ∷ closed_effects s a.request (closing_by s a.request) ≡ effects_of_item o t (m ∷ logout_marks o ((m ∷ []) ∷ t) a))
-logout-item o s t m e a b = by_reason o s t m e a b
+      let bad = refused (Reject 9 (header_of r)) in
+      rw (open_same (cid r))
+      (either Closes (itt r == NO_TAG) bad
+      (either Closes (function r == 0) session_ends
+      (either Closes (function r == 1) (either Closes (is_open o began (cid r)) (conn_closes (cid r)) (refused (Logout (itt r) 1)))
+      (either Closes (function r == 2) (refused (Logout (itt r) 2)) bad))))

@@ -1,20 +1,19 @@
 -- The first event of a run that is refused.
-use Rattle.std.proofs.Common.{◌≡◌, ℕ, ◌+◌, inl, not, cond, Bool, true, false, List, Option, Some, None, refl, ap, sym, ◌∙◌, nat_lt, ◌<◌, ◌⊎◌, inr, length, take, drop, get_or, Ok, Err, arith, length-take}
+use Rattle.std.proofs.Common.{◌≡◌, ℕ, ◌+◌, inl, not, cond, Bool, true, List, Option, Some, None, refl, ap, sym, nat_lt, ◌<◌, ◌⊎◌, inr, length, take, drop, get_or, Ok, Err, arith, length-take}
 use Rattle.iscsi_history.specs.declared.event.Event.{Event}
 use Rattle.iscsi_session.specs.declared.fault.SessionFault.{SessionFault}
 use Rattle.iscsi_session.specs.declared.fault.SessionFault.TheVariants.{UnknownConnection, Exhausted, NoMemory}
 use Rattle.iscsi_history.specs.rules.Settings.{Setting}
 use Rattle.iscsi_history.specs.rules.Agenda.{belongs}
-use Rattle.iscsi_session.specs.promises.Refusals.{first_refusal, refusal_after, refusal_of, RefusesAs, RunRefusesAs}
+use Rattle.iscsi_session.specs.promises.Refusals.{first_refusal, refusal_of, RefusesAs, RunRefusesAs}
 use Rattle.std.proofs.lemmas.List.{drop_more}
 
 -- an event that isn't refused comes on a connection of the session
 pub taken_belongs : (o : Setting) (h : List Event) (e : Event) → refusal_of o h e ≡ None → belongs o e ≡ true
-taken_belongs o h e none = by_test (belongs o e) (nat_lt (length h) o.events) none
+taken_belongs o h e none = by_tests (belongs o e) (nat_lt (length h) o.events) none
   where
-    by_test : (b c : Bool) → (let x : Option SessionFault = cond (not b) (Some UnknownConnection) (cond c None (Some Exhausted)) in x) ≡ None → b ≡ true
-    by_test true c h = refl
-    by_test false c h = absurd cc
+    by_tests : (b c : Bool) → cond (not b) (Some UnknownConnection) (cond c None (Some Exhausted)) ≡ None → b ≡ true
+    by_tests b c h = grind arith
 
 abbrev first_of_two : Option SessionFault → Option SessionFault → Option SessionFault
 first_of_two x y = elim x [ Some fault ↦ Some fault | None ↦ y ]
@@ -24,8 +23,7 @@ first_refusal-at : (o : Setting) (events : List Event) (i : ℕ) (d : Event) →
     → first_refusal o i (drop i events) ≡ first_of_two (refusal_of o (take i events) (get_or events i d)) (first_refusal o (i + 1) (drop (i + 1) events))
 first_refusal-at o events i d lt =
     let long : length (take i events) ≡ i = omega (arith, length-take i events) in
-    ap (first_refusal o i) (drop_more events i d lt)
-    ∙ ap (λ n. first_of_two (refusal_after o n (get_or events i d)) (first_refusal o (i + 1) (drop (i + 1) events))) (sym long)
+    cc (drop_more events i d lt)
 
 -- what an answer says of the refusal
 pub taken_none : {A : Type 0} (x : Option SessionFault) (v : A) → RefusesAs x (Ok v) → x ≡ None
@@ -38,13 +36,11 @@ refused_cases A (Some fault) e h = inr (ap Some (sym h))
 
 pub refusal_more : (o : Setting) (events : List Event) (i : ℕ) (d : Event) (first : Option SessionFault) → i < length events → first_refusal o i (drop i events) ≡ first
     → refusal_of o (take i events) (get_or events i d) ≡ None → first_refusal o (i + 1) (drop (i + 1) events) ≡ first
-refusal_more o events i d first lt so_far none =
-    sym (ap (λ x. first_of_two x (first_refusal o (i + 1) (drop (i + 1) events))) none) ∙ sym (first_refusal-at o events i d lt) ∙ so_far
+refusal_more o events i d first lt so_far none = cc (first_refusal-at o events i d lt)
 
 pub refusal_here : (o : Setting) (events : List Event) (i : ℕ) (d : Event) (first : Option SessionFault) (e : SessionFault) → i < length events → first_refusal o i (drop i events) ≡ first
     → refusal_of o (take i events) (get_or events i d) ≡ Some e → first ≡ Some e
-refusal_here o events i d first e lt so_far is =
-    sym so_far ∙ first_refusal-at o events i d lt ∙ ap (λ x. first_of_two x (first_refusal o (i + 1) (drop (i + 1) events))) is
+refusal_here o events i d first e lt so_far is = cc (first_refusal-at o events i d lt)
 
 -- the options are refused
 pub options_refused : (A B : Type 0) (x of_events : Option SessionFault) (e : SessionFault) → RefusesAs {A = A} x (Err e) → RunRefusesAs {A = B} x of_events (Err e)
@@ -53,9 +49,7 @@ options_refused A B (Some fault) of_events e h = h
 
 -- they are not, and an event is, or memory is wanting
 pub event_refused : (B : Type 0) (x of_events : Option SessionFault) (e : SessionFault) → x ≡ None → (e ≡ NoMemory) ⊎ (of_events ≡ Some e) → RunRefusesAs {A = B} x of_events (Err e)
-event_refused B None of_events e is h = h
-event_refused B (Some fault) of_events e is h = absurd cc
+event_refused B x of_events e is h = rw is h
 
 pub run_taken : {B : Type 0} (x of_events : Option SessionFault) (v : B) → x ≡ None → of_events ≡ None → RunRefusesAs x of_events (Ok v)
-run_taken None of_events v is none = none
-run_taken (Some fault) of_events v is none = absurd cc
+run_taken x of_events v is none = rw is none

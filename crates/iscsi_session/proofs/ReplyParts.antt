@@ -1,7 +1,8 @@
 -- Connections that agree with what has happened agree after one item more.
-use Rattle.std.proofs.Common.{◌≡◌, ℕ, ◌+◌, ◌==◌, ◌||◌, cond, true, false, List, [], ◌∷◌, ◌++◌, count_by, refl, ap, sym, ◌∙◌, arith}
+use Rattle.std.proofs.Common.{◌≡◌, ℕ, ◌+◌, ◌==◌, cond, true, false, List, [], ◌∷◌, count_by, refl, sym, ◌∙◌, arith}
 use Rattle.std.specs.List.{filter_map}
 use Rattle.std.proofs.lemmas.Bool.{false≢true, eqb-true}
+use Rattle.std.proofs.lemmas.Bool.Decides.{nat_tests}
 use Rattle.std.proofs.lemmas.List.{append-nil}
 use Rattle.iscsi_wire.specs.Serial.{wire}
 use Rattle.iscsi_history.specs.rules.Settings.{Setting, is_known}
@@ -16,19 +17,12 @@ use Rattle.iscsi_history.proofs.NumberLemmas.{wire-next}
 stat_sn_on-same : (cid : ℕ) (conns : List (ℕ × ℕ)) → is_known cid conns ≡ true → stat_sn_on cid (count_reply cid conns) ≡ wire (stat_sn_on cid conns + 1)
 stat_sn_on-same cid [] known = absurd (false≢true known)
 stat_sn_on-same cid (c ∷ conns) known =
-    elim (c.0 == cid) as (λ b. (c.0 == cid) ≡ b → (b || is_known cid conns) ≡ true
-    → stat_sn_on cid (cond b ((c.0, wire (c.1 + 1)) ∷ conns) (c ∷ count_reply cid conns)) ≡ wire (cond b (wire c.1) (stat_sn_on cid conns) + 1)) [
-      | true ↦ λ is rest. ap (λ b. cond b (wire (wire (c.1 + 1))) (stat_sn_on cid conns)) is ∙ (let twice : wire (wire (c.1 + 1)) ≡ wire (wire c.1 + 1) = omega arith in twice)
-      | false ↦ λ is rest. ap (λ b. cond b (wire c.1) (stat_sn_on cid (count_reply cid conns))) is ∙ stat_sn_on-same cid conns rest
-    ] refl known
+    let twice : wire (wire (c.1 + 1)) ≡ wire (wire c.1 + 1) = omega arith in
+    grind (arith, nat_tests, stat_sn_on-same cid conns)
 
 stat_sn_on-other : (cid other : ℕ) (conns : List (ℕ × ℕ)) → (other == cid) ≡ false → stat_sn_on cid (count_reply other conns) ≡ stat_sn_on cid conns
 stat_sn_on-other cid other [] apart = refl
-stat_sn_on-other cid other (c ∷ conns) apart =
-    elim (c.0 == other) as (λ b. (c.0 == other) ≡ b → stat_sn_on cid (cond b ((c.0, wire (c.1 + 1)) ∷ conns) (c ∷ count_reply other conns)) ≡ stat_sn_on cid (c ∷ conns)) [
-      | true ↦ λ is. let no : (c.0 == cid) ≡ false = ap (λ n. n == cid) (eqb-true c.0 other is) ∙ apart in ap (λ b. cond b (wire (wire (c.1 + 1))) (stat_sn_on cid conns)) no ∙ sym (ap (λ b. cond b (wire c.1) (stat_sn_on cid conns)) no)
-      | false ↦ λ is. ap (λ n. cond (c.0 == cid) (wire c.1) n) (stat_sn_on-other cid other conns apart)
-    ] refl
+stat_sn_on-other cid other (c ∷ conns) apart = grind (arith, nat_tests, stat_sn_on-other cid other conns apart)
 
 -- the next StatSN of a connection, after a reply on one
 replied : (o : Setting) (conns : List (ℕ × ℕ)) (t : Trace) (item : List Mark) (conn cid : ℕ) → RepliesAgree o conns t → is_known conn o.conns ≡ true → is_known cid o.conns ≡ true → filter_map sent_on item ≡ conn ∷ []
@@ -36,17 +30,20 @@ replied : (o : Setting) (conns : List (ℕ × ℕ)) (t : Trace) (item : List Mar
 replied o conns t item conn cid a known_conn known sends =
     let n : ℕ = count_by (λ k. k == cid) (shown sent_on t) in
     let first : ℕ = first_stat_sn o cid in
-    let more : stat_sn_of o (item ∷ t) cid ≡ wire (first + (n + cond (conn == cid) 1 0)) = ap (λ ns. wire (first + count_by (λ k. k == cid) (shown sent_on t ++ ns))) sends ∙ ap (λ m. wire (first + m)) (count_by-push (λ k. k == cid) (shown sent_on t) conn) in
+    let more : stat_sn_of o (item ∷ t) cid ≡ wire (first + (n + cond (conn == cid) 1 0)) = cc (sends, count_by-push (λ k. k == cid) (shown sent_on t) conn) in
     elim (conn == cid) as (λ b. (conn == cid) ≡ b → stat_sn_on cid (count_reply conn conns) ≡ wire (first + (n + cond b 1 0))) [
-      | true ↦ λ is. ap (λ c. stat_sn_on cid (count_reply c conns)) (eqb-true conn cid is) ∙ stat_sn_on-same cid conns (is_known-cids cid conns o.conns a.cids ∙ known) ∙ ap (λ m. wire (m + 1)) (a.stat_sns cid known) ∙ wire-next (first + n) ∙ ap wire (let z : first + n + 1 ≡ first + (n + 1) = omega arith in z)
-      | false ↦ λ is. stat_sn_on-other cid conn conns is ∙ a.stat_sns cid known ∙ ap (λ m. wire (first + m)) (let z : n ≡ n + 0 = omega arith in z)
+      | true ↦ λ is.
+          let here : conn ≡ cid = eqb-true conn cid is in
+          let z : first + n + 1 ≡ first + (n + 1) = omega arith in
+          cc (stat_sn_on-same cid conns (is_known-cids cid conns o.conns a.cids ∙ known), a.stat_sns cid known, wire-next (first + n))
+      | false ↦ λ is. let z : n ≡ n + 0 = omega arith in cc (stat_sn_on-other cid conn conns is, a.stat_sns cid known)
     ] refl ∙ sym more
 
 -- an item that sends nothing
 pub RepliesAgree-quiet : (o : Setting) (conns : List (ℕ × ℕ)) (t : Trace) (item : List Mark) → filter_map sent_on item ≡ [] → RepliesAgree o conns t → RepliesAgree o conns (item ∷ t)
 RepliesAgree-quiet o conns t item none a = record {
   cids = a.cids;
-  stat_sns = λ cid known. a.stat_sns cid known ∙ ap (λ ns. wire (first_stat_sn o cid + count_by (λ k. k == cid) ns)) (sym (ap (λ ns. shown sent_on t ++ ns) none ∙ append-nil (shown sent_on t)));
+  stat_sns = λ cid known. cc (a.stat_sns cid known, append-nil (shown sent_on t));
 }
 
 -- an item that sends one reply

@@ -1,7 +1,6 @@
 -- Task sets that agree with what has happened agree after one item more.
-use Rattle.std.proofs.Common.{◌≡◌, ℕ, ◌<◌, ◌==◌, ◌||◌, not, ⊎_elim, cond, Bool, true, false, List, [], ◌∷◌, ◌++◌, length, map, filter, find, get_or, set, Some, refl, ap, sym, ◌∙◌, arith, length-set}
-use Rattle.std.proofs.lemmas.Bool.{cases_eq, eqb-true}
-use Rattle.std.proofs.lemmas.Bool.Decides.{nat_tests}
+use Rattle.std.proofs.Common.{◌≡◌, ◌≢◌, ℕ, ◌<◌, ◌==◌, ◌||◌, not, ⊎_elim, cond, Bool, true, false, List, [], ◌∷◌, ◌++◌, map, filter, find, get_or, set, Some, refl, ap, sym, ◌∙◌, arith, length-set}
+use Rattle.std.proofs.lemmas.Bool.{cases_eq, eqb-true, ne_eqb}
 use Rattle.std.proofs.lemmas.List.{get_or-set_same, get_or-set_other}
 use Rattle.iscsi_tasks.specs.declared.task.Task.{Task}
 use Rattle.iscsi_tasks.specs.declared.member.Member.{Member}
@@ -11,11 +10,10 @@ use Rattle.iscsi_history.specs.rules.Settings.{Setting}
 use Rattle.iscsi_history.specs.rules.Trace.{Command, Mark, Trace, live, live_in, is_among}
 use Rattle.iscsi_history.specs.rules.Run.{newly_enabled}
 use Rattle.iscsi_session.specs.promises.Standing.{task_of, member_of, set_of, SetsAgree, CommandsAgree}
-use Rattle.iscsi_session.specs.private.Steps.{all_given, as_given, enable_effects, enable_effect}
-use Rattle.iscsi_history.proofs.NewlyLemmas.{never_free}
-use Rattle.iscsi_session.proofs.EnabledLemmas.{noted_given, noted_effects, set_of-same, EnteredSet, set-entered}
+use Rattle.iscsi_session.specs.private.Steps.{all_given, enable_effects, enable_effect}
+use Rattle.iscsi_history.proofs.NewlyLemmas.{never_free, Untouched, live_in-untouched}
+use Rattle.iscsi_session.proofs.EnabledLemmas.{noted_given, noted_effects, set_of-same, set-entered}
 use Rattle.iscsi_history.proofs.MomentLemmas.{enables}
-use Rattle.iscsi_history.proofs.NewlyLemmas.{Untouched, live_in-untouched}
 use Rattle.iscsi_history.proofs.ListLemmas.{filter-map}
 use Rattle.iscsi_history.proofs.EnabledItems.{newly-one}
 use Rattle.iscsi_history.proofs.CommandItems.{EntersOne, LeavesSome, live_in-left, live_in-left_elsewhere, are_all_in}
@@ -32,18 +30,12 @@ SetsAgree-untouched o sets t item u a = record {
 pub set-changed : (o : Setting) (sets : List Members) (t : Trace) (item : List Mark) (unit : ℕ) (new : Members) → SetsAgree o sets t → unit < o.units → new.depth ≡ o.depth → new.list ≡ set_of o (item ∷ t) unit
     → ((other : ℕ) → (other == unit) ≡ false → live_in other (item ∷ t) ≡ live_in other t) → SetsAgree o (set sets unit new) (item ∷ t)
 set-changed o sets t item unit new a inside depth list same =
-    let in_range : unit < length sets = omega (arith, a.units) in
+    let here_is = get_or-set_same sets unit new (opened 0) (omega (arith, a.units)) in
+    let other_is = λ (u : ℕ) (apart : u ≢ unit). get_or-set_other sets unit u new (opened 0) apart in
     record {
       units = length-set sets unit new ∙ a.units;
-      depths = λ u lt. ⊎_elim
-          (λ here. ap (λ i. (get_or (set sets unit new) i (opened 0)).depth) here ∙ ap (λ (m : Members). m.depth) (get_or-set_same sets unit new (opened 0) in_range) ∙ depth)
-          (λ apart. ap (λ (m : Members). m.depth) (get_or-set_other sets unit u new (opened 0) apart) ∙ a.depths u lt)
-          (cases_eq u unit);
-      lists = λ u lt. ⊎_elim
-          (λ here. ap (λ i. (get_or (set sets unit new) i (opened 0)).list) here ∙ ap (λ (m : Members). m.list) (get_or-set_same sets unit new (opened 0) in_range) ∙ list ∙ ap (set_of o (item ∷ t)) (sym here))
-          (λ apart. ap (λ (m : Members). m.list) (get_or-set_other sets unit u new (opened 0) apart) ∙ a.lists u lt
-          ∙ sym (set_of-same o item t u (same u (let no : (u == unit) ≡ false = grind (arith, nat_tests) in no))))
-          (cases_eq u unit);
+      depths = λ u lt. ⊎_elim (λ here. cc here_is) (λ apart. cc (other_is u apart, a.depths u lt)) (cases_eq u unit);
+      lists = λ u lt. ⊎_elim (λ here. cc here_is) (λ apart. cc (other_is u apart, a.lists u lt, set_of-same o item t u (same u (ne_eqb u unit apart)))) (cases_eq u unit);
     }
 
 -- ---- a command enters
@@ -59,12 +51,12 @@ SetsAgree-entered o lives n sets t item c task commands a e inside is =
     let now : live_in c.unit (item ∷ t) ≡ live_in c.unit t ++ c ∷ [] = live_in-entered o lives n item t c commands e in
     let new = never_free c t (commands.fresh c.ticket (omega (arith, e.ticket))) in
     let newcomer : Task → Member = λ x. record { task = x; enabled = false; given = false } in
-    let entry : EnteredSet o t item c (set_of o t c.unit ++ newcomer (task_of o c) ∷ []) = set-entered o t item c now new in
-    let list_is : old.list ++ newcomer task ∷ [] ≡ set_of o t c.unit ++ newcomer (task_of o c) ∷ [] = ap (λ ms. ms ++ newcomer task ∷ []) (a.lists c.unit inside) ∙ ap (λ x. set_of o t c.unit ++ newcomer x ∷ []) is in
-    let elsewhere : (other : ℕ) → (other == c.unit) ≡ false → live_in other (item ∷ t) ≡ live_in other t = live_in-elsewhere o lives n item t c commands e in
+    let entry = set-entered o t item c now new in
+    let list_is : old.list ++ newcomer task ∷ [] ≡ set_of o t c.unit ++ newcomer (task_of o c) ∷ [] = cc (a.lists c.unit inside) in
+    let elsewhere = live_in-elsewhere o lives n item t c commands e in
     record {
-      agrees = set-changed o sets t item c.unit (given_by (entered_to old task)) a inside (a.depths c.unit inside) (ap (λ ms. (let s : Members = record { depth = old.depth; looked = 1; list = after_moment ms } in (given_by s).list)) list_is ∙ entry.given) elsewhere;
-      effects = ap (λ ms. enable_effect c.unit (next_in (after_moment ms))) list_is ∙ entry.effects ∙ ap enables (sym (newly-one o item t c.unit inside elsewhere));
+      agrees = set-changed o sets t item c.unit (given_by (entered_to old task)) a inside (a.depths c.unit inside) (cc (list_is, entry.given)) elsewhere;
+      effects = cc (list_is, entry.effects, newly-one o item t c.unit inside elsewhere);
     }
 
 -- ---- commands leave
@@ -83,10 +75,10 @@ SetsAgree-left o sets t item out unit left a l all inside depth list =
     ap (filter (λ (m : Member). not (out m.task.ticket))) (a.lists unit inside)
     ∙ filter-map (λ (m : Member). not (out m.task.ticket)) (member_of o t) (live_in unit t)
     ∙ ap (map (member_of o t)) (sym (live_in-left item t out unit l)) in
-    let elsewhere : (other : ℕ) → (other == unit) ≡ false → live_in other (item ∷ t) ≡ live_in other t = live_in-left_elsewhere item t out unit l all in
+    let elsewhere = live_in-left_elsewhere item t out unit l all in
     record {
-      agrees = set-changed o sets t item unit (all_given left) a inside (depth ∙ a.depths unit inside) (ap (map as_given) list ∙ ap (λ ms. map as_given (after_moment ms)) rest ∙ noted_given o t item unit) elsewhere;
-      effects = ap (enable_effects unit) list ∙ ap (λ ms. enable_effects unit (after_moment ms)) rest ∙ noted_effects o t item unit ∙ ap enables (sym (newly-one o item t unit inside elsewhere));
+      agrees = set-changed o sets t item unit (all_given left) a inside (depth ∙ a.depths unit inside) (cc (rest, noted_given o t item unit)) elsewhere;
+      effects = cc (rest, noted_effects o t item unit, newly-one o item t unit inside elsewhere);
     }
 
 -- a command that is in its set leaves it
@@ -95,8 +87,7 @@ pub left_by-one : (o : Setting) (sets : List Members) (t : Trace) (unit ticket :
 left_by-one o sets t unit ticket a inside among =
     let old : Members = get_or sets unit (opened 0) in
     let f = found_task o t ticket (live_in unit t) among in
-    let tasks : with_ticket ticket (tasks_in old) ≡ Some f.0 = ap (λ ms. with_ticket ticket (map (λ (m : Member). m.task) ms)) (a.lists unit inside) ∙ f.1.0 in
-    ap (left_by old) tasks ∙ ap (λ k. let s : Members = record old { list = after_moment (without k old.list) } in s) f.1.1
+    cc (a.lists unit inside, f.1.0, f.1.1)
   where
     found_task : (o : Setting) (t : Trace) (k : ℕ) (cs : List Command) → is_among k cs ≡ true → (task : Task) × ((with_ticket k (map (λ (m : Member). m.task) (map (member_of o t) cs)) ≡ Some task) × (task.ticket ≡ k))
     found_task o t k [] h = absurd cc

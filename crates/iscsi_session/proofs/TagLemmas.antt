@@ -1,5 +1,5 @@
 -- A live command is found by its tag, which no other one has.
-use Rattle.std.proofs.Common.{◌≡◌, ℕ, zero, suc, ◌==◌, ◌||◌, ◌&&◌, cond, Bool, true, false, is_some, List, [], ◌∷◌, find, All, Option, Some, None, refl, ap, sym, ◌∙◌, arith, ne_eqb}
+use Rattle.std.proofs.Common.{◌≡◌, ℕ, zero, suc, ◌==◌, ◌||◌, ◌&&◌, cond, Bool, true, false, is_some, List, [], ◌∷◌, find, All, Option, Some, None, refl, sym, ◌∙◌, arith, ne_eqb}
 use Rattle.std.specs.List.{list_any}
 use Rattle.std.proofs.lemmas.Bool.{eqb-true}
 use Rattle.std.proofs.lemmas.List.Elements.{All-head, All-tail}
@@ -19,20 +19,17 @@ passing q x = elim x [ Some l ↦ cond (q l) (Some l) None | None ↦ None ]
 none_later : (q : Live → Bool) (itt : ℕ) (lives : List Live) → All (λ l. (l.itt == itt) ≡ false) lives → find (λ l. q l && l.itt == itt) lives ≡ None
 none_later q itt [] none = refl
 none_later q itt (x ∷ lives) none =
-    ap (λ b. cond (q x && b) (Some x) (find (λ l. q l && l.itt == itt) lives)) (All-head (λ l. (l.itt == itt) ≡ false) x lives none)
-    ∙ ap (λ b. cond b (Some x) (find (λ l. q l && l.itt == itt) lives)) (and_false (q x))
-    ∙ none_later q itt lives (All-tail (λ l. (l.itt == itt) ≡ false) x lives none)
+    rw (All-head (λ l. (l.itt == itt) ≡ false) x lives none, and_false (q x)) (none_later q itt lives (All-tail (λ l. (l.itt == itt) ≡ false) x lives none))
 
 -- a tag is that of one command at the most
 pub find_passing : (q : Live → Bool) (lives : List Live) (itt : ℕ) → AreTagsApart lives → find (λ l. q l && l.itt == itt) lives ≡ passing q (find (λ l. l.itt == itt) lives)
 find_passing q [] itt apart = refl
-find_passing q (x ∷ lives) itt apart =
-    elim (x.itt == itt) as (λ b. (x.itt == itt) ≡ b → cond (q x && b) (Some x) (find (λ l. q l && l.itt == itt) lives) ≡ passing q (cond b (Some x) (find (λ l. l.itt == itt) lives))) [
-      | true ↦ λ this.
-          let same : x.itt ≡ itt = eqb-true x.itt itt this in
-          let others : All (λ l. (l.itt == itt) ≡ false) lives = λ k d within. ne_eqb _ _ (λ tag. apart zero (suc k) d (omega arith) (omega (arith, within)) (same ∙ sym tag)) in
-          elim (q x) as (λ c. cond (c && true) (Some x) (find (λ l. q l && l.itt == itt) lives) ≡ cond c (Some x) None) [ true ↦ refl | false ↦ none_later q itt lives others ]
-      | false ↦ λ other.
-          elim (q x) as (λ c. cond (c && false) (Some x) (find (λ l. q l && l.itt == itt) lives) ≡ find (λ l. q l && l.itt == itt) lives) [ true ↦ refl | false ↦ refl ]
-          ∙ find_passing q lives itt (λ i j d lt within. apart (suc i) (suc j) d (omega (arith, lt)) (omega (arith, within)))
-    ] refl
+find_passing q (x ∷ lives) itt apart = by_test (x.itt == itt) (q x) refl refl (find_passing q lives itt (λ i j d lt within. apart (suc i) (suc j) d (omega (arith, lt)) (omega (arith, within))))
+  where
+    by_test : (b c : Bool) → (x.itt == itt) ≡ b → q x ≡ c → find (λ l. q l && l.itt == itt) lives ≡ passing q (find (λ l. l.itt == itt) lives)
+        → find (λ l. q l && l.itt == itt) (x ∷ lives) ≡ passing q (find (λ l. l.itt == itt) (x ∷ lives))
+    by_test true true this passes rest = rw (this, passes, passing)
+    by_test true false this passes rest =
+        let others : All (λ l. (l.itt == itt) ≡ false) lives = λ k d within. ne_eqb _ _ (λ tag. apart zero (suc k) d (omega arith) (omega (arith, within)) (eqb-true x.itt itt this ∙ sym tag)) in
+        rw (this, passes, passing) (none_later q itt lives others)
+    by_test false c other passes rest = rw (other, and_false (q x)) rest

@@ -1,12 +1,11 @@
 -- A turn: the request of the next number begins to execute.
-use Rattle.std.proofs.Common.{◌≡◌, ℕ, ◌+◌, ◌-◌, not, cond, false, ◌∷◌, Some, refl, ap, sym, ◌∙◌, arith}
+use Rattle.std.proofs.Common.{◌≡◌, ℕ, ◌+◌, cond, false, ◌∷◌, Some, refl, arith}
 use Rattle.iscsi_wire.specs.declared.request.Request.{Request}
-use Rattle.iscsi_wire.specs.Serial.{lift}
-use Rattle.iscsi_wire.specs.Fields.{connection_of, is_immediate, cmd_sn}
-use Rattle.iscsi_window.specs.Windows.{number_expected, at_place, advanced_if}
+use Rattle.iscsi_wire.specs.Fields.{is_immediate}
+use Rattle.iscsi_window.specs.Windows.{number_expected, at_place}
 use Rattle.iscsi_history.specs.declared.effect.Effect.TheVariants.{Deliver}
-use Rattle.iscsi_history.specs.rules.Settings.{Setting, is_known}
-use Rattle.iscsi_history.specs.rules.Trace.{Arrival, Delivers, Trace, held}
+use Rattle.iscsi_history.specs.rules.Settings.{Setting}
+use Rattle.iscsi_history.specs.rules.Trace.{Arrival, Delivers, Trace}
 use Rattle.iscsi_session.specs.promises.Standing.{Core, Agrees}
 use Rattle.iscsi_session.specs.private.Steps.{number_by, event_by}
 use Rattle.iscsi_session.specs.private.Turning.{with_executed, executed_effects, next_arrived, turned_if, turn_effects}
@@ -23,16 +22,16 @@ abbrev pub turned_core : Core → Core
 turned_core s = record s { window = turned_window s.window; arrived = passed_on s.arrived }
 
 pub turned_is : (s : Core) (r : Request) → at_place s.window 0 ≡ Some (Some r) → turned_if s (at_place s.window 0) ≡ with_executed (turned_core s) r (next_arrived s)
-turned_is s r h = ap (turned_if s) h ∙ ap (λ p. let c : Core = record s { window = advanced_if s.window p; arrived = passed_on s.arrived } in with_executed c r (next_arrived s)) h
+turned_is s r h = rw (h, h)
 
 pub turn_effects-are : (s : Core) (r : Request) → at_place s.window 0 ≡ Some (Some r) → turn_effects s (at_place s.window 0) ≡ Deliver r ∷ executed_effects (turned_core s) r (next_arrived s)
-turn_effects-are s r h = ap (turn_effects s) h ∙ ap (λ p. let c : Core = record s { window = advanced_if s.window p; arrived = passed_on s.arrived } in Deliver r ∷ executed_effects c r (next_arrived s)) h
+turn_effects-are s r h = rw (h, h)
 
 -- a request that is held is numbered
 pub numbered_held : (o : Setting) (s : Core) (t : Trace) (r : Request) (h : Agrees o s t) → (x : Next s.window t r) → is_immediate x.arrival.request ≡ false
 numbered_held o s t r h x =
     let a : Arrival = x.arrival in
-    let regular = and_parts (not (is_immediate a.request)) (is_known (connection_of a.request) o.conns) (h.window.requests (number_expected s.window) a (admitted_of_held t (number_expected s.window) a x.held_is)) in
+    let regular = and_parts _ _ (h.window.requests (number_expected s.window) a (admitted_of_held t (number_expected s.window) a x.held_is)) in
     not_true (is_immediate a.request) regular.0
 
 -- the request of the turn, as it begins to execute
@@ -40,8 +39,7 @@ pub turn-begun : (o : Setting) (s : Core) (t : Trace) (r : Request) (h : Agrees 
 turn-begun o s t r h place x =
     let a : Arrival = x.arrival in
     let e : ℕ = number_expected s.window in
-    let regular = and_parts (not (is_immediate a.request)) (is_known (connection_of a.request) o.conns) (h.window.requests e a (admitted_of_held t e a x.held_is)) in
-    let numbered : is_immediate a.request ≡ false = numbered_held o s t r h x in
+    let regular = and_parts _ _ (h.window.requests e a (admitted_of_held t e a x.held_is)) in
     let number : a.number ≡ e = held-number t e a x.held_is in
     record {
       events = h.events;
@@ -69,17 +67,15 @@ turn-begun o s t r h place x =
 
 -- the event in which it arrived
 pub arrived_next : (o : Setting) (s : Core) (t : Trace) (r : Request) (h : Agrees o s t) → at_place s.window 0 ≡ Some (Some r) → (x : Next s.window t r) → next_arrived s ≡ x.arrival.event
-arrived_next o s t r h place x = h.arrived.at_place 0 x.arrival (has_first s.window.places (Some r) place) (ap (held t) (let z : number_expected s.window + 0 ≡ number_expected s.window = omega arith in z) ∙ x.held_is)
+arrived_next o s t r h place x =
+    let at : number_expected s.window + 0 ≡ number_expected s.window = omega arith in
+    h.arrived.at_place 0 x.arrival (has_first s.window.places (Some r) place) (rw at x.held_is)
 
 -- its number
 pub number_next : (o : Setting) (s : Core) (t : Trace) (r : Request) (h : Agrees o s t) → (x : Next s.window t r) → number_by (turned_core s) x.arrival.request ≡ x.arrival.number
 number_next o s t r h x =
-    let a : Arrival = x.arrival in
-    let number : a.number ≡ number_expected s.window = held-number t (number_expected s.window) a x.held_is in
-    ap (λ i. cond i (lift (number_expected (turned_window s.window)) (cmd_sn a.request)) (number_expected (turned_window s.window) - 1)) (numbered_held o s t r h x) ∙ (let z : number_expected (turned_window s.window) - 1 ≡ a.number = omega (arith, number) in z)
+    let number = held-number t (number_expected s.window) x.arrival x.held_is in
+    rw (numbered_held o s t r h x) (omega (arith, number))
 
 pub event_next : (o : Setting) (s : Core) (t : Trace) (r : Request) (h : Agrees o s t) → (x : Next s.window t r) → event_by (turned_core s) x.arrival.request ≡ cond (is_immediate x.arrival.request) x.arrival.event 0
-event_next o s t r h x =
-    let a : Arrival = x.arrival in
-    let numbered : is_immediate a.request ≡ false = numbered_held o s t r h x in
-    ap (λ i. cond i (s.taken - 1) 0) numbered ∙ sym (ap (λ i. cond i a.event 0) numbered)
+event_next o s t r h x = rw (numbered_held o s t r h x)

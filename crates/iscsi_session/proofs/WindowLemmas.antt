@@ -1,20 +1,25 @@
 -- What an offer and a completion change of what a session keeps.
-use Rattle.std.proofs.Common.{◌≡◌, ℕ, suc, ◌+◌, ◌-◌, ◌<◌, ◌≤◌, ◌&&◌, cond, Bool, true, false, List, [], ◌∷◌, ◌++◌, length, drop, get_or, Option, Some, None, option_map, is_some, refl, ap, ◌∙◌, arith, nat_lt, nat_le, count_by, length-set}
+use Rattle.std.proofs.Common.{◌≡◌, ℕ, suc, ◌+◌, ◌-◌, ◌<◌, ◌≤◌, ◌&&◌, cond, Bool, true, false, List, [], ◌∷◌, ◌++◌, length, drop, get_or, Option, Some, None, option_map, is_some, refl, ap, ◌∙◌, arith, nat_lt, nat_le, count_by, length-set, get_or-set_same, length-drop, set, ◌==◌, not, sym, subst}
 use Rattle.std.specs.List.{list_all}
 use Rattle.std.specs.Option.{option_flatten}
 use Rattle.std.proofs.lemmas.Bool.Decides.{nat_tests}
 use Rattle.std.proofs.lemmas.List.{length_push}
-use Rattle.iscsi_session.specs.promises.Standing.{is_held, is_place_known}
+use Rattle.iscsi_session.specs.promises.Standing.{Core, is_held, is_place_known}
+use Rattle.iscsi_session.specs.private.Steps.{noted_at, with_offered}
+use Rattle.iscsi_session.specs.private.Turning.{comes_next, with_advanced, next_arrived}
 use Rattle.iscsi_window.specs.declared.answer.Turned.{Turned}
 use Rattle.iscsi_wire.specs.declared.request.Request.{Request}
 use Rattle.iscsi_wire.specs.Serial.{wire, lift}
-use Rattle.iscsi_wire.specs.Fields.{cmd_sn}
+use Rattle.iscsi_wire.specs.Fields.{cmd_sn, connection_of, is_immediate}
 use Rattle.iscsi_window.specs.declared.answer.Offer.TheVariants.{Held, Duplicate as Known}
 use Rattle.iscsi_window.specs.declared.answer.Place.{Place}
 use Rattle.iscsi_window.specs.declared.answer.Place.TheVariants.{Inside, Outside as NoPlace}
-use Rattle.iscsi_window.specs.Windows.{Received, number_expected, room_of, at_place, advanced, advanced_if, turned_by, offer_at, offer_to, place_in, IsInside, held_at, is_received_at, received_at, offered_to, voided, emptied, emptied_if, with_place}
+use Rattle.iscsi_window.specs.Windows.{Received, number_expected, room_of, at_place, advanced, advanced_if, turned_by, offer_at, offer_to, place_in, IsInside, held_at, is_received_at, is_next_at, is_next, received_at, offered_to, voided, emptied, emptied_if, with_place}
+use Rattle.iscsi_history.specs.rules.Settings.{is_known}
+use Rattle.iscsi_session.specs.private.Invariant.{IsWindowSound}
 use Rattle.iscsi_history.proofs.PlaceLemmas.{all_set, all_shift, some_within}
-use Rattle.iscsi_history.proofs.CountLemmas.{count_replaced, count_shift}
+use Rattle.iscsi_history.proofs.CountLemmas.{count_replaced, count_set, count_shift}
+use Rattle.iscsi_history.proofs.BoolLemmas.{and_parts}
 
 -- ---- a request that is held
 
@@ -151,3 +156,102 @@ voided_changes w sn inside = by_place (place_in w sn) refl inside
     by_place : (p : Place) → place_in w sn ≡ p → IsInside p → Changed w (received_at w p None) 0 (cond (is_received_at w p) 0 1)
     by_place NoPlace is out = absurd out
     by_place (Inside k) is there = by_kept k (place_within w sn k is) (at_place w k) refl
+
+-- what the window has become, and what is counted in it
+pub record Grown (old new : Received) (r : Request) : Type 0 where
+  pub long : length new.places ≡ length old.places
+  pub turned : new.turned ≡ old.turned
+  pub unfinished : new.unfinished ≡ old.unfinished
+  pub held : count_by is_held new.places ≡ count_by is_held old.places + 1
+  pub counted : count_by is_some new.places ≡ count_by is_some old.places + 1
+  pub known : (conns : List (ℕ × ℕ)) → list_all (is_place_known conns) old.places ≡ true → is_place_known conns (Some (Some r)) ≡ true → list_all (is_place_known conns) new.places ≡ true
+
+pub grown : (old new : Received) (r : Request) → offer_to old r ≡ Held → new ≡ offered_to old r → Grown old new r
+grown old new r said is =
+    let t : Taken old r = taken old r said in
+    let now : new ≡ with_place old t.k (Some (Some r)) = is ∙ t.window in
+    subst (λ (w : Received). Grown old w r) (sym now) (record {
+      long = length-set old.places t.k (Some (Some r));
+      turned = refl;
+      unfinished = refl;
+      held = count_set is_held old.places t.k (Some (Some r)) None t.inside (ap is_held t.empty) refl;
+      counted = count_set is_some old.places t.k (Some (Some r)) None t.inside (ap is_some t.empty) refl;
+      known = λ conns all this. all_set (is_place_known conns) old.places t.k (Some (Some r)) all this;
+    })
+
+-- ---- a request that comes with the expected number
+
+pub record ComesNext (w : Received) (r : Request) : Type 0 where
+  pub held : offer_to w r ≡ Held
+  pub place : place_in w (cmd_sn r) ≡ Inside 0
+  pub free : at_place w 0 ≡ None
+  pub there : at_place (offered_to w r) 0 ≡ Some (Some r)
+
+pub comes_first : (w : Received) (r : Request) → is_next w r ≡ true → ComesNext w r
+comes_first w r next = by_place (place_in w (cmd_sn r)) refl next
+  where
+    by_free : (x : Option (Option Request)) → at_place w 0 ≡ x → place_in w (cmd_sn r) ≡ Inside 0 → not (is_some x) ≡ true → ComesNext w r
+    by_free (Some y) is place said = absurd cc
+    by_free None is place said = record {
+      held = ap (offer_at w) place ∙ ap (λ x. cond (is_some x) Known Held) is;
+      place = place;
+      free = is;
+      there = ap (λ (v : Received). at_place v 0) (ap (λ p. received_at w p (Some r)) place ∙ ap (λ x. cond (is_some x) w (with_place w 0 (Some (Some r)))) is)
+          ∙ get_or-set_same w.places 0 (Some (Some r)) None (place_within w (cmd_sn r) 0 place);
+    }
+
+    by_place : (p : Place) → place_in w (cmd_sn r) ≡ p → is_next_at w p ≡ true → ComesNext w r
+    by_place NoPlace is said = absurd cc
+    by_place (Inside k) is said =
+        let parts = and_parts (k == 0) (not (is_some (at_place w 0))) said in
+        let first : k ≡ 0 = grind (arith, nat_tests) in
+        by_free (at_place w 0) refl (is ∙ ap (λ j. Inside j) first) parts.1
+
+-- such a request is received and turns at once
+pub record Delivered (w : Received) (r : Request) : Type 0 where
+  pub first : ComesNext w r
+  pub grown_is : Grown w (offered_to w r) r
+  pub advanced_is : Advanced (offered_to w r) (Some r)
+
+pub delivered : (w : Received) (r : Request) → is_next w r ≡ true → Delivered w r
+delivered w r next =
+    let x : ComesNext w r = comes_first w r next in
+    let v : Received = offered_to w r in
+    let turned : Turned = record { sn = wire (number_expected v); request = Some r } in
+    record {
+      first = x;
+      grown_is = grown w v r x.held refl;
+      advanced_is = advanced_at v turned (ap (λ p. option_map (λ q. let u : Turned = record { sn = wire (number_expected v); request = q } in u) p) x.there);
+    }
+
+-- what holds of the window holds on once it has received a request
+pub grown_sound : {old new : Received} {held count taken : ℕ} {conns : List (ℕ × ℕ)} {r : Request} → IsWindowSound old held count taken conns → Grown old new r → old.turned + count_by is_some old.places < taken
+    → count + count_by is_some old.places < taken → is_immediate r ≡ false → is_known (connection_of r) conns ≡ true → IsWindowSound new (held + 1) count taken conns
+grown_sound {old} {new} {held} {count} {taken} {conns} {r} w g room entered regular known = record {
+  fits = omega (arith, w.fits, g.unfinished, g.long);
+  most = omega (arith, w.most, g.long);
+  held_is = omega (arith, w.held_is, g.held);
+  turned = omega (arith, room, g.turned, g.counted);
+  entered = omega (arith, entered, g.counted);
+  known = g.known conns w.known (ap (λ b. not b && is_known (connection_of r) conns) regular ∙ known);
+}
+
+-- ---- the events of arrival
+
+pub length-passed : (arrived : List ℕ) → 0 < length arrived → length (drop 1 arrived ++ 0 ∷ []) ≡ length arrived
+length-passed arrived some = omega (arith, some, length_push (drop 1 arrived) 0, length-drop 1 arrived)
+
+drop-noted : (arrived : List ℕ) (event : ℕ) → drop 1 (set arrived 0 event) ≡ drop 1 arrived
+drop-noted [] event = refl
+drop-noted (x ∷ arrived) event = refl
+
+-- what is kept once a request is delivered as it comes, before it executes, and the event in which it arrived
+pub delivered_core : (s : Core) (r : Request) (w : Received) (arrived : List ℕ) → comes_next s r ≡ true → 0 < length s.arrived → w ≡ advanced (offered_to s.window r) → arrived ≡ drop 1 s.arrived ++ 0 ∷ []
+    → ((let t : Core = record s { window = w; arrived = arrived } in t) ≡ with_advanced (with_offered s r)) × (s.taken - 1 ≡ next_arrived (with_offered s r))
+delivered_core s r w arrived next some is events =
+    let x : ComesNext s.window r = comes_first s.window r (and_parts (length s.waiting == 0) (is_next s.window r) next).1 in
+    let noted : (with_offered s r).arrived ≡ set s.arrived 0 (s.taken - 1) = ap (λ p. noted_at s.window p s.arrived (s.taken - 1)) x.place ∙ ap (λ y. cond (is_some y) s.arrived (set s.arrived 0 (s.taken - 1))) x.free in
+    let passed : arrived ≡ drop 1 (with_offered s r).arrived ++ 0 ∷ [] = events ∙ ap (λ xs. xs ++ 0 ∷ []) (sym (ap (drop 1) noted ∙ drop-noted s.arrived (s.taken - 1))) in (
+      ap (λ (v : Received). let t : Core = record s { window = v; arrived = arrived } in t) is ∙ ap (λ xs. let t : Core = record s { window = advanced (offered_to s.window r); arrived = xs } in t) passed,
+      sym (ap (λ xs. get_or xs 0 0) noted ∙ get_or-set_same s.arrived 0 (s.taken - 1) 0 some),
+    )

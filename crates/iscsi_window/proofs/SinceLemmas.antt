@@ -1,5 +1,5 @@
 -- What each call answers and becomes, by the history.
-use Rattle.std.proofs.Common.{◌≡◌, ◌⊎◌, inl, inr, ℕ, ◌+◌, ◌-◌, ◌<◌, ◌≤◌, ◌&&◌, not, ⊎_elim, cond, Bool, true, false, List, ◌∷◌, length, Option, Some, None, is_some, option_map, nat_lt, nat_le, refl, ap, sym, subst, ◌∙◌, arith}
+use Rattle.std.proofs.Common.{◌≡◌, ◌⊎◌, inl, inr, ℕ, ◌+◌, ◌-◌, ◌<◌, ◌≤◌, ◌&&◌, not, ⊎_elim, cond, Bool, true, false, List, ◌∷◌, length, Option, Some, None, is_some, option_map, nat_lt, nat_le, get_or-set_same, refl, ap, sym, subst, ◌∙◌, arith}
 use Rattle.std.specs.Option.{option_flatten}
 use Rattle.std.proofs.lemmas.Bool.{cases_lt, false≢true}
 use Rattle.std.proofs.lemmas.Bool.Decides.{nat_tests}
@@ -11,8 +11,8 @@ use Rattle.iscsi_window.specs.declared.answer.Offer.{Offer}
 use Rattle.iscsi_window.specs.declared.answer.Offer.TheVariants.{Held, Outside as OutsideWindow, Duplicate}
 use Rattle.iscsi_window.specs.declared.answer.Turned.{Turned as Turn}
 use Rattle.iscsi_window.specs.Received.{Received, number_expected, room_of, at_place, IsSound}
-use Rattle.iscsi_window.specs.Windows.{number_last, place_in, IsInside, with_place, held_at, is_received_at, received_at, offer_at, offer_to, offered_to, voided, is_held_from, number_shown, emptied, emptied_if, taken_at, turned_by, advanced, advanced_if}
-use Rattle.iscsi_window.specs.History.{Change, Admitted, Voided, Emptied, is_received, held, has_turned, expected, last, place_of, StandsFor, number_of, after_offer, after_voiding, after_taking, after_emptying, after_turning, offer_since, turn_since, is_held_at, held_number, Law}
+use Rattle.iscsi_window.specs.Windows.{number_last, place_in, IsInside, with_place, held_at, is_received_at, received_at, offer_at, offer_to, offered_to, voided, is_held_from, number_shown, emptied, emptied_if, taken_at, turned_by, advanced, advanced_if, is_next_at, is_next}
+use Rattle.iscsi_window.specs.History.{Change, Admitted, Voided, Emptied, Turned, is_received, held, has_turned, expected, last, place_of, StandsFor, number_of, after_offer, after_voiding, after_taking, after_emptying, after_turning, offer_since, turn_since, is_held_at, held_number, Law}
 use Rattle.iscsi_window.proofs.HistoryLemmas.{received_of_held, unheld, unheld_below, place_missing, place_received, is_some-place_of, place_shows, StandsFor-admitted, StandsFor-voided, StandsFor-emptied, StandsFor-turned}
 
 -- ExpCmdSN, as the history has it
@@ -272,6 +272,38 @@ pub StandsFor-advance : (s : Received) (answer : Option Turn) (now : Received) (
 StandsFor-advance s answer now h st told state =
     subst (λ x. StandsFor x (after_turning answer (expected s.first h) h)) (sym state)
     (subst (λ t. StandsFor (advanced s) (after_turning t (expected s.first h) h)) (sym told) (advanced_stands s h st))
+
+-- ---- a request that turns as it comes
+
+passed_next : (s : Received) (r : Request) (h : List Change) → StandsFor s h → is_next s r ≡ true → StandsFor (advanced (offered_to s r)) (Turned (number_of s.first h (cmd_sn r)) ∷ Admitted (number_of s.first h (cmd_sn r)) r ∷ h)
+passed_next s r h st next = ⊎_elim
+    (λ x.
+    let k : ℕ = n - number_expected s in
+    let here : is_next_at s (Inside k) ≡ true = ap (is_next_at s) (sym x.place) ∙ next in
+    let first : k ≡ 0 = grind (arith, nat_tests) in
+    let free : at_place s 0 ≡ None = grind (arith, nat_tests) in
+    let place : place_in s (cmd_sn r) ≡ Inside 0 = x.place ∙ ap (λ j. Inside j) first in
+    let held_is : offer_to s r ≡ Held = ap (offer_at s) place ∙ ap (λ y. cond (is_some y) Duplicate Held) free in
+    let now : offered_to s r ≡ with_place s 0 (Some (Some r)) = ap (λ p. received_at s p (Some r)) place ∙ ap (λ y. cond (is_some y) s (with_place s 0 (Some (Some r)))) free in
+    let here_is : number_expected s + k ≡ number_expected s = omega (arith, first) in
+    let number : m ≡ expected s.first h = ap (λ e. lift e (cmd_sn r)) (sym (expected_is s h st)) ∙ sym x.number ∙ here_is ∙ expected_is s h st in
+    let held_first : at_place (with_place s 0 (Some (Some r))) 0 ≡ Some (Some r) = get_or-set_same s.places 0 (Some (Some r)) None (omega (arith, first, x.within)) in
+    let received_is : StandsFor (with_place s 0 (Some (Some r))) (Admitted m r ∷ h) = subst (λ w. StandsFor w (Admitted m r ∷ h)) now (subst (λ o. StandsFor (offered_to s r) (after_offer o m r h)) held_is (offered_stands s r h st)) in
+    subst (λ w. StandsFor (advanced w) (Turned m ∷ Admitted m r ∷ h)) (sym now)
+    (subst (λ e. StandsFor (advanced (with_place s 0 (Some (Some r)))) (Turned e ∷ Admitted m r ∷ h)) (sym number)
+    (subst (λ y. StandsFor (advanced (with_place s 0 (Some (Some r)))) (after_turning (option_map (λ (q : Option Request). let t : Turn = record { sn = wire (number_expected s); request = q } in t) y) (expected s.first h) (Admitted m r ∷ h))) held_first
+    (advanced_stands (with_place s 0 (Some (Some r))) (Admitted m r ∷ h) received_is))))
+    (λ x. absurd (let z : is_next_at s Outside ≡ true = ap (is_next_at s) (sym x.no_place) ∙ next in cc))
+    (stands_or_strays s (cmd_sn r))
+  where
+    m : ℕ
+    m = number_of s.first h (cmd_sn r)
+
+    n : ℕ
+    n = lift (number_expected s) (cmd_sn r)
+
+pub StandsFor-pass : (s : Received) (r : Request) (now : Received) (h : List Change) → StandsFor s h → is_next s r ≡ true → now ≡ advanced (offered_to s r) → StandsFor now (Turned (number_of s.first h (cmd_sn r)) ∷ Admitted (number_of s.first h (cmd_sn r)) r ∷ h)
+StandsFor-pass s r now h st next state = subst (λ w. StandsFor w (Turned (number_of s.first h (cmd_sn r)) ∷ Admitted (number_of s.first h (cmd_sn r)) r ∷ h)) (sym state) (passed_next s r h st next)
 
 -- ---- the law
 

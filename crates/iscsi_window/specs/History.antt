@@ -1,6 +1,6 @@
 -- The history of a window: what was received, taken out and turned, and which commands began and ended
 -- (RFC 7143 section 4.2.2.1). Numbers are without bound; the newest change comes first.
-use Rattle.std.specs.Prelude.{◌≡◌, ◌↔◌, ℕ, ◌+◌, ◌-◌, ◌<◌, ◌≤◌, ◌==◌, ◌&&◌, ◌||◌, Bool, true, false, nat_lt, nat_le, List, [], ◌∷◌, length, Option, Some, None, option_map, if◌then◌else◌}
+use Rattle.std.specs.Prelude.{◌≡◌, ◌↔◌, ℕ, ◌+◌, ◌-◌, ◌<◌, ◌≤◌, ◌==◌, ◌&&◌, ◌||◌, Bool, true, false, not, nat_lt, nat_le, List, [], ◌∷◌, length, Option, Some, None, option_map, if◌then◌else◌}
 use Rattle.iscsi_wire.specs.Serial.{wire, lift, number_of_first}
 use Rattle.iscsi_wire.specs.Fields.{cmd_sn}
 use Rattle.iscsi_wire.specs.declared.request.Request.{Request}
@@ -135,6 +135,10 @@ abbrev pub after_turning : Option Turn → ℕ → List Change → List Change
 after_turning None n h = h
 after_turning (Some turn) n h = Turned n ∷ h
 
+-- a request was received, and its number turned
+abbrev pub after_passing : ℕ → Request → List Change → List Change
+after_passing n r h = Turned n ∷ Admitted n r ∷ h
+
 -- ---- what a call answers, by the history
 
 -- a number from ExpCmdSN to MaxCmdSN is held or a duplicate, any other one is outside
@@ -143,6 +147,10 @@ offer_since first size h n =
     if nat_le (expected first h) n && nat_le n (last first size h)
     then (if is_received h n then Duplicate else Held)
     else Outside
+
+-- the number is ExpCmdSN, and would be held
+abbrev pub is_next_since : ℕ → ℕ → List Change → ℕ → Bool
+is_next_since first size h n = n == expected first h && nat_le n (last first size h) && not (is_received h n)
 
 -- the expected number turns, where it is received, with what is held there
 abbrev pub turn_since : ℕ → List Change → Option Turn

@@ -1,8 +1,8 @@
 -- Worked histories, computed: what the queries give, beside what must come.
-use Rattle.std.specs.Prelude.{◌≡◌, ℕ, ◌+◌, List, [], ◌∷◌, Some, None, refl}
+use Rattle.std.specs.Prelude.{◌≡◌, ℕ, ◌+◌, List, [], ◌∷◌, Some, None, refl, true, false}
 use Rattle.iscsi_wire.specs.declared.request.Request.{Request}
 use Rattle.iscsi_window.specs.declared.answer.Offer.TheVariants.{Held, Outside, Duplicate}
-use Rattle.iscsi_window.specs.History.{Change, Admitted, Voided, Emptied, Turned, Started, Finished, held, place_of, number_of, offer_since, turn_since}
+use Rattle.iscsi_window.specs.History.{Change, Admitted, Voided, Emptied, Turned, Started, Finished, held, place_of, number_of, offer_since, turn_since, is_next_since}
 
 -- a session whose first CmdSN is 2 ^ 32 - 1: the wire shows the next one as 0
 abbrev pub first : ℕ
@@ -62,3 +62,17 @@ voided_is_received a b c = refl
 -- where the next number isn't received nothing turns
 pub none_due : (a b c : Request) → turn_since first (Turned (nth 2) ∷ Turned (nth 1) ∷ under_way a b c) ≡ None
 none_due a b c = refl
+
+-- the first number is the one that comes next until it is received; no other number is
+pub first_is_next : is_next_since first 4 [] (nth 0) ≡ true
+first_is_next = refl
+
+pub second_is_not_next : is_next_since first 4 [] (nth 1) ≡ false
+second_is_not_next = refl
+
+pub received_is_not_next : (a b c : Request) → is_next_since first 4 (out_of_order a b c) (nth 0) ≡ false
+received_is_not_next a b c = refl
+
+-- a command under way takes the only place of a window, so that no number is admitted
+pub none_is_next : is_next_since first 1 (Started ∷ []) (nth 0) ≡ false
+none_is_next = refl

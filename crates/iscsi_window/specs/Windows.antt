@@ -1,5 +1,5 @@
 -- What a window answers, and what it becomes.
-use Rattle.std.specs.Prelude.{ℕ, ◌+◌, ◌-◌, ◌==◌, ◌&&◌, Bool, true, false, is_some, nat_lt, nat_le, [], ◌∷◌, ◌++◌, length, take, drop, replicate, position, slice_set, Option, Some, None, option_map, if◌then◌else◌}
+use Rattle.std.specs.Prelude.{ℕ, ◌+◌, ◌-◌, ◌==◌, ◌&&◌, Bool, true, false, not, is_some, nat_lt, nat_le, [], ◌∷◌, ◌++◌, length, take, drop, replicate, position, slice_set, Option, Some, None, option_map, if◌then◌else◌}
 use Rattle.std.specs.Option.{option_flatten}
 use Rattle.iscsi_wire.specs.Serial.{wire, lift}
 use Rattle.iscsi_wire.specs.Fields.{connection_of, opcode, lun, itt, cmd_sn, unit_of}
@@ -125,12 +125,26 @@ taken_at s k conn = if is_held_from conn (at_place s k) then with_place s k (Som
 abbrev pub turned_by : Received → Option Turned
 turned_by s = option_map (λ r. record { sn = wire (number_expected s); request = r }) (at_place s 0)
 
+-- its place goes, and one more number has a place, which wasn't received
+abbrev pub turned_on : Received → Received
+turned_on s = record s { turned = s.turned + 1; places = drop 1 s.places ++ None ∷ [] }
+
 abbrev pub advanced_if : Received → Option (Option Request) → Received
 advanced_if s None = s
-advanced_if s (Some r) = record s { turned = s.turned + 1; places = drop 1 s.places ++ None ∷ [] }
+advanced_if s (Some r) = turned_on s
 
 abbrev pub advanced : Received → Received
 advanced s = advanced_if s (at_place s 0)
+
+-- ---- a request that turns as it comes
+
+-- its number is the expected one, admitted, and wasn't received
+abbrev pub is_next_at : Received → Place → Bool
+is_next_at s Outside = false
+is_next_at s (Inside k) = k == 0 && not (is_some (at_place s 0))
+
+abbrev pub is_next : Received → Request → Bool
+is_next s r = is_next_at s (place_in s (cmd_sn r))
 
 -- ---- commands that are being executed
 

@@ -1,12 +1,12 @@
 //! The window: a ring of places, one for each number from the expected one on.
 
-ghost use Rattle.std.specs.Prelude.{Err, ◌≡◌, ℕ, List, [], ◌∷◌, ◌+◌, ◌-◌, ◌^◌, ◌<◌, ◌≤◌, ◌⊎◌, ◌↔◌, ◌==◌, length, replicate, slice_set, slice_index_or, Option, Some, None, IsSome, OnSome, IfOk, not, position, take, option_map, if◌then◌else◌};
+ghost use Rattle.std.specs.Prelude.{Err, ◌≡◌, ℕ, List, true, [], ◌∷◌, ◌+◌, ◌-◌, ◌^◌, ◌<◌, ◌≤◌, ◌⊎◌, ◌↔◌, ◌==◌, length, replicate, slice_set, slice_index_or, Option, Some, None, IsSome, OnSome, IfOk, not, position, take, option_map, if◌then◌else◌};
 ghost use Rattle.circular_buffer.specs.Buffer.{buffer};
 ghost use Rattle.iscsi_wire.specs.Fields.{cmd_sn};
 ghost use Rattle.iscsi_wire.specs.Serial.{wire, lift};
 ghost use Rattle.iscsi_window.specs.Received.{number_expected, at_place, IsSound, HasRoom};
-ghost use Rattle.iscsi_window.specs.Windows.{opened, number_last, place_in, IsInside, held_at, offer_to, offered_to, is_received_at, voided, is_command, is_asked, is_held_from, number_shown, find_command, emptied, first_from, dropped_at, taken_at, turned_by, advanced, with_unfinished};
-ghost use Rattle.iscsi_window.specs.History.{Change, Started, Finished, is_received, held, expected, number_of, StandsFor, Law, after_offer, after_voiding, after_taking, after_emptying, after_turning, offer_since, turn_since, is_command_below, is_held_at, held_number, ShowsLowest, TookLowest};
+ghost use Rattle.iscsi_window.specs.Windows.{opened, number_last, place_in, IsInside, held_at, offer_to, offered_to, is_received_at, voided, is_command, is_asked, is_held_from, number_shown, find_command, emptied, first_from, dropped_at, taken_at, turned_by, turned_on, advanced, is_next, with_unfinished};
+ghost use Rattle.iscsi_window.specs.History.{Change, Started, Finished, is_received, held, expected, number_of, StandsFor, Law, after_offer, after_voiding, after_taking, after_emptying, after_turning, after_passing, offer_since, is_next_since, turn_since, is_command_below, is_held_at, held_number, ShowsLowest, TookLowest};
 
 use crate::answer::{Offer, Place, Turned};
 use crate::fault::WindowFault;
@@ -254,9 +254,44 @@ impl Window {
     {
         let sn = self.exp();
         let request = at(&self.places, 0)?;
+        self.turn();
+        Some(Turned { sn, request })
+    }
+
+    /// Whether the number of this request is the expected one, is admitted and wasn't received: `offer` would hold it,
+    /// and `advance` turn it.
+    pub fn is_next(&self, request: &Request) -> bool
+        ensures answer { result ≡ is_next self.now request.now }
+        ensures held { result ≡ true → offer_to self.now request.now ≡ Offer.Held }
+        ensures answer_since { (h : List Change) → StandsFor self.now h → result ≡
+            is_next_since self.now.first (length self.now.places) h (number_of self.now.first h (cmd_sn request.now)) }
+    {
+        self.place(request.cmd_sn()) == Place::Inside(0) && at(&self.places, 0).is_none()
+    }
+
+    /// Turns the number of this request as it comes: the window is as after `offer` and `advance`, and holds nothing of
+    /// it at any time.
+    ///
+    /// A command that it turned may be counted by `start_one`.
+    pub fn pass(&mut self, request: &Request)
+        requires next { is_next self.old request.now ≡ true }
+        requires turned { self.old.turned < 2 ^ 64 - 1 }
+        ensures state { self.new ≡ advanced (offered_to self.old request.now) }
+        ensures room { HasRoom self.new }
+        ensures stands { (h : List Change) → StandsFor self.old h →
+            StandsFor self.new (after_passing (number_of self.old.first h (cmd_sn request.now)) request.now h) }
+    {
+        self.turn();
+    }
+
+    /// The expected number turns, whatever its place has.
+    fn turn(&mut self)
+        requires { self.old.turned < 2 ^ 64 - 1 }
+        ensures state { self.new ≡ turned_on self.old }
+        ensures room { self.old.unfinished < length self.old.places → HasRoom self.new }
+    {
         turn_first(&mut self.places);
         self.turned += 1;
-        Some(Turned { sn, request })
     }
 
     /// Counts a command as being executed: the last admitted number isn't admitted any more.

@@ -1,11 +1,11 @@
 -- What a session keeps when a request executes or waits, and at a turn, and the effects, by what it keeps before. For
 -- private contracts alone.
-use Rattle.std.specs.Prelude.{ℕ, ℤ, pos, ◌-ℤ◌, ◌+◌, ◌-◌, ◌==◌, ◌&&◌, not, nat_lt, nat_le, List, [], ◌∷◌, ◌++◌, length, drop, filter, find, count_by, slice_index_or, Option, Some, None, if◌then◌else◌}
+use Rattle.std.specs.Prelude.{Bool, ℕ, ℤ, pos, ◌-ℤ◌, ◌+◌, ◌-◌, ◌==◌, ◌&&◌, not, nat_lt, nat_le, List, [], ◌∷◌, ◌++◌, length, drop, filter, find, count_by, slice_index_or, Option, Some, None, if◌then◌else◌}
 use Rattle.iscsi_wire.specs.declared.reply.Reply.TheVariants.{Task, Reject}
 use Rattle.iscsi_wire.specs.declared.request.Request.{Request}
 use Rattle.iscsi_wire.specs.Serial.{lift, number_of_first}
 use Rattle.iscsi_wire.specs.Fields.{connection_of, header_of, opcode, itt, cmd_sn}
-use Rattle.iscsi_window.specs.Windows.{number_expected, room_of, advanced}
+use Rattle.iscsi_window.specs.Windows.{number_expected, room_of, advanced, is_next}
 use Rattle.iscsi_history.specs.declared.effect.Effect.{Effect}
 use Rattle.iscsi_history.specs.declared.effect.Effect.TheVariants.{Deliver, Immediate, Wait}
 use Rattle.iscsi_session.specs.declared.deferral.Deferral.{Deferral}
@@ -70,6 +70,12 @@ turned_if s (Some (Some r)) = with_executed (with_advanced s) r (next_arrived s)
 abbrev pub turn_effects : Core → Option (Option Request) → List Effect
 turn_effects s (Some (Some r)) = Deliver r ∷ executed_effects (with_advanced s) r (next_arrived s)
 turn_effects s _ = []
+
+-- ---- a numbered request that can be delivered as it comes
+
+-- its number is the expected one, and no function waits
+abbrev pub comes_next : Core → Request → Bool
+comes_next s r = length s.waiting == 0 && is_next s.window r
 
 -- ---- functions that wait
 

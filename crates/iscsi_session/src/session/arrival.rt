@@ -1,6 +1,6 @@
 //! The arrival of a request, and the turns that become due by it.
 
-ghost use Rattle.std.specs.Prelude.{false, ◌-◌, ◌*◌, ◌≡◌, ◌==◌, ℕ, ◌+◌, ◌≤◌, ◌<◌, true, [], ◌∷◌, ◌++◌, length, drop, replicate, slice_index_or, IfSome, nat_lt, count_by, is_some, vec_len, vec_capacity};
+ghost use Rattle.std.specs.Prelude.{false, ◌-◌, ◌*◌, ◌≡◌, ◌==◌, ℕ, ◌+◌, ◌≤◌, ◌<◌, true, [], ◌∷◌, ◌++◌, length, drop, replicate, slice_index_or, Some, IfSome, nat_lt, count_by, is_some, vec_len, vec_capacity};
 ghost use Rattle.std.specs.List.{list_all};
 ghost use Rattle.std.specs.VecDeque.{deque_capacity};
 ghost use Rattle.iscsi_wire.specs.Fields.{connection_of, is_immediate, opcode};
@@ -15,7 +15,7 @@ ghost use Rattle.iscsi_history.specs.rules.Run.{effects_of};
 ghost use Rattle.iscsi_session.specs.promises.Standing.{Agrees, Settled, is_held};
 ghost use Rattle.iscsi_session.specs.private.Steps.{KeepsPace, noted_in, with_offered};
 ghost use Rattle.iscsi_session.specs.private.Functions.{owed};
-ghost use Rattle.iscsi_session.specs.private.Turning.{turned_if, turn_effects};
+ghost use Rattle.iscsi_session.specs.private.Turning.{turned_if, turn_effects, comes_next};
 
 use crate::kind::kind_of;
 use crate::session::Session;
@@ -113,6 +113,11 @@ impl Session {
             + 6 * (count_by is_held self.old.window.places + length self.old.waiting + 1) }
         ensures capacity { vec_capacity out.new ≡ vec_capacity out.old }
     {
+        if self.comes_next(&request) {
+            self.deliver_at_once(request, out);
+            self.run_agenda(out);
+            return;
+        }
         match self.offer(&request) {
             Offer::Held => self.run_agenda(out),
             Offer::Outside => out.push_reserved(Effect::Ignore { why: Why::Outside }),
@@ -120,6 +125,37 @@ impl Session {
                 why: Why::Duplicate,
             }),
         }
+    }
+
+    /// Whether a numbered request can be delivered as it comes: its number is the expected one, and no function waits.
+    fn comes_next(&self, request: &Request) -> bool
+        ensures { result ≡ comes_next self.now request.now }
+    {
+        self.waiting.is_empty() && self.window.is_next(request)
+    }
+
+    /// Delivers a numbered request as it comes, so that the window needn't hold it.
+    fn deliver_at_once(&mut self, request: Request, out: &mut Vec<Effect>)
+        requires next { comes_next self.old request ≡ true }
+        requires regular { is_immediate request ≡ false }
+        requires known { known_in (connection_of request) self.old.conns ≡ true }
+        requires counted { self.old.window.turned + count_by is_some self.old.window.places < self.old.taken }
+        requires entered { self.old.entered + count_by is_some self.old.window.places < self.old.taken }
+        requires room { vec_len out.old + owed self.old.live self.old.sets + 6 * count_by is_held self.old.window.places
+            + 6 ≤ vec_capacity out.old }
+        // It is offered, and turns.
+        ensures session { self.new ≡ turned_if (with_offered self.old request) (Some (Some request)) }
+        ensures effects { out.new.items ≡ out.old.items
+            ++ turn_effects (with_offered self.old request) (Some (Some request)) }
+        ensures spent { vec_len out.new + owed self.new.live self.new.sets
+            + 6 * (count_by is_held self.new.window.places + length self.new.waiting) ≤ vec_len out.old
+            + owed self.old.live self.old.sets + 6 * count_by is_held self.old.window.places + 6 }
+        ensures capacity { vec_capacity out.new ≡ vec_capacity out.old }
+    {
+        self.window.pass(&request);
+        pass(&mut self.arrived);
+        let event = self.taken - 1;
+        self.deliver(request, event, out);
     }
 
     /// Offers a numbered request to the window.
@@ -172,6 +208,28 @@ impl Session {
 
     /// Executes the functions that have waited for the next number.
     fn execute_waiting(&mut self, out: &mut Vec<Effect>)
+        requires room { vec_len out.old + owed self.old.live self.old.sets + 6 * length self.old.waiting
+            ≤ vec_capacity out.old }
+        ensures agrees { (o : Setting) (t : Trace) → Agrees o self.old t →
+            Agrees o self.new (after_items (functions_at o (number_expected self.old.window) t) t) }
+        ensures effects { (o : Setting) (t : Trace) → Agrees o self.old t →
+            out.new.items ≡ out.old.items ++ effects_of o t (functions_at o (number_expected self.old.window) t) }
+        ensures places { self.new.window.places ≡ self.old.window.places }
+        ensures turned { self.new.window.turned ≡ self.old.window.turned }
+        ensures first { self.new.window.first ≡ self.old.window.first }
+        ensures taken { self.new.taken ≡ self.old.taken }
+        ensures pace { KeepsPace self.old.window self.new.window }
+        ensures spent { vec_len out.new + owed self.new.live self.new.sets + 6 * length self.new.waiting
+            ≤ vec_len out.old + owed self.old.live self.old.sets + 6 * length self.old.waiting }
+        ensures capacity { vec_capacity out.new ≡ vec_capacity out.old }
+    {
+        if !self.waiting.is_empty() {
+            self.execute_all_waiting(out);
+        }
+    }
+
+    /// Executes the functions that have waited for the next number, of those that wait.
+    fn execute_all_waiting(&mut self, out: &mut Vec<Effect>)
         requires room { vec_len out.old + owed self.old.live self.old.sets + 6 * length self.old.waiting
             ≤ vec_capacity out.old }
         ensures agrees { (o : Setting) (t : Trace) → Agrees o self.old t →

@@ -24,6 +24,12 @@ fn advance(rt: &impl Abort, window: &mut Window) -> Option<Turned> {
     window.advance()
 }
 
+fn pass(rt: &impl Abort, window: &mut Window, request: &Request) {
+    assert!(rt; window.is_next(request));
+    assert!(rt; window.turned() < u64::MAX);
+    window.pass(request);
+}
+
 #[test]
 fn sizes(rt: HostRuntime) -> Result<(), Fail> {
     let alloc = rt.alloc();
@@ -93,6 +99,40 @@ fn requests_are_held_once(rt: HostRuntime) -> Result<(), Fail> {
     assert_eq!(rt; window.turned(), 3);
     assert_eq!(rt; window.exp(), 1);
     assert_eq!(rt; window.max(), 4);
+    Ok(())
+}
+
+#[test]
+fn a_request_passes_as_it_comes(rt: HostRuntime) -> Result<(), Fail> {
+    let mut window = Window::open(rt.alloc(), 0xffff_ffff, 2)?;
+    for (sn, is_next) in [
+        (0xffff_ffff, true),
+        (0, false),
+        (1, false),
+        (0xffff_fffe, false),
+        (0x7fff_ffff, false),
+    ] {
+        assert_eq!(rt;
+            window.is_next(&command(1, 0, 0xa1, sn)),
+            is_next,
+            "of {sn}"
+        );
+    }
+    let second = command(2, 0, 0xa2, 0);
+    assert_eq!(rt; window.offer(&second), Offer::Held);
+    pass(&rt, &mut window, &command(1, 0, 0xa1, 0xffff_ffff));
+    assert_eq!(rt; window.exp(), 0);
+    assert_eq!(rt; window.turned(), 1);
+    // The next number was received before, and its request is still held.
+    assert_eq!(rt; window.is_next(&second), false);
+    let turned = Turned {
+        sn: 0,
+        request: Some(second),
+    };
+    assert_eq!(rt; advance(&rt, &mut window), Some(turned));
+    pass(&rt, &mut window, &command(1, 0, 0xa3, 1));
+    assert_eq!(rt; window.find_held(0xa3, 0, 9), None);
+    assert_eq!(rt; advance(&rt, &mut window), None);
     Ok(())
 }
 

@@ -1,4 +1,4 @@
-use Rattle.std.proofs.Common.{◌∙◌, ◌++◌, ◌≤◌, List, map, drop, length, set, refl, ap, arith}
+use Rattle.std.proofs.Common.{◌∙◌, ◌≤◌, length, set, refl, ap, arith}
 use Rattle.std.proofs.lemmas.List.{take_all, drop_all, append-nil}
 use Rattle.std.proofs.lemmas.List.Edits.{map_over_more}
 use Rattle.iscsi_connections.specs.declared.connections.Connection.{Connection}
@@ -18,7 +18,4 @@ loop-place-preserved c = record {
 pub returns : goal.returns
 returns c =
     let past : length c.args.list.now.items ≤ c.loop-place.place = omega (arith, c.len-place-end.ensures, c.args.list.now.ok.0, c.loop-place-test.false) in
-    c.loop-place.invariant.items
-    ∙ ap (λ (xs : List Connection). map (closed_in c.args.cid) xs ++ drop c.loop-place.place c.args.list.now.items) (take_all c.loop-place.place c.args.list.now.items past)
-    ∙ ap (λ (xs : List Connection). map (closed_in c.args.cid) c.args.list.now.items ++ xs) (drop_all c.loop-place.place c.args.list.now.items past)
-    ∙ append-nil (map (closed_in c.args.cid) c.args.list.now.items)
+    rw (c.loop-place.invariant.items, take_all c.loop-place.place c.args.list.now.items past, drop_all c.loop-place.place c.args.list.now.items past, append-nil)

@@ -1,10 +1,9 @@
-use Rattle.std.proofs.Common.{◌≡◌, ℕ, List, length, subst, sym, arith}
-use Rattle.iscsi_connections.specs.Placed.{TellsPlaces}
+use Rattle.std.proofs.Common.{◌≡◌, length, arith}
 use Rattle.iscsi_connections.proofs.PlaceLemmas.{told_more}
 use Rattle.iscsi_connections.proofs.connections.places_of.Goals as goal
 
 pub loop-place-init : goal.loop-place-init
-loop-place-init c = subst (λ (ps : List ℕ). TellsPlaces ps c.args.list.now 0) (sym c.new-places.ensures.items) (record {
+loop-place-init c = rw c.new-places.ensures.items (record {
   placed = λ k d before. absurd (omega (arith, before));
   meant = λ cid d some. absurd (omega (arith, some));
 })
@@ -14,5 +13,5 @@ loop-place-preserved c = told_more c.loop-place.places.items c.put.new.places.it
 
 pub returns : goal.returns
 returns c =
-    let last : c.loop-place.place ≡ length c.args.list.now = omega (arith, c.loop-place-test.false, c.loop-place.auto.place-end) in
-    subst (λ n. TellsPlaces c.loop-place.places.items c.args.list.now n) last c.loop-place.invariant
+    let last : length c.args.list.now ≡ c.loop-place.place = omega (arith, c.loop-place-test.false, c.loop-place.auto.place-end) in
+    rw last c.loop-place.invariant

@@ -1,18 +1,16 @@
-use Rattle.std.proofs.Common.{◌≡◌, ◌∙◌, map, position, Some, None, nat_le, ap, sym}
+use Rattle.std.proofs.Common.{◌∙◌, map, nat_le, ap, sym}
 use Rattle.iscsi_connections.specs.declared.connections.Connection.{Connection}
-use Rattle.iscsi_connections.specs.Connected.{Connected, counted_on}
 use Rattle.iscsi_connections.specs.Placed.{cid_and_stat_sn}
-use Rattle.iscsi_connections.proofs.PlaceLemmas.{has_cid}
 use Rattle.iscsi_connections.proofs.CountLemmas.{uncounted}
 use Rattle.iscsi_connections.proofs.ChangeLemmas.{count_is}
 use Rattle.iscsi_connections.proofs.connections.Connections.is_crowded.Goals as goal
 
 pub returns-in-Some : goal.returns-in-Some
 returns-in-Some c =
-    let found : position (has_cid c.args.cid) (map cid_and_stat_sn c.self.inside.list.items) ≡ Some c.in-Some.place = ap (λ (s : Connected). position (has_cid c.args.cid) s.conns) c.self.view_is ∙ sym c.place_of.ensures ∙ c.in-Some.is in
-    ap (nat_le 8) (sym (count_is c.self.inside.list.items c.args.cid c.in-Some.place found c.index.result.now c.index.ensures) ∙ ap (λ (s : Connected). counted_on c.args.cid s.conns s.immediate) c.self.view_is)
+    let found = rw (← c.self.view_is) at (sym c.place_of.ensures ∙ c.in-Some.is) in
+    rw (← c.self.view_is) (ap (nat_le 8) (sym (count_is c.self.inside.list.items c.args.cid c.in-Some.place found c.index.result.now c.index.ensures)))
 
 pub returns-in-None : goal.returns-in-None
 returns-in-None c =
-    let none : position (has_cid c.args.cid) (map cid_and_stat_sn c.self.inside.list.items) ≡ None = ap (λ (s : Connected). position (has_cid c.args.cid) s.conns) c.self.view_is ∙ sym c.place_of.ensures ∙ c.in-None.is in
-    ap (nat_le 8) (sym (uncounted (map cid_and_stat_sn c.self.inside.list.items) (map (λ (x : Connection). x.immediate) c.self.inside.list.items) c.args.cid none) ∙ ap (λ (s : Connected). counted_on c.args.cid s.conns s.immediate) c.self.view_is)
+    let none = rw (← c.self.view_is) at (sym c.place_of.ensures ∙ c.in-None.is) in
+    rw (← c.self.view_is) (ap (nat_le 8) (sym (uncounted (map cid_and_stat_sn c.self.inside.list.items) (map (λ (x : Connection). x.immediate) c.self.inside.list.items) c.args.cid none)))

@@ -1,4 +1,4 @@
-use Rattle.std.proofs.Common.{◌≡◌, ◌∙◌, ◌==◌, ◌&&◌, Bool, true, false, Option, Some, None, if◌then◌else◌, length, sym, refl}
+use Rattle.std.proofs.Common.{◌≡◌, ◌∙◌, ◌==◌, ◌&&◌, Bool, Option, Some, None, if◌then◌else◌, length, sym, arith}
 use Rattle.iscsi_wire.specs.Fields.{opcode}
 use Rattle.iscsi_wire.specs.declared.reply.Reply.{Reply}
 use Rattle.iscsi_history.specs.rules.Management.{may_wait, refusal_to}
@@ -9,9 +9,7 @@ use Rattle.iscsi_session.proofs.session.Session.deferral.Goals as goal
 
 -- what executes at once by its number does so whether or not it is refused
 at_once : (waits : Bool) (refusal : Option Reply) (by_number : Deferral) → by_number ≡ Now → Now ≡ (if waits then elim refusal [ Some reply ↦ Now | None ↦ by_number ] else Now)
-at_once false refusal by_number now = refl
-at_once true None by_number now = sym now
-at_once true (Some reply) by_number now = refl
+at_once waits refusal by_number now = grind arith
 
 pub returns-in-Now : goal.returns-in-Now
 returns-in-Now c =

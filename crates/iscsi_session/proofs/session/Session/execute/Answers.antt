@@ -1,4 +1,4 @@
-use Rattle.std.proofs.Common.{◌≡◌, ap, sym, subst, arith, length, count_by}
+use Rattle.std.proofs.Common.{◌≡◌, ap, arith, length, count_by}
 use Rattle.iscsi_session.specs.promises.Standing.{Core, is_held}
 use Rattle.iscsi_session.specs.private.Steps.{verdict_by}
 use Rattle.iscsi_session.specs.private.Closing.{closing_by}
@@ -8,27 +8,21 @@ use Rattle.iscsi_session.proofs.session.Session.execute.Goals as goal
 
 pub returns-in-2-clause-spent : goal.returns-in-2-clause-spent
 returns-in-2-clause-spent c =
-    let s : Core = c.args.self.now in
-    let e : Eased s.window c.manage.new.self.window = subst (λ (v : Core). Eased s.window v.window) (sym c.manage.ensures.session) (managed_eased s c.args.request.now _ c.args.event) in
+    let e : Eased c.args.self.now.window c.manage.new.self.window = rw c.manage.ensures.session (managed_eased c.args.self.now c.args.request.now _ c.args.event) in
     omega (arith, e.held, c.manage.ensures.spent)
 
 pub returns-in-2-clause-waiting : goal.returns-in-2-clause-waiting
 returns-in-2-clause-waiting c =
-    let s : Core = c.args.self.now in
-    let same : c.manage.new.self.waiting ≡ s.waiting = subst (λ (v : Core). v.waiting ≡ s.waiting) (sym c.manage.ensures.session) (managed_waiting s c.args.request.now _ c.args.event) in
+    let same : c.manage.new.self.waiting ≡ c.args.self.now.waiting = rw c.manage.ensures.session (managed_waiting c.args.self.now c.args.request.now _ c.args.event) in
     omega (arith, ap length same)
 
 pub returns-in-6-clause-waiting : goal.returns-in-6-clause-waiting
-returns-in-6-clause-waiting c =
-    let s : Core = c.args.self.now in
-    omega (arith, ap (λ (v : Core). length v.waiting) c.log_out.ensures.session, (closed_parts s c.args.request.now (closing_by s c.args.request.now)).waiting)
+returns-in-6-clause-waiting c = omega (arith, ap (λ (v : Core). length v.waiting) c.log_out.ensures.session, (closed_parts c.args.self.now c.args.request.now (closing_by c.args.self.now c.args.request.now)).waiting)
 
 pub returns-in_default-clause-spent : goal.returns-in_default-clause-spent
 returns-in_default-clause-spent c =
-    let s : Core = c.args.self.now in
-    omega (arith, c.answer_or_enter.ensures.spent, ap (λ (v : Core). count_by is_held v.window.places) c.answer_or_enter.ensures.session, ap (count_by is_held) (answered_places s c.args.request.now (verdict_by s c.args.request.now)))
+    omega (arith, ap (λ (v : Core). count_by is_held v.window.places) c.answer_or_enter.ensures.session, ap (count_by is_held) (answered_places c.args.self.now c.args.request.now (verdict_by c.args.self.now c.args.request.now)))
 
 pub returns-in_default-clause-waiting : goal.returns-in_default-clause-waiting
 returns-in_default-clause-waiting c =
-    let s : Core = c.args.self.now in
-    omega (arith, ap (λ (v : Core). length v.waiting) c.answer_or_enter.ensures.session, ap length (answered_waiting s c.args.request.now (verdict_by s c.args.request.now)))
+    omega (arith, ap (λ (v : Core). length v.waiting) c.answer_or_enter.ensures.session, ap length (answered_waiting c.args.self.now c.args.request.now (verdict_by c.args.self.now c.args.request.now)))

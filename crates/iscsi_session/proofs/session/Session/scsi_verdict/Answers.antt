@@ -12,11 +12,7 @@ use Rattle.iscsi_session.proofs.session.Session.scsi_verdict.Goals.{then-itt, el
 pub returns-else-is_tag_live : goal.returns-else-is_tag_live
 returns-else-is_tag_live c =
     let r : Request = c.args.request.now in
-    let tag : (itt r == 0xffff_ffff) ≡ false = elim c.if-itt.branch [
-      | then-itt w ↦ search rules
-      | else-itt w ↦ search rules
-    ] in
-    let attr : nat_lt 3 (attr_code r) ≡ false = elim c.if-itt.branch [
+    let parts : ((itt r == 0xffff_ffff) ≡ false) × (nat_lt 3 (attr_code r) ≡ false) = elim c.if-itt.branch [
       | then-itt w ↦ search rules
       | else-itt w ↦ search rules
     ] in
@@ -24,4 +20,4 @@ returns-else-is_tag_live c =
     c.verdict_in.ensures
     ∙ ap (λ (sets : List Members). scsi_to r c.is_crowded.result (place_in sets r)) (c.deref.ensures.value ∙ ap (λ (s : Core). s.sets) c.self.view_is)
     ∙ ap (λ (b : Bool). scsi_to r b (place_in c.args.self.now.sets r)) c.is_crowded.ensures
-    ∙ sym (by_place r (is_tag_kept c.args.self.now (itt r)) (is_crowded_by c.args.self.now r) (place_in c.args.self.now.sets r) tag attr unused)
+    ∙ sym (by_place r (is_tag_kept c.args.self.now (itt r)) (is_crowded_by c.args.self.now r) (place_in c.args.self.now.sets r) parts.0 parts.1 unused)

@@ -1,14 +1,13 @@
-use Rattle.std.proofs.Common.{◌≡◌, ℕ, ◌∙◌, ◌+◌, ◌<◌, ◌++◌, ap, sym, subst, refl, arith, List, [], ◌∷◌, length, length-append, count_by, Option, Some, None, Err, Ok}
+use Rattle.std.proofs.Common.{◌≤◌, ◌≡◌, ◌∙◌, ◌+◌, ◌++◌, ap, sym, arith, List, [], ◌∷◌, length, length-append, Option}
 use Rattle.std.proofs.lemmas.List.{length_push}
-use Rattle.iscsi_history.specs.declared.effect.Numbers.{Numbers}
 use Rattle.iscsi_history.specs.declared.effect.Effect.{Effect}
 use Rattle.iscsi_history.specs.declared.event.Event.{Event}
+use Rattle.iscsi_history.specs.rules.Settings.{Setting}
 use Rattle.iscsi_session.specs.declared.fault.SessionFault.{SessionFault}
-use Rattle.iscsi_session.specs.declared.fault.SessionFault.TheVariants.{NoMemory}
 use Rattle.iscsi_history.specs.rules.Run.{trace_of, next_entry, after_event}
-use Rattle.iscsi_session.specs.promises.Refusals.{RefusesAs, refusal_of}
-use Rattle.iscsi_session.specs.promises.Standing.{Core, Settled, is_held}
-use Rattle.iscsi_session.specs.private.Steps.{KeepsPace, counted}
+use Rattle.iscsi_session.specs.promises.Refusals.{refusal_of}
+use Rattle.iscsi_session.specs.promises.Standing.{Core, Settled, StandsFor, effect_bound_of}
+use Rattle.iscsi_session.specs.private.Steps.{KeepsPace, refusal_by}
 use Rattle.iscsi_history.specs.rules.Trace.{received}
 use Rattle.iscsi_history.specs.promises.Flow.{Flows, HasOneMore}
 use Rattle.iscsi_session.proofs.FlowLemmas.{Flows-step}
@@ -28,107 +27,87 @@ use Rattle.iscsi_history.proofs.FlowItems.{belong_more}
 use Rattle.iscsi_session.proofs.PromiseLemmas.{stands_delivers, stands_enables, stands_closes}
 use Rattle.iscsi_session.proofs.RefusalLemmas.{taken_belongs}
 use Rattle.iscsi_session.proofs.session.Session.step.Goals as goal
+use Rattle.iscsi_session.proofs.session.Session.step.Goals.{After-apply}
+
+-- the refusal that the session found is that of the definitions
+refusal : (o : Setting) (s : Core) (h : List Event) (e : Event) (found x : Option SessionFault) → StandsFor o s h → found ≡ refusal_by s e → found ≡ x → refusal_of o h e ≡ x
+refusal o s h e found x stands said is = sym (refusal_is o s h e stands) ∙ sym said ∙ is
 
 pub returns-in-Some-clause-refused : goal.returns-in-Some-clause-refused
-returns-in-Some-clause-refused c = λ o h stands.
-    let refused : refusal_of o h c.args.event.now ≡ Some c.in-Some.fault = sym (refusal_is o c.args.self.now h c.args.event.now stands) ∙ sym c.refusal.ensures ∙ c.in-Some.is in
-    let P : Option SessionFault → Type 0 = λ x. RefusesAs {A = Numbers} x (Err c.in-Some.fault) in
-    subst P (sym refused) refl
+returns-in-Some-clause-refused c = λ o h stands. rw (refusal o _ h _ _ _ stands c.refusal.ensures c.in-Some.is)
 
 pub returns-then-is_err-clause-refused : goal.returns-then-is_err-clause-refused
-returns-then-is_err-clause-refused c = λ o h stands.
-    let refused : refusal_of o h c.args.event.now ≡ None = sym (refusal_is o c.args.self.now h c.args.event.now stands) ∙ sym c.refusal.ensures ∙ c.in_default.is in
-    let P : Option SessionFault → Type 0 = λ x. RefusesAs {A = Numbers} x (Err NoMemory) in
-    subst P (sym refused) refl
+returns-then-is_err-clause-refused c = λ o h stands. rw (refusal o _ h _ _ _ stands c.refusal.ensures c.in_default.is)
 
 pub invariant_of-self : goal.invariant_of-self
-invariant_of-self c =
-    let taken : c.args.self.now.taken < c.args.self.now.events = (taken_by c.args.self.now c.args.event.now (sym c.refusal.ensures ∙ c.in_default.is)).1 in
-    taken_sound c.self.invariant (subst (λ (s : Core). s.taken < s.events) (sym c.self.view_is) taken)
+invariant_of-self c = taken_sound c.self.invariant (rw (← c.self.view_is) at (taken_by c.args.self.now c.args.event.now (sym c.refusal.ensures ∙ c.in_default.is)).1)
 
 pub apply-requires-clause-owed : goal.apply-requires-clause-owed
 apply-requires-clause-owed c = owed_few c.self.inside.sets.items c.self.inside.live.items c.self.invariant.commands.in_sets
 
--- the event that is taken is the next one of the history
-index_is : (s : Core) (taken : ℕ) (h : List Event) → taken ≡ s.taken → s.taken ≡ length h → taken + 1 ≡ length h + 1
-index_is s taken h same is = omega (arith, same, is)
+-- what the event that is taken does, where the session stood for those before
+record Applied (o : Setting) (h : List Event) (e : Event) (s : Core) (before after : List Effect) : Type 0 where
+  settled : Settled o s (after_event o (length h) (trace_of o h) e)
+  effects : after ≡ before ++ (next_entry o h e).effects
+  received : HasOneMore (received (trace_of o h)) (received (after_event o (length h) (trace_of o h) e))
 
-pub returns-clause-stands : goal.returns-clause-stands
-returns-clause-stands c = λ o h stands.
-    let start : Settled o (counted c.args.self.now) (trace_of o h) = Settled-counted o c.args.self.now (trace_of o h) stands.settled in
-    let from = subst (λ (s : Core). Settled o (counted s) (trace_of o h)) (sym c.self.view_is) start in
-    let e : Event = c.args.event.now in
-    let now : Settled o c.apply.new.self (after_event o (length h) (trace_of o h) e) = c.apply.ensures.settled o (length h) (trace_of o h) (index_is c.args.self.now c.self.inside.taken h (ap (λ (s : Core). s.taken) c.self.view_is) stands.taken) from in
-    let one : length (h ++ e ∷ []) ≡ length h + 1 = length_push h e in
+applied : (c : After-apply) (o : Setting) (h : List Event) → StandsFor o c.args.self.now h → Applied o h c.args.event.now c.apply.new.self c.reserve.new.self.items c.apply.new.out.items
+applied c o h stands =
+    let here = rw (← c.self.view_is) at stands in
+    let index : c.self.inside.taken + 1 ≡ length h + 1 = omega (arith, here.taken) in
+    let from = Settled-counted o _ (trace_of o h) here.settled in
     record {
-      settled = subst (Settled o c.apply.new.self) (sym (trace_of-push o h e)) now;
-      belong = belong_more o h e stands.belong (taken_belongs o h e (sym (refusal_is o c.args.self.now h e stands) ∙ sym c.refusal.ensures ∙ c.in_default.is));
-      taken = c.apply.ensures.taken ∙ ap (λ (s : Core). s.taken + 1) c.self.view_is ∙ ap (λ n. n + 1) stands.taken ∙ sym one;
+      settled = c.apply.ensures.settled o (length h) (trace_of o h) index from;
+      effects = c.apply.ensures.effects o (length h) (trace_of o h) index from;
+      received = c.apply.ensures.received o (length h) (trace_of o h) index from;
     }
 
-pub returns-clause-effects : goal.returns-clause-effects
-returns-clause-effects c = λ o h stands.
-    let start : Settled o (counted c.args.self.now) (trace_of o h) = Settled-counted o c.args.self.now (trace_of o h) stands.settled in
-    let from = subst (λ (s : Core). Settled o (counted s) (trace_of o h)) (sym c.self.view_is) start in
-    c.apply.ensures.effects o (length h) (trace_of o h) (index_is c.args.self.now c.self.inside.taken h (ap (λ (s : Core). s.taken) c.self.view_is) stands.taken) from
-    ∙ ap (λ (es : List Effect). es ++ (next_entry o h c.args.event.now).effects) c.reserve.ensures.items
-
-pub returns-clause-flow : goal.returns-clause-flow
-returns-clause-flow c = λ o h stands.
-    let start : Settled o (counted c.args.self.now) (trace_of o h) = Settled-counted o c.args.self.now (trace_of o h) stands.settled in
-    let from = subst (λ (s : Core). Settled o (counted s) (trace_of o h)) (sym c.self.view_is) start in
+-- the session stands for the event too
+stands_now : (c : After-apply) (o : Setting) (h : List Event) → StandsFor o c.args.self.now h → StandsFor o c.apply.new.self (h ++ c.args.event.now ∷ [])
+stands_now c o h stands =
     let e : Event = c.args.event.now in
-    let now : Settled o c.apply.new.self (after_event o (length h) (trace_of o h) e) = c.apply.ensures.settled o (length h) (trace_of o h) (index_is c.args.self.now c.self.inside.taken h (ap (λ (s : Core). s.taken) c.self.view_is) stands.taken) from in
-    let more : HasOneMore (received (trace_of o h)) (received (after_event o (length h) (trace_of o h) e)) = c.apply.ensures.received o (length h) (trace_of o h) (index_is c.args.self.now c.self.inside.taken h (ap (λ (s : Core). s.taken) c.self.view_is) stands.taken) from in
-    let pace : KeepsPace c.args.self.now.window c.apply.new.self.window = subst (λ (s : Core). KeepsPace s.window c.apply.new.self.window) c.self.view_is c.apply.ensures.pace in
-    subst (Flows o (trace_of o h)) (sym (trace_of-push o h e)) (Flows-step o c.args.self.now c.apply.new.self (length h) (trace_of o h) e more stands.settled now pace)
+    record {
+      settled = rw (trace_of-push o h e) (applied c o h stands).settled;
+      belong = belong_more o h e stands.belong (taken_belongs o h e (refusal o _ h _ _ _ stands c.refusal.ensures c.in_default.is));
+      taken = omega (arith, c.apply.ensures.taken, ap (λ (s : Core). s.taken) c.self.view_is, stands.taken, length_push h e);
+    }
 
-pub returns-clause-numbers : goal.returns-clause-numbers
-returns-clause-numbers c = λ o h stands.
-    let start : Settled o (counted c.args.self.now) (trace_of o h) = Settled-counted o c.args.self.now (trace_of o h) stands.settled in
-    let from = subst (λ (s : Core). Settled o (counted s) (trace_of o h)) (sym c.self.view_is) start in
-    c.numbers-numbers.ensures.value ∙ settled_numbers o c.apply.new.self (after_event o (length h) (trace_of o h) c.args.event.now) (c.apply.ensures.settled o (length h) (trace_of o h) (index_is c.args.self.now c.self.inside.taken h (ap (λ (s : Core). s.taken) c.self.view_is) stands.taken) from)
+flows : (c : After-apply) (o : Setting) (h : List Event) → StandsFor o c.args.self.now h → Flows o (trace_of o h) (trace_of o (h ++ c.args.event.now ∷ []))
+flows c o h stands =
+    let a = applied c o h stands in
+    let pace : KeepsPace c.args.self.now.window c.apply.new.self.window = rw (← c.self.view_is) c.apply.ensures.pace in
+    rw (trace_of-push o h c.args.event.now) (Flows-step o c.args.self.now c.apply.new.self (length h) (trace_of o h) c.args.event.now a.received stands.settled a.settled pace)
 
-pub returns-clause-refused : goal.returns-clause-refused
-returns-clause-refused c = λ o h stands.
-    let refused : refusal_of o h c.args.event.now ≡ None = sym (refusal_is o c.args.self.now h c.args.event.now stands) ∙ sym c.refusal.ensures ∙ c.in_default.is in
-    let P : Option SessionFault → Type 0 = λ x. RefusesAs {A = Numbers} x (Ok c.numbers-numbers.result) in
-    subst P (sym refused) tt
-
-pub returns-clause-bound : goal.returns-clause-bound
-returns-clause-bound c = λ o h stands.
-    let start : Settled o (counted c.args.self.now) (trace_of o h) = Settled-counted o c.args.self.now (trace_of o h) stands.settled in
-    let from = subst (λ (s : Core). Settled o (counted s) (trace_of o h)) (sym c.self.view_is) start in
+bounded : (c : After-apply) (o : Setting) (h : List Event) → StandsFor o c.args.self.now h → length (next_entry o h c.args.event.now).effects ≤ effect_bound_of o (trace_of o h)
+bounded c o h stands =
     let es : List Effect = (next_entry o h c.args.event.now).effects in
-    let added : length c.apply.new.out.items ≡ length c.reserve.new.self.items + length es = ap length (c.apply.ensures.effects o (length h) (trace_of o h) (index_is c.args.self.now c.self.inside.taken h (ap (λ (s : Core). s.taken) c.self.view_is) stands.taken) from) ∙ length-append c.reserve.new.self.items es in
-    let held : count_by is_held c.self.inside.window.places ≡ count_by is_held c.args.self.now.window.places = ap (λ (s : Core). count_by is_held s.window.places) c.self.view_is in
-    let waits : length c.self.inside.waiting.items ≡ length c.args.self.now.waiting = ap (λ (s : Core). length s.waiting) c.self.view_is in
-    let lives : length c.self.inside.live.items ≡ length c.args.self.now.live = ap (λ (s : Core). length s.live) c.self.view_is in
-    omega (arith, added, held, c.apply.new.out.ok.0, c.reserve.new.self.ok.0, c.apply.ensures.spent, bound_is o c.args.self.now h stands, lives, waits)
+    let added = ap length (applied c o h stands).effects ∙ length-append c.reserve.new.self.items es in
+    let here = rw (← c.self.view_is) at stands in
+    omega (arith, added, c.apply.new.out.ok.0, c.reserve.new.self.ok.0, c.apply.ensures.spent, bound_is o _ h here)
 
-pub returns-clause-delivery : goal.returns-clause-delivery
-returns-clause-delivery c = λ o h stands. stands_delivers o c.apply.new.self (h ++ c.args.event.now ∷ []) (returns-clause-stands c o h stands)
-
-pub returns-clause-enabling : goal.returns-clause-enabling
-returns-clause-enabling c = λ o h stands. stands_enables o c.apply.new.self (h ++ c.args.event.now ∷ []) (returns-clause-stands c o h stands)
-
-pub returns-clause-aborts : goal.returns-clause-aborts
-returns-clause-aborts c = λ o h stands. aborts_hold_in o (h ++ c.args.event.now ∷ [])
-
-pub returns-clause-closes : goal.returns-clause-closes
-returns-clause-closes c = λ o h stands. stands_closes o c.apply.new.self (h ++ c.args.event.now ∷ []) (returns-clause-stands c o h stands)
-
-pub returns-clause-started_once : goal.returns-clause-started_once
-returns-clause-started_once c = λ o h stands. starts_once o (h ++ c.args.event.now ∷ [])
-
-pub returns-clause-stat_sns : goal.returns-clause-stat_sns
-returns-clause-stat_sns c = λ o h stands. counts_replies o (h ++ c.args.event.now ∷ [])
-
-pub returns-clause-in_order : goal.returns-clause-in_order
-returns-clause-in_order c = λ o h stands. keeps_order o (h ++ c.args.event.now ∷ [])
-
-pub returns-clause-answered_once : goal.returns-clause-answered_once
-returns-clause-answered_once c = λ o h stands. answers_once_in o (h ++ c.args.event.now ∷ [])
-
-pub returns-clause-meaning : goal.returns-clause-meaning
-returns-clause-meaning c = λ o h stands. means_what_it_says o (h ++ c.args.event.now ∷ [])
+pub returns : goal.returns
+returns c =
+    let a : After-apply = (goal.at.returns c).After-apply in
+    let e : Event = c.args.event.now in
+    record {
+      stands = stands_now a;
+      effects = λ o h stands. (applied a o h stands).effects ∙ ap (λ (es : List Effect). es ++ (next_entry o h e).effects) c.reserve.ensures.items;
+      numbers = λ o h stands. c.numbers-numbers.ensures.value ∙ settled_numbers o c.apply.new.self _ (applied a o h stands).settled;
+      refused = λ o h stands. rw (refusal o _ h _ _ _ stands c.refusal.ensures c.in_default.is) tt;
+      err = tt;
+      err_out = tt;
+      flow = flows a;
+      delivery = λ o h stands. stands_delivers o _ _ (stands_now a o h stands);
+      enabling = λ o h stands. stands_enables o _ _ (stands_now a o h stands);
+      aborts = λ o h stands. aborts_hold_in o (h ++ e ∷ []);
+      closes = λ o h stands. stands_closes o _ _ (stands_now a o h stands);
+      started_once = λ o h stands. starts_once o (h ++ e ∷ []);
+      answered_once = λ o h stands. answers_once_in o (h ++ e ∷ []);
+      stat_sns = λ o h stands. counts_replies o (h ++ e ∷ []);
+      in_order = λ o h stands. keeps_order o (h ++ e ∷ []);
+      meaning = λ o h stands. means_what_it_says o (h ++ e ∷ []);
+      bound = bounded a;
+      room = λ o h stands fits said. cc;
+      room_for_most = λ o h stands fits said. cc;
+      capacity = omega arith;
+    }

@@ -7,7 +7,7 @@ use Rattle.iscsi_session.specs.promises.Standing.{Agrees}
 use Rattle.iscsi_session.specs.private.Steps.{KeepsPace}
 use Rattle.iscsi_session.specs.private.Functions.{owed}
 use Rattle.iscsi_session.proofs.AgendaLemmas.{Leads, left_functions}
-use Rattle.iscsi_session.proofs.session.Session.execute_waiting.Given as goal
+use Rattle.iscsi_session.proofs.session.Session.execute_all_waiting.Given as goal
 
 -- those that executed and those that wait still are the whole
 abbrev pub invariant-loop : goal.invariant-loop
