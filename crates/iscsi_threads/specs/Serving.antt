@@ -1,5 +1,5 @@
 -- What serve says.
-use Rattle.std.specs.Prelude.{◌≡◌, ℕ, ◌<◌, ◌≤◌, true, List, [], ◌++◌, length, map, slice_index, slice_index_or, Vec, vec_capacity}
+use Rattle.std.specs.Prelude.{◌≡◌, ℕ, ◌<◌, ◌≤◌, true, List, [], ◌++◌, length, map, slice_index, slice_index_or, Vec, Option, vec_capacity}
 use Rattle.std.specs.declared.alloc.Global.{Global}
 use mathlib.Core.List.{IsPrefix}
 use Rattle.iscsi_history.specs.declared.event.Event.{Event}
@@ -12,7 +12,10 @@ use Rattle.iscsi_threads.specs.declared.session_loop.Loop.{Loop}
 use Rattle.iscsi_threads.specs.declared.finish.Ended.{Ended}
 use Rattle.iscsi_threads.specs.declared.finish.Outcome.{Outcome}
 use Rattle.iscsi_threads.specs.declared.serving.Rooms.{Rooms}
-use Rattle.iscsi_threads.specs.Ports.{Answer, posted}
+use Rattle.std.specs.declared.thread.PromisedHandle.{PromisedHandle}
+use Rattle.iscsi_threads.specs.declared.posting.Posts.{Posts}
+use Rattle.iscsi_threads.specs.Promises.{AllPostedOn}
+use Rattle.iscsi_threads.specs.Ports.{Answer, posted, port_ring}
 use Rattle.iscsi_threads.specs.Outlets.{got}
 use Rattle.iscsi_threads.specs.Loops.{journal, setting, Belong}
 use Rattle.iscsi_threads.specs.Journal.{cids_of, part, done, are_sources}
@@ -56,6 +59,14 @@ pub record Served (o : Setting) (lists : List (Vec (List ℕ) Global)) (x : Outc
 pub record IsQuiet (l : Loop) (ports : List Port) : Type 0 where
   pub all_taken : map posted ports ≡ map got l.inlets.items
   pub ended : live (trace_of (setting l) (journal l)) ≡ []
+
+-- the posters gave their ports back, on which the loop alone has turned since
+pub record CameBack (posts : List (PromisedHandle (Option Port) Posts)) (many : ℕ) (ports : List Port) : Type 0 where
+  pub joined : List Port
+  pub len : length joined ≡ many
+  pub kept : AllPostedOn posts joined many
+  pub rings : map port_ring ports ≡ map port_ring joined
+  pub posted_are : map posted ports ≡ map posted joined
 
 -- the threads ran to their end: the loop, its ports and its unit ports are together again
 pub record Ran (o : Setting) (lists : List (Vec (List ℕ) Global)) (l : Loop) (ports : List Port) (units : List UnitPort) : Type 0 where

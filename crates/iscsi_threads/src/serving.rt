@@ -1,12 +1,14 @@
 //! All threads of a session.
 
-ghost use Rattle.std.specs.Prelude.{◌≡◌, ◌≢◌, ◌≤◌, ◌<◌, ◌==◌, ◌&&◌, [], ℕ, true, false, map, length, IfOk, Err, OnOk, vec_len, vec_capacity, slice_index_or};
+ghost use Rattle.std.specs.Prelude.{◌≡◌, ◌≢◌, ◌≤◌, ◌<◌, ◌==◌, ◌&&◌, [], ℕ, List, true, false, map, length, IfOk, Err, OnOk, vec_len, vec_capacity, slice_index_or};
 ghost use Rattle.iscsi_history.specs.rules.Settings.{is_valid};
 ghost use Rattle.iscsi_session.specs.promises.Settings.{setting_of};
 ghost use Rattle.iscsi_threads.specs.Ports.{posted, port_ring};
 ghost use Rattle.iscsi_threads.specs.Outlets.{inlet_ring};
 ghost use Rattle.iscsi_threads.specs.Loops.{SameLoop, Belong, Opened};
-ghost use Rattle.iscsi_threads.specs.Serving.{Served, ServedUnlogged, Ran, IsQuiet};
+ghost use Rattle.iscsi_threads.specs.Serving.{Served, ServedUnlogged, Ran, IsQuiet, CameBack};
+ghost use Rattle.iscsi_threads.specs.Promises.{AllPostedOn};
+ghost use Rattle.iscsi_threads.specs.declared.port.Port.{Port};
 
 use crate::fault::LoopFault;
 use crate::finish::{Ended, Outcome};
@@ -142,9 +144,11 @@ fn in_scope<R: Threads + Wait + Sync, W: UnitWork + Sync>(
             ensures { IfOk result (λ r. Ran (setting core) lists.entry.now r.0 r.1.items r.2.items)
                 × (result ≢ Err LoopFault.BadOptions) }
         {
-            let ran = within(rt, scope, core, ports, units, lists, work, shared);
+            let mut core = core;
+            let ran = within(rt, scope, &mut core, ports, units, lists, work, shared);
             shared.stop_all();
-            ran
+            let (ports, units) = ran?;
+            Ok((core, ports, units))
         },
     )
 }
@@ -153,19 +157,17 @@ fn in_scope<R: Threads + Wait + Sync, W: UnitWork + Sync>(
 fn within<'s, E, R: Threads + Wait + Sync, W: UnitWork + Sync>(
     rt: &'s R,
     scope: &Scope<'s, E>,
-    core: Loop,
+    core: &mut Loop,
     ports: Vec<Port>,
     units: Vec<UnitPort>,
     lists: &'s [Vec<[u8; 48]>],
     work: &'s W,
     shared: &'s Shared,
-) -> Result<(Loop, Vec<Port>, Vec<UnitPort>), LoopFault>
-    requires { Opened (setting core) core ports.items units.items × (length lists.now ≡ vec_len ports) }
-    ensures ran { IfOk result (λ r. Ran (setting core) lists.now r.0 r.1.items r.2.items) }
+) -> Result<(Vec<Port>, Vec<UnitPort>), LoopFault>
+    requires { Opened (setting core.old) core.old ports.items units.items × (length lists.now ≡ vec_len ports) }
+    ensures ran { IfOk result (λ r. Ran (setting core.old) lists.now core.new r.0.items r.1.items) }
     ensures good { result ≢ Err LoopFault.BadOptions }
 {
-    let mut core = core;
-    let mut out = Vec::new(core.alloc);
     let Ok(rooms) = Rooms::new(core.alloc, ports.len(), units.len()) else {
         return Err(LoopFault::NoMemory);
     };
@@ -180,15 +182,37 @@ fn within<'s, E, R: Threads + Wait + Sync, W: UnitWork + Sync>(
     {
         return Err(LoopFault::NoThread);
     }
-    turn_while_posting(rt, &mut core, &mut out, shared)?;
-    // Nothing tells a poster to stop before this.
-    let Some(mut ports) = join_posts(rt, posts, ports_room) else {
-        return Err(LoopFault::NoThread);
-    };
-    turn_until_quiet(rt, &mut core, &mut ports, &mut out, shared)?;
+    let ports = run_loop(rt, core, posts, ports_room, shared)?;
     shared.stop_all();
     let units = join_works(rt, works, units_room);
-    Ok((core, ports, units))
+    Ok((ports, units))
+}
+
+// Turns the loop until every list was posted and every header taken, and no command is live: the ports, which their
+// threads give back meanwhile.
+fn run_loop<'s, R: Threads + Wait>(
+    rt: &R,
+    core: &mut Loop,
+    posts: Vec<PromisedHandle<Option<Port>, Posts<'s>>>,
+    room: Vec<Port>,
+    shared: &Shared,
+) -> Result<Vec<Port>, LoopFault>
+    requires room { (room.items ≡ []) × (vec_len posts ≤ vec_capacity room) }
+    requires rings { (back : List Port) → length back ≡ vec_len posts →
+        AllPostedOn posts.items back (vec_len posts) → map port_ring back ≡ map inlet_ring core.old.inlets.items }
+    ensures same { SameLoop core.old core.new }
+    ensures ports { IfOk result (λ ports. CameBack posts.entry.items (vec_len posts.entry) ports.items) }
+    ensures quiet { IfOk result (λ ports. IsQuiet core.new ports.items) }
+    ensures good { result ≢ Err LoopFault.BadOptions }
+{
+    let mut out = Vec::new(core.alloc);
+    turn_while_posting(rt, core, &mut out, shared)?;
+    // Nothing tells a poster to stop before this.
+    let Some(mut ports) = join_posts(rt, posts, room) else {
+        return Err(LoopFault::NoThread);
+    };
+    turn_until_quiet(rt, core, &mut ports, &mut out, shared)?;
+    Ok(ports)
 }
 
 ghost use Rattle.iscsi_threads.specs.Loops.{setting};

@@ -13,21 +13,19 @@ start_works-requires-clause-fresh g c = λ lifetimes inside i d lt.
     let low : i < length c.args.units.items = search rules in
     none_answered c.args.units.items _ was.taken_are was.answered_are i d low
 
-pub turn_until_quiet-requires : goal.turn_until_quiet-requires
-turn_until_quiet-requires g c =
-    let hs = c.start_posts.new.handles in let ports = c.args.ports.items in let back = c.in-Some.ports.items in
+pub run_loop-requires-clause-rings : goal.run_loop-requires-clause-rings
+run_loop-requires-clause-rings g c = λ back len joined.
+    let hs = c.start_posts.new.handles in let ports = c.args.ports.items in
     let went : IsTrue c.start_posts.result = search rules in
     let posts : (vec_len hs ≡ vec_len c.args.ports) × AllPosts hs.items ports c.args.lists.now (vec_len c.args.ports) = c.start_posts.ensures went in
     let many : vec_len c.args.ports ≡ length ports = search rules in
     let started : vec_len hs ≡ length hs.items = search rules in
-    let returned : vec_len c.in-Some.ports ≡ length back = search rules in
-    let joined = c.in-Some.ensures in
-    let b : PostsBack ports back c.args.lists.now = posts_back hs.items ports back c.args.lists.now (omega (arith, posts.0, many, started)) (omega (arith, joined.0, posts.0, many, returned)) (omega (arith, c.requires.1, many)) (rw many at posts.1) (rw (posts.0, many) at joined.1) in
-    b.rings ∙ c.requires.0.belong.0 ∙ sym (ap (λ p. p.0) c.turn_while_posting.ensures.same.rings)
+    let b : PostsBack ports back c.args.lists.now = posts_back hs.items ports back c.args.lists.now (omega (arith, posts.0, many, started)) (omega (arith, len, posts.0, many)) (omega (arith, c.requires.1, many)) (rw many at posts.1) (rw (posts.0, many) at joined) in
+    b.rings ∙ c.requires.0.belong.0
 
 pub returns-clause-ran : goal.returns-clause-ran
 returns-clause-ran g c =
-    let hs = c.start_posts.new.handles in let ports = c.args.ports.items in let back = c.in-Some.ports.items in let ends = c.turn_until_quiet.new.ports.items in
+    let hs = c.start_posts.new.handles in let ports = c.args.ports.items in let ends = c.in_ok-ports.ports.items in
     let ws = c.start_works.new.handles in let units = c.args.units.items in let back_units = c.join_works-units.result.items in
     let lists = c.args.lists.now in
     let was = c.requires.0 in
@@ -35,9 +33,9 @@ returns-clause-ran g c =
     let posts : (vec_len hs ≡ vec_len c.args.ports) × AllPosts hs.items ports lists (vec_len c.args.ports) = c.start_posts.ensures went in
     let many : vec_len c.args.ports ≡ length ports = search rules in
     let started : vec_len hs ≡ length hs.items = search rules in
-    let returned : vec_len c.in-Some.ports ≡ length back = search rules in
-    let joined = c.in-Some.ensures in
-    let b : PostsBack ports back c.args.lists.now = posts_back hs.items ports back c.args.lists.now (omega (arith, posts.0, many, started)) (omega (arith, joined.0, posts.0, many, returned)) (omega (arith, c.requires.1, many)) (rw many at posts.1) (rw (posts.0, many) at joined.1) in
+    let came = c.in_ok-ports.ensures.ports in
+    let back = came.joined in
+    let b : PostsBack ports back lists = posts_back hs.items ports back lists (omega (arith, posts.0, many, started)) (omega (arith, came.len, posts.0, many)) (omega (arith, c.requires.1, many)) (rw many at posts.1) (rw (posts.0, many) at came.kept) in
     let went' : IsTrue c.start_works.result = search rules in
     let works : (vec_len ws ≡ vec_len c.args.units) × AllWorks ws.items units (vec_len c.args.units) = c.start_works.ensures went' in
     let joined' = c.join_works-units.ensures in
@@ -45,24 +43,21 @@ returns-clause-ran g c =
     let started' : vec_len ws ≡ length ws.items = search rules in
     let returned' : vec_len c.join_works-units.result ≡ length back_units = search rules in
     let w : WorksBack units back_units = works_back ws.items units back_units (omega (arith, works.0, many', started')) (omega (arith, joined'.0, works.0, many', returned')) (rw many' at works.1) (rw (works.0, many') at joined'.1) in
-    let quiet = c.in_ok-turn_until_quiet.ensures in
-    let first = c.turn_while_posting.ensures.same in let then' = c.turn_until_quiet.ensures.same in
-    let rings : map port_ring ends ≡ map port_ring ports = c.turn_until_quiet.ensures.rings ∙ b.rings in
-    let counts : length back ≡ length ports = omega (arith, joined.0, posts.0, many, returned) in
+    let quiet = c.in_ok-ports.ensures.quiet in
+    let same = c.run_loop.ensures.same in
+    let rings : map port_ring ends ≡ map port_ring ports = came.rings ∙ b.rings in
+    let counts : length back ≡ length ports = omega (arith, came.len, posts.0, many) in
     let len : length ends ≡ length ports = same_length port_ring port_ring ends ports rings in
     record {
-      setting_is = then'.setting ∙ first.setting;
-      belong = (
-        rings ∙ was.belong.0 ∙ sym (ap (λ p. p.0) (then'.rings ∙ first.rings)),
-        w.rings ∙ was.belong.1 ∙ sym (ap (λ p. p.1) (then'.rings ∙ first.rings)),
-      );
+      setting_is = same.setting;
+      belong = (rings ∙ was.belong.0 ∙ sym (ap (λ p. p.0) same.rings), w.rings ∙ was.belong.1 ∙ sym (ap (λ p. p.1) same.rings));
       ports_len = omega (arith, len, c.requires.1, many);
       units_len = sym (length-map back_units unit_rings) ∙ ap length w.rings ∙ length-map units unit_rings ∙ sym (length-map units taken) ∙ ap length was.taken_are ∙ length-replicate _ [];
       posted_are = λ i p x lt.
           let low : i < length ports = omega (arith, lt, c.requires.1, many) in
           let q = some_of back i (subst (λ n. i < n) (sym counts) low) in let r = some_of ports i low in
-          map_at posted posted ends back i p q c.turn_until_quiet.ensures.posted (subst (λ n. i < n) (sym len) low) (subst (λ n. i < n) (sym counts) low)
+          map_at posted posted ends back i p q came.posted_are (subst (λ n. i < n) (sym len) low) (subst (λ n. i < n) (sym counts) low)
           ∙ b.posted_more i r q x low ∙ ap (λ (l : List (List ℕ)). l ++ (get_or lists i x).items) (each_empty posted ports _ was.posted_are i r low);
-      quiet = quiet.quiet;
+      quiet = quiet;
       in_turn = λ i q lt. w.in_turn i q (omega (arith, lt, joined'.0, works.0, many', returned'));
     }
