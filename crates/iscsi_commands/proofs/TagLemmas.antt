@@ -1,5 +1,5 @@
 -- A command's places in the two orders.
-use Rattle.std.proofs.Common.{◌≡◌, ◌≢◌, ℕ, zero, suc, ◌<◌, ◌≤◌, ◌==◌, cond, Bool, true, false, List, [], ◌∷◌, ◌++◌, length, find, get_or, All, Some, None, refl, ap, sym, subst, ◌∙◌, arith, ⊎_elim, eq-eqb}
+use Rattle.std.proofs.Common.{◌≡◌, ◌≢◌, ℕ, zero, suc, ◌<◌, ◌≤◌, ◌==◌, cond, Bool, true, false, List, [], ◌∷◌, ◌++◌, length, find, get_or, All, Some, None, refl, ap, sym, subst, ◌∙◌, arith, ⊎_elim, eq-eqb, nat_lt, lt-ltb}
 use Rattle.std.specs.List.{list_any, remove, insert}
 use Rattle.std.proofs.lemmas.Bool.{cases_Bool, cases_eq, cases_lt, false≢true, eqb-true}
 use Rattle.std.proofs.lemmas.List.{length-append}
@@ -14,7 +14,7 @@ use Rattle.iscsi_slots.proofs.SortedLemmas.{same_place, find_nowhere, pushed_up,
 use Rattle.iscsi_commands.specs.declared.live.Live.{Live}
 use Rattle.iscsi_commands.specs.declared.key.Key.TheVariants.{Ticket, Tag}
 use Rattle.iscsi_commands.specs.Commands.{AreTagsApart, find_tag}
-use Rattle.iscsi_commands.specs.Kept.{BLANK, commands, key_of, AreKept}
+use Rattle.iscsi_commands.specs.Kept.{BLANK, commands, key_of, order_of_tags, AreKept}
 use Rattle.iscsi_commands.proofs.KeptLemmas.{length-commands, command_is, tags_shared, ticket_within, tag_within}
 
 -- the first that passes, where all that pass are the same
@@ -25,6 +25,34 @@ find_same p (x ∷ xs) (suc k) d within passes same = ⊎_elim
     (λ yes. ap (λ b. cond b (Some x) (find p xs)) yes ∙ ap Some (same zero (omega arith) yes))
     (λ no. ap (λ b. cond b (Some x) (find p xs)) no ∙ find_same p xs k d (omega (arith, within)) passes (λ i l. same (suc i) (omega (arith, l))))
     (cases_Bool (p x))
+
+-- ---- the order of the tags, kept apart or not
+
+pub apart_is : {has_apart : Bool} (by_ticket by_tag : List ℕ) → has_apart ≡ true → by_tag ≡ order_of_tags has_apart by_ticket by_tag
+apart_is by_ticket by_tag is = ap (λ b. order_of_tags b by_ticket by_tag) (sym is)
+
+-- a slot leaves the order of the tags as it leaves that of the tickets
+pub record IsOut (has_apart : Bool) (by_ticket by_tag : List ℕ) (k : ℕ) (has_after : Bool) (after : List ℕ) : Type 0 where
+  pub at : ℕ
+  pub inside : at < length (order_of_tags has_apart by_ticket by_tag)
+  pub there : get_or (order_of_tags has_apart by_ticket by_tag) at 0 ≡ get_or by_ticket k 0
+  pub left : order_of_tags has_after (remove by_ticket k) after ≡ remove (order_of_tags has_apart by_ticket by_tag) at
+
+-- an order that is apart until no slot is left
+until_none : (xs ys : List ℕ) → length ys ≡ length xs → order_of_tags (nat_lt 0 (length xs)) ys xs ≡ xs
+until_none [] [] long = refl
+until_none [] (y ∷ ys) long = absurd (omega (arith, long))
+until_none (x ∷ xs) ys long = ap (λ b. order_of_tags b ys (x ∷ xs)) (lt-ltb 0 (length (x ∷ xs)) (omega arith))
+
+pub out_apart : {has_apart : Bool} (by_ticket by_tag : List ℕ) (k at : ℕ) → has_apart ≡ true → length by_tag ≡ length by_ticket → k < length by_ticket → at < length by_tag → get_or by_tag at 0 ≡ get_or by_ticket k 0
+    → IsOut has_apart by_ticket by_tag k (nat_lt 0 (length (remove by_tag at))) (remove by_tag at)
+out_apart by_ticket by_tag k at is long l inside there =
+    let a = length-remove by_ticket k l in let b = length-remove by_tag at inside in
+    subst (λ h. IsOut h by_ticket by_tag k (nat_lt 0 (length (remove by_tag at))) (remove by_tag at)) (sym is)
+    (record { at = at; inside = inside; there = there; left = until_none (remove by_tag at) (remove by_ticket k) (omega (arith, a, b, long)) })
+
+pub out_of_one : {has_apart : Bool} (by_ticket by_tag : List ℕ) (k : ℕ) → has_apart ≡ false → k < length by_ticket → IsOut has_apart by_ticket by_tag k has_apart by_tag
+out_of_one by_ticket by_tag k is l = subst (λ h. IsOut h by_ticket by_tag k h by_tag) (sym is) (record { at = k; inside = l; there = refl; left = refl })
 
 module _ {slots : List Live} {free by_ticket by_tag : List ℕ} {room ticket_room tag_room : ℕ} (kept : AreKept slots free by_ticket by_tag room ticket_room tag_room) where
   -- each slot of one order stands in the other
@@ -107,7 +135,7 @@ module _ {slots : List Live} {free by_ticket by_tag : List ℕ} {room ticket_roo
   -- ---- a command leaves
 
   -- its place in the order of tags is where the search for its tag ends
-  pub tag_at : (k : ℕ) (d : Live) (itt at : ℕ) → (l : k < length by_ticket) → (get_or slots (get_or by_ticket k 0) d).itt ≡ itt → ((i : ℕ) (e : Live) → i < at → (get_or (commands slots by_tag) i e).itt < itt) → ((i : ℕ) (e : Live) → at ≤ i → i < length by_tag → itt ≤ (get_or (commands slots by_tag) i e).itt) → (tag_place k l).place ≡ at
+  tag_at : (k : ℕ) (d : Live) (itt at : ℕ) → (l : k < length by_ticket) → (get_or slots (get_or by_ticket k 0) d).itt ≡ itt → ((i : ℕ) (e : Live) → i < at → (get_or (commands slots by_tag) i e).itt < itt) → ((i : ℕ) (e : Live) → at ≤ i → i < length by_tag → itt ≤ (get_or (commands slots by_tag) i e).itt) → (tag_place k l).place ≡ at
   tag_at k d itt at l is below above =
       let m = tag_place k l in let inside = m.inside in
       let tags_long = length-commands slots by_tag in
@@ -123,11 +151,14 @@ module _ {slots : List Live} {free by_ticket by_tag : List ℕ} {room ticket_roo
       (cases_eq m.place at))
       (cases_lt m.place at)
 
-  pub kept_without : (k at : ℕ) → (l : k < length by_ticket) → (tag_place k l).place ≡ at → AreKept slots (free ++ get_or by_ticket k 0 ∷ []) (remove by_ticket k) (remove by_tag at) room ticket_room tag_room
-  kept_without k at l here =
+  pub tag_stands : (k : ℕ) (d : Live) (itt at : ℕ) → k < length by_ticket → (get_or slots (get_or by_ticket k 0) d).itt ≡ itt → ((i : ℕ) (e : Live) → i < at → (get_or (commands slots by_tag) i e).itt < itt) → ((i : ℕ) (e : Live) → at ≤ i → i < length by_tag → itt ≤ (get_or (commands slots by_tag) i e).itt) → (at < length by_tag) × (get_or by_tag at 0 ≡ get_or by_ticket k 0)
+  tag_stands k d itt at l is below above =
       let m = tag_place k l in
-      let inside : at < length by_tag = subst (λ n. n < length by_tag) here m.inside in
-      let there : get_or by_tag at 0 ≡ get_or by_ticket k 0 = ap (λ n. get_or by_tag n 0) (sym here) ∙ m.there in
+      let here = tag_at k d itt at l is below above in
+      (subst (λ n. n < length by_tag) here m.inside, ap (λ n. get_or by_tag n 0) (sym here) ∙ m.there)
+
+  pub kept_without : (k at : ℕ) → k < length by_ticket → at < length by_tag → get_or by_tag at 0 ≡ get_or by_ticket k 0 → AreKept slots (free ++ get_or by_ticket k 0 ∷ []) (remove by_ticket k) (remove by_tag at) room ticket_room tag_room
+  kept_without k at l inside there =
       record {
         shared = shared_without kept.shared k l;
         same = λ slot.

@@ -1,5 +1,5 @@
 -- How the live commands are kept: each in a slot, and the slots in the order of the tickets and in that of the tags.
-use Rattle.std.specs.Prelude.{◌≡◌, ℕ, ◌<◌, false, List, length}
+use Rattle.std.specs.Prelude.{◌≡◌, ℕ, ◌<◌, false, Bool, List, length, if◌then◌else◌}
 use Rattle.std.specs.List.{AllPairs}
 use Rattle.iscsi_commands.specs.declared.live.Live.{Live}
 use Rattle.iscsi_commands.specs.declared.key.Key.{Key}
@@ -21,6 +21,10 @@ commands slots order = values BLANK slots order
 -- keys go up along the order
 abbrev pub IsSortedBy : Key → List Live → List ℕ → Type 0
 IsSortedBy by slots order = AllPairs (λ a b. key_of by a < key_of by b) (commands slots order)
+
+-- the order of the tags: that of the tickets, where no other one is kept apart
+abbrev pub order_of_tags : Bool → List ℕ → List ℕ → List ℕ
+order_of_tags has_apart by_ticket by_tag = if has_apart then by_tag else by_ticket
 
 -- both orders have the slots that aren't free
 pub record AreKept (slots : List Live) (free by_ticket by_tag : List ℕ) (room ticket_room tag_room : ℕ) : Type 0 where

@@ -1,10 +1,10 @@
 //! The live commands.
 
 ghost use Rattle.std.specs.Prelude.{◌≡◌, ◌==◌, ◌<◌, ◌≤◌, ◌++◌, [], ◌∷◌, ℕ, true, false, length, slice_index_or, All, IfOk};
-ghost use Rattle.std.specs.List.{remove, list_any};
+ghost use Rattle.std.specs.List.{remove, insert, list_any};
 ghost use Rattle.iscsi_slots.specs.Queued.{queued};
 ghost use Rattle.iscsi_commands.specs.Commands.{AreAscending, AreTagsApart, IsTicketPlace, find_ticket, find_tag, without_ticket};
-ghost use Rattle.iscsi_commands.specs.Kept.{IsSortedBy, commands, key_of};
+ghost use Rattle.iscsi_commands.specs.Kept.{IsSortedBy, commands, key_of, order_of_tags};
 
 use crate::key::Key;
 use crate::live::Live;
@@ -16,24 +16,31 @@ use std::marker::Model;
 ///
 /// A command keeps its slot until it is taken out. Its place in either order is found by binary search, so the cost
 /// of a call is bounded for any tags that an initiator chooses.
+///
+/// While tags go up with the tickets, as those of most initiators do, one order serves for both.
 #[derive(Drop)]
 pub struct Commands {
     slots: Slots<Live>,
+    /// The slots in the order of the tickets.
     by_ticket: Order,
+    /// The slots in the order of the tags, where `has_apart` tells that it counts.
     by_tag: Order,
+    /// Whether the order of the tags is kept apart: since a command entered with a tag below that of another one, until
+    /// no command is left.
+    has_apart: bool,
 }
 
 impl Model for Commands {
     ghost use Rattle.iscsi_slots.specs.Queued.{Queued, queued};
     ghost use Rattle.iscsi_commands.specs.declared.live.Live.{Live};
-    ghost use Rattle.iscsi_commands.specs.Kept.{commands, AreKept};
+    ghost use Rattle.iscsi_commands.specs.Kept.{commands, order_of_tags, AreKept};
 
     ghost Value = { Queued Live };
 
     ghost view = { λ c. queued (commands c.slots.values c.by_ticket.items) c.slots.room };
 
-    ghost invariant = { λ c. AreKept c.slots.values c.slots.free c.by_ticket.items c.by_tag.items c.slots.room
-        c.by_ticket.room c.by_tag.room };
+    ghost invariant = { λ c. AreKept c.slots.values c.slots.free c.by_ticket.items
+        (order_of_tags c.has_apart c.by_ticket.items c.by_tag.items) c.slots.room c.by_ticket.room c.by_tag.room };
 }
 
 impl Commands {
@@ -46,6 +53,7 @@ impl Commands {
             slots: Slots::with_room(alloc, room)?,
             by_ticket: Order::with_room(alloc, room)?,
             by_tag: Order::with_room(alloc, room)?,
+            has_apart: false,
         })
     }
 
@@ -92,10 +100,10 @@ impl Commands {
         ensures command { result ≡ find_tag itt self.now.items }
         ensures alone { AreTagsApart self.now.items }
     {
-        let newest = self.by_tag.len();
-        let at = first_from(&self.by_tag, &self.slots, Key::Tag, u64::from(itt), newest);
-        if at < self.by_tag.len() {
-            let command = self.slots.at(self.by_tag.at(at));
+        let tags = tags_of(self.has_apart, &self.by_ticket, &self.by_tag);
+        let at = first_from(tags, &self.slots, Key::Tag, u64::from(itt), tags.len());
+        if at < tags.len() {
+            let command = self.slots.at(tags.at(at));
             if command.itt == itt {
                 return Some(*command);
             }
@@ -110,17 +118,23 @@ impl Commands {
         requires unused { list_any (λ l. l.itt == command.itt) self.old.items ≡ false }
         ensures { self.new ≡ queued (self.old.items ++ command ∷ []) self.old.room }
     {
-        let newest = self.by_tag.len();
+        let tags = tags_of(self.has_apart, &self.by_ticket, &self.by_tag);
         let at = first_from(
-            &self.by_tag,
+            tags,
             &self.slots,
             Key::Tag,
             u64::from(command.itt),
-            newest,
+            tags.len(),
         );
         let slot = self.slots.put(command);
+        enter_by_tag(
+            &mut self.has_apart,
+            &self.by_ticket,
+            &mut self.by_tag,
+            at,
+            slot,
+        );
         self.by_ticket.push(slot);
-        self.by_tag.insert(at, slot);
     }
 
     /// The command at a place leaves. Where tags were given out in order, it has the same place by tag.
@@ -129,10 +143,13 @@ impl Commands {
         ensures { self.new ≡ queued (remove self.old.items k) self.old.room }
     {
         let slot = self.by_ticket.at(k);
-        let itt = self.slots.at(slot).itt;
-        let at = first_from(&self.by_tag, &self.slots, Key::Tag, u64::from(itt), k);
+        if self.has_apart {
+            let itt = self.slots.at(slot).itt;
+            let at = first_from(&self.by_tag, &self.slots, Key::Tag, u64::from(itt), k);
+            self.by_tag.remove(at);
+            self.has_apart = self.by_tag.len() > 0;
+        }
         self.by_ticket.remove(k);
-        self.by_tag.remove(at);
         self.slots.give_back(slot);
     }
 
@@ -144,6 +161,39 @@ impl Commands {
             self.remove_at(at);
         }
     }
+}
+
+/// The order of the tags: that of the tickets, where no other one is kept apart.
+fn tags_of<'a>(has_apart: bool, by_ticket: &'a Order, by_tag: &'a Order) -> &'a Order
+    ensures { result.now.items ≡ order_of_tags has_apart by_ticket.now.items by_tag.now.items }
+{
+    if has_apart { by_tag } else { by_ticket }
+}
+
+/// A slot enters the order of the tags at a place, which is kept apart from now on where that isn't the last one.
+fn enter_by_tag(
+    has_apart: &mut bool,
+    by_ticket: &Order,
+    by_tag: &mut Order,
+    at: usize,
+    slot: u16,
+)
+    requires place { at ≤ length (order_of_tags has_apart.old by_ticket.now.items by_tag.old.items) }
+    requires room { length by_ticket.now.items < by_tag.old.room }
+    requires long { length (order_of_tags has_apart.old by_ticket.now.items by_tag.old.items)
+        ≡ length by_ticket.now.items }
+    ensures order { order_of_tags has_apart.new (by_ticket.now.items ++ slot ∷ []) by_tag.new.items
+        ≡ insert (order_of_tags has_apart.old by_ticket.now.items by_tag.old.items) at slot }
+    ensures room { by_tag.new.room ≡ by_tag.old.room }
+{
+    if !*has_apart {
+        if at == by_ticket.len() {
+            return;
+        }
+        by_tag.copy_from(by_ticket);
+        *has_apart = true;
+    }
+    by_tag.insert(at, slot);
 }
 
 /// How many commands of an order have a lower key. Where that is `guess`, it looks at the two places beside it alone.
