@@ -8,6 +8,8 @@ use Rattle.iscsi_window.specs.declared.answer.Place.{Place}
 use Rattle.iscsi_window.specs.declared.answer.Place.TheVariants.{Inside, Outside as NoPlace}
 use Rattle.iscsi_window.specs.Windows.{Received, number_expected, room_of, at_place, place_in, find_command}
 use Rattle.iscsi_tasks.specs.Sets.{is_covered}
+use Rattle.iscsi_session.specs.declared.response.Response.TheVariants.{NoTask}
+use Rattle.iscsi_session.specs.private.Codes.{response_code}
 use Rattle.iscsi_session.specs.declared.outcome.Outcome.{Outcome}
 use Rattle.iscsi_session.specs.declared.outcome.Outcome.TheVariants.{Respond, Abort, AbortAll, Empty as EmptyNumber, Void as VoidNumber}
 use Rattle.iscsi_session.specs.declared.session.waiting.Waiting.{Waiting}
@@ -58,7 +60,7 @@ pub record VoidsMissing (w : Received) (t : Trace) (a : Arrival) (fm : List Mark
 
 -- the marks of a function to a unit are those that its outcome tells
 abbrev pub OutcomeIs : Setting → Received → Trace → Arrival → ℕ → List Mark → Outcome → Type 0
-OutcomeIs o w t a unit fm (Respond response) = fm ≡ answer a response
+OutcomeIs o w t a unit fm (Respond response) = fm ≡ answer a (response_code response)
 OutcomeIs o w t a unit fm (Abort ticket) = fm ≡ map Leaves (covered_in o t unit (covers_ticket ticket)) ++ answer a 0
 OutcomeIs o w t a unit fm (AbortAll cover) = fm ≡ map Leaves (covered_in o t unit (is_covered cover)) ++ answer a 0
 OutcomeIs o w t a unit fm (EmptyNumber sn) = EmptiesHeld w t a fm sn
@@ -81,7 +83,7 @@ none_below w r unit n next shows =
     let none : lift (number_expected w) (cmd_sn r) - number_expected w ≡ 0 = omega (arith, own, next) in
     rw none
 
-numbered_place : (s : Core) (r : Request) (p : Place) → is_immediate r ≡ false → missing_at s r p ≡ Respond 1
+numbered_place : (s : Core) (r : Request) (p : Place) → is_immediate r ≡ false → missing_at s r p ≡ Respond NoTask
 numbered_place s r NoPlace later = refl
 numbered_place s r (Inside k) later = rw later
 
@@ -147,7 +149,7 @@ module _ (o : Setting) (s : Core) (t : Trace) (a : Arrival) (unit : ℕ) where
       marks_are : abort_task o t a unit ≡ cond ((nat_le e n && nat_lt n (e + room_of s.window)) && nat_lt n a.number) (cond (is_received t n) [] (Voids n ∷ []) ++ answer a 0) (answer a 1)
       marks_are = marks ∙ rw (at_once, max, exp, within_window e n (length s.window.places) s.window.unfinished (omega arith) h.few) refl
 
-      by_own : (b : Bool) → e ≤ n → n < e + room_of s.window → abort_task o t a unit ≡ cond b (cond (is_received t n) [] (Voids n ∷ []) ++ answer a 0) (answer a 1) → AbortsAs o s.window t a unit (cond b (VoidNumber (ref_cmd_sn a.request)) (Respond 1))
+      by_own : (b : Bool) → e ≤ n → n < e + room_of s.window → abort_task o t a unit ≡ cond b (cond (is_received t n) [] (Voids n ∷ []) ++ answer a 0) (answer a 1) → AbortsAs o s.window t a unit (cond b (VoidNumber (ref_cmd_sn a.request)) (Respond NoTask))
       by_own true low high said = record { marks = said; low = low; high = high }
       by_own false low high said = said
 

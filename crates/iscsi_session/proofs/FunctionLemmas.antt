@@ -16,6 +16,9 @@ use Rattle.iscsi_tasks.specs.declared.cover.Cover.TheVariants.{Below}
 use Rattle.iscsi_tasks.specs.Sets.{is_covered}
 use Rattle.iscsi_history.specs.declared.effect.Effect.{Effect}
 use Rattle.iscsi_history.specs.declared.effect.Effect.TheVariants.{Deliver, Immediate}
+use Rattle.iscsi_session.specs.declared.response.Response.{Response}
+use Rattle.iscsi_session.specs.declared.response.Response.TheVariants.{Complete, Succeeded}
+use Rattle.iscsi_session.specs.private.Codes.{response_code}
 use Rattle.iscsi_session.specs.declared.outcome.Outcome.{Outcome}
 use Rattle.iscsi_session.specs.declared.outcome.Outcome.TheVariants.{Respond, Abort, AbortAll, Empty as EmptyNumber, Void as VoidNumber}
 use Rattle.iscsi_commands.specs.declared.live.Live.{Live}
@@ -92,6 +95,11 @@ record Windowed (o : Setting) (s : Core) (t : Trace) (m : Mark) : Type 0 where
   quiet : IsQuiet (m ∷ [])
   arrived : ArrivalsAgree s.window s.arrived t
 
+-- the code of a query's response
+asked_code : (there : Bool) → cond there 7 0 ≡ response_code (cond there Succeeded Complete)
+asked_code true = refl
+asked_code false = refl
+
 same_live : (o : Setting) (s : Core) (t : Trace) (m : Mark) (e : Effect) (a : Arrival) → Begun o s t m e a → (unit : ℕ) → live_in unit ((m ∷ []) ∷ t) ≡ live_in unit t
 same_live o s t m e a b unit = live_in-untouched (m ∷ []) t (untouched-begun o s t m e a b [] (search)) unit
 
@@ -117,8 +125,8 @@ module _ (o : Setting) (s : Core) (t : Trace) (m : Mark) (e : Effect) (a : Arriv
           → OutcomeIs o s.window t' a unit (function_to o t' a unit) (outcome_by s a.request position event unit)
       by_code true five nine ten is f g h = rw is (aborts is)
       by_code false true nine ten is f g h = rw (is, f)
-      by_code false false true ten is f g h = rw (is, f, g) (ap (query a) (asked (λ c. itt c.arrival.request == rtt a.request) (λ l. l.unit == unit && l.itt == rtt a.request) (λ c. refl)))
-      by_code false false false true is f g h = rw (is, f, g, h) (ap (query a) (asked (λ c. true) (λ l. l.unit == unit) (λ c. sym (and_true (c.unit == unit)))))
+      by_code false false true ten is f g h = rw (is, f, g) (ap (query a) (asked (λ c. itt c.arrival.request == rtt a.request) (λ l. l.unit == unit && l.itt == rtt a.request) (λ c. refl)) ∙ ap (answer a) (asked_code _))
+      by_code false false false true is f g h = rw (is, f, g, h) (ap (query a) (asked (λ c. true) (λ l. l.unit == unit) (λ c. sym (and_true (c.unit == unit)))) ∙ ap (answer a) (asked_code _))
       by_code false false false false is f g h = rw (is, f, g, h) (before_is position event position_is event_is)
 
 module _ (o : Setting) (s : Core) (t : Trace) (m : Mark) (e : Effect) (a : Arrival) (b : Begun o s t m e a) (unit : ℕ) (inside : unit < o.units) where
@@ -157,8 +165,8 @@ module _ (o : Setting) (s : Core) (t : Trace) (m : Mark) (e : Effect) (a : Arriv
   abbrev Performs : Outcome → List Mark → Type 0
   Performs x fm = Follows o t (m ∷ fm) (performed_as s a.request unit x) (e ∷ performance_effects s a.request unit x)
 
-  responds : (response : ℕ) → Performs (Respond response) (answer a response)
-  responds response = follows (answered o s t m e a b (TaskReply (itt a.request) response))
+  responds : (response : Response) → Performs (Respond response) (answer a (response_code response))
+  responds response = follows (answered o s t m e a b (TaskReply (itt a.request) (response_code response)))
 
   performs_void : (sn : ℕ) (fm : List Mark) → OutcomeIs o s.window ((m ∷ []) ∷ t) a unit fm (VoidNumber sn) → Windowed o s t m → Performs (VoidNumber sn) fm
   performs_void sn fm is before = by_known (is_received t n) refl
@@ -173,7 +181,7 @@ module _ (o : Setting) (s : Core) (t : Trace) (m : Mark) (e : Effect) (a : Arriv
       v = voided_at o s.window t sn n before.window is.low is.high refl
 
       by_known : (b : Bool) → is_received t n ≡ b → Performs (VoidNumber sn) fm
-      by_known true there = rw (is.marks, v.known there, v.received_is, same, there) (responds 0)
+      by_known true there = rw (is.marks, v.known there, v.received_is, same, there) (responds Complete)
       by_known false gone = rw (is.marks, v.new gone, v.received_is, same, gone, ← wire-lift (number_expected s.window) sn)
           (windowed (n - number_expected s.window) (Voids n) before (WindowAgrees-voided o s.window t m n (answer a 0) before.window before.quiet quiet_answer is.low is.high gone) (search))
 

@@ -5,11 +5,14 @@
 mod closing;
 mod deferral;
 mod fault;
-mod kind;
+mod function;
 mod log;
+mod opcode;
 mod options;
 mod outcome;
+mod reason;
 mod report;
+mod response;
 mod session;
 
 pub use fault::SessionFault;

@@ -1,12 +1,13 @@
 //! What a task management function comes to.
 
+use crate::response::Response;
 use iscsi_tasks::Cover;
 
 /// What a task management function that isn't refused comes to (RFC 7143 section 11.5, SAM-5 section 7).
 #[derive(Clone, Copy)]
 pub enum Outcome {
     /// This response, and nothing else.
-    Respond(u8),
+    Respond(Response),
     /// The command with this ticket leaves its task set.
     Abort(u64),
     /// The covered commands of the unit leave its task set.

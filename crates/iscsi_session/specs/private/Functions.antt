@@ -18,6 +18,8 @@ use Rattle.iscsi_history.specs.declared.effect.Effect.{Effect}
 use Rattle.iscsi_history.specs.declared.effect.Effect.TheVariants.{Void, Empty, Leave}
 use Rattle.iscsi_session.specs.declared.outcome.Outcome.{Outcome}
 use Rattle.iscsi_session.specs.declared.outcome.Outcome.TheVariants.{Respond, Abort, AbortAll, Empty as EmptyNumber, Void as VoidNumber}
+use Rattle.iscsi_session.specs.declared.response.Response.TheVariants.{Complete, NoTask, Succeeded}
+use Rattle.iscsi_session.specs.private.Codes.{response_code}
 use Rattle.iscsi_commands.specs.declared.live.Live.{Live}
 use Rattle.iscsi_session.specs.promises.Standing.{Core}
 use Rattle.iscsi_session.specs.private.Steps.{set_at, with_set, all_given, enable_effects, is_numbered, with_reply, reply_effects}
@@ -62,8 +64,8 @@ TASK_COMPLETE = 0
 
 -- ABORT TASK, of a number that may not have come yet
 abbrev pub missing_at : Core → Request → Place → Outcome
-missing_at s r Outside = Respond 1
-missing_at s r (Inside k) = if is_immediate r && nat_lt (number_expected s.window + k) (lift (number_expected s.window) (cmd_sn r)) then VoidNumber (ref_cmd_sn r) else Respond 1
+missing_at s r Outside = Respond NoTask
+missing_at s r (Inside k) = if is_immediate r && nat_lt (number_expected s.window + k) (lift (number_expected s.window) (cmd_sn r)) then VoidNumber (ref_cmd_sn r) else Respond NoTask
 
 -- the live command of the unit with this tag
 abbrev pub tagged_in : Core → ℕ → ℕ → Option Live
@@ -80,7 +82,7 @@ abort_by s r unit =
     ]
 
 abbrev pub answer_if : Bool → Outcome
-answer_if there = Respond (if there then 7 else 0)
+answer_if there = Respond (if there then Succeeded else Complete)
 
 -- a function to the unit, of this number less the first one, that arrived in this event
 abbrev pub outcome_by : Core → Request → ℤ → ℕ → ℕ → Outcome
@@ -121,7 +123,7 @@ abbrev pub void_effects : Core → ℕ → List Effect
 void_effects s w = if is_received_at s.window (place_in s.window w) then [] else Void (wire w) ∷ []
 
 abbrev pub performance_effects : Core → Request → ℕ → Outcome → List Effect
-performance_effects s r unit (Respond response) = response_effects s r response
+performance_effects s r unit (Respond response) = response_effects s r (response_code response)
 performance_effects s r unit (Abort ticket) = abort_effects s r unit (covers_ticket ticket)
 performance_effects s r unit (AbortAll cover) = abort_effects s r unit (is_covered cover)
 performance_effects s r unit (EmptyNumber w) = Empty w ∷ response_effects s r TASK_COMPLETE

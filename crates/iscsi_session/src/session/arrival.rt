@@ -17,7 +17,7 @@ ghost use Rattle.iscsi_session.specs.private.Steps.{KeepsPace, noted_in, with_of
 ghost use Rattle.iscsi_session.specs.private.Functions.{owed};
 ghost use Rattle.iscsi_session.specs.private.Turning.{turned_if, turn_effects, comes_next};
 
-use crate::kind::kind_of;
+use crate::opcode::kind_of;
 use crate::session::Session;
 use iscsi_history::{Effect, Kind, Why};
 use iscsi_window::{Offer, Place};

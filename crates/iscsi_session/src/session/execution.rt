@@ -7,11 +7,13 @@ ghost use Rattle.iscsi_window.specs.Windows.{HasRoom};
 ghost use Rattle.iscsi_history.specs.rules.Settings.{is_known as known_in};
 ghost use Rattle.iscsi_history.specs.rules.Execution.{MOST_IMMEDIATE, reject as reject_of, attr_of as attr_named, scsi_verdict, nop_verdict};
 ghost use Rattle.iscsi_session.specs.promises.Standing.{stat_sn_on, is_held};
+ghost use Rattle.iscsi_session.specs.private.Codes.{reason_code};
 ghost use Rattle.iscsi_session.specs.private.Steps.{set_at, is_set_full, is_tag_kept, is_crowded_by, immediate_in, counted_on, place_in, verdict_by, number_by, event_by, started, with_command, entry_effects, with_reply, reply_effects, executed_as, execution_effects, count_reply};
 ghost use Rattle.iscsi_session.specs.private.Functions.{owed};
 ghost use Rattle.iscsi_session.specs.private.Turning.{with_executed, executed_effects};
 
-use crate::kind::{LOGOUT, NOP_OUT, TASK_MANAGEMENT, TEXT};
+use crate::opcode::Opcode;
+use crate::reason::Reason;
 use crate::session::{Session, sets};
 use iscsi_commands::Live;
 use iscsi_connections::Connections;
@@ -25,15 +27,6 @@ pub(crate) const NO_TAG: u32 = 0xffff_ffff;
 
 /// The greatest ATTR that names a task attribute (RFC 7143 section 11.3.1).
 const GREATEST_ATTR: u8 = 3;
-
-/// Reject: command not supported (RFC 7143 section 11.17.1).
-const NOT_SUPPORTED: u8 = 0x05;
-
-/// Reject: task in progress (RFC 7143 section 11.17.1).
-const TASK_IN_PROGRESS: u8 = 0x07;
-
-/// Reject: invalid PDU field (RFC 7143 section 11.17.1).
-pub(crate) const INVALID_FIELD: u8 = 0x09;
 
 impl Session {
     /// Executes the request of the number that has turned last, which arrived in this event.
@@ -87,7 +80,7 @@ impl Session {
         ensures len { vec_len out.new ≡ vec_len out.old + 1 }
         ensures capacity { vec_capacity out.new ≡ vec_capacity out.old }
     {
-        let reply = rejection(request, NOT_SUPPORTED);
+        let reply = rejection(request, Reason::NotSupported);
         self.reply(request.conn(), reply, out);
     }
 
@@ -107,13 +100,18 @@ impl Session {
         ensures waiting { length self.new.waiting ≤ length self.old.waiting }
         ensures capacity { vec_capacity out.new ≡ vec_capacity out.old }
     {
-        match request.opcode() {
-            TASK_MANAGEMENT => {
+        match Opcode::of(request) {
+            Opcode::TaskManagement => {
                 let number = self.position(request);
                 self.manage(request, number, event, out);
             }
-            LOGOUT => self.log_out(request, out),
-            _ => self.answer_or_enter(request, out),
+            Opcode::Logout => self.log_out(request, out),
+            Opcode::NopOut
+            | Opcode::ScsiCommand
+            | Opcode::Text
+            | Opcode::DataOut
+            | Opcode::Snack
+            | Opcode::Unknown => self.answer_or_enter(request, out),
         }
     }
 
@@ -144,10 +142,16 @@ impl Session {
         requires { known_in (connection_of request.now) self.now.conns ≡ true }
         ensures { result ≡ verdict_by self.now request.now }
     {
-        match request.opcode() {
-            NOP_OUT => nop_verdict(request),
-            TEXT => reject(request, NOT_SUPPORTED),
-            _ => self.scsi_verdict(request),
+        match Opcode::of(request) {
+            Opcode::NopOut => nop_verdict(request),
+            Opcode::Text => reject(request, Reason::NotSupported),
+            // Of the others SCSI Commands alone come here.
+            Opcode::ScsiCommand
+            | Opcode::TaskManagement
+            | Opcode::DataOut
+            | Opcode::Logout
+            | Opcode::Snack
+            | Opcode::Unknown => self.scsi_verdict(request),
         }
     }
 
@@ -161,9 +165,9 @@ impl Session {
     {
         let itt = request.itt();
         if itt == NO_TAG || request.attr() > GREATEST_ATTR {
-            reject(request, INVALID_FIELD)
+            reject(request, Reason::InvalidField)
         } else if self.is_tag_live(itt) {
-            reject(request, TASK_IN_PROGRESS)
+            reject(request, Reason::TaskInProgress)
         } else {
             sets::verdict_in(request, self.is_crowded(request), &self.sets)
         }
@@ -312,18 +316,18 @@ fn nop_verdict(request: &Request) -> Verdict
 }
 
 /// What comes of a request that is rejected.
-pub(crate) fn reject(request: &Request, reason: u8) -> Verdict
-    ensures { result ≡ reject_of request.now reason }
+pub(crate) fn reject(request: &Request, reason: Reason) -> Verdict
+    ensures { result ≡ reject_of request.now (reason_code reason) }
 {
     Verdict::Answer(rejection(request, reason))
 }
 
 /// A Reject of the request, which shows its whole header.
-pub(crate) fn rejection(request: &Request, reason: u8) -> Reply
-    ensures { result ≡ Reply.Reject reason (header_of request.now) }
+pub(crate) fn rejection(request: &Request, reason: Reason) -> Reply
+    ensures { result ≡ Reply.Reject (reason_code reason) (header_of request.now) }
 {
     Reply::Reject {
-        reason,
+        reason: reason as u8,
         header: request.bytes(),
     }
 }

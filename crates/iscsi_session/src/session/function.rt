@@ -6,22 +6,15 @@ ghost use Rattle.iscsi_window.specs.Windows.{place_in, IsInside, held_at, voided
 ghost use Rattle.iscsi_session.specs.promises.Standing.{is_held};
 ghost use Rattle.iscsi_session.specs.private.Functions.{tagged_in, abort_by, missing_at, answer_if as answer_of, outcome_by, void_effects};
 
+use crate::function::Function;
 use crate::outcome::Outcome;
+use crate::response::Response;
 use crate::session::Session;
-use crate::session::management::{
-    ABORT_TASK, COMPLETE, LOGICAL_UNIT_RESET, QUERY_TASK, QUERY_TASK_SET,
-};
 use iscsi_commands::Live;
 use iscsi_history::Effect;
 use iscsi_tasks::Cover;
 use iscsi_window::Place;
 use iscsi_wire::{Request, distance};
-
-/// Task does not exist (RFC 7143 section 11.6.1).
-const NO_TASK: u8 = 1;
-
-/// Function succeeded (RFC 7144).
-const SUCCEEDED: u8 = 7;
 
 impl Session {
     /// What a function to a unit comes to, of this number less the first CmdSN, that arrived in this event.
@@ -31,12 +24,16 @@ impl Session {
         requires unit { unit < length self.now.sets }
         ensures { result ≡ outcome_by self.now request.now number event unit }
     {
-        match request.function() {
-            ABORT_TASK => self.abort_task(request, unit),
-            LOGICAL_UNIT_RESET => Outcome::AbortAll(Cover::All),
-            QUERY_TASK => answer_if(self.tagged(request.rtt(), unit).is_some()),
-            QUERY_TASK_SET => answer_if(self.sets[usize::from(unit)].len() > 0),
-            _ => Outcome::AbortAll(Cover::Below { pos: number, event }),
+        match Function::of(request) {
+            Function::AbortTask => self.abort_task(request, unit),
+            Function::LogicalUnitReset => Outcome::AbortAll(Cover::All),
+            Function::QueryTask => answer_if(self.tagged(request.rtt(), unit).is_some()),
+            Function::QueryTaskSet => answer_if(self.sets[usize::from(unit)].len() > 0),
+            // Of the others ABORT TASK SET and CLEAR TASK SET alone come here: the rest is refused.
+            Function::AbortTaskSet
+            | Function::ClearTaskSet
+            | Function::TaskReassign
+            | Function::Unsupported => Outcome::AbortAll(Cover::Below { pos: number, event }),
         }
     }
 
@@ -63,13 +60,13 @@ impl Session {
         ensures { result ≡ missing_at self.now request.now (place_in self.now.window (referenced request.now)) }
     {
         let Place::Inside(ahead) = self.window.place(request.ref_cmd_sn()) else {
-            return Outcome::Respond(NO_TASK);
+            return Outcome::Respond(Response::NoTask);
         };
         let own = distance(self.window.exp(), request.cmd_sn());
         if request.immediate() && i64::from(ahead) < own {
             Outcome::Void(request.ref_cmd_sn())
         } else {
-            Outcome::Respond(NO_TASK)
+            Outcome::Respond(Response::NoTask)
         }
     }
 
@@ -128,5 +125,5 @@ impl Session {
 fn answer_if(there: bool) -> Outcome
     ensures { result ≡ answer_of there }
 {
-    Outcome::Respond(if there { SUCCEEDED } else { COMPLETE })
+    Outcome::Respond(if there { Response::Succeeded } else { Response::Complete })
 }

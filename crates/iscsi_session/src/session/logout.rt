@@ -5,34 +5,18 @@ ghost use Rattle.iscsi_wire.specs.Fields.{connection_of, itt as tag_of, cid as c
 ghost use Rattle.iscsi_window.specs.Windows.{is_asked};
 ghost use Rattle.iscsi_history.specs.rules.Settings.{is_known as known_in};
 ghost use Rattle.iscsi_session.specs.promises.Standing.{is_held};
+ghost use Rattle.iscsi_session.specs.private.Codes.{logout_response_code};
 ghost use Rattle.iscsi_session.specs.private.Functions.{owed};
 ghost use Rattle.iscsi_session.specs.private.Closing.{is_among_open, closing_by, closed_as, closed_effects, logged_out, logout_effects, cover_of as cover_named, covers_of, units_of, with_all_left, all_leaving_effects, with_emptied, is_clear_below, emptying_effects, with_dropped, ended_if, session_closes, with_closed, close_effects, with_all_given, all_enable_effects};
 
-use crate::closing::Closing;
+use crate::closing::{Closing, LogoutReason, LogoutResponse};
+use crate::reason::Reason;
 use crate::session::Session;
-use crate::session::execution::{INVALID_FIELD, NO_TAG, rejection};
+use crate::session::execution::{NO_TAG, rejection};
 use iscsi_history::Effect;
 use iscsi_tasks::Cover;
 use iscsi_wire::{Reply, Request};
 use std::alloc::Global;
-
-/// Reason: close the session (RFC 7143 section 11.14.1).
-const CLOSE_SESSION: u8 = 0;
-
-/// Reason: close the connection.
-const CLOSE_CONN: u8 = 1;
-
-/// Reason: remove the connection for recovery.
-const REMOVE_FOR_RECOVERY: u8 = 2;
-
-/// Response: closed (RFC 7143 section 11.15.1).
-const CLOSED: u8 = 0;
-
-/// Response: CID not found.
-const NO_CONN: u8 = 1;
-
-/// Response: connection recovery isn't supported.
-const NO_RECOVERY: u8 = 2;
 
 impl Session {
     /// Whether a connection isn't closed.
@@ -68,13 +52,13 @@ impl Session {
         ensures { result ≡ closing_by self.now request.now }
     {
         if request.itt() == NO_TAG {
-            return Closing::Refused(rejection(request, INVALID_FIELD));
+            return Closing::Refused(rejection(request, Reason::InvalidField));
         }
-        match request.reason() {
-            CLOSE_SESSION => Closing::Session,
-            CLOSE_CONN => self.closing_conn(request),
-            REMOVE_FOR_RECOVERY => refused(request, NO_RECOVERY),
-            _ => Closing::Refused(rejection(request, INVALID_FIELD)),
+        match LogoutReason::of(request) {
+            LogoutReason::CloseSession => Closing::Session,
+            LogoutReason::CloseConn => self.closing_conn(request),
+            LogoutReason::RemoveForRecovery => refused(request, LogoutResponse::NoRecovery),
+            LogoutReason::Unknown => Closing::Refused(rejection(request, Reason::InvalidField)),
         }
     }
 
@@ -88,7 +72,7 @@ impl Session {
         if self.is_open(request.cid()) {
             Closing::Conn(request.cid())
         } else {
-            refused(request, NO_CONN)
+            refused(request, LogoutResponse::NoConn)
         }
     }
 
@@ -108,7 +92,7 @@ impl Session {
         self.empty_all(scope, out);
         self.drop_waiting(scope);
         let itt = request.itt();
-        let response = CLOSED;
+        let response = LogoutResponse::Closed as u8;
         self.reply(request.conn(), Reply::Logout { itt, response }, out);
         self.close(scope, out);
         self.announce_all(out);
@@ -227,10 +211,11 @@ impl Session {
 }
 
 /// A Logout Request that closes nothing.
-fn refused(request: &Request, response: u8) -> Closing
-    ensures { result ≡ Closing.Refused (Reply.Logout (tag_of request.now) response) }
+fn refused(request: &Request, response: LogoutResponse) -> Closing
+    ensures { result ≡ Closing.Refused (Reply.Logout (tag_of request.now) (logout_response_code response)) }
 {
     let itt = request.itt();
+    let response = response as u8;
     Closing::Refused(Reply::Logout { itt, response })
 }
 

@@ -2,63 +2,31 @@
 
 ghost use Rattle.std.specs.Prelude.{ℕ, pos, ◌-ℤ◌, ◌≡◌, ◌==◌, ◌&&◌, ◌+◌, ◌*◌, ◌≤◌, ◌<◌, true, false, [], ◌++◌, ◌∷◌, find, length, count_by, is_some, vec_len, vec_capacity, None};
 ghost use Rattle.iscsi_wire.specs.Serial.{number_of_first};
-ghost use Rattle.iscsi_wire.specs.Fields.{connection_of, is_immediate, itt as tag_of};
+ghost use Rattle.iscsi_wire.specs.Fields.{connection_of, is_immediate, function as function_of, itt as tag_of};
 ghost use Rattle.iscsi_window.specs.Windows.{number_expected, HasRoom, IsInside, place_in, held_at};
 ghost use Rattle.iscsi_history.specs.rules.Settings.{is_known as known_in};
 ghost use Rattle.iscsi_history.specs.rules.Management.{may_wait as may_wait_named, is_supported as supported_at, refusal_to};
 ghost use Rattle.iscsi_session.specs.promises.Standing.{stat_sn_on, is_held};
+ghost use Rattle.iscsi_session.specs.private.Codes.{response_code};
 ghost use Rattle.iscsi_session.specs.private.Steps.{KeepsPace, with_reply, reply_effects};
 ghost use Rattle.iscsi_session.specs.private.Functions.{outcome_by, performed_as, performance_effects, owed};
 ghost use Rattle.iscsi_session.specs.private.Turning.{performed, performed_effects, managed, managed_effects, next_waiting, function_if, function_effects, wait_by, deferral_by, with_waiting, immediate_as, immediate_effects};
 
 use crate::deferral::Deferral;
-use crate::kind::TASK_MANAGEMENT;
+use crate::function::Function;
+use crate::opcode::Opcode;
 use crate::outcome::Outcome;
+use crate::reason::Reason;
+use crate::response::Response;
 use crate::session::Session;
-use crate::session::execution::{INVALID_FIELD, NO_TAG, rejection};
-use crate::session::sets::{TOO_MANY_IMMEDIATE, unit_named};
+use crate::session::execution::{NO_TAG, rejection};
+use crate::session::sets::unit_named;
 use crate::session::waiting::{MOST, Waiting, count_on, dequeue, first_at};
 use iscsi_history::Effect;
 use iscsi_wire::{Reply, Request, distance};
 
-/// ABORT TASK (RFC 7143 section 11.5.1).
-pub(crate) const ABORT_TASK: u8 = 1;
-
-/// ABORT TASK SET.
-const ABORT_TASK_SET: u8 = 2;
-
-/// CLEAR TASK SET.
-const CLEAR_TASK_SET: u8 = 4;
-
-/// LOGICAL UNIT RESET.
-pub(crate) const LOGICAL_UNIT_RESET: u8 = 5;
-
-/// TASK REASSIGN.
-const TASK_REASSIGN: u8 = 8;
-
-/// QUERY TASK (RFC 7144).
-pub(crate) const QUERY_TASK: u8 = 9;
-
-/// QUERY TASK SET (RFC 7144).
-pub(crate) const QUERY_TASK_SET: u8 = 10;
-
 /// The protocol level that knows the queries.
 const LEVEL_OF_QUERIES: u32 = 2;
-
-/// Response: function complete (RFC 7143 section 11.6.1).
-pub(crate) const COMPLETE: u8 = 0;
-
-/// Response: LUN does not exist.
-const NO_UNIT: u8 = 2;
-
-/// Response: task allegiance reassignment not supported.
-const NO_REASSIGNMENT: u8 = 4;
-
-/// Response: task management function not supported.
-const NO_FUNCTION: u8 = 5;
-
-/// Response: function rejected.
-const REJECTED: u8 = 255;
 
 impl Session {
     /// An immediate request executes, or is a function that is deferred or is refused for its number.
@@ -84,11 +52,11 @@ impl Session {
             Deferral::Now => self.execute_at_once(request, out),
             Deferral::Later => self.wait(request, out),
             Deferral::TooFar => {
-                let response = REJECTED;
+                let response = Response::Rejected as u8;
                 self.refuse(request, Reply::Task { itt, response }, out);
             }
             Deferral::TooMany => {
-                self.refuse(request, rejection(&request, TOO_MANY_IMMEDIATE), out)
+                self.refuse(request, rejection(&request, Reason::TooManyImmediate), out)
             }
         }
     }
@@ -98,7 +66,7 @@ impl Session {
         requires { is_immediate request.now ≡ true }
         ensures { result ≡ deferral_by self.now request.now }
     {
-        if request.opcode() != TASK_MANAGEMENT || !may_wait(request) {
+        if !matches!(Opcode::of(request), Opcode::TaskManagement) || !may_wait(request) {
             return Deferral::Now;
         }
         match self.wait_for(request) {
@@ -219,17 +187,18 @@ impl Session {
     {
         let itt = request.itt();
         if itt == NO_TAG {
-            return Some(rejection(request, INVALID_FIELD));
+            return Some(rejection(request, Reason::InvalidField));
         }
-        let response = if request.function() == TASK_REASSIGN {
-            NO_REASSIGNMENT
-        } else if !is_supported(self.level, request.function()) {
-            NO_FUNCTION
+        let response = if matches!(Function::of(request), Function::TaskReassign) {
+            Response::NoReassignment
+        } else if !is_supported(self.level, request) {
+            Response::NotSupported
         } else if unit_named(request, self.sets.len()).is_none() {
-            NO_UNIT
+            Response::NoUnit
         } else {
             return None;
         };
+        let response = response as u8;
         Some(Reply::Task { itt, response })
     }
 
@@ -274,36 +243,37 @@ impl Session {
             Outcome::Respond(response) => self.respond(request, response, out),
             Outcome::Abort(ticket) => {
                 self.leave_one(unit, ticket, out);
-                self.respond(request, COMPLETE, out);
+                self.respond(request, Response::Complete, out);
                 self.announce_enabled(unit, out);
             }
             Outcome::AbortAll(cover) => {
                 self.leave_covered(unit, &cover, out);
-                self.respond(request, COMPLETE, out);
+                self.respond(request, Response::Complete, out);
                 self.announce_enabled(unit, out);
             }
             Outcome::Empty(sn) => {
                 self.empty_number(sn, out);
-                self.respond(request, COMPLETE, out);
+                self.respond(request, Response::Complete, out);
             }
             Outcome::Void(sn) => {
                 self.void_number(sn, out);
-                self.respond(request, COMPLETE, out);
+                self.respond(request, Response::Complete, out);
             }
         }
     }
 
     /// A function is answered.
-    fn respond(&mut self, request: &Request, response: u8, out: &mut Vec<Effect>)
+    fn respond(&mut self, request: &Request, response: Response, out: &mut Vec<Effect>)
         requires known { known_in (connection_of request.now) self.old.conns ≡ true }
         requires room { vec_len out.old + 1 ≤ vec_capacity out.old }
         ensures session { self.new ≡ with_reply self.old (connection_of request.now) }
         ensures effects { out.new.items ≡ out.old.items
-            ++ reply_effects self.old (connection_of request.now) (Reply.Task (tag_of request.now) response) }
+            ++ reply_effects self.old (connection_of request.now) (Reply.Task (tag_of request.now) (response_code response)) }
         ensures len { vec_len out.new ≡ vec_len out.old + 1 }
         ensures capacity { vec_capacity out.new ≡ vec_capacity out.old }
     {
         let itt = request.itt();
+        let response = response as u8;
         self.reply(request.conn(), Reply::Task { itt, response }, out);
     }
 }
@@ -313,19 +283,26 @@ fn may_wait(request: &Request) -> bool
     requires { is_immediate request.now ≡ true }
     ensures { result ≡ may_wait_named request.now }
 {
-    matches!(
-        request.function(),
-        ABORT_TASK_SET | CLEAR_TASK_SET | LOGICAL_UNIT_RESET
-    )
+    match Function::of(request) {
+        Function::AbortTaskSet | Function::ClearTaskSet | Function::LogicalUnitReset => true,
+        Function::AbortTask
+        | Function::TaskReassign
+        | Function::QueryTask
+        | Function::QueryTaskSet
+        | Function::Unsupported => false,
+    }
 }
 
 /// Whether the protocol level knows a function.
-fn is_supported(level: u32, function: u8) -> bool
-    ensures { result ≡ supported_at level function }
+fn is_supported(level: u32, request: &Request) -> bool
+    ensures { result ≡ supported_at level (function_of request.now) }
 {
-    match function {
-        ABORT_TASK | ABORT_TASK_SET | CLEAR_TASK_SET | LOGICAL_UNIT_RESET => true,
-        QUERY_TASK | QUERY_TASK_SET => level == LEVEL_OF_QUERIES,
-        _ => false,
+    match Function::of(request) {
+        Function::AbortTask
+        | Function::AbortTaskSet
+        | Function::ClearTaskSet
+        | Function::LogicalUnitReset => true,
+        Function::QueryTask | Function::QueryTaskSet => level == LEVEL_OF_QUERIES,
+        Function::TaskReassign | Function::Unsupported => false,
     }
 }

@@ -6,6 +6,7 @@ ghost use Rattle.iscsi_tasks.specs.Sets.{opened, tasks_in, with_ticket, IsNewest
 ghost use Rattle.iscsi_history.specs.rules.Execution.{scsi_to, unit_named};
 ghost use Rattle.iscsi_session.specs.private.Steps.{is_set_full, place_in, all_given, enable_effect, enable_effects, set_without};
 
+use crate::reason::Reason;
 use crate::session::execution::reject;
 use iscsi_commands::Live;
 use iscsi_history::{Effect, Verdict};
@@ -18,9 +19,6 @@ pub(crate) const CHECK_CONDITION: u8 = 0x02;
 
 /// The status TASK SET FULL.
 const TASK_SET_FULL: u8 = 0x28;
-
-/// Reject: too many immediate commands (RFC 7143 section 11.17.1).
-pub(crate) const TOO_MANY_IMMEDIATE: u8 = 0x06;
 
 /// ILLEGAL REQUEST, LOGICAL UNIT NOT SUPPORTED.
 const NO_UNIT: Sense = Sense {
@@ -57,7 +55,7 @@ pub(crate) fn verdict_in(request: &Request, is_crowded: bool, sets: &[TaskSet]) 
         });
     };
     if is_crowded {
-        return reject(request, TOO_MANY_IMMEDIATE);
+        return reject(request, Reason::TooManyImmediate);
     }
     if is_full(&sets[usize::from(unit)]) {
         return Verdict::Answer(Reply::Scsi {

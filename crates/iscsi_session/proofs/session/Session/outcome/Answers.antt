@@ -25,15 +25,15 @@ any_in_set sets lives unit i set match at read inside =
     let long : length set.list ≡ length (filter (λ l. l.unit == unit) lives) = rw same at (simp length-map at (ap length (match unit inside))) in
     rw (long, any_filtered)
 
-pub returns-in-9 : goal.returns-in-9
-returns-in-9 c =
+pub returns-in-QueryTask : goal.returns-in-QueryTask
+returns-in-QueryTask c =
     let f : function c.args.request.now ≡ 9 = search rules in
     let there : c.is_some.result ≡ is_some (tagged_in c.args.self.now (rtt c.args.request.now) c.args.unit) = search rules in
     c.answer_if.ensures ∙ rw (f, any_found, there)
 
-pub returns-in-10 : goal.returns-in-10
-returns-in-10 c =
+pub returns-in-QueryTaskSet : goal.returns-in-QueryTaskSet
+returns-in-QueryTaskSet c =
     let f : function c.args.request.now ≡ 10 = search rules in
     let inside : c.args.unit < length c.self.inside.sets.items = rw (← c.self.view_is) at c.requires.unit in
     let there = any_in_set c.self.inside.sets.items c.self.inside.live.items c.args.unit c.from.result c.index.result.now c.self.invariant.commands.in_sets c.from.ensures c.index.ensures inside in
-    c.answer_if-in-10.ensures ∙ rw (f, c.len.ensures.len, there, ← c.self.view_is)
+    c.answer_if-in-QueryTaskSet.ensures ∙ rw (f, c.len.ensures.len, there, ← c.self.view_is)
