@@ -269,7 +269,7 @@ fn halve(order: &Order, slots: &Slots<Live>, by: Key, key: u64) -> usize
     let mut low = 0;
     let mut high = order.len();
     while low < high {
-        let middle = low + (high - low) / 2;
+        let middle = (low + high) / 2;
         if key_at(order, slots, by, middle) < key {
             low = middle + 1;
         } else {

@@ -45,6 +45,13 @@ half_from low high = omega arith
 pub half_to : (low high : ℕ) → low < high → low + (high - low) / 2 < high
 half_to low high l = let half : (high - low) / 2 < high - low = div-lt_self (omega (arith, l)) (omega arith) in omega (arith, l, half)
 
+-- the same place, by the sum of both ends
+pub middle_from : (low high : ℕ) → low ≤ high → low ≤ (low + high) / 2
+middle_from low high l = omega (arith, l)
+
+pub middle_to : (low high : ℕ) → low < high → (low + high) / 2 < high
+middle_to low high l = omega (arith, l)
+
 -- the ticket isn't there, as the first of those that aren't lower, if there is one, has another
 pub not_there : {X : Type 0} (ticket : X → ℕ) (xs : List X) (n at : ℕ) → AreAscending ticket xs → ((k : ℕ) (d : X) → k < at → ticket (get_or xs k d) < n) → ((k : ℕ) (d : X) → at ≤ k → k < length xs → n ≤ ticket (get_or xs k d)) → (at < length xs → (d : X) → ticket (get_or xs at d) ≢ n) → All (λ x. (ticket x == n) ≡ false) xs
 not_there ticket xs n at ascending below above other = λ k d l. ne_eqb (ticket (get_or xs k d)) n (λ same. ⊎_elim

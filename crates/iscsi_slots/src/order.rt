@@ -50,6 +50,7 @@ impl Order {
     pub fn len(&self) -> usize
         ensures len { result ≡ length self.now.items }
         ensures most { self.now.room ≤ 65535 }
+        ensures within { length self.now.items ≤ self.now.room }
     {
         self.places.len() - self.head
     }
