@@ -171,13 +171,7 @@ fn tags_of<'a>(has_apart: bool, by_ticket: &'a Order, by_tag: &'a Order) -> &'a 
 }
 
 /// A slot enters the order of the tags at a place, which is kept apart from now on where that isn't the last one.
-fn enter_by_tag(
-    has_apart: &mut bool,
-    by_ticket: &Order,
-    by_tag: &mut Order,
-    at: usize,
-    slot: u16,
-)
+fn enter_by_tag(has_apart: &mut bool, by_ticket: &Order, by_tag: &mut Order, at: usize, slot: u16)
     requires place { at ≤ length (order_of_tags has_apart.old by_ticket.now.items by_tag.old.items) }
     requires room { length by_ticket.now.items < by_tag.old.room }
     requires long { length (order_of_tags has_apart.old by_ticket.now.items by_tag.old.items)

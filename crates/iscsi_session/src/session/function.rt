@@ -125,5 +125,10 @@ impl Session {
 fn answer_if(there: bool) -> Outcome
     ensures { result ≡ answer_of there }
 {
-    Outcome::Respond(if there { Response::Succeeded } else { Response::Complete })
+    let response = if there {
+        Response::Succeeded
+    } else {
+        Response::Complete
+    };
+    Outcome::Respond(response)
 }

@@ -1,4 +1,4 @@
-use Rattle.std.proofs.Common.{◌+◌, ◌-◌, ◌/◌, arith}
+use Rattle.std.proofs.Common.{◌+◌, ◌/◌, arith}
 use Rattle.iscsi_slots.proofs.HalvingLemmas.{halved_up, halved_down, middle_from, middle_to}
 use Rattle.iscsi_commands.specs.Kept.{commands, key_of}
 use Rattle.iscsi_commands.proofs.KeptLemmas.{length-commands}

@@ -1,4 +1,4 @@
-use Rattle.std.proofs.Common.{◌≡◌, ℕ, ◌<◌, List, ◌++◌, [], ◌∷◌, length, get_or, nat_lt, ap, refl, sym, subst, ◌∙◌, arith}
+use Rattle.std.proofs.Common.{◌≡◌, ℕ, ◌<◌, ◌++◌, [], ◌∷◌, length, get_or, nat_lt, ap, refl, sym, subst, ◌∙◌, arith}
 use Rattle.std.specs.List.{remove}
 use Rattle.iscsi_slots.specs.Queued.{Queued, queued}
 use Rattle.iscsi_slots.specs.Slots.{Slotted, slotted}
@@ -40,20 +40,22 @@ is_out c =
     let order = c.self.inside.by_ticket.items in
     let l = within c.self.inside c.self.view_is c.requires in
     elim c.if-self.branch [
-    | then-self w ↦
-        let command : Live = w.at.result.now in
-        let read = w.at.ensures command ∙ ap (λ s. get_or c.self.inside.slots.values s command) c.at-slot.ensures in
-        let kept = kept_by (apart_is order tags w.if-self.true) c.self.invariant in
-        let stands = tag_stands kept c.args.k command w.from.result w.first_from-at.result l (sym (ap (λ (x : Live). x.itt) read) ∙ sym w.from.ensures) w.first_from-at.ensures.below w.first_from-at.ensures.above in
-        subst (λ i. IsOutOf c.self.inside i c.args.k) (sym w.self-inside-is) (record {
-          out =
-              let is_left = IsOut c.self.inside.has_apart order tags c.args.k in
-              subst (λ n. is_left (nat_lt 0 n) w.remove.new.self.items) (sym w.len.ensures.len)
-              (subst (λ (o : Queued ℕ). is_left (nat_lt 0 (length o.items)) o.items) (sym w.remove.ensures)
-              (out_apart order tags c.args.k w.first_from-at.result w.if-self.true kept.long l stands.0 stands.1));
-          slots = refl; tickets = refl; room = ap (λ (o : Queued ℕ). o.room) w.remove.ensures;
-        })
-    | else-self w ↦ subst (λ i. IsOutOf c.self.inside i c.args.k) (sym w.self-inside-is) (record { out = out_of_one order tags c.args.k w.if-self.false l; slots = refl; tickets = refl; room = refl; })
+      | then-self w ↦
+          let command : Live = w.at.result.now in
+          let read = w.at.ensures command ∙ ap (λ s. get_or c.self.inside.slots.values s command) c.at-slot.ensures in
+          let kept = kept_by (apart_is order tags w.if-self.true) c.self.invariant in
+          let stands = tag_stands kept c.args.k command w.from.result w.first_from-at.result l (sym (ap (λ (x : Live). x.itt) read) ∙ sym w.from.ensures) w.first_from-at.ensures.below w.first_from-at.ensures.above in
+          subst (λ i. IsOutOf c.self.inside i c.args.k) (sym w.self-inside-is) (record {
+            out =
+                let is_left = IsOut c.self.inside.has_apart order tags c.args.k in
+                subst (λ n. is_left (nat_lt 0 n) w.remove.new.self.items) (sym w.len.ensures.len)
+                (subst (λ (o : Queued ℕ). is_left (nat_lt 0 (length o.items)) o.items) (sym w.remove.ensures)
+                (out_apart order tags c.args.k w.first_from-at.result w.if-self.true kept.long l stands.0 stands.1));
+            slots = refl;
+            tickets = refl;
+            room = ap (λ (o : Queued ℕ). o.room) w.remove.ensures;
+          })
+      | else-self w ↦ subst (λ i. IsOutOf c.self.inside i c.args.k) (sym w.self-inside-is) (record { out = out_of_one order tags c.args.k w.if-self.false l; slots = refl; tickets = refl; room = refl })
     ]
 
 gave : (c : goal.After-give_back) → c.give_back.new.self ≡ slotted c.self.inside.slots.values (c.self.inside.slots.free ++ get_or c.self.inside.by_ticket.items c.args.k 0 ∷ []) c.self.inside.slots.room
