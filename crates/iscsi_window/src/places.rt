@@ -82,8 +82,8 @@ pub(crate) fn fill(places: &mut Places, k: u32, held: Option<Request>) -> bool
     requires { k < length places.old.items }
     ensures answer { result ≡ not (is_some (slice_index_or places.old.items k None)) }
     ensures state { places.new ≡ buffer
-        (if is_some (slice_index_or places.old.items k None) then places.old.items else slice_set places.old.items k (Some held))
-        places.old.capacity }
+        (if is_some (slice_index_or places.old.items k None) then places.old.items
+        else slice_set places.old.items k (Some held)) places.old.capacity }
 {
     let Some(place) = places.ring.get_mut(k as usize) else {
         unreachable!();

@@ -268,7 +268,8 @@ impl Session {
         requires room { vec_len out.old + 1 ≤ vec_capacity out.old }
         ensures session { self.new ≡ with_reply self.old (connection_of request.now) }
         ensures effects { out.new.items ≡ out.old.items
-            ++ reply_effects self.old (connection_of request.now) (Reply.Task (tag_of request.now) (response_code response)) }
+            ++ reply_effects self.old (connection_of request.now)
+            (Reply.Task (tag_of request.now) (response_code response)) }
         ensures len { vec_len out.new ≡ vec_len out.old + 1 }
         ensures capacity { vec_capacity out.new ≡ vec_capacity out.old }
     {
