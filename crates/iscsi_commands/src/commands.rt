@@ -1,6 +1,6 @@
 //! The live commands.
 
-ghost use Rattle.std.specs.Prelude.{◌≡◌, ◌==◌, ◌<◌, ◌≤◌, ◌++◌, [], ◌∷◌, ℕ, true, false, length, slice_index_or, All, IfOk};
+ghost use Rattle.std.specs.Prelude.{◌≡◌, ◌↔◌, ◌==◌, ◌<◌, ◌≤◌, ◌++◌, [], ◌∷◌, ℕ, true, false, length, slice_index_or, All, IfOk};
 ghost use Rattle.std.specs.List.{remove, insert, list_any};
 ghost use Rattle.iscsi_slots.specs.Queued.{queued};
 ghost use Rattle.iscsi_commands.specs.Commands.{AreAscending, AreTagsApart, IsTicketPlace, find_ticket, find_tag, without_ticket};
@@ -217,8 +217,8 @@ fn is_above_before(order: &Order, slots: &Slots<Live>, by: Key, key: u64, at: us
         slice_index_or order.now.items k 0 < length slots.now.values }
     requires sorted { IsSortedBy by slots.now.values order.now.items }
     requires place { at ≤ length order.now.items }
-    ensures { result ≡ true → (k : ℕ) (d : Live) → k < at →
-        key_of by (slice_index_or (commands slots.now.values order.now.items) k d) < key }
+    ensures { (result ≡ true) ↔ ((k : ℕ) (d : Live) → k < at →
+        key_of by (slice_index_or (commands slots.now.values order.now.items) k d) < key) }
 {
     if at == 0 {
         return true;
@@ -231,8 +231,8 @@ fn is_reached_from(order: &Order, slots: &Slots<Live>, by: Key, key: u64, at: us
     requires within { (k : ℕ) → k < length order.now.items →
         slice_index_or order.now.items k 0 < length slots.now.values }
     requires sorted { IsSortedBy by slots.now.values order.now.items }
-    ensures { result ≡ true → (k : ℕ) (d : Live) → at ≤ k → k < length order.now.items →
-        key ≤ key_of by (slice_index_or (commands slots.now.values order.now.items) k d) }
+    ensures { (result ≡ true) ↔ ((k : ℕ) (d : Live) → at ≤ k → k < length order.now.items →
+        key ≤ key_of by (slice_index_or (commands slots.now.values order.now.items) k d)) }
 {
     if at >= order.len() {
         return true;

@@ -7,6 +7,9 @@ ghost use Rattle.iscsi_slots.specs.Queued.{queued};
 use std::alloc::{AllocError, Global};
 use std::marker::Model;
 
+/// A copy takes slots in blocks of so many, and then those left over one by one.
+const BLOCK: usize = 16;
+
 /// Slots in an order. A slot is a number of two bytes, so that what moves when one comes or goes among the others is
 /// short.
 #[derive(Drop)]
@@ -156,6 +159,15 @@ fn close_down(order: &mut Vec<u16>, head: usize, count: usize)
     ensures capacity { vec_capacity order.new ≡ vec_capacity order.old }
 {
     if count > 0 {
-        order.copy_within(head..head + count, head + 1);
+        let from = head - filler(head, count);
+        order.copy_within(from..head + count, from + 1);
     }
+}
+
+/// How many places that no slot has, before the first one, move along with so many slots, so that whole blocks move.
+fn filler(head: usize, count: usize) -> usize
+    ensures { result ≤ head }
+{
+    let over = count % BLOCK;
+    if over == 0 { 0 } else { head.min(BLOCK - over) }
 }

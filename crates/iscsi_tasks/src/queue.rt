@@ -1,6 +1,6 @@
 //! The commands of a set in the order in which they entered.
 
-ghost use Rattle.std.specs.Prelude.{◌≡◌, ℕ, ◌+◌, ◌<◌, ◌≤◌, ◌==◌, [], ◌∷◌, ◌++◌, map, take, drop, length, position, slice_index_or, find, option_map, option_and_then, slice_get, All, true, false};
+ghost use Rattle.std.specs.Prelude.{◌≡◌, ◌↔◌, ℕ, ◌+◌, ◌<◌, ◌≤◌, ◌==◌, [], ◌∷◌, ◌++◌, map, take, drop, length, position, slice_index_or, find, option_map, option_and_then, slice_get, All, true, false};
 ghost use Rattle.std.specs.List.{position_or_len, remove};
 ghost use Rattle.iscsi_tasks.specs.Sets.{InOrder, after_moment, is_head_of, is_covered, is_new, next_in, given_in, uncovered, list_staying, ticket_if};
 ghost use Rattle.iscsi_tasks.specs.Counted.{IsPlaceOf, IsEnabledPlace, IsCounted, AreHeadsEnabled, is_ordered_in, free_to, enabled_now, covered_from_in};
@@ -67,8 +67,8 @@ fn first_from(members: &Roster, ticket: u64) -> usize
 
 /// Whether the command at a place has this ticket.
 fn is_at(members: &Roster, at: usize, ticket: u64) -> bool
-    ensures { result ≡ true → (at < length members.now.items)
-        × ((d : Member) → (slice_index_or members.now.items at d).task.ticket ≡ ticket) }
+    ensures { (result ≡ true) ↔ ((at < length members.now.items)
+        × ((d : Member) → (slice_index_or members.now.items at d).task.ticket ≡ ticket)) }
 {
     at < members.len() && members.at(at).task.ticket == ticket
 }

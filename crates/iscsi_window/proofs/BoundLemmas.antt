@@ -1,16 +1,13 @@
 -- The bounds stay right where a place is written, and where the first one turns; a search from a bound on.
 use Rattle.std.proofs.Common.{◌≡◌, ◌∙◌, ℕ, zero, suc, ◌+◌, ◌-◌, ◌%◌, ◌^◌, ◌<◌, ◌≤◌, ◌==◌, ◌++◌, Bool, true, false, cond, List, [], ◌∷◌, length, min, nat_lt, take, drop, replicate, set, get_or, position, Option, Some, None, arith, ap, sym, refl, subst, ⊎_elim, length-set, get_or-set_same, get_or-set_other}
-use Rattle.std.specs.List.{slice_get}
 use Rattle.std.proofs.lemmas.Bool.{cases_eq, cases_lt, lt-ltb, eqb-true}
-use Rattle.std.proofs.lemmas.Option.{slice_get_within}
 use Rattle.std.proofs.lemmas.List.{get_or_past, get_or-take, get_or-replicate, length-take, length-replicate}
 use Rattle.std.proofs.lemmas.List.Sums.{position_or_len_is}
 use Rattle.std.proofs.lemmas.List.Quantifiers.{position-Some}
-use Rattle.circular_buffer.specs.Buffer.{Buffer, buffer, keep_last}
 use Rattle.iscsi_wire.specs.declared.request.Request.{Request}
 use Rattle.iscsi_window.specs.Windows.{is_command}
 use Rattle.iscsi_window.specs.Tags.{group_of, is_none_of, occupied, vacated, IsCounted, AreBounds}
-use Rattle.iscsi_window.proofs.TagLemmas.{keep_full, group_within, group_of_true, command_of, is_held}
+use Rattle.iscsi_window.proofs.TagLemmas.{group_within, group_of_true, command_of, is_held}
 
 -- ---- at the opening
 
@@ -149,16 +146,12 @@ turned_at [] zero = refl
 turned_at [] (suc j) = refl
 turned_at (x ∷ xs) j = push_none xs j
 
-pub turn_bounds : (bounds : List ℕ) (turned : ℕ) (old new : Buffer (Option (Option Request))) (x : Option (Option Request)) → AreBounds bounds turned old.items → slice_get old.items 0 ≡ Some x → length old.items ≡ old.capacity
-    → new ≡ buffer (keep_last old.capacity (old.items ++ None ∷ [])) old.capacity → AreBounds bounds (min (turned + 1) (2 ^ 64 - 1)) new.items
-turn_bounds bounds turned old new x b read full put =
-    subst (λ n. AreBounds bounds (min (turned + 1) (2 ^ 64 - 1)) n.items) (sym put)
-    (subst (AreBounds bounds (min (turned + 1) (2 ^ 64 - 1))) (sym (keep_full old.items old.capacity (slice_get_within old.items 0 x read) full))
-    (record {
-      as_many = b.as_many;
-      small = b.small;
-      below = λ j g here. let l = b.below (suc j) g (ap group_of (sym (turned_at old.items j)) ∙ here) in omega (arith, l, b.small g);
-    }))
+pub turned_bounds : (bounds : List ℕ) (turned : ℕ) (xs : List (Option (Option Request))) → AreBounds bounds turned xs → AreBounds bounds (min (turned + 1) (2 ^ 64 - 1)) (drop 1 xs ++ None ∷ [])
+turned_bounds bounds turned xs b = record {
+  as_many = b.as_many;
+  small = b.small;
+  below = λ j g here. let l = b.below (suc j) g (ap group_of (sym (turned_at xs j)) ∙ here) in omega (arith, l, b.small g);
+}
 
 -- ---- a search
 

@@ -6,7 +6,6 @@ use Rattle.std.proofs.lemmas.Option.{slice_get_within, get_or_from_slice_get}
 use Rattle.std.proofs.lemmas.List.{get_or_past, get_or-take, get_or-replicate, length-take, length-replicate, set-set}
 use Rattle.std.proofs.lemmas.List.Quantifiers.{position-Some}
 use Rattle.std.proofs.lemmas.List.Sums.{sum_by-set, sum_by-cons, sum_by_push, count_by-le-length, get_or-le-sum_by}
-use Rattle.circular_buffer.specs.Buffer.{Buffer, buffer, keep_last}
 use Rattle.iscsi_wire.specs.Fields.{opcode, itt, lun, unit_of}
 use Rattle.iscsi_wire.specs.declared.request.Request.{Request}
 use Rattle.iscsi_window.specs.Windows.{is_unit, is_command}
@@ -126,31 +125,14 @@ put_counted counts xs k x v c read = subst (λ y. IsCounted (raised (lowered cou
 
 -- ---- the first place turns
 
-turned_counted : (counts : List ℕ) (xs : List (Option (Option Request))) (x : Option (Option Request)) → IsCounted counts xs → slice_get xs 0 ≡ Some x → IsCounted (lowered counts (group_of x)) (drop 1 xs ++ None ∷ [])
-turned_counted counts xs x c read = by_list xs c read
-  where
-    by_list : (ys : List (Option (Option Request))) → IsCounted counts ys → slice_get ys 0 ≡ Some x → IsCounted (lowered counts (group_of x)) (drop 1 ys ++ None ∷ [])
-    by_list [] d is = cc
-    by_list (y ∷ ys) d is =
-        let set_first : IsCounted (lowered counts (group_of x)) (None ∷ ys) = subst (λ z. IsCounted (lowered counts (group_of z)) (None ∷ ys)) (let same : y ≡ x = cc in same) (lowered_counted counts (y ∷ ys) 0 d (slice_get_within (y ∷ ys) 0 x is)) in record {
-          as_many = set_first.as_many;
-          few = simp length-append (omega (arith, set_first.few));
-          exact = λ g. set_first.exact g ∙ sum_by-cons (λ x. cond (is_of g x) 1 0) None ys ∙ (let z = sum_by_push (λ x. cond (is_of g x) 1 0) ys None in omega (arith, z));
-        }
-
--- a full ring that gets a place more gives its first one up
-pub keep_full : (xs : List (Option (Option Request))) (capacity : ℕ) → 0 < length xs → length xs ≡ capacity → keep_last capacity (xs ++ None ∷ []) ≡ drop 1 xs ++ None ∷ []
-keep_full [] capacity some full = absurd (omega arith)
-keep_full (x ∷ xs) capacity some full =
-    let one : length (x ∷ xs ++ None ∷ []) - capacity ≡ 1 = omega (arith, full, length-append (x ∷ xs) (let y : List (Option (Option Request)) = None ∷ [] in y)) in
-    ap (λ n. drop n (x ∷ xs ++ None ∷ [])) one
-
-pub turn_counted : (counts tags : List ℕ) (old new : Buffer (Option (Option Request))) (x : Option (Option Request)) → IsCounted counts old.items → slice_get old.items 0 ≡ Some x → length old.items ≡ old.capacity
-    → tags ≡ lowered counts (group_of x) → new ≡ buffer (keep_last old.capacity (old.items ++ None ∷ [])) old.capacity → IsCounted tags new.items
-turn_counted counts tags old new x c read full less put =
-    subst (λ b. IsCounted tags b.items) (sym put)
-    (subst (λ t. IsCounted t (keep_last old.capacity (old.items ++ None ∷ []))) (sym less)
-    (subst (IsCounted (lowered counts (group_of x))) (sym (keep_full old.items old.capacity (slice_get_within old.items 0 x read) full)) (turned_counted counts old.items x c read)))
+pub turned_counted : (counts : List ℕ) (xs : List (Option (Option Request))) → IsCounted counts xs → 0 < length xs → IsCounted (lowered counts (group_of (get_or xs 0 None))) (drop 1 xs ++ None ∷ [])
+turned_counted counts [] c some = absurd (omega (arith, some))
+turned_counted counts (x ∷ xs) c some =
+    let set_first : IsCounted (lowered counts (group_of x)) (None ∷ xs) = lowered_counted counts (x ∷ xs) 0 c some in record {
+      as_many = set_first.as_many;
+      few = simp length-append (omega (arith, set_first.few));
+      exact = λ g. set_first.exact g ∙ sum_by-cons (λ x. cond (is_of g x) 1 0) None xs ∙ (let z = sum_by_push (λ x. cond (is_of g x) 1 0) xs None in omega (arith, z));
+    }
 
 -- ---- at the opening
 

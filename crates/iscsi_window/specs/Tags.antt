@@ -1,5 +1,5 @@
 -- Held requests, counted by groups of tags: those of one group leave the same remainder on division by 4093.
-use Rattle.std.specs.Prelude.{◌≡◌, ℕ, ◌+◌, ◌-◌, ◌%◌, ◌^◌, ◌<◌, ◌≤◌, ◌==◌, min, Bool, true, false, if◌then◌else◌, List, length, count_by, slice_set, slice_index, slice_index_or, Option, Some, None}
+use Rattle.std.specs.Prelude.{◌≡◌, ℕ, ◌+◌, ◌-◌, ◌%◌, ◌^◌, ◌<◌, ◌≤◌, ◌==◌, min, Bool, true, false, if◌then◌else◌, is_some, List, length, count_by, slice_set, slice_index, slice_index_or, Option, Some, None}
 use Rattle.iscsi_wire.specs.Fields.{itt}
 use Rattle.iscsi_wire.specs.declared.request.Request.{Request}
 
@@ -51,3 +51,9 @@ pub record AreBounds (bounds : List ℕ) (turned : ℕ) (places : List (Option (
   pub as_many : length bounds ≡ 4093
   pub small : (g : ℕ) → slice_index bounds g < 2 ^ 64
   pub below : (k g : ℕ) → group_of (slice_index_or places k None) ≡ Some g → slice_index bounds g ≤ turned + k
+
+-- what the counters beside the places say of them
+pub record ArePlacesSound (counts bounds : List ℕ) (turned received : ℕ) (places : List (Option (Option Request))) : Type 0 where
+  pub tags : IsCounted counts places
+  pub lowest : AreBounds bounds turned places
+  pub as_many : received ≡ count_by is_some places

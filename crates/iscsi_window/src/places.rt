@@ -23,6 +23,8 @@ type Ring = HeapCircularBuffer<Received>;
 #[derive(Drop)]
 pub(crate) struct Places {
     ring: Ring,
+    /// For how many places a number was received. Where that is none, all are alike, and the ring stays as it is.
+    received: u32,
     tags: TagCounts,
     bounds: TagBounds,
     /// How many places turned, which is the number of the first place. It counts no further than it can.
@@ -33,13 +35,13 @@ impl Model for Places {
     ghost use Rattle.std.specs.Prelude.{Option};
     ghost use Rattle.circular_buffer.specs.Buffer.{Buffer};
     ghost use Rattle.iscsi_wire.specs.declared.request.Request.{Request};
-    ghost use Rattle.iscsi_window.specs.Tags.{IsCounted, AreBounds};
+    ghost use Rattle.iscsi_window.specs.Tags.{ArePlacesSound};
 
     ghost Value = { Buffer (Option (Option Request)) };
 
     ghost view = { λ p. p.ring };
 
-    ghost invariant = { λ p. IsCounted p.tags p.ring.items × AreBounds p.bounds p.turned p.ring.items };
+    ghost invariant = { λ p. ArePlacesSound p.tags p.bounds p.turned p.received p.ring.items };
 }
 
 /// So many places, and nothing received.
@@ -52,6 +54,7 @@ pub(crate) fn empty_places(alloc: Global, size: u32) -> Result<Places, AllocErro
     let bounds = TagBounds::open(alloc)?;
     Ok(Places {
         ring,
+        received: 0,
         tags,
         bounds,
         turned: 0,
@@ -73,6 +76,9 @@ fn empty_ring(alloc: Global, size: u32) -> Result<Ring, AllocError>
 pub(crate) fn at(places: &Places, k: u32) -> Received
     ensures { result ≡ slice_index_or places.now.items k None }
 {
+    if places.received == 0 {
+        return None;
+    }
     places.ring.get(k as usize).copied().flatten()
 }
 
@@ -96,6 +102,7 @@ pub(crate) fn fill(places: &mut Places, k: u32, held: Option<Request>) -> bool
     let is_only = places.tags.is_none_like(&received);
     places.bounds.occupy(&received, number, is_only);
     places.tags.raise(&received);
+    places.received += 1;
     *place = received;
     true
 }
@@ -108,6 +115,7 @@ pub(crate) fn clear(places: &mut Places, k: u32)
         let number = places.turned.saturating_add(k as u64);
         places.bounds.vacate(place, number);
         places.tags.lower(place);
+        places.received += 1 - count(place);
         *place = Some(None);
     }
 }
@@ -118,12 +126,33 @@ pub(crate) fn turn_first(places: &mut Places)
     requires full { length places.old.items ≡ places.old.capacity }
     ensures { places.new ≡ buffer (drop 1 places.old.items ++ None ∷ []) places.old.capacity }
 {
-    if let Some(first) = places.ring.get(0) {
-        places.tags.lower(first);
+    if places.received > 0 {
+        let first = turn_ring(&mut places.ring);
+        places.tags.lower(&first);
+        places.received -= count(&first);
     }
     places.turned = places.turned.saturating_add(1);
+}
+
+/// Takes the first place off the ring, which is full, and adds one at the end, where nothing was received. It answers
+/// what the first one had.
+fn turn_ring(ring: &mut Ring) -> Received
+    requires some { 0 < length ring.old.items }
+    requires full { length ring.old.items ≡ ring.old.capacity }
+    ensures answer { result ≡ slice_index_or ring.old.items 0 None }
+    ensures state { ring.new ≡ buffer (drop 1 ring.old.items ++ None ∷ []) ring.old.capacity }
+{
+    let first = ring.get(0).copied().flatten();
     // The ring is full, so its first place makes way.
-    places.ring.push_back(None);
+    ring.push_back(None);
+    first
+}
+
+/// 1 for a number that was received, and 0 for another one.
+fn count(received: &Received) -> u32
+    ensures { result ≡ (if is_some received.now then 1 else 0) }
+{
+    if received.is_some() { 1 } else { 0 }
 }
 
 /// Whether a SCSI Command with this tag and to this unit is held.

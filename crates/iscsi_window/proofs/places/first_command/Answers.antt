@@ -10,14 +10,14 @@ use Rattle.iscsi_window.proofs.places.first_command.Goals as goal
 pub returns-then-is_none : goal.returns-then-is_none
 returns-then-is_none c =
     let zero : get_or c.places.inside.tags (c.args.itt % 4093) 0 ≡ 0 = eqb-true (get_or c.places.inside.tags (c.args.itt % 4093) 0) 0 (sym c.is_none.ensures ∙ c.if-is_none.true) in
-    sym (none_found c.places.inside.tags c.places.inside.ring.items c.args.itt c.args.unit c.args.end c.places.invariant.0 zero)
+    sym (none_found c.places.inside.tags c.places.inside.ring.items c.args.itt c.args.unit c.args.end c.places.invariant.tags zero)
     ∙ ap (λ b. position (is_command c.args.itt c.args.unit) (take c.args.end b.items)) c.places.view_is
 
 pub loop-k-init : goal.loop-k-init
 loop-k-init c = λ j below.
     let short : j < get_or c.places.inside.bounds (c.args.itt % 4093) 0 - c.places.inside.turned = omega (arith, below, c.of.ensures, c.saturating_sub-bound.ensures) in
     ap (λ b. is_command c.args.itt c.args.unit (get_or b.items j None)) (sym c.places.view_is)
-    ∙ none_before c.places.inside.bounds c.places.inside.turned c.places.inside.ring.items c.args.itt c.args.unit j c.places.invariant.1 short
+    ∙ none_before c.places.inside.bounds c.places.inside.turned c.places.inside.ring.items c.args.itt c.args.unit j c.places.invariant.lowest short
 
 pub loop-k-preserved : goal.loop-k-preserved
 loop-k-preserved c = λ j below. ⊎_elim
