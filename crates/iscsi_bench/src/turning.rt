@@ -32,8 +32,8 @@ impl Load {
         }
     }
 
-    /// The header of the command with this number. The first one goes to the head of the queue where others wait for it,
-    /// and so do all that come once they wait.
+    /// The header of the command with this number. The first one goes to the head of the queue where others wait for
+    /// it, and so do all that come once they wait.
     fn command(&self, sn: u32, is_head: bool) -> [u8; 48] {
         command(sn, self.unit, is_head)
     }
