@@ -18,7 +18,6 @@ use std::marker::Model;
 /// of a call is bounded for any tags that an initiator chooses.
 ///
 /// While tags go up with the tickets, as those of most initiators do, one order serves for both.
-#[derive(Drop)]
 pub struct Commands {
     slots: Slots<Live>,
     /// The slots in the order of the tickets.
@@ -28,6 +27,17 @@ pub struct Commands {
     /// Whether the order of the tags is kept apart: since a command entered with a tag below that of another one, until
     /// no command is left.
     has_apart: bool,
+}
+
+impl Drop for Commands {
+    fn drop(self) {
+        let Commands {
+            slots: _slots,
+            by_ticket: _by_ticket,
+            by_tag: _by_tag,
+            has_apart: _has_apart,
+        } = self;
+    }
 }
 
 impl Model for Commands {

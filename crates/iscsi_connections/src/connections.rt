@@ -30,11 +30,19 @@ struct Connection {
 }
 
 /// The connections of a session. One is found by its CID at once, however many there are.
-#[derive(Drop)]
 pub struct Connections {
     list: Vec<Connection>,
     /// For each CID up to the greatest one, the place of its connection in the list, or `NOWHERE`.
     places: Vec<u8>,
+}
+
+impl Drop for Connections {
+    fn drop(self) {
+        let Connections {
+            list: _list,
+            places: _places,
+        } = self;
+    }
 }
 
 impl Model for Connections {

@@ -51,7 +51,6 @@ mod waiting;
 const ITEM_EFFECTS: usize = 12;
 
 /// One session: its command window, its commands and task sets, and the numbers of its connections.
-#[derive(Drop)]
 pub struct Session {
     /// The numbers that were received and haven't turned, and the requests that are held for them.
     window: Window,
@@ -75,6 +74,24 @@ pub struct Session {
     arrived: VecDeque<u64>,
     /// The functions that wait for lower numbers, in the order of their arrival.
     waiting: Vec<Waiting>,
+}
+
+impl Drop for Session {
+    fn drop(self) {
+        let Session {
+            window: _window,
+            held: _held,
+            events: _events,
+            connections: _connections,
+            entered: _entered,
+            taken: _taken,
+            live: _live,
+            sets: _sets,
+            level: _level,
+            arrived: _arrived,
+            waiting: _waiting,
+        } = self;
+    }
 }
 
 impl Model for Session {

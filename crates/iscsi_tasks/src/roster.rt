@@ -13,10 +13,18 @@ use std::marker::Model;
 ///
 /// A member keeps its slot until it leaves. So what closes up when one leaves from among the others is two bytes for
 /// each on the shorter side of it.
-#[derive(Drop)]
 pub(crate) struct Roster {
     slots: Slots<Member>,
     order: Order,
+}
+
+impl Drop for Roster {
+    fn drop(self) {
+        let Roster {
+            slots: _slots,
+            order: _order,
+        } = self;
+    }
 }
 
 impl Model for Roster {

@@ -35,7 +35,6 @@ const MOST_TASKS: u32 = 1024;
 /// The set tests no command twice. Counts and the order of entering tell what a leaving enables, and tickets, which go
 /// up along the set, are found by halving. And it keeps a number below which no function covers a command, so that a
 /// function with a lower one looks at none.
-#[derive(Drop)]
 pub struct TaskSet {
     depth: u32,
     looked: u32,
@@ -43,6 +42,18 @@ pub struct TaskSet {
     covered_from: i64,
     counts: Counts,
     members: Roster,
+}
+
+impl Drop for TaskSet {
+    fn drop(self) {
+        let TaskSet {
+            depth: _depth,
+            looked: _looked,
+            covered_from: _covered_from,
+            counts: _counts,
+            members: _members,
+        } = self;
+    }
 }
 
 impl Model for TaskSet {

@@ -16,9 +16,16 @@ pub(crate) const FIRST_UNIT: usize = 64;
 const WORDS: usize = 5;
 
 /// A set of numbers below `MOST_RINGS`.
-#[derive(Drop)]
 pub(crate) struct Marks {
     words: [u64; WORDS],
+}
+
+impl Drop for Marks {
+    fn drop(self) {
+        let Marks {
+            words: _words,
+        } = self;
+    }
 }
 
 impl Marks {
@@ -75,9 +82,16 @@ impl Marks {
 }
 
 /// A bit for each ring, set by whoever put something in since the loop last looked.
-#[derive(Drop)]
 pub(crate) struct Bells {
     words: [AtomicU64; WORDS],
+}
+
+impl Drop for Bells {
+    fn drop(self) {
+        let Bells {
+            words: _words,
+        } = self;
+    }
 }
 
 impl Bells {

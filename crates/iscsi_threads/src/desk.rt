@@ -11,10 +11,18 @@ use std::collections::VecDeque;
 
 /// The request that executes, and the jobs of the commands that entered and aren't enabled yet, oldest first: tickets
 /// go up along them.
-#[derive(Drop)]
 pub(crate) struct Desk {
     pub(crate) last: Option<Request>,
     pub(crate) dormant: VecDeque<Job>,
+}
+
+impl Drop for Desk {
+    fn drop(self) {
+        let Desk {
+            last: _last,
+            dormant: _dormant,
+        } = self;
+    }
 }
 
 // Where the job of this ticket is.

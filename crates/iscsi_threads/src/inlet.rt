@@ -6,10 +6,17 @@ ghost use Rattle.rtrb.specs.Ring.{consumer_capacity};
 use rtrb::Consumer;
 
 /// The loop's end of a connection's ring of headers.
-#[derive(Drop)]
 pub(crate) struct Inlet {
     pub(crate) headers: Consumer<[u8; 48]>,
     ghost places: { consumer_capacity headers ≡ 64 },
+}
+
+impl Drop for Inlet {
+    fn drop(self) {
+        let Inlet {
+            headers: _headers,
+        } = self;
+    }
 }
 
 impl Inlet {

@@ -8,12 +8,21 @@ use rtrb::{Consumer, Producer};
 use std::collections::VecDeque;
 
 /// The jobs that wait for a place in the unit's ring, and the loop's ends of its rings.
-#[derive(Drop)]
 pub(crate) struct Outlet {
     pub(crate) jobs: Producer<Job>,
     pub(crate) backlog: VecDeque<Job>,
     pub(crate) answers: Consumer<Answer>,
     ghost places: { consumer_capacity answers ≡ 64 },
+}
+
+impl Drop for Outlet {
+    fn drop(self) {
+        let Outlet {
+            jobs: _jobs,
+            backlog: _backlog,
+            answers: _answers,
+        } = self;
+    }
 }
 
 impl Outlet {

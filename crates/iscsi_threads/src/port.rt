@@ -15,20 +15,37 @@ pub enum PostFault {
 }
 
 /// A connection's end: it posts the headers of request PDUs.
-#[derive(Drop)]
 pub struct Port {
     pub(crate) headers: Producer<[u8; 48]>,
     pub(crate) bell: Bell,
     ghost places: { producer_capacity headers ≡ 64 },
 }
 
+impl Drop for Port {
+    fn drop(self) {
+        let Port {
+            headers: _headers,
+            bell: _bell,
+        } = self;
+    }
+}
+
 /// A unit's end: it takes jobs, and answers them.
-#[derive(Drop)]
 pub struct UnitPort {
     pub(crate) jobs: Consumer<Job>,
     pub(crate) answers: Producer<Answer>,
     pub(crate) bell: Bell,
     ghost places: { consumer_capacity jobs ≡ 64 },
+}
+
+impl Drop for UnitPort {
+    fn drop(self) {
+        let UnitPort {
+            jobs: _jobs,
+            answers: _answers,
+            bell: _bell,
+        } = self;
+    }
 }
 
 impl Port {

@@ -6,13 +6,24 @@ use std::alloc::{AllocError, Global};
 use std::sync::atomic::{AtomicBool, AtomicUsize, Ordering};
 
 /// Whether to stop, how many lists aren't posted yet, and where each thread sleeps.
-#[derive(Drop)]
 pub(crate) struct Shared {
     stop: AtomicBool,
     posting: AtomicUsize,
     pub(crate) hub: Waiter,
     pub(crate) posters: Vec<Waiter>,
     pub(crate) workers: Vec<Waiter>,
+}
+
+impl Drop for Shared {
+    fn drop(self) {
+        let Shared {
+            stop: _stop,
+            posting: _posting,
+            hub: _hub,
+            posters: _posters,
+            workers: _workers,
+        } = self;
+    }
 }
 
 // So many beds.

@@ -21,9 +21,16 @@ pub trait UnitWork {
 }
 
 /// What a worker gives back: its unit port, whose jobs it answered in turn.
-#[derive(Drop)]
 pub(crate) struct Works {
     pub(crate) port: Snapshot<UnitPort>,
+}
+
+impl Drop for Works {
+    fn drop(self) {
+        let Works {
+            port: _port,
+        } = self;
+    }
 }
 
 impl Promise<UnitPort> for Works {

@@ -31,13 +31,24 @@ const MOST_PLACES: u32 = 1024;
 ///
 /// The clauses `stands` follow a window over every history of calls: what was admitted, voided, emptied and
 /// turned, in numbers that don't wrap. The law of `size` says what that means.
-#[derive(Drop)]
 pub struct Window {
     first: u32,
     turned: u64,
     unfinished: u32,
     size: u32,
     places: Places,
+}
+
+impl Drop for Window {
+    fn drop(self) {
+        let Window {
+            first: _first,
+            turned: _turned,
+            unfinished: _unfinished,
+            size: _size,
+            places: _places,
+        } = self;
+    }
 }
 
 impl Model for Window {

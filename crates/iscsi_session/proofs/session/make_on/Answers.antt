@@ -16,9 +16,6 @@ use Rattle.iscsi_history.proofs.CountLemmas.{none_counted}
 use Rattle.iscsi_history.proofs.PlaceLemmas.{all_none}
 use Rattle.std.proofs.lemmas.List.{length-replicate as so_many}
 
-pub invariant_of-result : goal.invariant_of-result
-invariant_of-result c = c.connections.invariant
-
 -- a session that was opened is sound
 opened_sound : (first size events units depth live_room arrived_room waiting_room : ℕ) (conns : List (ℕ × ℕ)) → size ≤ 1024 → HasRooms size (length conns) live_room arrived_room waiting_room → IsWithinLimits 0 events (length conns) units
     → IsSessionSound (record {
@@ -60,15 +57,15 @@ opened_sound first size events units depth live_room arrived_room waiting_room c
 within_limits : (o : Setting) → is_valid o ≡ true → IsWithinLimits 0 o.events (length o.conns) o.units
 within_limits o valid = record { taken = omega arith; events = grind (arith, nat_tests); conns = grind (arith, nat_tests); units = grind (arith, nat_tests) }
 
-pub invariant_of-result-2 : goal.invariant_of-result-2
-invariant_of-result-2 c =
+pub invariant_of-result : goal.invariant_of-result
+invariant_of-result c =
     let is : c.in_ok-ok.field-0 ≡ opened c.args.options.first c.args.options.window = search rules in
     let none : c.in_ok-ok-2.field-0.items ≡ [] = search rules in
     let waits : c.in_ok-ok-3.field-0.items ≡ [] = search rules in
     let live_room : c.args.options.window + c.from.result * c.len.result ≤ (c.in_ok-ok-2.field-0).room = search rules in
     let waits_room : 4 * c.len-2.result ≤ vec_capacity c.in_ok-ok-3.field-0 = search rules in
     let most : c.args.options.window ≤ 1024 = search rules in
-    let connections = c.connections.view_is ∙ c.requires.connections in
+    let connections = c.requires.connections in
     rw (is, none, waits, c.in_ok-open.ensures, c.in_ok-open-2.ensures.events, ap (λ (x : Connected). x.conns) connections, ap (λ (x : Connected). x.immediate) connections)
     (opened_sound c.args.options.first c.args.options.window c.args.options.events c.args.options.units c.args.options.depth _ _ _ c.args.options.conns.items most
     (record {
@@ -84,7 +81,7 @@ returns c = record {
       let is : c.in_ok-ok.field-0 ≡ opened c.args.options.first c.args.options.window = search rules in
       let none : c.in_ok-ok-2.field-0.items ≡ [] = search rules in
       let waits : c.in_ok-ok-3.field-0.items ≡ [] = search rules in
-      rw (is, none, waits, c.in_ok-open.ensures, c.in_ok-open-2.ensures.events, ap (λ (x : Connected). x.conns) (c.connections.view_is ∙ c.requires.connections), ap (λ (x : Connected). x.open_conns) (c.connections.view_is ∙ c.requires.connections)) (Settled-opened (setting_of c.args.options) 0);
+      rw (is, none, waits, c.in_ok-open.ensures, c.in_ok-open-2.ensures.events, ap (λ (x : Connected). x.conns) (c.requires.connections), ap (λ (x : Connected). x.open_conns) (c.requires.connections)) (Settled-opened (setting_of c.args.options) 0);
   taken = refl;
   belong = refl;
 }
