@@ -6,9 +6,14 @@ use crate::effect::{Effect, Numbers};
 use std::marker::Model;
 
 /// The effects of an event, in order.
-#[derive(Drop)]
 pub struct Effects {
     list: Vec<Effect>,
+}
+
+impl Drop for Effects {
+    fn drop(self) {
+        let Effects { list: _list } = self;
+    }
 }
 
 impl Model for Effects {

@@ -9,10 +9,19 @@ use std::marker::Model;
 const GROWTH: usize = 1024;
 
 /// Bytes at the front of memory that is there already, so that a few more are written in place.
-#[derive(Debug, Drop)]
+#[derive(Debug)]
 pub struct Bytes {
     memory: Vec<u8>,
     len: usize,
+}
+
+impl Drop for Bytes {
+    fn drop(self) {
+        let Bytes {
+            memory: _memory,
+            len: _len,
+        } = self;
+    }
 }
 
 impl Model for Bytes {

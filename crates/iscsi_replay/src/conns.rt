@@ -7,11 +7,20 @@ use std::alloc::{AllocError, Global};
 use std::marker::Model;
 
 /// The CID and the first StatSN of each connection. Whether a CID is among them is told at once.
-#[derive(Debug, Drop)]
+#[derive(Debug)]
 pub struct Conns {
     list: Vec<(u16, u32)>,
     /// For each CID up to the greatest of the list, whether it is there.
     known: Vec<bool>,
+}
+
+impl Drop for Conns {
+    fn drop(self) {
+        let Conns {
+            list: _list,
+            known: _known,
+        } = self;
+    }
 }
 
 impl Model for Conns {

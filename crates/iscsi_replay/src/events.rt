@@ -22,10 +22,19 @@ const ARRIVAL_SIZE: usize = 51;
 const COMPLETION_SIZE: usize = 10;
 
 /// Events in their order, each in as many bytes as its kind needs.
-#[derive(Debug, Drop)]
+#[derive(Debug)]
 pub struct Events {
     bytes: Bytes,
     count: usize,
+}
+
+impl Drop for Events {
+    fn drop(self) {
+        let Events {
+            bytes: _bytes,
+            count: _count,
+        } = self;
+    }
 }
 
 impl Model for Events {

@@ -16,10 +16,18 @@ pub const LONGEST_LINE: usize = 256;
 const GROWTH: usize = 65_536;
 
 /// Lines of a report, one after another. They lie at the front of memory that is there already.
-#[derive(Drop)]
 pub struct Lines {
     memory: Vec<u8>,
     len: usize,
+}
+
+impl Drop for Lines {
+    fn drop(self) {
+        let Lines {
+            memory: _memory,
+            len: _len,
+        } = self;
+    }
 }
 
 impl Model for Lines {

@@ -15,7 +15,7 @@ use crate::job::{Answer, Job};
 use crate::opening::PLACES;
 use crate::outlet::Outlet;
 use crate::port::{Port, UnitPort};
-use crate::session_loop::Loop;
+use crate::session_loop::{Loop, Remains};
 use iscsi_session::{Event, Log, run};
 use rtrb::{Consumer, Producer};
 use std::alloc::{AllocError, Global};
@@ -311,14 +311,13 @@ impl Loop {
         requires rooms { FitsAll self rooms }
         ensures { EndedAs self ports.items units.items result }
     {
-        let Loop {
+        let Remains {
             mut inlets,
             mut outlets,
             mut fresh,
             journal,
             from,
-            ..
-        } = self;
+        } = self.into_remains();
         let Rooms {
             mut left,
             mut untaken,

@@ -22,7 +22,6 @@ use std::collections::VecDeque;
 use std::sync::Arc;
 
 /// The loop round one session. It has the other ends of all rings, and the journal of the events that it took.
-#[derive(Drop)]
 pub struct Loop {
     pub(crate) alloc: Global,
     pub(crate) options: Options,
@@ -47,4 +46,64 @@ pub struct Loop {
     ghost known: { seen desk ≡ known_after nothing (effects_in (run_of (setting_of options) journal.items)) },
     ghost jobs: { put_jobs fresh.items (map given outlets.items)
         ≡ all_jobs (vec_len outlets) (run_of (setting_of options) journal.items) },
+}
+
+impl Drop for Loop {
+    fn drop(self) {
+        let Loop {
+            alloc: _alloc,
+            options: _options,
+            session: _session,
+            inlets: _inlets,
+            outlets: _outlets,
+            desk: _desk,
+            fresh: _fresh,
+            journal: _journal,
+            from: _from,
+            bells: _bells,
+            watch: _watch,
+            next: _next,
+        } = self;
+    }
+}
+
+/// What is left of a loop that ends.
+#[derive(Drop)]
+pub(crate) struct Remains {
+    pub(crate) inlets: Vec<Inlet>,
+    pub(crate) outlets: Vec<Outlet>,
+    pub(crate) fresh: VecDeque<Job>,
+    pub(crate) journal: Vec<Event>,
+    pub(crate) from: Vec<u16>,
+}
+
+impl Loop {
+    /// Takes it apart.
+    pub(crate) fn into_remains(self) -> Remains
+        ensures rings { (result.inlets ≡ self.inlets) × (result.outlets ≡ self.outlets) }
+        ensures fresh { result.fresh ≡ self.fresh }
+        ensures journal { (result.journal ≡ self.journal) × (result.from ≡ self.from) }
+    {
+        let Loop {
+            alloc: _alloc,
+            options: _options,
+            session: _session,
+            inlets,
+            outlets,
+            desk: _desk,
+            fresh,
+            journal,
+            from,
+            bells: _bells,
+            watch: _watch,
+            next: _next,
+        } = self;
+        Remains {
+            inlets,
+            outlets,
+            fresh,
+            journal,
+            from,
+        }
+    }
 }
