@@ -6,7 +6,7 @@ use std::alloc::{AllocError, Global};
 
 /// The options that the words give: the first CmdSN, the size of the window, how many units there are, the depth of
 /// their sets, the protocol level, and the most events.
-#[derive(Drop)]
+#[derive(Clone, Copy)]
 pub(crate) struct Given {
     first: u32,
     window: u32,

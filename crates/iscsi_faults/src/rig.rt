@@ -9,12 +9,21 @@ use iscsi_threads::{Job, Loop, LoopFault, Outcome, Port, PostFault, Turn, UnitPo
 use std::alloc::Global;
 
 /// A loop with its ports and its unit ports.
-#[derive(Drop)]
 pub(crate) struct Rig {
     core: Loop,
     ports: Vec<Port>,
     units: Vec<UnitPort>,
     ghost belong: { Belong core ports.items units.items },
+}
+
+impl Drop for Rig {
+    fn drop(self) {
+        let Rig {
+            core: _core,
+            ports: _ports,
+            units: _units,
+        } = self;
+    }
 }
 
 impl Rig {

@@ -39,7 +39,6 @@ pub(crate) fn fits<T: Drop, E: Drop>(pushed: Result<T, E>) -> Result<T, Halt> {
 }
 
 /// The text for standard output, and how many calls were made again.
-#[derive(Drop)]
 pub(crate) struct Told {
     pub(crate) text: Vec<u8>,
     pub(crate) steps: u32,
@@ -47,6 +46,19 @@ pub(crate) struct Told {
     pub(crate) ends: u32,
     pub(crate) lines: u32,
     pub(crate) starts: u32,
+}
+
+impl Drop for Told {
+    fn drop(self) {
+        let Told {
+            text: _text,
+            steps: _steps,
+            turns: _turns,
+            ends: _ends,
+            lines: _lines,
+            starts: _starts,
+        } = self;
+    }
 }
 
 impl Told {

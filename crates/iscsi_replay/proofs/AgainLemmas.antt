@@ -14,16 +14,16 @@ use Rattle.iscsi_history.specs.declared.event.Event.TheVariants.{Arrive, Done}
 use Rattle.iscsi_history.specs.declared.entry.Entry.{Entry}
 use Rattle.iscsi_history.specs.rules.Settings.{is_known, are_distinct}
 use Rattle.iscsi_report.specs.Lines.{eight_digits, event_line, effect_text, effect_line, entry_lines, report_from}
-use Rattle.iscsi_replay.specs.declared.line.Line.TheVariants as line
-use Rattle.iscsi_replay.specs.Fields.{decimal_of, hex_of}
-use Rattle.iscsi_replay.specs.Grammar.{arrival_of, completion_of, connection_of, line_of}
-use Rattle.iscsi_replay.specs.Recorded.{Recorded, belongs_to, nothing, is_empty, take, read_line, read_end, read_lines, read_of, lines_of, ◌>>=◌}
-use Rattle.iscsi_replay.specs.declared.fault.ReplayFault.TheVariants.{NoConnection}
+use Rattle.iscsi_recording.specs.declared.line.Line.TheVariants as line
+use Rattle.iscsi_recording.specs.Fields.{decimal_of, hex_of}
+use Rattle.iscsi_recording.specs.Grammar.{arrival_of, completion_of, connection_of, line_of}
+use Rattle.iscsi_recording.specs.Recorded.{Recorded, belongs_to, nothing, is_empty, take, read_line, read_end, read_lines, read_of, lines_of, ◌>>=◌}
+use Rattle.iscsi_recording.specs.declared.fault.ReplayFault.TheVariants.{NoConnection}
 use Rattle.iscsi_replay.specs.Again.{conn_line, conn_lines, IsRecordableConn, IsRecordableEvent}
-use Rattle.iscsi_replay.proofs.LineLemmas.{or_false, whole_line, line_ends}
-use Rattle.iscsi_replay.proofs.RecordedLemmas.{both_parts, other_way}
-use Rattle.iscsi_replay.proofs.FieldLemmas.{decimal_back, hex_back, bytes_4-bytes, from_bytes_4, field_before, field_after}
-use Rattle.iscsi_replay.proofs.EffectLemmas.{IsText, both_texts, decimal_text, hex_text, eight_text, IsShortEffect, effect_is_text}
+use Rattle.iscsi_recording.proofs.LineLemmas.{or_false, whole_line, line_ends}
+use Rattle.iscsi_recording.proofs.RecordedLemmas.{both_parts, other_way}
+use Rattle.iscsi_recording.proofs.FieldLemmas.{decimal_back, hex_back, bytes_4-bytes, from_bytes_4, field_before, field_after}
+use Rattle.iscsi_recording.proofs.EffectLemmas.{IsText, both_texts, decimal_text, hex_text, eight_text, IsShortEffect, effect_is_text}
 
 -- ---- texts of whole lines
 

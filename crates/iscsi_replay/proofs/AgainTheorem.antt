@@ -15,18 +15,18 @@ use Rattle.iscsi_history.specs.declared.event.Event.TheVariants.{Arrive, Done}
 use Rattle.iscsi_history.specs.rules.Settings.{is_known}
 use Rattle.iscsi_report.specs.Lines.{report_from}
 use Rattle.iscsi_history.specs.rules.Run.{run_of}
-use Rattle.iscsi_replay.specs.declared.line.Line.{Line}
-use Rattle.iscsi_replay.specs.declared.line.Line.TheVariants as line
-use Rattle.iscsi_replay.specs.declared.fault.ReplayFault.{ReplayFault}
-use Rattle.iscsi_replay.specs.declared.fault.ReplayFault.TheVariants.{BadLine, LineTooLong, TooManyLines, NoConnection}
-use Rattle.iscsi_replay.specs.declared.settings.Settings.{Settings}
-use Rattle.iscsi_replay.specs.Fields.{is_blank, after_prefix, digits_after, up_to, decimal_of, hex_of}
-use Rattle.iscsi_replay.specs.Grammar.{arrival_of, completion_of, event_of, connection_of, marked_of, line_of}
-use Rattle.iscsi_replay.specs.Recorded.{Recorded, belongs_to, nothing, is_empty, take, read_line, read_end, read_lines, read_of, lines_of, ◌>>=◌}
-use Rattle.iscsi_replay.specs.Reading.{IsSoundIn}
+use Rattle.iscsi_recording.specs.declared.line.Line.{Line}
+use Rattle.iscsi_recording.specs.declared.line.Line.TheVariants as line
+use Rattle.iscsi_recording.specs.declared.fault.ReplayFault.{ReplayFault}
+use Rattle.iscsi_recording.specs.declared.fault.ReplayFault.TheVariants.{BadLine, LineTooLong, TooManyLines, NoConnection}
+use Rattle.iscsi_settings.specs.declared.settings.Settings.{Settings}
+use Rattle.iscsi_recording.specs.Fields.{is_blank, after_prefix, digits_after, up_to, decimal_of, hex_of}
+use Rattle.iscsi_recording.specs.Grammar.{arrival_of, completion_of, event_of, connection_of, marked_of, line_of}
+use Rattle.iscsi_recording.specs.Recorded.{Recorded, belongs_to, nothing, is_empty, take, read_line, read_end, read_lines, read_of, lines_of, ◌>>=◌}
+use Rattle.iscsi_recording.specs.Reading.{IsSoundIn}
 use Rattle.iscsi_replay.specs.Replayed.{setting_for}
 use Rattle.iscsi_replay.specs.Again.{conn_lines, again_of, IsRecordableConn, IsRecordableEvent, IsRecordable, IsReadAgain}
-use Rattle.iscsi_replay.proofs.RecordedLemmas.{line_keeps, of_more, sound_from}
+use Rattle.iscsi_recording.proofs.RecordedLemmas.{line_keeps, of_more, sound_from}
 use Rattle.iscsi_replay.proofs.AgainLemmas.{reads_both, conns_read, report_reads, whole_read}
 use Rattle.iscsi_replay.proofs.ShortRuns.{either, run_short, run_count}
 

@@ -11,7 +11,7 @@ use Rattle.iscsi_session.specs.declared.fault.SessionFault.TheVariants.{NoMemory
 use Rattle.iscsi_history.specs.rules.Settings.{Setting, is_valid}
 use Rattle.iscsi_session.specs.promises.Refusals.{RefusesAs, refusal_of, refusal_of_options}
 use Rattle.iscsi_history.specs.rules.Agenda.{belongs}
-use Rattle.iscsi_replay.specs.Recorded.{belongs_to}
+use Rattle.iscsi_recording.specs.Recorded.{belongs_to}
 
 -- where nothing is refused, a refusal is want of memory
 pub memory_alone : {A : Type 0} (refusal : Option SessionFault) (result : Result A SessionFault) (fault : SessionFault) → refusal ≡ None → result ≡ Err fault

@@ -11,12 +11,12 @@ use Rattle.iscsi_history.specs.rules.Settings.{Setting}
 use Rattle.iscsi_history.specs.rules.Run.{next_entry}
 use Rattle.iscsi_report.specs.Lines.{event_line, effect_line, entry_lines}
 use Rattle.iscsi_report.proofs.LineLemmas.{report_of-push}
-use Rattle.iscsi_replay.specs.declared.settings.Settings.{Settings}
-use Rattle.iscsi_replay.specs.declared.fault.ReplayFault.{ReplayFault}
-use Rattle.iscsi_replay.specs.Recorded.{Recorded, read_of}
+use Rattle.iscsi_settings.specs.declared.settings.Settings.{Settings}
+use Rattle.iscsi_recording.specs.declared.fault.ReplayFault.{ReplayFault}
+use Rattle.iscsi_recording.specs.Recorded.{Recorded, read_of}
 use Rattle.iscsi_replay.specs.Replayed.{report_by, report_of, FrontReported}
-use Rattle.iscsi_replay.specs.Writing.{AppendsFront, AppendsBut}
-use Rattle.iscsi_replay.proofs.Written.{nothing_of, front_longer, waits_more, all_after}
+use Rattle.iscsi_recording.specs.Writing.{AppendsFront, AppendsBut}
+use Rattle.iscsi_recording.proofs.Written.{nothing_of, front_longer, waits_more, all_after}
 
 -- the report of more events begins with that of the first ones
 pub report_longer : (o : Setting) (h es : List Event)

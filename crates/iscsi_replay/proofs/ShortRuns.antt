@@ -24,8 +24,8 @@ use Rattle.iscsi_history.specs.rules.Items.{marks_after, execution, item_of, wai
 use Rattle.iscsi_history.specs.rules.Agenda.{with_turns, numbered, kind_of, arrival_as, arrival, arrival_of, command_of, items_of}
 use Rattle.iscsi_history.specs.rules.Run.{after_event, effects_of_mark, newly_enabled, effects_of_item, effects_of, entries_from, entry_of, run_of}
 use Rattle.iscsi_replay.specs.Again.{IsRecordableEvent}
-use Rattle.iscsi_replay.proofs.FieldLemmas.{decimal_length}
-use Rattle.iscsi_replay.proofs.EffectLemmas.{IsShortReply, IsShortEffect}
+use Rattle.iscsi_recording.proofs.FieldLemmas.{decimal_length}
+use Rattle.iscsi_recording.proofs.EffectLemmas.{IsShortReply, IsShortEffect}
 use Rattle.iscsi_replay.proofs.AgainLemmas.{IsShortEntry}
 
 -- ---- replies

@@ -25,8 +25,8 @@ use Rattle.iscsi_threads.proofs.Lists.{some_of}
 use Rattle.iscsi_threads.proofs.Turning.{known_at}
 use Rattle.iscsi_threads.proofs.OpenLemmas.{differ_of}
 use Rattle.iscsi_threads.proofs.Journals.{heads_after, map_same, part_snoc}
-use Rattle.iscsi_replay.specs.declared.settings.Settings.{Settings}
-use Rattle.iscsi_replay.specs.Recorded.{Recorded, belongs_to}
+use Rattle.iscsi_settings.specs.declared.settings.Settings.{Settings}
+use Rattle.iscsi_recording.specs.Recorded.{Recorded, belongs_to}
 use Rattle.iscsi_replay.specs.Threaded.{setting_for_threads, headers, ThreadsRan}
 
 -- ---- the lists of headers

@@ -4,14 +4,14 @@ use Rattle.std.specs.Prelude.{IfSome, OnOk, IsErrOf}
 use Rattle.std.proofs.lemmas.Bool.{false≢true}
 use Rattle.clap.specs.Words.{Row, Text, fault_of, matches_of}
 use Rattle.iscsi_history.specs.rules.Settings.{is_within}
-use Rattle.iscsi_replay.specs.Command.{replay_app, IsNumberIn, HasValues, SettingsAre}
-use Rattle.iscsi_replay.specs.Limits.{are_valid}
-use Rattle.iscsi_replay.specs.Order.{ReadsInOrder}
-use Rattle.iscsi_replay.specs.Recorded.{read_of}
+use Rattle.iscsi_settings.specs.Command.{replay_app, IsNumberIn, HasValues, SettingsAre}
+use Rattle.iscsi_settings.specs.Limits.{are_valid}
+use Rattle.iscsi_recording.specs.Order.{ReadsInOrder}
+use Rattle.iscsi_recording.specs.Recorded.{read_of}
 use Rattle.iscsi_replay.specs.Told.{AnswersBy, FrontBy, IsReplayAsTold, KeepsWordBy, ReportedBy}
-use Rattle.iscsi_replay.specs.declared.fault.ReplayFault.{ReplayFault}
-use Rattle.iscsi_replay.specs.declared.fault.ReplayFault.TheVariants.{BadSettings}
-use Rattle.iscsi_replay.specs.declared.settings.Settings.{Settings}
+use Rattle.iscsi_recording.specs.declared.fault.ReplayFault.{ReplayFault}
+use Rattle.iscsi_recording.specs.declared.fault.ReplayFault.TheVariants.{BadSettings}
+use Rattle.iscsi_settings.specs.declared.settings.Settings.{Settings}
 
 within_limits : (text : Option Text) (high n : ℕ) → IsNumberIn text high n → is_within n high ≡ true
 within_limits None high n h = absurd h

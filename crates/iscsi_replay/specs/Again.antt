@@ -5,10 +5,10 @@ use Rattle.hex.specs.Hex.{IsBytes}
 use Rattle.iscsi_history.specs.declared.event.Event.{Event}
 use Rattle.iscsi_history.specs.declared.event.Event.TheVariants.{Arrive, Done}
 use Rattle.iscsi_report.specs.Lines.{eight_digits}
-use Rattle.iscsi_replay.specs.Recorded.{Recorded, IsSound, lines_of, read_of}
+use Rattle.iscsi_recording.specs.Recorded.{Recorded, IsSound, lines_of, read_of}
 use Rattle.iscsi_replay.specs.Replayed.{report_of}
-use Rattle.iscsi_replay.specs.declared.settings.Settings.{Settings}
-use Rattle.iscsi_replay.specs.declared.fault.ReplayFault.{ReplayFault}
+use Rattle.iscsi_settings.specs.declared.settings.Settings.{Settings}
+use Rattle.iscsi_recording.specs.declared.fault.ReplayFault.{ReplayFault}
 
 -- `conn cid statsn`
 abbrev pub conn_line : ℕ × ℕ → List ℕ

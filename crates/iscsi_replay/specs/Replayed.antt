@@ -7,11 +7,11 @@ use Rattle.iscsi_history.specs.declared.entry.Entry.{Entry}
 use Rattle.iscsi_history.specs.promises.Promises.{KeepsPromises}
 use Rattle.iscsi_history.specs.rules.Run.{run_of}
 use Rattle.iscsi_report.specs.Lines.{report_from}
-use Rattle.iscsi_replay.specs.Recorded.{Recorded, read_of}
-use Rattle.iscsi_replay.specs.Writing.{AppendsFront}
-use Rattle.iscsi_replay.specs.declared.settings.Settings.{Settings}
-use Rattle.iscsi_replay.specs.declared.fault.ReplayFault.{ReplayFault}
-use Rattle.iscsi_replay.specs.declared.fault.ReplayFault.TheVariants as fault
+use Rattle.iscsi_recording.specs.Recorded.{Recorded, read_of}
+use Rattle.iscsi_recording.specs.Writing.{AppendsFront}
+use Rattle.iscsi_settings.specs.declared.settings.Settings.{Settings}
+use Rattle.iscsi_recording.specs.declared.fault.ReplayFault.{ReplayFault}
+use Rattle.iscsi_recording.specs.declared.fault.ReplayFault.TheVariants as fault
 
 -- the options of a session that takes so many events
 abbrev pub setting_with : ℕ → Settings → List (ℕ × ℕ) → Setting

@@ -12,12 +12,12 @@ use Rattle.iscsi_threads.specs.Journal.{cids_in, part, done, are_sources}
 use Rattle.iscsi_threads.specs.Jobs.{jobs}
 use Rattle.iscsi_threads.specs.Outcomes.{ticket_of}
 use Rattle.iscsi_threads.specs.Works.{ticket_answered}
-use Rattle.iscsi_replay.specs.Recorded.{Recorded}
+use Rattle.iscsi_recording.specs.Recorded.{Recorded}
 use Rattle.iscsi_replay.specs.Replayed.{setting_with, report_by, CanStop, IsFaultOr}
-use Rattle.iscsi_replay.specs.Writing.{AppendsFront}
-use Rattle.iscsi_replay.specs.declared.settings.Settings.{Settings}
-use Rattle.iscsi_replay.specs.declared.fault.ReplayFault.{ReplayFault}
-use Rattle.iscsi_replay.specs.declared.fault.ReplayFault.TheVariants as fault
+use Rattle.iscsi_recording.specs.Writing.{AppendsFront}
+use Rattle.iscsi_settings.specs.declared.settings.Settings.{Settings}
+use Rattle.iscsi_recording.specs.declared.fault.ReplayFault.{ReplayFault}
+use Rattle.iscsi_recording.specs.declared.fault.ReplayFault.TheVariants as fault
 
 -- the options of a session with threads: an arrival and an answer for each line that a recording may have
 abbrev pub setting_for_threads : Settings → List (ℕ × ℕ) → Setting

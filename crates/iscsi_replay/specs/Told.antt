@@ -1,14 +1,14 @@
 -- What the program answers and writes, for the words of its command line.
 use Rattle.std.specs.Prelude.{◌≡◌, ◌≢◌, ℕ, Bool, true, false, List, [], Option, None, Result, Ok, Err, OnOk, IfSome, ⊤}
 use Rattle.clap.specs.Words.{Text, HasKind, fault_of, matches_of}
-use Rattle.iscsi_replay.specs.Command.{replay_app, first_number, HasFlag, HasValues}
-use Rattle.iscsi_replay.specs.Order.{ReadsInOrder}
-use Rattle.iscsi_replay.specs.Recorded.{Recorded, read_of}
+use Rattle.iscsi_settings.specs.Command.{replay_app, first_number, HasFlag, HasValues}
+use Rattle.iscsi_recording.specs.Order.{ReadsInOrder}
+use Rattle.iscsi_recording.specs.Recorded.{Recorded, read_of}
 use Rattle.iscsi_replay.specs.Replayed.{Reported, KeepsWord, FrontReported, AnswersAs, ComesOfReading}
 use Rattle.iscsi_replay.specs.Threaded.{ThreadsReported, ThreadsAnswerAs, FrontOfThreads}
-use Rattle.iscsi_replay.specs.declared.settings.Settings.{Settings}
-use Rattle.iscsi_replay.specs.declared.fault.ReplayFault.{ReplayFault}
-use Rattle.iscsi_replay.specs.declared.fault.ReplayFault.TheVariants.{BadSettings}
+use Rattle.iscsi_settings.specs.declared.settings.Settings.{Settings}
+use Rattle.iscsi_recording.specs.declared.fault.ReplayFault.{ReplayFault}
+use Rattle.iscsi_recording.specs.declared.fault.ReplayFault.TheVariants.{BadSettings}
 use Rattle.iscsi_replay.specs.declared.stopping.Stop.{Stop}
 use Rattle.iscsi_replay.specs.declared.stopping.Stop.TheVariants.{Fault, CommandLine, BadFirst, NotText}
 

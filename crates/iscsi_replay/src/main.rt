@@ -2,30 +2,15 @@
 //! output.
 #![tactic(auto)]
 
-mod bytes;
-mod command_line;
-mod conns;
-mod event_source;
-mod events;
-mod fault;
-mod line;
-mod named;
-mod parse;
 mod program;
-mod reading;
-mod recording;
 mod replaying;
-mod settings;
-mod sink;
-mod source;
 mod stopping;
 mod threading;
-mod watched;
 
 ghost use Rattle.std.specs.Prelude.{◌≡◌, IfOk, map, string_bytes};
 
-use fault::ReplayFault;
-use named::Named;
+use iscsi_recording::{ReplayFault, Watched};
+use iscsi_settings::Named;
 use program::replay_as_told;
 use std::alloc::Global;
 use std::env::Env;
@@ -35,7 +20,6 @@ use std::sync::Wait;
 use std::thread::Threads;
 use std::{env, io};
 use stopping::{Stop, exit_code};
-use watched::Watched;
 
 /// The words of the command line, the program's name first.
 fn words<R: Env + AllocGlobal>(rt: &R) -> Result<Vec<String>, Stop> {

@@ -4,13 +4,11 @@ ghost use Rattle.std.specs.Prelude.{◌≡◌, ◌↔◌, ◌⊎◌, map, true, 
 ghost use Rattle.iscsi_replay.specs.Replayed.{IsReadWhole};
 ghost use Rattle.iscsi_replay.specs.Told.{IsAsTold, ComesOfWords, ComesBeforeReport};
 
-use crate::command_line;
-use crate::fault::ReplayFault;
 use crate::replaying::replay;
-use crate::sink::Sink;
-use crate::source::Source;
 use crate::stopping::Stop;
 use crate::threading::replay_threads;
+use iscsi_recording::{ReplayFault, Sink, Source};
+use iscsi_settings::command_line;
 use std::alloc::Global;
 use std::sync::Wait;
 use std::thread::Threads;

@@ -6,24 +6,21 @@ ghost use Rattle.std.specs.Io.KnownBytes.{Appends};
 ghost use Rattle.iscsi_history.specs.rules.Settings.{is_valid};
 ghost use Rattle.iscsi_session.specs.promises.Standing.{StandsFor};
 ghost use Rattle.iscsi_report.specs.Lines.{event_line, entry_lines};
-ghost use Rattle.iscsi_replay.specs.Limits.{are_valid};
-ghost use Rattle.iscsi_replay.specs.Recorded.{Recorded, view, read_of, belongs_to};
-ghost use Rattle.iscsi_replay.specs.Order.{ReadsInOrder};
+ghost use Rattle.iscsi_settings.specs.Limits.{are_valid};
+ghost use Rattle.iscsi_recording.specs.Recorded.{Recorded, view, read_of, belongs_to};
+ghost use Rattle.iscsi_recording.specs.Order.{ReadsInOrder};
 ghost use Rattle.iscsi_history.specs.promises.Promises.{KeepsPromises};
 ghost use Rattle.iscsi_history.specs.rules.Run.{run_of};
 ghost use Rattle.iscsi_replay.specs.Replayed.{setting_with, report_by, Reported, KeepsWord, FrontReported, AnswersAs, ComesOfReading, IsReadWhole};
-ghost use Rattle.iscsi_replay.specs.Writing.{AppendsFront, AppendsBut};
+ghost use Rattle.iscsi_recording.specs.Writing.{AppendsFront, AppendsBut};
 ghost use Rattle.iscsi_replay.specs.Again.{IsRecordable, IsReadAgain};
 
-use crate::event_source::{EventSource, NO_EVENT};
-use crate::fault::ReplayFault;
-use crate::reading::read_recording;
-use crate::recording::Recording;
-use crate::settings::Settings;
-use crate::sink::{Sink, put_all};
-use crate::source::Source;
+use iscsi_recording::{
+    EventSource, NO_EVENT, Recording, ReplayFault, Sink, Source, put_all, read_recording,
+};
 use iscsi_report::Lines;
 use iscsi_session::{Effect, Event, Numbers, Options, Session, SessionFault};
+use iscsi_settings::Settings;
 use std::alloc::{AllocError, Global};
 
 /// The most events that a session takes: a recording has no more lines.

@@ -4,8 +4,8 @@ ghost use Rattle.std.specs.Prelude.{◌≡◌, ◌≢◌, ◌≤◌, OnOk, IfErr
 ghost use Rattle.std.specs.Process.{exit_status};
 ghost use Rattle.iscsi_replay.specs.Stops.{status_of};
 
-use crate::fault::ReplayFault;
 use clap::error::ErrorKind;
+use iscsi_recording::ReplayFault;
 use std::io;
 use std::io::{Eprint, Print};
 use std::process::ExitCode;

@@ -5,22 +5,18 @@ ghost use Rattle.std.specs.List.{list_all};
 ghost use Rattle.iscsi_history.specs.rules.Settings.{are_distinct};
 ghost use Rattle.iscsi_threads.specs.Journal.{cids_in, parts};
 ghost use Rattle.iscsi_threads.specs.Ends.{grow};
-ghost use Rattle.iscsi_replay.specs.Limits.{are_valid};
-ghost use Rattle.iscsi_replay.specs.Recorded.{view, read_of, belongs_to, IsSound};
-ghost use Rattle.iscsi_replay.specs.Order.{ReadsInOrder};
+ghost use Rattle.iscsi_settings.specs.Limits.{are_valid};
+ghost use Rattle.iscsi_recording.specs.Recorded.{view, read_of, belongs_to, IsSound};
+ghost use Rattle.iscsi_recording.specs.Order.{ReadsInOrder};
 ghost use Rattle.iscsi_replay.specs.Replayed.{ComesOfReading, IsReadWhole};
 ghost use Rattle.iscsi_replay.specs.Threaded.{headers, ComesOfThreads, IsJournalOf, ThreadsReported, FrontOfThreads, ThreadsAnswerAs};
 
-use crate::event_source::{EventSource, Listed, NO_EVENT};
-use crate::events::Events;
-use crate::fault::ReplayFault;
-use crate::reading::read_recording;
-use crate::recording::Recording;
 use crate::replaying::write_report;
-use crate::settings::Settings;
-use crate::sink::Sink;
-use crate::source::Source;
+use iscsi_recording::{
+    EventSource, Events, Listed, NO_EVENT, Recording, ReplayFault, Sink, Source, read_recording,
+};
 use iscsi_session::{Event, Options};
+use iscsi_settings::Settings;
 use iscsi_threads::{LoopFault, UnitWork, serve_unlogged};
 use std::alloc::{AllocError, Global};
 use std::sync::Wait;

@@ -22,9 +22,7 @@ pub(crate) struct Marks {
 
 impl Drop for Marks {
     fn drop(self) {
-        let Marks {
-            words: _words,
-        } = self;
+        let Marks { words: _words } = self;
     }
 }
 
@@ -88,9 +86,7 @@ pub(crate) struct Bells {
 
 impl Drop for Bells {
     fn drop(self) {
-        let Bells {
-            words: _words,
-        } = self;
+        let Bells { words: _words } = self;
     }
 }
 

@@ -15,7 +15,7 @@ use crate::job::{Answer, Job};
 use crate::opening::PLACES;
 use crate::outlet::Outlet;
 use crate::port::{Port, UnitPort};
-use crate::session_loop::{Loop, Remains};
+use crate::session_loop::Loop;
 use iscsi_session::{Event, Log, run};
 use rtrb::{Consumer, Producer};
 use std::alloc::{AllocError, Global};
@@ -68,10 +68,10 @@ pub struct Unfinished {
 
 // Lists for what is left in the rings, with room for all of it.
 #[derive(Drop)]
-struct Rooms {
-    left: Vec<Vec<[u8; 48]>>,
-    untaken: Vec<Vec<u64>>,
-    unread: Vec<Vec<Answer>>,
+pub(crate) struct Rooms {
+    pub(crate) left: Vec<Vec<[u8; 48]>>,
+    pub(crate) untaken: Vec<Vec<u64>>,
+    pub(crate) unread: Vec<Vec<Answer>>,
 }
 
 // Room for what a ring may have, for each of so many rings.
@@ -172,7 +172,11 @@ fn drain_outlet(
 }
 
 // Empties each ring of headers.
-fn drain_inlets(inlets: &mut Vec<Inlet>, ports: &mut Vec<Port>, left: &mut Vec<Vec<[u8; 48]>>)
+pub(crate) fn drain_inlets(
+    inlets: &mut Vec<Inlet>,
+    ports: &mut Vec<Port>,
+    left: &mut Vec<Vec<[u8; 48]>>,
+)
     requires pairs { map port_ring ports.old.items ≡ map inlet_ring inlets.old.items }
     requires room { (vec_len left.old ≡ vec_len ports.old) × (vec_len inlets.old ≡ vec_len ports.old)
         × AllReady left.old.items }
@@ -185,7 +189,7 @@ fn drain_inlets(inlets: &mut Vec<Inlet>, ports: &mut Vec<Port>, left: &mut Vec<V
 }
 
 // Empties each unit's rings and backlog.
-fn drain_outlets(
+pub(crate) fn drain_outlets(
     outlets: &mut Vec<Outlet>,
     units: &mut Vec<UnitPort>,
     untaken: &mut Vec<Vec<u64>>,
@@ -210,7 +214,7 @@ fn drain_outlets(
 }
 
 // Moves the ticket of each fresh job behind the others of its unit. A job of a unit that isn't there is dropped.
-fn drain_fresh(fresh: &mut VecDeque<Job>, untaken: &mut Vec<Vec<u64>>)
+pub(crate) fn drain_fresh(fresh: &mut VecDeque<Job>, untaken: &mut Vec<Vec<u64>>)
     requires { HaveRoom (deque_len fresh.old) untaken.old.items }
     ensures noted { Noted fresh.old.items untaken.old.items untaken.new.items }
     ensures len { vec_len untaken.new ≡ vec_len untaken.old }
@@ -303,35 +307,5 @@ impl Loop {
             untaken: make_job_rooms(self.alloc, &self.outlets, self.fresh.len())?,
             unread: make_rooms(self.alloc, self.outlets.len())?,
         })
-    }
-
-    // Empties all rings into the rooms, and hands out what went through them.
-    fn drain(self, mut ports: Vec<Port>, mut units: Vec<UnitPort>, rooms: Rooms) -> Ended
-        requires belong { Belong self ports.items units.items }
-        requires rooms { FitsAll self rooms }
-        ensures { EndedAs self ports.items units.items result }
-    {
-        let Remains {
-            mut inlets,
-            mut outlets,
-            mut fresh,
-            journal,
-            from,
-        } = self.into_remains();
-        let Rooms {
-            mut left,
-            mut untaken,
-            mut unread,
-        } = rooms;
-        drain_inlets(&mut inlets, &mut ports, &mut left);
-        drain_outlets(&mut outlets, &mut units, &mut untaken, &mut unread);
-        drain_fresh(&mut fresh, &mut untaken);
-        Ended {
-            journal,
-            from,
-            left,
-            untaken,
-            unread,
-        }
     }
 }

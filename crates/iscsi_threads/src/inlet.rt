@@ -13,9 +13,7 @@ pub(crate) struct Inlet {
 
 impl Drop for Inlet {
     fn drop(self) {
-        let Inlet {
-            headers: _headers,
-        } = self;
+        let Inlet { headers: _headers } = self;
     }
 }
 

@@ -13,9 +13,11 @@ ghost use Rattle.iscsi_threads.specs.Journal.{cids_of, parts, dones, all_jobs, a
 use crate::bell::Bells;
 use crate::desk::Desk;
 use crate::ends::Watch;
+use crate::finish::{Ended, Rooms, drain_fresh, drain_inlets, drain_outlets};
 use crate::inlet::Inlet;
 use crate::job::Job;
 use crate::outlet::Outlet;
+use crate::port::{Port, UnitPort};
 use iscsi_session::{Event, Options, Session};
 use std::alloc::Global;
 use std::collections::VecDeque;
@@ -67,43 +69,45 @@ impl Drop for Loop {
     }
 }
 
-/// What is left of a loop that ends.
-#[derive(Drop)]
-pub(crate) struct Remains {
-    pub(crate) inlets: Vec<Inlet>,
-    pub(crate) outlets: Vec<Outlet>,
-    pub(crate) fresh: VecDeque<Job>,
-    pub(crate) journal: Vec<Event>,
-    pub(crate) from: Vec<u16>,
-}
-
 impl Loop {
-    /// Takes it apart.
-    pub(crate) fn into_remains(self) -> Remains
-        ensures rings { (result.inlets ≡ self.inlets) × (result.outlets ≡ self.outlets) }
-        ensures fresh { result.fresh ≡ self.fresh }
-        ensures journal { (result.journal ≡ self.journal) × (result.from ≡ self.from) }
+    ghost use Rattle.iscsi_threads.specs.Loops.{Belong};
+    ghost use Rattle.iscsi_threads.specs.Outcomes.{EndedAs};
+    ghost use Rattle.iscsi_threads.specs.Finishing.{FitsAll};
+
+    // Empties all rings into the rooms, and hands out what went through them.
+    pub(crate) fn drain(self, mut ports: Vec<Port>, mut units: Vec<UnitPort>, rooms: Rooms) -> Ended
+        requires belong { Belong self ports.items units.items }
+        requires rooms { FitsAll self rooms }
+        ensures { EndedAs self ports.items units.items result }
     {
         let Loop {
             alloc: _alloc,
             options: _options,
             session: _session,
-            inlets,
-            outlets,
+            mut inlets,
+            mut outlets,
             desk: _desk,
-            fresh,
+            mut fresh,
             journal,
             from,
             bells: _bells,
             watch: _watch,
             next: _next,
         } = self;
-        Remains {
-            inlets,
-            outlets,
-            fresh,
+        let Rooms {
+            mut left,
+            mut untaken,
+            mut unread,
+        } = rooms;
+        drain_inlets(&mut inlets, &mut ports, &mut left);
+        drain_outlets(&mut outlets, &mut units, &mut untaken, &mut unread);
+        drain_fresh(&mut fresh, &mut untaken);
+        Ended {
             journal,
             from,
+            left,
+            untaken,
+            unread,
         }
     }
 }

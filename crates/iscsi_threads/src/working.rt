@@ -27,9 +27,7 @@ pub(crate) struct Works {
 
 impl Drop for Works {
     fn drop(self) {
-        let Works {
-            port: _port,
-        } = self;
+        let Works { port: _port } = self;
     }
 }
 

@@ -1,4 +1,4 @@
-use Rattle.iscsi_replay.proofs.OrderLemmas.{settings_at_first}
+use Rattle.iscsi_recording.proofs.OrderLemmas.{settings_at_first}
 use Rattle.iscsi_replay.proofs.ReportLemmas.{front_of_none}
 use Rattle.iscsi_replay.proofs.replaying.replay.Goals as goal
 

@@ -6,13 +6,13 @@ use Rattle.iscsi_history.specs.promises.Flow.{FlowsThrough}
 use Rattle.iscsi_history.proofs.FlowItems.{FlowsThrough-push, FlowsThrough-none}
 use Rattle.iscsi_session.proofs.PromiseLemmas.{promises_kept}
 use Rattle.iscsi_session.specs.promises.Standing.{StandsFor}
-use Rattle.iscsi_replay.specs.declared.fault.ReplayFault.{ReplayFault}
-use Rattle.iscsi_replay.specs.declared.fault.ReplayFault.TheVariants.{Write, NoMemory}
+use Rattle.iscsi_recording.specs.declared.fault.ReplayFault.{ReplayFault}
+use Rattle.iscsi_recording.specs.declared.fault.ReplayFault.TheVariants.{Write, NoMemory}
 use Rattle.iscsi_replay.specs.Replayed.{setting_with}
-use Rattle.iscsi_replay.proofs.Written.{front_before, front_after, waits_not, waits_less}
+use Rattle.iscsi_recording.proofs.Written.{front_before, front_after, waits_not, waits_less}
 use Rattle.iscsi_replay.proofs.ReportLemmas.{front_of_all, effects_alone, waits_next, all_written}
 use Rattle.iscsi_replay.proofs.RefusalLemmas.{memory_alone, event_taken}
-use Rattle.iscsi_replay.proofs.SourceLemmas.{with_next, past_next, all_came}
+use Rattle.iscsi_recording.proofs.SourceLemmas.{with_next, past_next, all_came}
 use Rattle.iscsi_replay.proofs.replaying.write_report.Goals as goal
 
 pub events-init : goal.events-init

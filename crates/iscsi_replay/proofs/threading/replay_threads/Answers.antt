@@ -1,7 +1,7 @@
 use Rattle.std.proofs.Common.{◌≡◌, ◌∙◌, true, sym, subst}
 use Rattle.std.specs.List.{list_all}
-use Rattle.iscsi_replay.specs.Recorded.{belongs_to}
-use Rattle.iscsi_replay.proofs.OrderLemmas.{settings_at_first}
+use Rattle.iscsi_recording.specs.Recorded.{belongs_to}
+use Rattle.iscsi_recording.proofs.OrderLemmas.{settings_at_first}
 use Rattle.iscsi_replay.proofs.ThreadLemmas.{sources_known}
 use Rattle.iscsi_replay.proofs.threading.replay_threads.Goals as goal
 

@@ -1,7 +1,7 @@
 use Rattle.std.proofs.Common.{◌≡◌, ℕ, List, map, subst, rules}
 use Rattle.iscsi_replay.specs.Threaded.{headers, IsJournalOf}
 use Rattle.iscsi_threads.specs.Journal.{cids_in, parts}
-use Rattle.iscsi_replay.specs.Recorded.{Recorded}
+use Rattle.iscsi_recording.specs.Recorded.{Recorded}
 use Rattle.iscsi_replay.proofs.ThreadLemmas.{ran_of}
 use Rattle.iscsi_replay.proofs.threading.run_threads.Goals as goal
 

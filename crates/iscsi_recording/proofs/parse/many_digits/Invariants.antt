@@ -1,0 +1,6 @@
+use Rattle.std.proofs.Common.{◌≡◌, ◌≤◌, drop}
+use Rattle.iscsi_recording.specs.Fields.{digits_after}
+use Rattle.iscsi_recording.proofs.parse.many_digits.Given as goal
+
+abbrev pub invariant-loop-d : goal.invariant-loop-d
+invariant-loop-d l = record { read : digits_after l.n (drop l.d-index l.text) ≡ digits_after 0 l.text; small : l.n ≤ l.max }

@@ -1,0 +1,13 @@
+use Rattle.std.proofs.Common.{◌≡◌, ℕ, ◌+◌, ◌≤◌, List, ◌++◌, length}
+use Rattle.iscsi_recording.specs.Reading.{IsReading, left_of, weight}
+use Rattle.iscsi_recording.proofs.reading.Reading.take_chunk.Given as goal
+
+abbrev pub invariant-lines : goal.invariant-lines
+invariant-lines l = record {
+  ready : IsReading l.self;
+  read : (rest : List ℕ) → left_of l.self (l.left ++ rest) ≡ left_of l.initial.self (l.chunk ++ rest);
+  more : weight l.initial.self + length l.chunk ≤ weight l.self + length l.left;
+}
+
+abbrev pub decreases-lines : goal.decreases-lines
+decreases-lines l = length l.left

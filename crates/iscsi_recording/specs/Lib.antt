@@ -1,0 +1,11 @@
+pub mod Fields
+pub mod Grammar
+pub mod Faults
+pub mod Recorded
+pub mod Order
+pub mod Reading
+pub mod Watched
+pub mod Known
+pub mod Dense
+pub mod Writing
+pub mod DigitValues

@@ -1,0 +1,296 @@
+//! One line of a recording.
+
+ghost use Rattle.std.specs.Prelude.{◌≡◌, ℕ, ◌+◌, ◌-◌, ◌*◌, ◌^◌, ◌<◌, ◌≤◌, IfSome, true, false, length, slice_index, MatchOption, option_map, option_and_then, position};
+ghost use Rattle.std.specs.List.{before_first, after_first, list_any};
+ghost use Rattle.std.specs.Int.{w32, from_be_bytes};
+ghost use Rattle.iscsi_recording.specs.Fields.{is_blank, digits_after, is_digit, up_to, decimal_of, hex_of};
+ghost use Rattle.iscsi_recording.specs.DigitValues.{IsValue, HasNonDigit, AreValues, paired};
+ghost use Rattle.iscsi_recording.specs.Grammar.{arrival_of, completion_of, event_of, connection_of, line_of};
+ghost use Rattle.iscsi_recording.specs.Reading.{is_end};
+
+use crate::line::Line;
+use iscsi_history::Event;
+
+#[inline(always)]
+fn first_blank(bytes: &[u8]) -> Option<usize>
+    ensures { result ≡ position is_blank bytes.now }
+{
+    bytes.iter().position(|b| *b == b' ')
+}
+
+/// What stands before the first blank, and what stands after it.
+#[inline(always)]
+fn cut(bytes: &[u8]) -> (&[u8], &[u8])
+    ensures first { result.0.now ≡ before_first is_blank bytes.now }
+    ensures rest { result.1.now ≡ after_first is_blank bytes.now }
+{
+    match first_blank(bytes) {
+        Some(i) => (&bytes[..i], &bytes[i + 1..]),
+        None => (bytes, &[]),
+    }
+}
+
+fn is_decimal(d: u8) -> bool
+    ensures { result ≡ is_digit d }
+{
+    (b'0'..=b'9').contains(&d)
+}
+
+/// The number with one more digit, where it isn't above `max`.
+fn pushed(n: u64, d: u8, max: u64) -> Option<u64>
+    requires { is_digit d ≡ true }
+    ensures { result ≡ up_to max (n * 10 + (d - 48)) }
+{
+    let d = u64::from(d - b'0');
+    if d <= max && n <= (max - d) / 10 {
+        Some(n * 10 + d)
+    } else {
+        None
+    }
+}
+
+/// A number of any count of digits.
+#[inline(always)]
+#[tactic(auto, using(crate::proofs::Digits::digits_over))]
+fn many_digits(text: &[u8], max: u64) -> Option<u64>
+    ensures { result ≡ option_and_then (up_to max) (digits_after 0 text.now) }
+{
+    let mut n = 0u64;
+    for d in text {
+        if !is_decimal(*d) {
+            return None;
+        }
+        let Some(more) = pushed(n, *d, max) else {
+            return None;
+        };
+        n = more;
+    }
+    Some(n)
+}
+
+/// A number of so few digits that it is below 2^64.
+#[inline(always)]
+fn few_digits(text: &[u8]) -> Option<u64>
+    requires { length text.now ≤ 19 }
+    ensures { result ≡ digits_after 0 text.now }
+{
+    let mut n = 0u64;
+    for d in text {
+        if !is_decimal(*d) {
+            return None;
+        }
+        n = n * 10 + u64::from(*d - b'0');
+    }
+    Some(n)
+}
+
+#[inline(always)]
+fn digits(text: &[u8], max: u64) -> Option<u64>
+    ensures { result ≡ option_and_then (up_to max) (digits_after 0 text.now) }
+{
+    if text.len() > 19 {
+        return many_digits(text, max);
+    }
+    let n = few_digits(text)?;
+    if n <= max { Some(n) } else { None }
+}
+
+#[inline(always)]
+fn decimal(text: &[u8], max: u64) -> Option<u64>
+    ensures { result ≡ decimal_of max text.now }
+{
+    match text {
+        [] => None,
+        [b'0', _, ..] => None,
+        _ => digits(text, max),
+    }
+}
+
+#[inline(always)]
+fn hexadecimal<const N: usize>(text: &[u8]) -> Option<[u8; N]>
+    ensures { result ≡ hex_of N text.now }
+{
+    let mut bytes = [0u8; N];
+    match hex::decode_to_slice(text, &mut bytes) {
+        Ok(()) => Some(bytes),
+        Err(_) => None,
+    }
+}
+
+/// The value of a hexadecimal digit of either case, or 16 or more where the byte is none.
+///
+/// It has no branch, so that many bytes are taken at once.
+#[inline(always)]
+fn digit_value(c: u8) -> u8
+    ensures { IsValue c result }
+{
+    // b'0' to b'9' become 0 to 9, and b'A' to b'F' 10 to 15. Any other byte becomes 16 or more in both.
+    let decimal = c
+        .wrapping_add(0xff - b'9')
+        .saturating_sub(6)
+        .wrapping_sub(0xf0);
+    let letter = (c & !0x20).wrapping_sub(b'A').saturating_add(10);
+    decimal.min(letter)
+}
+
+/// The values of 96 digits, or `None` where a byte is none.
+#[inline(always)]
+fn digit_values(text: &[u8]) -> Option<[u8; 96]>
+    requires { length text.now ≡ 96 }
+    ensures { MatchOption result (HasNonDigit text.now) (λ values. AreValues text.now values) }
+{
+    let mut values = [0u8; 96];
+    let mut most = 0u8;
+    'digits: for i in 0..96usize {
+        let v = digit_value(text[i]);
+        values[i] = v;
+        most = most.max(v);
+    }
+    if most < 16 { Some(values) } else { None }
+}
+
+/// The bytes of which these are the digits' values.
+#[inline(always)]
+fn joined(values: &[u8; 96]) -> [u8; 48]
+    requires { (k : ℕ) → slice_index values.now k < 16 }
+    ensures { result ≡ paired values.now }
+{
+    let mut bytes = [0u8; 48];
+    'bytes: for i in 0..48usize {
+        bytes[i] = values[2 * i] * 16 + values[2 * i + 1];
+    }
+    bytes
+}
+
+/// The 48 bytes of 96 digits.
+#[inline(always)]
+fn decode_48(text: &[u8]) -> Option<[u8; 48]>
+    ensures { result ≡ hex_of 48 text.now }
+{
+    if text.len() != 96 {
+        return None;
+    }
+    let values = digit_values(text)?;
+    Some(joined(&values))
+}
+
+#[inline(always)]
+fn cid(text: &[u8]) -> Option<u16>
+    ensures { result ≡ decimal_of 65535 text.now }
+{
+    let n = decimal(text, 65535)?;
+    u16::try_from(n).ok()
+}
+
+/// An arrival, without the letter before it.
+#[inline(never)]
+pub fn arrival(bytes: &[u8]) -> Option<Event>
+    ensures { result ≡ arrival_of bytes.now }
+{
+    let (first, rest) = cut(bytes);
+    let conn = cid(first)?;
+    let header = decode_48(rest)?;
+    Some(Event::Arrive { conn, header })
+}
+
+/// The arrival that a line says in its common form: on a connection of one digit. `None` decides nothing.
+#[inline(always)]
+pub fn common_arrival(line: &[u8]) -> Option<(u16, [u8; 48])>
+    ensures said { IfSome result (λ r. line_of line.now ≡ Some (Line.Event (Event.Arrive r.0 r.1))) }
+    ensures one { IfSome result (λ r. list_any is_end line.now ≡ false) }
+{
+    let [b'C', b' ', d @ b'0'..=b'9', b' ', digits @ ..] = line else {
+        return None;
+    };
+    let header = decode_48(digits)?;
+    Some((u16::from(*d - b'0'), header))
+}
+
+/// A number of up to 18 digits at the front of a line, and what stands after the blank that ends it. `None` decides
+/// nothing.
+#[inline(always)]
+fn few_first(bytes: &[u8]) -> Option<(u64, &[u8])>
+    ensures { IfSome result (λ r. (decimal_of (2 ^ 64 - 1) (before_first is_blank bytes.now) ≡ Some r.0)
+        × (r.1.now ≡ after_first is_blank bytes.now)) }
+{
+    if let [] | [b'0' | b' ', ..] = bytes {
+        return None;
+    }
+    let mut n = 0u64;
+    'digits: for i in 0..bytes.len().min(19) {
+        let d = bytes[i];
+        if !is_decimal(d) {
+            if d == b' ' {
+                return Some((n, &bytes[i + 1..]));
+            }
+            return None;
+        }
+        n = n * 10 + u64::from(d - b'0');
+    }
+    None
+}
+
+/// The ticket at the front of a line, and what stands after the blank that ends it.
+#[inline(always)]
+fn ticket_first(bytes: &[u8]) -> Option<(u64, &[u8])>
+    ensures { MatchOption result (decimal_of (2 ^ 64 - 1) (before_first is_blank bytes.now) ≡ None)
+        (λ r. (decimal_of (2 ^ 64 - 1) (before_first is_blank bytes.now) ≡ Some r.0)
+        × (r.1.now ≡ after_first is_blank bytes.now)) }
+{
+    if let Some(found) = few_first(bytes) {
+        return Some(found);
+    }
+    let (first, rest) = cut(bytes);
+    let ticket = decimal(first, u64::MAX)?;
+    Some((ticket, rest))
+}
+
+/// A completion, without the letter before it.
+#[inline(always)]
+pub fn completion(bytes: &[u8]) -> Option<Event>
+    ensures { result ≡ completion_of bytes.now }
+{
+    let (ticket, rest) = ticket_first(bytes)?;
+    let [status] = hexadecimal::<1>(rest)?;
+    Some(Event::Done { ticket, status })
+}
+
+#[inline(never)]
+fn connection(bytes: &[u8]) -> Option<Line>
+    ensures { result ≡ connection_of bytes.now }
+{
+    let (first, rest) = cut(bytes);
+    let cid = cid(first)?;
+    let stat_sn = hexadecimal::<4>(rest)?;
+    Some(Line::Conn {
+        cid,
+        stat_sn: u32::from_be_bytes(stat_sn),
+    })
+}
+
+/// An event that stands behind the mark that it has in a report.
+#[inline(never)]
+fn marked(bytes: &[u8]) -> Option<Event>
+    ensures { result ≡ event_of bytes.now }
+{
+    match bytes {
+        [b'C', b' ', rest @ ..] => arrival(rest),
+        [b'D', b' ', rest @ ..] => completion(rest),
+        _ => None,
+    }
+}
+
+/// What a line says, or `None` where it is no line of a recording.
+#[inline(never)]
+pub fn parse_line(bytes: &[u8]) -> Option<Line>
+    ensures { result ≡ line_of bytes.now }
+{
+    match bytes {
+        [b'C', b' ', rest @ ..] => Some(Line::Event(arrival(rest)?)),
+        [b'D', b' ', rest @ ..] => Some(Line::Event(completion(rest)?)),
+        [b'>', b' ', rest @ ..] => Some(Line::Event(marked(rest)?)),
+        [b'c', b'o', b'n', b'n', b' ', rest @ ..] => connection(rest),
+        [] | [b'#' | b' ', ..] => Some(Line::Passed),
+        _ => None,
+    }
+}

@@ -1,0 +1,164 @@
+//! The connections and events of a recording.
+
+ghost use Rattle.std.specs.Prelude.{◌≡◌, true, false, Some, ok_or, option_map, option_and_then, [], OnErr};
+ghost use Rattle.iscsi_recording.specs.Grammar.{arrival_of, completion_of, line_of};
+ghost use Rattle.iscsi_recording.specs.Recorded.{view, take, read_line, Steps};
+ghost use Rattle.iscsi_recording.specs.declared.fault.ReplayFault.TheVariants.{BadLine};
+
+use crate::conns::Conns;
+use crate::events::Events;
+use crate::fault::ReplayFault;
+use crate::line::Line;
+use crate::parse::{arrival, completion, parse_line};
+use iscsi_history::Event;
+use std::alloc::Global;
+
+/// The most lines of a recording.
+pub const MAX_LINES: u32 = 1_048_576;
+
+/// The most bytes of a line, its end not counted.
+pub const MAX_LINE: usize = 256;
+
+const MAX_CONNS: usize = 64;
+
+/// What was recorded.
+#[derive(Debug, Drop)]
+pub struct Recording {
+    pub conns: Conns,
+    pub events: Events,
+}
+
+impl Recording {
+    /// The recording of no line, without memory.
+    pub fn new(alloc: Global) -> Recording
+        ensures conns { result.conns ≡ [] }
+        ensures events { result.events ≡ [] }
+    {
+        Recording {
+            conns: Conns::new(alloc),
+            events: Events::new(alloc),
+        }
+    }
+
+    fn take_conn(&mut self, number: u32, cid: u16, stat_sn: u32) -> Result<(), ReplayFault>
+        ensures step { Steps result (view self.new)
+            (ok_or (take (view self.old) (Line.Conn cid stat_sn)) (BadLine number)) }
+        ensures err { OnErr result (view self.new ≡ view self.old) }
+    {
+        if !self.events.is_empty() || self.conns.knows(cid) || self.conns.len() >= MAX_CONNS {
+            return Err(ReplayFault::BadLine(number));
+        }
+        match self.conns.push(cid, stat_sn) {
+            Ok(()) => Ok(()),
+            Err(_) => Err(ReplayFault::NoMemory),
+        }
+    }
+
+    #[inline(always)]
+    fn take_event(&mut self, number: u32, event: Event) -> Result<(), ReplayFault>
+        ensures step { Steps result (view self.new) (ok_or (take (view self.old) (Line.Event event)) (BadLine number)) }
+        ensures err { OnErr result (view self.new ≡ view self.old) }
+    {
+        if let Event::Arrive { conn, .. } = event {
+            if !self.conns.knows(conn) {
+                return Err(ReplayFault::BadLine(number));
+            }
+        }
+        match self.events.push(&event) {
+            Ok(()) => Ok(()),
+            Err(_) => Err(ReplayFault::NoMemory),
+        }
+    }
+
+    /// Takes what line `number` says. On `Err` the recording stays as it was.
+    pub fn take(&mut self, number: u32, line: Line) -> Result<(), ReplayFault>
+        ensures step { Steps result (view self.new) (ok_or (take (view self.old) line) (BadLine number)) }
+        ensures err { OnErr result (view self.new ≡ view self.old) }
+    {
+        match line {
+            Line::Passed => Ok(()),
+            Line::Conn { cid, stat_sn } => self.take_conn(number, cid, stat_sn),
+            Line::Event(event) => self.take_event(number, event),
+        }
+    }
+
+    /// Takes the event that line `number` says, if it says one.
+    #[inline(always)]
+    fn take_said(&mut self, number: u32, event: Option<Event>) -> Result<(), ReplayFault>
+        ensures step { Steps result (view self.new)
+            (ok_or (option_and_then (take (view self.old)) (option_map Line.Event event)) (BadLine number)) }
+        ensures err { OnErr result (view self.new ≡ view self.old) }
+    {
+        match event {
+            Some(event) => self.take_event(number, event),
+            None => Err(ReplayFault::BadLine(number)),
+        }
+    }
+
+    /// Takes an arrival, if its connection is known and memory isn't wanting, and tells whether it did. Otherwise the
+    /// recording stays as it was.
+    #[inline(always)]
+    pub fn take_common(&mut self, conn: u16, header: &[u8; 48]) -> bool
+        ensures taken { result ≡ true → take (view self.old) (Line.Event (Event.Arrive conn header.now))
+            ≡ Some (view self.new) }
+        ensures not { result ≡ false → self.new ≡ self.old }
+    {
+        self.conns.knows(conn) && self.events.push_arrival(conn, header).is_ok()
+    }
+
+    /// Takes the arrival that these bytes of line `number` say.
+    #[inline(never)]
+    fn take_arrival(&mut self, number: u32, bytes: &[u8]) -> Result<(), ReplayFault>
+        ensures step { Steps result (view self.new)
+            (ok_or (option_and_then (take (view self.old)) (option_map Line.Event (arrival_of bytes.now)))
+            (BadLine number)) }
+        ensures err { OnErr result (view self.new ≡ view self.old) }
+    {
+        self.take_said(number, arrival(bytes))
+    }
+
+    /// Takes the completion that these bytes of line `number` say.
+    #[inline(never)]
+    fn take_completion(&mut self, number: u32, bytes: &[u8]) -> Result<(), ReplayFault>
+        ensures step { Steps result (view self.new)
+            (ok_or (option_and_then (take (view self.old)) (option_map Line.Event (completion_of bytes.now)))
+            (BadLine number)) }
+        ensures err { OnErr result (view self.new ≡ view self.old) }
+    {
+        self.take_said(number, completion(bytes))
+    }
+
+    /// Takes a line of any kind.
+    #[inline(never)]
+    fn take_any(&mut self, number: u32, bytes: &[u8]) -> Result<(), ReplayFault>
+        ensures step { Steps result (view self.new)
+            (ok_or (option_and_then (take (view self.old)) (line_of bytes.now)) (BadLine number)) }
+        ensures err { OnErr result (view self.new ≡ view self.old) }
+    {
+        match parse_line(bytes) {
+            Some(line) => self.take(number, line),
+            None => Err(ReplayFault::BadLine(number)),
+        }
+    }
+
+    /// Takes line `number`, which has these bytes. On `Err` the recording stays as it was.
+    ///
+    /// Most lines are events, which go from their digits into the recording at once.
+    #[tactic(auto, unfolding(crate::specs::Recorded::read_line))]
+    pub fn take_line(&mut self, number: u32, bytes: &[u8]) -> Result<(), ReplayFault>
+        ensures step { Steps result (view self.new) (read_line number (view self.old) bytes.now) }
+        ensures err { OnErr result (view self.new ≡ view self.old) }
+    {
+        if number > MAX_LINES {
+            return Err(ReplayFault::TooManyLines);
+        }
+        if bytes.len() > MAX_LINE {
+            return Err(ReplayFault::LineTooLong(number));
+        }
+        match bytes {
+            [b'C', b' ', rest @ ..] => self.take_arrival(number, rest),
+            [b'D', b' ', rest @ ..] => self.take_completion(number, rest),
+            _ => self.take_any(number, bytes),
+        }
+    }
+}

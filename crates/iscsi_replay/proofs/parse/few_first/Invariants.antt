@@ -1,5 +1,0 @@
-use Rattle.iscsi_replay.proofs.FirstLemmas.{Counted}
-use Rattle.iscsi_replay.proofs.parse.few_first.Given as goal
-
-abbrev pub invariant-digits : goal.invariant-digits
-invariant-digits l = Counted l.bytes l.n l.i
