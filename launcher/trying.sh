@@ -17,8 +17,14 @@ try_program() {
     copy_all
     is_small || fail "$not_built" "no program is built, and this recording is too large for rt try; $to_prove"
     tell "no program is built; rt try answers, in about a minute"
-    (cd "$crate" && exec rt try --seconds "$most_seconds" -- "${words[@]}") < "$input" > "$work/report" 2> "$work/said"
+    SECONDS=0
+    during "waiting for rt try" answer_by_rt
     judge "$?"
+}
+
+# Runs rt. It prints all at its end.
+answer_by_rt() {
+    cd "$crate" && exec rt try --seconds "$most_seconds" -- "${words[@]}" < "$input" > "$work/report" 2> "$work/said"
 }
 
 # Copies standard input: rt would take a pipe for ended that is silent for two seconds. For the help nothing is read.
