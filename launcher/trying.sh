@@ -29,7 +29,7 @@ answer_by_rt() {
 
 # Copies standard input: rt would take a pipe for ended that is silent for two seconds. For the help nothing is read.
 copy_all() {
-    if is_given --help; then
+    if is_given --help || is_given -h; then
         : > "$input"
     elif [ ! -e /dev/fd/0 ]; then
         fail "$fault" "the input could not be read"
