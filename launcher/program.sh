@@ -44,7 +44,7 @@ find_program() {
     now=$(listing)
     if [ -z "$now" ] || [ "$now" != "$(cat "$seen" 2> /dev/null)" ]; then
         is_stamped "${lines[@]}" || return 1
-        is_at_rest && { echo "$now" > "$seen.$$" && mv -f "$seen.$$" "$seen"; } 2> /dev/null
+        is_at_rest && remember "$now"
     fi
     proved=elsewhere
     [ -z "${lines[2]-}" ] || [ "${lines[2]}" != "$(place)" ] || proved=here
@@ -67,6 +67,11 @@ listing() {
         cd "$top" || exit
         find "$kept" -printf '' && find "${files[@]}" -printf '%p %y %i %s %C@\n' | sha256sum
     ) 2> /dev/null
+}
+
+# Keeps the listing at which the stamp held, if that can be written.
+remember() {
+    { echo "$1" > "$seen.$$" && mv -f "$seen.$$" "$seen"; } 2> /dev/null || rm -f "$seen.$$"
 }
 
 # Whether nothing was written in the last seconds. What is written twice in one tick of the clock has one time.
