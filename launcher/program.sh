@@ -59,10 +59,11 @@ is_stamped() {
 }
 
 # A sum of the names of all that the stamp speaks of, and of when each was changed: its content, its times or its name.
-# Unlike the time of the content, nobody sets this one back. Nothing is printed where `find` can't tell it.
+# Unlike the time of the content, nobody sets this one back. Of the kit it has rt's folder and the files that name the kit.
+# Nothing is printed where `find` can't tell it.
 listing() {
     local rt files=("${sources[@]}" "$kept" "$stamp")
-    rt=$(readlink -f -- "$(command -v rt)") && files+=("$rt" "${rt%/*}" "${rt%/*/*}/WHAT")
+    rt=$(readlink -f -- "$(command -v rt)") && files+=("${rt%/*}" "${rt%/*/*}"/{KIT-ID,WHAT})
     (
         cd "$top" || exit
         find "$kept" -printf '' && find "${files[@]}" -printf '%p %y %i %s %C@\n' | sha256sum
@@ -111,10 +112,11 @@ keep() {
 }
 
 # A hash of this machine's id and of a number that was drawn for this user here, outside the checkout: a copy of the
-# checkout doesn't have it, and copies of a machine may have one id. It is empty where there is neither.
+# checkout doesn't have it, and copies of a machine may have one id. A machine without an id has one until it stops.
 place() {
     local id="" number=""
     { read -r id < /etc/machine-id; } 2> /dev/null
+    [ -n "$id" ] || { read -r id < /proc/sys/kernel/random/boot_id; } 2> /dev/null
     { read -r number < "$(drawn)"; } 2> /dev/null
     if [ -n "$id$number" ]; then echo "$id $number" | sha256sum; else echo; fi
 }
