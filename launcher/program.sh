@@ -1,60 +1,95 @@
 # shellcheck shell=bash
-# The program: where it stands, whether it is there and as new as its sources, and the copy that is kept of it.
+# The program: where it stands, and whether it is that of the sources as they are, and of this kit.
 #
-# choose_program sets `root`, `options`, `crate`, `program`, `log`, `kept` and `stamp`, and find_program sets `found`,
-# which is the program to run.
+# choose_program sets `root`, `crates`, `sources`, `crate`, `built`, `kept`, `stamp` and `seen`, and find_program sets
+# `proved`, which says where the program was proved: here or elsewhere.
 
-# The places of the program for a processor, the folder in which it is built, and rt's words for it.
+# The places of the program for a processor, and of what it is made of.
 choose_program() {
-    root=$top options=()
-    if [ -n "$1" ]; then
-        root=$top/out/$1
-        options=(--cpu="$1")
-    fi
+    local name part
+    root=$top${1:+/out/$1}
+    kept=$top/out/bin/iscsi_replay${1:+-$1}
+    mapfile -t crates < <(crates_of_program)
+    sources=(crates.txt)
+    for name in "${crates[@]}"; do
+        for part in src specs proofs; do
+            [ ! -d "$top/crates/$name/$part" ] || sources+=("crates/$name/$part")
+        done
+    done
     crate=$root/crates/iscsi_replay
-    program=$crate/out/iscsi_replay
-    log=$crate/out/build.log
-    # The gate takes crates/*/out away and proves from nothing. So that the program outlives a gate that breaks off,
-    # a copy of it is kept here, with what it was built of.
-    kept=$top/out/bin/iscsi_replay
-    stamp=$kept.stamp
+    built=$crate/out/iscsi_replay
+    # Nothing tells of what sources the program is that stands in the crate. So a copy is kept, with a stamp that does,
+    # and none but this copy is run. The gate, too, takes crates/*/out away.
+    stamp=$kept.stamp seen=$kept.seen
 }
 
-# Finds the program to run, if it is built. Where nothing can be written, the copy isn't kept, or is run from its place.
+# The crates that the program is made of, the lowest first, and it last. crates.txt has the lowest first.
+crates_of_program() {
+    awk -F: '
+        !/^#/ { name[++count] = $1; below[count] = $2 }
+        END {
+            used["iscsi_replay"]
+            for (at = count; at > 0; at--)
+                if (name[at] in used) { split(below[at], names, " "); for (one in names) used[names[one]] }
+            for (at = 1; at <= count; at++) if (name[at] in used) print name[at]
+        }' "$top/crates.txt"
+}
+
+# Finds the program to run, if one is kept that was proved of the sources as they are. The sums are spared where nothing
+# was written since they were taken last.
 find_program() {
-    found=$program
-    if is_current "$program"; then
-        [ "$root" != "$top" ] || [ ! "$program" -nt "$kept" ] || while_idle keep_copy 2> /dev/null
-        return 0
+    local now lines
+    [ -f "$kept" ] && [ -x "$kept" ] && [ -r "$stamp" ] || return 1
+    mapfile -t lines < "$stamp"
+    now=$(listing)
+    if [ -z "$now" ] || [ "$now" != "$(cat "$seen" 2> /dev/null)" ]; then
+        is_stamped "${lines[@]}" || return 1
+        is_at_rest && remember "$now"
     fi
-    is_kept || return 1
-    while_idle bring_back 2> /dev/null || found=$kept
+    proved=elsewhere
+    [ -z "${lines[2]-}" ] || [ "${lines[2]}" != "$(place)" ] || proved=here
 }
 
-# Whether a program is there, and no source is newer.
-is_current() {
-    local sources=("$top"/crates.txt "$top"/crates/*/src "$top"/crates/*/specs "$top"/crates/*/proofs)
-    [ -f "$1" ] && [ -x "$1" ] && [ -z "$(find "${sources[@]}" -newer "$1" -print -quit 2> /dev/null)" ]
-}
-
-# Whether the copy may be run or brought back.
-is_kept() {
-    [ "$root" = "$top" ] && { is_current "$kept" || is_stamped; }
-}
-
-# Whether the copy was built of the sources as they are now and by this kit, though one may have been written anew.
+# Whether the lines of the stamp are those of the sources, the kit and the kept program. Where there is no kit, any will do.
 is_stamped() {
-    local sum by now
-    [ -x "$kept" ] && [ -f "$stamp" ] || return 1
-    { IFS= read -r sum && IFS= read -r by; } < "$stamp"
+    local now
+    [ "${1-}" = "$(sum_of_sources)" ] && [ "${4-}" = "$(sum_of "$kept")" ] || return 1
     now=$(kit)
-    [ "$sum" = "$(sum_of_sources)" ] && [ "${now:-$by}" = "$by" ]
+    [ "${now:-${2-}}" = "${2-}" ]
 }
 
-# A checksum of all that the program is built of.
+# A sum of the names of all that the stamp speaks of, and of when each was changed: its content, its times or its name.
+# Unlike the time of the content, nobody sets this one back. Of the kit it has rt's folder and the files that name the kit.
+# Nothing is printed where `find` can't tell it.
+listing() {
+    local rt files=("${sources[@]}" "$kept" "$stamp")
+    rt=$(readlink -f -- "$(command -v rt)") && files+=("${rt%/*}" "${rt%/*/*}"/{KIT-ID,WHAT})
+    (
+        cd "$top" || exit
+        find "$kept" -printf '' && find "${files[@]}" -printf '%p %y %i %s %C@\n' | sha256sum
+    ) 2> /dev/null
+}
+
+# Keeps the listing at which the stamp held, if that can be written.
+remember() {
+    { echo "$1" > "$seen.$$" && mv -f "$seen.$$" "$seen"; } 2> /dev/null || rm -f "$seen.$$"
+}
+
+# Whether nothing was written in the last seconds. What is written twice in one tick of the clock has one time.
+is_at_rest() {
+    local young
+    young=$(cd "$top" && find "${sources[@]}" "$kept" "$stamp" -newerct '2 seconds ago' -print -quit 2>&1)
+    [ -z "$young" ]
+}
+
+# A checksum of all that the program is proved and built of.
 sum_of_sources() {
-    (cd "$top" && find crates.txt crates/*/src crates/*/specs crates/*/proofs -type f -print0 2> /dev/null |
-        LC_ALL=C sort -z | xargs -0 sha256sum | sha256sum)
+    (cd "$top" && find "${sources[@]}" -type f -print0 2> /dev/null | LC_ALL=C sort -z | xargs -0 sha256sum | sha256sum)
+}
+
+# A file's checksum.
+sum_of() {
+    sha256sum < "$1"
 }
 
 # The kit's line, or nothing where there is none.
@@ -62,40 +97,56 @@ kit() {
     rt version 2> /dev/null < /dev/null
 }
 
-# Keeps a copy of the program, and with it what it was built of.
-keep_copy() {
-    mkdir -p "${kept%/*}" || return
-    { sum_of_sources && kit; } > "$stamp.$$" && mv -f "$stamp.$$" "$stamp" && put "$program" "$kept"
+# What a proof is of: the checksum of the sources and the kit's line.
+basis() {
+    local by
+    by=$(kit)
+    [ -n "$by" ] && sum_of_sources && echo "$by"
 }
 
-# Puts the copy back where the program stands.
-bring_back() {
-    touch "$kept" && mkdir -p "$crate/out" && put "$kept" "$program"
+# Keeps the program that was built and proved of this, and says beside it of what, where, and which file it is.
+keep() {
+    mkdir -p "${kept%/*}" && draw && cp "$built" "$kept.$$" &&
+        { echo "$1" && place && sum_of "$kept.$$"; } > "$stamp.$$" &&
+        mv -f "$kept.$$" "$kept" && mv -f "$stamp.$$" "$stamp"
 }
 
-# Copies a program in one step, with its time.
-put() {
-    cp -p "$1" "$2.$$" && mv -f "$2.$$" "$2"
+# A hash of this machine's id and of a number that was drawn for this user here, outside the checkout: a copy of the
+# checkout doesn't have it, and copies of a machine may have one id. A machine without an id has one until it stops.
+place() {
+    local id="" number=""
+    { read -r id < /etc/machine-id; } 2> /dev/null
+    [ -n "$id" ] || { read -r id < /proc/sys/kernel/random/boot_id; } 2> /dev/null
+    { read -r number < "$(drawn)"; } 2> /dev/null
+    if [ -n "$id$number" ]; then echo "$id $number" | sha256sum; else echo; fi
 }
 
-# Does something while no rt works in the program's crate: rt holds its folder locked.
-while_idle() {
-    local folder status
-    command -v flock > /dev/null || { "$@"; return; }
-    exec {folder}< "$crate" || return 1
-    flock -n "$folder" && "$@"
-    status=$?
-    exec {folder}<&-
-    return "$status"
+# Draws the number, if that can be kept and wasn't done.
+draw() {
+    local file
+    file=$(drawn)
+    [ -s "$file" ] || (set -C && mkdir -p "${file%/*}" && od -An -N16 -tx8 /dev/urandom > "$file") 2> /dev/null
+    true
 }
 
-# Says for --version whether the program is built.
+# Where the number stands.
+drawn() {
+    echo "${XDG_STATE_HOME:-${HOME:-/nonexistent}/.local/state}/cundarrix/place"
+}
+
+# Says for --version whether a program is there, and where it was proved.
 state() {
-    if is_current "$program" || is_kept; then
-        echo "built"
-    elif [ -e "$program" ] || [ "$root" = "$top" ] && [ -e "$kept" ]; then
-        echo "built of other sources"
+    local instead="rt try answers, which proves nothing"
+    [ "$root" = "$top" ] || instead="rt try can't answer in its place"
+    if find_program; then
+        if [ "$proved" = here ]; then
+            echo "proved here"
+        else
+            echo "proved elsewhere, as its stamp says, and not on this machine"
+        fi
+    elif [ -e "$kept" ]; then
+        echo "proved of other sources or by another kit, so it isn't run; $instead"
     else
-        echo "not built"
+        echo "none; $instead"
     fi
 }

@@ -10,7 +10,7 @@ from typing import NamedTuple, Optional
 TOP = Path(__file__).resolve().parents[2]
 CASES = TOP / "tests" / "cases"
 EXAMPLES = TOP / "examples"
-PROGRAM = TOP / "crates" / "iscsi_replay" / "out" / "iscsi_replay"
+PROGRAM = TOP / "out" / "bin" / "iscsi_replay"
 DRIVER = TOP / "crates" / "iscsi_faults" / "out" / "iscsi_faults"
 # Where tests/faults leaves the injector.
 INJECTOR = TOP / "crates" / "iscsi_faults" / "out" / "injector.so"
@@ -73,8 +73,8 @@ def is_current(program):
 
 
 def build():
-    """Builds the program and the driver, where they are missing or older than their sources."""
-    must([str(TOP / "iscsi-replay"), "--help"])
+    """Looks whether the program is built, and builds the driver where it is missing or older than its sources."""
+    must([str(TOP / "iscsi-replay"), "--built", "--help"])
     if is_current(DRIVER):
         return
     driver = DRIVER.parents[1]

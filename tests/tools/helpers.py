@@ -13,8 +13,8 @@ def run_tool(name, *words, text=None):
 
 
 def replay(recording, *words):
-    """The report of a recording, as text."""
-    done = subprocess.run([os.path.join(TOP, "iscsi-replay"), *words], input=recording, capture_output=True,
+    """The report of a recording, as text, by the built program."""
+    done = subprocess.run([os.path.join(TOP, "iscsi-replay"), "--built", *words], input=recording, capture_output=True,
                           text=True, timeout=120)
     if done.returncode:
         raise AssertionError(done.stderr)

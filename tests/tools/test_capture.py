@@ -7,10 +7,12 @@ import subprocess
 import sys
 import tempfile
 import unittest
+import unittest.mock
 
 from helpers import TOP, replay, run_tool
 
 sys.path.insert(0, os.path.join(TOP, "tools"))
+from lib import settling  # noqa: E402
 from lib.sessions import find  # noqa: E402
 from lib.streams import Splitter, Stream  # noqa: E402
 from lib.settling import in_taken_order, units_of  # noqa: E402
@@ -407,19 +409,18 @@ class WithoutTshark(unittest.TestCase):
         self.assertRegex(done.stderr, r"\Acapture: tshark is missing: install it with .*\n\Z")
 
 
-class Building(unittest.TestCase):
+class Missing(unittest.TestCase):
     """A program that has yet to be built."""
 
-    def test_the_news_of_a_build_is_shown(self):
+    def test_the_script_says_what_builds_it(self):
         with tempfile.TemporaryDirectory() as folder:
             script = os.path.join(folder, "iscsi-replay")
             with open(script, "w", encoding="ascii") as file:
-                file.write("#!/bin/sh\n[ \"$1\" = --help ] && echo 'iscsi-replay: proving iscsi_wire' >&2\nexit 0\n")
+                file.write("#!/bin/sh\n[ \"$1\" = --built ] && echo 'iscsi-replay: none; --prove builds it' >&2\nexit 70\n")
             os.chmod(script, 0o755)
-            code = f"from lib import settling; settling.TOP = {folder!r}; settling.run_program('', [])"
-            done = subprocess.run([sys.executable, "-c", code], capture_output=True, text=True, timeout=60,
-                                  env={**os.environ, "PYTHONPATH": os.path.join(TOP, "tools")})
-        self.assertEqual((done.returncode, done.stderr), (0, "iscsi-replay: proving iscsi_wire\n"))
+            with unittest.mock.patch.object(settling, "TOP", folder), self.assertRaises(settling.BadReplay) as refusal:
+                settling.run_program("", [])
+        self.assertEqual("iscsi-replay: none; --prove builds it", str(refusal.exception))
 
 
 if __name__ == "__main__":

@@ -8,7 +8,6 @@ import os
 import subprocess
 from collections import deque
 from dataclasses import dataclass, replace
-from functools import cache
 
 from . import report
 from .pdu import DATA_OUT, NO_TAG, SCSI_COMMAND, SNACK, TASK_MANAGEMENT
@@ -50,16 +49,10 @@ class Recording:
     passes: int
 
 
-@cache
-def build_program():
-    """Has the program built where it is missing. The script tells on standard error how far it is."""
-    subprocess.run([os.path.join(TOP, "iscsi-replay"), "--help"], stdout=subprocess.DEVNULL, check=False)
-
-
 def run_program(recording, words):
-    """The report of a recording, as text."""
-    build_program()
-    done = subprocess.run([os.path.join(TOP, "iscsi-replay"), *words], input=recording, capture_output=True, text=True)
+    """The report of a recording, as text, by the built program alone: without it each replay would take a minute."""
+    script = [os.path.join(TOP, "iscsi-replay"), "--built"]
+    done = subprocess.run([*script, *words], input=recording, capture_output=True, text=True)
     if done.returncode:
         raise BadReplay((done.stderr.strip().splitlines() or ["iscsi-replay: it ended without a word"])[-1])
     return done.stdout
