@@ -20,7 +20,7 @@ from lib.tshark import Segment  # noqa: E402
 
 CAPTURES = os.path.join(TOP, "tests", "tools", "captures")
 HAS_TSHARK = shutil.which("tshark") is not None
-NEEDS_TSHARK = "tshark is missing"
+NEEDS_TSHARK = "there is no tshark"
 KEYS = b"InitiatorName=iqn.2026-01.example:i\0TargetName=iqn.2026-01.example:t\0"
 
 

@@ -261,7 +261,7 @@ class Faults(Session):
             self.assertEqual(2, run_tool("compare", *words).returncode, words)
 
 
-@unittest.skipUnless(HAS_TSHARK, "tshark is missing")
+@unittest.skipUnless(HAS_TSHARK, "there is no tshark")
 class RealCases(unittest.TestCase):
     """The captures of this repository, with the differences that docs/CAPTURES.md explains."""
     COUNTS = {

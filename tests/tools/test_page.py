@@ -39,7 +39,7 @@ def events_of(report):
     return ["> " + part.rstrip("\n") for part in ("\n" + report).split("\n> ")[1:]]
 
 
-@unittest.skipIf(browser.MISSING, f"not installed: {', '.join(browser.MISSING)}")
+@unittest.skipIf(browser.MISSING, f"there is no {' and no '.join(browser.MISSING)}")
 class Page(unittest.TestCase):
     """A page of a report in a browser."""
 

@@ -178,7 +178,7 @@ class Pages(Folder):
             self.assertIn("<title>&lt;b&gt;&amp;.report:", file.read())
         self.assertIn("<b>&.report:", ElementTree.parse(self.path("odd.svg")).getroot().find(SVG + "title").text)
 
-    @unittest.skipUnless(shutil.which("chromium"), "chromium isn't installed")
+    @unittest.skipUnless(shutil.which("chromium"), "there is no chromium")
     def test_in_a_browser(self):
         """The page opened at an event shows its words, and draws no more than what is seen."""
         self.draw("made.html", replay(long_recording(1500)))

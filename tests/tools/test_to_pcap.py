@@ -125,7 +125,7 @@ class Bytes(unittest.TestCase):
         self.assertEqual((48, bytes.fromhex("00000300")), (reject[7], reject[52:56]))
 
 
-@unittest.skipUnless(shutil.which("tshark"), "tshark isn't installed")
+@unittest.skipUnless(shutil.which("tshark"), "there is no tshark")
 class Decoded(unittest.TestCase):
     def fields(self, report):
         """The opcode, StatSN, ExpCmdSN and MaxCmdSN of each PDU that tshark finds, and what it complains about."""

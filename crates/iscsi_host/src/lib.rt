@@ -7,8 +7,6 @@ mod handle;
 mod host;
 mod options;
 mod plain;
-#[cfg(test)]
-mod tests;
 
 pub use answer::Answer;
 pub use handle::Handle;

@@ -18,9 +18,6 @@ use crate::task::{Attr, Task};
 use std::alloc::Global;
 use std::marker::Model;
 
-#[cfg(test)]
-mod tests;
-
 /// The most commands that a task set may hold.
 const MOST_TASKS: u32 = 1024;
 

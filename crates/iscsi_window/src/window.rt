@@ -17,9 +17,6 @@ use iscsi_wire::{Request, serial_lt};
 use std::alloc::Global;
 use std::marker::Model;
 
-#[cfg(test)]
-mod tests;
-
 /// The most places of a window.
 const MOST_PLACES: u32 = 1024;
 

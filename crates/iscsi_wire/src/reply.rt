@@ -7,9 +7,6 @@ ghost use Rattle.iscsi_wire.specs.Pdus.{pdu_header, pdu_tail, bytes_of_tail};
 use crate::pdu::{Pdu, Tail};
 use byteorder::{BigEndian, ByteOrder};
 
-#[cfg(test)]
-mod tests;
-
 /// The tag that names no task (RFC 7143 section 11.2.1.8).
 const NO_TAG: u32 = 0xffff_ffff;
 

@@ -1,4 +1,6 @@
-use crate::{Offer, Place, Turned, Window, WindowFault};
+//! Histories of a window.
+
+use iscsi_window::{Offer, Place, Turned, Window, WindowFault};
 use iscsi_wire::Request;
 use std::process::Abort;
 use std::test::Fail;

@@ -1,8 +1,9 @@
+//! Worked task sets, and the plain scan of SAM-5's rules, against which a set's counts are tested in every order.
+
 ghost use Rattle.std.specs.Prelude.{IsTrue};
 ghost use Rattle.iscsi_tasks.specs.Sets.{IsNewest};
 
-use super::TaskSet;
-use crate::{Attr, Cover, Task, TaskFault};
+use iscsi_tasks::{Attr, Cover, Task, TaskFault, TaskSet};
 use std::process::Abort;
 use std::test::Fail;
 
@@ -24,9 +25,10 @@ fn task(ticket: u64, attr: Attr) -> Task {
 fn is_newest(set: &TaskSet, ticket: u64) -> bool
     ensures { IsTrue result → IsNewest ticket set.now }
 {
-    for k in 0..set.members.len() {
-        if ticket <= set.members.at(k).task.ticket {
-            return false;
+    for place in 0..set.len() {
+        match set.covered_at(place, &Cover::All) {
+            Some(older) if older < ticket => {}
+            _ => return false,
         }
     }
     true

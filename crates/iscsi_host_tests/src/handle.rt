@@ -1,6 +1,6 @@
-//! Tests of the public calls, where memory is ample.
+//! The calls of a handle, where memory is ample.
 
-use crate::{Answer, Handle, PlainConnection, PlainEffect, PlainNumbers, PlainOptions};
+use iscsi_host::{Answer, Handle, PlainConnection, PlainEffect, PlainNumbers, PlainOptions};
 use std::test::Fail;
 
 const OPTIONS: PlainOptions = PlainOptions {

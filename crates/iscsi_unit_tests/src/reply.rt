@@ -1,4 +1,6 @@
-use super::*;
+//! The bytes of replies.
+
+use iscsi_wire::{Pdu, Reply, Sense};
 use std::process::Abort;
 
 /// The PDU of a reply in words of four bytes, big-endian: the header's, and the tail's.

@@ -1,0 +1,16 @@
+//! Tests of the public calls of the wire, the window and the task sets. They stand here, over their libraries, since a
+//! crate with tests is proved twice.
+#![tactic(auto)]
+
+#[cfg(test)]
+mod logical_unit;
+#[cfg(test)]
+mod reply;
+#[cfg(test)]
+mod request;
+#[cfg(test)]
+mod serial;
+#[cfg(test)]
+mod task_set;
+#[cfg(test)]
+mod window;
