@@ -2,6 +2,26 @@
 
 use iscsi_wire::Request;
 
+/// The opcode, and the fields of the second byte: ATTR, the function and the reason.
+fn codes(request: &Request) -> [u8; 4] {
+    [
+        request.opcode(),
+        request.attr(),
+        request.function(),
+        request.reason(),
+    ]
+}
+
+/// The Initiator Task Tag, the Referenced Task Tag, the CmdSN and the RefCmdSN.
+fn tags_and_numbers(request: &Request) -> [u32; 4] {
+    [
+        request.itt(),
+        request.rtt(),
+        request.cmd_sn(),
+        request.ref_cmd_sn(),
+    ]
+}
+
 #[test]
 fn fields_of_a_command(rt: HostRuntime) {
     let mut header = [0u8; 48];
@@ -10,20 +30,12 @@ fn fields_of_a_command(rt: HostRuntime) {
     header[19] = 0xa1;
     header[27] = 0x01;
     let request = Request::read(7, &header);
-    assert_eq!(rt; request.conn(), 7);
-    assert_eq!(rt; request.bytes(), header);
+    assert_eq!(rt; [request.conn(), request.cid()], [7, 0]);
     assert_eq!(rt; request.immediate(), false);
-    assert_eq!(rt; request.opcode(), 1);
-    assert_eq!(rt; request.attr(), 1);
-    assert_eq!(rt; request.function(), 1);
-    assert_eq!(rt; request.reason(), 1);
-    assert_eq!(rt; request.lun(), [0; 8]);
-    assert_eq!(rt; request.itt(), 0xa1);
-    assert_eq!(rt; request.rtt(), 0);
-    assert_eq!(rt; request.cid(), 0);
-    assert_eq!(rt; request.cmd_sn(), 1);
-    assert_eq!(rt; request.ref_cmd_sn(), 0);
-    assert_eq!(rt; request.cdb(), [0; 16]);
+    assert_eq!(rt; codes(&request), [1, 1, 1, 1]);
+    assert_eq!(rt; tags_and_numbers(&request), [0xa1, 0, 1, 0]);
+    assert_eq!(rt; request.bytes(), header);
+    assert_eq!(rt; (request.lun(), request.cdb()), ([0; 8], [0; 16]));
 }
 
 #[test]
@@ -34,20 +46,14 @@ fn fields_of_distinct_bytes(rt: HostRuntime) {
         47,
     ];
     let request = Request::read(65535, &header);
-    assert_eq!(rt; request.conn(), 65535);
+    assert_eq!(rt; [request.conn(), request.cid()], [65535, 0x1415]);
     assert_eq!(rt; request.immediate(), true);
-    assert_eq!(rt; request.opcode(), 2);
-    assert_eq!(rt; request.attr(), 6);
-    assert_eq!(rt; request.function(), 0x7e);
-    assert_eq!(rt; request.reason(), 0x7e);
-    assert_eq!(rt; request.lun(), [8, 9, 10, 11, 12, 13, 14, 15]);
-    assert_eq!(rt; request.itt(), 0x1011_1213);
-    assert_eq!(rt; request.rtt(), 0x1415_1617);
-    assert_eq!(rt; request.cid(), 0x1415);
-    assert_eq!(rt; request.cmd_sn(), 0x1819_1a1b);
-    assert_eq!(rt; request.ref_cmd_sn(), 0x2021_2223);
+    assert_eq!(rt; codes(&request), [2, 6, 0x7e, 0x7e]);
+    let words = [0x1011_1213, 0x1415_1617, 0x1819_1a1b, 0x2021_2223];
+    assert_eq!(rt; tags_and_numbers(&request), words);
+    let lun = [8, 9, 10, 11, 12, 13, 14, 15];
     let cdb = [
         32, 33, 34, 35, 36, 37, 38, 39, 40, 41, 42, 43, 44, 45, 46, 47,
     ];
-    assert_eq!(rt; request.cdb(), cdb);
+    assert_eq!(rt; (request.lun(), request.cdb()), (lun, cdb));
 }

@@ -103,13 +103,11 @@ fn an_enabled_command_leaves_from_its_place(rt: HostRuntime) -> Result<(), Fail>
     for (ticket, attr) in [(1, Attr::Ordered), (2, Attr::Simple), (3, Attr::Head)] {
         assert_eq!(rt; enter(&rt, &mut set, task(ticket, attr)), Ok(()));
     }
-    assert_eq!(rt; set.enabled_place(1, 0), Some(0));
-    assert_eq!(rt; set.enabled_place(2, 1), None);
-    assert_eq!(rt; set.enabled_place(4, 9), None);
+    let places = [(1, 0), (2, 1), (4, 9)].map(|(ticket, guess)| set.enabled_place(ticket, guess));
+    assert_eq!(rt; places, [Some(0), None, None]);
     let place = set.enabled_place(3, 1).expect(&rt, "enabled");
     assert_eq!(rt; set.leave_at(place), task(3, Attr::Head));
-    assert_eq!(rt; set.enabled_place(3, 0), None);
-    assert_eq!(rt; set.len(), 2);
+    assert_eq!(rt; (set.enabled_place(3, 0), set.len()), (None, 2));
     Ok(())
 }
 
@@ -117,15 +115,22 @@ fn an_enabled_command_leaves_from_its_place(rt: HostRuntime) -> Result<(), Fail>
 fn a_full_set_hands_the_task_back(rt: HostRuntime) -> Result<(), Fail> {
     let mut set = TaskSet::open(rt.alloc(), 2)?;
     let late = task(7, Attr::Head);
-    assert_eq!(rt; enter(&rt, &mut set, task(1, Attr::Ordered)), Ok(()));
-    assert_eq!(rt; enter(&rt, &mut set, task(2, Attr::Ordered)), Ok(()));
-    assert_eq!(rt; enter(&rt, &mut set, late), Err(late));
-    assert_eq!(rt; set.looked(), 0);
-    assert_eq!(rt; set.len(), 2);
-    assert_eq!(rt; new_ones(&mut set), [Some(1), None, None]);
-    assert_eq!(rt; set.leave(1), Some(task(1, Attr::Ordered)));
-    assert_eq!(rt; enter(&rt, &mut set, late), Ok(()));
-    assert_eq!(rt; new_ones(&mut set), [Some(2), Some(7), None]);
+    let entered = [
+        enter(&rt, &mut set, task(1, Attr::Ordered)),
+        enter(&rt, &mut set, task(2, Attr::Ordered)),
+        enter(&rt, &mut set, late),
+    ];
+    assert_eq!(rt; entered, [Ok(()), Ok(()), Err(late)]);
+    assert_eq!(rt; [set.looked(), set.len()], [0, 2]);
+    let before = new_ones(&mut set);
+    let left = set.leave(1);
+    assert_eq!(rt;
+        (before, left),
+        ([Some(1), None, None], Some(task(1, Attr::Ordered)))
+    );
+    let entered = enter(&rt, &mut set, late);
+    let after = new_ones(&mut set);
+    assert_eq!(rt; (entered, after), (Ok(()), [Some(2), Some(7), None]));
     Ok(())
 }
 

@@ -43,11 +43,13 @@ fn sizes(rt: HostRuntime) -> Result<(), Fail> {
     }
     for size in [1, 1024] {
         let window = Window::open(alloc, 1, size)?;
-        assert_eq!(rt; window.size(), size);
-        assert_eq!(rt; window.turned(), 0);
-        assert_eq!(rt; window.unfinished(), 0);
-        assert_eq!(rt; window.exp(), 1);
-        assert_eq!(rt; window.max(), size);
+        let numbers = [
+            window.size(),
+            window.unfinished(),
+            window.exp(),
+            window.max(),
+        ];
+        assert_eq!(rt; (numbers, window.turned()), ([size, 0, 1, size], 0));
     }
     Ok(())
 }
@@ -98,9 +100,7 @@ fn requests_are_held_once(rt: HostRuntime) -> Result<(), Fail> {
         let turned = Turned { sn, request: None };
         assert_eq!(rt; advance(&rt, &mut window), Some(turned));
     }
-    assert_eq!(rt; window.turned(), 3);
-    assert_eq!(rt; window.exp(), 1);
-    assert_eq!(rt; window.max(), 4);
+    assert_eq!(rt; (window.turned(), window.exp(), window.max()), (3, 1, 4));
     Ok(())
 }
 
@@ -185,11 +185,11 @@ fn tags_of_one_group_are_told_apart(rt: HostRuntime) -> Result<(), Fail> {
     assert_eq!(rt; window.offer(&command(1, 0, tag, 1)), Offer::Held);
     assert_eq!(rt; window.find_held(other, 0, 9), None);
     assert_eq!(rt; window.offer(&command(1, 0, other, 2)), Offer::Held);
-    assert_eq!(rt; window.find_held(tag, 0, 9), Some(1));
-    assert_eq!(rt; window.find_held(other, 0, 9), Some(2));
+    let found = [tag, other].map(|itt| window.find_held(itt, 0, 9));
+    assert_eq!(rt; found, [Some(1), Some(2)]);
     assert_eq!(rt; window.empty(1).is_some(), true);
-    assert_eq!(rt; window.find_held(tag, 0, 9), None);
-    assert_eq!(rt; window.find_held(other, 0, 9), Some(2));
+    let found = [tag, other].map(|itt| window.find_held(itt, 0, 9));
+    assert_eq!(rt; found, [None, Some(2)]);
     Ok(())
 }
 
