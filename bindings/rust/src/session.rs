@@ -71,7 +71,7 @@ pub enum Event {
 pub struct Numbers {
     /// The lowest CmdSN that isn't received.
     pub exp_cmd_sn: u32,
-    /// The greatest CmdSN that is received. It is `exp_cmd_sn - 1` where the window is shut.
+    /// The greatest CmdSN that the target takes now. It is `exp_cmd_sn - 1` where the window is shut.
     pub max_cmd_sn: u32,
 }
 
