@@ -139,11 +139,13 @@ def replays():
     return tally
 
 
-def wrong_of_threads(ran, words, data):
-    """What is wrong with a replay by threads of which one request or one thread was refused."""
+def wrong_of_threads(ran, words, data, refusal):
+    """What is wrong with a replay by threads that may be refused with this line, and then has written a front."""
     if ran.note is None or ran.note.ended != ran.note.threads:
         return "a thread is left"
-    if ran.status == 1 and ran.err in (NO_MEMORY, NO_THREAD):
+    if ran.status == 1 and ran.err == refusal:
+        if refusal == NO_THREAD and ran.out:
+            return "something was written without its threads"
         # an event whose lines may be cut off is left out
         return wrong_of_events(ran.out[: ran.out.rfind(b"> ")], words, data) if ran.out else ""
     if (ran.status, ran.err) != (0, b""):
@@ -163,8 +165,14 @@ def threaded_replays():
     for what, inject, floor in (("memory", "ALLOC", 3300), ("a thread", "THREAD", 100)):
         tally = Tally(f"{what} refused to the program with threads", floor)
         for name, words, data in recordings():
+            begun = 0
             for number, ran in refusals(["--threads", *words], data, inject):
-                tally.judge(f"{name}, {what} {number}", wrong_of_threads(ran, words, data))
+                refusal = NO_MEMORY if inject == "ALLOC" else NO_THREAD
+                # A thread takes memory to be made, once each: the first one, then the second, and so on.
+                if inject == "ALLOC" and ran.err == NO_THREAD and ran.note.threads == begun:
+                    refusal = NO_THREAD
+                    begun += 1
+                tally.judge(f"{name}, {what} {number}", wrong_of_threads(ran, words, data, refusal))
         tallies.append(tally)
     return tallies
 
