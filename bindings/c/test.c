@@ -1,7 +1,7 @@
 /* Tests of cundarrix.h: the layout of its structs, and each function with each of its answers. It prints nothing and
    ends with status 0 where all is well; otherwise it prints a line and ends with status 1.
 
-   Linked with -Wl,--wrap=malloc,--wrap=realloc, since it refuses memory. */
+   Linked with -Wl,--wrap=malloc,--wrap=realloc,--wrap=free, since it refuses memory and counts what is held. */
 #include <stdio.h>
 #include <stdlib.h>
 #include <string.h>
@@ -52,9 +52,12 @@ static void check(bool is_so, int line, const char *text) {
 /* Memory that is refused: so many requests are granted; all, where it is below 0. */
 static long granted = -1;
 static size_t requests;
+/* How many blocks the library and this test hold: taken and not freed. */
+static long held;
 
 void *__real_malloc(size_t size);
 void *__real_realloc(void *block, size_t size);
+void __real_free(void *block);
 
 static bool is_refused(void) {
     requests++;
@@ -66,11 +69,20 @@ static bool is_refused(void) {
 }
 
 void *__wrap_malloc(size_t size) {
-    return is_refused() ? NULL : __real_malloc(size);
+    void *block = is_refused() ? NULL : __real_malloc(size);
+    held += block != NULL;
+    return block;
 }
 
 void *__wrap_realloc(void *block, size_t size) {
-    return is_refused() ? NULL : __real_realloc(block, size);
+    void *moved = is_refused() ? NULL : __real_realloc(block, size);
+    held += block == NULL && moved != NULL;
+    return moved;
+}
+
+void __wrap_free(void *block) {
+    held -= block != NULL;
+    __real_free(block);
 }
 
 static const cundarrix_options usual = {
@@ -327,15 +339,19 @@ int main(void) {
     expect_closed(&session);
     test_options();
     test_memory();
+    CHECK(held == 0);
     CHECK(cundarrix_open(&session, &usual, connections, 2) == CUNDARRIX_OK);
+    CHECK(held > 0);
     before = requests;
     test_command(&session);
     test_replies(&session);
     test_functions(&session);
     CHECK(requests == before);
     CHECK(cundarrix_close(&session) == CUNDARRIX_OK);
+    CHECK(held == 0);
     expect_closed(&session);
     test_connections();
     test_refusals();
+    CHECK(held == 0);
     return 0;
 }
