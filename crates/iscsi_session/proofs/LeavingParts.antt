@@ -1,10 +1,10 @@
 -- Covered commands of a unit leave: what is left of its set and of the live commands.
-use Rattle.std.proofs.Common.{◌≡◌, ℕ, zero, suc, ◌+◌, ◌<◌, ◌≤◌, ◌==◌, ◌&&◌, ◌||◌, ◌++◌, not, ⊎_elim, cond, Bool, true, false, nat_lt, List, [], ◌∷◌, length, map, filter, count_by, All, take, get_or, set, Option, Some, None, is_some, refl, ap, sym, arith, length-set}
+use Rattle.std.proofs.Common.{◌≡◌, ℕ, zero, suc, ◌+◌, ◌<◌, ◌≤◌, ◌==◌, ◌&&◌, ◌||◌, ◌++◌, not, ⊎_elim, cond, Bool, true, false, nat_lt, List, [], ◌∷◌, length, map, filter, count_by, All, take, drop, get_or, set, Option, Some, None, is_some, refl, ap, sym, arith, length-set, ◌∙◌}
 use Rattle.std.specs.Prelude.{IsSome}
 use Rattle.std.specs.List.{list_any, list_all}
 use Rattle.std.proofs.lemmas.Bool.{cases_eq, eqb-true, false≢true}
 use Rattle.std.proofs.lemmas.Bool.Decides.{nat_tests}
-use Rattle.std.proofs.lemmas.List.{get_or-set_same, get_or-set_other, take_more, map-append, append-nil}
+use Rattle.std.proofs.lemmas.List.{get_or-map, length-map, drop-map, get_or-set_same, get_or-set_other, take_more, map-append, append-nil}
 use Rattle.std.proofs.lemmas.List.Elements.{filter-append}
 use Rattle.std.proofs.lemmas.List.Folds.{list_any_none, list_all-map, list_any_more}
 use Rattle.std.proofs.lemmas.List.Sums.{sum_by-cons}
@@ -42,15 +42,9 @@ rising_in unit lives up = rw rising_are (ascending-kept _ lives up)
 -- ---- who leaves, of a set and of the live commands
 
 module _ (covers : Task → Bool) (now : Members) where
-  pub none_has : All (λ t. covers t ≡ false) (tasks_in now) → has_covered covers now ≡ false
-  none_has none = simp list_any-map at (list_any_none covers (tasks_in now) none)
-
   -- nothing is left to leave
   pub stay_none : (lives : List Live) → has_covered covers now ≡ false → staying covers now lives ≡ lives
   stay_none lives none = simp (none_both, filter-true)
-
-  pub leaves_none : (unit : ℕ) → has_covered covers now ≡ false → leaves unit covers now.list ≡ []
-  leaves_none unit none = rw none_filtered
 
   ungiven-staying : ungiven (set_staying covers now) ≤ ungiven now
   ungiven-staying = grind (arith, count_by-map {A = Member}, fewer_counted {A = Member})
@@ -164,6 +158,34 @@ module _ (now : Members) (unit : ℕ) (covers : Task → Bool) (lives : List Liv
       still_found : (ls : List Live) → IsSome (find_ticket task.ticket ls) → (gone : ℕ → Bool) → gone task.ticket ≡ false → IsSome (find_ticket task.ticket (filter (λ l. not (gone l.ticket)) ls))
       still_found [] there gone stays = there
       still_found (l ∷ ls) there gone stays = grind (arith, still_found ls, gone)
+
+-- ---- those from a place on stay
+
+any_to : (p : Member → Bool) (n : ℕ) (ms : List Member) → All (λ m. p m ≡ false) (drop n ms) → list_any p (take n ms) ≡ list_any p ms
+any_to p zero ms none = sym (list_any_none p ms none)
+any_to p (suc n) [] none = refl
+any_to p (suc n) (x ∷ ms) none = ap (λ b. p x || b) (any_to p n ms none)
+
+filter_to : (p : Member → Bool) (n : ℕ) (ms : List Member) → All (λ m. p m ≡ false) (drop n ms) → filter p (take n ms) ≡ filter p ms
+filter_to p zero ms none = sym (none_filtered p ms (list_any_none p ms none))
+filter_to p (suc n) [] none = refl
+filter_to p (suc n) (x ∷ ms) none = ap (λ xs. cond (p x) (x ∷ xs) xs) (filter_to p n ms none)
+
+module _ (now : Members) (covers : Task → Bool) (n : ℕ) (past : All (λ t. covers t ≡ false) (drop n (tasks_in now))) where
+  stay_past : All (λ m. covers m.task ≡ false) (drop n now.list)
+  stay_past k d l =
+      let f : Member → Task = λ m. m.task in
+      let rest : List Member = drop n now.list in
+      sym (ap covers (get_or-map f rest k d d.task l)) ∙ rw (drop-map f n now.list) at past k d.task (omega (arith, length-map rest f))
+
+  gone_to : (t : ℕ) → is_gone covers (upto n now) t ≡ is_gone covers now t
+  gone_to t = any_to (λ m. m.task.ticket == t && covers m.task) n now.list (λ k d l. rw (stay_past k d l) (and_false _))
+
+  pub staying_to : (lives : List Live) → staying covers (upto n now) lives ≡ staying covers now lives
+  staying_to lives = simp gone_to
+
+  pub leaves_to : (unit : ℕ) → leaves unit covers (take n now.list) ≡ leaves unit covers now.list
+  leaves_to unit = rw (filter_to (λ m. covers m.task) n now.list stay_past)
 
 -- the places that are given back one after the other
 pub finished_on : (w v : Received) (a b c : List Live) → v ≡ finished_by w a b → count_by is_numbered a ≤ w.unfinished → count_by is_numbered c ≤ count_by is_numbered b → count_by is_numbered b ≤ count_by is_numbered a → finished_by v b c ≡ finished_by w a c

@@ -14,3 +14,4 @@ pub mod StayingLemmas
 pub mod AllLeftLemmas
 pub mod RosterLemmas
 pub mod KeepLemmas
+pub mod FrontLemmas

@@ -1,7 +1,7 @@
 -- What a set keeps beside its commands, so that none of them is tested again.
-use Rattle.std.specs.Prelude.{◌≡◌, ℕ, ℤ, pos, ◌+ℤ◌, int_lt, map, ◌+◌, ◌-◌, ◌^◌, ◌<◌, ◌≤◌, ◌==◌, ◌&&◌, ◌||◌, not, max, min, nat_lt, Bool, true, false, List, length, All, slice_index_or, count_by, Option, Some, MatchOption, if◌then◌else◌}
+use Rattle.std.specs.Prelude.{◌≡◌, ℕ, ℤ, pos, ◌+ℤ◌, ◌≤ℤ◌, int_lt, map, ◌+◌, ◌-◌, ◌^◌, ◌<◌, ◌≤◌, ◌==◌, ◌&&◌, ◌||◌, not, max, min, nat_lt, Bool, true, false, List, [], ◌∷◌, length, All, slice_index_or, count_by, Option, Some, MatchOption, if◌then◌else◌}
 use Rattle.std.specs.Int.{int_min}
-use Rattle.std.specs.List.{position_or_len, fold}
+use Rattle.std.specs.List.{position_or_len, fold, AllPairs}
 use Rattle.iscsi_tasks.specs.declared.task.Attr.{Attr}
 use Rattle.iscsi_tasks.specs.declared.task.Attr.TheVariants.{Simple, Ordered, Head}
 use Rattle.iscsi_tasks.specs.declared.task.Task.{Task}
@@ -146,8 +146,36 @@ covered_from_with number len t = if len == 0 then covered_from t else int_min nu
 abbrev pub covered_from_in : List Member → ℤ
 covered_from_in list = fold (λ n m. int_min n (covered_from m.task)) greatest_number list
 
+-- that of the oldest
+abbrev pub covered_from_first : List Member → ℤ
+covered_from_first [] = greatest_number
+covered_from_first (m ∷ ms) = covered_from m.task
+
+-- the least one, which is that of the oldest where they go up
+abbrev pub least_covered_from : Bool → List Member → ℤ
+least_covered_from ascends list = if ascends then covered_from_first list else covered_from_in list
+
 -- that of the set, of which this covered nothing
-abbrev pub covered_from_after : ℤ → Cover → List Member → ℤ
-covered_from_after number AllOfThem list = number
-covered_from_after number (Conn cid) list = number
-covered_from_after number (Below at event) list = covered_from_in list
+abbrev pub covered_from_after : ℤ → Bool → Cover → List Member → ℤ
+covered_from_after number ascends AllOfThem list = number
+covered_from_after number ascends (Conn cid) list = number
+covered_from_after number ascends (Below at event) list = least_covered_from ascends list
+
+-- ---- where they go up along the set
+
+abbrev pub IsAscending : List Member → Type 0
+IsAscending list = AllPairs (λ a b. covered_from a.task ≤ℤ covered_from b.task) list
+
+-- they go up, and none is above this one
+pub record IsAscendingTo (most : ℤ) (list : List Member) : Type 0 where
+  pub ascending : IsAscending list
+  pub within : All (λ m. covered_from m.task ≤ℤ most) list
+
+-- they go up, once the command entered behind so many others, none of whose is above this one if they go up
+abbrev pub ascends_with : Bool → ℤ → ℕ → Task → Bool
+ascends_with ascends most len t = len == 0 || (ascends && not (int_lt (covered_from t) most))
+
+-- what holds of every set: it is kept, and where it says that they go up, they do
+pub record IsKeptInFront (depth room : ℕ) (number : ℤ) (ascends : Bool) (most : ℤ) (c : Counts) (list : List Member) : Type 0 where
+  pub kept : IsKept depth room number c list
+  pub front : ascends ≡ true → IsAscendingTo most list

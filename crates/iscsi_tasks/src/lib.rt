@@ -7,6 +7,7 @@
 mod counts;
 mod cover;
 mod fault;
+mod front;
 mod member;
 mod queue;
 mod roster;

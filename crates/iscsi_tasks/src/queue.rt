@@ -3,7 +3,7 @@
 ghost use Rattle.std.specs.Prelude.{◌≡◌, ◌↔◌, ℕ, ◌+◌, ◌<◌, ◌≤◌, ◌==◌, [], ◌∷◌, ◌++◌, map, take, drop, length, position, slice_index_or, find, option_map, option_and_then, slice_get, All, true, false};
 ghost use Rattle.std.specs.List.{position_or_len, remove};
 ghost use Rattle.iscsi_tasks.specs.Sets.{InOrder, after_moment, is_head_of, is_covered, is_new, next_in, given_in, uncovered, list_staying, ticket_if};
-ghost use Rattle.iscsi_tasks.specs.Counted.{IsPlaceOf, IsEnabledPlace, IsCounted, AreHeadsEnabled, is_ordered_in, free_to, enabled_now, covered_from_in};
+ghost use Rattle.iscsi_tasks.specs.Counted.{IsPlaceOf, IsEnabledPlace, IsCounted, AreHeadsEnabled, is_ordered_in, free_to, enabled_now, covered_from_in, least_covered_from};
 
 use crate::counts::{Counts, shifted_by};
 use crate::cover::Cover;
@@ -110,8 +110,22 @@ pub(crate) fn covered_at(members: &Roster, at: usize, cover: &Cover) -> Option<u
     }
 }
 
+/// From which number on functions may cover one of the commands. Where those numbers go up along the set, it looks at
+/// the oldest alone, and else at each.
+pub(crate) fn least_covered_from(members: &Roster, ascends: bool) -> i64
+    ensures { result ≡ least_covered_from ascends members.now.items }
+{
+    if !ascends {
+        return covered_from_in(members);
+    }
+    if members.len() == 0 {
+        return i64::MAX;
+    }
+    members.at(0).task.covered_from()
+}
+
 /// From which number on functions may cover one of the commands. It looks at each of them.
-pub(crate) fn covered_from_in(members: &Roster) -> i64
+fn covered_from_in(members: &Roster) -> i64
     ensures { result ≡ covered_from_in members.now.items }
 {
     let mut least = i64::MAX;
@@ -156,8 +170,8 @@ pub(crate) fn remove(members: &mut Roster, counts: &mut Counts, at: usize)
     *counts = counts.without(at, attr, ordered_at);
 }
 
-/// The covered commands leave, all of them before one moment. The others close up.
-pub(crate) fn remove_covered(members: &mut Roster, counts: &mut Counts, cover: &Cover)
+/// The covered commands leave, all of them before one moment. The others close up. It looks at each command.
+pub(crate) fn remove_everywhere(members: &mut Roster, counts: &mut Counts, cover: &Cover)
     requires counted { IsCounted counts.old members.old.items }
     requires len { length members.old.items ≤ 1024 }
     ensures items { members.new.items ≡ list_staying (is_covered cover.now) members.old.items }

@@ -1,17 +1,18 @@
 //! The task set: its commands in the order in which they entered.
 
-ghost use Rattle.std.specs.Prelude.{Err, ◌≡◌, ◌+◌, ◌<◌, ◌≤◌, ◌⊎◌, ◌↔◌, List, [], ◌∷◌, length, filter, slice_index_or, position, IsSome, Option, Some, false, All, IsTrue, IfSome, IfOk, IfErr, OnOk, OnErr};
+ghost use Rattle.std.specs.Prelude.{Err, ◌≡◌, ◌+◌, ◌<◌, ◌≤◌, ◌⊎◌, ◌↔◌, List, [], ◌∷◌, length, filter, drop, slice_index_or, position, IsSome, Option, Some, false, All, IsTrue, IfSome, IfOk, IfErr, OnOk, OnErr};
 ghost use Rattle.iscsi_tasks.specs.Sets.{tasks_in, opened, InOrder, IsNewest, entered_to, refused_by, left_by, with_ticket, with_tag, first_covered, is_covered, covered_at, set_staying, is_enabled_in, is_enabled_with, next_in, given_by, StaysFree};
 ghost use Rattle.iscsi_tasks.specs.Changes.{Change, Entered, Left, AllBelow, StandsFor, live, IsEnabled, next_after, after_giving, after_leaving, after_all_left};
-ghost use Rattle.iscsi_tasks.specs.Counted.{is_free_behind, covered_from_with, covered_from_after};
+ghost use Rattle.iscsi_tasks.specs.Counted.{is_free_behind, covered_from_with, covered_from_after, ascends_with};
 
 use crate::counts::Counts;
 use crate::cover::Cover;
 use crate::fault::TaskFault;
+use crate::front::{covered_to, remove_covered};
 use crate::member::Member;
 use crate::queue::{
-    covered_at, covered_from_in, enable_free, enabled_place, first_covered, give_next, place_of,
-    push, remove, remove_covered, with_tag,
+    covered_at, enable_free, enabled_place, first_covered, give_next, least_covered_from, place_of,
+    push, remove, with_tag,
 };
 use crate::roster::Roster;
 use crate::task::{Attr, Task};
@@ -37,6 +38,10 @@ pub struct TaskSet {
     looked: u32,
     /// No function with a number below this one covers a command of the set.
     covered_from: i64,
+    /// Whether the numbers from which on functions may cover the commands go up along the set ..
+    ascends: bool,
+    /// .. and none is above this one then.
+    ascends_to: i64,
     counts: Counts,
     members: Roster,
 }
@@ -47,6 +52,8 @@ impl Drop for TaskSet {
             depth: _depth,
             looked: _looked,
             covered_from: _covered_from,
+            ascends: _ascends,
+            ascends_to: _ascends_to,
             counts: _counts,
             members: _members,
         } = self;
@@ -56,13 +63,14 @@ impl Drop for TaskSet {
 impl Model for TaskSet {
     ghost use Rattle.std.specs.Prelude.{◌≡◌};
     ghost use Rattle.iscsi_tasks.specs.Sets.{Members};
-    ghost use Rattle.iscsi_tasks.specs.Counted.{IsKept};
+    ghost use Rattle.iscsi_tasks.specs.Counted.{IsKeptInFront};
 
     ghost Value = { Members };
 
     ghost view = { λ s. record { depth = s.depth; looked = s.looked; list = s.members.items } };
 
-    ghost invariant = { λ s. IsKept s.depth s.members.room s.covered_from s.counts s.members.items };
+    ghost invariant = { λ s. IsKeptInFront s.depth s.members.room s.covered_from s.ascends s.ascends_to s.counts
+        s.members.items };
 }
 
 impl TaskSet {
@@ -82,6 +90,8 @@ impl TaskSet {
             depth,
             looked: 0,
             covered_from: i64::MAX,
+            ascends: true,
+            ascends_to: i64::MAX,
             counts: Counts::new(),
             members,
         })
@@ -131,6 +141,8 @@ impl TaskSet {
         }
         let enabled = test_free(&mut self.looked, &self.counts, len, task.attr);
         self.covered_from = covered_from_with(self.covered_from, len, &task);
+        self.ascends = ascends_with(self.ascends, self.ascends_to, len, &task);
+        self.ascends_to = task.covered_from();
         push(&mut self.members, &mut self.counts, task, enabled);
         Ok(())
     }
@@ -176,7 +188,12 @@ impl TaskSet {
             return None;
         }
         let Some(at) = first_covered(&self.members, cover) else {
-            self.covered_from = covered_from_after(self.covered_from, cover, &self.members);
+            self.covered_from = covered_from_after(
+                self.covered_from,
+                self.ascends,
+                cover,
+                &self.members,
+            );
             return None;
         };
         Some(self.take_out(at))
@@ -187,6 +204,20 @@ impl TaskSet {
         ensures none { result ≡ false → All (λ t. is_covered cover.now t ≡ false) (tasks_in self.now) }
     {
         !cover.is_below(self.covered_from)
+    }
+
+    /// How many commands, counted from the oldest, are to be asked for one that is covered: from that place on none is.
+    ///
+    /// Where the commands entered in the order of their numbers, each immediate one with the number that was expected
+    /// next, those before a function are in front, and it finds the end of them by halving.
+    pub fn covered_to(&self, cover: &Cover) -> u32
+        ensures within { result ≤ length self.now.list }
+        ensures past { All (λ t. is_covered cover.now t ≡ false) (drop result (tasks_in self.now)) }
+    {
+        if cover.is_below(self.covered_from) {
+            return 0;
+        }
+        covered_to(&self.members, self.ascends, cover) as u32
     }
 
     /// The ticket of the command at this place, counted from the oldest, if it is covered.
@@ -200,7 +231,9 @@ impl TaskSet {
     /// All covered commands leave, and what becomes enabled does so in one moment behind them. Where none is covered,
     /// nothing changes.
     ///
-    /// It looks at each command, and counts those that stay anew. It looks at none where `may_cover` is false.
+    /// Where the commands entered in the order of their numbers, each immediate one with the number that was expected
+    /// next, it looks at those before the function and at one behind them. Else, and for the other covers, it looks at
+    /// each command and counts those that stay anew. It looks at none where `may_cover` is false.
     pub fn leave_covered(&mut self, cover: &Cover)
         ensures state { self.new ≡ set_staying (is_covered cover.now) self.old }
         // It is as if they left one after the other, the oldest first.
@@ -210,8 +243,13 @@ impl TaskSet {
         if cover.is_below(self.covered_from) {
             return;
         }
-        remove_covered(&mut self.members, &mut self.counts, cover);
-        self.covered_from = covered_from_after(self.covered_from, cover, &self.members);
+        remove_covered(&mut self.members, &mut self.counts, self.ascends, cover);
+        self.covered_from = covered_from_after(
+            self.covered_from,
+            self.ascends,
+            cover,
+            &self.members,
+        );
     }
 
     /// The place of the command with this ticket, counted from the oldest, if it is in the set and enabled.
@@ -293,13 +331,21 @@ fn covered_from_with(covered_from: i64, len: usize, task: &Task) -> i64
     }
 }
 
+/// Whether the numbers from which on functions may cover the commands of a set go up along it, once this one has entered
+/// behind `len` others, none of whose is above `to` if they go up.
+fn ascends_with(ascends: bool, to: i64, len: usize, task: &Task) -> bool
+    ensures { result ≡ ascends_with ascends to len task.now }
+{
+    len == 0 || ascends && to <= task.covered_from()
+}
+
 /// From which number on functions may cover commands of a set, once this has covered none of them. For a function it is
 /// determined anew, so that the next one like it needn't look along the set.
-fn covered_from_after(covered_from: i64, cover: &Cover, members: &Roster) -> i64
-    ensures { result ≡ covered_from_after covered_from cover.now members.now.items }
+fn covered_from_after(covered_from: i64, ascends: bool, cover: &Cover, members: &Roster) -> i64
+    ensures { result ≡ covered_from_after covered_from ascends cover.now members.now.items }
 {
     match *cover {
-        Cover::Below { .. } => covered_from_in(members),
+        Cover::Below { .. } => least_covered_from(members, ascends),
         _ => covered_from,
     }
 }

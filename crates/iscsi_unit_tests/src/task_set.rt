@@ -290,6 +290,67 @@ fn covered_commands_leave_together(rt: HostRuntime) -> Result<(), Fail> {
     Ok(())
 }
 
+/// Five commands enter. A digit of `shape` to the base 4 says of each that it is numbered, or immediate of the number
+/// that is next, of the one before it or of the one behind it.
+fn enter_shape(rt: &impl Abort, set: &mut TaskSet, shape: u32) {
+    let attrs = [
+        Attr::Simple,
+        Attr::Ordered,
+        Attr::Simple,
+        Attr::Head,
+        Attr::Simple,
+    ];
+    let mut digits = shape;
+    let mut next: i64 = 1;
+    for k in 0..5 {
+        let ticket = k as u64 + 1;
+        let shifted = [0, 0, -1, 1][(digits % 4) as usize];
+        let placed = Task {
+            immediate: digits % 4 > 0,
+            pos: next.saturating_add(shifted),
+            ..task(ticket, attrs[k])
+        };
+        if digits % 4 == 0 {
+            next = next.saturating_add(1);
+        }
+        digits /= 4;
+        assert_eq!(rt; enter(rt, set, placed), Ok(()));
+    }
+}
+
+/// The covered commands leave the one set together and the other one by one. Both hold and give the same then.
+fn leave_both_ways(rt: &impl Abort, together: &mut TaskSet, apart: &mut TaskSet, cover: &Cover) {
+    for at in together.covered_to(cover)..5 {
+        assert_eq!(rt; together.covered_at(at, cover), None);
+    }
+    together.leave_covered(cover);
+    for _ in 0..5 {
+        apart.leave_first(cover);
+    }
+    assert_eq!(rt; covered(together, &Cover::All), covered(apart, &Cover::All));
+    assert_eq!(rt; together.next_new(), apart.next_new());
+}
+
+#[test]
+fn a_function_takes_out_what_it_covers_in_any_order(rt: HostRuntime) -> Result<(), Fail> {
+    for shape in 0..1024 {
+        for first in 0..5 {
+            let mut together = TaskSet::open(rt.alloc(), 5)?;
+            let mut apart = TaskSet::open(rt.alloc(), 5)?;
+            enter_shape(&rt, &mut together, shape);
+            enter_shape(&rt, &mut apart, shape);
+            for pos in [first, first + 1, first + 3] {
+                let below = Cover::Below { pos, event: 3 };
+                leave_both_ways(&rt, &mut together, &mut apart, &below);
+            }
+            assert_eq!(rt; new_ones(&mut together), new_ones(&mut apart));
+            leave_both_ways(&rt, &mut together, &mut apart, &Cover::All);
+            assert_eq!(rt; together.len(), 0);
+        }
+    }
+    Ok(())
+}
+
 /// A command as the plain scan keeps it.
 #[derive(Clone, Copy)]
 struct Plain {

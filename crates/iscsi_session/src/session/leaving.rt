@@ -119,10 +119,7 @@ fn end_covered(
     ensures spent { vec_len out.new + length live.new.items ≤ vec_len out.old + length live.old.items }
     ensures capacity { vec_capacity out.new ≡ vec_capacity out.old }
 {
-    if !set.may_cover(cover) {
-        return;
-    }
-    for at in 0..set.len() {
+    for at in 0..set.covered_to(cover) {
         let Some(ticket) = set.covered_at(at, cover) else {
             continue;
         };

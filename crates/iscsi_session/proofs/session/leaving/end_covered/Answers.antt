@@ -1,4 +1,4 @@
-use Rattle.std.proofs.Common.{◌∙◌, ◌<◌, ◌≤◌, ◌==◌, ℕ, not, List, length, count_by, append_assoc, refl, ap, sym, arith, rules}
+use Rattle.std.proofs.Common.{◌≡◌, ◌++◌, ◌∙◌, ◌<◌, ◌≤◌, ◌==◌, ℕ, not, List, length, count_by, append_assoc, refl, ap, sym, arith, rules}
 use Rattle.std.specs.Prelude.{IsSome}
 use Rattle.std.proofs.lemmas.List.{append-nil}
 use Rattle.iscsi_tasks.specs.Sets.{Members, is_covered}
@@ -6,18 +6,12 @@ use Rattle.iscsi_history.proofs.ListLemmas.{fewer_counted}
 use Rattle.iscsi_history.proofs.SetLemmas.{no_member, told_some, told_none}
 use Rattle.iscsi_commands.specs.declared.live.Live.{Live}
 use Rattle.iscsi_session.specs.private.Steps.{is_numbered, find_ticket, without_ticket}
+use Rattle.iscsi_session.specs.private.Functions.{finished_by}
 use Rattle.iscsi_session.proofs.KeptLemmas.{ascending-kept}
 use Rattle.iscsi_session.proofs.ListLemmas.{are_known-left}
-use Rattle.iscsi_session.proofs.LeavingParts.{none_has, stay_none, leaves_none, finished_none, finished_on, upto, there_yet, passed_live, passed_leaves, more_live, more_leaves, without_shorter}
+use Rattle.iscsi_session.proofs.LeavingParts.{stay_none, staying_to, leaves_to, finished_none, finished_on, upto, there_yet, passed_live, passed_leaves, more_live, more_leaves, without_shorter}
 use Rattle.iscsi_session.proofs.session.leaving.end_covered.Goals.{In-Some}
 use Rattle.iscsi_session.proofs.session.leaving.end_covered.Goals as goal
-
--- where none may be covered, none is
-pub returns-then-not-may_cover : goal.returns-then-not-may_cover
-returns-then-not-may_cover c =
-    let covers = is_covered c.args.cover.now in
-    let none = none_has covers c.args.set.now (c.may_cover.ensures.none (search rules)) in
-    grind (arith, stay_none covers c.args.set.now c.args.live.now.items none, finished_none c.args.window.now c.args.live.now.items, leaves_none covers c.args.set.now c.args.unit none, append-nil c.args.out.now.items)
 
 pub loop-at-init : goal.loop-at-init
 loop-at-init c = search (rules, arith, sym (stay_none (is_covered c.args.cover.now) (upto 0 c.args.set.now) c.args.live.now.items refl), sym (finished_none c.args.window.now c.args.live.now.items), sym (append-nil c.args.out.now.items))
@@ -26,7 +20,7 @@ loop-at-init c = search (rules, arith, sym (stay_none (is_covered c.args.cover.n
 still_live : (c : In-Some) → IsSome (find_ticket c.in-Some.ticket c.loop-at.live.items)
 still_live c =
     let now : Members = c.args.set.now in
-    let inside : c.loop-at.at < length now.list = omega (arith, c.len-at-end.ensures.len) in
+    let inside : c.loop-at.at < length now.list = omega (arith, c.covered_to-at-end.ensures.within) in
     rw (c.loop-at.invariant.live, ← (told_some c.args.cover.now now c.loop-at.at c.in-Some.ticket c.covered_at.result inside c.covered_at.ensures.answer c.in-Some.is).1)
     (there_yet now c.args.unit (is_covered c.args.cover.now) c.args.live.now.items c.loop-at.at no_member inside c.requires.there c.requires.ascending)
 
@@ -38,7 +32,7 @@ pub loop-at-preserved-in_default : goal.loop-at-preserved-in_default
 loop-at-preserved-in_default c =
     let now : Members = c.args.set.now in
     let covers = is_covered c.args.cover.now in
-    let inside : c.loop-at.at < length now.list = omega (arith, c.len-at-end.ensures.len) in
+    let inside : c.loop-at.at < length now.list = omega (arith, c.covered_to-at-end.ensures.within) in
     let stays = told_none c.args.cover.now now c.loop-at.at c.covered_at.result inside c.covered_at.ensures.answer c.in_default.is in
     let live = rw (← passed_live now c.args.unit covers c.args.live.now.items c.loop-at.at no_member inside stays) at c.loop-at.invariant.live in
     let effects = rw (← passed_leaves now c.args.unit covers c.args.live.now.items c.loop-at.at no_member inside stays) at c.loop-at.invariant.effects in
@@ -56,7 +50,7 @@ loop-at-preserved c =
     let lives : List Live = c.args.live.now.items in
     let ticket : ℕ = c.in-Some.ticket in
     let before : List Live = c.loop-at.live.items in
-    let inside : c.loop-at.at < length now.list = omega (arith, c.len-at-end.ensures.len) in
+    let inside : c.loop-at.at < length now.list = omega (arith, c.covered_to-at-end.ensures.within) in
     let told = told_some cover now c.loop-at.at ticket c.covered_at.result inside c.covered_at.ensures.answer c.in-Some.is in
     let there = still_live (goal.at.loop-at-preserved c).In-Some in
     let less : count_by is_numbered (without_ticket ticket before) ≤ count_by is_numbered before = fewer_counted is_numbered (λ l. not (l.ticket == ticket)) before in
@@ -73,3 +67,17 @@ loop-at-preserved c =
       spent = omega (arith, ap length c.end.ensures.live, without_shorter ticket before there, inv.spent, c.push_reserved.ensures.len);
       capacity = c.push_reserved.ensures.capacity ∙ inv.capacity;
     }
+
+-- from the place on at which the loop ends none is covered
+pub returns-clause-live : goal.returns-clause-live
+returns-clause-live c =
+    let n : c.loop-at.at ≡ c.covered_to-at-end.result = omega arith in
+    c.loop-at.invariant.live ∙ rw n (staying_to c.args.set.now (is_covered c.args.cover.now) c.covered_to-at-end.result c.covered_to-at-end.ensures.past c.args.live.now.items)
+
+pub returns-clause-window : goal.returns-clause-window
+returns-clause-window c = c.loop-at.invariant.window ∙ ap (finished_by c.args.window.now c.args.live.now.items) (returns-clause-live c)
+
+pub returns-clause-effects : goal.returns-clause-effects
+returns-clause-effects c =
+    let n : c.loop-at.at ≡ c.covered_to-at-end.result = omega arith in
+    c.loop-at.invariant.effects ∙ ap (λ es. c.args.out.now.items ++ es) (rw n (leaves_to c.args.set.now (is_covered c.args.cover.now) c.covered_to-at-end.result c.covered_to-at-end.ensures.past c.args.unit))

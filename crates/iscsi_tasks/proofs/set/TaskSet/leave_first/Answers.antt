@@ -14,7 +14,7 @@ nothing c =
     let i = c.self.inside in
     let below : is_below i.covered_from c.args.cover.now ≡ true =
     ap (λ n. is_below n c.args.cover.now) (sym (to_z-of_z w64 i.covered_from (search rules))) ∙ sym c.is_below.ensures ∙ c.if-is_below.true in
-    ap (λ (s : Members). find (is_covered c.args.cover.now) (tasks_in s)) (sym c.self.view_is) ∙ nothing_covered i.covered_from (tasks_in (record { depth = i.depth; looked = i.looked; list = i.members.items })) c.args.cover.now c.self.invariant.covered_from below
+    ap (λ (s : Members). find (is_covered c.args.cover.now) (tasks_in s)) (sym c.self.view_is) ∙ nothing_covered i.covered_from (tasks_in (record { depth = i.depth; looked = i.looked; list = i.members.items })) c.args.cover.now c.self.invariant.kept.covered_from below
 
 pub returns-then-is_below-clause-answer : goal.returns-then-is_below-clause-answer
 returns-then-is_below-clause-answer c = sym (nothing c)
@@ -35,18 +35,21 @@ pub invariant_of-self : goal.invariant_of-self
 invariant_of-self c =
     let i = c.self.inside in
     let cover = c.args.cover.now in
-    let number : to_z w64 (of_z w64 c.covered_from_after-self-inside.result) ≡ covered_from_after i.covered_from cover i.members.items =
+    let number : to_z w64 (of_z w64 c.covered_from_after-self-inside.result) ≡ covered_from_after i.covered_from i.ascends cover i.members.items =
     to_z-of_z w64 c.covered_from_after-self-inside.result (search rules) ∙ c.covered_from_after-self-inside.ensures
-    ∙ ap (λ n. covered_from_after n cover i.members.items) (to_z-of_z w64 i.covered_from (search rules)) in
+    ∙ ap (λ n. covered_from_after n i.ascends cover i.members.items) (to_z-of_z w64 i.covered_from (search rules)) in
     record {
-      least = c.self.invariant.least;
-      within = c.self.invariant.within;
-      room_left = c.self.invariant.room_left;
-      most = c.self.invariant.most;
-      counted = c.self.invariant.counted;
-      settled = c.self.invariant.settled;
-      covered_from = subst (λ (n : ℤ). IsCoveredFrom n (map (λ m. m.task) i.members.items)) (sym number)
-          (covered_from_past i.covered_from i.members.items cover c.self.invariant.covered_from);
+      kept = record {
+        least = c.self.invariant.kept.least;
+        within = c.self.invariant.kept.within;
+        room_left = c.self.invariant.kept.room_left;
+        most = c.self.invariant.kept.most;
+        counted = c.self.invariant.kept.counted;
+        settled = c.self.invariant.kept.settled;
+        covered_from = subst (λ (n : ℤ). IsCoveredFrom n (map (λ m. m.task) i.members.items)) (sym number)
+            (covered_from_past i.covered_from i.ascends i.members.items cover (λ yes. (c.self.invariant.front yes).ascending) c.self.invariant.kept.covered_from);
+      };
+      front = c.self.invariant.front;
     }
 
 pub returns-in_default-clause-answer : goal.returns-in_default-clause-answer
