@@ -1,14 +1,13 @@
 -- The turns that are taken, and an arrival as a whole.
-use Rattle.std.proofs.Common.{◌&&◌, not, map, ◌≡◌, ℕ, ◌+◌, ◌-◌, ◌==◌, inl, inr, ⊎_elim, cond, true, false, nat_lt, List, [], ◌∷◌, ◌++◌, None, Some, find, length, arith, is_some, refl, ap, sym, subst, ◌∙◌, append_assoc}
+use Rattle.std.proofs.Common.{◌&&◌, not, map, ◌≡◌, ℕ, ◌+◌, ◌-◌, ◌==◌, inl, inr, ⊎_elim, cond, true, false, nat_lt, List, [], ◌∷◌, ◌++◌, None, Some, find, is_some, refl, ap, sym, subst, ◌∙◌, append_assoc}
 use Rattle.std.specs.List.{list_all, list_any}
-use Rattle.std.proofs.lemmas.Bool.Decides.{nat_tests}
 use Rattle.std.proofs.lemmas.List.{append-nil}
 use Rattle.iscsi_wire.specs.declared.request.Request.{Request}
 use Rattle.iscsi_wire.specs.declared.reply.Reply.{Reply}
 use Rattle.iscsi_wire.specs.declared.reply.Reply.TheVariants.{Reject}
 use Rattle.iscsi_wire.specs.Fields.{connection_of, header_of, is_immediate}
 use Rattle.iscsi_window.specs.declared.answer.Offer.TheVariants.{Held}
-use Rattle.iscsi_window.specs.Windows.{at_place, offer_to, number_expected, is_next}
+use Rattle.iscsi_window.specs.Windows.{at_place, offer_to, number_expected}
 use Rattle.iscsi_history.specs.declared.effect.Effect.{Effect}
 use Rattle.iscsi_history.specs.declared.effect.Effect.TheVariants.{Send, Ignore}
 use Rattle.iscsi_history.specs.declared.effect.Why.TheVariants.{Closed, Data}
@@ -22,7 +21,7 @@ use Rattle.iscsi_history.specs.rules.Items.{immediate_item, functions_at, agenda
 use Rattle.iscsi_history.specs.rules.Run.{effects_of, effects_of_item, stat_sn_of}
 use Rattle.iscsi_session.specs.promises.Standing.{Core, Agrees, Settled}
 use Rattle.iscsi_session.specs.private.Steps.{with_reply, reply_effects, with_offered}
-use Rattle.iscsi_session.specs.private.Turning.{turned_if, turn_effects, comes_next, deferral_by, immediate_as, immediate_effects}
+use Rattle.iscsi_session.specs.private.Turning.{turned_if, turn_effects, comes_next, next_waiting, deferral_by, immediate_as, immediate_effects}
 use Rattle.iscsi_history.specs.rules.Logout.{is_open}
 use Rattle.iscsi_session.specs.private.Closing.{is_among_open}
 use Rattle.iscsi_session.proofs.OpenConns.{open_of-same}
@@ -39,10 +38,10 @@ use Rattle.iscsi_history.proofs.MomentLemmas.{enables}
 use Rattle.iscsi_history.proofs.EnabledItems.{EnabledSoFar-untouched}
 use Rattle.iscsi_history.proofs.CommandItems.{unfinished-untouched}
 use Rattle.iscsi_history.proofs.ReceivedItems.{immediate_receives_one, ignored_receives}
-use Rattle.iscsi_history.proofs.BoolLemmas.{and_parts, not_flip}
+use Rattle.iscsi_history.proofs.BoolLemmas.{not_flip}
 use Rattle.iscsi_session.proofs.AgreeLemmas.{settled_expected, Stepped, Stepped-ignored}
 use Rattle.iscsi_session.specs.declared.session.waiting.Waiting.{Waiting}
-use Rattle.iscsi_session.proofs.WindowLemmas.{comes_first}
+use Rattle.iscsi_session.proofs.WindowLemmas.{comes_alone, Delivered, delivered}
 use Rattle.iscsi_session.proofs.StepLemmas.{Offered, offered}
 use Rattle.iscsi_session.proofs.FunctionLemmas.{immediate-item}
 use Rattle.iscsi_session.proofs.AgendaLemmas.{Carried, Carried-turned, DueTurn, whole_of, Due-start, Due-functions, turned-all}
@@ -76,13 +75,10 @@ offered_known o s index t r h regular known now = offered o s index t r h regula
 pub carried_at_once : (o : Setting) (s s' f : Core) (r : Request) (t : Trace) (out out' out'' : List Effect) → comes_next s r ≡ true → s' ≡ turned_if (with_offered s r) (Some (Some r)) → out' ≡ out ++ turn_effects (with_offered s r) (Some (Some r))
     → Agrees o (with_offered s r) t → ((t : Trace) → Agrees o s' t → Carried o s' f t out' out'') → Carried o (with_offered s r) f t out out''
 carried_at_once o s s' f r t out out' out'' next now given a rest =
-    let parts = and_parts (length s.waiting == 0) (is_next s.window r) next in
-    let none : length s.waiting ≡ 0 = grind (arith, nat_tests) in
-    Carried-turned o (with_offered s r) s' f t out out' out'' (Some (Some r)) (nothing s.waiting none) (comes_first s.window r parts.1).there refl now given a rest
-  where
-    nothing : (ws : List Waiting) → length ws ≡ 0 → find (λ w. w.turn == (with_offered s r).window.turned) ws ≡ None
-    nothing [] none = refl
-    nothing (w ∷ ws) none = absurd (let no : ⊥ = omega (arith, none) in no)
+    let parts = comes_alone s r next in
+    let d : Delivered s.window r = delivered s.window r parts.1 in
+    let none : next_waiting (with_offered s r) ≡ None = ap (λ n. find (λ (w : Waiting). w.turn == n) s.waiting) d.grown_is.turned ∙ parts.0 in
+    Carried-turned o (with_offered s r) s' f t out out' out'' (Some (Some r)) none d.first.there refl now given a rest
 
 -- ---- an arrival that is held
 

@@ -1,13 +1,16 @@
 -- The functions that wait for a number, one after the other.
-use Rattle.std.proofs.Common.{◌≡◌, ℕ, ◌+◌, ◌==◌, Bool, true, false, List, [], ◌∷◌, map, filter, find, Some, None, refl, ap, ◌∙◌, arith}
+use Rattle.std.proofs.Common.{◌≡◌, ℕ, suc, ◌+◌, ◌<◌, ◌≤◌, ◌==◌, cond, Bool, true, false, List, [], ◌∷◌, map, filter, find, position, All, Option, Some, None, option_map, is_some, refl, ap, ◌∙◌, arith}
 use Rattle.std.proofs.lemmas.Bool.Decides.{nat_tests}
+use Rattle.std.proofs.lemmas.List.Elements.{All-weaker}
 use Rattle.iscsi_wire.specs.Serial.{number_of_first}
+use Rattle.iscsi_slots.proofs.SortedLemmas.{find_nowhere}
 use Rattle.iscsi_session.specs.declared.session.waiting.Waiting.{Waiting}
 use Rattle.iscsi_history.specs.rules.Settings.{Setting}
 use Rattle.iscsi_history.specs.rules.Trace.{Arrival, Trace, waiting}
 use Rattle.iscsi_history.specs.rules.Items.{function_item, functions_at}
 use Rattle.iscsi_session.specs.promises.Standing.{arrival_waiting}
 use Rattle.iscsi_history.proofs.ListLemmas.{filter-map}
+use Rattle.iscsi_history.proofs.PlaceLemmas.{position-cons}
 use Rattle.iscsi_history.proofs.TraceLemmas.{filter-same}
 use Rattle.iscsi_history.proofs.WaitingItems.{first_function, waits_itself}
 
@@ -47,3 +50,22 @@ next_function o t ws turned w same found =
 -- or there is none
 pub no_function : (o : Setting) (t : Trace) (ws : List Waiting) (turned : ℕ) → waiting t ≡ map (arrival_waiting o.first) ws → find (λ v. v.turn == turned) ws ≡ None → functions_at o (number_of_first o.first + turned) t ≡ []
 no_function o t ws turned same none = rw (same, at_turn o.first turned ws, none_found (λ v. v.turn == turned) ws none)
+
+-- ---- whether a function waits for a turn
+
+-- none does for a turn below all that are waited for
+pub none_due : (ws : List Waiting) (next turn : ℕ) → All (λ w. next ≤ w.turn) ws → turn < next → find (λ w. w.turn == turn) ws ≡ None
+none_due ws next turn all before = find_nowhere (λ (w : Waiting). w.turn) turn ws (All-weaker (λ (w : Waiting). next ≤ w.turn) (λ w. (w.turn == turn) ≡ false) (λ w le. grind (arith, nat_tests)) ws all)
+
+-- one has a place where one is found
+pub found_where : (p : Waiting → Bool) (ws : List Waiting) → is_some (position p ws) ≡ is_some (find p ws)
+found_where p [] = refl
+found_where p (w ∷ ws) =
+    ap is_some (position-cons p w ws) ∙ elim (p w) as (λ b. is_some (cond b (Some 0) (option_map suc (position p ws))) ≡ is_some (cond b (Some w) (find p ws))) [
+      | true ↦ refl
+      | false ↦ as_far (position p ws) ∙ found_where p ws
+    ]
+  where
+    as_far : (y : Option ℕ) → is_some (option_map suc y) ≡ is_some y
+    as_far None = refl
+    as_far (Some k) = refl

@@ -6,7 +6,7 @@ use Rattle.std.proofs.lemmas.Bool.Decides.{nat_tests}
 use Rattle.std.proofs.lemmas.List.{length_push}
 use Rattle.iscsi_session.specs.promises.Standing.{Core, is_held, is_place_known}
 use Rattle.iscsi_session.specs.private.Steps.{noted_at, with_offered}
-use Rattle.iscsi_session.specs.private.Turning.{comes_next, with_advanced, next_arrived}
+use Rattle.iscsi_session.specs.private.Turning.{comes_next, next_waiting, with_advanced, next_arrived}
 use Rattle.iscsi_window.specs.declared.answer.Turned.{Turned}
 use Rattle.iscsi_wire.specs.declared.request.Request.{Request}
 use Rattle.iscsi_wire.specs.Serial.{wire, lift}
@@ -19,7 +19,8 @@ use Rattle.iscsi_history.specs.rules.Settings.{is_known}
 use Rattle.iscsi_session.specs.private.Invariant.{IsWindowSound}
 use Rattle.iscsi_history.proofs.PlaceLemmas.{all_set, all_shift, some_within}
 use Rattle.iscsi_history.proofs.CountLemmas.{count_replaced, count_set, count_shift}
-use Rattle.iscsi_history.proofs.BoolLemmas.{and_parts}
+use Rattle.iscsi_history.proofs.BoolLemmas.{and_parts, not_true}
+use Rattle.iscsi_history.proofs.ListLemmas.{is_none}
 
 -- ---- a request that is held
 
@@ -207,6 +208,10 @@ comes_first w r next = by_place (place_in w (cmd_sn r)) refl next
         let first : k ≡ 0 = grind (arith, nat_tests) in
         by_free (at_place w 0) refl (is ∙ ap (λ j. Inside j) first) parts.1
 
+-- where it may be delivered as it comes, no function waits for its number
+pub comes_alone : (s : Core) (r : Request) → comes_next s r ≡ true → (next_waiting s ≡ None) × (is_next s.window r ≡ true)
+comes_alone s r next = let parts = and_parts (not (is_some (next_waiting s))) (is_next s.window r) next in (is_none (next_waiting s) (not_true (is_some (next_waiting s)) parts.0), parts.1)
+
 -- such a request is received and turns at once
 pub record Delivered (w : Received) (r : Request) : Type 0 where
   pub first : ComesNext w r
@@ -249,7 +254,7 @@ drop-noted (x ∷ arrived) event = refl
 pub delivered_core : (s : Core) (r : Request) (w : Received) (arrived : List ℕ) → comes_next s r ≡ true → 0 < length s.arrived → w ≡ advanced (offered_to s.window r) → arrived ≡ drop 1 s.arrived ++ 0 ∷ []
     → ((let t : Core = record s { window = w; arrived = arrived } in t) ≡ with_advanced (with_offered s r)) × (s.taken - 1 ≡ next_arrived (with_offered s r))
 delivered_core s r w arrived next some is events =
-    let x : ComesNext s.window r = comes_first s.window r (and_parts (length s.waiting == 0) (is_next s.window r) next).1 in
+    let x : ComesNext s.window r = comes_first s.window r (comes_alone s r next).1 in
     let noted : (with_offered s r).arrived ≡ set s.arrived 0 (s.taken - 1) = ap (λ p. noted_at s.window p s.arrived (s.taken - 1)) x.place ∙ ap (λ y. cond (is_some y) s.arrived (set s.arrived 0 (s.taken - 1))) x.free in
     let passed : arrived ≡ drop 1 (with_offered s r).arrived ++ 0 ∷ [] = events ∙ ap (λ xs. xs ++ 0 ∷ []) (sym (ap (drop 1) noted ∙ drop-noted s.arrived (s.taken - 1))) in (
       ap (λ (v : Received). let t : Core = record s { window = v; arrived = arrived } in t) is ∙ ap (λ xs. let t : Core = record s { window = advanced (offered_to s.window r); arrived = xs } in t) passed,

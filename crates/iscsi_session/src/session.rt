@@ -26,7 +26,7 @@ ghost use Rattle.iscsi_session.specs.private.Functions.{owed};
 
 use crate::fault::SessionFault;
 use crate::options::Options;
-use crate::session::waiting::Waiting;
+use crate::session::waiting::Waitlist;
 use iscsi_commands::Commands;
 use iscsi_connections::{Connections, MOST_IMMEDIATE};
 use iscsi_history::{Effect, Event, Numbers};
@@ -73,7 +73,7 @@ pub struct Session {
     /// For each place of the window the event in which the request arrived that is held there.
     arrived: VecDeque<u64>,
     /// The functions that wait for lower numbers, in the order of their arrival.
-    waiting: Vec<Waiting>,
+    waiting: Waitlist,
 }
 
 impl Drop for Session {
@@ -95,7 +95,6 @@ impl Drop for Session {
 }
 
 impl Model for Session {
-    ghost use Rattle.std.specs.Prelude.{vec_capacity};
     ghost use Rattle.std.specs.VecDeque.{deque_capacity};
     ghost use Rattle.iscsi_session.specs.promises.Standing.{Core};
     ghost use Rattle.iscsi_session.specs.private.Invariant.{IsSessionSound};
@@ -130,7 +129,7 @@ impl Model for Session {
       waiting = s.waiting.items;
       live_room = s.live.room;
       arrived_room = deque_capacity s.arrived;
-      waiting_room = vec_capacity s.waiting;
+      waiting_room = s.waiting.room;
     }) };
 }
 
@@ -332,6 +331,6 @@ fn make_on(alloc: Global, options: Options, connections: Connections) -> Option<
         sets: sets::open(alloc, units, depth)?,
         level,
         arrived: arrival::open(alloc, size)?,
-        waiting: Vec::with_capacity(alloc, waiting::MOST * conns.len()).ok()?,
+        waiting: Waitlist::with_room(alloc, waiting::MOST * conns.len())?,
     })
 }

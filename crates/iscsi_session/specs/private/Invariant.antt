@@ -1,6 +1,6 @@
 -- What holds of every session, whatever it has taken.
-use Rattle.std.specs.Prelude.{◌≡◌, ℕ, ◌+◌, ◌*◌, ◌^◌, ◌≤◌, true, List, length, count_by, is_some, nat_lt}
-use Rattle.std.specs.List.{list_all}
+use Rattle.std.specs.Prelude.{◌≡◌, ℕ, ◌+◌, ◌*◌, ◌^◌, ◌<◌, ◌≤◌, true, List, length, All, count_by, is_some, nat_lt}
+use Rattle.std.specs.List.{list_all, AllPairs}
 use Rattle.iscsi_wire.specs.Fields.{connection_of}
 use Rattle.iscsi_window.specs.Received.{Received}
 use Rattle.iscsi_tasks.specs.Sets.{Members}
@@ -53,6 +53,11 @@ pub record AreFunctionsSound (taken : ℕ) (conns : List (ℕ × ℕ)) (waiting 
   pub known : list_all (λ w. is_known (connection_of w.request) conns) waiting ≡ true  -- on a connection of the session
   pub may : list_all (λ w. may_wait w.request) waiting ≡ true  -- is one that may wait
   pub few : (cid : ℕ) → waiting_in waiting cid ≤ 4  -- and is one of few on its connection
+
+-- the functions that wait, as their list keeps them
+pub record IsWaitlistSound (functions : List Waiting) (next_turn : ℕ) : Type 0 where
+  pub none_before : All (λ w. next_turn ≤ w.turn) functions  -- none waits for a turn below the next one
+  pub in_order : AllPairs (λ a b. a.event < b.event) functions  -- each arrived after those before it
 
 -- the containers' rooms, by the numbers of places and connections
 pub record HasRooms (places conns live_room arrived_room waiting_room : ℕ) : Type 0 where

@@ -1,6 +1,6 @@
 -- What a session keeps when a request executes or waits, and at a turn, and the effects, by what it keeps before. For
 -- private contracts alone.
-use Rattle.std.specs.Prelude.{Bool, ℕ, ℤ, pos, ◌-ℤ◌, ◌+◌, ◌-◌, ◌==◌, ◌&&◌, not, nat_lt, nat_le, List, [], ◌∷◌, ◌++◌, length, drop, filter, find, count_by, slice_index_or, Option, Some, None, if◌then◌else◌}
+use Rattle.std.specs.Prelude.{Bool, ℕ, ℤ, pos, ◌-ℤ◌, ◌+◌, ◌-◌, ◌==◌, ◌&&◌, not, nat_lt, nat_le, List, [], ◌∷◌, ◌++◌, length, drop, filter, find, count_by, slice_index_or, Option, Some, None, is_some, if◌then◌else◌}
 use Rattle.iscsi_wire.specs.declared.reply.Reply.TheVariants.{Task, Reject}
 use Rattle.iscsi_wire.specs.declared.request.Request.{Request}
 use Rattle.iscsi_wire.specs.Serial.{lift, number_of_first}
@@ -71,12 +71,6 @@ abbrev pub turn_effects : Core → Option (Option Request) → List Effect
 turn_effects s (Some (Some r)) = Deliver r ∷ executed_effects (with_advanced s) r (next_arrived s)
 turn_effects s _ = []
 
--- ---- a numbered request that can be delivered as it comes
-
--- its number is the expected one, and no function waits
-abbrev pub comes_next : Core → Request → Bool
-comes_next s r = length s.waiting == 0 && is_next s.window r
-
 -- ---- functions that wait
 
 -- the first one that waits for the next number
@@ -97,6 +91,12 @@ function_if s (Some w) = performed (without_waiting s w) w.request (next_positio
 abbrev pub function_effects : Core → Option Waiting → List Effect
 function_effects s None = []
 function_effects s (Some w) = Immediate w.request ∷ performed_effects (without_waiting s w) w.request (next_position s) w.event
+
+-- ---- a numbered request that can be delivered as it comes
+
+-- its number is the expected one, and no function waits for that
+abbrev pub comes_next : Core → Request → Bool
+comes_next s r = not (is_some (next_waiting s)) && is_next s.window r
 
 -- ---- an immediate request
 

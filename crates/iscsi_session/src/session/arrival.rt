@@ -127,11 +127,12 @@ impl Session {
         }
     }
 
-    /// Whether a numbered request can be delivered as it comes: its number is the expected one, and no function waits.
+    /// Whether a numbered request can be delivered as it comes: its number is the expected one, and no function waits
+    /// for that.
     fn comes_next(&self, request: &Request) -> bool
         ensures { result ≡ comes_next self.now request.now }
     {
-        self.waiting.is_empty() && self.window.is_next(request)
+        !self.waiting.has_due(self.window.turned()) && self.window.is_next(request)
     }
 
     /// Delivers a numbered request as it comes, so that the window needn't hold it.
@@ -149,7 +150,8 @@ impl Session {
             ++ turn_effects (with_offered self.old request) (Some (Some request)) }
         ensures spent { vec_len out.new + owed self.new.live self.new.sets
             + 6 * (count_by is_held self.new.window.places + length self.new.waiting) ≤ vec_len out.old
-            + owed self.old.live self.old.sets + 6 * count_by is_held self.old.window.places + 6 }
+            + owed self.old.live self.old.sets
+            + 6 * (count_by is_held self.old.window.places + length self.old.waiting + 1) }
         ensures capacity { vec_capacity out.new ≡ vec_capacity out.old }
     {
         self.window.pass(&request);
@@ -223,7 +225,7 @@ impl Session {
             ≤ vec_len out.old + owed self.old.live self.old.sets + 6 * length self.old.waiting }
         ensures capacity { vec_capacity out.new ≡ vec_capacity out.old }
     {
-        if !self.waiting.is_empty() {
+        if self.waiting.has_due(self.window.turned()) {
             self.execute_all_waiting(out);
         }
     }

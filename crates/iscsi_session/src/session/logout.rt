@@ -154,8 +154,7 @@ impl Session {
     fn drop_waiting(&mut self, scope: Option<u16>)
         ensures session { self.new ≡ with_dropped self.old scope }
     {
-        self.waiting
-            .retain(|function| !is_of(scope, function.request.conn()));
+        self.waiting.drop_of(scope);
     }
 
     /// A connection is closed, or the session for None, and with the last connection the session.
@@ -220,7 +219,7 @@ fn refused(request: &Request, response: LogoutResponse) -> Closing
 }
 
 /// Whether a connection is the one that is closed: each is for None.
-fn is_of(scope: Option<u16>, conn: u16) -> bool
+pub(crate) fn is_of(scope: Option<u16>, conn: u16) -> bool
     ensures { result ≡ is_asked scope conn }
 {
     match scope {

@@ -1,6 +1,7 @@
 //! Task management (RFC 7143 sections 4.2.3 and 11.5, SAM-5 section 7).
 
-ghost use Rattle.std.specs.Prelude.{ℕ, pos, ◌-ℤ◌, ◌≡◌, ◌==◌, ◌&&◌, ◌+◌, ◌*◌, ◌≤◌, ◌<◌, true, false, [], ◌++◌, ◌∷◌, find, length, count_by, is_some, vec_len, vec_capacity, None};
+ghost use Rattle.std.specs.Prelude.{ℕ, pos, ◌-ℤ◌, ◌≡◌, ◌==◌, ◌&&◌, ◌+◌, ◌*◌, ◌≤◌, ◌<◌, true, false, [], ◌++◌, ◌∷◌, find, length, nat_lt, count_by, is_some, vec_len, vec_capacity, None};
+ghost use Rattle.std.specs.List.{list_all};
 ghost use Rattle.iscsi_wire.specs.Serial.{number_of_first};
 ghost use Rattle.iscsi_wire.specs.Fields.{connection_of, is_immediate, function as function_of, itt as tag_of};
 ghost use Rattle.iscsi_window.specs.Windows.{number_expected, HasRoom, IsInside, place_in, held_at};
@@ -21,7 +22,7 @@ use crate::response::Response;
 use crate::session::Session;
 use crate::session::execution::{NO_TAG, rejection};
 use crate::session::sets::unit_named;
-use crate::session::waiting::{MOST, Waiting, count_on, dequeue, first_at};
+use crate::session::waiting::{MOST, Waiting};
 use iscsi_history::Effect;
 use iscsi_wire::{Reply, Request, distance};
 
@@ -35,6 +36,7 @@ impl Session {
         requires known { known_in (connection_of request) self.old.conns ≡ true }
         requires turned { self.old.window.turned + count_by is_some self.old.window.places < self.old.taken }
         requires entered { self.old.entered + count_by is_some self.old.window.places < self.old.taken }
+        requires waited { list_all (λ w. nat_lt (w.event + 1) self.old.taken) self.old.waiting ≡ true }
         requires room { vec_len out.old + owed self.old.live self.old.sets + 6 * count_by is_held self.old.window.places
             + 6 ≤ vec_capacity out.old }
         ensures session { self.new ≡ immediate_as self.old request (deferral_by self.old request) }
@@ -89,7 +91,7 @@ impl Session {
             Deferral::TooFar
         } else if ahead <= 0 {
             Deferral::Now
-        } else if MOST <= count_on(&self.waiting, request.conn()) {
+        } else if MOST <= self.waiting.count_on(request.conn()) {
             Deferral::TooMany
         } else {
             Deferral::Later
@@ -101,6 +103,7 @@ impl Session {
         requires later { deferral_by self.old request ≡ Deferral.Later }
         requires known { known_in (connection_of request) self.old.conns ≡ true }
         requires taken { 0 < self.old.taken }
+        requires waited { list_all (λ w. nat_lt (w.event + 1) self.old.taken) self.old.waiting ≡ true }
         requires room { vec_len out.old + 1 ≤ vec_capacity out.old }
         ensures session { self.new ≡ with_waiting self.old request }
         ensures effects { out.new.items ≡ out.old.items ++ Effect.Wait request ∷ [] }
@@ -109,7 +112,7 @@ impl Session {
     {
         out.push_reserved(Effect::Wait { request });
         let ahead = request.cmd_sn().wrapping_sub(self.window.exp());
-        self.waiting.push_reserved(Waiting {
+        self.waiting.push(Waiting {
             request,
             turn: self.window.turned() + u64::from(ahead),
             event: self.taken - 1,
@@ -144,10 +147,9 @@ impl Session {
         ensures places { self.new.window.places ≡ self.old.window.places }
     {
         let number = self.window.turned();
-        let Some(function) = first_at(&self.waiting, number) else {
+        let Some(function) = self.waiting.take_first(number) else {
             return false;
         };
-        dequeue(&mut self.waiting, function.event);
         let request = function.request;
         out.push_reserved(Effect::Immediate { request });
         self.perform(&request, number as i64, function.event, out);

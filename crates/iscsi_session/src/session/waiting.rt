@@ -1,10 +1,15 @@
 //! The task management functions that wait for lower numbers.
 
-ghost use Rattle.std.specs.Prelude.{◌≡◌, ◌==◌, not, filter, find, position, vec_capacity};
+ghost use Rattle.std.specs.Prelude.{◌≡◌, ◌==◌, ◌<◌, ◌≤◌, ◌++◌, ◌∷◌, [], not, filter, find, position, is_some, length, All, IfSome, MatchOption};
+ghost use Rattle.iscsi_wire.specs.Fields.{connection_of};
+ghost use Rattle.iscsi_window.specs.Windows.{is_asked};
+ghost use Rattle.iscsi_slots.specs.Queued.{queued};
 ghost use Rattle.iscsi_session.specs.private.Turning.{waiting_in};
 
+use crate::session::logout::is_of;
 use iscsi_wire::Request;
 use std::alloc::Global;
+use std::marker::Model;
 
 /// The most functions of a connection that wait.
 pub(crate) const MOST: usize = 4;
@@ -20,22 +25,105 @@ pub(crate) struct Waiting {
     pub(crate) event: u64,
 }
 
-/// How many functions of a connection wait.
-pub(crate) fn count_on(waiting: &[Waiting], conn: u16) -> usize
-    ensures { result ≡ waiting_in waiting.now conn }
-{
-    waiting
-        .iter()
-        .filter(|function| function.request.conn() == conn)
-        .count()
+/// The functions that wait, in the order of their arrival.
+///
+/// Nearly all numbers turn without one that waits for them, so the lowest turn is kept beside them: as long as it isn't
+/// reached, none is looked at.
+#[derive(Drop)]
+pub(crate) struct Waitlist {
+    functions: Vec<Waiting>,
+    /// No function waits for a turn below this one.
+    next_turn: u64,
 }
 
-/// The first function that waits for this turn.
-pub(crate) fn first_at(waiting: &[Waiting], turn: u64) -> Option<Waiting>
-    ensures { result ≡ find (λ w. w.turn == turn) waiting.now }
-{
-    let at = place_at(waiting, turn)?;
-    Some(waiting[at])
+impl Model for Waitlist {
+    ghost use Rattle.std.specs.Prelude.{vec_capacity};
+    ghost use Rattle.iscsi_slots.specs.Queued.{Queued, queued};
+    ghost use Rattle.iscsi_session.specs.declared.session.waiting.Waiting.{Waiting};
+    ghost use Rattle.iscsi_session.specs.private.Invariant.{IsWaitlistSound};
+
+    ghost Value = { Queued Waiting };
+
+    ghost view = { λ w. queued w.functions.items (vec_capacity w.functions) };
+
+    ghost invariant = { λ w. IsWaitlistSound w.functions.items w.next_turn };
+}
+
+impl Waitlist {
+    /// None yet, with room for so many. None where memory is refused.
+    pub(crate) fn with_room(alloc: Global, room: usize) -> Option<Waitlist>
+        ensures { IfSome result (λ w. w ≡ queued [] room) }
+    {
+        Some(Waitlist {
+            functions: Vec::with_capacity(alloc, room).ok()?,
+            next_turn: u64::MAX,
+        })
+    }
+
+    /// How many functions wait.
+    pub(crate) fn len(&self) -> usize
+        ensures { result ≡ length self.now.items }
+    {
+        self.functions.len()
+    }
+
+    /// How many functions of a connection wait.
+    pub(crate) fn count_on(&self, conn: u16) -> usize
+        ensures { result ≡ waiting_in self.now.items conn }
+    {
+        self.functions
+            .iter()
+            .filter(|function| function.request.conn() == conn)
+            .count()
+    }
+
+    /// Whether a function waits for this turn.
+    pub(crate) fn has_due(&self, turn: u64) -> bool
+        ensures { result ≡ is_some (find (λ w. w.turn == turn) self.now.items) }
+    {
+        self.next_turn <= turn && place_at(&self.functions, turn).is_some()
+    }
+
+    /// A function waits, which arrived after all others.
+    pub(crate) fn push(&mut self, function: Waiting)
+        requires room { length self.old.items < self.old.room }
+        requires newest { All (λ w. w.event < function.event) self.old.items }
+        ensures { self.new ≡ queued (self.old.items ++ function ∷ []) self.old.room }
+    {
+        self.next_turn = self.next_turn.min(function.turn);
+        self.functions.push_reserved(function);
+    }
+
+    /// Takes out the first function that waits for this turn.
+    pub(crate) fn take_first(&mut self, turn: u64) -> Option<Waiting>
+        ensures first { result ≡ find (λ w. w.turn == turn) self.old.items }
+        ensures rest { MatchOption result (self.new ≡ self.old)
+            (λ w. self.new ≡ queued (filter (λ v. not (v.event == w.event)) self.old.items) self.old.room) }
+    {
+        if let Some(at) = place_at(&self.functions, turn) {
+            return Some(self.functions.remove(at));
+        }
+        self.next_turn = lowest_turn(&self.functions);
+        None
+    }
+
+    /// Drops the functions of a connection, or all for None.
+    pub(crate) fn drop_of(&mut self, scope: Option<u16>)
+        ensures { self.new ≡ queued (filter (λ w. not (is_asked scope (connection_of w.request))) self.old.items)
+            self.old.room }
+    {
+        self.functions
+            .retain(|function| !is_of(scope, function.request.conn()));
+        self.next_turn = lowest_turn(&self.functions);
+    }
+
+    /// Drops all functions.
+    pub(crate) fn clear(&mut self)
+        ensures { self.new ≡ queued [] self.old.room }
+    {
+        self.functions.clear();
+        self.next_turn = u64::MAX;
+    }
 }
 
 /// The place of the first function that waits for this turn.
@@ -45,10 +133,13 @@ fn place_at(waiting: &[Waiting], turn: u64) -> Option<usize>
     waiting.iter().position(|function| function.turn == turn)
 }
 
-/// Dequeues the function that arrived in this event.
-pub(crate) fn dequeue(waiting: &mut Vec<Waiting>, event: u64)
-    ensures items { waiting.new.items ≡ filter (λ w. not (w.event == event)) waiting.old.items }
-    ensures capacity { vec_capacity waiting.new ≡ vec_capacity waiting.old }
+/// The lowest turn that one of these functions waits for. The greatest number where there is none.
+fn lowest_turn(waiting: &[Waiting]) -> u64
+    ensures { All (λ w. result ≤ w.turn) waiting.now }
 {
-    waiting.retain(|function| function.event != event);
+    let mut lowest = u64::MAX;
+    for function in waiting {
+        lowest = lowest.min(function.turn);
+    }
+    lowest
 }

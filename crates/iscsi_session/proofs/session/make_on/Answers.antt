@@ -1,4 +1,4 @@
-use Rattle.std.proofs.Common.{true, Option, vec_capacity, ◌+◌, [], rules, ℕ, ◌*◌, ◌≡◌, ◌≤◌, ◌∙◌, ap, sym, arith, length, is_some, replicate, None, refl, List}
+use Rattle.std.proofs.Common.{true, Option, ◌+◌, [], rules, ℕ, ◌*◌, ◌≡◌, ◌≤◌, ◌∙◌, ap, sym, arith, length, is_some, replicate, None, refl, List}
 use Rattle.std.proofs.lemmas.Bool.Decides.{nat_tests}
 use Rattle.iscsi_wire.specs.declared.request.Request.{Request}
 use Rattle.iscsi_window.specs.Windows.{opened}
@@ -61,12 +61,10 @@ pub invariant_of-result : goal.invariant_of-result
 invariant_of-result c =
     let is : c.in_ok-ok.field-0 ≡ opened c.args.options.first c.args.options.window = search rules in
     let none : c.in_ok-ok-2.field-0.items ≡ [] = search rules in
-    let waits : c.in_ok-ok-3.field-0.items ≡ [] = search rules in
     let live_room : c.args.options.window + c.from.result * c.len.result ≤ (c.in_ok-ok-2.field-0).room = search rules in
-    let waits_room : 4 * c.len-2.result ≤ vec_capacity c.in_ok-ok-3.field-0 = search rules in
     let most : c.args.options.window ≤ 1024 = search rules in
     let connections = c.requires.connections in
-    rw (is, none, waits, c.in_ok-open.ensures, c.in_ok-open-2.ensures.events, ap (λ (x : Connected). x.conns) connections, ap (λ (x : Connected). x.immediate) connections)
+    rw (is, none, c.in_ok-with_room.ensures, c.in_ok-open.ensures, c.in_ok-open-2.ensures.events, ap (λ (x : Connected). x.conns) connections, ap (λ (x : Connected). x.immediate) connections)
     (opened_sound c.args.options.first c.args.options.window c.args.options.events c.args.options.units c.args.options.depth _ _ _ c.args.options.conns.items most
     (record {
       live = omega (arith, c.len.ensures, c.args.options.conns.ok.0, ap (λ n. n * c.len.result) c.from.ensures);
@@ -80,8 +78,7 @@ returns c = record {
   settled =
       let is : c.in_ok-ok.field-0 ≡ opened c.args.options.first c.args.options.window = search rules in
       let none : c.in_ok-ok-2.field-0.items ≡ [] = search rules in
-      let waits : c.in_ok-ok-3.field-0.items ≡ [] = search rules in
-      rw (is, none, waits, c.in_ok-open.ensures, c.in_ok-open-2.ensures.events, ap (λ (x : Connected). x.conns) (c.requires.connections), ap (λ (x : Connected). x.open_conns) (c.requires.connections)) (Settled-opened (setting_of c.args.options) 0);
+      rw (is, none, c.in_ok-with_room.ensures, c.in_ok-open.ensures, c.in_ok-open-2.ensures.events, ap (λ (x : Connected). x.conns) (c.requires.connections), ap (λ (x : Connected). x.open_conns) (c.requires.connections)) (Settled-opened (setting_of c.args.options) 0);
   taken = refl;
   belong = refl;
 }

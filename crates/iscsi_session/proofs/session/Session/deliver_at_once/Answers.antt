@@ -1,9 +1,8 @@
-use Rattle.std.proofs.Common.{◌≡◌, ◌<◌, ◌-◌, Some, ◌+◌, ◌∙◌, ◌++◌, ◌∷◌, ◌==◌, true, length, subst, ap, sym, arith, is_some, count_by, refl}
-use Rattle.std.proofs.lemmas.Bool.Decides.{nat_tests}
+use Rattle.std.proofs.Common.{◌≡◌, ◌<◌, ◌-◌, Some, ◌+◌, ◌∙◌, ◌++◌, ◌∷◌, true, length, subst, ap, sym, arith, is_some, count_by, refl}
 use Rattle.std.proofs.lemmas.List.Sums.{count_by-le-length as few_counted}
 use Rattle.iscsi_wire.specs.declared.request.Request.{Request}
 use Rattle.iscsi_wire.specs.Fields.{connection_of}
-use Rattle.iscsi_window.specs.Windows.{Received, is_next, offered_to, advanced}
+use Rattle.iscsi_window.specs.Windows.{Received, offered_to, advanced}
 use Rattle.iscsi_history.specs.declared.effect.Effect.TheVariants.{Deliver}
 use Rattle.iscsi_history.specs.rules.Settings.{is_known}
 use Rattle.iscsi_session.specs.contracts.session.Session.{the_view}
@@ -11,14 +10,13 @@ use Rattle.iscsi_session.specs.promises.Standing.{Core, is_held}
 use Rattle.iscsi_session.specs.private.Steps.{with_offered}
 use Rattle.iscsi_session.specs.private.Turning.{comes_next, with_executed, executed_effects, with_advanced, turned_if, turn_effects}
 use Rattle.iscsi_session.specs.private.Functions.{owed}
-use Rattle.iscsi_history.proofs.BoolLemmas.{and_parts}
-use Rattle.iscsi_session.proofs.WindowLemmas.{Delivered, delivered, delivered_core, grown_sound, length-passed}
+use Rattle.iscsi_session.proofs.WindowLemmas.{comes_alone, Delivered, delivered, delivered_core, grown_sound, length-passed}
 use Rattle.iscsi_session.proofs.SoundLemmas.{window_sound, advanced_sound, arrivals_sound}
 use Rattle.iscsi_session.proofs.session.Session.deliver_at_once.Goals as goal
 
 -- the request has turned
 turned : (s : Core) (r : Request) → comes_next s r ≡ true → Delivered s.window r
-turned s r next = delivered s.window r (and_parts (length s.waiting == 0) (is_next s.window r) next).1
+turned s r next = delivered s.window r (comes_alone s r next).1
 
 -- so many are held and received as before
 held_same : (s : Core) (r : Request) (w : Received) → comes_next s r ≡ true → w ≡ advanced (offered_to s.window r) → count_by is_held w.places ≡ count_by is_held s.window.places
@@ -76,5 +74,4 @@ pub returns-clause-spent : goal.returns-clause-spent
 returns-clause-spent c =
     let s : Core = the_view c.self.inside in
     let next : comes_next s c.args.request ≡ true = ap (λ (v : Core). comes_next v c.args.request) c.self.view_is ∙ c.requires.next in
-    let none : length s.waiting ≡ 0 = let parts = and_parts (length s.waiting == 0) (is_next s.window c.args.request) next in grind (arith, nat_tests) in
-    omega (arith, c.deliver.ensures.spent, c.deliver.ensures.waiting, none, held_same s c.args.request c.pass.new.self next c.pass.ensures.state, ap (λ (v : Core). count_by is_held v.window.places) c.self.view_is, ap (λ (v : Core). owed v.live v.sets) c.self.view_is)
+    omega (arith, c.deliver.ensures.spent, c.deliver.ensures.waiting, ap (λ (v : Core). length v.waiting) c.self.view_is, held_same s c.args.request c.pass.new.self next c.pass.ensures.state, ap (λ (v : Core). count_by is_held v.window.places) c.self.view_is, ap (λ (v : Core). owed v.live v.sets) c.self.view_is)

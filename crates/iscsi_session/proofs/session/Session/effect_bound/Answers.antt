@@ -21,6 +21,12 @@ few {s} inv = record {
   live = few_live s.window.unfinished s.conns s.live inv.commands.numbered inv.commands.counted.few inv.commands.known;
 }
 
+pub overflow_add-result : goal.overflow_add-result
+overflow_add-result c = omega (arith, few c.self.invariant, c.len.ensures)
+
+pub overflow_add-result-2 : goal.overflow_add-result-2
+overflow_add-result-2 c = omega (arith, few c.self.invariant, c.len.ensures)
+
 pub overflow_mul-result : goal.overflow_mul-result
 overflow_mul-result c = omega (arith, few c.self.invariant)
 

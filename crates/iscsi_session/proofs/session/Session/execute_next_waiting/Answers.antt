@@ -4,6 +4,7 @@ use Rattle.std.proofs.lemmas.Int.{ints, to_z_pos}
 use Rattle.iscsi_wire.specs.Serial.{number_of_first}
 use Rattle.iscsi_wire.specs.Fields.{connection_of}
 use Rattle.iscsi_window.specs.Windows.{number_expected}
+use Rattle.iscsi_slots.specs.Queued.{Queued, queued}
 use Rattle.iscsi_history.specs.rules.Settings.{is_known}
 use Rattle.iscsi_history.specs.rules.Management.{may_wait}
 use Rattle.iscsi_session.specs.promises.Standing.{Core}
@@ -34,21 +35,34 @@ function_is s f ws n found waits number = (rw (found, waits, number), rw (found,
 
 -- the function that waits for it
 found : (c : In-Some) → find (λ w. w.turn == c.self.inside.window.turned) c.self.inside.waiting.items ≡ Some c.in-Some.function
-found c = rw (← c.turned-number.ensures, ← c.deref.ensures.value, ← c.first_at.ensures) c.in-Some.is
+found c = rw (← c.turned-number.ensures, ← c.take_first.ensures.first) c.in-Some.is
+
+-- those that wait still
+left : (c : In-Some) → c.take_first.new.self ≡ queued (filter (λ v. not (v.event == c.in-Some.function.event)) c.self.inside.waiting.items) c.self.inside.waiting.room
+left c = c.in-Some.ensures.rest
+
+items_left : (c : In-Some) → c.take_first.new.self.items ≡ filter (λ v. not (v.event == c.in-Some.function.event)) c.self.inside.waiting.items
+items_left c = ap (λ (q : Queued Waiting). q.items) (left c)
 
 may : (c : In-Some) → may_wait c.in-Some.function.request ≡ true
 may c = find-passes (λ w. w.turn == c.self.inside.window.turned) (λ w. may_wait w.request) c.self.inside.waiting.items c.in-Some.function c.self.invariant.functions.may (found c)
 
 -- it waits no more
-fewer : (c : After-perform) → find (λ w. w.turn == c.self.inside.window.turned) c.self.inside.waiting.items ≡ Some c.in-Some.function → length c.perform.new.self.waiting + 1 ≤ length c.self.inside.waiting.items
-fewer c is =
+fewer : (c : After-perform) → find (λ w. w.turn == c.self.inside.window.turned) c.self.inside.waiting.items ≡ Some c.in-Some.function
+    → c.take_first.new.self.items ≡ filter (λ v. not (v.event == c.in-Some.function.event)) c.self.inside.waiting.items → length c.perform.new.self.waiting + 1 ≤ length c.self.inside.waiting.items
+fewer c is items =
     let f = c.in-Some.function in
     let left = fewer_left (λ w. w.turn == c.self.inside.window.turned) (λ v. v.event == f.event) c.self.inside.waiting.items f is (eq-eqb f.event f.event refl) in
-    let kept : length c.perform.new.self.waiting ≡ length (filter (λ v. not (v.event == f.event)) c.self.inside.waiting.items) = ap (λ (u : Core). length u.waiting) c.perform.ensures.session ∙ ap length (waiting_performed _ f.request _ f.event ∙ c.dequeue.ensures.items) in
+    let kept : length c.perform.new.self.waiting ≡ length (filter (λ v. not (v.event == f.event)) c.self.inside.waiting.items) = ap (λ (u : Core). length u.waiting) c.perform.ensures.session ∙ ap length (waiting_performed _ f.request _ f.event ∙ items) in
     omega (arith, left, kept)
 
 pub invariant_of-self : goal.invariant_of-self
-invariant_of-self c = fewer_sound c.self.invariant (λ v. not (v.event == c.in-Some.function.event)) c.dequeue.ensures.items (omega (arith, c.dequeue.ensures.capacity))
+invariant_of-self c = rw c.in_default.ensures.rest c.self.invariant
+
+pub invariant_of-self-2 : goal.invariant_of-self-2
+invariant_of-self-2 c =
+    let here = (goal.at.invariant_of-self-2 c).In-Some in
+    fewer_sound c.self.invariant (λ v. not (v.event == c.in-Some.function.event)) (items_left here) (omega (arith, ap (λ (q : Queued Waiting). q.room) (left here)))
 
 pub perform-requires-clause-known : goal.perform-requires-clause-known
 perform-requires-clause-known c =
@@ -61,21 +75,21 @@ perform-requires-clause-voids c = λ waits_not immediate. absurd (false≢true (
 pub returns-clause-session : goal.returns-clause-session
 returns-clause-session c =
     let here = (goal.at.returns-clause-session c).In-Some in
-    rw (← c.self.view_is) (c.perform.ensures.session ∙ (function_is (the_view c.self.inside) c.in-Some.function c.dequeue.new.waiting.items _ (found here) c.dequeue.ensures.items (next here)).0)
+    rw (← c.self.view_is) (c.perform.ensures.session ∙ (function_is (the_view c.self.inside) c.in-Some.function c.take_first.new.self.items _ (found here) (items_left here) (next here)).0)
 
 pub returns-clause-effects : goal.returns-clause-effects
 returns-clause-effects c =
     let here = (goal.at.returns-clause-effects c).In-Some in
-    let shown = (function_is (the_view c.self.inside) c.in-Some.function c.dequeue.new.waiting.items _ (found here) c.dequeue.ensures.items (next here)).1 in
+    let shown = (function_is (the_view c.self.inside) c.in-Some.function c.take_first.new.self.items _ (found here) (items_left here) (next here)).1 in
     rw (← c.self.view_is, ← shown) (rw (c.push_reserved.ensures.items, append_assoc) at c.perform.ensures.effects)
 
 pub returns-clause-spent : goal.returns-clause-spent
 returns-clause-spent c =
-    let less = fewer (goal.at.returns-clause-spent c).After-perform (found (goal.at.returns-clause-spent c).In-Some) in
+    let less = fewer (goal.at.returns-clause-spent c).After-perform (found (goal.at.returns-clause-spent c).In-Some) (items_left (goal.at.returns-clause-spent c).In-Some) in
     rw (← c.self.view_is) (omega (arith, less, c.perform.ensures.spent, c.push_reserved.ensures.len))
 
 pub returns-clause-fewer : goal.returns-clause-fewer
-returns-clause-fewer c = λ said. rw (← c.self.view_is) (omega (arith, fewer (goal.at.returns-clause-fewer c).After-perform (found (goal.at.returns-clause-fewer c).In-Some)))
+returns-clause-fewer c = λ said. rw (← c.self.view_is) (omega (arith, fewer (goal.at.returns-clause-fewer c).After-perform (found (goal.at.returns-clause-fewer c).In-Some) (items_left (goal.at.returns-clause-fewer c).In-Some)))
 
 pub returns-clause-places : goal.returns-clause-places
 returns-clause-places c =

@@ -1,4 +1,4 @@
-use Rattle.std.proofs.Common.{◌≡◌, ◌∙◌, ◌==◌, ◌++◌, true, length, Some, ap, sym, subst, refl, arith, List}
+use Rattle.std.proofs.Common.{◌≡◌, ◌∙◌, ◌++◌, true, Some, ap, sym, subst, refl, arith, List}
 use Rattle.iscsi_wire.specs.declared.request.Request.{Request}
 use Rattle.iscsi_window.specs.declared.answer.Offer.TheVariants.{Held}
 use Rattle.iscsi_window.specs.Windows.{offer_to, is_next}
@@ -11,13 +11,12 @@ use Rattle.iscsi_history.proofs.ReceivedItems.{ignored_receives}
 use Rattle.iscsi_session.proofs.ArriveLemmas.{offered_known, carried_at_once, held_settled, held_effects, held_receives}
 use Rattle.iscsi_session.specs.private.Steps.{KeepsPace, with_offered}
 use Rattle.iscsi_session.specs.private.Turning.{comes_next, turned_if}
-use Rattle.iscsi_session.proofs.WindowLemmas.{comes_first, Delivered, delivered}
+use Rattle.iscsi_session.proofs.WindowLemmas.{comes_alone, comes_first, Delivered, delivered}
 use Rattle.iscsi_session.proofs.PaceLemmas.{pace-turned, turned_taken}
-use Rattle.iscsi_history.proofs.BoolLemmas.{and_parts}
 use Rattle.iscsi_session.proofs.session.Session.receive_numbered.Goals as goal
 
 is_next_of : (s : Core) (r : Request) → comes_next s r ≡ true → is_next s.window r ≡ true
-is_next_of s r next = (and_parts (length s.waiting == 0) (is_next s.window r) next).1
+is_next_of s r next = (comes_alone s r next).1
 
 held_next : (s : Core) (r : Request) → comes_next s r ≡ true → offer_to s.window r ≡ Held
 held_next s r next = (comes_first s.window r (is_next_of s r next)).held

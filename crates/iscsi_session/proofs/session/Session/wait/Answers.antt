@@ -1,9 +1,10 @@
-use Rattle.std.proofs.Common.{◌≡◌, ◌<◌, ◌+◌, ◌-◌, ◌∙◌, nat_lt, true, refl, arith, ℕ}
+use Rattle.std.proofs.Common.{◌≡◌, ◌<◌, ◌+◌, ◌-◌, ◌∙◌, nat_lt, true, refl, ap, arith, ℕ}
 use Rattle.std.proofs.lemmas.Bool.Decides.{nat_tests}
 use Rattle.std.proofs.lemmas.List.Folds.{list_all-append}
 use Rattle.iscsi_wire.specs.Serial.{lift, number_of_first}
 use Rattle.iscsi_wire.specs.Fields.{cmd_sn}
 use Rattle.iscsi_window.specs.Windows.{number_expected}
+use Rattle.iscsi_slots.specs.Queued.{Queued}
 use Rattle.iscsi_session.specs.declared.session.waiting.Waiting.{Waiting}
 use Rattle.iscsi_session.proofs.ManageLemmas.{Waits, waits_more, Later, later}
 use Rattle.iscsi_session.proofs.SoundLemmas.{functions_sound}
@@ -21,17 +22,17 @@ waits_one c w is =
     let functions = c.self.invariant.functions in
     waits_more c.self.inside.connections.conns c.self.inside.waiting.items w functions.few functions.known (rw is (rw (← c.self.view_is) at c.requires.known)) (rw is (waits_later c).few)
 
-pub push_reserved-requires-2 : goal.push_reserved-requires-2
-push_reserved-requires-2 c =
-    let w = waits_one (goal.at.push_reserved-requires-2 c).After-exp (record { request = c.args.request; turn = 0; event = 0 }) refl in
-    omega (arith, w.room, c.self.invariant.rooms.waiting, c.self.inside.waiting.ok.0)
+pub push-requires-clause-room : goal.push-requires-clause-room
+push-requires-clause-room c =
+    let w = waits_one (goal.at.push-requires-clause-room c).After-exp (record { request = c.args.request; turn = 0; event = 0 }) refl in
+    omega (arith, w.room, c.self.invariant.rooms.waiting)
 
 pub invariant_of-self : goal.invariant_of-self
 invariant_of-self c =
     let inv = c.self.invariant in
     let here = (goal.at.invariant_of-self c).After-exp in
     let w = waits_one here (record { request = c.args.request; turn = c.turned.result + c.from.result; event = c.self.inside.taken - 1 }) refl in
-    let items = c.push_reserved-2.ensures.items in
+    let items = ap (λ (q : Queued Waiting). q.items) c.push.ensures in
     let some : 0 < c.self.inside.taken = rw (← c.self.view_is) at c.requires.taken in
     let lt : c.self.inside.taken - 1 < c.self.inside.taken = omega (arith, some) in
     let before : nat_lt (c.self.inside.taken - 1) c.self.inside.taken ≡ true = grind (arith, nat_tests) in
@@ -40,7 +41,7 @@ invariant_of-self c =
       known = rw items w.known;
       may = rw (items, list_all-append, inv.functions.may, (waits_later here).may);
       few = λ cid. rw items (w.few cid);
-    }) (omega (arith, c.push_reserved-2.ensures.capacity))
+    }) (omega (arith, ap (λ (q : Queued Waiting). q.room) c.push.ensures))
 
 pub returns-clause-session : goal.returns-clause-session
 returns-clause-session c =
@@ -49,4 +50,4 @@ returns-clause-session c =
     let l = waits_later (goal.at.returns-clause-session c).After-exp in
     let ahead : c.from.result ≡ lift e (cmd_sn r) - e = c.from.ensures ∙ rw (c.cmd_sn.ensures, c.exp.ensures) (ahead_by e (cmd_sn r) (omega arith) l.ahead) in
     let turn : c.turned.result + c.from.result ≡ lift e (cmd_sn r) - number_of_first c.self.inside.window.first = omega (arith, ahead, c.turned.ensures, l.ahead) in
-    rw (← c.self.view_is, c.push_reserved-2.ensures.items, turn)
+    rw (← c.self.view_is, c.push.ensures, turn)

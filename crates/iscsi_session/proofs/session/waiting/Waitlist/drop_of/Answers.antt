@@ -1,0 +1,22 @@
+use Rattle.std.proofs.Common.{rules, ◌≡◌, ◌<◌, ◌≤◌, filter, not, All}
+use Rattle.std.proofs.lemmas.Fn.{filter_same}
+use Rattle.std.proofs.lemmas.List.Kept.{AllPairs-filter}
+use Rattle.iscsi_wire.specs.Fields.{connection_of}
+use Rattle.iscsi_window.specs.Windows.{is_asked}
+use Rattle.iscsi_session.specs.declared.session.waiting.Waiting.{Waiting}
+use Rattle.iscsi_session.proofs.session.waiting.Waitlist.drop_of.Goals as goal
+use Rattle.iscsi_session.proofs.session.waiting.Waitlist.drop_of.Goals.{After-retain}
+
+rest : (c : After-retain) → c.retain.new.self.items ≡ filter (λ w. not (is_asked c.args.scope (connection_of w.request))) c.self.inside.functions.items
+rest c = filter_same _ _ _ (λ x b f' k. search rules) _ _ c.retain.ensures.filtered
+
+pub invariant_of-self : goal.invariant_of-self
+invariant_of-self c =
+    let here = rest (goal.at.invariant_of-self c).After-retain in
+    record {
+      none_before = let low : All (λ w. c.lowest_turn-self-inside.result ≤ w.turn) c.deref.result.now = c.lowest_turn-self-inside.ensures in rw c.deref.ensures.value at low;
+      in_order = rw here (AllPairs-filter (λ (a b : Waiting). a.event < b.event) (λ w. not (is_asked c.args.scope (connection_of w.request))) c.self.inside.functions.items c.self.invariant.in_order);
+    }
+
+pub returns : goal.returns
+returns c = rw (← c.self.view_is, rest (goal.at.returns c).After-retain, c.retain.ensures.capacity)

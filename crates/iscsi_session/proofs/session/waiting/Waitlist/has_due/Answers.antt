@@ -1,0 +1,14 @@
+use Rattle.std.proofs.Common.{◌≡◌, ◌==◌, ◌∙◌, find, is_some, ap, arith, None}
+use Rattle.std.proofs.lemmas.Bool.Decides.{nat_tests}
+use Rattle.iscsi_session.specs.declared.session.waiting.Waiting.{Waiting}
+use Rattle.iscsi_session.proofs.WaitLemmas.{none_due, found_where}
+use Rattle.iscsi_session.proofs.session.waiting.Waitlist.has_due.Goals as goal
+
+pub returns-then-self-turn : goal.returns-then-self-turn
+returns-then-self-turn c =
+    rw (← c.self.view_is, ← c.deref.ensures.value) (c.is_some.ensures ∙ ap is_some c.place_at.ensures ∙ found_where (λ (w : Waiting). w.turn == c.args.turn) c.deref.result.now)
+
+pub returns-else-self-turn : goal.returns-else-self-turn
+returns-else-self-turn c =
+    let none : find (λ (w : Waiting). w.turn == c.args.turn) c.self.inside.functions.items ≡ None = none_due c.self.inside.functions.items c.self.inside.next_turn c.args.turn c.self.invariant.none_before c.if-self-turn.false in
+    rw (← c.self.view_is, none) (grind (arith, nat_tests))
