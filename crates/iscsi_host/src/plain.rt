@@ -64,35 +64,42 @@ pub(crate) fn write_plain(
 )
     ensures { out.new ≡ plain_of effect.now request numbers }
 {
-    *out = match *effect {
-        Effect::Deliver { request } => of_request(1, &request),
-        Effect::Immediate { request } => of_request(2, &request),
-        Effect::Wait { request } => of_request(3, &request),
-        Effect::Void { sn } => of_number(4, sn),
-        Effect::Empty { sn } => of_number(5, sn),
-        Effect::Enter { ticket, unit, attr } => entering(ticket, unit, attr, request),
-        Effect::Enable { ticket, unit } => of_command(7, ticket, unit),
-        Effect::Leave { ticket, unit } => of_command(8, ticket, unit),
+    // Each form is written where it is made, since moving it costs as much as making it.
+    match *effect {
+        Effect::Deliver { request } => *out = of_request(1, &request),
+        Effect::Immediate { request } => *out = of_request(2, &request),
+        Effect::Wait { request } => *out = of_request(3, &request),
+        Effect::Void { sn } => *out = of_number(4, sn),
+        Effect::Empty { sn } => *out = of_number(5, sn),
+        Effect::Enter { ticket, unit, attr } => *out = entering(ticket, unit, attr, request),
+        Effect::Enable { ticket, unit } => *out = of_command(7, ticket, unit),
+        Effect::Leave { ticket, unit } => *out = of_command(8, ticket, unit),
         Effect::Send {
             conn,
             stat_sn,
             reply,
-        } => of_reply(conn, stat_sn, &reply, numbers),
-        Effect::CloseConn { conn } => PlainEffect {
-            kind: 10,
-            cid: conn,
-            ..NOTHING
-        },
-        Effect::CloseSession => PlainEffect {
-            kind: 11,
-            ..NOTHING
-        },
-        Effect::Ignore { why } => PlainEffect {
-            kind: 12,
-            reason: code_of_reason(why),
-            ..NOTHING
-        },
-    };
+        } => *out = of_reply(conn, stat_sn, &reply, numbers),
+        Effect::CloseConn { conn } => {
+            *out = PlainEffect {
+                kind: 10,
+                cid: conn,
+                ..NOTHING
+            }
+        }
+        Effect::CloseSession => {
+            *out = PlainEffect {
+                kind: 11,
+                ..NOTHING
+            }
+        }
+        Effect::Ignore { why } => {
+            *out = PlainEffect {
+                kind: 12,
+                reason: code_of_reason(why),
+                ..NOTHING
+            }
+        }
+    }
 }
 
 #[inline(always)]
@@ -152,6 +159,16 @@ fn of_reply(cid: u16, stat_sn: u32, reply: &Reply, numbers: Numbers) -> PlainEff
     ensures { result ≡ reply_form cid stat_sn reply.now numbers }
 {
     let pdu = reply.encode(stat_sn, numbers.exp, numbers.max);
+    // Most replies are of this kind. Here the compiler knows that there is no tail.
+    if let Reply::Scsi { sense: None, .. } = reply {
+        return PlainEffect {
+            kind: 9,
+            cid,
+            sn: stat_sn,
+            header: *pdu.header(),
+            ..NOTHING
+        };
+    }
     let tail = pdu.tail();
     let length = tail.len().min(48);
     let mut form = PlainEffect {
