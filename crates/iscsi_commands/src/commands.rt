@@ -110,19 +110,43 @@ impl Commands {
         ensures command { result ≡ find_tag itt self.now.items }
         ensures alone { AreTagsApart self.now.items }
     {
+        let (command, _) = self.look_up_tagged(itt);
+        command
+    }
+
+    /// The command with this Initiator Task Tag, and beside it the guess by which `push_near` finds the place of a command
+    /// with this tag at once, as long as no other one enters or leaves.
+    pub fn look_up_tagged(&self, itt: u32) -> (Option<Live>, usize)
+        ensures command { result.0 ≡ find_tag itt self.now.items }
+        ensures alone { AreTagsApart self.now.items }
+    {
         let tags = tags_of(self.has_apart, &self.by_ticket, &self.by_tag);
         let at = first_from(tags, &self.slots, Key::Tag, u64::from(itt), tags.len());
         if at < tags.len() {
             let command = self.slots.at(tags.at(at));
             if command.itt == itt {
-                return Some(*command);
+                return (Some(*command), at);
             }
         }
-        None
+        (None, at)
     }
 
     /// A command enters. Its ticket is greater than all others', and no other one has its tag.
     pub fn push(&mut self, command: Live)
+        requires room { length self.old.items < self.old.room }
+        requires newest { All (λ l. l.ticket < command.ticket) self.old.items }
+        requires unused { list_any (λ l. l.itt == command.itt) self.old.items ≡ false }
+        ensures { self.new ≡ queued (self.old.items ++ command ∷ []) self.old.room }
+    {
+        let guess = self.len();
+        self.push_near(command, guess);
+    }
+
+    /// A command enters, as by `push`.
+    ///
+    /// The guess is where it stands by its tag, as `look_up_tagged` tells. It may be any: its tag is looked for where it
+    /// isn't right.
+    pub fn push_near(&mut self, command: Live, guess: usize)
         requires room { length self.old.items < self.old.room }
         requires newest { All (λ l. l.ticket < command.ticket) self.old.items }
         requires unused { list_any (λ l. l.itt == command.itt) self.old.items ≡ false }
@@ -134,7 +158,7 @@ impl Commands {
             &self.slots,
             Key::Tag,
             u64::from(command.itt),
-            tags.len(),
+            guess.min(tags.len()),
         );
         let slot = self.slots.put(command);
         enter_by_tag(

@@ -128,23 +128,25 @@ impl Session {
             + owed self.old.live self.old.sets + 4 }
         ensures capacity { vec_capacity out.new ≡ vec_capacity out.old }
     {
-        match self.verdict(request) {
+        let (verdict, guess) = self.verdict(request);
+        match verdict {
             Verdict::Nothing => {}
             Verdict::Answer(reply) => self.reply(request.conn(), reply, out),
-            Verdict::Enter(unit) => self.enter(request, unit, out),
+            Verdict::Enter(unit) => self.enter(request, unit, guess, out),
         }
     }
 
-    /// What the execution of a request comes to.
+    /// What the execution of a request comes to, and beside it, for a command that enters, the guess of its place among
+    /// the tags.
     ///
     /// Rule: `text/rejected`.
-    fn verdict(&self, request: &Request) -> Verdict
+    fn verdict(&self, request: &Request) -> (Verdict, usize)
         requires { known_in (connection_of request.now) self.now.conns ≡ true }
-        ensures { result ≡ verdict_by self.now request.now }
+        ensures { result.0 ≡ verdict_by self.now request.now }
     {
         match Opcode::of(request) {
-            Opcode::NopOut => nop_verdict(request),
-            Opcode::Text => reject(request, Reason::NotSupported),
+            Opcode::NopOut => (nop_verdict(request), 0),
+            Opcode::Text => (reject(request, Reason::NotSupported), 0),
             // Of the others SCSI Commands alone come here.
             Opcode::ScsiCommand
             | Opcode::TaskManagement
@@ -155,29 +157,34 @@ impl Session {
         }
     }
 
-    /// What a SCSI Command comes to: the first case of its table that fits (SAM-5 section 8).
+    /// What a SCSI Command comes to: the first case of its table that fits (SAM-5 section 8). Beside it stands the guess of
+    /// its place among the tags, for a command that enters.
     ///
     /// Rules: `command/no-tag`, `command/attribute`, `command/tag-in-use`.
-    fn scsi_verdict(&self, request: &Request) -> Verdict
+    fn scsi_verdict(&self, request: &Request) -> (Verdict, usize)
         requires { known_in (connection_of request.now) self.now.conns ≡ true }
-        ensures { result ≡ scsi_verdict request.now (is_tag_kept self.now (tag_of request.now))
+        ensures { result.0 ≡ scsi_verdict request.now (is_tag_kept self.now (tag_of request.now))
             (is_crowded_by self.now request.now) (place_in self.now.sets request.now) }
     {
         let itt = request.itt();
         if itt == NO_TAG || request.attr() > GREATEST_ATTR {
-            reject(request, Reason::InvalidField)
-        } else if self.is_tag_live(itt) {
-            reject(request, Reason::TaskInProgress)
+            return (reject(request, Reason::InvalidField), 0);
+        }
+        let (is_live, guess) = self.look_up_tag(itt);
+        if is_live {
+            (reject(request, Reason::TaskInProgress), guess)
         } else {
-            sets::verdict_in(request, self.is_crowded(request), &self.sets)
+            let verdict = sets::verdict_in(request, self.is_crowded(request), &self.sets);
+            (verdict, guess)
         }
     }
 
-    /// Whether a live command has this tag.
-    fn is_tag_live(&self, itt: u32) -> bool
-        ensures { result ≡ is_tag_kept self.now itt }
+    /// Whether a live command has this tag, and the guess of the place of a command that enters with it.
+    fn look_up_tag(&self, itt: u32) -> (bool, usize)
+        ensures { result.0 ≡ is_tag_kept self.now itt }
     {
-        self.live.find_tagged(itt).is_some()
+        let (command, guess) = self.live.look_up_tagged(itt);
+        (command.is_some(), guess)
     }
 
     /// Whether a request is immediate, and its connection has as many live immediate commands as it may.
@@ -214,8 +221,9 @@ impl Session {
         self.connections.assign_stat_sn(cid)
     }
 
-    /// A command enters the set of a unit, which has room for it. No live command has its tag.
-    fn enter(&mut self, request: &Request, unit: u16, out: &mut Vec<Effect>)
+    /// A command enters the set of a unit, which has room for it. No live command has its tag; the guess of its place among
+    /// the tags may be any.
+    fn enter(&mut self, request: &Request, unit: u16, guess: usize, out: &mut Vec<Effect>)
         requires space { is_immediate request.now ≡ false → HasRoom self.old.window }
         requires few { is_immediate request.now ≡ true →
             immediate_in self.old.live (connection_of request.now) < MOST_IMMEDIATE }
@@ -236,13 +244,14 @@ impl Session {
         self.entered += 1;
         let ticket = self.entered;
         let attr = attr_of(request.attr());
-        self.live.push(Live {
+        let command = Live {
             ticket,
             unit,
             conn: request.conn(),
             itt: request.itt(),
             immediate: request.immediate(),
-        });
+        };
+        self.live.push_near(command, guess);
         out.push_reserved(Effect::Enter { ticket, unit, attr });
         let task = Task {
             ticket,
