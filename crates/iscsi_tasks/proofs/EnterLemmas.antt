@@ -1,5 +1,5 @@
 -- A command enters: it alone may become enabled.
-use Rattle.std.proofs.Common.{◌≡◌, ℕ, suc, ◌<◌, ◌==◌, ◌||◌, ◌&&◌, ◌≢◌, not, true, false, List, [], ◌∷◌, ◌++◌, length, get_or, All, refl, ap, sym, ◌∙◌, arith, ⊎_elim, ne_eqb, eq-eqb}
+use Rattle.std.proofs.Common.{◌≡◌, ℕ, suc, ◌<◌, ◌==◌, ◌||◌, ◌&&◌, ◌≢◌, not, Bool, true, false, List, [], ◌∷◌, ◌++◌, length, get_or, All, refl, ap, sym, ◌∙◌, arith, ⊎_elim, ne_eqb, eq-eqb}
 use Rattle.std.specs.List.{list_any, position_or_len}
 use Rattle.std.proofs.lemmas.Bool.{cases_Bool, cases_eq, or_left, not-false, and_left, and_right, and_from}
 use Rattle.std.proofs.lemmas.List.{map-append, get_or_append_left, length_push, get_or_default}
@@ -12,7 +12,7 @@ use Rattle.iscsi_tasks.specs.declared.task.Task.{Task}
 use Rattle.iscsi_tasks.specs.declared.member.Member.{Member}
 use Rattle.iscsi_tasks.specs.declared.counts.Counts.{Counts}
 use Rattle.iscsi_tasks.specs.Rules.{is_head_of}
-use Rattle.iscsi_tasks.specs.Sets.{is_free_among, looked_at, after_moment}
+use Rattle.iscsi_tasks.specs.Sets.{queued, is_free, is_free_among, looked_at, after_moment}
 use Rattle.iscsi_tasks.specs.Counted.{IsCounted, IsSettled, is_head_in, is_ordered_in, is_free_behind}
 use Rattle.iscsi_tasks.proofs.MomentLemmas.{bars_in, free_among, free_none, free_barred, free_head, head_bars, ordered_bars, older_bars, younger_passes, simple_passes, none_counted, some_counted, map-looked_same}
 use Rattle.iscsi_tasks.proofs.CountLemmas.{first-le}
@@ -80,3 +80,17 @@ module _ (c : Counts) (task : Task) where
       map-append (looked_at (list ++ last ∷ [])) list (last ∷ [])
       ∙ ap (λ xs. xs ++ looked_at (list ++ last ∷ []) last ∷ []) (map-looked_same (list ++ last ∷ []) list (still_settled list last settled))
       ∙ ap (λ b. list ++ record { task = task; enabled = b; given = false } ∷ []) (free_last task.attr list counted refl newest)
+
+  -- and every command that is free is enabled still
+  pub settled_entered : (list : List Member) → IsCounted c list → IsSettled list → All (λ m. m.task.ticket < task.ticket) list → (enabled given : Bool) → enabled ≡ is_free_behind c (length list) task.attr → IsSettled (list ++ record { task = task; enabled = enabled; given = given } ∷ [])
+  settled_entered list counted settled newest enabled given is =
+      let m : Member = record { task = task; enabled = enabled; given = given } in
+      let fresh : Member = record { task = task; enabled = false; given = false } in
+      let free : is_free_among task (list ++ m ∷ []) ≡ enabled =
+      ap (is_free (queued task)) (map-append (λ (x : Member). queued x.task) list (m ∷ []) ∙ sym (map-append (λ (x : Member). queued x.task) list (fresh ∷ [])))
+      ∙ free_last task.attr list counted refl newest ∙ sym is in
+      All-push (λ x. (x.enabled || is_free_among x.task (list ++ m ∷ [])) ≡ x.enabled) list m (still_settled list m settled) (ap (λ b. enabled || b) free ∙ or_same enabled)
+    where
+      or_same : (b : Bool) → (b || b) ≡ b
+      or_same true = refl
+      or_same false = refl

@@ -15,3 +15,4 @@ pub mod AllLeftLemmas
 pub mod RosterLemmas
 pub mod KeepLemmas
 pub mod FrontLemmas
+pub mod AloneLemmas

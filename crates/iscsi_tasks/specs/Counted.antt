@@ -1,5 +1,5 @@
 -- What a set keeps beside its commands, so that none of them is tested again.
-use Rattle.std.specs.Prelude.{◌≡◌, ℕ, ℤ, pos, ◌+ℤ◌, ◌≤ℤ◌, int_lt, map, ◌+◌, ◌-◌, ◌^◌, ◌<◌, ◌≤◌, ◌==◌, ◌&&◌, ◌||◌, not, max, min, nat_lt, Bool, true, false, List, [], ◌∷◌, length, All, slice_index_or, count_by, Option, Some, MatchOption, if◌then◌else◌}
+use Rattle.std.specs.Prelude.{◌≡◌, ℕ, ℤ, pos, ◌+ℤ◌, ◌≤ℤ◌, int_lt, map, ◌+◌, ◌-◌, ◌^◌, ◌<◌, ◌≤◌, ◌==◌, ◌&&◌, ◌||◌, not, max, min, nat_lt, Bool, true, false, List, [], ◌∷◌, ◌++◌, length, All, slice_index_or, count_by, Option, Some, MatchOption, if◌then◌else◌}
 use Rattle.std.specs.Int.{int_min}
 use Rattle.std.specs.List.{position_or_len, fold, AllPairs}
 use Rattle.iscsi_tasks.specs.declared.task.Attr.{Attr}
@@ -9,7 +9,7 @@ use Rattle.iscsi_tasks.specs.declared.cover.Cover.{Cover}
 use Rattle.iscsi_tasks.specs.declared.cover.Cover.TheVariants.{All as AllOfThem, Conn, Below}
 use Rattle.iscsi_tasks.specs.declared.member.Member.{Member}
 use Rattle.iscsi_tasks.specs.declared.counts.Counts.{Counts}
-use Rattle.iscsi_tasks.specs.Sets.{is_head_of, is_ordered_of, is_new, is_covered, is_enabled_in, InOrder, is_free_among}
+use Rattle.iscsi_tasks.specs.Sets.{Members, is_head_of, is_ordered_of, is_new, is_covered, is_enabled_in, InOrder, is_free_among}
 
 abbrev pub is_head_in : Member → Bool
 is_head_in m = is_head_of m.task.attr
@@ -75,6 +75,10 @@ is_free_behind c len Simple = c.heads == 0 && c.ordered_at == len
 abbrev pub free_to : Counts → ℕ → ℕ
 free_to c len = min len (max 1 c.ordered_at)
 
+-- no command is enabled and wasn't given
+abbrev pub is_none_new : Counts → Bool
+is_none_new c = not (nat_lt c.new_from c.new_to)
+
 abbrev pub plus_one_if : Bool → ℕ → ℕ
 plus_one_if b n = if b then n + 1 else n
 
@@ -127,6 +131,10 @@ enabled_now m = record { task = m.task; enabled = true; given = m.given }
 -- a member whose ticket is given from now on
 abbrev pub given_now : Member → Member
 given_now m = record { task = m.task; enabled = m.enabled; given = true }
+
+-- the set, once a command entered that is enabled or not, and given or not
+abbrev pub taken_in : Members → Task → Bool → Bool → Members
+taken_in s task enabled given = record { depth = s.depth; looked = 1; list = s.list ++ record { task = task; enabled = enabled; given = given } ∷ [] }
 
 -- ---- from which number on functions may cover commands
 

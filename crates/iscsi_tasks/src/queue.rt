@@ -136,21 +136,27 @@ fn covered_from_in(members: &Roster) -> i64
 }
 
 /// The command enters behind all others.
-pub(crate) fn push(members: &mut Roster, counts: &mut Counts, task: Task, enabled: bool)
+pub(crate) fn push(
+    members: &mut Roster,
+    counts: &mut Counts,
+    task: Task,
+    enabled: bool,
+    given: bool,
+)
     requires counted { IsCounted counts.old members.old.items }
     requires len { length members.old.items < 1024 }
     requires room { length members.old.items < members.old.room }
     requires newest { All (λ m. m.task.ticket < task.ticket) members.old.items }
     requires head { is_head_of task.attr ≡ true → enabled ≡ true }
-    ensures items { members.new.items ≡ members.old.items ++ record { task = task; enabled = enabled; given = false }
-        ∷ [] }
+    ensures items { members.new.items ≡ members.old.items
+        ++ record { task = task; enabled = enabled; given = given } ∷ [] }
     ensures room { members.new.room ≡ members.old.room }
     ensures counted { IsCounted counts.new members.new.items }
 {
     let member = Member {
         task,
         enabled,
-        given: false,
+        given,
     };
     *counts = counts.with_last(members.len(), &member);
     members.push(member);

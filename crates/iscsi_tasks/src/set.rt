@@ -1,9 +1,9 @@
 //! The task set: its commands in the order in which they entered.
 
-ghost use Rattle.std.specs.Prelude.{Err, ◌≡◌, ◌+◌, ◌<◌, ◌≤◌, ◌⊎◌, ◌↔◌, List, [], ◌∷◌, length, filter, drop, slice_index_or, position, IsSome, Option, Some, false, All, IsTrue, IfSome, IfOk, IfErr, OnOk, OnErr};
-ghost use Rattle.iscsi_tasks.specs.Sets.{tasks_in, opened, InOrder, IsNewest, entered_to, refused_by, left_by, with_ticket, with_tag, first_covered, is_covered, covered_at, set_staying, is_enabled_in, is_enabled_with, next_in, given_by, StaysFree};
+ghost use Rattle.std.specs.Prelude.{Err, ◌≡◌, ◌+◌, ◌<◌, ◌≤◌, ◌⊎◌, ◌↔◌, List, [], ◌∷◌, ◌&&◌, length, filter, drop, slice_index_or, position, IsSome, Option, Some, false, All, IsTrue, IfSome, IfOk, IfErr, OnOk, OnErr};
+ghost use Rattle.iscsi_tasks.specs.Sets.{tasks_in, opened, InOrder, IsNewest, entered_to, refused_by, left_by, with_ticket, with_tag, first_covered, is_covered, covered_at, ticket_if, set_staying, is_enabled_in, is_enabled_with, next_in, given_by, StaysFree};
 ghost use Rattle.iscsi_tasks.specs.Changes.{Change, Entered, Left, AllBelow, StandsFor, live, IsEnabled, next_after, after_giving, after_leaving, after_all_left};
-ghost use Rattle.iscsi_tasks.specs.Counted.{is_free_behind, covered_from_with, covered_from_after, ascends_with};
+ghost use Rattle.iscsi_tasks.specs.Counted.{is_free_behind, covered_from_with, covered_from_after, ascends_with, taken_in};
 
 use crate::counts::Counts;
 use crate::cover::Cover;
@@ -134,17 +134,30 @@ impl TaskSet {
             OnOk result (StandsFor self.new (Entered task ∷ h)) }
         ensures stands_full { (h : List Change) → StandsFor self.old h → OnErr result (StandsFor self.new h) }
     {
-        let len = self.members.len();
-        self.looked = 0;
-        if len == self.depth as usize {
-            return Err(task);
-        }
-        let enabled = test_free(&mut self.looked, &self.counts, len, task.attr);
-        self.covered_from = covered_from_with(self.covered_from, len, &task);
-        self.ascends = ascends_with(self.ascends, self.ascends_to, len, &task);
-        self.ascends_to = task.covered_from();
-        push(&mut self.members, &mut self.counts, task, enabled);
+        self.take_in(task, false)?;
         Ok(())
+    }
+
+    /// The command enters the set, and the oldest enabled ticket is given that no call gave before: what `enter` and then
+    /// `next_new` do. Where no other command waits for its ticket to be given, the command is written once.
+    pub fn enter_and_give(&mut self, task: Task) -> Result<Option<u64>, Task>
+        requires { IsNewest task.ticket self.old }
+        ensures ok { OnOk result ((length self.old.list < self.old.depth)
+            × (self.new ≡ given_by (entered_to self.old task))) }
+        ensures given { IfOk result (λ ticket. ticket ≡ next_in (entered_to self.old task).list) }
+        ensures full { OnErr result ((length self.old.list ≡ self.old.depth) × (self.new ≡ refused_by self.old)) }
+        ensures back { IfErr result (λ t. t ≡ task) }
+        ensures stands { (h : List Change) → StandsFor self.old h → AllBelow task.ticket h →
+            IfOk result (λ ticket. (ticket ≡ next_after (Entered task ∷ h))
+            × StandsFor self.new (after_giving ticket (Entered task ∷ h))) }
+        ensures stands_full { (h : List Change) → StandsFor self.old h → OnErr result (StandsFor self.new h) }
+    {
+        let is_alone = self.counts.is_none_new();
+        let enabled = self.take_in(task, is_alone)?;
+        if !is_alone {
+            return Ok(self.next_new());
+        }
+        Ok(ticket_if(enabled, &task))
     }
 
     /// The command with this ticket leaves. Where there is none, nothing changes.
@@ -172,6 +185,17 @@ impl TaskSet {
         ensures stands { (h : List Change) → StandsFor self.old h → StandsFor self.new (Left result.ticket ∷ h) }
     {
         self.take_out(place as usize)
+    }
+
+    /// The command at this place, counted from the oldest, leaves: what `leave_at` does, for a caller that has the
+    /// command.
+    pub fn remove_at(&mut self, place: u32)
+        requires { place < length self.old.list }
+        ensures state { (d : Member) → self.new ≡ left_by self.old (Some (slice_index_or self.old.list place d).task) }
+        ensures stands { (h : List Change) (d : Member) → StandsFor self.old h →
+            StandsFor self.new (Left (slice_index_or self.old.list place d).task.ticket ∷ h) }
+    {
+        self.let_go(place as usize);
     }
 
     /// The oldest of the covered commands leaves. Where none is covered, nothing changes.
@@ -297,16 +321,48 @@ impl TaskSet {
         give_next(&mut self.members, &mut self.counts)
     }
 
-    /// The command at this place leaves.
+    /// The command enters behind all others, and whether it is enabled. Where it `gives`, its ticket is given at once if
+    /// it is. Where the set is full it comes back.
+    fn take_in(&mut self, task: Task, gives: bool) -> Result<bool, Task>
+        requires { IsNewest task.ticket self.old }
+        ensures ok { IfOk result (λ enabled. (length self.old.list < self.old.depth)
+            × (self.new ≡ taken_in self.old task enabled (gives && enabled))
+            × (entered_to self.old task ≡ taken_in self.old task enabled false)) }
+        ensures full { OnErr result ((length self.old.list ≡ self.old.depth) × (self.new ≡ refused_by self.old)) }
+        ensures back { IfErr result (λ t. t ≡ task) }
+    {
+        let len = self.members.len();
+        self.looked = 0;
+        if len == self.depth as usize {
+            return Err(task);
+        }
+        let enabled = test_free(&mut self.looked, &self.counts, len, task.attr);
+        self.covered_from = covered_from_with(self.covered_from, len, &task);
+        self.ascends = ascends_with(self.ascends, self.ascends_to, len, &task);
+        self.ascends_to = task.covered_from();
+        let given = gives && enabled;
+        push(&mut self.members, &mut self.counts, task, enabled, given);
+        Ok(enabled)
+    }
+
+    /// The command at this place leaves, and is the answer.
     fn take_out(&mut self, at: usize) -> Task
         requires { at < length self.old.list }
         ensures answer { (d : Member) → result ≡ (slice_index_or self.old.list at d).task }
         ensures state { self.new ≡ left_by self.old (Some result) }
     {
         let task = self.members.at(at).task;
+        self.let_go(at);
+        task
+    }
+
+    /// The command at this place leaves.
+    fn let_go(&mut self, at: usize)
+        requires { at < length self.old.list }
+        ensures { (d : Member) → self.new ≡ left_by self.old (Some (slice_index_or self.old.list at d).task) }
+    {
         remove(&mut self.members, &mut self.counts, at);
         enable_free(&mut self.members, &mut self.counts);
-        task
     }
 }
 
@@ -318,6 +374,13 @@ fn test_free(looked: &mut u32, counts: &Counts, len: usize, attr: Attr) -> bool
 {
     *looked += 1;
     counts.is_free_behind(len, attr)
+}
+
+/// The ticket of a command, if it is given.
+fn ticket_if(given: bool, task: &Task) -> Option<u64>
+    ensures { result ≡ ticket_if given task.now }
+{
+    if given { Some(task.ticket) } else { None }
 }
 
 /// From which number on functions may cover commands of a set, once this one has entered it behind `len` others.

@@ -99,8 +99,7 @@ pub(crate) fn enter(sets: &mut [TaskSet], unit: u16, task: Task, out: &mut Vec<E
     ensures capacity { vec_capacity out.new ≡ vec_capacity out.old }
 {
     let set = &mut sets[usize::from(unit)];
-    set.enter(task).unwrap();
-    if let Some(ticket) = set.next_new() {
+    if let Some(ticket) = set.enter_and_give(task).unwrap() {
         out.push_reserved(Effect::Enable { ticket, unit });
     }
 }
@@ -120,7 +119,7 @@ pub(crate) fn leave(sets: &mut [TaskSet], command: &Live, place: u32, out: &mut 
     ensures capacity { vec_capacity out.new ≡ vec_capacity out.old }
 {
     let set = &mut sets[usize::from(command.unit)];
-    set.leave_at(place);
+    set.remove_at(place);
     enable_new(set, command.unit, out);
 }
 

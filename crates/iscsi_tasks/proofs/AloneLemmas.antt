@@ -1,0 +1,57 @@
+-- A command enters a set in which none waits for its ticket to be given, and its own is given at once if it is enabled.
+use Rattle.std.proofs.Common.{◌≡◌, ◌∙◌, ◌++◌, ◌<◌, not, cond, Bool, true, false, List, [], ◌∷◌, get_or, All, Some, None, Option, ℕ, refl, ap, sym, subst, arith, ⊎_elim, true≢false, lt-ltb}
+use Rattle.std.proofs.lemmas.Bool.{cases_Bool}
+use Rattle.std.proofs.lemmas.List.Elements.{All-head, All-tail}
+use Rattle.std.proofs.lemmas.List.Quantifiers.{all_pairs_push}
+use Rattle.iscsi_tasks.specs.declared.task.Task.{Task}
+use Rattle.iscsi_tasks.specs.declared.member.Member.{Member}
+use Rattle.iscsi_tasks.specs.declared.counts.Counts.{Counts}
+use Rattle.iscsi_tasks.specs.Sets.{Members, InOrder, IsNewest, entered_to, is_new, given_in, given_by, next_in}
+use Rattle.iscsi_tasks.specs.Changes.{Change, Entered, AllBelow, StandsFor, next_after, after_giving}
+use Rattle.iscsi_tasks.specs.Counted.{IsCounted, is_none_new, taken_in}
+use Rattle.iscsi_tasks.proofs.GivingLemmas.{given_in_old, next_in_old, StandsFor-giving}
+use Rattle.iscsi_tasks.proofs.HistoryLemmas.{StandsFor-entered}
+
+-- the counts tell that none is new
+pub none_new : (c : Counts) (list : List Member) → IsCounted c list → is_none_new c ≡ true → All (λ m. is_new m ≡ false) list
+none_new c list counted none k d l = ⊎_elim
+    (λ new. let at = counted.new k d l new in absurd (true≢false (sym none ∙ ap not (lt-ltb c.new_from c.new_to (omega arith)))))
+    (λ old. old)
+    (cases_Bool (is_new (get_or list k d)))
+
+given_last : (list : List Member) (m : Member) → All (λ x. is_new x ≡ false) list → given_in (list ++ m ∷ []) ≡ list ++ given_in (m ∷ [])
+given_last [] m none = refl
+given_last (x ∷ xs) m none =
+    given_in_old x (xs ++ m ∷ []) (All-head (λ y. is_new y ≡ false) x xs none) ∙ ap (λ r. x ∷ r) (given_last xs m (All-tail (λ y. is_new y ≡ false) x xs none))
+
+next_last : (list : List Member) (m : Member) → All (λ x. is_new x ≡ false) list → next_in (list ++ m ∷ []) ≡ next_in (m ∷ [])
+next_last [] m none = refl
+next_last (x ∷ xs) m none =
+    next_in_old x (xs ++ m ∷ []) (All-head (λ y. is_new y ≡ false) x xs none) ∙ next_last xs m (All-tail (λ y. is_new y ≡ false) x xs none)
+
+module _ (s : Members) (task : Task) (none : All (λ m. is_new m ≡ false) s.list) where
+  taken_given : (e : Bool) → given_by (taken_in s task e false) ≡ taken_in s task e e
+  taken_given true = ap (λ l. let t : Members = record { depth = s.depth; looked = 1; list = l } in t) (given_last s.list (record { task = task; enabled = true; given = false }) none)
+  taken_given false = ap (λ l. let t : Members = record { depth = s.depth; looked = 1; list = l } in t) (given_last s.list (record { task = task; enabled = false; given = false }) none)
+
+  taken_next : (e : Bool) → next_in (taken_in s task e false).list ≡ cond e (Some task.ticket) None
+  taken_next true = next_last s.list (record { task = task; enabled = true; given = false }) none
+  taken_next false = next_last s.list (record { task = task; enabled = false; given = false }) none
+
+  module _ (e : Bool) (entered : entered_to s task ≡ taken_in s task e false) where
+    -- the set, once it is given
+    pub alone_state : given_by (entered_to s task) ≡ taken_in s task e e
+    alone_state = ap given_by entered ∙ taken_given e
+
+    -- its ticket is the next one
+    pub alone_next : next_in (entered_to s task).list ≡ cond e (Some task.ticket) None
+    alone_next = ap (λ (t : Members). next_in t.list) entered ∙ taken_next e
+
+    pub alone_stands : InOrder s.list → IsNewest task.ticket s → (h : List Change) → StandsFor s h → AllBelow task.ticket h → (r : Option ℕ) (new : Members) → r ≡ next_in (entered_to s task).list → new ≡ given_by (entered_to s task) → (r ≡ next_after (Entered task ∷ h)) × StandsFor new (after_giving r (Entered task ∷ h))
+    alone_stands order newest h st below r new next state =
+        let last : Member = record { task = task; enabled = e; given = false } in
+        let up : InOrder (entered_to s task).list = subst (λ (t : Members). InOrder t.list) (sym entered) (all_pairs_push (λ (a b : Member). a.task.ticket < b.task.ticket) s.list last order newest) in
+        let both = StandsFor-giving (entered_to s task) (Entered task ∷ h) up (StandsFor-entered s task h st below) in (
+          next ∙ both.0,
+          subst (λ (o : Option ℕ). StandsFor new (after_giving o (Entered task ∷ h))) (sym next) (subst (λ (t : Members). StandsFor t (after_giving (next_in (entered_to s task).list) (Entered task ∷ h))) (sym state) both.1),
+        )
