@@ -64,124 +64,96 @@ pub(crate) fn write_plain(
 )
     ensures { out.new ≡ plain_of effect.now request numbers }
 {
-    // Each form is written where it is made, since moving it costs as much as making it.
-    match *effect {
-        Effect::Deliver { request } => *out = of_request(1, &request),
-        Effect::Immediate { request } => *out = of_request(2, &request),
-        Effect::Wait { request } => *out = of_request(3, &request),
-        Effect::Void { sn } => *out = of_number(4, sn),
-        Effect::Empty { sn } => *out = of_number(5, sn),
-        Effect::Enter { ticket, unit, attr } => *out = entering(ticket, unit, attr, request),
-        Effect::Enable { ticket, unit } => *out = of_command(7, ticket, unit),
-        Effect::Leave { ticket, unit } => *out = of_command(8, ticket, unit),
+    *out = NOTHING;
+    match effect {
+        Effect::Deliver { request } => put_request(1, request, out),
+        Effect::Immediate { request } => put_request(2, request, out),
+        Effect::Wait { request } => put_request(3, request, out),
+        Effect::Void { sn } => put_number(4, *sn, out),
+        Effect::Empty { sn } => put_number(5, *sn, out),
+        Effect::Enter { ticket, unit, attr } => put_entering(*ticket, *unit, *attr, request, out),
+        Effect::Enable { ticket, unit } => put_command(7, *ticket, *unit, out),
+        Effect::Leave { ticket, unit } => put_command(8, *ticket, *unit, out),
         Effect::Send {
             conn,
             stat_sn,
             reply,
-        } => *out = of_reply(conn, stat_sn, &reply, numbers),
+        } => put_reply(*conn, *stat_sn, reply, numbers, out),
         Effect::CloseConn { conn } => {
-            *out = PlainEffect {
-                kind: 10,
-                cid: conn,
-                ..NOTHING
-            }
+            out.kind = 10;
+            out.cid = *conn;
         }
-        Effect::CloseSession => {
-            *out = PlainEffect {
-                kind: 11,
-                ..NOTHING
-            }
-        }
+        Effect::CloseSession => out.kind = 11,
         Effect::Ignore { why } => {
-            *out = PlainEffect {
-                kind: 12,
-                reason: code_of_reason(why),
-                ..NOTHING
-            }
+            out.kind = 12;
+            out.reason = code_of_reason(*why);
         }
     }
 }
 
 #[inline(always)]
-fn of_request(kind: u8, request: &Request) -> PlainEffect
-    ensures { result ≡ request_form kind request.now }
+fn put_request(kind: u8, request: &Request, out: &mut PlainEffect)
+    requires { out.old ≡ NOTHING }
+    ensures { out.new ≡ request_form kind request.now }
 {
-    PlainEffect {
-        kind,
-        sn: request.cmd_sn(),
-        cid: request.conn(),
-        header: request.bytes(),
-        ..NOTHING
-    }
+    out.kind = kind;
+    out.sn = request.cmd_sn();
+    out.cid = request.conn();
+    out.header = request.bytes();
 }
 
 #[inline(always)]
-fn of_number(kind: u8, sn: u32) -> PlainEffect
-    ensures { result ≡ number_form kind sn }
+fn put_number(kind: u8, sn: u32, out: &mut PlainEffect)
+    requires { out.old ≡ NOTHING }
+    ensures { out.new ≡ number_form kind sn }
 {
-    PlainEffect {
-        kind,
-        sn,
-        ..NOTHING
-    }
+    out.kind = kind;
+    out.sn = sn;
 }
 
 #[inline(always)]
-fn of_command(kind: u8, ticket: u64, unit: u16) -> PlainEffect
-    ensures { result ≡ command_form kind ticket unit }
+fn put_command(kind: u8, ticket: u64, unit: u16, out: &mut PlainEffect)
+    requires { out.old ≡ NOTHING }
+    ensures { out.new ≡ command_form kind ticket unit }
 {
-    PlainEffect {
-        kind,
-        ticket,
-        unit,
-        ..NOTHING
-    }
+    out.kind = kind;
+    out.ticket = ticket;
+    out.unit = unit;
 }
 
 #[inline(always)]
-fn entering(ticket: u64, unit: u16, attr: Attr, request: Option<Request>) -> PlainEffect
-    ensures { result ≡ enter_form ticket unit attr request }
+fn put_entering(ticket: u64, unit: u16, attr: Attr, request: Option<Request>, out: &mut PlainEffect)
+    requires { out.old ≡ NOTHING }
+    ensures { out.new ≡ enter_form ticket unit attr request }
 {
-    let form = match request {
-        Some(request) => of_request(6, &request),
-        None => PlainEffect { kind: 6, ..NOTHING },
-    };
-    PlainEffect {
-        ticket,
-        unit,
-        attribute: code_of_attribute(attr),
-        ..form
+    if let Some(request) = request {
+        put_request(6, &request, out);
     }
+    out.kind = 6;
+    out.ticket = ticket;
+    out.unit = unit;
+    out.attribute = code_of_attribute(attr);
 }
 
 #[inline(always)]
-fn of_reply(cid: u16, stat_sn: u32, reply: &Reply, numbers: Numbers) -> PlainEffect
-    ensures { result ≡ reply_form cid stat_sn reply.now numbers }
+fn put_reply(cid: u16, stat_sn: u32, reply: &Reply, numbers: Numbers, out: &mut PlainEffect)
+    requires { out.old ≡ NOTHING }
+    ensures { out.new ≡ reply_form cid stat_sn reply.now numbers }
 {
     let pdu = reply.encode(stat_sn, numbers.exp, numbers.max);
+    out.kind = 9;
+    out.cid = cid;
+    out.sn = stat_sn;
+    out.header = *pdu.header();
     // Most replies are of this kind. Here the compiler knows that there is no tail.
     if let Reply::Scsi { sense: None, .. } = reply {
-        return PlainEffect {
-            kind: 9,
-            cid,
-            sn: stat_sn,
-            header: *pdu.header(),
-            ..NOTHING
-        };
+        return;
     }
     let tail = pdu.tail();
     let length = tail.len().min(48);
-    let mut form = PlainEffect {
-        kind: 9,
-        cid,
-        sn: stat_sn,
-        tail_length: length as u8,
-        header: *pdu.header(),
-        ..NOTHING
-    };
-    let (data, _) = form.tail.split_at_mut(length);
+    out.tail_length = length as u8;
+    let (data, _) = out.tail.split_at_mut(length);
     data.copy_from_slice(&tail[..length]);
-    form
 }
 
 fn code_of_attribute(attr: Attr) -> u8

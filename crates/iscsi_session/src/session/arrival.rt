@@ -209,6 +209,7 @@ impl Session {
     }
 
     /// Executes the functions that have waited for the next number.
+    #[inline(always)]
     fn execute_waiting(&mut self, out: &mut Vec<Effect>)
         requires room { vec_len out.old + owed self.old.live self.old.sets + 6 * length self.old.waiting
             ≤ vec_capacity out.old }
@@ -231,6 +232,7 @@ impl Session {
     }
 
     /// Executes the functions that have waited for the next number, of those that wait.
+    #[inline(never)]
     fn execute_all_waiting(&mut self, out: &mut Vec<Effect>)
         requires room { vec_len out.old + owed self.old.live self.old.sets + 6 * length self.old.waiting
             ≤ vec_capacity out.old }

@@ -128,63 +128,60 @@ impl Session {
             + owed self.old.live self.old.sets + 4 }
         ensures capacity { vec_capacity out.new ≡ vec_capacity out.old }
     {
-        let (verdict, guess) = self.verdict(request);
-        match verdict {
+        let mut guess = 0;
+        match self.verdict(request, &mut guess) {
             Verdict::Nothing => {}
             Verdict::Answer(reply) => self.reply(request.conn(), reply, out),
             Verdict::Enter(unit) => self.enter(request, unit, guess, out),
         }
     }
 
-    /// What the execution of a request comes to, and beside it, for a command that enters, the guess of its place among
-    /// the tags.
+    /// What the execution of a request comes to. Where a command enters, the guess of its place among the tags is noted.
     ///
     /// Rule: `text/rejected`.
-    fn verdict(&self, request: &Request) -> (Verdict, usize)
+    fn verdict(&self, request: &Request, guess: &mut usize) -> Verdict
         requires { known_in (connection_of request.now) self.now.conns ≡ true }
-        ensures { result.0 ≡ verdict_by self.now request.now }
+        ensures { result ≡ verdict_by self.now request.now }
     {
         match Opcode::of(request) {
-            Opcode::NopOut => (nop_verdict(request), 0),
-            Opcode::Text => (reject(request, Reason::NotSupported), 0),
+            Opcode::NopOut => nop_verdict(request),
+            Opcode::Text => reject(request, Reason::NotSupported),
             // Of the others SCSI Commands alone come here.
             Opcode::ScsiCommand
             | Opcode::TaskManagement
             | Opcode::DataOut
             | Opcode::Logout
             | Opcode::Snack
-            | Opcode::Unknown => self.scsi_verdict(request),
+            | Opcode::Unknown => self.scsi_verdict(request, guess),
         }
     }
 
-    /// What a SCSI Command comes to: the first case of its table that fits (SAM-5 section 8). Beside it stands the guess of
-    /// its place among the tags, for a command that enters.
+    /// What a SCSI Command comes to: the first case of its table that fits (SAM-5 section 8). Where it enters, the guess of
+    /// its place among the tags is noted.
     ///
     /// Rules: `command/no-tag`, `command/attribute`, `command/tag-in-use`.
-    fn scsi_verdict(&self, request: &Request) -> (Verdict, usize)
+    fn scsi_verdict(&self, request: &Request, guess: &mut usize) -> Verdict
         requires { known_in (connection_of request.now) self.now.conns ≡ true }
-        ensures { result.0 ≡ scsi_verdict request.now (is_tag_kept self.now (tag_of request.now))
+        ensures { result ≡ scsi_verdict request.now (is_tag_kept self.now (tag_of request.now))
             (is_crowded_by self.now request.now) (place_in self.now.sets request.now) }
     {
         let itt = request.itt();
         if itt == NO_TAG || request.attr() > GREATEST_ATTR {
-            return (reject(request, Reason::InvalidField), 0);
-        }
-        let (is_live, guess) = self.look_up_tag(itt);
-        if is_live {
-            (reject(request, Reason::TaskInProgress), guess)
+            reject(request, Reason::InvalidField)
+        } else if self.is_tag_live(itt, guess) {
+            reject(request, Reason::TaskInProgress)
         } else {
-            let verdict = sets::verdict_in(request, self.is_crowded(request), &self.sets);
-            (verdict, guess)
+            sets::verdict_in(request, self.is_crowded(request), &self.sets)
         }
     }
 
-    /// Whether a live command has this tag, and the guess of the place of a command that enters with it.
-    fn look_up_tag(&self, itt: u32) -> (bool, usize)
-        ensures { result.0 ≡ is_tag_kept self.now itt }
+    /// Whether a live command has this tag. The guess of the place of one that enters with it is noted.
+    fn is_tag_live(&self, itt: u32, guess: &mut usize) -> bool
+        ensures { result ≡ is_tag_kept self.now itt }
     {
-        let (command, guess) = self.live.look_up_tagged(itt);
-        (command.is_some(), guess)
+        let (command, place) = self.live.look_up_tagged(itt);
+        *guess = place;
+        command.is_some()
     }
 
     /// Whether a request is immediate, and its connection has as many live immediate commands as it may.

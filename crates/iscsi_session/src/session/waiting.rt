@@ -78,6 +78,7 @@ impl Waitlist {
     }
 
     /// Whether a function waits for this turn.
+    #[inline(always)]
     pub(crate) fn has_due(&self, turn: u64) -> bool
         ensures { result ≡ is_some (find (λ w. w.turn == turn) self.now.items) }
     {

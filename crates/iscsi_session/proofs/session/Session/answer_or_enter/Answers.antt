@@ -12,7 +12,7 @@ use Rattle.iscsi_session.proofs.session.Session.answer_or_enter.Goals.{In-Enter}
 
 -- what is known where the request enters the set of a unit
 entering : (c : In-Enter) → Entering (is_tag_kept c.args.self.now (itt c.args.request.now)) (is_crowded_by c.args.self.now c.args.request.now) (place_in c.args.self.now.sets c.args.request.now) c.in-Enter.unit
-entering c = entering_by c.args.request.now _ _ _ c.in-Enter.unit (sym c.verdict-verdict.ensures ∙ c.in-Enter.is)
+entering c = entering_by c.args.request.now _ _ _ c.in-Enter.unit (sym c.verdict.ensures ∙ c.in-Enter.is)
 
 -- the unit is one of the session, and its set isn't full
 unit_placed : (c : In-Enter) → (c.in-Enter.unit < length c.args.self.now.sets) × (is_set_full (set_at c.args.self.now c.in-Enter.unit) ≡ false)

@@ -2,7 +2,7 @@ use Rattle.std.proofs.Common.{◌==◌, ◌∙◌, is_some, find, ap, sym}
 use Rattle.iscsi_commands.specs.declared.live.Live.{Live}
 use Rattle.iscsi_session.specs.promises.Standing.{Core}
 use Rattle.iscsi_session.proofs.TagLemmas.{any_found}
-use Rattle.iscsi_session.proofs.session.Session.look_up_tag.Goals as goal
+use Rattle.iscsi_session.proofs.session.Session.is_tag_live.Goals as goal
 
 pub returns : goal.returns
 returns c =
