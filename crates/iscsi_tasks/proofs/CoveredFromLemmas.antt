@@ -1,5 +1,5 @@
 -- From which number on functions may cover commands of a set.
-use Rattle.std.proofs.Common.{◌≡◌, ◌∙◌, ◌&&◌, ◌==◌, not, Bool, ℕ, zero, suc, ◌<◌, ℤ, pos, ◌+ℤ◌, ◌≤ℤ◌, cond, true, false, nat_lt, int_lt, List, [], ◌∷◌, ◌++◌, length, map, get_or, find, All, None, refl, ap, sym, subst, arith, ⊎_elim}
+use Rattle.std.proofs.Common.{◌≡◌, ◌∙◌, ◌&&◌, ◌==◌, not, Bool, ℕ, zero, suc, ◌<◌, ℤ, pos, ◌+ℤ◌, ◌≤ℤ◌, cond, true, false, nat_lt, int_lt, List, [], ◌∷◌, ◌++◌, length, map, get_or, find, All, None, ap, sym, subst, arith, ⊎_elim}
 use Rattle.std.specs.Int.{int_min}
 use Rattle.std.specs.List.{fold}
 use Rattle.std.specs.Ordering.{int_eq}
@@ -12,7 +12,7 @@ use Rattle.iscsi_tasks.specs.declared.cover.Cover.{Cover}
 use Rattle.iscsi_tasks.specs.declared.cover.Cover.TheVariants.{All as AllOfThem, Conn, Below}
 use Rattle.iscsi_tasks.specs.declared.member.Member.{Member}
 use Rattle.iscsi_tasks.specs.Sets.{is_covered, after_moment, without, uncovered, list_staying}
-use Rattle.iscsi_tasks.specs.Counted.{IsCoveredFrom, is_below, covered_from, greatest_number, covered_from_with, covered_from_in, covered_from_first, least_covered_from, covered_from_after, IsAscending}
+use Rattle.iscsi_tasks.specs.Counted.{IsCoveredFrom, is_below, covered_from, greatest_number, covered_from_with, covered_from_in, covered_from_first, IsAscending}
 use Rattle.iscsi_tasks.proofs.HistoryLemmas.{tasks-looked}
 use Rattle.iscsi_tasks.proofs.ListLemmas.{filter-map}
 use Rattle.iscsi_tasks.proofs.StayingLemmas.{staying_cases}
@@ -93,16 +93,6 @@ pub covered_from_oldest : (list : List Member) → IsAscending list → IsCovere
 covered_from_oldest [] up cover below = All-nil (λ t. is_covered cover t ≡ false)
 covered_from_oldest (m ∷ ms) up cover below = All-map (λ t. is_covered cover t ≡ false) (λ (x : Member). x.task) (m ∷ ms)
     (λ k d l. let x = get_or (m ∷ ms) k d in none_below x.task cover (is_below-le (covered_from m.task) (covered_from x.task) cover (oldest m ms up k d l) below))
-
-pub covered_from_least : (ascends : Bool) (list : List Member) → (ascends ≡ true → IsAscending list) → IsCoveredFrom (least_covered_from ascends list) (map (λ m. m.task) list)
-covered_from_least true list up = covered_from_oldest list (up refl)
-covered_from_least false list up = covered_from_all list
-
--- a function covered nothing
-pub covered_from_past : (number : ℤ) (ascends : Bool) (list : List Member) (cover : Cover) → (ascends ≡ true → IsAscending list) → IsCoveredFrom number (map (λ m. m.task) list) → IsCoveredFrom (covered_from_after number ascends cover list) (map (λ m. m.task) list)
-covered_from_past number ascends list AllOfThem up kept = kept
-covered_from_past number ascends list (Conn cid) up kept = kept
-covered_from_past number ascends list (Below at event) up kept = covered_from_least ascends list up
 
 -- a function with a number below that of the set covers nothing
 pub nothing_covered : (number : ℤ) (tasks : List Task) (cover : Cover) → IsCoveredFrom number tasks → is_below number cover ≡ true → find (is_covered cover) tasks ≡ None

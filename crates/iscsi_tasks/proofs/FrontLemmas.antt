@@ -1,10 +1,10 @@
 -- The commands that a function may cover, where they are in front of their set.
-use Rattle.std.proofs.Common.{◌≡◌, ◌∙◌, ℕ, zero, suc, ◌<◌, ◌≤◌, ◌+◌, ◌==◌, ◌||◌, ◌&&◌, not, ℤ, ◌≤ℤ◌, int_lt, cond, Bool, true, false, List, [], ◌∷◌, ◌++◌, length, map, filter, get_or, All, refl, ap, sym, subst, arith, ⊎_elim, ne_eqb, true≢false}
+use Rattle.std.proofs.Common.{◌≡◌, ◌∙◌, ℕ, zero, suc, ◌<◌, ◌≤◌, ◌+◌, ◌==◌, ◌||◌, ◌&&◌, not, ℤ, ◌≤ℤ◌, int_lt, cond, Bool, true, false, List, [], ◌∷◌, ◌++◌, length, map, filter, take, get_or, All, refl, ap, sym, subst, arith, ⊎_elim, ne_eqb, true≢false}
 use Rattle.std.specs.Prelude.{◌<ℤ◌}
 use Rattle.std.specs.List.{remove}
 use Rattle.std.proofs.lemmas.Int.{ints}
 use Rattle.std.proofs.lemmas.Bool.{cases_eq, cases_lt, and_parts, true_from_ne_false, false_from_ne_true}
-use Rattle.std.proofs.lemmas.List.{get_or-map, length-map}
+use Rattle.std.proofs.lemmas.List.{get_or-map, length-map, length-take-le, take_more}
 use Rattle.std.proofs.lemmas.List.Elements.{All-push, All-nil, All-filter, All-head, All-tail}
 use Rattle.std.proofs.lemmas.List.Edits.{get_or-remove_below, length-remove}
 use Rattle.std.proofs.lemmas.List.Kept.{AllPairs-filter}
@@ -39,6 +39,9 @@ module _ (xs ys : List Member) (same : map (λ m. m.task) ys ≡ map (λ m. m.ta
   }
 
 -- ---- a set that changes
+
+pub ascending_none : (most : ℤ) → IsAscendingTo most []
+ascending_none most = record { ascending = λ i j d below within. absurd (omega (arith, within)); within = All-nil (λ (m : Member). covered_from m.task ≤ℤ most) }
 
 pub ascending_filter : (most : ℤ) (p : Member → Bool) (list : List Member) → IsAscendingTo most list → IsAscendingTo most (filter p list)
 ascending_filter most p list up = record {
@@ -83,6 +86,13 @@ ascending_push ascends most (x ∷ xs) m kept up =
       ascending = all_pairs_push (λ (a b : Member). covered_from a.task ≤ℤ covered_from b.task) (x ∷ xs) m was.ascending each;
       within = All-push P (x ∷ xs) m each (omega (arith, ints));
     }
+
+-- one more is looked at
+pub ascending_more : (ascends : Bool) (most : ℤ) (list : List Member) (k : ℕ) (m : Member) → k < length list → m ≡ get_or list k m → (ascends ≡ true → IsAscendingTo most (take k list)) → ascends_with ascends most k m.task ≡ true → IsAscendingTo (covered_from m.task) (take (k + 1) list)
+ascending_more ascends most list k m within read kept up =
+    let long : length (take k list) ≡ k = length-take-le k list (omega arith) in
+    subst (IsAscendingTo (covered_from m.task)) (sym (take_more list k m within ∙ ap (λ (x : Member). take k list ++ x ∷ []) (sym read)))
+    (ascending_push ascends most (take k list) m kept (ap (λ n. ascends_with ascends most n m.task) long ∙ up))
 
 -- ---- the front
 

@@ -159,16 +159,6 @@ abbrev pub covered_from_first : List Member → ℤ
 covered_from_first [] = greatest_number
 covered_from_first (m ∷ ms) = covered_from m.task
 
--- the least one, which is that of the oldest where they go up
-abbrev pub least_covered_from : Bool → List Member → ℤ
-least_covered_from ascends list = if ascends then covered_from_first list else covered_from_in list
-
--- that of the set, of which this covered nothing
-abbrev pub covered_from_after : ℤ → Bool → Cover → List Member → ℤ
-covered_from_after number ascends AllOfThem list = number
-covered_from_after number ascends (Conn cid) list = number
-covered_from_after number ascends (Below at event) list = least_covered_from ascends list
-
 -- ---- where they go up along the set
 
 abbrev pub IsAscending : List Member → Type 0

@@ -9,6 +9,7 @@ mod cover;
 mod fault;
 mod front;
 mod member;
+mod numbers;
 mod queue;
 mod roster;
 mod set;

@@ -3,7 +3,7 @@
 ghost use Rattle.std.specs.Prelude.{◌≡◌, ◌↔◌, ℕ, ◌+◌, ◌<◌, ◌≤◌, ◌==◌, [], ◌∷◌, ◌++◌, map, take, drop, length, position, slice_index_or, find, option_map, option_and_then, slice_get, All, true, false};
 ghost use Rattle.std.specs.List.{position_or_len, remove};
 ghost use Rattle.iscsi_tasks.specs.Sets.{InOrder, after_moment, is_head_of, is_covered, is_new, next_in, given_in, uncovered, list_staying, ticket_if};
-ghost use Rattle.iscsi_tasks.specs.Counted.{IsPlaceOf, IsEnabledPlace, IsCounted, AreHeadsEnabled, is_ordered_in, free_to, enabled_now, covered_from_in, least_covered_from};
+ghost use Rattle.iscsi_tasks.specs.Counted.{IsPlaceOf, IsEnabledPlace, IsCounted, AreHeadsEnabled, is_ordered_in, free_to, enabled_now};
 
 use crate::counts::{Counts, shifted_by};
 use crate::cover::Cover;
@@ -108,31 +108,6 @@ pub(crate) fn covered_at(members: &Roster, at: usize, cover: &Cover) -> Option<u
     } else {
         None
     }
-}
-
-/// From which number on functions may cover one of the commands. Where those numbers go up along the set, it looks at
-/// the oldest alone, and else at each.
-pub(crate) fn least_covered_from(members: &Roster, ascends: bool) -> i64
-    ensures { result ≡ least_covered_from ascends members.now.items }
-{
-    if !ascends {
-        return covered_from_in(members);
-    }
-    if members.len() == 0 {
-        return i64::MAX;
-    }
-    members.at(0).task.covered_from()
-}
-
-/// From which number on functions may cover one of the commands. It looks at each of them.
-fn covered_from_in(members: &Roster) -> i64
-    ensures { result ≡ covered_from_in members.now.items }
-{
-    let mut least = i64::MAX;
-    for k in 0..members.len() {
-        least = least.min(members.at(k).task.covered_from());
-    }
-    least
 }
 
 /// The command enters behind all others.

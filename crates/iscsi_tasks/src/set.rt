@@ -3,16 +3,17 @@
 ghost use Rattle.std.specs.Prelude.{Err, ◌≡◌, ◌+◌, ◌<◌, ◌≤◌, ◌⊎◌, ◌↔◌, List, [], ◌∷◌, ◌&&◌, length, filter, drop, slice_index_or, position, IsSome, Option, Some, false, All, IsTrue, IfSome, IfOk, IfErr, OnOk, OnErr};
 ghost use Rattle.iscsi_tasks.specs.Sets.{tasks_in, opened, InOrder, IsNewest, entered_to, refused_by, left_by, with_ticket, with_tag, first_covered, is_covered, covered_at, ticket_if, set_staying, is_enabled_in, is_enabled_with, next_in, given_by, StaysFree};
 ghost use Rattle.iscsi_tasks.specs.Changes.{Change, Entered, Left, AllBelow, StandsFor, live, IsEnabled, next_after, after_giving, after_leaving, after_all_left};
-ghost use Rattle.iscsi_tasks.specs.Counted.{is_free_behind, covered_from_with, covered_from_after, ascends_with, taken_in};
+ghost use Rattle.iscsi_tasks.specs.Counted.{is_free_behind, covered_from_with, taken_in};
 
 use crate::counts::Counts;
 use crate::cover::Cover;
 use crate::fault::TaskFault;
 use crate::front::{covered_to, remove_covered};
 use crate::member::Member;
+use crate::numbers::{Numbers, ascends_with, oldest_covered_from};
 use crate::queue::{
-    covered_at, enable_free, enabled_place, first_covered, give_next, least_covered_from, place_of,
-    push, remove, with_tag,
+    covered_at, enable_free, enabled_place, first_covered, give_next, place_of, push, remove,
+    with_tag,
 };
 use crate::roster::Roster;
 use crate::task::{Attr, Task};
@@ -212,12 +213,7 @@ impl TaskSet {
             return None;
         }
         let Some(at) = first_covered(&self.members, cover) else {
-            self.covered_from = covered_from_after(
-                self.covered_from,
-                self.ascends,
-                cover,
-                &self.members,
-            );
+            self.renumber(cover);
             return None;
         };
         Some(self.take_out(at))
@@ -268,12 +264,7 @@ impl TaskSet {
             return;
         }
         remove_covered(&mut self.members, &mut self.counts, self.ascends, cover);
-        self.covered_from = covered_from_after(
-            self.covered_from,
-            self.ascends,
-            cover,
-            &self.members,
-        );
+        self.renumber(cover);
     }
 
     /// The place of the command with this ticket, counted from the oldest, if it is in the set and enabled.
@@ -345,6 +336,24 @@ impl TaskSet {
         Ok(enabled)
     }
 
+    /// Determines anew from which number on functions may cover commands, once one has covered none of them, so that the
+    /// next one like it needn't look along the set. Where they didn't go up along it they may do so now.
+    fn renumber(&mut self, cover: &Cover)
+        ensures { self.new ≡ self.old }
+    {
+        let Cover::Below { .. } = *cover else {
+            return;
+        };
+        if self.ascends {
+            self.covered_from = oldest_covered_from(&self.members);
+            return;
+        }
+        let numbers = Numbers::of(&self.members);
+        self.covered_from = numbers.least;
+        self.ascends = numbers.ascends;
+        self.ascends_to = numbers.most;
+    }
+
     /// The command at this place leaves, and is the answer.
     fn take_out(&mut self, at: usize) -> Task
         requires { at < length self.old.list }
@@ -391,24 +400,5 @@ fn covered_from_with(covered_from: i64, len: usize, task: &Task) -> i64
         task.covered_from()
     } else {
         covered_from.min(task.covered_from())
-    }
-}
-
-/// Whether the numbers from which on functions may cover the commands of a set go up along it, once this one has entered
-/// behind `len` others, none of whose is above `to` if they go up.
-fn ascends_with(ascends: bool, to: i64, len: usize, task: &Task) -> bool
-    ensures { result ≡ ascends_with ascends to len task.now }
-{
-    len == 0 || ascends && to <= task.covered_from()
-}
-
-/// From which number on functions may cover commands of a set, once this has covered none of them. For a function it is
-/// determined anew, so that the next one like it needn't look along the set.
-fn covered_from_after(covered_from: i64, ascends: bool, cover: &Cover, members: &Roster) -> i64
-    ensures { result ≡ covered_from_after covered_from ascends cover.now members.now.items }
-{
-    match *cover {
-        Cover::Below { .. } => least_covered_from(members, ascends),
-        _ => covered_from,
     }
 }

@@ -1,12 +1,12 @@
-use Rattle.std.proofs.Common.{◌≡◌, ◌∙◌, ◌≤◌, ℤ, Bool, filter, true, List, length, w64, to_z, of_z, map, rules, ap, sym, subst, arith}
+use Rattle.std.proofs.Common.{◌≡◌, ◌∙◌, ◌≤◌, Bool, filter, true, List, length, w64, map, rules, ap, sym, subst, arith}
 use Rattle.std.proofs.lemmas.Int.{to_z-of_z}
 use Rattle.iscsi_tasks.specs.declared.task.Task.{Task}
 use Rattle.iscsi_tasks.specs.declared.member.Member.{Member}
 use Rattle.iscsi_tasks.specs.Sets.{Members, InOrder, is_covered, list_staying, set_staying}
 use Rattle.iscsi_tasks.specs.Changes.{Change, StandsFor, live, after_all_left}
-use Rattle.iscsi_tasks.specs.Counted.{IsSettled, IsCoveredFrom, is_below, covered_from_after, IsAscendingTo}
+use Rattle.iscsi_tasks.specs.Counted.{IsSettled, IsCoveredFrom, is_below, IsAscendingTo}
 use Rattle.iscsi_tasks.proofs.AllLeftLemmas.{StandsFor-all_left}
-use Rattle.iscsi_tasks.proofs.CoveredFromLemmas.{covered_from_past, covered_from_staying}
+use Rattle.iscsi_tasks.proofs.CoveredFromLemmas.{covered_from_staying}
 use Rattle.iscsi_tasks.proofs.FrontLemmas.{ascending_staying}
 use Rattle.iscsi_tasks.proofs.StayingLemmas.{length-staying, settled-staying, staying_set, set_stays}
 use Rattle.iscsi_tasks.proofs.set.TaskSet.leave_covered.Goals as goal
@@ -34,9 +34,6 @@ invariant_of-self c =
     let items : c.remove_covered.new.members.items ≡ rest = c.remove_covered.ensures.items in
     let long : length c.remove_covered.new.members.items ≡ length rest = ap length items in
     let most : length rest ≤ length i.members.items = length-staying (is_covered cover) i.members.items in
-    let number : to_z w64 (of_z w64 c.covered_from_after-self-inside.result) ≡ covered_from_after i.covered_from i.ascends cover c.remove_covered.new.members.items =
-    to_z-of_z w64 c.covered_from_after-self-inside.result (search rules) ∙ c.covered_from_after-self-inside.ensures
-    ∙ ap (λ n. covered_from_after n i.ascends cover c.remove_covered.new.members.items) (to_z-of_z w64 i.covered_from (search rules)) in
     let kept : IsCoveredFrom i.covered_from (map (λ m. m.task) c.remove_covered.new.members.items) =
     subst (λ (l : List Member). IsCoveredFrom i.covered_from (map (λ m. m.task) l)) (sym items) (covered_from_staying i.covered_from (is_covered cover) i.members.items c.self.invariant.kept.covered_from) in
     let up : i.ascends ≡ true → IsAscendingTo i.ascends_to c.remove_covered.new.members.items =
@@ -49,8 +46,7 @@ invariant_of-self c =
         most = c.self.invariant.kept.most;
         counted = c.remove_covered.ensures.counted;
         settled = subst IsSettled (sym items) (settled-staying (is_covered cover) i.members.items c.self.invariant.kept.settled);
-        covered_from = subst (λ (n : ℤ). IsCoveredFrom n (map (λ m. m.task) c.remove_covered.new.members.items)) (sym number)
-            (covered_from_past i.covered_from i.ascends c.remove_covered.new.members.items cover (λ yes. (up yes).ascending) kept);
+        covered_from = kept;
       };
       front = up;
     }
@@ -59,7 +55,7 @@ pub returns-clause-state : goal.returns-clause-state
 returns-clause-state c =
     let i = c.self.inside in
     let v : Members = record { depth = i.depth; looked = i.looked; list = i.members.items } in
-    ap (λ (l : List Member). let s : Members = record { depth = i.depth; looked = i.looked; list = l } in s) c.remove_covered.ensures.items
+    c.renumber.ensures ∙ ap (λ (l : List Member). let s : Members = record { depth = i.depth; looked = i.looked; list = l } in s) c.remove_covered.ensures.items
     ∙ staying_set (is_covered c.args.cover.now) v ∙ ap (set_staying (is_covered c.args.cover.now)) c.self.view_is
 
 pub returns-clause-stands : goal.returns-clause-stands

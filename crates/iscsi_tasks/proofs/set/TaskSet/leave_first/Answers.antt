@@ -1,10 +1,10 @@
-use Rattle.std.proofs.Common.{◌≡◌, ◌∙◌, ◌∷◌, ℤ, true, None, w64, to_z, of_z, map, rules, ap, sym, subst, find}
+use Rattle.std.proofs.Common.{◌≡◌, ◌∙◌, ◌∷◌, true, None, w64, rules, ap, sym, subst, find}
 use Rattle.std.proofs.lemmas.Int.{to_z-of_z}
 use Rattle.iscsi_tasks.specs.Sets.{Members, tasks_in, left_by, is_covered}
-use Rattle.iscsi_tasks.specs.Counted.{IsCoveredFrom, is_below, covered_from_after}
+use Rattle.iscsi_tasks.specs.Counted.{is_below}
 use Rattle.iscsi_tasks.specs.Changes.{Left, StandsFor}
 use Rattle.iscsi_tasks.proofs.CoverLemmas.{absent, present}
-use Rattle.iscsi_tasks.proofs.CoveredFromLemmas.{covered_from_past, nothing_covered}
+use Rattle.iscsi_tasks.proofs.CoveredFromLemmas.{nothing_covered}
 use Rattle.iscsi_tasks.proofs.HistoryLemmas.{StandsFor-left}
 use Rattle.iscsi_tasks.proofs.set.TaskSet.leave_first.Goals as goal
 
@@ -26,40 +26,19 @@ pub returns-then-is_below-clause-stands : goal.returns-then-is_below-clause-stan
 returns-then-is_below-clause-stands c = λ h st. (sym (nothing c) ∙ ap (find (is_covered c.args.cover.now)) st.tasks, st)
 
 -- nor where the search found nothing
-past : (c : goal.After-self-1) → find (is_covered c.args.cover.now) (tasks_in c.args.self.now) ≡ None
+past : (c : goal.After-renumber) → find (is_covered c.args.cover.now) (tasks_in c.args.self.now) ≡ None
 past c =
     let i = c.self.inside in
     absent (is_covered c.args.cover.now) c.args.self.now (record { depth = i.depth; looked = i.looked; list = i.members.items }) c.self.view_is (sym c.first_covered.ensures ∙ c.in_default.is)
-
-pub invariant_of-self : goal.invariant_of-self
-invariant_of-self c =
-    let i = c.self.inside in
-    let cover = c.args.cover.now in
-    let number : to_z w64 (of_z w64 c.covered_from_after-self-inside.result) ≡ covered_from_after i.covered_from i.ascends cover i.members.items =
-    to_z-of_z w64 c.covered_from_after-self-inside.result (search rules) ∙ c.covered_from_after-self-inside.ensures
-    ∙ ap (λ n. covered_from_after n i.ascends cover i.members.items) (to_z-of_z w64 i.covered_from (search rules)) in
-    record {
-      kept = record {
-        least = c.self.invariant.kept.least;
-        within = c.self.invariant.kept.within;
-        room_left = c.self.invariant.kept.room_left;
-        most = c.self.invariant.kept.most;
-        counted = c.self.invariant.kept.counted;
-        settled = c.self.invariant.kept.settled;
-        covered_from = subst (λ (n : ℤ). IsCoveredFrom n (map (λ m. m.task) i.members.items)) (sym number)
-            (covered_from_past i.covered_from i.ascends i.members.items cover (λ yes. (c.self.invariant.front yes).ascending) c.self.invariant.kept.covered_from);
-      };
-      front = c.self.invariant.front;
-    }
 
 pub returns-in_default-clause-answer : goal.returns-in_default-clause-answer
 returns-in_default-clause-answer c = sym (past c)
 
 pub returns-in_default-clause-state : goal.returns-in_default-clause-state
-returns-in_default-clause-state c = c.self.view_is ∙ sym (ap (left_by c.args.self.now) (past c))
+returns-in_default-clause-state c = c.renumber.ensures ∙ sym (ap (left_by c.args.self.now) (past c))
 
 pub returns-in_default-clause-stands : goal.returns-in_default-clause-stands
-returns-in_default-clause-stands c = λ h st. (sym (past c) ∙ ap (find (is_covered c.args.cover.now)) st.tasks, subst (λ (s : Members). StandsFor s h) (sym c.self.view_is) st)
+returns-in_default-clause-stands c = λ h st. (sym (past c) ∙ ap (find (is_covered c.args.cover.now)) st.tasks, subst (λ (s : Members). StandsFor s h) (sym c.renumber.ensures) st)
 
 pub returns-clause-answer : goal.returns-clause-answer
 returns-clause-answer c =
