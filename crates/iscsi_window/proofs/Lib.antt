@@ -6,3 +6,4 @@ pub mod SinceLemmas
 pub mod SoundLemmas
 pub mod TagLemmas
 pub mod BoundLemmas
+pub mod LabelLemmas

@@ -3,7 +3,9 @@
 ghost use Rattle.std.specs.Prelude.{◌≡◌, ℕ, List, [], ◌∷◌, ◌++◌, ◌≤◌, ◌<◌, length, drop, replicate, slice_set, slice_index_or, Option, Some, None, IfOk, position, take, not, is_some, if◌then◌else◌};
 ghost use Rattle.circular_buffer.specs.Buffer.{buffer};
 ghost use Rattle.iscsi_window.specs.Windows.{is_command, is_held_from};
+ghost use Rattle.iscsi_window.specs.PlaceTags.{IsFirstBetween};
 
+use crate::place_tags::{PlaceTags, side_by_side};
 use crate::tags::{TagBounds, TagCounts};
 use circular_buffer::HeapCircularBuffer;
 use iscsi_wire::{Request, unit_of};
@@ -19,7 +21,7 @@ pub(crate) type Received = Option<Option<Request>>;
 /// As many of them as the window has places, at every time.
 type Ring = HeapCircularBuffer<Received>;
 
-/// The places, of which contracts see the ring alone. The counters and bounds say where a search need not look.
+/// The places, of which contracts see the ring alone. The counters, bounds and tags say where a search need not look.
 #[derive(Drop)]
 pub(crate) struct Places {
     ring: Ring,
@@ -27,6 +29,7 @@ pub(crate) struct Places {
     received: u32,
     tags: TagCounts,
     bounds: TagBounds,
+    labels: PlaceTags,
     /// How many places turned, which is the number of the first place. It counts no further than it can.
     turned: u64,
 }
@@ -35,13 +38,13 @@ impl Model for Places {
     ghost use Rattle.std.specs.Prelude.{Option};
     ghost use Rattle.circular_buffer.specs.Buffer.{Buffer};
     ghost use Rattle.iscsi_wire.specs.declared.request.Request.{Request};
-    ghost use Rattle.iscsi_window.specs.Tags.{ArePlacesSound};
+    ghost use Rattle.iscsi_window.specs.PlaceTags.{ArePlacesFound};
 
     ghost Value = { Buffer (Option (Option Request)) };
 
     ghost view = { λ p. p.ring };
 
-    ghost invariant = { λ p. ArePlacesSound p.tags p.bounds p.turned p.received p.ring.items };
+    ghost invariant = { λ p. ArePlacesFound p.tags p.bounds p.labels p.turned p.received p.ring.items };
 }
 
 /// So many places, and nothing received.
@@ -52,11 +55,13 @@ pub(crate) fn empty_places(alloc: Global, size: u32) -> Result<Places, AllocErro
     let ring = empty_ring(alloc, size)?;
     let tags = TagCounts::open(alloc)?;
     let bounds = TagBounds::open(alloc)?;
+    let labels = PlaceTags::open(alloc)?;
     Ok(Places {
         ring,
         received: 0,
         tags,
         bounds,
+        labels,
         turned: 0,
     })
 }
@@ -102,6 +107,7 @@ pub(crate) fn fill(places: &mut Places, k: u32, held: Option<Request>) -> bool
     let is_only = places.tags.is_none_like(&received);
     places.bounds.occupy(&received, number, is_only);
     places.tags.raise(&received);
+    places.labels.put(&received, number);
     places.received += 1;
     *place = received;
     true
@@ -179,8 +185,8 @@ pub(crate) fn holds_from(received: &Received, conn: Option<u16>) -> bool
     }
 }
 
-/// The first of the places below `end` where a SCSI Command with this tag and to this unit is held. It looks from the
-/// bound of the tag's group on.
+/// The first of the places below `end` where a SCSI Command with this tag and to this unit is held. It looks at the
+/// bound of the tag's group, and from there on block by block, into none that hasn't the tag.
 pub(crate) fn first_command(places: &Places, end: u32, itt: u32, unit: u16) -> Option<u32>
     requires { length places.now.items ≤ 1024 }
     ensures { result ≡ position (is_command itt unit) (take end places.now.items) }
@@ -190,7 +196,30 @@ pub(crate) fn first_command(places: &Places, end: u32, itt: u32, unit: u16) -> O
     }
     let end = end.min(places.ring.len() as u32);
     let bound = places.bounds.of(itt).saturating_sub(places.turned);
-    for k in bound.min(end as u64) as u32..end {
+    let first = bound.min(end as u64) as u32;
+    if holds_command_at(places, first, itt, unit) && first < end {
+        return Some(first);
+    }
+    let mut k = first;
+    while k < end {
+        let number = places.turned.saturating_add(k as u64);
+        let count = side_by_side(number, end - k);
+        if places.labels.may_have(number, count, itt) {
+            let found = first_between(places, k, k + count, itt, unit);
+            if found.is_some() {
+                return found;
+            }
+        }
+        k += count;
+    }
+    None
+}
+
+/// The first place from `from` on, below `end`, where a SCSI Command with this tag and to this unit is held.
+fn first_between(places: &Places, from: u32, end: u32, itt: u32, unit: u16) -> Option<u32>
+    ensures { IsFirstBetween (is_command itt unit) places.now.items from end result }
+{
+    for k in from..end {
         if holds_command_at(places, k, itt, unit) {
             return Some(k);
         }

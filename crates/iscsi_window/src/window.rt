@@ -187,7 +187,7 @@ impl Window {
     ///
     /// Where no request is held whose tag leaves the same remainder on division by 4,093, it looks at no place, and
     /// else at none below the first of those requests. An initiator that chooses its tags to leave the same remainder
-    /// makes it look at each place below `below`.
+    /// makes it look at the tag of each place below `below`, and one that gives one tag to all at each of the requests.
     pub fn find_held(&self, itt: u32, unit: u16, below: u32) -> Option<u32>
         ensures answer { result ≡ option_map (number_shown self.now) (find_command self.now itt unit below) }
         ensures answer_since { (h : List Change) → StandsFor self.now h →

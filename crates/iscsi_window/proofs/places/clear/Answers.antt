@@ -7,18 +7,24 @@ use Rattle.iscsi_window.proofs.TagLemmas.{read_held, put_counted}
 use Rattle.std.proofs.lemmas.Option.{slice_get_within, get_or_from_slice_get}
 use Rattle.iscsi_window.proofs.BoundLemmas.{bounds_cleared}
 use Rattle.iscsi_window.proofs.ReceivedLemmas.{one, one_most, received_set}
+use Rattle.iscsi_window.proofs.LabelLemmas.{labels_cleared}
 use Rattle.iscsi_window.proofs.places.clear.Goals as goal
 
 pub lower-requires : goal.lower-requires
-lower-requires c = read_held c.places.inside.tags c.places.inside.ring.items c.args.k _ c.places.invariant.tags (sym c.get_mut.ensures.value ∙ ap option_copied_mut c.in-Some.is)
+lower-requires c = read_held c.places.inside.tags c.places.inside.ring.items c.args.k _ c.places.invariant.sound.tags (sym c.get_mut.ensures.value ∙ ap option_copied_mut c.in-Some.is)
 
 pub invariant_of-places : goal.invariant_of-places
 invariant_of-places c =
     let read = sym c.get_mut.ensures.value ∙ ap option_copied_mut c.in-Some.is in
-    let within = slice_get_within c.places.inside.ring.items c.args.k _ read in record {
-      tags = rw c.lower.ensures (put_counted c.places.inside.tags c.places.inside.ring.items c.args.k _ (Some None) c.places.invariant.tags read);
-      lowest = rw (c.vacate.ensures, c.saturating_add-number.ensures) (bounds_cleared c.places.inside.bounds c.places.inside.turned c.places.inside.ring.items c.args.k c.places.invariant.lowest within _);
-      as_many = let more = received_set c.places.inside.ring.items c.args.k (Some None) within in let before = ap one (get_or_from_slice_get c.places.inside.ring.items c.args.k _ None read) in let counted : c.count.result ≡ one c.in-Some.place.now = c.count.ensures in omega (arith, more, before, counted, one_most c.in-Some.place.now, c.places.invariant.as_many);
+    let within = slice_get_within c.places.inside.ring.items c.args.k _ read in
+    let s = c.places.invariant.sound in
+    record {
+      sound = record {
+        tags = rw c.lower.ensures (put_counted c.places.inside.tags c.places.inside.ring.items c.args.k _ (Some None) s.tags read);
+        lowest = rw (c.vacate.ensures, c.saturating_add-number.ensures) (bounds_cleared c.places.inside.bounds c.places.inside.turned c.places.inside.ring.items c.args.k s.lowest within _);
+        as_many = let more = received_set c.places.inside.ring.items c.args.k (Some None) within in let before = ap one (get_or_from_slice_get c.places.inside.ring.items c.args.k _ None read) in let counted : c.count.result ≡ one c.in-Some.place.now = c.count.ensures in omega (arith, more, before, counted, one_most c.in-Some.place.now, s.as_many);
+      };
+      labels = labels_cleared c.places.inside.labels c.places.inside.turned c.places.inside.ring.items c.args.k c.places.invariant.labels s.tags.few within;
     }
 
 pub returns-in_default : goal.returns-in_default

@@ -1,11 +1,15 @@
 use Rattle.iscsi_window.proofs.TagLemmas.{opened_counted}
 use Rattle.iscsi_window.proofs.BoundLemmas.{opened_bounds}
 use Rattle.iscsi_window.proofs.ReceivedLemmas.{none_received}
+use Rattle.iscsi_window.proofs.LabelLemmas.{opened_labels}
 use Rattle.iscsi_window.proofs.places.empty_places.Goals as goal
 
 pub invariant_of-result : goal.invariant_of-result
 invariant_of-result c = record {
-  tags = rw (c.in_ok-tags.ensures, c.in_ok-ring.ensures) (opened_counted c.args.size c.requires);
-  lowest = rw (c.in_ok-bounds.ensures, c.in_ok-ring.ensures) (opened_bounds c.args.size);
-  as_many = rw c.in_ok-ring.ensures (none_received c.args.size);
+  sound = record {
+    tags = rw (c.in_ok-tags.ensures, c.in_ok-ring.ensures) (opened_counted c.args.size c.requires);
+    lowest = rw (c.in_ok-bounds.ensures, c.in_ok-ring.ensures) (opened_bounds c.args.size);
+    as_many = rw c.in_ok-ring.ensures (none_received c.args.size);
+  };
+  labels = rw (c.in_ok-labels.ensures, c.in_ok-ring.ensures) (opened_labels c.args.size);
 }

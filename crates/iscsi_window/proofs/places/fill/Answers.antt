@@ -7,6 +7,7 @@ use Rattle.iscsi_window.proofs.PlaceLemmas.{set_same, none_there}
 use Rattle.iscsi_window.proofs.TagLemmas.{is_few, raised_counted}
 use Rattle.iscsi_window.proofs.BoundLemmas.{bounds_filled}
 use Rattle.iscsi_window.proofs.ReceivedLemmas.{one, received_set}
+use Rattle.iscsi_window.proofs.LabelLemmas.{labels_put}
 use Rattle.iscsi_window.proofs.places.fill.Goals as goal
 use Rattle.iscsi_window.proofs.places.fill.Goals.{In-Some}
 
@@ -18,7 +19,7 @@ was : (c : In-Some) → get_or c.args.places.now.items c.args.k None ≡ c.in-So
 was c = ap (λ b. get_or b.items c.args.k None) (sym c.places.view_is) ∙ get_or_from_slice_get c.places.inside.ring.items c.args.k c.in-Some.place.now None (read c)
 
 pub raise-requires : goal.raise-requires
-raise-requires c = λ g. is_few c.places.inside.tags c.places.inside.ring.items g c.places.invariant.tags
+raise-requires c = λ g. is_few c.places.inside.tags c.places.inside.ring.items g c.places.invariant.sound.tags
 
 pub invariant_of-places : goal.invariant_of-places
 invariant_of-places c = rw (set_same c.places.inside.ring.items c.args.k c.in-Some.place.now (read (goal.at.invariant_of-places c).In-Some)) c.places.invariant
@@ -33,11 +34,16 @@ returns-then-is_some-clause-state c =
 pub invariant_of-places-2 : goal.invariant_of-places-2
 invariant_of-places-2 c =
     let within = slice_get_within c.places.inside.ring.items c.args.k c.in-Some.place.now (read (goal.at.invariant_of-places-2 c).In-Some) in
-    let free = get_or_from_slice_get c.places.inside.ring.items c.args.k c.in-Some.place.now None (read (goal.at.invariant_of-places-2 c).In-Some) ∙ none_there c.in-Some.place.now (sym c.is_some.ensures ∙ c.if-is_some.false) in record {
-      tags = rw c.raise.ensures (raised_counted c.places.inside.tags c.places.inside.ring.items c.args.k (Some c.args.held) c.places.invariant.tags within free);
-      lowest = rw (c.occupy.ensures, c.saturating_add-number.ensures, c.is_none_like-is_only.ensures)
-          (bounds_filled c.places.inside.tags c.places.inside.bounds c.places.inside.turned c.places.inside.ring.items c.args.k (Some c.args.held) c.places.invariant.tags c.places.invariant.lowest within);
-      as_many = let more = received_set c.places.inside.ring.items c.args.k (Some c.args.held) within in let before = ap one free in omega (arith, more, before, c.places.invariant.as_many);
+    let free = get_or_from_slice_get c.places.inside.ring.items c.args.k c.in-Some.place.now None (read (goal.at.invariant_of-places-2 c).In-Some) ∙ none_there c.in-Some.place.now (sym c.is_some.ensures ∙ c.if-is_some.false) in
+    let s = c.places.invariant.sound in
+    record {
+      sound = record {
+        tags = rw c.raise.ensures (raised_counted c.places.inside.tags c.places.inside.ring.items c.args.k (Some c.args.held) s.tags within free);
+        lowest = rw (c.occupy.ensures, c.saturating_add-number.ensures, c.is_none_like-is_only.ensures)
+            (bounds_filled c.places.inside.tags c.places.inside.bounds c.places.inside.turned c.places.inside.ring.items c.args.k (Some c.args.held) s.tags s.lowest within);
+        as_many = let more = received_set c.places.inside.ring.items c.args.k (Some c.args.held) within in let before = ap one free in omega (arith, more, before, s.as_many);
+      };
+      labels = rw (c.put.ensures, c.saturating_add-number.ensures) (labels_put c.places.inside.labels c.places.inside.turned c.places.inside.ring.items c.args.k (Some c.args.held) c.places.invariant.labels s.tags.few within);
     }
 
 pub returns-clause-answer : goal.returns-clause-answer

@@ -1,35 +1,58 @@
-use Rattle.std.proofs.Common.{◌≡◌, ◌%◌, ◌<◌, ◌-◌, ◌∙◌, get_or, None, length, ap, sym, position, take, arith, ⊎_elim, Option}
-use Rattle.std.proofs.lemmas.Bool.{eqb-true, cases_eq}
+use Rattle.std.proofs.Common.{◌≡◌, ◌%◌, ◌+◌, ◌<◌, ◌≤◌, false, ℕ, ◌-◌, ◌∙◌, get_or, None, length, ap, sym, position, take, arith, ⊎_elim, Option}
+use Rattle.std.proofs.lemmas.Bool.{eqb-true, cases_lt}
 use Rattle.iscsi_wire.specs.declared.request.Request.{Request}
 use Rattle.circular_buffer.specs.Buffer.{Buffer}
 use Rattle.iscsi_window.specs.Windows.{is_command}
 use Rattle.iscsi_window.proofs.TagLemmas.{none_found}
 use Rattle.iscsi_window.proofs.BoundLemmas.{none_before, found_below, none_below}
+use Rattle.iscsi_window.proofs.LabelLemmas.{untagged, none_between, first_between}
 use Rattle.iscsi_window.proofs.places.first_command.Goals as goal
+use Rattle.iscsi_window.proofs.places.first_command.Goals.{After-min-first, then-may_have+else-is_some, else-may_have}
 
 pub returns-then-is_none : goal.returns-then-is_none
 returns-then-is_none c =
     let zero : get_or c.places.inside.tags (c.args.itt % 4093) 0 ≡ 0 = eqb-true (get_or c.places.inside.tags (c.args.itt % 4093) 0) 0 (sym c.is_none.ensures ∙ c.if-is_none.true) in
-    sym (none_found c.places.inside.tags c.places.inside.ring.items c.args.itt c.args.unit c.args.end c.places.invariant.tags zero)
+    sym (none_found c.places.inside.tags c.places.inside.ring.items c.args.itt c.args.unit c.args.end c.places.invariant.sound.tags zero)
     ∙ ap (λ b. position (is_command c.args.itt c.args.unit) (take c.args.end b.items)) c.places.view_is
 
-pub loop-k-init : goal.loop-k-init
-loop-k-init c = λ j below.
-    let short : j < get_or c.places.inside.bounds (c.args.itt % 4093) 0 - c.places.inside.turned = omega (arith, below, c.of.ensures, c.saturating_sub-bound.ensures) in
+-- no place before the first of the search holds one
+none_yet : (c : After-min-first) (j : ℕ) → j < c.min-first.result → is_command c.args.itt c.args.unit (get_or c.args.places.now.items j None) ≡ false
+none_yet c j below =
+    let short : j < get_or c.places.inside.bounds (c.args.itt % 4093) 0 - c.places.inside.turned = omega (arith, below, c.of.ensures, c.saturating_sub-bound.ensures, c.min-first.ensures) in
     ap (λ b. is_command c.args.itt c.args.unit (get_or b.items j None)) (sym c.places.view_is)
-    ∙ none_before c.places.inside.bounds c.places.inside.turned c.places.inside.ring.items c.args.itt c.args.unit j c.places.invariant.lowest short
+    ∙ none_before c.places.inside.bounds c.places.inside.turned c.places.inside.ring.items c.args.itt c.args.unit j c.places.invariant.sound.lowest short
 
+pub returns-then-first-end : goal.returns-then-first-end
+returns-then-first-end c =
+    let long = ap (λ (b : Buffer (Option (Option Request))). length b.items) c.places.view_is in
+    found_below (is_command c.args.itt c.args.unit) c.args.places.now.items c.args.end None c.min-first.result
+    (omega (arith, long, c.if-first-end.true, c.min-end.ensures, c.len.ensures.len)) (omega (arith, c.if-first-end.true, c.min-end.ensures))
+    (none_yet (goal.at.returns-then-first-end c).After-min-first) (sym c.holds_command_at.ensures ∙ c.if-holds_command_at.true)
+
+pub loop-k-init : goal.loop-k-init
+loop-k-init c = none_yet (goal.at.loop-k-init c).After-min-first
+
+-- no place of the block has a command, or none has the tag
 pub loop-k-preserved : goal.loop-k-preserved
 loop-k-preserved c = λ j below. ⊎_elim
-    (λ same. ap (λ n. is_command c.args.itt c.args.unit (get_or c.args.places.now.items n None)) same ∙ sym c.holds_command_at.ensures ∙ c.if-holds_command_at.false)
-    (λ apart. c.loop-k.invariant j (omega (arith, below, apart)))
-    (cases_eq j c.loop-k.k)
+    (λ before. c.loop-k.invariant j before)
+    (λ inside. elim c.if-may_have.branch [
+      | then-may_have+else-is_some w ↦
+          none_between (is_command c.args.itt c.args.unit) c.args.places.now.items c.loop-k.k (c.loop-k.k + c.side_by_side-count.result) w.first_between-found.result w.first_between-found.ensures (sym w.is_some.ensures ∙ w.if-is_some.false) j inside (omega (arith, below))
+      | else-may_have w ↦
+          ap (λ b. is_command c.args.itt c.args.unit (get_or b.items j None)) (sym c.places.view_is)
+          ∙ untagged c.places.inside.labels c.places.inside.turned c.places.inside.ring.items c.args.itt c.args.unit c.loop-k.k c.side_by_side-count.result c.saturating_add-number.result j c.places.invariant.labels c.saturating_add-number.ensures
+          (c.may_have.ensures.fits w.if-may_have.false) c.side_by_side-count.ensures.together (c.may_have.ensures.none w.if-may_have.false) inside (omega (arith, below))
+    ])
+    (cases_lt j c.loop-k.k)
 
-pub returns-then-holds_command_at : goal.returns-then-holds_command_at
-returns-then-holds_command_at c =
+pub returns-then-is_some : goal.returns-then-is_some
+returns-then-is_some c =
     let long = ap (λ (b : Buffer (Option (Option Request))). length b.items) c.places.view_is in
-    found_below (is_command c.args.itt c.args.unit) c.args.places.now.items c.args.end None c.loop-k.k
-    (omega (arith, long)) (omega arith) c.loop-k.invariant (sym c.holds_command_at.ensures ∙ c.if-holds_command_at.true)
+    let to : ℕ = c.loop-k.k + c.side_by_side-count.result in
+    let short : to ≤ c.min-end.result = omega (arith, c.side_by_side-count.ensures.most, c.loop-k-test.true) in
+    first_between (is_command c.args.itt c.args.unit) c.args.places.now.items c.args.end c.loop-k.k to c.first_between-found.result c.first_between-found.ensures (sym c.is_some.ensures ∙ c.if-is_some.true)
+    (omega (arith, short, c.min-end.ensures)) (omega (arith, long, short, c.min-end.ensures, c.len.ensures.len)) c.loop-k.invariant
 
 pub returns : goal.returns
 returns c =

@@ -1,6 +1,8 @@
-use Rattle.std.proofs.Common.{◌≡◌, ◌∙◌, [], ◌∷◌, ◌++◌, ◌<◌, length, drop, count_by, is_some, None, ap, sym, subst, arith}
+use Rattle.std.proofs.Common.{◌≡◌, ◌∙◌, [], ◌∷◌, ◌++◌, ◌<◌, length, drop, count_by, is_some, None, ap, sym, subst, arith, min, ◌+◌, ◌-◌, ◌^◌}
 use Rattle.circular_buffer.specs.Buffer.{buffer}
 use Rattle.iscsi_window.proofs.ReceivedLemmas.{turned_sound, passed_sound, turns_into_itself}
+use Rattle.iscsi_window.specs.PlaceTags.{AreLabelled}
+use Rattle.iscsi_window.proofs.LabelLemmas.{labels_turned}
 use Rattle.iscsi_window.proofs.places.turn_first.Goals as goal
 use Rattle.iscsi_window.proofs.places.turn_first.Goals.{then-places-gt0, else-places-gt0}
 
@@ -10,10 +12,16 @@ invariant_of-places c =
     elim c.if-places-gt0.branch [
       | then-places-gt0 w ↦
           rw (c.saturating_add-places-inside.ensures, w.places-inside-is, w.lower.ensures, w.count.ensures, w.turn_ring-first.ensures.answer, w.turn_ring-first.ensures.state)
-          (turned_sound c.places.inside.tags c.places.inside.bounds c.places.inside.turned c.places.inside.received c.places.inside.ring.items c.places.invariant some)
+          (record {
+            sound = turned_sound c.places.inside.tags c.places.inside.bounds c.places.inside.turned c.places.inside.received c.places.inside.ring.items c.places.invariant.sound some;
+            labels = labels_turned c.places.inside.labels c.places.inside.turned c.places.inside.ring.items c.places.invariant.labels;
+          })
       | else-places-gt0 w ↦
           rw (c.saturating_add-places-inside.ensures, w.places-inside-is)
-          (passed_sound c.places.inside.tags c.places.inside.bounds c.places.inside.turned c.places.inside.received c.places.inside.ring.items c.places.invariant some (omega (arith, c.places.invariant.as_many, w.if-places-gt0.false)))
+          (record {
+            sound = passed_sound c.places.inside.tags c.places.inside.bounds c.places.inside.turned c.places.inside.received c.places.inside.ring.items c.places.invariant.sound some (omega (arith, c.places.invariant.sound.as_many, w.if-places-gt0.false));
+            labels = subst (AreLabelled c.places.inside.labels (min (c.places.inside.turned + 1) (2 ^ 64 - 1))) (turns_into_itself c.places.inside.ring.items some (omega (arith, c.places.invariant.sound.as_many, w.if-places-gt0.false))) (labels_turned c.places.inside.labels c.places.inside.turned c.places.inside.ring.items c.places.invariant.labels);
+          })
     ]
 
 pub returns : goal.returns
@@ -21,7 +29,7 @@ returns c = elim c.if-places-gt0.branch [
   | then-places-gt0 w ↦
       ap (λ p. p.ring) w.places-inside-is ∙ w.turn_ring-first.ensures.state ∙ ap (λ b. buffer (drop 1 b.items ++ None ∷ []) b.capacity) c.places.view_is
   | else-places-gt0 w ↦
-      let none : 0 ≡ count_by is_some c.places.inside.ring.items = omega (arith, c.places.invariant.as_many, w.if-places-gt0.false) in
+      let none : 0 ≡ count_by is_some c.places.inside.ring.items = omega (arith, c.places.invariant.sound.as_many, w.if-places-gt0.false) in
       let same = turns_into_itself c.places.inside.ring.items (subst (λ b. 0 < length b.items) (sym c.places.view_is) c.requires.some) none in
       ap (λ p. p.ring) w.places-inside-is ∙ ap (λ xs. buffer xs c.places.inside.ring.capacity) (sym same) ∙ ap (λ b. buffer (drop 1 b.items ++ None ∷ []) b.capacity) c.places.view_is
 ]
