@@ -1,5 +1,5 @@
 -- Steps of the loops over digits and over their values.
-use Rattle.std.proofs.Common.{◌≡◌, ℕ, suc, ◌+◌, ◌*◌, ◌%◌, ◌<◌, ◌≤◌, max, true, List, [], ◌∷◌, ◌++◌, length, take, drop, slice_index, slice_set, Option, Some, None, Result, Ok, Err, is_some, refl, sym, ap, ◌∙◌, arith, inl, inr, get_or-set_other, get_or-set_same, below_more}
+use Rattle.std.proofs.Common.{◌≡◌, ℕ, zero, suc, ◌+◌, ◌-◌, ◌*◌, ◌%◌, ◌<◌, ◌≤◌, max, true, List, [], ◌∷◌, ◌++◌, length, take, drop, slice_index, slice_set, Option, Some, None, Result, Ok, Err, is_some, refl, sym, ap, ◌∙◌, arith, inl, inr, get_or-set_other, get_or-set_same, below_more}
 use Rattle.std.specs.Prelude.{MatchOption, IsOk}
 use Rattle.std.specs.Result.{result_ok}
 use Rattle.std.proofs.lemmas.List.{get_or_past, length-set, append_assoc, append-nil, drop_all, drop_more, take_all, take_more_set}
@@ -8,6 +8,7 @@ use Rattle.hex.specs.Hex.{decode_pairs, decode_sized, pair_value, hex_digit_valu
 use Rattle.hex.specs.declared.error.FromHexError.{FromHexError}
 use Rattle.hex.proofs.Pairs.{decode_pairs-ok_pair, decode_sized-pairs, cons_byte}
 use Rattle.hex.proofs.HexLemmas.{IsOk-decode_sized}
+use Rattle.iscsi_recording.specs.Fields.{is_digit}
 use Rattle.iscsi_recording.specs.DigitValues.{IsValue, HasNonDigit, AreValues, paired}
 
 -- ---- values of digits
@@ -66,6 +67,10 @@ one_unread text values most i len end great so =
     let w = so.none great in
     (w.0, omega (arith, w.1), unread (hex_digit_value (slice_index text w.0)) (slice_index values w.0) w.2 (digit-small (slice_index text w.0)) (so.each w.0 w.1))
 
+-- a decimal digit's value
+pub decimal_value : (c : ℕ) → is_digit c ≡ true → IsValue c (c - 48)
+decimal_value c h = let is : hex_digit_value c ≡ Some (c - 48) = grind (arith) in rw is refl
+
 -- ---- bytes of values
 
 paired-drop : (values : List ℕ) (i : ℕ) → 2 * i + 1 < length values
@@ -109,9 +114,30 @@ decoded_pairs i (a ∷ b ∷ text) (u ∷ v ∷ values) even are =
     decode_pairs-ok_pair i a b (u * 16 + v) text pair
     ∙ ap (cons_byte (u * 16 + v)) (decoded_pairs (i + 2) text values (omega arith) rest)
 
+pub decoded_all : (n : ℕ) (text values : List ℕ) → length text ≡ 2 * n → AreValues text values → result_ok (decode_sized text n) ≡ Some (paired values)
+decoded_all n text values len are =
+    ap result_ok (decode_sized-pairs text n (omega (arith, len)) (omega (arith, len)) ∙ decoded_pairs 0 text values (omega (arith, len)) are)
+
 pub decoded : (text values : List ℕ) → length text ≡ 96 → AreValues text values → result_ok (decode_sized text 48) ≡ Some (paired values)
-decoded text values len are =
-    ap result_ok (decode_sized-pairs text 48 (omega (arith, len)) (omega (arith, len)) ∙ decoded_pairs 0 text values (omega (arith, len)) are)
+decoded = decoded_all 48
+
+-- of two digits
+pub decoded_two : (high low u v : ℕ) → IsValue high u → IsValue low v → max u v < 16 → result_ok (decode_sized (high ∷ low ∷ []) 1) ≡ Some ((u * 16 + v) ∷ [])
+decoded_two high low u v first second small =
+    decoded_all 1 (high ∷ low ∷ []) (u ∷ v ∷ []) refl (record {
+      long = refl;
+      each = λ k. elim k as (λ k. k < 2 → hex_digit_value (slice_index (high ∷ low ∷ []) k) ≡ Some (slice_index (u ∷ v ∷ []) k)) [
+        | zero ↦ λ lt. read (hex_digit_value high) u (omega arith) first
+        | suc j ↦ elim j as (λ j. suc j < 2 → hex_digit_value (slice_index (high ∷ low ∷ []) (suc j)) ≡ Some (slice_index (u ∷ v ∷ []) (suc j))) [
+          | zero ↦ λ lt. read (hex_digit_value low) v (omega arith) second
+          | suc i ↦ λ lt. absurd (omega arith)
+        ]
+      ];
+      small = λ k. elim k as (λ k. slice_index (u ∷ v ∷ []) k < 16) [
+        | zero ↦ omega arith
+        | suc j ↦ elim j as (λ j. slice_index (u ∷ v ∷ []) (suc j) < 16) [ zero ↦ omega arith | suc i ↦ omega arith ]
+      ];
+    })
 
 not_ok : (r : Result (List ℕ) FromHexError) → (IsOk r → ⊥) → result_ok r ≡ None
 not_ok (Ok bytes) h = absurd (h refl)

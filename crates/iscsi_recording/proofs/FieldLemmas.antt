@@ -21,7 +21,7 @@ some_step : (b : Bool) (before after : Option ℕ) (v w : ℕ) → (before ≡ S
 some_step true before after v w f h = f h
 some_step false before after v w f h = cc
 
-push : (ds : List ℕ) (a v d : ℕ) → is_digit d ≡ true → digits_after a ds ≡ Some v → digits_after a (ds ++ d ∷ []) ≡ Some (v * 10 + (d - 48))
+pub push : (ds : List ℕ) (a v d : ℕ) → is_digit d ≡ true → digits_after a ds ≡ Some v → digits_after a (ds ++ d ∷ []) ≡ Some (v * 10 + (d - 48))
 push [] a v d t h =
     let same : a ≡ v = cc in
     ap (λ b. cond b (Some (a * 10 + (d - 48))) None) t ∙ ap (λ k. Some (k * 10 + (d - 48))) same
@@ -172,12 +172,17 @@ blank_at : (xs ys : List ℕ) → list_any is_blank xs ≡ false → position_or
 blank_at [] ys h = refl
 blank_at (x ∷ xs) ys h = let parts = or_false (is_blank x) (list_any is_blank xs) h in rw (parts.0, blank_at xs ys parts.1) (omega arith)
 
+pub text_before : (ds text : List ℕ) → list_any is_blank ds ≡ false → before_first is_blank (ds ++ 32 ∷ text) ≡ ds
+text_before ds text clear = ap (λ k. take k (ds ++ 32 ∷ text)) (blank_at ds text clear) ∙ take_at ds (32 ∷ text) (length ds) refl
+
+pub text_after : (ds text : List ℕ) → list_any is_blank ds ≡ false → after_first is_blank (ds ++ 32 ∷ text) ≡ text
+text_after ds text clear =
+    ap (λ k. drop (k + 1) (ds ++ 32 ∷ text)) (blank_at ds text clear)
+    ∙ ap (drop (length ds + 1)) (sym (append_assoc ds (32 ∷ []) text))
+    ∙ drop_at (ds ++ 32 ∷ []) text (length ds + 1) (length_push ds 32)
+
 pub field_before : (n : ℕ) (rest : List ℕ) → before_first is_blank (decimal n ++ 32 ∷ rest) ≡ decimal n
-field_before n rest =
-    ap (λ k. take k (decimal n ++ 32 ∷ rest)) (blank_at (decimal n) rest (decimal_spared is_blank n blanks_spared)) ∙ take_at (decimal n) (32 ∷ rest) (length (decimal n)) refl
+field_before n rest = text_before (decimal n) rest (decimal_spared is_blank n blanks_spared)
 
 pub field_after : (n : ℕ) (rest : List ℕ) → after_first is_blank (decimal n ++ 32 ∷ rest) ≡ rest
-field_after n rest =
-    ap (λ k. drop (k + 1) (decimal n ++ 32 ∷ rest)) (blank_at (decimal n) rest (decimal_spared is_blank n blanks_spared))
-    ∙ ap (drop (length (decimal n) + 1)) (sym (append_assoc (decimal n) (32 ∷ []) rest))
-    ∙ drop_at (decimal n ++ 32 ∷ []) rest (length (decimal n) + 1) (length_push (decimal n) 32)
+field_after n rest = text_after (decimal n) rest (decimal_spared is_blank n blanks_spared)

@@ -1,26 +1,16 @@
 -- A number at the front of a line.
-use Rattle.std.proofs.Common.{◌≡◌, ℕ, suc, ◌+◌, ◌-◌, ◌*◌, ◌^◌, ◌<◌, ◌≤◌, ◌==◌, true, false, cond, List, [], ◌∷◌, length, get_or, take, drop, not, Result, Ok, Err, Some, None, is_some, slice_index, refl, sym, ap, ap₂, ◌∙◌, arith}
-use Rattle.std.specs.Prelude.{option_map, option_and_then, IsOk}
-use Rattle.std.specs.List.{before_first, after_first, prefix_len, list_any}
-use Rattle.std.specs.Result.{result_ok}
-use Rattle.std.proofs.lemmas.Bool.{eqb-true}
+use Rattle.std.proofs.Common.{◌≡◌, ℕ, suc, ◌+◌, ◌-◌, ◌*◌, ◌^◌, ◌<◌, ◌≤◌, ◌==◌, true, false, cond, List, [], ◌∷◌, length, get_or, take, drop, not, Some, None, refl, sym, ap, ◌∙◌, arith}
+use Rattle.std.specs.Prelude.{option_and_then}
+use Rattle.std.specs.List.{before_first, after_first, prefix_len}
 use Rattle.std.proofs.lemmas.List.{drop_more}
-use Rattle.hex.specs.Hex.{decode_sized, hex_digit_value}
-use Rattle.hex.specs.declared.error.FromHexError.{FromHexError}
-use Rattle.hex.proofs.HexLemmas.{IsOk-decode_sized}
 use native.Mathlib.Numerals.{unary_clauses}
-use Rattle.iscsi_history.specs.declared.event.Event.TheVariants.{Arrive}
 use Rattle.iscsi_recording.proofs.Digits.{digit_small, has_room}
-use Rattle.iscsi_recording.proofs.LineLemmas.{no_end-all}
-use Rattle.iscsi_recording.specs.Fields.{is_blank, is_digit, digits_after, up_to, decimal_of, hex_of}
-use Rattle.iscsi_recording.specs.Grammar.{line_of}
-use Rattle.iscsi_recording.specs.Reading.{is_end}
-use Rattle.iscsi_recording.specs.declared.line.Line.TheVariants as line
+use Rattle.iscsi_recording.specs.Fields.{is_blank, is_digit, digits_after, up_to, decimal_of}
 
-within : (max n : ℕ) → n ≤ max → up_to max n ≡ Some n
+pub within : (max n : ℕ) → n ≤ max → up_to max n ≡ Some n
 within max n h = grind arith
 
-pow_grows : (i : ℕ) → 10 ^ (i + 1) ≡ 10 * 10 ^ i
+pub pow_grows : (i : ℕ) → 10 ^ (i + 1) ≡ 10 * 10 ^ i
 pow_grows i = simp unary_clauses (omega arith)
 
 -- n is the number of the first i bytes, which are digits
@@ -63,7 +53,7 @@ count_step bytes n i lt digit so =
       small = omega (arith, so.small, few, grows);
     }
 
-led : (b : ℕ) (xs : List ℕ) (max : ℕ) → (b == 48) ≡ false → decimal_of max (b ∷ xs) ≡ option_and_then (up_to max) (digits_after 0 (b ∷ xs))
+pub led : (b : ℕ) (xs : List ℕ) (max : ℕ) → (b == 48) ≡ false → decimal_of max (b ∷ xs) ≡ option_and_then (up_to max) (digits_after 0 (b ∷ xs))
 led b [] max h = refl
 led b (e ∷ xs) max h = rw h refl
 
@@ -93,62 +83,3 @@ count_done bytes n i lt few blank lead first so =
       decimal_at bytes n (2 ^ 64 - 1) (omega arith) zero other (omega (arith, room)) value,
       sym ends.1 ∙ sym (ap (after_first is_blank) cons) ∙ so.rest,
     )
-
--- an arrival on a connection of one digit
-pub one_digit : (d : ℕ) (text header : List ℕ) → is_digit d ≡ true → hex_of 48 text ≡ Some header
-    → line_of (67 ∷ 32 ∷ d ∷ 32 ∷ text) ≡ Some (line.Event (Arrive (d - 48) header))
-one_digit d text header digit hex =
-    let other = digit-other d digit in
-    let small : d - 48 ≤ 9 = digit_small d digit in
-    let value : 0 * 10 + (d - 48) ≡ d - 48 = omega arith in
-    let number : decimal_of 65535 (before_first is_blank (d ∷ 32 ∷ text)) ≡ Some (d - 48) =
-    ap (decimal_of 65535) (before_first-other d (32 ∷ text) other)
-    ∙ ap (option_and_then (up_to 65535)) (next_digit 0 d [] digit ∙ ap Some value)
-    ∙ within 65535 (d - 48) (omega arith) in
-    let back : after_first is_blank (d ∷ 32 ∷ text) ≡ text = after_first-other d (32 ∷ text) other in
-    ap (option_map line.Event) (ap₂ (λ f b. option_and_then (λ cid. option_map (λ h. Arrive cid h) (hex_of 48 b)) f) number back
-    ∙ ap (option_map (λ h. Arrive (d - 48) h)) hex)
-
-ok_of : (r : Result (List ℕ) FromHexError) (bytes : List ℕ) → result_ok r ≡ Some bytes → IsOk r
-ok_of (Ok x) bytes h = refl
-ok_of (Err e) bytes h = cc
-
-digit-no_end : (d : ℕ) → is_digit d ≡ true → (d == 10) ≡ false
-digit-no_end d h = grind arith
-
--- no digit is the end of a line
-pub no_end-digits : (text header : List ℕ) → hex_of 48 text ≡ Some header → list_any is_end text ≡ false
-no_end-digits text header hex =
-    no_end-all text (λ k low high is.
-    let all = ((IsOk-decode_sized text 48).0 (ok_of (decode_sized text 48) header hex)).1 in
-    let digit : is_some (hex_digit_value (slice_index text k)) ≡ true = all k 0 high in
-    let byte : slice_index text k ≡ 10 = eqb-true (slice_index text k) 10 is in
-    cc (digit, byte))
-
--- a line of the common form begins like this
-pub record IsCommon (bytes : List ℕ) : Type 0 where
-  pub long : 4 ≤ length bytes
-  pub letter : get_or bytes 0 0 ≡ 67
-  pub blank : get_or bytes 1 0 ≡ 32
-  pub digit : is_digit (get_or bytes 2 0) ≡ true
-  pub second : get_or bytes 3 0 ≡ 32
-
-pub common_said : (bytes header : List ℕ) → IsCommon bytes → hex_of 48 (drop 4 bytes) ≡ Some header
-    → line_of bytes ≡ Some (line.Event (Arrive (get_or bytes 2 0 - 48) header))
-common_said [] header is hex = absurd (omega (arith, is.long))
-common_said (a ∷ []) header is hex = absurd (omega (arith, is.long))
-common_said (a ∷ b ∷ []) header is hex = absurd (omega (arith, is.long))
-common_said (a ∷ b ∷ d ∷ []) header is hex = absurd (omega (arith, is.long))
-common_said (a ∷ b ∷ d ∷ e ∷ text) header is hex = rw (is.letter, is.blank, is.second) (one_digit d text header is.digit hex)
-
-pub common_one : (bytes header : List ℕ) → IsCommon bytes → hex_of 48 (drop 4 bytes) ≡ Some header → list_any is_end bytes ≡ false
-common_one [] header is hex = absurd (omega (arith, is.long))
-common_one (a ∷ []) header is hex = absurd (omega (arith, is.long))
-common_one (a ∷ b ∷ []) header is hex = absurd (omega (arith, is.long))
-common_one (a ∷ b ∷ d ∷ []) header is hex = absurd (omega (arith, is.long))
-common_one (a ∷ b ∷ d ∷ e ∷ text) header is hex =
-    let letter : (a == 10) ≡ false = rw is.letter refl in
-    let blank : (b == 10) ≡ false = rw is.blank refl in
-    let digit : (d == 10) ≡ false = digit-no_end d is.digit in
-    let second : (e == 10) ≡ false = rw is.second refl in
-    rw (letter, blank, digit, second) (no_end-digits text header hex)

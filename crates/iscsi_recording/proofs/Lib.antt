@@ -12,3 +12,4 @@ pub mod SourceLemmas
 mod DigitTable
 mod DigitSteps
 mod FirstLemmas
+mod FrontLemmas

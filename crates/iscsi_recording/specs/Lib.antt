@@ -3,6 +3,7 @@ pub mod Grammar
 pub mod Faults
 pub mod Recorded
 pub mod Order
+pub mod Fronts
 pub mod Reading
 pub mod Watched
 pub mod Known

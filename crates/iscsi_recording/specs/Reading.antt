@@ -35,12 +35,12 @@ left_of w bytes = read_lines w.line (view w.so_far) (lines_of (w.pending.items +
 abbrev pub weight : Reading → ℕ
 weight w = (w.line - 1) * 257 + length w.pending.items
 
--- w took the first line of these bytes, which is an arrival on a connection of one digit, with its end, and became v
-pub record HasTakenCommon (w v : Reading) (bytes : List ℕ) : Type 0 where
-  pub long : 101 ≤ length bytes
+-- w took the first line of these bytes, which is an event and so many bytes long, with its end, and became v
+pub record HasTakenCommon (w v : Reading) (bytes : List ℕ) (size : ℕ) : Type 0 where
+  pub long : size < length bytes
   pub ready : IsReading v
-  pub read : (rest : List ℕ) → left_of v (drop 101 bytes ++ rest) ≡ left_of w (bytes ++ rest)
-  pub more : weight w + 101 ≤ weight v
+  pub read : (rest : List ℕ) → left_of v (drop (size + 1) bytes ++ rest) ≡ left_of w (bytes ++ rest)
+  pub more : weight w + size + 1 ≤ weight v
 
 -- the known bytes lost a front that was seen, and with it v became w: whatever comes yet is read to the same answer
 pub record ReadsOn (old new : Option (List ℕ)) (v w : Reading) : Type 0 where

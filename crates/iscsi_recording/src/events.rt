@@ -81,6 +81,17 @@ fn put_arrival(conn: u16, header: &[u8; 48], bytes: &mut Bytes) -> Result<(), Al
     bytes.extend(&arrival(conn, header))
 }
 
+/// Appends the bytes of a completion.
+#[inline(always)]
+fn put_completion(ticket: u64, status: u8, bytes: &mut Bytes) -> Result<(), AllocError>
+    ensures ok { OnOk result (bytes.new ≡ bytes.old ++ bytes_of (Event.Done ticket status)) }
+    ensures err { OnErr result (bytes.new ≡ bytes.old) }
+    ensures fits { Fits (Event.Done ticket status) }
+    ensures few { length bytes.old < 2 ^ 63 }
+{
+    bytes.extend(&completion(ticket, status))
+}
+
 /// Appends the bytes of an event.
 fn put(event: &Event, bytes: &mut Bytes) -> Result<(), AllocError>
     ensures ok { OnOk result (bytes.new ≡ bytes.old ++ bytes_of event.now) }
@@ -90,7 +101,7 @@ fn put(event: &Event, bytes: &mut Bytes) -> Result<(), AllocError>
 {
     match event {
         Event::Arrive { conn, header } => put_arrival(*conn, header, bytes),
-        Event::Done { ticket, status } => bytes.extend(&completion(*ticket, *status)),
+        Event::Done { ticket, status } => put_completion(*ticket, *status, bytes),
     }
 }
 
@@ -162,6 +173,17 @@ impl Events {
         ensures err { OnErr result (self.new ≡ self.old) }
     {
         put_arrival(conn, header, &mut self.bytes)?;
+        self.count += 1;
+        Ok(())
+    }
+
+    /// Puts a completion behind the others. On `Err` they stay as they were.
+    #[inline(always)]
+    pub(crate) fn push_completion(&mut self, ticket: u64, status: u8) -> Result<(), AllocError>
+        ensures ok { OnOk result (self.new ≡ self.old ++ Event.Done ticket status ∷ []) }
+        ensures err { OnErr result (self.new ≡ self.old) }
+    {
+        put_completion(ticket, status, &mut self.bytes)?;
         self.count += 1;
         Ok(())
     }

@@ -1,12 +1,12 @@
 //! One line of a recording.
 
-ghost use Rattle.std.specs.Prelude.{◌≡◌, ℕ, ◌+◌, ◌-◌, ◌*◌, ◌^◌, ◌<◌, ◌≤◌, IfSome, true, false, length, slice_index, MatchOption, option_map, option_and_then, position};
-ghost use Rattle.std.specs.List.{before_first, after_first, list_any};
+ghost use Rattle.std.specs.Prelude.{◌≡◌, ℕ, ◌+◌, ◌-◌, ◌*◌, ◌^◌, ◌<◌, ◌≤◌, IfSome, Some, true, [], ◌∷◌, length, slice_index, MatchOption, option_map, option_and_then, position};
+ghost use Rattle.std.specs.List.{before_first, after_first};
 ghost use Rattle.std.specs.Int.{w32, from_be_bytes};
 ghost use Rattle.iscsi_recording.specs.Fields.{is_blank, digits_after, is_digit, up_to, decimal_of, hex_of};
 ghost use Rattle.iscsi_recording.specs.DigitValues.{IsValue, HasNonDigit, AreValues, paired};
 ghost use Rattle.iscsi_recording.specs.Grammar.{arrival_of, completion_of, event_of, connection_of, line_of};
-ghost use Rattle.iscsi_recording.specs.Reading.{is_end};
+ghost use Rattle.iscsi_recording.specs.Fronts.{LeadsWith, FirstSays};
 
 use crate::line::Line;
 use iscsi_history::Event;
@@ -193,17 +193,121 @@ pub fn arrival(bytes: &[u8]) -> Option<Event>
     Some(Event::Arrive { conn, header })
 }
 
-/// The arrival that a line says in its common form: on a connection of one digit. `None` decides nothing.
+/// How many digits a CID has at most, and a ticket in its common form.
+const CID_DIGITS: usize = 5;
+
+const TICKET_DIGITS: usize = 18;
+
+/// How many bytes the longest line of an arrival has, and that of a completion in its common form.
+const LONGEST_ARRIVAL: usize = 2 + CID_DIGITS + 1 + 96;
+
+const LONGEST_COMPLETION: usize = 2 + TICKET_DIGITS + 1 + 2;
+
+/// The number 0 at the front of these bytes, where a blank ends it.
 #[inline(always)]
-pub fn common_arrival(line: &[u8]) -> Option<(u16, [u8; 48])>
-    ensures said { IfSome result (λ r. line_of line.now ≡ Some (Line.Event (Event.Arrive r.0 r.1))) }
-    ensures one { IfSome result (λ r. list_any is_end line.now ≡ false) }
+fn zero_first(bytes: &[u8]) -> Option<(u64, usize)>
+    requires { (1 < length bytes.now) × (slice_index bytes.now 0 ≡ 48) }
+    ensures number { IfSome result (λ r. LeadsWith bytes.now r.0 r.1) }
+    ensures one { IfSome result (λ r. r.1 ≡ 1) }
 {
-    let [b'C', b' ', d @ b'0'..=b'9', b' ', digits @ ..] = line else {
+    if bytes[1] == b' ' { Some((0, 1)) } else { None }
+}
+
+/// The number at the front of these bytes, where it has at most so many digits and a blank ends it, and how many
+/// digits it has. `None` decides nothing.
+///
+/// There are more bytes than that, so that each is looked at without a test for their end.
+#[inline(always)]
+fn number_first(bytes: &[u8], most: usize) -> Option<(u64, usize)>
+    requires few { (1 ≤ most) × (most ≤ 18) }
+    requires long { most < length bytes.now }
+    ensures number { IfSome result (λ r. LeadsWith bytes.now r.0 r.1) }
+    ensures most { IfSome result (λ r. r.1 ≤ most) }
+{
+    if bytes[0] == b'0' {
+        return zero_first(bytes);
+    }
+    let mut n = 0u64;
+    'digits: for i in 0..most + 1 {
+        let d = bytes[i];
+        if !is_decimal(d) {
+            if d != b' ' || i == 0 {
+                return None;
+            }
+            return Some((n, i));
+        }
+        n = n * 10 + u64::from(d - b'0');
+    }
+    None
+}
+
+/// The CID at the front of these bytes, and how many digits it has. `None` decides nothing.
+#[inline(always)]
+fn cid_first(bytes: &[u8]) -> Option<(u16, usize)>
+    requires { 5 < length bytes.now }
+    ensures number { IfSome result (λ r. LeadsWith bytes.now r.0 r.1) }
+    ensures most { IfSome result (λ r. (r.0 < 2 ^ 16) × (r.1 ≤ 5)) }
+{
+    let found = number_first(bytes, CID_DIGITS)?;
+    let Ok(conn) = u16::try_from(found.0) else {
         return None;
     };
-    let header = decode_48(digits)?;
-    Some((u16::from(*d - b'0'), header))
+    Some((conn, found.1))
+}
+
+/// The arrival that the first line of these bytes says, and how many bytes that line has without its end. `None`
+/// decides nothing.
+#[inline(always)]
+pub fn first_arrival(bytes: &[u8]) -> Option<(u16, [u8; 48], usize)>
+    ensures { IfSome result (λ r. FirstSays bytes.now r.2 (Event.Arrive r.0 r.1)) }
+{
+    if bytes.len() <= LONGEST_ARRIVAL || bytes[0] != b'C' || bytes[1] != b' ' {
+        return None;
+    }
+    let rest = &bytes[2..];
+    let conn = cid_first(rest)?;
+    let end = conn.1 + 97;
+    if rest[end] != b'\n' {
+        return None;
+    }
+    let header = decode_48(&rest[conn.1 + 1..end])?;
+    Some((conn.0, header, end + 2))
+}
+
+/// The byte of two hexadecimal digits.
+#[inline(always)]
+fn decode_1(high: u8, low: u8) -> Option<u8>
+    ensures { IfSome result (λ b. hex_of 1 (high ∷ low ∷ []) ≡ Some (b ∷ [])) }
+{
+    // A status has mostly no letter.
+    if is_decimal(high) && is_decimal(low) {
+        return Some((high - b'0') * 16 + (low - b'0'));
+    }
+    let high = digit_value(high);
+    let low = digit_value(low);
+    if high.max(low) < 16 {
+        Some(high * 16 + low)
+    } else {
+        None
+    }
+}
+
+/// The completion that the first line of these bytes says, where its ticket has at most 18 digits, and how many bytes
+/// that line has without its end. `None` decides nothing.
+#[inline(always)]
+pub fn first_completion(bytes: &[u8]) -> Option<(u64, u8, usize)>
+    ensures { IfSome result (λ r. FirstSays bytes.now r.2 (Event.Done r.0 r.1)) }
+{
+    if bytes.len() <= LONGEST_COMPLETION || bytes[0] != b'D' || bytes[1] != b' ' {
+        return None;
+    }
+    let rest = &bytes[2..];
+    let ticket = number_first(rest, TICKET_DIGITS)?;
+    if rest[ticket.1 + 3] != b'\n' {
+        return None;
+    }
+    let status = decode_1(rest[ticket.1 + 1], rest[ticket.1 + 2])?;
+    Some((ticket.0, status, ticket.1 + 5))
 }
 
 /// A number of up to 18 digits at the front of a line, and what stands after the blank that ends it. `None` decides

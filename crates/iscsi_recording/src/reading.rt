@@ -8,7 +8,6 @@ ghost use Rattle.iscsi_recording.specs.Reading.{is_end, IsReading, IsSoundIn, le
 ghost use Rattle.iscsi_recording.specs.Order.{ReadsInOrder};
 
 use crate::fault::ReplayFault;
-use crate::parse::common_arrival;
 use crate::recording::{MAX_LINE, MAX_LINES, Recording};
 use crate::source::Source;
 use memchr::memchr;
@@ -16,9 +15,6 @@ use std::alloc::{AllocError, Global};
 
 /// How many bytes are asked of the reader at once.
 const CHUNK: usize = 65536;
-
-/// How many bytes the line of an arrival has where its CID is one digit.
-const COMMON_LINE: usize = 100;
 
 /// A recording of which a front has been read.
 #[derive(Drop)]
@@ -90,6 +86,7 @@ impl Reading {
     }
 
     /// Takes the line that `last` and a line end complete.
+    #[inline(never)]
     fn end_line(&mut self, last: &[u8]) -> Result<(), ReplayFault>
         requires ready { IsReading self.old }
         requires one { list_any is_end last.now ≡ false }
@@ -103,29 +100,23 @@ impl Reading {
         Ok(())
     }
 
-    /// Takes the first line of these bytes with its end, where it is a whole arrival in its common form, and tells
-    /// whether it did. Whatever is wrong with a line is left to `end_line`.
-    #[inline(never)]
-    fn take_common(&mut self, left: &[u8]) -> bool
+    /// Takes the first line of these bytes with its end, where it is a whole event in a common form, and tells how many
+    /// bytes it has without its end. Otherwise it answers 0: whatever is wrong with a line is left to `end_line`.
+    #[inline(always)]
+    fn take_common(&mut self, left: &[u8]) -> usize
         requires { IsReading self.old }
-        ensures taken { result ≡ true → HasTakenCommon self.old self.new left.now }
-        ensures not { result ≡ false → self.new ≡ self.old }
+        ensures taken { 0 < result → HasTakenCommon self.old self.new left.now result }
+        ensures not { result ≡ 0 → self.new ≡ self.old }
     {
-        if left.len() <= COMMON_LINE || left[COMMON_LINE] != b'\n' || self.line > MAX_LINES {
-            return false;
+        if self.line > MAX_LINES || !self.pending.is_empty() {
+            return 0;
         }
-        if !self.pending.is_empty() {
-            return false;
-        }
-        let (line, _) = left.split_at(COMMON_LINE);
-        let Some(found) = common_arrival(line) else {
-            return false;
-        };
-        if !self.so_far.take_common(found.0, &found.1) {
-            return false;
+        let size = self.so_far.take_first(left);
+        if size == 0 {
+            return 0;
         }
         self.line += 1;
-        true
+        size
     }
 
     /// Takes each line that ends in the chunk, and keeps the front of the next.
@@ -138,8 +129,9 @@ impl Reading {
     {
         let mut left = chunk;
         'lines: loop {
-            if self.take_common(left) {
-                left = &left[COMMON_LINE + 1..];
+            let size = self.take_common(left);
+            if size > 0 {
+                left = &left[size + 1..];
                 continue;
             }
             let Some(at) = memchr(b'\n', left) else {

@@ -1,7 +1,8 @@
 //! The connections and events of a recording.
 
-ghost use Rattle.std.specs.Prelude.{◌≡◌, true, false, Some, ok_or, option_map, option_and_then, [], OnErr};
+ghost use Rattle.std.specs.Prelude.{◌≡◌, ◌<◌, true, false, Some, ok_or, option_map, option_and_then, [], OnErr};
 ghost use Rattle.iscsi_recording.specs.Grammar.{arrival_of, completion_of, line_of};
+ghost use Rattle.iscsi_recording.specs.Fronts.{TookFirst};
 ghost use Rattle.iscsi_recording.specs.Recorded.{view, take, read_line, Steps};
 ghost use Rattle.iscsi_recording.specs.declared.fault.ReplayFault.TheVariants.{BadLine};
 
@@ -9,7 +10,7 @@ use crate::conns::Conns;
 use crate::events::Events;
 use crate::fault::ReplayFault;
 use crate::line::Line;
-use crate::parse::{arrival, completion, parse_line};
+use crate::parse::{arrival, completion, first_arrival, first_completion, parse_line};
 use iscsi_history::Event;
 use std::alloc::Global;
 
@@ -104,6 +105,49 @@ impl Recording {
         ensures not { result ≡ false → self.new ≡ self.old }
     {
         self.conns.knows(conn) && self.events.push_arrival(conn, header).is_ok()
+    }
+
+    #[inline(always)]
+    fn take_first_arrival(&mut self, bytes: &[u8]) -> usize
+        ensures taken { 0 < result → TookFirst (view self.old) (view self.new) bytes.now result }
+        ensures not { result ≡ 0 → self.new ≡ self.old }
+    {
+        let Some(found) = first_arrival(bytes) else {
+            return 0;
+        };
+        if !self.take_common(found.0, &found.1) {
+            return 0;
+        }
+        found.2
+    }
+
+    #[inline(always)]
+    fn take_first_completion(&mut self, bytes: &[u8]) -> usize
+        ensures taken { 0 < result → TookFirst (view self.old) (view self.new) bytes.now result }
+        ensures not { result ≡ 0 → self.new ≡ self.old }
+    {
+        let Some(found) = first_completion(bytes) else {
+            return 0;
+        };
+        match self.events.push_completion(found.0, found.1) {
+            Ok(()) => found.2,
+            Err(_) => 0,
+        }
+    }
+
+    /// Takes the event that the first line of these bytes says, where the line is there with its end and in a common
+    /// form, its connection is known and memory isn't wanting, and tells how many bytes the line has without its end.
+    /// Otherwise it answers 0, and the recording stays as it was.
+    #[inline(always)]
+    pub(crate) fn take_first(&mut self, bytes: &[u8]) -> usize
+        ensures taken { 0 < result → TookFirst (view self.old) (view self.new) bytes.now result }
+        ensures not { result ≡ 0 → self.new ≡ self.old }
+    {
+        match bytes {
+            [b'C', ..] => self.take_first_arrival(bytes),
+            [b'D', ..] => self.take_first_completion(bytes),
+            _ => 0,
+        }
     }
 
     /// Takes the arrival that these bytes of line `number` say.
