@@ -1,3 +1,4 @@
 pub mod LineLemmas
 pub mod DigitLanes
 pub mod LineEnds
+mod DecimalLemmas

@@ -5,14 +5,15 @@ ghost use Rattle.hex.specs.Hex.{encode_lower};
 ghost use Rattle.iscsi_wire.specs.Pdus.{pdu_header, pdu_tail};
 ghost use Rattle.iscsi_report.specs.Lines.{eight_digits, request_fields, enter_fields, attr_word, why_word, effect_line};
 
-use crate::line::{
-    put_bytes, put_digits, put_header, put_number, put_small, put_text, put_two_numbers,
-};
+use crate::decimal::{put_number, put_small};
+use crate::line::{put_bytes, put_digits, put_header, put_text, put_two_numbers};
 use iscsi_history::{Effect, Numbers, Why};
 use iscsi_tasks::Attr;
 use iscsi_wire::{Pdu, Reply, Request};
 
 /// Writes the line of an effect of an event that ended with these numbers.
+///
+/// A word that is written often is an array first, which the compiler knows not to overlap the line.
 #[inline(always)]
 pub fn write_effect(effect: &Effect, numbers: Numbers, line: &mut [u8], at: usize) -> usize
     requires { at + 256 ≤ length line.old }
@@ -20,13 +21,19 @@ pub fn write_effect(effect: &Effect, numbers: Numbers, line: &mut [u8], at: usiz
     ensures written { take result line.new ≡ take at line.old ++ effect_line effect.now numbers }
 {
     match effect {
-        Effect::Deliver { request } => write_request(b"  deliver ", request, line, at),
+        Effect::Deliver { request } => {
+            let word = *b"  deliver ";
+            write_request(&word, request, line, at)
+        }
         Effect::Immediate { request } => write_request(b"  immediate ", request, line, at),
         Effect::Wait { request } => write_request(b"  wait ", request, line, at),
         Effect::Void { sn } => write_place(b"  void ", *sn, line, at),
         Effect::Empty { sn } => write_place(b"  empty ", *sn, line, at),
         Effect::Enter { ticket, unit, attr } => write_enter(*ticket, *unit, *attr, line, at),
-        Effect::Enable { ticket, .. } => write_ticket(b"  enable ", *ticket, line, at),
+        Effect::Enable { ticket, .. } => {
+            let word = *b"  enable ";
+            write_ticket(&word, *ticket, line, at)
+        }
         Effect::Leave { ticket, .. } => write_ticket(b"  leave ", *ticket, line, at),
         Effect::Send {
             conn,
@@ -128,13 +135,16 @@ fn put_attr(attr: Attr, line: &mut [u8], at: usize) -> usize
     ensures written { take result line.new ≡ take at line.old ++ (codes " " ++ (attr_word attr ++ codes "\n")) }
 {
     match attr {
-        Attr::Simple => put_text(b" simple\n", line, at),
+        Attr::Simple => {
+            let word = *b" simple\n";
+            put_text(&word, line, at)
+        }
         Attr::Ordered => put_text(b" ordered\n", line, at),
         Attr::Head => put_text(b" head\n", line, at),
     }
 }
 
-/// It is apart from the others, since it needs more room on the stack.
+/// It is apart from the others, since its header stands on the stack.
 #[inline(never)]
 fn write_send(
     conn: u16,
@@ -154,6 +164,24 @@ fn write_send(
         let pdu = reply.encode(stat_sn, numbers.exp, numbers.max);
         return write_header(conn, pdu.header(), line, at);
     }
+    write_any_send(conn, stat_sn, reply, numbers, line, at)
+}
+
+/// It is apart from `write_send`, since it needs more room on the stack.
+#[inline(never)]
+fn write_any_send(
+    conn: u16,
+    stat_sn: u32,
+    reply: &Reply,
+    numbers: Numbers,
+    line: &mut [u8],
+    at: usize,
+) -> usize
+    requires { at + 256 ≤ length line.old }
+    ensures end { result ≤ at + 256 }
+    ensures written { take result line.new ≡ take at line.old
+        ++ effect_line (Effect.Send conn stat_sn reply.now) numbers }
+{
     let pdu = reply.encode(stat_sn, numbers.exp, numbers.max);
     write_pdu(conn, &pdu, line, at)
 }
@@ -166,7 +194,8 @@ fn write_header(conn: u16, header: &[u8; 48], line: &mut [u8], at: usize) -> usi
     ensures written { take result line.new ≡ take at line.old
         ++ (codes "  send " ++ (decimal conn ++ (codes " " ++ (encode_lower header.now ++ codes "\n")))) }
 {
-    let at = put_text(b"  send ", line, at);
+    let word = *b"  send ";
+    let at = put_text(&word, line, at);
     let at = put_small(conn, line, at);
     let at = put_text(b" ", line, at);
     let at = put_header(header, line, at);

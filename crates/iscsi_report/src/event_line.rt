@@ -3,7 +3,8 @@
 ghost use Rattle.std.specs.Prelude.{◌≡◌, ◌+◌, ◌≤◌, ◌++◌, length, take};
 ghost use Rattle.iscsi_report.specs.Lines.{event_line};
 
-use crate::line::{put_byte, put_header, put_number, put_small, put_text};
+use crate::decimal::{put_number, put_small};
+use crate::line::{put_byte, put_header, put_text};
 use iscsi_history::Event;
 
 /// Writes the line of an event.

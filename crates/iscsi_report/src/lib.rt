@@ -2,6 +2,7 @@
 //! after another.
 #![tactic(auto)]
 
+mod decimal;
 mod effect_line;
 mod event_line;
 mod line;

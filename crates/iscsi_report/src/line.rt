@@ -3,16 +3,13 @@
 //! Each function writes a text from a place of a slice on, and says where it ends. It may write over places behind
 //! the end, which hold nothing yet.
 
-ghost use Rattle.std.specs.Prelude.{◌≡◌, ◌+◌, ◌*◌, ◌<◌, ◌≤◌, ◌∷◌, [], ◌++◌, length, take, drop, codes, decimal};
+ghost use Rattle.std.specs.Prelude.{◌≡◌, ◌+◌, ◌*◌, ◌≤◌, ◌∷◌, [], ◌++◌, length, take, drop, codes};
 ghost use Rattle.hex.specs.Hex.{encode_lower};
 ghost use Rattle.iscsi_wire.specs.Fields.{big_endian_from};
 ghost use Rattle.iscsi_report.specs.Lines.{eight_digits};
 
 use crate::vector::{digit, digits_of};
 use std::simd::prelude::*;
-
-/// The most digits of a number, which is room that each number needs.
-const MOST_DIGITS: usize = 20;
 
 /// Writes a text as it is.
 #[inline(always)]
@@ -24,35 +21,6 @@ pub fn put_text(text: &[u8], line: &mut [u8], at: usize) -> usize
     let end = at + text.len();
     line[at..end].copy_from_slice(text);
     end
-}
-
-/// Writes a decimal number.
-#[inline(always)]
-pub fn put_number(n: u64, line: &mut [u8], at: usize) -> usize
-    requires { at + 20 ≤ length line.old }
-    ensures end { (at < result) × (result ≤ at + 20) }
-    ensures written { take result line.new ≡ take at line.old ++ decimal n }
-{
-    let mut digits = [0u8; 2 * MOST_DIGITS];
-    let start = itoa::write_digits(n, &mut digits, MOST_DIGITS);
-    put_text(&digits[start..start + MOST_DIGITS], line, at);
-    at + (MOST_DIGITS - start)
-}
-
-/// The least number of two digits.
-const TWO_DIGITS: u16 = 10;
-
-/// Writes a decimal number that is mostly one digit, as connections and units are.
-#[inline(always)]
-pub fn put_small(n: u16, line: &mut [u8], at: usize) -> usize
-    requires { at + 20 ≤ length line.old }
-    ensures end { (at < result) × (result ≤ at + 20) }
-    ensures written { take result line.new ≡ take at line.old ++ decimal n }
-{
-    if n < TWO_DIGITS {
-        return put_text(&[b'0' + n as u8], line, at);
-    }
-    put_number(u64::from(n), line, at)
 }
 
 /// Writes a number in eight digits.

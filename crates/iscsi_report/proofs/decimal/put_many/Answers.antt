@@ -1,7 +1,7 @@
 use Rattle.std.proofs.Common.{◌≤◌, ◌+◌, ◌-◌, drop, decimal, take, take-take, ap, ◌∙◌, arith}
 use Rattle.std.proofs.lemmas.Fmt.{decimal_nonempty, length-decimal-le}
 use Rattle.iscsi_report.proofs.LineEnds.{begun}
-use Rattle.iscsi_report.proofs.line.put_number.Goals as goal
+use Rattle.iscsi_report.proofs.decimal.put_many.Goals as goal
 
 pub write_digits-start-requires : goal.write_digits-start-requires
 write_digits-start-requires c = (omega (arith, length-decimal-le 20 c.args.n (omega arith) (omega arith) (omega arith)), omega arith)

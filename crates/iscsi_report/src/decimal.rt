@@ -1,0 +1,131 @@
+//! Decimal numbers, written from a place of a slice on.
+
+ghost use Rattle.std.specs.Prelude.{◌≡◌, ◌+◌, ◌*◌, ◌<◌, ◌≤◌, ◌++◌, length, take, decimal};
+ghost use Rattle.iscsi_report.specs.Decimals.{two_digits};
+
+use crate::line::put_text;
+
+/// The most digits of a number, which is room that each number needs.
+const MOST_DIGITS: usize = 20;
+
+/// The least number of two digits, and those of three, of five and of nine.
+const TWO_DIGITS: u32 = 10;
+
+const THREE_DIGITS: u32 = 100;
+
+const FIVE_DIGITS: u32 = 10_000;
+
+const NINE_DIGITS: u64 = 100_000_000;
+
+/// The two digits of each number below 100.
+static PAIRS: [u8; 200] = *b"\
+0001020304050607080910111213141516171819\
+2021222324252627282930313233343536373839\
+4041424344454647484950515253545556575859\
+6061626364656667686970717273747576777879\
+8081828384858687888990919293949596979899";
+
+/// Writes a number below 100 in two digits.
+#[inline(always)]
+fn put_pair(n: u32, line: &mut [u8], at: usize) -> usize
+    requires { (n < 100) × (at + 2 ≤ length line.old) }
+    ensures end { result ≡ at + 2 }
+    ensures written { take result line.new ≡ take at line.old ++ two_digits n }
+{
+    let place = 2 * n as usize;
+    let pair = [PAIRS[place], PAIRS[place + 1]];
+    put_text(&pair, line, at)
+}
+
+/// Writes a number of one digit or two.
+#[inline(always)]
+fn put_two(n: u32, line: &mut [u8], at: usize) -> usize
+    requires { (n < 100) × (at + 2 ≤ length line.old) }
+    ensures end { (at < result) × (result ≤ at + 2) }
+    ensures written { take result line.new ≡ take at line.old ++ decimal n }
+{
+    if n < TWO_DIGITS {
+        return put_text(&[b'0' + n as u8], line, at);
+    }
+    put_pair(n, line, at)
+}
+
+/// Writes a number of up to four digits.
+#[inline(always)]
+fn put_four(n: u32, line: &mut [u8], at: usize) -> usize
+    requires { (n < 10000) × (at + 4 ≤ length line.old) }
+    ensures end { (at < result) × (result ≤ at + 4) }
+    ensures written { take result line.new ≡ take at line.old ++ decimal n }
+{
+    if n < THREE_DIGITS {
+        return put_two(n, line, at);
+    }
+    let at = put_two(n / 100, line, at);
+    put_pair(n % 100, line, at)
+}
+
+/// Writes a number of up to eight digits.
+#[inline(always)]
+fn put_eight(n: u32, line: &mut [u8], at: usize) -> usize
+    requires { (n < 100000000) × (at + 8 ≤ length line.old) }
+    ensures end { (at < result) × (result ≤ at + 8) }
+    ensures written { take result line.new ≡ take at line.old ++ decimal n }
+{
+    if n < FIVE_DIGITS {
+        return put_four(n, line, at);
+    }
+    let at = put_four(n / 10_000, line, at);
+    let rest = n % 10_000;
+    let at = put_pair(rest / 100, line, at);
+    put_pair(rest % 100, line, at)
+}
+
+/// Writes a number of any count of digits.
+#[inline(never)]
+fn put_many(n: u64, line: &mut [u8], at: usize) -> usize
+    requires { at + 20 ≤ length line.old }
+    ensures end { (at < result) × (result ≤ at + 20) }
+    ensures written { take result line.new ≡ take at line.old ++ decimal n }
+{
+    let mut digits = [0u8; 2 * MOST_DIGITS];
+    let start = itoa::write_digits(n, &mut digits, MOST_DIGITS);
+    put_text(&digits[start..start + MOST_DIGITS], line, at);
+    at + (MOST_DIGITS - start)
+}
+
+/// Writes a decimal number. It is apart from the lines that it stands in, so that they are short enough to be one
+/// function.
+#[inline(never)]
+pub fn put_number(n: u64, line: &mut [u8], at: usize) -> usize
+    requires { at + 20 ≤ length line.old }
+    ensures end { (at < result) × (result ≤ at + 20) }
+    ensures written { take result line.new ≡ take at line.old ++ decimal n }
+{
+    if n < NINE_DIGITS {
+        return put_eight(n as u32, line, at);
+    }
+    put_many(n, line, at)
+}
+
+/// Writes a decimal number that is mostly one digit, as connections and units are.
+#[inline(always)]
+pub fn put_small(n: u16, line: &mut [u8], at: usize) -> usize
+    requires { at + 20 ≤ length line.old }
+    ensures end { (at < result) × (result ≤ at + 20) }
+    ensures written { take result line.new ≡ take at line.old ++ decimal n }
+{
+    let n = u32::from(n);
+    if n < TWO_DIGITS {
+        return put_two(n, line, at);
+    }
+    put_larger(n, line, at)
+}
+
+#[inline(never)]
+fn put_larger(n: u32, line: &mut [u8], at: usize) -> usize
+    requires { (n < 65536) × (at + 8 ≤ length line.old) }
+    ensures end { (at < result) × (result ≤ at + 8) }
+    ensures written { take result line.new ≡ take at line.old ++ decimal n }
+{
+    put_eight(n, line, at)
+}
