@@ -89,6 +89,12 @@ impl Bytes {
         &self.memory[..self.len]
     }
 
+    /// Whether so many more fit the memory that is there.
+    #[inline(always)]
+    pub fn has_room(&self, more: usize) -> bool {
+        self.memory.len() - self.len >= more
+    }
+
     /// Puts more behind the others. On `Err`, where memory is refused, they stay as they were.
     #[inline(always)]
     pub fn extend(&mut self, more: &[u8]) -> Result<(), AllocError>

@@ -177,6 +177,12 @@ impl Events {
         Ok(())
     }
 
+    /// Whether an event of any kind fits the memory that is there.
+    #[inline(always)]
+    pub(crate) fn has_room(&self) -> bool {
+        self.bytes.has_room(ARRIVAL_SIZE)
+    }
+
     /// Puts a completion behind the others. On `Err` they stay as they were.
     #[inline(always)]
     pub(crate) fn push_completion(&mut self, ticket: u64, status: u8) -> Result<(), AllocError>

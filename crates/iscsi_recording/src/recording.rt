@@ -22,6 +22,9 @@ pub const MAX_LINE: usize = 256;
 
 const MAX_CONNS: usize = 64;
 
+/// The least CID of two digits.
+const TWO_DIGITS: u16 = 10;
+
 /// What was recorded.
 #[derive(Debug, Drop)]
 pub struct Recording {
@@ -107,6 +110,8 @@ impl Recording {
         self.conns.knows(conn) && self.events.push_arrival(conn, header).is_ok()
     }
 
+    /// Takes the arrival that the first line of these bytes says: as `take_first`. One whose CID has several digits asks
+    /// for no memory here, so that a refusal is its fault at once.
     #[inline(always)]
     fn take_first_arrival(&mut self, bytes: &[u8]) -> usize
         ensures taken { 0 < result → TookFirst (view self.old) (view self.new) bytes.now result }
@@ -115,12 +120,17 @@ impl Recording {
         let Some(found) = first_arrival(bytes) else {
             return 0;
         };
+        if found.0 >= TWO_DIGITS && !self.events.has_room() {
+            return 0;
+        }
         if !self.take_common(found.0, &found.1) {
             return 0;
         }
         found.2
     }
 
+    /// Takes the completion that the first line of these bytes says: as `take_first`. It asks for no memory here, so that a
+    /// refusal is its fault at once.
     #[inline(always)]
     fn take_first_completion(&mut self, bytes: &[u8]) -> usize
         ensures taken { 0 < result → TookFirst (view self.old) (view self.new) bytes.now result }
@@ -129,6 +139,9 @@ impl Recording {
         let Some(found) = first_completion(bytes) else {
             return 0;
         };
+        if !self.events.has_room() {
+            return 0;
+        }
         match self.events.push_completion(found.0, found.1) {
             Ok(()) => found.2,
             Err(_) => 0,
