@@ -8,14 +8,15 @@ ghost use Rattle.iscsi_commands.specs.Kept.{IsSortedBy, commands, key_of, order_
 
 use crate::key::Key;
 use crate::live::Live;
+use crate::search::{count_below, key_at};
 use iscsi_slots::{Order, Slots};
 use std::alloc::{AllocError, Global};
 use std::marker::Model;
 
 /// The live commands, in the order in which they entered. No two have the same tag.
 ///
-/// A command keeps its slot until it is taken out. Its place in either order is found by binary search, so the cost
-/// of a call is bounded for any tags that an initiator chooses.
+/// A command keeps its slot until it is taken out. Its place in either order is found by a search that parts the order,
+/// so the cost of a call is bounded for any tags that an initiator chooses.
 ///
 /// While tags go up with the tickets, as those of most initiators do, one order serves for both.
 pub struct Commands {
@@ -241,7 +242,7 @@ fn first_from(order: &Order, slots: &Slots<Live>, by: Key, key: u64, guess: usiz
     {
         guess
     } else {
-        halve(order, slots, by, key)
+        count_below(order, slots, by, key)
     }
 }
 
@@ -272,37 +273,4 @@ fn is_reached_from(order: &Order, slots: &Slots<Live>, by: Key, key: u64, at: us
         return true;
     }
     key <= key_at(order, slots, by, at)
-}
-
-/// The key of the command at a place of an order.
-fn key_at(order: &Order, slots: &Slots<Live>, by: Key, k: usize) -> u64
-    requires within { slice_index_or order.now.items k 0 < length slots.now.values }
-    requires place { k < length order.now.items }
-    ensures { (d : Live) → result ≡ key_of by (slice_index_or (commands slots.now.values order.now.items) k d) }
-{
-    by.of(slots.at(order.at(k)))
-}
-
-/// How many commands of an order have a lower key, by binary search.
-fn halve(order: &Order, slots: &Slots<Live>, by: Key, key: u64) -> usize
-    requires within { (k : ℕ) → k < length order.now.items →
-        slice_index_or order.now.items k 0 < length slots.now.values }
-    requires sorted { IsSortedBy by slots.now.values order.now.items }
-    ensures within { result ≤ length order.now.items }
-    ensures below { (k : ℕ) (d : Live) → k < result →
-        key_of by (slice_index_or (commands slots.now.values order.now.items) k d) < key }
-    ensures above { (k : ℕ) (d : Live) → result ≤ k → k < length order.now.items →
-        key ≤ key_of by (slice_index_or (commands slots.now.values order.now.items) k d) }
-{
-    let mut low = 0;
-    let mut high = order.len();
-    while low < high {
-        let middle = (low + high) / 2;
-        if key_at(order, slots, by, middle) < key {
-            low = middle + 1;
-        } else {
-            high = middle;
-        }
-    }
-    low
 }

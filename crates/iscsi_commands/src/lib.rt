@@ -6,6 +6,7 @@
 mod commands;
 mod key;
 mod live;
+mod search;
 
 pub use commands::Commands;
 pub use live::Live;

@@ -12,6 +12,7 @@ mod member;
 mod numbers;
 mod queue;
 mod roster;
+mod search;
 mod set;
 mod task;
 

@@ -9,6 +9,7 @@ use crate::counts::{Counts, shifted_by};
 use crate::cover::Cover;
 use crate::member::Member;
 use crate::roster::Roster;
+use crate::search::count_below;
 use crate::task::Task;
 
 /// Where the command with this ticket is. It looks at the place `guess` first, and then at the oldest command, which
@@ -23,7 +24,7 @@ pub(crate) fn place_of(members: &Roster, ticket: u64, guess: usize) -> Option<us
     if is_at(members, 0, ticket) {
         return Some(0);
     }
-    let at = first_from(members, ticket);
+    let at = count_below(members, ticket);
     if at < members.len() && members.at(at).task.ticket == ticket {
         Some(at)
     } else {
@@ -42,27 +43,6 @@ pub(crate) fn enabled_place(members: &Roster, ticket: u64, guess: usize) -> Opti
     } else {
         None
     }
-}
-
-/// How many commands have a lower ticket, by binary search.
-fn first_from(members: &Roster, ticket: u64) -> usize
-    requires { InOrder members.now.items }
-    ensures within { result ≤ length members.now.items }
-    ensures below { (k : ℕ) (d : Member) → k < result → (slice_index_or members.now.items k d).task.ticket < ticket }
-    ensures above { (k : ℕ) (d : Member) → result ≤ k → k < length members.now.items →
-        ticket ≤ (slice_index_or members.now.items k d).task.ticket }
-{
-    let mut low = 0;
-    let mut high = members.len();
-    while low < high {
-        let middle = low + (high - low) / 2;
-        if members.at(middle).task.ticket < ticket {
-            low = middle + 1;
-        } else {
-            high = middle;
-        }
-    }
-    low
 }
 
 /// Whether the command at a place has this ticket.

@@ -53,7 +53,8 @@ impl Roster {
 
     /// How many members there are.
     pub(crate) fn len(&self) -> usize
-        ensures { result ≡ length self.now.items }
+        ensures len { result ≡ length self.now.items }
+        ensures few { length self.now.items ≤ 65535 }
     {
         self.order.len()
     }

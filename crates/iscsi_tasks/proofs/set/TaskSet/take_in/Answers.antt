@@ -15,7 +15,7 @@ newest : (c : goal.After-push) → IsNewest c.args.task.ticket (record { depth =
 newest c = subst (λ (s : Members). IsNewest c.args.task.ticket s) (sym c.self.view_is) c.requires
 
 free : (c : goal.After-push) → c.test_free-enabled.result ≡ is_free_behind c.self.inside.counts (length c.self.inside.members.items) c.args.task.attr
-free c = c.test_free-enabled.ensures.value ∙ ap (λ n. is_free_behind c.self.inside.counts n c.args.task.attr) c.len-len.ensures
+free c = c.test_free-enabled.ensures.value ∙ ap (λ n. is_free_behind c.self.inside.counts n c.args.task.attr) c.len-len.ensures.len
 
 -- the set after the moment is the set with the command
 after : (c : goal.After-push) → after_moment (c.self.inside.members.items ++ record { task = c.args.task; enabled = false; given = false } ∷ []) ≡ c.self.inside.members.items ++ record { task = c.args.task; enabled = c.test_free-enabled.result; given = false } ∷ []
@@ -40,7 +40,7 @@ covered_on c =
     let i = c.self.inside in
     let tasks : List Task = map (λ m. m.task) i.members.items in
     let same : to_z w64 (of_z w64 i.covered_from) ≡ i.covered_from = to_z-of_z w64 i.covered_from (search rules) in
-    let len : c.len-len.result ≡ length tasks = c.len-len.ensures ∙ sym (length-map i.members.items (λ m. m.task)) in
+    let len : c.len-len.result ≡ length tasks = c.len-len.ensures.len ∙ sym (length-map i.members.items (λ m. m.task)) in
     let number : to_z w64 (of_z w64 c.covered_from_with-self-inside.result) ≡ covered_from_with i.covered_from (length tasks) c.args.task =
     to_z-of_z w64 c.covered_from_with-self-inside.result (search rules) ∙ c.covered_from_with-self-inside.ensures
     ∙ ap (λ n. covered_from_with n c.len-len.result c.args.task) same ∙ ap (λ n. covered_from_with i.covered_from n c.args.task) len in
@@ -57,7 +57,7 @@ front_on c on =
     let m : Member = record { task = c.args.task; enabled = c.test_free-enabled.result; given = c.if-gives.given } in
     let same : to_z w64 (of_z w64 i.ascends_to) ≡ i.ascends_to = to_z-of_z w64 i.ascends_to (search rules) in
     let up : ascends_with i.ascends i.ascends_to (length i.members.items) c.args.task ≡ true =
-    ap (λ n. ascends_with i.ascends n (length i.members.items) c.args.task) (sym same) ∙ ap (λ n. ascends_with i.ascends (to_z w64 (of_z w64 i.ascends_to)) n c.args.task) (sym c.len-len.ensures)
+    ap (λ n. ascends_with i.ascends n (length i.members.items) c.args.task) (sym same) ∙ ap (λ n. ascends_with i.ascends (to_z w64 (of_z w64 i.ascends_to)) n c.args.task) (sym c.len-len.ensures.len)
     ∙ sym c.ascends_with-self-inside.ensures ∙ on in
     let most : to_z w64 (of_z w64 c.covered_from-self-inside.result) ≡ covered_from c.args.task = to_z-of_z w64 c.covered_from-self-inside.result (search rules) ∙ c.covered_from-self-inside.ensures in
     subst (λ (n : ℤ). IsAscendingTo n c.push.new.members.items) (sym most)

@@ -1,0 +1,11 @@
+use Rattle.std.proofs.Common.{◌/◌, arith}
+use Rattle.iscsi_slots.proofs.HalvingLemmas.{parted}
+use Rattle.iscsi_commands.specs.Kept.{commands, key_of}
+use Rattle.iscsi_commands.proofs.search.count_below.Goals as goal
+
+pub loop-len-preserved : goal.loop-len-preserved
+loop-len-preserved c =
+    let passed = c.pass_parts-low.ensures in
+    parted (key_of c.args.by) (commands c.args.slots.now.values c.args.order.now.items) c.args.key c.requires.sorted
+    c.loop-len.low c.loop-len.len (c.loop-len.len / 4) c.pass_parts-low.result (omega (arith, c.loop-len-test.true)) (omega arith) c.loop-len.invariant
+    (record { from = passed.from; to = passed.to; lower = passed.lower; upper = passed.upper })
