@@ -184,6 +184,7 @@ impl Session {
     ///
     /// Refusals, in order: `UnknownConnection`, `Exhausted`, `NoMemory`. Each leaves the session and `out`
     /// as they were. With `effect_bound()` places spare in `out`, memory isn't asked for.
+    #[inline(always)]
     pub fn step(&mut self, event: &Event, out: &mut Vec<Effect>) -> Result<Numbers, SessionFault>
         // Whatever list of events the session stands for, it stands for that list and the event.
         ensures stands { (o : Setting) (h : List Event) → StandsFor o self.old h →
@@ -252,6 +253,7 @@ impl Session {
     }
 
     /// Takes an event that is counted.
+    #[inline(never)]
     fn apply(&mut self, event: &Event, out: &mut Vec<Effect>)
         requires known { comes_on self.old.conns event.now ≡ true }
         requires counted { self.old.window.turned + count_by is_some self.old.window.places < self.old.taken }
