@@ -141,19 +141,22 @@ pub(crate) fn spread(
     true
 }
 
-/// Takes the first item that waits, looked for from the ring `next` on. It answers the event, and the place of its
+/// Takes the first item that waits, looked for from the ring `next` on. It writes the event, and answers the place of its
 /// port or unit port; `next` is then the ring after the one that was served.
+///
+/// The event is written where it stays: an event that is handed on is copied in pieces, for which the processor waits.
 pub(crate) fn poll(
     inlets: &mut Vec<Inlet>,
     conns: &[(u16, u32)],
     outlets: &mut Vec<Outlet>,
     rung: &mut Marks,
     next: &mut usize,
-) -> Option<(Event, u16)>
+    event: &mut Event,
+) -> Option<u16>
     requires conns { vec_len inlets.old ≡ length conns.now }
     requires few { (vec_len inlets.old ≤ 64) × (vec_len outlets.old ≤ 256) }
-    ensures some { IfSome result (λ r. Polled (cids_in conns.now) (map got inlets.old.items) (map got inlets.new.items)
-        (map heard outlets.old.items) (map heard outlets.new.items) r.0 r.1) }
+    ensures some { IfSome result (λ source. Polled (cids_in conns.now) (map got inlets.old.items)
+        (map got inlets.new.items) (map heard outlets.old.items) (map heard outlets.new.items) event.new source) }
     ensures none { IfNone result ((map got inlets.new.items ≡ map got inlets.old.items)
         × (map heard outlets.new.items ≡ map heard outlets.old.items)) }
     ensures given { map given outlets.new.items ≡ map given outlets.old.items }
@@ -167,12 +170,14 @@ pub(crate) fn poll(
         if at < inlets.len() {
             if let Some(header) = hear_inlet(inlets, at) {
                 let conn = conns[at].0;
-                return Some((Event::Arrive { conn, header }, at as u16));
+                *event = Event::Arrive { conn, header };
+                return Some(at as u16);
             }
         } else if at >= FIRST_UNIT && at - FIRST_UNIT < outlets.len() {
             let unit = at - FIRST_UNIT;
             if let Some((ticket, status)) = hear_outlet(outlets, unit) {
-                return Some((Event::Done { ticket, status }, unit as u16));
+                *event = Event::Done { ticket, status };
+                return Some(unit as u16);
             }
         }
         rung.clear(at);

@@ -27,6 +27,9 @@ impl Inlet {
         ensures none { IfNone result (got self.new ≡ got self.old) }
         ensures ring { inlet_ring self.new ≡ inlet_ring self.old }
     {
-        self.headers.pop().ok()
+        if self.headers.is_empty() {
+            return None;
+        }
+        Some(self.headers.pop_known())
     }
 }

@@ -71,6 +71,9 @@ impl Outlet {
         ensures given { given self.new ≡ given self.old }
         ensures rings { outlet_rings self.new ≡ outlet_rings self.old }
     {
-        self.answers.pop().ok()
+        if self.answers.is_empty() {
+            return None;
+        }
+        Some(self.answers.pop_known())
     }
 }

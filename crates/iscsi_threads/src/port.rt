@@ -81,7 +81,10 @@ impl UnitPort {
         ensures none { IfNone result (taken self.new ≡ taken self.old) }
         ensures answered { answered self.new ≡ answered self.old }
     {
-        self.jobs.pop().ok()
+        if self.jobs.is_empty() {
+            return None;
+        }
+        Some(self.jobs.pop_known())
     }
 
     /// Answers a job with the status of its command (SAM-5), for the loop to take.

@@ -22,6 +22,12 @@ pub enum Turn {
     Took(Event, Numbers),
 }
 
+/// What stands for an event until one is taken.
+const NO_EVENT: Event = Event::Done {
+    ticket: 0,
+    status: 0,
+};
+
 // Makes the room for one event of so many effects.
 fn make_room(
     bound: usize,
@@ -84,12 +90,14 @@ impl Loop {
             return Err(LoopFault::NoMemory);
         };
         self.bells.hear(&mut self.watch.rung);
-        let Some((event, source)) = poll(
+        let mut event = NO_EVENT;
+        let Some(source) = poll(
             &mut self.inlets,
             &self.options.conns,
             &mut self.outlets,
             &mut self.watch.rung,
             &mut self.next,
+            &mut event,
         ) else {
             return Ok(Turn::Idle);
         };

@@ -24,7 +24,7 @@ unreachable-requires c =
     let self = c.args.self.now in
     let o : Setting = setting_of self.options in
     let j = self.journal.items in
-    let e = c.in-Some.event in
+    let e = c.poll.new.event in
     let few : length j < o.events = search rules in
     let on : belongs o e ≡ true = belongs_polled o _ _ _ _ e c.in-Some.source (rw c.deref-2.ensures.value at c.in-Some.ensures.some) in
     let bound : c.effect_bound-bound.result ≡ effect_bound_of o (trace_of o j) = c.effect_bound-bound.ensures.bound o j self.stands in
@@ -44,7 +44,7 @@ note_all-requires-clause-desk c =
     let self = c.args.self.now in
     let o : Setting = setting_of self.options in
     let j = self.journal.items in
-    let e = c.in-Some.event in
+    let e = c.poll.new.event in
     let bound : c.effect_bound-bound.result ≡ effect_bound_of o (trace_of o j) = c.effect_bound-bound.ensures.bound o j self.stands in
     let before : c.len-before.result ≡ length c.make_room.new.out.items = search rules in
     let whole : c.deref-3.result.now ≡ c.make_room.new.out.items ++ (next_entry o j e).effects = c.deref-3.ensures.value ∙ c.in-Ok-step.ensures.effects o j self.stands in
@@ -56,7 +56,7 @@ pub note_all-requires-clause-numbered : goal.note_all-requires-clause-numbered
 note_all-requires-clause-numbered c =
     let self = c.args.self.now in
     let o : Setting = setting_of self.options in
-    let j = self.journal.items in let e = c.in-Some.event in
+    let j = self.journal.items in let e = c.poll.new.event in
     let before : c.len-before.result ≡ length c.make_room.new.out.items = search rules in
     let whole : c.deref-3.result.now ≡ c.make_room.new.out.items ++ (next_entry o j e).effects = c.deref-3.ensures.value ∙ c.in-Ok-step.ensures.effects o j self.stands in
     let effects = c.split_at.ensures.back ∙ cut_after _ _ _ _ whole before in
@@ -67,7 +67,7 @@ note_all-requires-clause-fresh c =
     let self = c.args.self.now in
     let o : Setting = setting_of self.options in
     let j = self.journal.items in
-    let e = c.in-Some.event in
+    let e = c.poll.new.event in
     let bound : c.effect_bound-bound.result ≡ effect_bound_of o (trace_of o j) = c.effect_bound-bound.ensures.bound o j self.stands in
     let before : c.len-before.result ≡ length c.make_room.new.out.items = search rules in
     let whole : c.deref-3.result.now ≡ c.make_room.new.out.items ++ (next_entry o j e).effects = c.deref-3.ensures.value ∙ c.in-Ok-step.ensures.effects o j self.stands in
@@ -80,7 +80,7 @@ invariant_of-self-2 c =
     let self = c.args.self.now in
     let o : Setting = setting_of self.options in
     let j = self.journal.items in let from = self.from.items in let cids = cids_of o in
-    let e = c.in-Some.event in let f = c.in-Some.source in
+    let e = c.poll.new.event in let f = c.in-Some.source in
     let n = vec_len self.outlets in
     let lists = c.make_room.ensures.lists in
     let size : vec_len c.poll.new.outlets ≡ n = c.poll.ensures.len.1 ∙ c.fill_all.ensures.len ∙ c.spread-has_room.ensures.len in
@@ -112,7 +112,7 @@ returns-clause-ok c =
     let self = c.args.self.now in
     let o : Setting = setting_of self.options in
     let j = self.journal.items in
-    let e = c.in-Some.event in
+    let e = c.poll.new.event in
     let lists = c.make_room.ensures.lists in (
       c.push_reserved.ensures.items ∙ ap (λ (w : List Event). w ++ e ∷ []) lists.1,
       (c.in-Some.source, c.push_reserved-2.ensures.items ∙ ap (λ (w : List ℕ). w ++ c.in-Some.source ∷ []) lists.2),
