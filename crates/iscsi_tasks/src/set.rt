@@ -32,7 +32,7 @@ const MOST_TASKS: u32 = 1024;
 /// enabled until it leaves.
 ///
 /// The set tests no command twice. Counts and the order of entering tell what a leaving enables, and tickets, which go
-/// up along the set, are found by halving. And it keeps a number below which no function covers a command, so that a
+/// up along the set, are found by a search. And it keeps a number below which no function covers a command, so that a
 /// function with a lower one looks at none.
 pub struct TaskSet {
     depth: u32,

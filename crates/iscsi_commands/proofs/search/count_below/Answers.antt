@@ -1,5 +1,5 @@
 use Rattle.std.proofs.Common.{◌/◌, arith}
-use Rattle.iscsi_slots.proofs.HalvingLemmas.{parted}
+use Rattle.iscsi_slots.proofs.SearchLemmas.{parted}
 use Rattle.iscsi_commands.specs.Kept.{commands, key_of}
 use Rattle.iscsi_commands.proofs.search.count_below.Goals as goal
 

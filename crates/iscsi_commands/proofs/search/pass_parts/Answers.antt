@@ -1,6 +1,6 @@
 use Rattle.std.proofs.Common.{◌≡◌, ◌+◌, ◌*◌, nat_lt, get_or, arith}
 use Rattle.std.proofs.lemmas.Bool.{ltb-true, ltb-false}
-use Rattle.iscsi_slots.proofs.HalvingLemmas.{Tells, IsPassed, passed}
+use Rattle.iscsi_slots.proofs.SearchLemmas.{Tells, IsPassed, passed}
 use Rattle.iscsi_commands.specs.Kept.{commands, key_of}
 use Rattle.iscsi_commands.specs.declared.live.Live.{Live}
 use Rattle.iscsi_commands.proofs.KeptLemmas.{length-commands}

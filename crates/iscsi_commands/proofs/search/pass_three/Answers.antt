@@ -1,10 +1,10 @@
 use Rattle.std.proofs.Common.{◌+◌, arith}
-use Rattle.iscsi_slots.proofs.HalvingLemmas.{IsHalved, counted}
+use Rattle.iscsi_slots.proofs.SearchLemmas.{IsNarrowed, counted}
 use Rattle.iscsi_commands.specs.Kept.{commands, key_of}
 use Rattle.iscsi_commands.proofs.KeptLemmas.{length-commands}
 use Rattle.iscsi_commands.proofs.search.pass_three.Goals as goal
 
-place_is : (c : goal.After-from-3) → IsHalved (key_of c.args.by) (commands c.args.slots.now.values c.args.order.now.items) c.args.key (c.args.low + c.from.result + c.from-2.result + c.from-3.result) (c.args.low + c.from.result + c.from-2.result + c.from-3.result)
+place_is : (c : goal.After-from-3) → IsNarrowed (key_of c.args.by) (commands c.args.slots.now.values c.args.order.now.items) c.args.key (c.args.low + c.from.result + c.from-2.result + c.from-3.result) (c.args.low + c.from.result + c.from-2.result + c.from-3.result)
 place_is c =
     let long = length-commands c.args.slots.now.values c.args.order.now.items in
     let first = c.is_lower-first.ensures in

@@ -1,5 +1,5 @@
 use Rattle.std.proofs.Common.{◌/◌, arith}
-use Rattle.iscsi_slots.proofs.HalvingLemmas.{parted}
+use Rattle.iscsi_slots.proofs.SearchLemmas.{parted}
 use Rattle.iscsi_tasks.specs.declared.member.Member.{Member}
 use Rattle.iscsi_tasks.proofs.search.count_below.Goals as goal
 

@@ -1,6 +1,6 @@
 use Rattle.std.proofs.Common.{◌≡◌, ℕ, ◌+◌, ◌*◌, nat_lt, get_or, ap, arith}
 use Rattle.std.proofs.lemmas.Bool.{ltb-true, ltb-false}
-use Rattle.iscsi_slots.proofs.HalvingLemmas.{Tells, IsPassed, passed}
+use Rattle.iscsi_slots.proofs.SearchLemmas.{Tells, IsPassed, passed}
 use Rattle.iscsi_tasks.specs.declared.member.Member.{Member}
 use Rattle.iscsi_tasks.proofs.search.pass_parts.Goals as goal
 

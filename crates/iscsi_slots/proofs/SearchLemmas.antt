@@ -8,37 +8,11 @@ use Rattle.iscsi_slots.proofs.SortedLemmas.{not_greater}
 
 module _ {X : Type 0} (ticket : X → ℕ) (xs : List X) (n : ℕ) where
   -- those before the low place have lower tickets, and those from the high one on have not
-  pub record IsHalved (low high : ℕ) : Type 0 where
+  pub record IsNarrowed (low high : ℕ) : Type 0 where
     pub ordered : low ≤ high
     pub inside : high ≤ length xs
     pub below : (k : ℕ) (d : X) → k < low → ticket (get_or xs k d) < n
     pub above : (k : ℕ) (d : X) → high ≤ k → k < length xs → n ≤ ticket (get_or xs k d)
-
-  module _ (ascending : AreAscending ticket xs) {low high : ℕ} (halved : IsHalved low high) (m : ℕ) (from : low ≤ m) (to : m < high) where
-    inside : m < length xs
-    inside = let l = halved.inside in omega (arith, l, to)
-
-    pub halved_up : ((d : X) → ticket (get_or xs m d) < n) → IsHalved (m + 1) high
-    halved_up lower = record {
-      ordered = omega (arith, to);
-      inside = halved.inside;
-      below = λ k d l. ⊎_elim
-          (λ same. subst (λ j. ticket (get_or xs j d) < n) (sym same) (lower d))
-          (λ apart. let up : ticket (get_or xs k d) < ticket (get_or xs m d) = ascending k m d (omega (arith, l, apart)) inside in let least = lower d in omega (arith, up, least))
-          (cases_eq k m);
-      above = halved.above;
-    }
-
-    pub halved_down : ((d : X) → n ≤ ticket (get_or xs m d)) → IsHalved low m
-    halved_down upper = record {
-      ordered = from;
-      inside = let l = inside in omega (arith, l);
-      below = halved.below;
-      above = λ k d l within. ⊎_elim
-          (λ same. subst (λ j. n ≤ ticket (get_or xs j d)) (sym same) (upper d))
-          (λ apart. let up : ticket (get_or xs m d) < ticket (get_or xs k d) = ascending m k d (omega (arith, l, apart)) within in let most = upper d in omega (arith, up, most))
-          (cases_eq k m);
-    }
 
 -- what a test of the place tells: it has a lower ticket, or not
 pub record Tells {X : Type 0} (ticket : X → ℕ) (xs : List X) (n k : ℕ) (b : Bool) : Type 0 where
@@ -117,25 +91,25 @@ module _ {X : Type 0} (ticket : X → ℕ) (xs : List X) (n : ℕ) (ascending : 
     passed true true true first second third = three (λ d. third.lower d refl) _ (omega arith)
 
   -- where four parts are left, and some of three are passed
-  pub parted : (low len part at : ℕ) → 1 ≤ part → 4 * part ≤ len → IsHalved ticket xs n low (low + len) → IsPassed ticket xs n low part at → IsHalved ticket xs n at (at + (len - 3 * part))
-  parted low len part at some room halved by = record {
+  pub parted : (low len part at : ℕ) → 1 ≤ part → 4 * part ≤ len → IsNarrowed ticket xs n low (low + len) → IsPassed ticket xs n low part at → IsNarrowed ticket xs n at (at + (len - 3 * part))
+  parted low len part at some room narrowed by = record {
     ordered = omega arith;
-    inside = let l = halved.inside in let to = by.to in omega (arith, l, to, room);
+    inside = let l = narrowed.inside in let to = by.to in omega (arith, l, to, room);
     below = λ k d l. ⊎_elim
-        (λ before. halved.below k d before)
-        (λ from. let is = by.lower d (omega (arith, from, l)) in let l_in = halved.inside in let to = by.to in
+        (λ before. narrowed.below k d before)
+        (λ from. let is = by.lower d (omega (arith, from, l)) in let l_in = narrowed.inside in let to = by.to in
         let u = not_greater ticket xs ascending k at d (omega (arith, l)) (omega (arith, l_in, to, room, some)) in omega (arith, is, u))
         (cases_lt k low);
     above = λ k d l within. ⊎_elim
         (λ more. let is = by.upper d more in
         let u = not_greater ticket xs ascending (at + part) k d (omega (arith, l, room)) within in omega (arith, is, u))
-        (λ all. halved.above k d (let to = by.to in omega (arith, l, all, to, room)) within)
+        (λ all. narrowed.above k d (let to = by.to in omega (arith, l, all, to, room)) within)
         (cases_lt at (low + 3 * part));
   }
 
   module _ (low : ℕ) (inside : low ≤ length xs) (below : (k : ℕ) (d : X) → k < low → ticket (get_or xs k d) < n) (above : (k : ℕ) (d : X) → low + 3 ≤ k → k < length xs → n ≤ ticket (get_or xs k d)) where
     -- that is the first place that hasn't a lower ticket
-    ends_at : (at : ℕ) → low ≤ at → at ≤ low + 3 → at ≤ length xs → ((d : X) → low < at → ticket (get_or xs (at - 1) d) < n) → ((d : X) → at < low + 3 → at < length xs → n ≤ ticket (get_or xs at d)) → IsHalved ticket xs n at at
+    ends_at : (at : ℕ) → low ≤ at → at ≤ low + 3 → at ≤ length xs → ((d : X) → low < at → ticket (get_or xs (at - 1) d) < n) → ((d : X) → at < low + 3 → at < length xs → n ≤ ticket (get_or xs at d)) → IsNarrowed ticket xs n at at
     ends_at at from to within lower upper = record {
       ordered = omega arith;
       inside = within;
@@ -149,22 +123,22 @@ module _ {X : Type 0} (ticket : X → ℕ) (xs : List X) (n : ℕ) (ascending : 
           (cases_lt at (low + 3));
     }
 
-    at_first : ((d : X) → low < length xs → n ≤ ticket (get_or xs low d)) → (at : ℕ) → at ≡ low → IsHalved ticket xs n at at
+    at_first : ((d : X) → low < length xs → n ≤ ticket (get_or xs low d)) → (at : ℕ) → at ≡ low → IsNarrowed ticket xs n at at
     at_first upper at is = ends_at at (omega (arith, is)) (omega (arith, is)) (omega (arith, is, inside))
         (λ d l. absurd (omega (arith, l, is)))
         (λ d near l. upper_at at is (λ e. upper e (omega (arith, l, is))) d)
 
-    at_second : low < length xs → ((d : X) → ticket (get_or xs low d) < n) → ((d : X) → low + 1 < length xs → n ≤ ticket (get_or xs (low + 1) d)) → (at : ℕ) → at ≡ low + 1 → IsHalved ticket xs n at at
+    at_second : low < length xs → ((d : X) → ticket (get_or xs low d) < n) → ((d : X) → low + 1 < length xs → n ≤ ticket (get_or xs (low + 1) d)) → (at : ℕ) → at ≡ low + 1 → IsNarrowed ticket xs n at at
     at_second there lower upper at is = ends_at at (omega (arith, is)) (omega (arith, is)) (omega (arith, is, there))
         (λ d l. lower_at (at - 1) (omega (arith, is)) lower d)
         (λ d near l. upper_at at is (λ e. upper e (omega (arith, l, is))) d)
 
-    at_third : low + 1 < length xs → ((d : X) → ticket (get_or xs (low + 1) d) < n) → ((d : X) → low + 2 < length xs → n ≤ ticket (get_or xs (low + 2) d)) → (at : ℕ) → at ≡ low + 2 → IsHalved ticket xs n at at
+    at_third : low + 1 < length xs → ((d : X) → ticket (get_or xs (low + 1) d) < n) → ((d : X) → low + 2 < length xs → n ≤ ticket (get_or xs (low + 2) d)) → (at : ℕ) → at ≡ low + 2 → IsNarrowed ticket xs n at at
     at_third there lower upper at is = ends_at at (omega (arith, is)) (omega (arith, is)) (omega (arith, is, there))
         (λ d l. lower_at (at - 1) (omega (arith, is)) lower d)
         (λ d near l. upper_at at is (λ e. upper e (omega (arith, l, is))) d)
 
-    at_end : low + 2 < length xs → ((d : X) → ticket (get_or xs (low + 2) d) < n) → (at : ℕ) → at ≡ low + 3 → IsHalved ticket xs n at at
+    at_end : low + 2 < length xs → ((d : X) → ticket (get_or xs (low + 2) d) < n) → (at : ℕ) → at ≡ low + 3 → IsNarrowed ticket xs n at at
     at_end there lower at is = ends_at at (omega (arith, is)) (omega (arith, is)) (omega (arith, is, there))
         (λ d l. lower_at (at - 1) (omega (arith, is)) lower d)
         (λ d near l. absurd (omega (arith, near, is)))
@@ -174,7 +148,7 @@ module _ {X : Type 0} (ticket : X → ℕ) (xs : List X) (n : ℕ) (ascending : 
 
     -- the tests of three places count those before it
     pub counted : (a b c : Bool) → TellsOf ticket xs n low a → TellsOf ticket xs n (low + 1) b → TellsOf ticket xs n (low + 2) c
-        → (at : ℕ) → at ≡ ((low + from_bool a) + from_bool b) + from_bool c → IsHalved ticket xs n at at
+        → (at : ℕ) → at ≡ ((low + from_bool a) + from_bool b) + from_bool c → IsNarrowed ticket xs n at at
     counted false false false first second third at is = at_first (λ d. first.upper d refl) at (omega (arith, is))
     counted true false false first second third at is = at_second (first.there refl) (λ d. first.lower d refl) (λ d. second.upper d refl) at (omega (arith, is))
     counted false true false first second third at is = let in2 = second.there refl in at_second (omega (arith, in2))
@@ -197,13 +171,6 @@ half_from low high = omega arith
 
 pub half_to : (low high : ℕ) → low < high → low + (high - low) / 2 < high
 half_to low high l = let half : (high - low) / 2 < high - low = div-lt_self (omega (arith, l)) (omega arith) in omega (arith, l, half)
-
--- the same place, by the sum of both ends
-pub middle_from : (low high : ℕ) → low ≤ high → low ≤ (low + high) / 2
-middle_from low high l = omega (arith, l)
-
-pub middle_to : (low high : ℕ) → low < high → (low + high) / 2 < high
-middle_to low high l = omega (arith, l)
 
 -- the ticket isn't there, as the first of those that aren't lower, if there is one, has another
 pub not_there : {X : Type 0} (ticket : X → ℕ) (xs : List X) (n at : ℕ) → AreAscending ticket xs → ((k : ℕ) (d : X) → k < at → ticket (get_or xs k d) < n) → ((k : ℕ) (d : X) → at ≤ k → k < length xs → n ≤ ticket (get_or xs k d)) → (at < length xs → (d : X) → ticket (get_or xs at d) ≢ n) → All (λ x. (ticket x == n) ≡ false) xs
