@@ -15,8 +15,8 @@ use std::marker::Model;
 
 /// The live commands, in the order in which they entered. No two have the same tag.
 ///
-/// A command keeps its slot until it is taken out. Its place in either order is found by a search that parts the order,
-/// so the cost of a call is bounded for any tags that an initiator chooses.
+/// A command keeps its slot until it is taken out. Its place in either order is found by a search that parts the
+/// commands in four, so the cost of a call is bounded for any tags that an initiator chooses.
 ///
 /// While tags go up with the tickets, as those of most initiators do, one order serves for both.
 pub struct Commands {

@@ -1,7 +1,7 @@
 //! The search of a key in an order of commands.
 //!
-//! It looks at three places at a time, which part the commands in four, and counts those with lower keys. So it takes no
-//! branch by a key, which a processor would guess wrong half of the time.
+//! It looks at three places at a time, which part the commands in four, and counts those with lower keys. So it takes
+//! no branch by a key, which a processor would guess wrong half of the time. `iscsi_tasks` searches its sets likewise.
 
 ghost use Rattle.std.specs.Prelude.{◌≡◌, ℕ, ◌+◌, ◌*◌, ◌<◌, ◌≤◌, true, false, length, slice_index_or};
 ghost use Rattle.iscsi_commands.specs.Kept.{IsSortedBy, commands, key_of};
@@ -10,7 +10,7 @@ use crate::key::Key;
 use crate::live::Live;
 use iscsi_slots::{Order, Slots};
 
-/// In so many parts the commands are parted.
+/// In so many parts a step parts the commands. Its three tests are written for four.
 const PARTS: usize = 4;
 
 /// How many commands of an order have a lower key.

@@ -184,6 +184,7 @@ impl Session {
     ///
     /// Refusals, in order: `UnknownConnection`, `Exhausted`, `NoMemory`. Each leaves the session and `out`
     /// as they were. With `effect_bound()` places spare in `out`, memory isn't asked for.
+    // It is inlined, so that its caller has the numbers in registers: it would wait for them if they came by memory.
     #[inline(always)]
     pub fn step(&mut self, event: &Event, out: &mut Vec<Effect>) -> Result<Numbers, SessionFault>
         // Whatever list of events the session stands for, it stands for that list and the event.
@@ -252,7 +253,7 @@ impl Session {
         Ok(numbers)
     }
 
-    /// Takes an event that is counted.
+    /// Takes an event that is counted. It is apart from `step`, so that this one is short where it is inlined.
     #[inline(never)]
     fn apply(&mut self, event: &Event, out: &mut Vec<Effect>)
         requires known { comes_on self.old.conns event.now ≡ true }

@@ -16,7 +16,7 @@ const BLOCK: usize = 16;
 #[derive(Drop)]
 pub struct Order {
     /// The slots stand from `head` up to `end`. Nobody reads the other places, so slots that move take some of these
-    /// along: then they are whole blocks.
+    /// along, up to whole blocks where there are as many.
     places: Vec<u16>,
     /// The place of the first slot.
     head: usize,
@@ -84,8 +84,8 @@ impl Order {
         self.end += 1;
     }
 
-    /// Adds a slot at a place. Those on the shorter side of it make way; where no place before the first slot is free,
-    /// those behind it do.
+    /// Adds a slot at a place. Where that is in the front half, and a place before the first slot is free, the slots
+    /// before it make way, else those from there on do.
     pub fn insert(&mut self, k: usize, slot: u16)
         requires room { length self.old.items < self.old.room }
         requires place { k ≤ length self.old.items }
@@ -132,8 +132,8 @@ impl Order {
     }
 }
 
-/// Makes sure that there is a place behind the last slot, of no more than `most` places. Where the slots stand up to
-/// the last of these, all move to the front: the result says how far.
+/// Makes sure that there is a place behind the last slot. An order has no more than `most` places: where the slots
+/// stand up to the last of these, all move to the front, and the result says how far.
 fn make_place(order: &mut Vec<u16>, head: usize, end: usize, most: usize) -> usize
     requires head { head ≤ end }
     requires end { end ≤ length order.old.items }

@@ -85,7 +85,8 @@ impl Roster {
         self.order.push(slot);
     }
 
-    /// The member at a place leaves. Those on the shorter side of it close up; none moves where it is the oldest one.
+    /// The member at a place leaves. Those on the shorter side of it close up; none moves where it is the oldest one or
+    /// the youngest.
     pub(crate) fn remove(&mut self, k: usize)
         requires { k < length self.old.items }
         ensures { self.new ≡ queued (remove self.old.items k) self.old.room }

@@ -141,10 +141,10 @@ pub(crate) fn spread(
     true
 }
 
-/// Takes the first item that waits, looked for from the ring `next` on. It writes the event, and answers the place of its
-/// port or unit port; `next` is then the ring after the one that was served.
+/// Takes the first item that waits, looked for from the ring `next` on. It writes the event, and answers the place of
+/// its port or unit port; `next` is then the ring after the one that was served.
 ///
-/// The event is written where it stays: an event that is handed on is copied in pieces, for which the processor waits.
+/// The event is written where the turn reads it: one that is handed on is copied in pieces that wait for one another.
 pub(crate) fn poll(
     inlets: &mut Vec<Inlet>,
     conns: &[(u16, u32)],
