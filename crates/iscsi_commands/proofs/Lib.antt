@@ -1,2 +1,4 @@
 pub mod KeptLemmas
+pub mod LogLemmas
+pub mod TagIndexLemmas
 pub mod TagLemmas

@@ -4,9 +4,13 @@
 #![tactic(auto)]
 
 mod commands;
+mod entry;
 mod key;
 mod live;
+mod live_commands;
 mod search;
+mod tag_index;
 
 pub use commands::Commands;
 pub use live::Live;
+pub use live_commands::LiveCommands;

@@ -1,0 +1,48 @@
+use Rattle.std.proofs.Common.{◌≡◌, ◌≢◌, ◌<◌, ◌≤◌, ◌+◌, ℕ, List, length, get_or, ap, sym, subst, ◌∙◌, arith}
+use Rattle.std.proofs.lemmas.Bool.{false≢true}
+use Rattle.std.proofs.lemmas.List.{get_or_read}
+use Rattle.iscsi_commands.specs.Log.{AreTagged, tag_at, entry_at, group_of, IsLiveAt}
+use Rattle.iscsi_commands.proofs.TagIndexLemmas.{place_below, other_live, other_within, no_tagged}
+use Rattle.iscsi_commands.proofs.tag_index.TagIndex.find.Goals as goal
+
+pub index-requires : goal.index-requires
+index-requires c = let below = place_below c.requires c.args.itt in let is = c.group_of.ensures in omega (arith, below, is)
+
+pub count_below-place-requires-clause-within : goal.count_below-place-requires-clause-within
+count_below-place-requires-clause-within c = other_within c.requires
+
+pub entry_at-requires : goal.entry_at-requires
+entry_at-requires c =
+    let l = c.if-place-len.true in let long = c.len.ensures.len in
+    let here = other_within c.requires c.count_below-place.result (omega (arith, l, long)) in
+    let is = c.at.ensures in let same = c.from-other.ensures in
+    omega (arith, here, is, same)
+
+pub returns-then-entry_at-itt : goal.returns-then-entry_at-itt
+returns-then-entry_at-itt c =
+    let l = c.if-place-len.true in let long = c.len.ensures.len in
+    let is : get_or c.args.self.now.others.items c.count_below-place.result 0 ≡ c.from-other.result = sym c.at.ensures ∙ sym c.from-other.ensures in (
+      subst (IsLiveAt c.args.log.now) is (other_live c.requires c.count_below-place.result (omega (arith, l, long))),
+      sym (ap (λ e. e.command.itt) c.entry_at.ensures) ∙ c.if-entry_at-itt.true,
+    )
+
+pub returns-else-entry_at-itt : goal.returns-else-entry_at-itt
+returns-else-entry_at-itt c =
+    let places = c.args.self.now.places.items in
+    let found = c.count_below-place.ensures in
+    let inside : c.group_of.result < length places = let below = place_below c.requires c.args.itt in let is = c.group_of.ensures in omega (arith, below, is) in
+    let first : c.from-at.result ≡ get_or places (group_of c.args.itt) 0 = c.from-at.ensures ∙ get_or_read places c.group_of.result c.index.result.now inside c.index.ensures 0 ∙ ap (λ n. get_or places n 0) c.group_of.ensures in
+    no_tagged c.requires c.args.itt c.count_below-place.result found.below found.above
+    (λ live tag. false≢true (sym c.if-is_live_with.false ∙ c.is_live_with.ensures.no (subst (IsLiveAt c.args.log.now) (sym first) live) (ap (tag_at c.args.log.now) first ∙ tag)))
+    (λ l tag. c.if-entry_at-itt.false (ap (λ e. e.command.itt) c.entry_at.ensures ∙ ap (tag_at c.args.log.now) (c.from-other.ensures ∙ c.at.ensures) ∙ tag))
+
+pub returns-else-place-len : goal.returns-else-place-len
+returns-else-place-len c =
+    let places = c.args.self.now.places.items in
+    let found = c.count_below-place.ensures in
+    let over = c.if-place-len.false in let long = c.len.ensures.len in
+    let inside : c.group_of.result < length places = let below = place_below c.requires c.args.itt in let is = c.group_of.ensures in omega (arith, below, is) in
+    let first : c.from-at.result ≡ get_or places (group_of c.args.itt) 0 = c.from-at.ensures ∙ get_or_read places c.group_of.result c.index.result.now inside c.index.ensures 0 ∙ ap (λ n. get_or places n 0) c.group_of.ensures in
+    no_tagged c.requires c.args.itt c.count_below-place.result found.below found.above
+    (λ live tag. false≢true (sym c.if-is_live_with.false ∙ c.is_live_with.ensures.no (subst (IsLiveAt c.args.log.now) (sym first) live) (ap (tag_at c.args.log.now) first ∙ tag)))
+    (λ l. absurd (omega (arith, l, over, long)))

@@ -1,0 +1,68 @@
+-- The commands in the order in which they entered, of which some are live still.
+use Rattle.std.specs.Prelude.{◌≡◌, ◌≢◌, ℕ, ◌+◌, ◌*◌, ◌/◌, ◌%◌, ◌<◌, ◌≤◌, false, true, List, length, map, filter, slice_index_or, bit_xor, Option, MatchOption}
+use Rattle.iscsi_slots.specs.Slots.{times}
+use Rattle.iscsi_slots.specs.Places.{AreAscending}
+use Rattle.iscsi_commands.specs.declared.live.Live.{Live}
+use Rattle.iscsi_commands.specs.declared.entry.Entry.{Entry}
+use Rattle.iscsi_commands.specs.Commands.{AreTagsApart}
+use Rattle.iscsi_commands.specs.Kept.{BLANK}
+
+-- no command, which isn't live
+abbrev pub NOTHING : Entry
+NOTHING = record { command = BLANK; is_live = false }
+
+abbrev pub entry_at : List Entry → ℕ → Entry
+entry_at log k = slice_index_or log k NOTHING
+
+abbrev pub tag_at : List Entry → ℕ → ℕ
+tag_at log k = (entry_at log k).command.itt
+
+abbrev pub ticket_of : Entry → ℕ
+ticket_of e = e.command.ticket
+
+abbrev pub IsLiveAt : List Entry → ℕ → Type 0
+IsLiveAt log k = (entry_at log k).is_live ≡ true
+
+-- a command that isn't live any more
+abbrev pub ended : Entry → Entry
+ended e = record { command = e.command; is_live = false }
+
+-- the live commands
+abbrev pub live_in : List Entry → List Live
+live_in log = map (λ e. e.command) (filter (λ e. e.is_live) log)
+
+-- ---- their places by tag
+
+unfoldable pub group_of : ℕ → ℕ
+group_of itt = bit_xor itt (itt / 4096) % 4096
+
+-- each live command stands at the place of its tag's group, or among the others, which stand in the order of their tags
+pub record AreTagged (log : List Entry) (places others : List ℕ) : Type 0 where
+  pub size : length places ≡ 4096
+  pub known : (k : ℕ) → IsLiveAt log k → slice_index_or places (group_of (tag_at log k)) 0 ≢ k → 1 ≤ times k others
+  pub are_live : (k : ℕ) → 1 ≤ times k others → IsLiveAt log k
+  pub apart : (k : ℕ) → 1 ≤ times k others → slice_index_or places (group_of (tag_at log k)) 0 ≢ k
+  pub sorted : AreAscending (tag_at log) others
+  pub few : length others ≤ length log
+
+-- the place of the live command with this tag, or none
+abbrev pub IsTagPlace : List Entry → ℕ → Option ℕ → Type 0
+IsTagPlace log itt r = MatchOption r ((k : ℕ) → IsLiveAt log k → tag_at log k ≢ itt) (λ k. IsLiveAt log k × (tag_at log k ≡ itt))
+
+-- the place of the live command with this ticket, or none
+abbrev pub IsLivePlace : List Entry → ℕ → Option ℕ → Type 0
+IsLivePlace log ticket r = MatchOption r ((k : ℕ) → IsLiveAt log k → ticket_of (entry_at log k) ≢ ticket) (λ k. IsLiveAt log k × (ticket_of (entry_at log k) ≡ ticket))
+
+-- ---- what is kept of them
+
+pub record AreLogged (log : List Entry) (capacity live room hints : ℕ) (places others : List ℕ) (others_room : ℕ) : Type 0 where
+  pub ascending : AreAscending ticket_of log
+  pub apart : AreTagsApart (live_in log)
+  pub counted : live ≡ length (live_in log)
+  pub few : live ≤ room
+  pub long : length log ≤ 2 * room + 64
+  pub has_room : 2 * room + 64 ≤ capacity
+  pub short : room ≤ 32000
+  pub hinted : hints ≡ 4096
+  pub tagged : AreTagged log places others
+  pub for_others : others_room ≡ 2 * room + 64

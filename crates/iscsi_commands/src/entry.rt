@@ -1,0 +1,33 @@
+//! What is kept of a command that entered.
+
+ghost use Rattle.std.specs.Prelude.{◌≡◌, ◌<◌, length};
+ghost use Rattle.iscsi_commands.specs.Log.{entry_at, group_of};
+
+use crate::live::Live;
+
+/// In so many groups tags and tickets are parted.
+pub(crate) const GROUPS: usize = 4096;
+
+/// A command that entered, and whether it is live still.
+#[derive(Clone, Copy)]
+pub(crate) struct Entry {
+    pub(crate) command: Live,
+    pub(crate) is_live: bool,
+}
+
+/// The entry at a place of the log.
+#[inline(always)]
+pub(crate) fn entry_at(log: &[Entry], k: usize) -> &Entry
+    requires { k < length log.now }
+    ensures { result.now ≡ entry_at log.now k }
+{
+    &log[k]
+}
+
+/// The group of a tag. Tags that follow each other are in groups that do.
+#[inline(always)]
+pub(crate) fn group_of(itt: u32) -> usize
+    ensures { result ≡ group_of itt }
+{
+    (itt ^ (itt >> 12)) as usize % GROUPS
+}

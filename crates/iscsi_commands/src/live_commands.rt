@@ -1,0 +1,302 @@
+//! The live commands, found by ticket and by tag.
+
+ghost use Rattle.std.specs.Prelude.{◌≡◌, ℕ, ◌+◌, ◌*◌, ◌<◌, ◌≤◌, ◌==◌, ◌++◌, [], ◌∷◌, true, false, length, filter, slice_set, vec_len, vec_capacity, All, IfOk};
+ghost use Rattle.std.specs.List.{list_any};
+ghost use Rattle.iscsi_slots.specs.Queued.{queued};
+ghost use Rattle.iscsi_slots.specs.Places.{AreAscending as AreKeysAscending};
+ghost use Rattle.iscsi_commands.specs.Commands.{AreAscending, AreTagsApart, find_ticket, find_tag, without_ticket};
+ghost use Rattle.iscsi_commands.specs.Log.{AreTagged, IsLiveAt, IsLivePlace, ended, entry_at, live_in, tag_at, ticket_of};
+
+use crate::entry::{Entry, GROUPS, entry_at};
+use crate::live::Live;
+use crate::tag_index::TagIndex;
+use std::alloc::{AllocError, Global};
+use std::marker::Model;
+
+/// So many more entries than twice the live commands the log may have.
+const SPARE: usize = 64;
+
+/// The live commands, found by ticket and by Initiator Task Tag. No two have the same tag.
+///
+/// Commands that enter are noted one behind the other. One that leaves stays in the log, marked as ended, until there are
+/// more of these than live ones; then the live ones close up. So a command costs the same however many are live, and
+/// whichever leaves. The place of a command in the log is told by its ticket and by its tag, each at once mostly; where
+/// that isn't so it is found by a binary search.
+pub struct LiveCommands {
+    /// The commands in the order of their tickets.
+    log: Vec<Entry>,
+    /// How many of them are live.
+    live: usize,
+    room: usize,
+    /// For each group of tickets where the command that entered last stands in the log, or stood.
+    hints: Vec<u16>,
+    tags: TagIndex,
+}
+
+impl Drop for LiveCommands {
+    fn drop(self) {
+        let LiveCommands {
+            log: _log,
+            live: _live,
+            room: _room,
+            hints: _hints,
+            tags: _tags,
+        } = self;
+    }
+}
+
+impl Model for LiveCommands {
+    ghost use Rattle.std.specs.Prelude.{length, vec_capacity};
+    ghost use Rattle.iscsi_slots.specs.Queued.{Queued, queued};
+    ghost use Rattle.iscsi_commands.specs.declared.live.Live.{Live};
+    ghost use Rattle.iscsi_commands.specs.Log.{AreLogged, live_in};
+
+    ghost Value = { Queued Live };
+
+    ghost view = { λ c. queued (live_in c.log.items) c.room };
+
+    ghost invariant = { λ c. AreLogged c.log.items (vec_capacity c.log) c.live c.room (length c.hints.items)
+        c.tags.places.items c.tags.others.items c.tags.others.room };
+}
+
+impl LiveCommands {
+    /// None yet, with room for so many, 32,000 at the most. It takes all its memory here.
+    pub fn with_room(alloc: Global, room: usize) -> Result<LiveCommands, AllocError>
+        requires { room ≤ 32000 }
+        ensures { IfOk result (λ c. c ≡ queued [] room) }
+    {
+        let most = 2 * room + SPARE;
+        Ok(LiveCommands {
+            log: Vec::with_capacity(alloc, most)?,
+            live: 0,
+            room,
+            hints: vec![in alloc; 0; GROUPS]?,
+            tags: TagIndex::with_room(alloc, most)?,
+        })
+    }
+
+    /// How many commands are live.
+    pub fn len(&self) -> usize
+        ensures len { result ≡ length self.now.items }
+        ensures within { length self.now.items ≤ self.now.room }
+        ensures ascending { AreAscending self.now.items }
+    {
+        self.live
+    }
+
+    /// The command with this ticket.
+    pub fn find(&self, ticket: u64) -> Option<Live>
+        ensures command { result ≡ find_ticket ticket self.now.items }
+        ensures ascending { AreAscending self.now.items }
+    {
+        let k = place_of(&self.log, &self.hints, ticket)?;
+        Some(entry_at(&self.log, k).command)
+    }
+
+    /// The command with this Initiator Task Tag.
+    pub fn find_tagged(&self, itt: u32) -> Option<Live>
+        ensures command { result ≡ find_tag itt self.now.items }
+        ensures alone { AreTagsApart self.now.items }
+    {
+        let k = self.tags.find(&self.log, itt)?;
+        Some(entry_at(&self.log, k).command)
+    }
+
+    /// A command enters. Its ticket is greater than all others', and no other one has its tag.
+    ///
+    /// Once in as many calls as there are live commands, the live ones close up in the log.
+    pub fn push(&mut self, command: Live)
+        requires room { length self.old.items < self.old.room }
+        requires newest { All (λ l. l.ticket < command.ticket) self.old.items }
+        requires unused { list_any (λ l. l.itt == command.itt) self.old.items ≡ false }
+        ensures { self.new ≡ queued (self.old.items ++ command ∷ []) self.old.room }
+    {
+        make_way(
+            &mut self.log,
+            self.live,
+            &mut self.hints,
+            &mut self.tags,
+            command.ticket,
+        );
+        append(&mut self.log, &mut self.hints, &mut self.tags, command);
+        self.live += 1;
+    }
+
+    /// The command with this ticket leaves, if there is one.
+    pub fn remove(&mut self, ticket: u64)
+        ensures { self.new ≡ queued (without_ticket ticket self.old.items) self.old.room }
+    {
+        if let Some(k) = place_of(&self.log, &self.hints, ticket) {
+            self.tags.leave(&self.log, k);
+            end(&mut self.log, k);
+            self.live -= 1;
+        }
+    }
+}
+
+/// Where the log is long for so many live commands, or has an ended one with a greater ticket, the live ones close up.
+#[inline(always)]
+fn make_way(log: &mut Vec<Entry>, live: usize, hints: &mut [u16], tags: &mut TagIndex, ticket: u64)
+    requires ascending { AreKeysAscending ticket_of log.old.items }
+    requires apart { AreTagsApart (live_in log.old.items) }
+    requires counted { live ≡ length (live_in log.old.items) }
+    requires short { length log.old.items ≤ 65535 }
+    requires hints { length hints.old ≡ 4096 }
+    requires tagged { AreTagged log.old.items tags.old.places.items tags.old.others.items }
+    requires room { length log.old.items ≤ tags.old.others.room }
+    requires newest { All (λ l. l.ticket < ticket) (live_in log.old.items) }
+    ensures same { live_in log.new.items ≡ live_in log.old.items }
+    ensures ascending { AreKeysAscending ticket_of log.new.items }
+    ensures newest { All (λ e. ticket_of e < ticket) log.new.items }
+    ensures few { length log.new.items < 2 * live + 64 }
+    ensures tagged { AreTagged log.new.items tags.new.places.items tags.new.others.items }
+    ensures room { tags.new.others.room ≡ tags.old.others.room }
+    ensures capacity { vec_capacity log.new ≡ vec_capacity log.old }
+{
+    if log.len() >= 2 * live + SPARE || !is_newest(log, ticket) {
+        close_up(log, hints, tags);
+    }
+}
+
+/// A command enters behind all others of the log.
+#[inline(always)]
+fn append(log: &mut Vec<Entry>, hints: &mut [u16], tags: &mut TagIndex, command: Live)
+    requires room { vec_len log.old < vec_capacity log.old }
+    requires short { length log.old.items < 65536 }
+    requires hints { length hints.old ≡ 4096 }
+    requires tagged { AreTagged log.old.items tags.old.places.items tags.old.others.items }
+    requires others { length tags.old.others.items < tags.old.others.room }
+    requires unused { list_any (λ l. l.itt == command.itt) (live_in log.old.items) ≡ false }
+    ensures log { log.new.items ≡ log.old.items ++ record { command = command; is_live = true } ∷ [] }
+    ensures tagged { AreTagged log.new.items tags.new.places.items tags.new.others.items }
+    ensures room { tags.new.others.room ≡ tags.old.others.room }
+    ensures capacity { vec_capacity log.new ≡ vec_capacity log.old }
+{
+    let k = log.len();
+    log.push_reserved(Entry {
+        command,
+        is_live: true,
+    });
+    hints[hint_of(command.ticket)] = k as u16;
+    tags.enter(log, k);
+}
+
+/// The group of a ticket.
+#[inline(always)]
+fn hint_of(ticket: u64) -> usize
+    ensures { result < 4096 }
+{
+    (ticket % GROUPS as u64) as usize
+}
+
+/// The command at a place of the log isn't live any more.
+#[inline(always)]
+fn end(log: &mut Vec<Entry>, k: usize)
+    requires { k < length log.old.items }
+    ensures log { log.new.items ≡ slice_set log.old.items k (ended (entry_at log.old.items k)) }
+    ensures capacity { vec_capacity log.new ≡ vec_capacity log.old }
+{
+    let command = log[k].command;
+    log[k] = Entry {
+        command,
+        is_live: false,
+    };
+}
+
+/// Whether a ticket is greater than all of the log.
+#[inline(always)]
+fn is_newest(log: &[Entry], ticket: u64) -> bool
+    requires { AreKeysAscending ticket_of log.now }
+    ensures { result ≡ true → All (λ e. ticket_of e < ticket) log.now }
+{
+    let len = log.len();
+    len == 0 || entry_at(log, len - 1).command.ticket < ticket
+}
+
+/// The place of the live command with this ticket.
+#[inline(always)]
+fn place_of(log: &[Entry], hints: &[u16], ticket: u64) -> Option<usize>
+    requires ascending { AreKeysAscending ticket_of log.now }
+    requires hints { length hints.now ≡ 4096 }
+    ensures { IsLivePlace log.now ticket result }
+{
+    let k = place_in(log, hints, ticket);
+    if is_at(log, k, ticket) && entry_at(log, k).is_live {
+        Some(k)
+    } else {
+        None
+    }
+}
+
+/// Where a ticket stands in the log, if it does. The place of its group is looked at first.
+#[inline(always)]
+fn place_in(log: &[Entry], hints: &[u16], ticket: u64) -> usize
+    requires ascending { AreKeysAscending ticket_of log.now }
+    requires hints { length hints.now ≡ 4096 }
+    ensures { (k : ℕ) → k < length log.now → ticket_of (entry_at log.now k) ≡ ticket → k ≡ result }
+{
+    let hint = usize::from(hints[hint_of(ticket)]);
+    if is_at(log, hint, ticket) {
+        return hint;
+    }
+    count_below(log, ticket)
+}
+
+/// Whether the command at a place is there, and has this ticket.
+#[inline(always)]
+fn is_at(log: &[Entry], k: usize, ticket: u64) -> bool
+    ensures yes { result ≡ true → (k < length log.now) × (ticket_of (entry_at log.now k) ≡ ticket) }
+    ensures no { k < length log.now → ticket_of (entry_at log.now k) ≡ ticket → result ≡ true }
+{
+    k < log.len() && entry_at(log, k).command.ticket == ticket
+}
+
+/// How many commands of the log have a lower ticket, by binary search.
+fn count_below(log: &[Entry], ticket: u64) -> usize
+    requires { AreKeysAscending ticket_of log.now }
+    ensures within { result ≤ length log.now }
+    ensures below { (k : ℕ) → k < result → ticket_of (entry_at log.now k) < ticket }
+    ensures above { (k : ℕ) → result ≤ k → k < length log.now → ticket ≤ ticket_of (entry_at log.now k) }
+{
+    let mut low = 0;
+    let mut high = log.len();
+    while low < high {
+        let middle = low + (high - low) / 2;
+        if entry_at(log, middle).command.ticket < ticket {
+            low = middle + 1;
+        } else {
+            high = middle;
+        }
+    }
+    low
+}
+
+/// The live commands close up in the log.
+#[inline(never)]
+fn close_up(log: &mut Vec<Entry>, hints: &mut [u16], tags: &mut TagIndex)
+    requires short { length log.old.items ≤ 65535 }
+    requires hints { length hints.old ≡ 4096 }
+    requires places { length tags.old.places.items ≡ 4096 }
+    requires room { length log.old.items ≤ tags.old.others.room }
+    requires apart { AreTagsApart (live_in log.old.items) }
+    ensures log { log.new.items ≡ filter (λ e. e.is_live) log.old.items }
+    ensures capacity { vec_capacity log.new ≡ vec_capacity log.old }
+    ensures tagged { AreTagged log.new.items tags.new.places.items tags.new.others.items }
+    ensures room { tags.new.others.room ≡ tags.old.others.room }
+{
+    keep_live(log);
+    tags.clear();
+    for k in 0..log.len() {
+        hints[hint_of(entry_at(log, k).command.ticket)] = k as u16;
+        tags.enter(log, k);
+    }
+}
+
+/// The live commands stay in the log.
+fn keep_live(log: &mut Vec<Entry>)
+    ensures log { log.new.items ≡ filter (λ e. e.is_live) log.old.items }
+    ensures len { vec_len log.new ≤ vec_len log.old }
+    ensures capacity { vec_capacity log.new ≡ vec_capacity log.old }
+{
+    log.retain(|entry| entry.is_live);
+}

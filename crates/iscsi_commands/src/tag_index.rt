@@ -1,0 +1,157 @@
+//! Where the live commands stand in the log, by tag.
+
+ghost use Rattle.std.specs.Prelude.{◌≡◌, ◌≢◌, ℕ, ◌+◌, ◌<◌, ◌≤◌, true, [], length, take, slice_index_or, slice_set, IfOk};
+ghost use Rattle.iscsi_slots.specs.Places.{AreAscending};
+ghost use Rattle.iscsi_commands.specs.Log.{AreTagged, IsLiveAt, IsTagPlace, ended, entry_at, group_of, tag_at};
+
+use crate::entry::{Entry, GROUPS, entry_at, group_of};
+use iscsi_slots::Order;
+use std::alloc::{AllocError, Global};
+
+/// Where the live commands stand in the log, by tag.
+///
+/// Tags are in groups, and each group has a place. So a tag is found at once, unless others of its group are live. These
+/// stand apart, in the order of their tags, so that the cost is bounded for any tags that an initiator chooses.
+pub(crate) struct TagIndex {
+    /// For each group the place of a live command with a tag of the group, or any.
+    pub(crate) places: Vec<u16>,
+    /// The places of those that entered when the place of their group was taken.
+    pub(crate) others: Order,
+}
+
+impl Drop for TagIndex {
+    fn drop(self) {
+        let TagIndex {
+            places: _places,
+            others: _others,
+        } = self;
+    }
+}
+
+impl TagIndex {
+    /// No command yet, and room for so many that are apart.
+    pub(crate) fn with_room(alloc: Global, room: usize) -> Result<TagIndex, AllocError>
+        requires { room ≤ 65535 }
+        ensures tagged { IfOk result (λ t. AreTagged [] t.places.items t.others.items) }
+        ensures room { IfOk result (λ t. t.others.room ≡ room) }
+    {
+        Ok(TagIndex {
+            places: vec![in alloc; 0; GROUPS]?,
+            others: Order::with_room(alloc, room)?,
+        })
+    }
+
+    /// The place of the live command with this tag.
+    pub(crate) fn find(&self, log: &[Entry], itt: u32) -> Option<usize>
+        requires { AreTagged log.now self.now.places.items self.now.others.items }
+        ensures { IsTagPlace log.now itt result }
+    {
+        let at = usize::from(self.places[group_of(itt)]);
+        if is_live_with(log, at, itt) {
+            return Some(at);
+        }
+        let place = count_below(&self.others, log, itt);
+        if place < self.others.len() {
+            let other = usize::from(self.others.at(place));
+            if entry_at(log, other).command.itt == itt {
+                return Some(other);
+            }
+        }
+        None
+    }
+
+    /// The command at a place enters, behind those before it.
+    pub(crate) fn enter(&mut self, log: &[Entry], k: usize)
+        requires tagged { AreTagged (take k log.now) self.old.places.items self.old.others.items }
+        requires place { k < length log.now }
+        requires short { k < 65536 }
+        requires room { length self.old.others.items < self.old.others.room }
+        requires live { IsLiveAt log.now k }
+        requires unused { (j : ℕ) → IsLiveAt (take k log.now) j → tag_at log.now j ≢ tag_at log.now k }
+        ensures tagged { AreTagged (take (k + 1) log.now) self.new.places.items self.new.others.items }
+        ensures room { self.new.others.room ≡ self.old.others.room }
+    {
+        let itt = entry_at(log, k).command.itt;
+        let group = group_of(itt);
+        if is_taken(log, k, usize::from(self.places[group]), group) {
+            let place = count_below(&self.others, log, itt);
+            self.others.insert(place, k as u16);
+        } else {
+            self.places[group] = k as u16;
+        }
+    }
+
+    /// The live command at a place leaves.
+    pub(crate) fn leave(&mut self, log: &[Entry], k: usize)
+        requires tagged { AreTagged log.now self.old.places.items self.old.others.items }
+        requires live { IsLiveAt log.now k }
+        requires place { k < length log.now }
+        ensures tagged { AreTagged (slice_set log.now k (ended (entry_at log.now k))) self.new.places.items
+            self.new.others.items }
+        ensures room { self.new.others.room ≡ self.old.others.room }
+    {
+        let itt = entry_at(log, k).command.itt;
+        if usize::from(self.places[group_of(itt)]) != k {
+            let place = count_below(&self.others, log, itt);
+            self.others.remove(place);
+        }
+    }
+
+    /// No command is left.
+    pub(crate) fn clear(&mut self)
+        requires { length self.old.places.items ≡ 4096 }
+        ensures tagged { AreTagged [] self.new.places.items self.new.others.items }
+        ensures room { self.new.others.room ≡ self.old.others.room }
+    {
+        self.others.clear();
+    }
+}
+
+/// Whether the command at a place is there and live, and has this tag.
+#[inline(always)]
+fn is_live_with(log: &[Entry], k: usize, itt: u32) -> bool
+    ensures yes { result ≡ true → IsLiveAt log.now k × (tag_at log.now k ≡ itt) }
+    ensures no { IsLiveAt log.now k → tag_at log.now k ≡ itt → result ≡ true }
+{
+    if k >= log.len() {
+        return false;
+    }
+    let entry = entry_at(log, k);
+    entry.is_live && entry.command.itt == itt
+}
+
+/// Whether the command at a place, before place `to`, is live, and its tag is of this group.
+#[inline(always)]
+fn is_taken(log: &[Entry], to: usize, k: usize, group: usize) -> bool
+    requires { to ≤ length log.now }
+    ensures yes { result ≡ true → k < to }
+    ensures no { k < to → IsLiveAt log.now k → group_of (tag_at log.now k) ≡ group → result ≡ true }
+{
+    if k >= to {
+        return false;
+    }
+    let entry = entry_at(log, k);
+    entry.is_live && group_of(entry.command.itt) == group
+}
+
+/// How many of the others have a lower tag, by binary search.
+fn count_below(others: &Order, log: &[Entry], itt: u32) -> usize
+    requires within { (i : ℕ) → i < length others.now.items → slice_index_or others.now.items i 0 < length log.now }
+    requires sorted { AreAscending (tag_at log.now) others.now.items }
+    ensures within { result ≤ length others.now.items }
+    ensures below { (i : ℕ) → i < result → tag_at log.now (slice_index_or others.now.items i 0) < itt }
+    ensures above { (i : ℕ) → result ≤ i → i < length others.now.items →
+        itt ≤ tag_at log.now (slice_index_or others.now.items i 0) }
+{
+    let mut low = 0;
+    let mut high = others.len();
+    while low < high {
+        let middle = low + (high - low) / 2;
+        if entry_at(log, usize::from(others.at(middle))).command.itt < itt {
+            low = middle + 1;
+        } else {
+            high = middle;
+        }
+    }
+    low
+}
