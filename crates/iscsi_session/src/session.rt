@@ -27,7 +27,7 @@ ghost use Rattle.iscsi_session.specs.private.Functions.{owed};
 use crate::fault::SessionFault;
 use crate::options::Options;
 use crate::session::waiting::Waitlist;
-use iscsi_commands::Commands;
+use iscsi_commands::LiveCommands;
 use iscsi_connections::{Connections, MOST_IMMEDIATE};
 use iscsi_history::{Effect, Event, Numbers};
 use iscsi_tasks::TaskSet;
@@ -65,7 +65,7 @@ pub struct Session {
     /// How many events the session has taken.
     taken: u64,
     /// The live commands, found by ticket and by Initiator Task Tag.
-    live: Commands,
+    live: LiveCommands,
     /// The task set of each unit, at the unit's number.
     sets: Vec<TaskSet>,
     /// The protocol level, by which task management knows the queries (RFC 7144).
@@ -330,7 +330,7 @@ fn make_on(alloc: Global, options: Options, connections: Connections) -> Option<
         connections,
         entered: 0,
         taken: 0,
-        live: Commands::with_room(alloc, most_live).ok()?,
+        live: LiveCommands::with_room(alloc, most_live).ok()?,
         sets: sets::open(alloc, units, depth)?,
         level,
         arrived: arrival::open(alloc, size)?,

@@ -1,6 +1,6 @@
 -- What a session keeps after a part of an event, and the effects, by what it keeps before. For private contracts alone.
 use Rattle.std.specs.Prelude.{◌≡◌, ◌<◌, ℕ, pos, ◌-ℤ◌, ◌+◌, ◌-◌, ◌≤◌, ◌==◌, ◌&&◌, ◌||◌, not, count_by, nat_lt, nat_le, Bool, true, List, [], ◌∷◌, ◌++◌, length, map, filter, slice_index_or, slice_set, Option, Some, None, option_map, if◌then◌else◌}
-use Rattle.std.specs.List.{list_any, remove}
+use Rattle.std.specs.List.{list_any}
 use Rattle.iscsi_wire.specs.declared.request.Request.{Request}
 use Rattle.iscsi_wire.specs.declared.reply.Reply.{Reply}
 use Rattle.iscsi_wire.specs.declared.reply.Reply.TheVariants.{Scsi}
@@ -179,10 +179,8 @@ enabled_of s ticket x = elim x [ Some l ↦ if is_enabled_in ticket (set_at s l.
 abbrev pub find_enabled : Core → ℕ → Option Live
 find_enabled s ticket = enabled_of s ticket (find_ticket ticket s.live)
 
--- a live command has these places among the live ones and in its set
-pub record IsFound (s : Core) (at place : ℕ) (l : Live) : Type 0 where
-  pub inside : at < length s.live
-  pub rest : remove s.live at ≡ without_ticket l.ticket s.live
+-- a live command has this place in its set
+pub record IsFound (s : Core) (place : ℕ) (l : Live) : Type 0 where
   pub placed : place < length (set_at s l.unit).list
   pub named : (d : Member) → with_ticket l.ticket (tasks_in (set_at s l.unit)) ≡ Some (slice_index_or (set_at s l.unit).list place d).task
 

@@ -23,8 +23,6 @@ const INTERNAL_FAILURE: Sense = Sense {
 /// A live command that is enabled, and where it is.
 #[derive(Clone, Copy)]
 struct Enabled {
-    /// Its place among the live commands.
-    at: usize,
     /// Its place in the set of its unit.
     place: u32,
     /// What is kept of it.
@@ -49,7 +47,7 @@ impl Session {
         let command = found.command;
         let stat_sn = self.next_stat_sn(command.conn);
         finish(&mut self.window, &mut self.connections, &command);
-        self.live.remove_at(found.at);
+        self.live.remove(ticket);
         out.push_reserved(Effect::Leave {
             ticket: command.ticket,
             unit: command.unit,
@@ -71,12 +69,11 @@ impl Session {
     fn find_enabled(&self, ticket: u64) -> Option<Enabled>
         ensures command { option_map (λ e. e.command) result ≡ find_enabled self.now ticket }
         ensures known { IfSome result (λ e. known_in e.command.conn self.now.conns ≡ true) }
-        ensures places { IfSome result (λ e. IsFound self.now e.at e.place e.command) }
+        ensures places { IfSome result (λ e. IsFound self.now e.place e.command) }
     {
-        let at = self.live.place(ticket)?;
-        let command = *self.live.at(at);
-        let place = self.sets[usize::from(command.unit)].enabled_place(ticket, at)?;
-        Some(Enabled { at, place, command })
+        let command = self.live.find(ticket)?;
+        let place = self.sets[usize::from(command.unit)].enabled_place(ticket, 0)?;
+        Some(Enabled { place, command })
     }
 }
 

@@ -128,18 +128,17 @@ impl Session {
             + owed self.old.live self.old.sets + 4 }
         ensures capacity { vec_capacity out.new ≡ vec_capacity out.old }
     {
-        let mut guess = 0;
-        match self.verdict(request, &mut guess) {
+        match self.verdict(request) {
             Verdict::Nothing => {}
             Verdict::Answer(reply) => self.reply(request.conn(), reply, out),
-            Verdict::Enter(unit) => self.enter(request, unit, guess, out),
+            Verdict::Enter(unit) => self.enter(request, unit, out),
         }
     }
 
-    /// What the execution of a request comes to. Where a command enters, the guess of its place among the tags is noted.
+    /// What the execution of a request comes to.
     ///
     /// Rule: `text/rejected`.
-    fn verdict(&self, request: &Request, guess: &mut usize) -> Verdict
+    fn verdict(&self, request: &Request) -> Verdict
         requires { known_in (connection_of request.now) self.now.conns ≡ true }
         ensures { result ≡ verdict_by self.now request.now }
     {
@@ -152,15 +151,14 @@ impl Session {
             | Opcode::DataOut
             | Opcode::Logout
             | Opcode::Snack
-            | Opcode::Unknown => self.scsi_verdict(request, guess),
+            | Opcode::Unknown => self.scsi_verdict(request),
         }
     }
 
-    /// What a SCSI Command comes to: the first case of its table that fits (SAM-5 section 8). Where it enters, the guess of
-    /// its place among the tags is noted.
+    /// What a SCSI Command comes to: the first case of its table that fits (SAM-5 section 8).
     ///
     /// Rules: `command/no-tag`, `command/attribute`, `command/tag-in-use`.
-    fn scsi_verdict(&self, request: &Request, guess: &mut usize) -> Verdict
+    fn scsi_verdict(&self, request: &Request) -> Verdict
         requires { known_in (connection_of request.now) self.now.conns ≡ true }
         ensures { result ≡ scsi_verdict request.now (is_tag_kept self.now (tag_of request.now))
             (is_crowded_by self.now request.now) (place_in self.now.sets request.now) }
@@ -168,20 +166,18 @@ impl Session {
         let itt = request.itt();
         if itt == NO_TAG || request.attr() > GREATEST_ATTR {
             reject(request, Reason::InvalidField)
-        } else if self.is_tag_live(itt, guess) {
+        } else if self.is_tag_live(itt) {
             reject(request, Reason::TaskInProgress)
         } else {
             sets::verdict_in(request, self.is_crowded(request), &self.sets)
         }
     }
 
-    /// Whether a live command has this tag. The guess of the place of one that enters with it is noted.
-    fn is_tag_live(&self, itt: u32, guess: &mut usize) -> bool
+    /// Whether a live command has this tag.
+    fn is_tag_live(&self, itt: u32) -> bool
         ensures { result ≡ is_tag_kept self.now itt }
     {
-        let (command, place) = self.live.look_up_tagged(itt);
-        *guess = place;
-        command.is_some()
+        self.live.find_tagged(itt).is_some()
     }
 
     /// Whether a request is immediate, and its connection has as many live immediate commands as it may.
@@ -218,9 +214,8 @@ impl Session {
         self.connections.assign_stat_sn(cid)
     }
 
-    /// A command enters the set of a unit, which has room for it. No live command has its tag; the guess of its place among
-    /// the tags may be any.
-    fn enter(&mut self, request: &Request, unit: u16, guess: usize, out: &mut Vec<Effect>)
+    /// A command enters the set of a unit, which has room for it. No live command has its tag.
+    fn enter(&mut self, request: &Request, unit: u16, out: &mut Vec<Effect>)
         requires space { is_immediate request.now ≡ false → HasRoom self.old.window }
         requires few { is_immediate request.now ≡ true →
             immediate_in self.old.live (connection_of request.now) < MOST_IMMEDIATE }
@@ -248,7 +243,7 @@ impl Session {
             itt: request.itt(),
             immediate: request.immediate(),
         };
-        self.live.push_near(command, guess);
+        self.live.push(command);
         out.push_reserved(Effect::Enter { ticket, unit, attr });
         let task = Task {
             ticket,

@@ -9,7 +9,7 @@ ghost use Rattle.iscsi_session.specs.private.Functions.{staying, set_staying, fi
 
 use crate::session::completion::finish;
 use crate::session::{Session, sets};
-use iscsi_commands::Commands;
+use iscsi_commands::LiveCommands;
 use iscsi_connections::Connections;
 use iscsi_history::Effect;
 use iscsi_tasks::{Cover, TaskSet};
@@ -100,7 +100,7 @@ fn end_covered(
     cover: &Cover,
     window: &mut Window,
     connections: &mut Connections,
-    live: &mut Commands,
+    live: &mut LiveCommands,
     out: &mut Vec<Effect>,
 )
     requires there { tickets_of set.now ≡ tickets_in unit live.old.items }
@@ -135,7 +135,7 @@ fn end_one(
     ticket: u64,
     window: &mut Window,
     connections: &mut Connections,
-    live: &mut Commands,
+    live: &mut LiveCommands,
     out: &mut Vec<Effect>,
 )
     requires there { is_there ≡ true → IsSome (find_ticket ticket live.old.items) }
@@ -160,7 +160,7 @@ fn end_one(
 }
 
 /// The live command with this ticket is over.
-fn end(window: &mut Window, connections: &mut Connections, live: &mut Commands, ticket: u64)
+fn end(window: &mut Window, connections: &mut Connections, live: &mut LiveCommands, ticket: u64)
     requires ascending { are_ascending live.old.items ≡ true }
     requires there { IsSome (find_ticket ticket live.old.items) }
     requires numbered { count_by is_numbered live.old.items ≤ window.old.unfinished }
@@ -172,8 +172,7 @@ fn end(window: &mut Window, connections: &mut Connections, live: &mut Commands, 
     ensures counted { AreCounted connections.new.immediate connections.old.conns live.new.items }
     ensures capacity { live.new.room ≡ live.old.room }
 {
-    let at = live.place(ticket).unwrap();
-    let command = *live.at(at);
+    let command = live.find(ticket).unwrap();
     finish(window, connections, &command);
-    live.remove_at(at);
+    live.remove(ticket);
 }

@@ -35,8 +35,8 @@ all_before n units lives within = λ k d lt.
     let test = AllPass-from_list_all (λ (l : Live). nat_le l.ticket n && nat_lt l.unit units) lives within k d lt in
     grind (arith, nat_tests)
 
-pub push_near-requires-clause-room : goal.push_near-requires-clause-room
-push_near-requires-clause-room c =
+pub push-requires-clause-room : goal.push-requires-clause-room
+push-requires-clause-room c =
     let inv = c.self.invariant in
     omega (
       arith,
@@ -45,11 +45,11 @@ push_near-requires-clause-room c =
           inv.commands.numbered inv.window.fits inv.commands.counted.few inv.commands.known (rw (← c.self.view_is) at c.requires.known) (λ is. (rw (← c.self.view_is) at (c.requires.space is)).not_full) (rw (← c.self.view_is) at c.requires.few),
     )
 
-pub push_near-requires-clause-newest : goal.push_near-requires-clause-newest
-push_near-requires-clause-newest c = all_before c.self.inside.entered (length c.self.inside.sets.items) c.self.inside.live.items c.self.invariant.commands.within
+pub push-requires-clause-newest : goal.push-requires-clause-newest
+push-requires-clause-newest c = all_before c.self.inside.entered (length c.self.inside.sets.items) c.self.inside.live.items c.self.invariant.commands.within
 
-pub push_near-requires-clause-unused : goal.push_near-requires-clause-unused
-push_near-requires-clause-unused c = rw c.itt.ensures (rw (← c.self.view_is) at c.requires.unused)
+pub push-requires-clause-unused : goal.push-requires-clause-unused
+push-requires-clause-unused c = rw c.itt.ensures (rw (← c.self.view_is) at c.requires.unused)
 
 -- the set of the unit has the task as the definitions say
 sets_are : (c : After-enter) → c.enter.new.sets ≡ set c.self.inside.sets.items c.args.unit (given_by (entered_to (get_or c.self.inside.sets.items c.args.unit (opened 0)) (new_task c.args.self.now c.args.request.now)))
@@ -63,8 +63,8 @@ sets_now : (c : After-enter) → take c.self.inside.sets.len (c.enter.new.sets +
 sets_now c = written c.self.inside.sets.len c.enter.new.sets c.self.inside.sets.items (ap length (sets_are c) ∙ length-set c.self.inside.sets.items c.args.unit _) c.self.inside.sets.ok.0
 
 -- the live commands are those of before and the new one
-lives_are : (c : After-enter) → c.push_near.new.self.items ≡ c.self.inside.live.items ++ new_live c.args.self.now c.args.request.now c.args.unit ∷ []
-lives_are c = ap (λ (q : Queued Live). q.items) c.push_near.ensures ∙ rw (c.conn.ensures, c.itt.ensures, c.immediate.ensures, ap (λ (s : Core). s.entered) c.self.view_is)
+lives_are : (c : After-enter) → c.push.new.self.items ≡ c.self.inside.live.items ++ new_live c.args.self.now c.args.request.now c.args.unit ∷ []
+lives_are c = ap (λ (q : Queued Live). q.items) c.push.ensures ∙ rw (c.conn.ensures, c.itt.ensures, c.immediate.ensures, ap (λ (s : Core). s.entered) c.self.view_is)
 
 pub invariant_of-self : goal.invariant_of-self
 invariant_of-self c =
@@ -83,7 +83,7 @@ invariant_of-self c =
     (rw now (Match-entered old c.self.inside.live.items l (new_task c.args.self.now r) inv.commands.in_sets inside refl))
     (AreCounted-entered c.self.inside.connections.immediate c.begin.new.connections.immediate conns c.self.inside.live.items l inv.commands.counted c.begin.ensures.long c.begin.ensures.counted (rw (← c.self.view_is) at c.requires.few)) in
     commands_sound_on inv (ap (λ (x : Connected). x.conns) c.begin.ensures.connections) (places_sound inv.window w.1.0 w.0 w.1.1.1 (omega (arith, rw (← c.self.view_is) at c.requires.counted))) commands w.1.0 long
-    (let room = ap (λ (q : Queued Live). q.room) c.push_near.ensures in omega (arith, room))
+    (let room = ap (λ (q : Queued Live). q.room) c.push.ensures in omega (arith, room))
 
 pub returns-clause-session : goal.returns-clause-session
 returns-clause-session c =
