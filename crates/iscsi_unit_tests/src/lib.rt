@@ -1,7 +1,9 @@
-//! Tests of the public calls of the wire, the window and the task sets. They stand here, over their libraries, since a
-//! crate with tests is proved twice.
+//! Tests of the public calls of the wire, the window, the task sets and the live commands. They stand here, over their
+//! libraries, since a crate with tests is proved twice.
 #![tactic(auto)]
 
+#[cfg(test)]
+mod live_commands;
 #[cfg(test)]
 mod logical_unit;
 #[cfg(test)]
