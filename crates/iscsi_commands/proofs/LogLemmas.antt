@@ -1,8 +1,8 @@
 -- The commands in the order in which they entered, of which some are live.
-use Rattle.std.proofs.Common.{◌≡◌, ◌≢◌, ℕ, zero, suc, ◌+◌, ◌-◌, ◌*◌, ◌/◌, ◌%◌, ◌<◌, ◌≤◌, ◌==◌, not, cond, Bool, true, false, List, [], ◌∷◌, ◌++◌, length, map, filter, find, get_or, set, take, Option, All, Some, None, refl, ap, sym, subst, ◌∙◌, arith, ⊎_elim, ◌||◌, eq-eqb, ne_eqb}
-use Rattle.std.specs.List.{AllPairs, list_any}
+use Rattle.std.proofs.Common.{◌≡◌, ◌≢◌, ℕ, zero, suc, ◌+◌, ◌-◌, ◌*◌, ◌<◌, ◌≤◌, ◌==◌, not, cond, Bool, true, false, List, [], ◌∷◌, ◌++◌, length, map, filter, find, get_or, set, take, All, Some, None, refl, ap, sym, subst, ◌∙◌, arith, ⊎_elim, ◌||◌, eq-eqb, ne_eqb}
+use Rattle.std.specs.List.{list_any}
 use Rattle.std.proofs.lemmas.Bool.{cases_Bool, cases_lt, cases_eq, false≢true, or_parts, eqb-true}
-use Rattle.std.proofs.lemmas.List.{get_or_past, get_or-take, get_or-map, get_or_default, length-take, length-map, map-append, take_at, get_or_append_left, get_or_push, get_or-set_same, get_or-set_other, length-set, length_push}
+use Rattle.std.proofs.lemmas.List.{get_or_past, get_or-map, get_or_default, length-map, map-append, take_at, get_or_append_left, get_or_push, get_or-set_same, get_or-set_other, length-set, length_push}
 use Rattle.std.proofs.lemmas.List.Quantifiers.{all_pairs_push}
 use Rattle.std.proofs.lemmas.List.Folds.{list_any_at}
 use Rattle.std.proofs.lemmas.List.Elements.{filter-append, filter_passes}
@@ -346,7 +346,7 @@ logged_without {log} logged n k is_live is tagged =
 
 -- ---- and as one enters
 
-pub logged_with : (log : List Entry) (command : Live) {capacity live room hints : ℕ} {places others : List ℕ} {others_room : ℕ} → AreAscending ticket_of log → AreTagsApart (live_in log) → live ≡ length (live_in log) → live < room → length log < 2 * live + 64 → 2 * room + 64 ≤ capacity → room ≤ 32000 → hints ≡ 4096 → others_room ≡ 2 * room + 64
+pub logged_with : (log : List Entry) (command : Live) {capacity live room hints : ℕ} {places others : List ℕ} {others_room : ℕ} → AreAscending ticket_of log → AreTagsApart (live_in log) → live ≡ length (live_in log) → live < room → length log < 2 * live + 64 → 2 * room + 64 ≤ capacity → room ≤ 2048 → hints ≡ 4096 → others_room ≡ 2 * room + 64
     → All (λ e. ticket_of e < command.ticket) log → list_any (λ l. l.itt == command.itt) (live_in log) ≡ false → AreTagged (log ++ record { command = command; is_live = true } ∷ []) places others → AreLogged (log ++ record { command = command; is_live = true } ∷ []) capacity (live + 1) room hints places others others_room
 logged_with log command {live = live} {room = room} up apart counted few short has_room small hinted for_others newest unused tagged =
     let e : Entry = record { command = command; is_live = true } in
@@ -365,7 +365,7 @@ logged_with log command {live = live} {room = room} up apart counted few short h
       for_others = for_others;
     }
 
-pub none_logged : (capacity room hints others_room : ℕ) → 2 * room + 64 ≤ capacity → room ≤ 32000 → hints ≡ 4096 → others_room ≡ 2 * room + 64 → {places others : List ℕ} → AreTagged [] places others → AreLogged [] capacity 0 room hints places others others_room
+pub none_logged : (capacity room hints others_room : ℕ) → 2 * room + 64 ≤ capacity → room ≤ 2048 → hints ≡ 4096 → others_room ≡ 2 * room + 64 → {places others : List ℕ} → AreTagged [] places others → AreLogged [] capacity 0 room hints places others others_room
 none_logged capacity room hints others_room has_room small hinted for_others tagged = record {
   ascending = λ i j d lt l. absurd (omega (arith, l));
   apart = λ i j d lt l. absurd (omega (arith, l));

@@ -1,5 +1,5 @@
 -- The commands in the order in which they entered, of which some are live still.
-use Rattle.std.specs.Prelude.{◌≡◌, ◌≢◌, ℕ, ◌+◌, ◌*◌, ◌/◌, ◌%◌, ◌<◌, ◌≤◌, false, true, List, length, map, filter, slice_index_or, bit_xor, Option, MatchOption}
+use Rattle.std.specs.Prelude.{◌≡◌, ◌≢◌, ℕ, ◌+◌, ◌*◌, ◌/◌, ◌%◌, ◌≤◌, false, true, List, length, map, filter, slice_index_or, Option, MatchOption}
 use Rattle.iscsi_slots.specs.Slots.{times}
 use Rattle.iscsi_slots.specs.Places.{AreAscending}
 use Rattle.iscsi_commands.specs.declared.live.Live.{Live}
@@ -34,7 +34,7 @@ live_in log = map (λ e. e.command) (filter (λ e. e.is_live) log)
 -- ---- their places by tag
 
 unfoldable pub group_of : ℕ → ℕ
-group_of itt = bit_xor itt (itt / 4096) % 4096
+group_of itt = (itt * 2654435769 % 4294967296) / 1048576
 
 -- each live command stands at the place of its tag's group, or among the others, which stand in the order of their tags
 pub record AreTagged (log : List Entry) (places others : List ℕ) : Type 0 where
@@ -62,7 +62,7 @@ pub record AreLogged (log : List Entry) (capacity live room hints : ℕ) (places
   pub few : live ≤ room
   pub long : length log ≤ 2 * room + 64
   pub has_room : 2 * room + 64 ≤ capacity
-  pub short : room ≤ 32000
+  pub short : room ≤ 2048
   pub hinted : hints ≡ 4096
   pub tagged : AreTagged log places others
   pub for_others : others_room ≡ 2 * room + 64

@@ -24,10 +24,11 @@ pub(crate) fn entry_at(log: &[Entry], k: usize) -> &Entry
     &log[k]
 }
 
-/// The group of a tag. Tags that follow each other are in groups that do.
+/// The group of a tag: the upper twelve bits of its product with an odd number near 2^32 by the golden ratio (Fibonacci
+/// hashing). Tags that follow each other are spread evenly: 2,584 in a row are each in a group of its own.
 #[inline(always)]
 pub(crate) fn group_of(itt: u32) -> usize
     ensures { result ≡ group_of itt }
 {
-    (itt ^ (itt >> 12)) as usize % GROUPS
+    (itt.wrapping_mul(0x9e37_79b9) >> 20) as usize
 }

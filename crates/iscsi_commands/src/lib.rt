@@ -1,5 +1,6 @@
 //! The live commands of a session: found by ticket and by Initiator Task Tag.
 //!
+//! `LiveCommands` finds them at once, and is what a session uses; `Commands` finds them by searches, and has places for them.
 //! All memory is taken when they are opened.
 #![tactic(auto)]
 

@@ -1,6 +1,6 @@
 //! The live commands, found by ticket and by tag.
 
-ghost use Rattle.std.specs.Prelude.{◌≡◌, ℕ, ◌+◌, ◌*◌, ◌<◌, ◌≤◌, ◌==◌, ◌++◌, [], ◌∷◌, true, false, length, filter, slice_set, vec_len, vec_capacity, All, IfOk};
+ghost use Rattle.std.specs.Prelude.{◌≡◌, ℕ, ◌+◌, ◌*◌, ◌<◌, ◌≤◌, ◌==◌, ◌↔◌, ◌++◌, [], ◌∷◌, true, false, length, filter, slice_set, vec_len, vec_capacity, All, IfOk};
 ghost use Rattle.std.specs.List.{list_any};
 ghost use Rattle.iscsi_slots.specs.Queued.{queued};
 ghost use Rattle.iscsi_slots.specs.Places.{AreAscending as AreKeysAscending};
@@ -13,15 +13,15 @@ use crate::tag_index::TagIndex;
 use std::alloc::{AllocError, Global};
 use std::marker::Model;
 
-/// So many more entries than twice the live commands the log may have.
+/// A command that enters finds fewer entries in the log than twice the live commands and so many more.
 const SPARE: usize = 64;
 
 /// The live commands, found by ticket and by Initiator Task Tag. No two have the same tag.
 ///
-/// Commands that enter are noted one behind the other. One that leaves stays in the log, marked as ended, until there are
-/// more of these than live ones; then the live ones close up. So a command costs the same however many are live, and
-/// whichever leaves. The place of a command in the log is told by its ticket and by its tag, each at once mostly; where
-/// that isn't so it is found by a binary search.
+/// Commands that enter are noted in a log, one behind the other. One that leaves stays there, marked as ended, until a
+/// command enters and there are more than 64 ended ones beyond the live ones: then the live ones close up. The place of a
+/// command in the log is told by its ticket and by its tag, each at once mostly. Where a younger command has the ticket's
+/// hint, or another live one the place of the tag's group, it is found by a binary search.
 pub struct LiveCommands {
     /// The commands in the order of their tickets.
     log: Vec<Entry>,
@@ -60,9 +60,9 @@ impl Model for LiveCommands {
 }
 
 impl LiveCommands {
-    /// None yet, with room for so many, 32,000 at the most. It takes all its memory here.
+    /// None yet, with room for so many, 2,048 at the most. It takes all its memory here.
     pub fn with_room(alloc: Global, room: usize) -> Result<LiveCommands, AllocError>
-        requires { room ≤ 32000 }
+        requires { room ≤ 2048 }
         ensures { IfOk result (λ c. c ≡ queued [] room) }
     {
         let most = 2 * room + SPARE;
@@ -104,7 +104,8 @@ impl LiveCommands {
 
     /// A command enters. Its ticket is greater than all others', and no other one has its tag.
     ///
-    /// Once in as many calls as there are live commands, the live ones close up in the log.
+    /// Once in as many calls as there are live commands, at the most, these close up in the log: one pass over it, in which
+    /// each of them enters by its tag anew. So they do where the ticket isn't above those of all commands that left since.
     pub fn push(&mut self, command: Live)
         requires room { length self.old.items < self.old.room }
         requires newest { All (λ l. l.ticket < command.ticket) self.old.items }
@@ -134,7 +135,8 @@ impl LiveCommands {
     }
 }
 
-/// Where the log is long for so many live commands, or has an ended one with a greater ticket, the live ones close up.
+/// Where the log is long for so many live commands, or has an ended one with this ticket or a greater one, the live ones
+/// close up.
 #[inline(always)]
 fn make_way(log: &mut Vec<Entry>, live: usize, hints: &mut [u16], tags: &mut TagIndex, ticket: u64)
     requires ascending { AreKeysAscending ticket_of log.old.items }
@@ -207,7 +209,7 @@ fn end(log: &mut Vec<Entry>, k: usize)
 #[inline(always)]
 fn is_newest(log: &[Entry], ticket: u64) -> bool
     requires { AreKeysAscending ticket_of log.now }
-    ensures { result ≡ true → All (λ e. ticket_of e < ticket) log.now }
+    ensures { (result ≡ true) ↔ All (λ e. ticket_of e < ticket) log.now }
 {
     let len = log.len();
     len == 0 || entry_at(log, len - 1).command.ticket < ticket

@@ -10,8 +10,9 @@ use std::alloc::{AllocError, Global};
 
 /// Where the live commands stand in the log, by tag.
 ///
-/// Tags are in groups, and each group has a place. So a tag is found at once, unless others of its group are live. These
-/// stand apart, in the order of their tags, so that the cost is bounded for any tags that an initiator chooses.
+/// Tags are in groups, and each group has a place. A command that enters when the place of its group is taken stands apart,
+/// in the order of the tags. So a tag is looked for at one place, and among those that stand apart by a binary search: the
+/// cost is bounded for any tags that an initiator chooses.
 pub(crate) struct TagIndex {
     /// For each group the place of a live command with a tag of the group, or any.
     pub(crate) places: Vec<u16>,
@@ -124,7 +125,7 @@ fn is_live_with(log: &[Entry], k: usize, itt: u32) -> bool
 #[inline(always)]
 fn is_taken(log: &[Entry], to: usize, k: usize, group: usize) -> bool
     requires { to ≤ length log.now }
-    ensures yes { result ≡ true → k < to }
+    ensures yes { result ≡ true → (k < to) × IsLiveAt log.now k × (group_of (tag_at log.now k) ≡ group) }
     ensures no { k < to → IsLiveAt log.now k → group_of (tag_at log.now k) ≡ group → result ≡ true }
 {
     if k >= to {

@@ -19,7 +19,7 @@ struct Both {
 
 impl Both {
     fn with_room(alloc: Global, room: usize) -> Result<Both, AllocError>
-        requires { room ≤ 32000 }
+        requires { room ≤ 2048 }
     {
         Ok(Both {
             live: LiveCommands::with_room(alloc, room)?,
@@ -91,13 +91,18 @@ fn is_same(one: Option<Live>, other: Option<Live>) -> bool {
     }
 }
 
+/// The tag that the number which scatters groups takes to 1: its multiples below 2^20 are in the group of the tag 0.
+const OF_THE_GROUP: u32 = 0x144c_bc89;
+
 /// How an initiator gives tags out.
 #[derive(Clone, Copy, Debug)]
 enum Tags {
     InOrder,
     Scattered,
-    /// All in the group of the tag 0x5a5, where the bits above the twelfth are taken into those below.
+    /// All in the group of the tag 0.
     OneGroup,
+    /// All in the group of the tag 0 too, and each below the one before, 4,600 times.
+    OneGroupDown,
 }
 
 impl Tags {
@@ -106,7 +111,10 @@ impl Tags {
         match self {
             Tags::InOrder => number,
             Tags::Scattered => number.wrapping_mul(0x9e37_79b1),
-            Tags::OneGroup => number.wrapping_mul(4096) | (number ^ 0x5a5) % 4096,
+            Tags::OneGroup => number.wrapping_mul(OF_THE_GROUP),
+            Tags::OneGroupDown => (4_600 - number % 4_600)
+                .wrapping_mul(227)
+                .wrapping_mul(OF_THE_GROUP),
         }
     }
 }
@@ -127,7 +135,7 @@ struct Calls {
 
 impl Calls {
     fn new(alloc: Global, room: usize, tags: Tags, comes_again: bool) -> Result<Calls, AllocError>
-        requires { room ≤ 32000 }
+        requires { room ≤ 2048 }
     {
         Ok(Calls {
             both: Both::with_room(alloc, room)?,
@@ -226,7 +234,12 @@ fn agree_at_each_step(calls: &mut Calls, steps: u32) -> bool {
 
 #[test]
 fn live_commands_are_found_as_plain_ones_are(rt: HostRuntime) -> Result<(), Fail> {
-    for tags in [Tags::InOrder, Tags::Scattered, Tags::OneGroup] {
+    for tags in [
+        Tags::InOrder,
+        Tags::Scattered,
+        Tags::OneGroup,
+        Tags::OneGroupDown,
+    ] {
         for room in [1, 2, 9, 70, 300] {
             for comes_again in [false, true] {
                 let mut calls = Calls::new(rt.alloc(), room, tags, comes_again)?;
@@ -238,7 +251,7 @@ fn live_commands_are_found_as_plain_ones_are(rt: HostRuntime) -> Result<(), Fail
     Ok(())
 }
 
-/// A command of this ticket, whose tag is the ticket too.
+/// A command of this ticket, which is its tag too, for a ticket below 65,536.
 fn command(ticket: u64) -> Live {
     Live {
         ticket,

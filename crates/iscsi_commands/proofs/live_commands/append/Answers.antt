@@ -1,4 +1,4 @@
-use Rattle.std.proofs.Common.{true, ◌≡◌, ◌≢◌, ◌++◌, [], ◌∷◌, ℕ, List, length, take, sym, ap, subst, ◌∙◌, rules}
+use Rattle.std.proofs.Common.{true, ◌≡◌, ◌≢◌, ◌++◌, [], ◌∷◌, ℕ, List, length, take, sym, subst, ◌∙◌, rules}
 use Rattle.iscsi_commands.specs.declared.entry.Entry.{Entry}
 use Rattle.iscsi_commands.specs.Log.{IsLiveAt, tag_at}
 use Rattle.iscsi_commands.proofs.LogLemmas.{unused_pushed}

@@ -1,7 +1,6 @@
-use Rattle.std.proofs.Common.{◌≡◌, ◌<◌, ◌≢◌, ◌+◌, ℕ, take, filter, length, ap, sym, subst, ◌∙◌, arith, rules}
-use Rattle.std.proofs.lemmas.List.{take_all}
+use Rattle.std.proofs.Common.{◌≢◌, ℕ, take, filter, length, ap, sym, subst, ◌∙◌, arith}
 use Rattle.iscsi_commands.specs.declared.entry.Entry.{Entry}
-use Rattle.iscsi_commands.specs.Log.{AreTagged, IsLiveAt, tag_at}
+use Rattle.iscsi_commands.specs.Log.{IsLiveAt, tag_at}
 use Rattle.iscsi_commands.proofs.LogLemmas.{all_live, apart_kept}
 use Rattle.iscsi_commands.proofs.TagIndexLemmas.{before}
 use Rattle.iscsi_commands.proofs.live_commands.close_up.Goals as goal

@@ -1,6 +1,6 @@
-use Rattle.std.proofs.Common.{◌≡◌, ◌-◌, ◌+◌, ◌/◌, ◌<◌, ap, sym, subst, arith}
+use Rattle.std.proofs.Common.{◌-◌, ◌+◌, ◌/◌, ap, arith}
 use Rattle.iscsi_slots.proofs.SearchLemmas.{half_from, half_to}
-use Rattle.iscsi_commands.specs.Log.{ticket_of, entry_at}
+use Rattle.iscsi_commands.specs.Log.{ticket_of}
 use Rattle.iscsi_commands.proofs.LogLemmas.{narrowed_up, narrowed_down}
 use Rattle.iscsi_commands.proofs.live_commands.count_below.Goals as goal
 

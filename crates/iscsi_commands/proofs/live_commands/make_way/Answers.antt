@@ -1,4 +1,4 @@
-use Rattle.std.proofs.Common.{◌≡◌, ◌<◌, ◌≤◌, ◌+◌, ℕ, length, ap, sym, subst, ◌∙◌, arith, rules, All}
+use Rattle.std.proofs.Common.{◌<◌, ap, sym, subst, ◌∙◌, arith, All}
 use Rattle.iscsi_slots.specs.Places.{AreAscending}
 use Rattle.iscsi_commands.specs.Log.{live_in, ticket_of}
 use Rattle.iscsi_commands.proofs.LogLemmas.{live_again, kept_up, kept_newest, live_fewer}

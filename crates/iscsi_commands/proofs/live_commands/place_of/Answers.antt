@@ -1,4 +1,4 @@
-use Rattle.std.proofs.Common.{◌≡◌, ◌<◌, length, sym, ap, subst, ◌∙◌}
+use Rattle.std.proofs.Common.{◌<◌, length, sym, ap, subst, ◌∙◌}
 use Rattle.std.proofs.lemmas.Bool.{false≢true}
 use Rattle.iscsi_commands.specs.Log.{IsLiveAt, entry_at, ticket_of}
 use Rattle.iscsi_commands.proofs.LogLemmas.{live_within}

@@ -1,4 +1,4 @@
-use Rattle.std.proofs.Common.{true, ◌≡◌, ◌≤◌, ◌<◌, ◌+◌, ◌*◌, ◌==◌, false, ℕ, List, [], ◌∷◌, ◌++◌, length, take, drop, vec_capacity, ap, sym, subst, ◌∙◌, arith, rules, All}
+use Rattle.std.proofs.Common.{true, ◌≡◌, ◌≤◌, ◌<◌, ◌+◌, ◌*◌, ◌==◌, false, ℕ, List, [], ◌∷◌, ◌++◌, length, take, drop, vec_capacity, ap, sym, subst, ◌∙◌, arith, rules}
 use Rattle.std.specs.List.{list_any}
 use Rattle.std.proofs.lemmas.List.{length-take, length-append, length-drop}
 use Rattle.iscsi_slots.specs.Queued.{Queued}

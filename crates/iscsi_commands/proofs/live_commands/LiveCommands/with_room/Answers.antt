@@ -1,7 +1,6 @@
-use Rattle.std.proofs.Common.{◌≡◌, ◌≤◌, ◌+◌, ◌*◌, ℕ, [], List, length, vec_capacity, ap, sym, subst, ◌∙◌, arith, rules}
-use Rattle.iscsi_slots.specs.Queued.{Queued}
+use Rattle.std.proofs.Common.{◌≡◌, ◌≤◌, ◌+◌, ◌*◌, List, length, vec_capacity, sym, subst, rules}
 use Rattle.iscsi_commands.specs.declared.entry.Entry.{Entry}
-use Rattle.iscsi_commands.specs.Log.{AreTagged, AreLogged}
+use Rattle.iscsi_commands.specs.Log.{AreLogged}
 use Rattle.iscsi_commands.proofs.LogLemmas.{none_logged}
 use Rattle.iscsi_commands.proofs.live_commands.LiveCommands.with_room.Goals as goal
 

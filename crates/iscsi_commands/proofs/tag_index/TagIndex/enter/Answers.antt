@@ -1,11 +1,9 @@
-use Rattle.std.proofs.Common.{◌≡◌, ◌≢◌, ◌<◌, ◌≤◌, ◌+◌, ℕ, List, length, take, get_or, set, ap, sym, subst, ◌∙◌, arith}
-use Rattle.std.specs.List.{insert}
+use Rattle.std.proofs.Common.{◌≡◌, ◌<◌, ◌+◌, ℕ, length, take, get_or, ap, sym, subst, ◌∙◌, arith}
 use Rattle.std.proofs.lemmas.Bool.{false≢true}
 use Rattle.std.proofs.lemmas.List.{get_or_read}
 use Rattle.iscsi_slots.specs.Queued.{Queued}
 use Rattle.iscsi_slots.proofs.SlotLemmas.{times_at}
-use Rattle.iscsi_commands.specs.Log.{AreTagged, tag_at, entry_at, group_of, IsLiveAt}
-use Rattle.iscsi_commands.proofs.LogLemmas.{live_within}
+use Rattle.iscsi_commands.specs.Log.{AreTagged, tag_at, group_of, IsLiveAt}
 use Rattle.iscsi_commands.proofs.TagIndexLemmas.{place_below, entered_first, entered_other, other_before, sorted_before}
 use Rattle.iscsi_commands.proofs.tag_index.TagIndex.enter.Goals as goal
 
@@ -32,7 +30,7 @@ returns-then-is_taken-clause-tagged c =
     let group : c.group_of-group.result ≡ group_of (tag_at c.args.log.now c.args.k) = c.group_of-group.ensures ∙ ap group_of tag in
     let inside : c.group_of-group.result < length places = let below = place_below c.requires.tagged (tag_at c.args.log.now c.args.k) in omega (arith, below, group) in
     let is : c.from.result ≡ get_or places (group_of (tag_at c.args.log.now c.args.k)) 0 = c.from.ensures ∙ get_or_read places c.group_of-group.result c.index.result.now inside c.index.ensures 0 ∙ ap (λ n. get_or places n 0) group in
-    let taken = c.is_taken.ensures.yes c.if-is_taken.true in
+    let taken = (c.is_taken.ensures.yes c.if-is_taken.true).0 in
     subst (λ (o : Queued ℕ). AreTagged (take (c.args.k + 1) c.args.log.now) places o.items) (sym c.insert.ensures)
     (entered_other c.args.log.now c.args.k c.requires.tagged c.requires.place c.requires.live c.count_below-place.result found.within
     (omega (arith, taken, is))

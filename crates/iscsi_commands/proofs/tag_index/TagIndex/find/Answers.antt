@@ -1,7 +1,7 @@
-use Rattle.std.proofs.Common.{◌≡◌, ◌≢◌, ◌<◌, ◌≤◌, ◌+◌, ℕ, List, length, get_or, ap, sym, subst, ◌∙◌, arith}
+use Rattle.std.proofs.Common.{◌≡◌, ◌<◌, length, get_or, ap, sym, subst, ◌∙◌, arith}
 use Rattle.std.proofs.lemmas.Bool.{false≢true}
 use Rattle.std.proofs.lemmas.List.{get_or_read}
-use Rattle.iscsi_commands.specs.Log.{AreTagged, tag_at, entry_at, group_of, IsLiveAt}
+use Rattle.iscsi_commands.specs.Log.{tag_at, group_of, IsLiveAt}
 use Rattle.iscsi_commands.proofs.TagIndexLemmas.{place_below, other_live, other_within, no_tagged}
 use Rattle.iscsi_commands.proofs.tag_index.TagIndex.find.Goals as goal
 

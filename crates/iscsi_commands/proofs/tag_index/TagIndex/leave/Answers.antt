@@ -1,9 +1,8 @@
-use Rattle.std.proofs.Common.{◌≡◌, ◌≢◌, ◌<◌, ◌≤◌, ◌+◌, ℕ, List, length, get_or, set, ap, sym, subst, ◌∙◌, arith}
-use Rattle.std.proofs.lemmas.Bool.{false≢true}
+use Rattle.std.proofs.Common.{◌≡◌, ◌<◌, ℕ, length, get_or, set, ap, sym, subst, ◌∙◌, arith}
 use Rattle.std.proofs.lemmas.List.{get_or_read}
 use Rattle.iscsi_slots.specs.Queued.{Queued}
-use Rattle.iscsi_commands.specs.Log.{AreTagged, ended, tag_at, entry_at, group_of, IsLiveAt}
-use Rattle.iscsi_commands.proofs.TagIndexLemmas.{place_below, other_live, other_within, other_at, left_first, left_other}
+use Rattle.iscsi_commands.specs.Log.{AreTagged, ended, tag_at, entry_at, group_of}
+use Rattle.iscsi_commands.proofs.TagIndexLemmas.{place_below, other_within, other_at, left_first, left_other}
 use Rattle.iscsi_commands.proofs.tag_index.TagIndex.leave.Goals as goal
 
 pub index-requires : goal.index-requires
