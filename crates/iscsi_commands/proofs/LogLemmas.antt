@@ -27,10 +27,10 @@ live_within log k live = ⊎_elim
     (λ past. absurd (false≢true (sym (ap (λ (e : Entry). e.is_live) (get_or_past log k NOTHING past)) ∙ live)))
     (cases_lt k (length log))
 
-live_first : (e : Entry) (log : List Entry) → e.is_live ≡ true → live_in (e ∷ log) ≡ e.command ∷ live_in log
+pub live_first : (e : Entry) (log : List Entry) → e.is_live ≡ true → live_in (e ∷ log) ≡ e.command ∷ live_in log
 live_first e log is = ap (λ b. map (λ (x : Entry). x.command) (cond b (e ∷ filter (λ (x : Entry). x.is_live) log) (filter (λ (x : Entry). x.is_live) log))) is
 
-ended_first : (e : Entry) (log : List Entry) → e.is_live ≡ false → live_in (e ∷ log) ≡ live_in log
+pub ended_first : (e : Entry) (log : List Entry) → e.is_live ≡ false → live_in (e ∷ log) ≡ live_in log
 ended_first e log is = ap (λ b. map (λ (x : Entry). x.command) (cond b (e ∷ filter (λ (x : Entry). x.is_live) log) (filter (λ (x : Entry). x.is_live) log))) is
 
 -- ---- the command that passes a test
@@ -346,7 +346,7 @@ logged_without {log} logged n k is_live is tagged =
 
 -- ---- and as one enters
 
-pub logged_with : (log : List Entry) (command : Live) {capacity live room hints : ℕ} {places others : List ℕ} {others_room : ℕ} → AreAscending ticket_of log → AreTagsApart (live_in log) → live ≡ length (live_in log) → live < room → length log < 2 * live + 64 → 2 * room + 64 ≤ capacity → room ≤ 2048 → hints ≡ 4096 → others_room ≡ 2 * room + 64
+pub logged_with : (log : List Entry) (command : Live) {capacity live room hints : ℕ} {places others : List ℕ} {others_room : ℕ} → AreAscending ticket_of log → AreTagsApart (live_in log) → live ≡ length (live_in log) → live < room → length log < 2 * live + 64 → 2 * room + 64 ≤ capacity → room ≤ 2016 → hints ≡ 4096 → others_room ≡ 2 * room + 64
     → All (λ e. ticket_of e < command.ticket) log → list_any (λ l. l.itt == command.itt) (live_in log) ≡ false → AreTagged (log ++ record { command = command; is_live = true } ∷ []) places others → AreLogged (log ++ record { command = command; is_live = true } ∷ []) capacity (live + 1) room hints places others others_room
 logged_with log command {live = live} {room = room} up apart counted few short has_room small hinted for_others newest unused tagged =
     let e : Entry = record { command = command; is_live = true } in
@@ -365,7 +365,7 @@ logged_with log command {live = live} {room = room} up apart counted few short h
       for_others = for_others;
     }
 
-pub none_logged : (capacity room hints others_room : ℕ) → 2 * room + 64 ≤ capacity → room ≤ 2048 → hints ≡ 4096 → others_room ≡ 2 * room + 64 → {places others : List ℕ} → AreTagged [] places others → AreLogged [] capacity 0 room hints places others others_room
+pub none_logged : (capacity room hints others_room : ℕ) → 2 * room + 64 ≤ capacity → room ≤ 2016 → hints ≡ 4096 → others_room ≡ 2 * room + 64 → {places others : List ℕ} → AreTagged [] places others → AreLogged [] capacity 0 room hints places others others_room
 none_logged capacity room hints others_room has_room small hinted for_others tagged = record {
   ascending = λ i j d lt l. absurd (omega (arith, l));
   apart = λ i j d lt l. absurd (omega (arith, l));

@@ -37,7 +37,6 @@ none_tagged places size = record {
   size = size;
   known = λ k live. absurd (false≢true live);
   are_live = λ k some. absurd (omega (arith, some));
-  apart = λ k some. absurd (omega (arith, some));
   sorted = λ i j d lt l. absurd (omega (arith, l));
   few = omega arith;
 }
@@ -139,12 +138,11 @@ module _ {log : List Entry} {places others : List ℕ} (tagged : AreTagged log p
     same_group : (j : ℕ) → get_or places (group_of (tag_at (set log k (ended (entry_at log k))) j)) 0 ≡ get_or places (group_of (tag_at log j)) 0
     same_group j = ap (λ n. get_or places (group_of n) 0) (same_tag j)
 
-    pub left_first : get_or places (group_of (tag_at log k)) 0 ≡ k → AreTagged (set log k (ended (entry_at log k))) places others
-    left_first first = record {
+    pub left_first : times k others ≡ 0 → AreTagged (set log k (ended (entry_at log k))) places others
+    left_first none = record {
       size = tagged.size;
       known = λ j is other. let before = was j is in tagged.known j before.1 (λ same. other (same_group j ∙ same));
-      are_live = λ j some. still j (λ same. tagged.apart j some (ap (λ n. get_or places (group_of (tag_at log n)) 0) same ∙ first ∙ sym same)) (tagged.are_live j some);
-      apart = λ j some same. tagged.apart j some (sym (same_group j) ∙ same);
+      are_live = λ j some. still j (λ same. let is = ap (λ n. times n others) same in omega (arith, some, none, is)) (tagged.are_live j some);
       sorted = same_order (tag_at log) (tag_at (set log k (ended (entry_at log k)))) others (λ i d l. same_tag (get_or others i d)) tagged.sorted;
       few = let few = tagged.few in let long = length-set log k (ended (entry_at log k)) in omega (arith, few, long);
     }
@@ -162,7 +160,6 @@ module _ {log : List Entry} {places others : List ℕ} (tagged : AreTagged log p
               let none = times_none j k (λ same. before.0 (sym same)) in
               omega (arith, some, all, none);
           are_live = λ j some. still j (λ same. twice at l j (there ∙ sym same) some) (tagged.are_live j (more j some));
-          apart = λ j some same. tagged.apart j (more j some) (sym (same_group j) ∙ same);
           sorted = same_order (tag_at log) (tag_at (set log k (ended (entry_at log k)))) (remove others at) (λ i d m. same_tag (get_or (remove others at) i d)) (removed_up (tag_at log) others at l tagged.sorted);
           few = let few = tagged.few in let long = length-set log k (ended (entry_at log k)) in let fewer = length-remove others at l in omega (arith, few, long, fewer);
         }
@@ -216,11 +213,6 @@ module _ (log : List Entry) {places others : List ℕ} (k : ℕ) (tagged : AreTa
             absurd (other (ap (λ n. get_or (set places group k) n 0) (ap (λ n. group_of (tag_at (take (k + 1) log) n)) last ∙ ap group_of (tag_last log k) ∙ sym is) ∙ here ∙ sym last)))
             (cases_lt j k);
         are_live = λ j some. live_more log k j (tagged.are_live j some);
-        apart = λ j some same.
-            let l = other_before j some in ⊎_elim
-            (λ g. let now : k ≡ j = sym here ∙ ap (λ n. get_or (set places group k) n 0) (sym g) ∙ same in omega (arith, l, now))
-            (λ g. tagged.apart j some (sym (group_more j l) ∙ sym (get_or-set_other places group (group_of (tag_at (take (k + 1) log) j)) k 0 g) ∙ same))
-            (cases_eq (group_of (tag_at (take (k + 1) log) j)) group);
         sorted = sorted_more;
         few = let few = tagged.few in let more = more_few in omega (arith, few, more);
       }
@@ -251,10 +243,6 @@ module _ (log : List Entry) {places others : List ℕ} (k : ℕ) (tagged : AreTa
         are_live = λ j some. ⊎_elim
             (λ old. live_more log k j (tagged.are_live j old))
             (λ now. subst (IsLiveAt (take (k + 1) log)) now live_last)
-            (cases j some);
-        apart = λ j some same. ⊎_elim
-            (λ old. tagged.apart j old (sym (group_more j (other_before j old)) ∙ same))
-            (λ now. let is : get_or places (group_of (tag_at log k)) 0 ≡ k = sym first_of ∙ ap (λ n. get_or places (group_of (tag_at (take (k + 1) log) n)) 0) now ∙ same ∙ sym now in omega (arith, is, taken))
             (cases j some);
         sorted = inserted_up (tag_at (take (k + 1) log)) others at k sorted_more le
             (λ i d l.

@@ -1,5 +1,5 @@
 -- The commands in the order in which they entered, of which some are live still.
-use Rattle.std.specs.Prelude.{◌≡◌, ◌≢◌, ℕ, ◌+◌, ◌*◌, ◌/◌, ◌%◌, ◌≤◌, false, true, List, length, map, filter, slice_index_or, Option, MatchOption}
+use Rattle.std.specs.Prelude.{◌≡◌, ◌≢◌, ℕ, ◌+◌, ◌*◌, ◌/◌, ◌%◌, ◌≤◌, false, true, List, length, map, filter, take, slice_index_or, Option, MatchOption}
 use Rattle.iscsi_slots.specs.Slots.{times}
 use Rattle.iscsi_slots.specs.Places.{AreAscending}
 use Rattle.iscsi_commands.specs.declared.live.Live.{Live}
@@ -31,6 +31,10 @@ ended e = record { command = e.command; is_live = false }
 abbrev pub live_in : List Entry → List Live
 live_in log = map (λ e. e.command) (filter (λ e. e.is_live) log)
 
+-- how many live commands stand before a place: where the one at the place stands once they have closed up
+abbrev pub rank : List Entry → ℕ → ℕ
+rank log k = length (live_in (take k log))
+
 -- ---- their places by tag
 
 unfoldable pub group_of : ℕ → ℕ
@@ -41,7 +45,6 @@ pub record AreTagged (log : List Entry) (places others : List ℕ) : Type 0 wher
   pub size : length places ≡ 4096
   pub known : (k : ℕ) → IsLiveAt log k → slice_index_or places (group_of (tag_at log k)) 0 ≢ k → 1 ≤ times k others
   pub are_live : (k : ℕ) → 1 ≤ times k others → IsLiveAt log k
-  pub apart : (k : ℕ) → 1 ≤ times k others → slice_index_or places (group_of (tag_at log k)) 0 ≢ k
   pub sorted : AreAscending (tag_at log) others
   pub few : length others ≤ length log
 
@@ -62,7 +65,7 @@ pub record AreLogged (log : List Entry) (capacity live room hints : ℕ) (places
   pub few : live ≤ room
   pub long : length log ≤ 2 * room + 64
   pub has_room : 2 * room + 64 ≤ capacity
-  pub short : room ≤ 2048
+  pub short : room ≤ 2016
   pub hinted : hints ≡ 4096
   pub tagged : AreTagged log places others
   pub for_others : others_room ≡ 2 * room + 64

@@ -1,11 +1,11 @@
 //! The live commands, found by ticket and by tag.
 
-ghost use Rattle.std.specs.Prelude.{◌≡◌, ℕ, ◌+◌, ◌*◌, ◌<◌, ◌≤◌, ◌==◌, ◌↔◌, ◌++◌, [], ◌∷◌, true, false, length, filter, slice_set, vec_len, vec_capacity, All, IfOk};
+ghost use Rattle.std.specs.Prelude.{◌≡◌, ℕ, ◌+◌, ◌*◌, ◌<◌, ◌≤◌, ◌==◌, ◌↔◌, ◌++◌, [], ◌∷◌, true, false, length, filter, slice_index_or, slice_set, vec_len, vec_capacity, All, IfOk};
 ghost use Rattle.std.specs.List.{list_any};
 ghost use Rattle.iscsi_slots.specs.Queued.{queued};
 ghost use Rattle.iscsi_slots.specs.Places.{AreAscending as AreKeysAscending};
 ghost use Rattle.iscsi_commands.specs.Commands.{AreAscending, AreTagsApart, find_ticket, find_tag, without_ticket};
-ghost use Rattle.iscsi_commands.specs.Log.{AreTagged, IsLiveAt, IsLivePlace, ended, entry_at, live_in, tag_at, ticket_of};
+ghost use Rattle.iscsi_commands.specs.Log.{AreTagged, IsLiveAt, IsLivePlace, ended, entry_at, live_in, rank, ticket_of};
 
 use crate::entry::{Entry, GROUPS, entry_at};
 use crate::live::Live;
@@ -60,9 +60,9 @@ impl Model for LiveCommands {
 }
 
 impl LiveCommands {
-    /// None yet, with room for so many, 2,048 at the most. It takes all its memory here.
+    /// None yet, with room for so many, 2,016 at the most. It takes all its memory here.
     pub fn with_room(alloc: Global, room: usize) -> Result<LiveCommands, AllocError>
-        requires { room ≤ 2048 }
+        requires { room ≤ 2016 }
         ensures { IfOk result (λ c. c ≡ queued [] room) }
     {
         let most = 2 * room + SPARE;
@@ -104,8 +104,8 @@ impl LiveCommands {
 
     /// A command enters. Its ticket is greater than all others', and no other one has its tag.
     ///
-    /// Once in as many calls as there are live commands, at the most, these close up in the log: one pass over it, in which
-    /// each of them enters by its tag anew. So they do where the ticket isn't above those of all commands that left since.
+    /// Once in as many calls as there are live commands, at the most, these close up in the log: a pass over it. So they
+    /// do where the ticket isn't above those of all commands that left since.
     pub fn push(&mut self, command: Live)
         requires room { length self.old.items < self.old.room }
         requires newest { All (λ l. l.ticket < command.ticket) self.old.items }
@@ -140,12 +140,10 @@ impl LiveCommands {
 #[inline(always)]
 fn make_way(log: &mut Vec<Entry>, live: usize, hints: &mut [u16], tags: &mut TagIndex, ticket: u64)
     requires ascending { AreKeysAscending ticket_of log.old.items }
-    requires apart { AreTagsApart (live_in log.old.items) }
     requires counted { live ≡ length (live_in log.old.items) }
-    requires short { length log.old.items ≤ 65535 }
+    requires short { length log.old.items ≤ 4096 }
     requires hints { length hints.old ≡ 4096 }
     requires tagged { AreTagged log.old.items tags.old.places.items tags.old.others.items }
-    requires room { length log.old.items ≤ tags.old.others.room }
     requires newest { All (λ l. l.ticket < ticket) (live_in log.old.items) }
     ensures same { live_in log.new.items ≡ live_in log.old.items }
     ensures ascending { AreKeysAscending ticket_of log.new.items }
@@ -276,21 +274,35 @@ fn count_below(log: &[Entry], ticket: u64) -> usize
 /// The live commands close up in the log.
 #[inline(never)]
 fn close_up(log: &mut Vec<Entry>, hints: &mut [u16], tags: &mut TagIndex)
-    requires short { length log.old.items ≤ 65535 }
+    requires short { length log.old.items ≤ 4096 }
     requires hints { length hints.old ≡ 4096 }
-    requires places { length tags.old.places.items ≡ 4096 }
-    requires room { length log.old.items ≤ tags.old.others.room }
-    requires apart { AreTagsApart (live_in log.old.items) }
+    requires tagged { AreTagged log.old.items tags.old.places.items tags.old.others.items }
     ensures log { log.new.items ≡ filter (λ e. e.is_live) log.old.items }
     ensures capacity { vec_capacity log.new ≡ vec_capacity log.old }
     ensures tagged { AreTagged log.new.items tags.new.places.items tags.new.others.items }
     ensures room { tags.new.others.room ≡ tags.old.others.room }
 {
+    note_ranks(log, hints);
+    tags.renumber(log, hints);
     keep_live(log);
-    tags.clear();
     for k in 0..log.len() {
         hints[hint_of(entry_at(log, k).command.ticket)] = k as u16;
-        tags.enter(log, k);
+    }
+}
+
+/// How many live commands stand before each place of the log.
+fn note_ranks(log: &[Entry], ranks: &mut [u16])
+    requires short { length log.now ≤ 4096 }
+    requires size { length log.now ≤ length ranks.old }
+    ensures size { length ranks.new ≡ length ranks.old }
+    ensures ranks { (k : ℕ) → k < length log.now → slice_index_or ranks.new k 0 ≡ rank log.now k }
+{
+    let mut before: u16 = 0;
+    for k in 0..log.len() {
+        ranks[k] = before;
+        if entry_at(log, k).is_live {
+            before += 1;
+        }
     }
 }
 

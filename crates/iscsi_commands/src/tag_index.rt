@@ -1,8 +1,9 @@
 //! Where the live commands stand in the log, by tag.
 
-ghost use Rattle.std.specs.Prelude.{◌≡◌, ◌≢◌, ℕ, ◌+◌, ◌<◌, ◌≤◌, true, [], length, take, slice_index_or, slice_set, IfOk};
+ghost use Rattle.std.specs.Prelude.{◌≡◌, ◌≢◌, ℕ, ◌+◌, ◌<◌, ◌≤◌, true, [], length, filter, map, take, slice_index_or, slice_set, IfOk};
+ghost use Rattle.iscsi_slots.specs.Queued.{queued};
 ghost use Rattle.iscsi_slots.specs.Places.{AreAscending};
-ghost use Rattle.iscsi_commands.specs.Log.{AreTagged, IsLiveAt, IsTagPlace, ended, entry_at, group_of, tag_at};
+ghost use Rattle.iscsi_commands.specs.Log.{AreTagged, IsLiveAt, IsTagPlace, ended, entry_at, group_of, rank, tag_at};
 
 use crate::entry::{Entry, GROUPS, entry_at, group_of};
 use iscsi_slots::Order;
@@ -92,19 +93,51 @@ impl TagIndex {
         ensures room { self.new.others.room ≡ self.old.others.room }
     {
         let itt = entry_at(log, k).command.itt;
-        if usize::from(self.places[group_of(itt)]) != k {
-            let place = count_below(&self.others, log, itt);
+        let place = count_below(&self.others, log, itt);
+        if place < self.others.len() && usize::from(self.others.at(place)) == k {
             self.others.remove(place);
         }
     }
 
-    /// No command is left.
-    pub(crate) fn clear(&mut self)
-        requires { length self.old.places.items ≡ 4096 }
-        ensures tagged { AreTagged [] self.new.places.items self.new.others.items }
+    /// The live commands close up in the log: `to` has for each place of the log how many stand before it.
+    pub(crate) fn renumber(&mut self, log: &[Entry], to: &[u16])
+        requires tagged { AreTagged log.now self.old.places.items self.old.others.items }
+        requires size { length log.now ≤ length to.now }
+        requires ranks { (k : ℕ) → k < length log.now → slice_index_or to.now k 0 ≡ rank log.now k }
+        ensures tagged { AreTagged (filter (λ e. e.is_live) log.now) self.new.places.items self.new.others.items }
         ensures room { self.new.others.room ≡ self.old.others.room }
     {
-        self.others.clear();
+        renumber_others(&mut self.others, to);
+        renumber_places(&mut self.places, log, to);
+    }
+}
+
+/// Each of the others takes the place that `to` has for its place: the first one leaves, and comes behind the last one.
+fn renumber_others(others: &mut Order, to: &[u16])
+    requires { (i : ℕ) → i < length others.old.items → slice_index_or others.old.items i 0 < length to.now }
+    ensures { others.new ≡ queued (map (λ k. slice_index_or to.now k 0) others.old.items) others.old.room }
+{
+    for _ in 0..others.len() {
+        let k = usize::from(others.at(0));
+        others.remove(0);
+        others.push(to[k]);
+    }
+}
+
+/// Each live command that stands at the place of its group stands there by its new place.
+fn renumber_places(places: &mut [u16], log: &[Entry], to: &[u16])
+    requires groups { length places.old ≡ 4096 }
+    requires size { length log.now ≤ length to.now }
+    requires ranks { (k : ℕ) → k < length log.now → slice_index_or to.now k 0 ≡ rank log.now k }
+    ensures groups { length places.new ≡ 4096 }
+    ensures places { (k : ℕ) → IsLiveAt log.now k → slice_index_or places.old (group_of (tag_at log.now k)) 0 ≡ k
+        → slice_index_or places.new (group_of (tag_at log.now k)) 0 ≡ rank log.now k }
+{
+    for k in 0..log.len() {
+        let group = group_of(entry_at(log, k).command.itt);
+        if usize::from(places[group]) == k {
+            places[group] = to[k];
+        }
     }
 }
 

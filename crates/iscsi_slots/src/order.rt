@@ -116,14 +116,6 @@ impl Order {
         self.end = self.places.len();
     }
 
-    /// Takes all slots out.
-    pub fn clear(&mut self)
-        ensures { self.new ≡ queued [] self.old.room }
-    {
-        self.head = 0;
-        self.end = 0;
-    }
-
     /// Takes the slot at a place out. Those on the shorter side of it close up; none moves where it is the first one or
     /// the last one.
     pub fn remove(&mut self, k: usize)

@@ -19,7 +19,7 @@ struct Both {
 
 impl Both {
     fn with_room(alloc: Global, room: usize) -> Result<Both, AllocError>
-        requires { room ≤ 2048 }
+        requires { room ≤ 2016 }
     {
         Ok(Both {
             live: LiveCommands::with_room(alloc, room)?,
@@ -135,7 +135,7 @@ struct Calls {
 
 impl Calls {
     fn new(alloc: Global, room: usize, tags: Tags, comes_again: bool) -> Result<Calls, AllocError>
-        requires { room ≤ 2048 }
+        requires { room ≤ 2016 }
     {
         Ok(Calls {
             both: Both::with_room(alloc, room)?,

@@ -1,0 +1,33 @@
+use Rattle.std.proofs.Common.{◌≡◌, ◌≢◌, ◌<◌, ◌≤◌, ◌+◌, ℕ, length, get_or, set, ap, sym, subst, ◌∙◌, arith, ⊎_elim}
+use Rattle.std.proofs.lemmas.Bool.{cases_lt, cases_eq}
+use Rattle.std.proofs.lemmas.List.{get_or_read, get_or-set_same, get_or-set_other, length-set}
+use Rattle.iscsi_commands.specs.Log.{IsLiveAt, group_of, tag_at, rank}
+use Rattle.iscsi_commands.proofs.LogLemmas.{group_below}
+use Rattle.iscsi_commands.proofs.RankLemmas.{AreRenumbered, renumbered_here, renumbered_past}
+use Rattle.iscsi_commands.proofs.tag_index.renumber_places.Goals as goal
+use Rattle.iscsi_commands.proofs.tag_index.renumber_places.Goals.{then-from-k, else-from-k}
+
+pub offset_bounds-places-group : goal.offset_bounds-places-group
+offset_bounds-places-group c = let below = group_below c.entry_at.result.now.command.itt in let is = c.group_of-group.ensures in omega (arith, below, is)
+
+pub bounds-places-group : goal.bounds-places-group
+bounds-places-group c = let below = group_below c.entry_at.result.now.command.itt in let is = c.group_of-group.ensures in let size = c.loop-k.invariant.size in omega (arith, below, is, size)
+
+pub offset_bounds-places-group-then-from-k : goal.offset_bounds-places-group-then-from-k
+offset_bounds-places-group-then-from-k c = let below = group_below c.entry_at.result.now.command.itt in let is = c.group_of-group.ensures in omega (arith, below, is)
+
+pub bounds-places-group-then-from-k : goal.bounds-places-group-then-from-k
+bounds-places-group-then-from-k c = let below = group_below c.entry_at.result.now.command.itt in let is = c.group_of-group.ensures in let size = c.loop-k.invariant.size in omega (arith, below, is, size)
+
+pub loop-k-preserved : goal.loop-k-preserved
+loop-k-preserved c =
+    let log = c.args.log.now in
+    let before = c.loop-k.invariant in
+    let within = c.loop-k-test.true in
+    let group : c.group_of-group.result ≡ group_of (tag_at log c.loop-k.k) = c.group_of-group.ensures ∙ ap (λ e. group_of e.command.itt) c.entry_at.ensures in
+    elim c.if-from-k.branch [
+      | then-from-k w ↦ subst (AreRenumbered log (c.loop-k.k + 1) c.args.places.now) (sym w.places-is)
+          (renumbered_here log c.loop-k.k c.group_of-group.result before group (sym c.from.ensures ∙ w.if-from-k.true) (get_or c.args.to.now c.loop-k.k 0) (c.requires.ranks c.loop-k.k within))
+      | else-from-k w ↦ subst (AreRenumbered log (c.loop-k.k + 1) c.args.places.now) (sym w.places-is)
+          (renumbered_past log c.loop-k.k c.group_of-group.result before group (λ here. w.if-from-k.false (c.from.ensures ∙ here)))
+    ]
