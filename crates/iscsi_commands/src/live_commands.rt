@@ -19,7 +19,7 @@ const SPARE: usize = 64;
 /// The live commands, found by ticket and by Initiator Task Tag. No two have the same tag.
 ///
 /// Commands that enter are noted in a log, one behind the other. One that leaves stays there, marked as ended, until a
-/// command enters and there are more than 64 ended ones beyond the live ones: then the live ones close up. The place of a
+/// command enters and there are at least 64 more ended ones than live ones: then the live ones close up. The place of a
 /// command in the log is told by its ticket and by its tag, each at once mostly. Where a younger command has the ticket's
 /// hint, or another live one the place of the tag's group, it is found by a binary search.
 pub struct LiveCommands {
