@@ -325,8 +325,8 @@ set_up log k up within i j d lt l =
     let u : ticket_of (get_or log i d) < ticket_of (get_or log j d) = up i j d lt (omega (arith, l, long)) in
     omega (arith, a, b, u)
 
-pub logged_without : {log : List Entry} {capacity live room hints : ℕ} {places others : List ℕ} {others_room : ℕ} (logged : AreLogged log capacity live room hints places others others_room) (n k : ℕ) → IsLiveAt log k → ticket_of (entry_at log k) ≡ n
-    → {places_after others_after : List ℕ} → AreTagged (set log k (ended (entry_at log k))) places_after others_after → AreLogged (set log k (ended (entry_at log k))) capacity (live - 1) room hints places_after others_after others_room
+pub logged_without : {log : List Entry} {capacity live room hints : ℕ} {places : List ℕ} {crowded : List Bool} {others : List ℕ} {others_room : ℕ} (logged : AreLogged log capacity live room hints places crowded others others_room) (n k : ℕ) → IsLiveAt log k → ticket_of (entry_at log k) ≡ n
+    → {places_after : List ℕ} {crowded_after : List Bool} {others_after : List ℕ} → AreTagged (set log k (ended (entry_at log k))) places_after crowded_after others_after → AreLogged (set log k (ended (entry_at log k))) capacity (live - 1) room hints places_after crowded_after others_after others_room
 logged_without {log} logged n k is_live is tagged =
     let gone = ticket_leaves log n k logged.ascending is_live is in
     let fewer = one_fewer log k is_live in
@@ -346,8 +346,8 @@ logged_without {log} logged n k is_live is tagged =
 
 -- ---- and as one enters
 
-pub logged_with : (log : List Entry) (command : Live) {capacity live room hints : ℕ} {places others : List ℕ} {others_room : ℕ} → AreAscending ticket_of log → AreTagsApart (live_in log) → live ≡ length (live_in log) → live < room → length log < 2 * live + 64 → 2 * room + 64 ≤ capacity → room ≤ 2016 → hints ≡ 4096 → others_room ≡ 2 * room + 64
-    → All (λ e. ticket_of e < command.ticket) log → list_any (λ l. l.itt == command.itt) (live_in log) ≡ false → AreTagged (log ++ record { command = command; is_live = true } ∷ []) places others → AreLogged (log ++ record { command = command; is_live = true } ∷ []) capacity (live + 1) room hints places others others_room
+pub logged_with : (log : List Entry) (command : Live) {capacity live room hints : ℕ} {places : List ℕ} {crowded : List Bool} {others : List ℕ} {others_room : ℕ} → AreAscending ticket_of log → AreTagsApart (live_in log) → live ≡ length (live_in log) → live < room → length log < 2 * live + 64 → 2 * room + 64 ≤ capacity → room ≤ 2016 → hints ≡ 4096 → others_room ≡ 2 * room + 64
+    → All (λ e. ticket_of e < command.ticket) log → list_any (λ l. l.itt == command.itt) (live_in log) ≡ false → AreTagged (log ++ record { command = command; is_live = true } ∷ []) places crowded others → AreLogged (log ++ record { command = command; is_live = true } ∷ []) capacity (live + 1) room hints places crowded others others_room
 logged_with log command {live = live} {room = room} up apart counted few short has_room small hinted for_others newest unused tagged =
     let e : Entry = record { command = command; is_live = true } in
     let pushed = live_pushed log command in
@@ -365,7 +365,7 @@ logged_with log command {live = live} {room = room} up apart counted few short h
       for_others = for_others;
     }
 
-pub none_logged : (capacity room hints others_room : ℕ) → 2 * room + 64 ≤ capacity → room ≤ 2016 → hints ≡ 4096 → others_room ≡ 2 * room + 64 → {places others : List ℕ} → AreTagged [] places others → AreLogged [] capacity 0 room hints places others others_room
+pub none_logged : (capacity room hints others_room : ℕ) → 2 * room + 64 ≤ capacity → room ≤ 2016 → hints ≡ 4096 → others_room ≡ 2 * room + 64 → {places : List ℕ} {crowded : List Bool} {others : List ℕ} → AreTagged [] places crowded others → AreLogged [] capacity 0 room hints places crowded others others_room
 none_logged capacity room hints others_room has_room small hinted for_others tagged = record {
   ascending = λ i j d lt l. absurd (omega (arith, l));
   apart = λ i j d lt l. absurd (omega (arith, l));

@@ -1,12 +1,12 @@
 -- Where the live commands stand once they have closed up.
-use Rattle.std.proofs.Common.{◌≡◌, ◌≢◌, ℕ, zero, suc, ◌+◌, ◌<◌, ◌≤◌, cond, true, false, List, [], ◌∷◌, length, map, filter, get_or, set, take, refl, ap, sym, subst, ◌∙◌, arith, ⊎_elim}
+use Rattle.std.proofs.Common.{◌≡◌, ◌≢◌, ℕ, zero, suc, ◌+◌, ◌<◌, ◌≤◌, cond, Bool, true, false, List, [], ◌∷◌, length, map, filter, get_or, set, take, refl, ap, sym, subst, ◌∙◌, arith, ⊎_elim}
 use Rattle.std.proofs.lemmas.Bool.{cases_Bool, cases_lt, cases_eq, false≢true}
 use Rattle.std.proofs.lemmas.List.{get_or-map, get_or-set_same, get_or-set_other, length-map, length-set}
 use Rattle.iscsi_slots.specs.Places.{AreAscending}
 use Rattle.iscsi_slots.specs.Slots.{times}
 use Rattle.iscsi_slots.proofs.SlotLemmas.{stands, times_at}
 use Rattle.iscsi_commands.specs.declared.entry.Entry.{Entry}
-use Rattle.iscsi_commands.specs.Log.{NOTHING, entry_at, tag_at, IsLiveAt, ended, group_of, live_in, rank, AreTagged}
+use Rattle.iscsi_commands.specs.Log.{NOTHING, entry_at, tag_at, IsLiveAt, ended, group_of, live_in, rank, AreMarked, AreTagged}
 use Rattle.iscsi_commands.proofs.LogLemmas.{live_within, live_first, ended_first, one_fewer, group_below}
 use Rattle.iscsi_commands.proofs.TagIndexLemmas.{other_live, other_within}
 
@@ -82,16 +82,17 @@ few_live key (k ∷ ks) log up live =
     omega (arith, rest, fewer)
 
 -- the live commands closed up, and their places as they are then
-pub renumbered : (log : List Entry) {places others : List ℕ} (tagged : AreTagged log places others) (to : ℕ → ℕ) (after : List ℕ) → ((k : ℕ) → k < length log → to k ≡ rank log k) → length after ≡ 4096
+pub renumbered : (log : List Entry) {places : List ℕ} {crowded : List Bool} {others : List ℕ} (tagged : AreTagged log places crowded others) (to : ℕ → ℕ) (after : List ℕ) (marks : List Bool) → length marks ≡ 4096 → AreMarked log marks others → ((k : ℕ) → k < length log → to k ≡ rank log k) → length after ≡ 4096
     → ((k : ℕ) → IsLiveAt log k → get_or places (group_of (tag_at log k)) 0 ≡ k → get_or after (group_of (tag_at log k)) 0 ≡ rank log k)
-    → AreTagged (filter (λ (x : Entry). x.is_live) log) after (map to others)
-renumbered log {others = others} tagged to after ranks size firsts =
+    → AreTagged (filter (λ (x : Entry). x.is_live) log) after marks (map to others)
+renumbered log {others = others} tagged to after marks groups marked ranks size firsts =
     let kept = filter (λ (x : Entry). x.is_live) log in
     let long = length-map others to in
     let at : (i d : ℕ) → i < length others → get_or (map to others) i d ≡ rank log (get_or others i 0) = λ i d l. get_or-map to others i 0 d l ∙ ranks (get_or others i 0) (other_within tagged i l) in
     let there : (i : ℕ) → i < length others → entry_at kept (rank log (get_or others i 0)) ≡ entry_at log (get_or others i 0) = λ i l. at_rank log (get_or others i 0) (other_live tagged i l) in
     record {
       size = size;
+      groups = groups;
       known = λ n live other.
           let r = from_rank log n (live_within kept n live) in
           let entry : entry_at kept n ≡ entry_at log r.place = ap (entry_at kept) (sym r.is) ∙ at_rank log r.place r.live in
@@ -111,6 +112,12 @@ renumbered log {others = others} tagged to after ranks size firsts =
           let b : tag_at kept (get_or (map to others) j d) ≡ tag_at log (get_or others j 0) = ap (tag_at kept) (at j d within) ∙ ap (λ (e : Entry). e.command.itt) (there j within) in
           let u : tag_at log (get_or others i 0) < tag_at log (get_or others j 0) = tagged.sorted i j 0 lt within in
           omega (arith, a, b, u);
+      marked = λ n some.
+          let s = stands n (map to others) some in
+          let found = s.there in let inside = s.inside in
+          let within : s.place < length others = omega (arith, inside, long) in
+          let tag : tag_at kept n ≡ tag_at log (get_or others s.place 0) = ap (tag_at kept) (sym found ∙ at s.place 0 within) ∙ ap (λ (e : Entry). e.command.itt) (there s.place within) in
+          ap (λ m. get_or marks (group_of m) false) tag ∙ marked (get_or others s.place 0) (times_at others s.place within);
       few = let most = few_live (tag_at log) others log tagged.sorted (other_live tagged) in let same = length-map kept (λ (x : Entry). x.command) in omega (arith, most, same, long);
     }
 

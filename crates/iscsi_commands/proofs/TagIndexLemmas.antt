@@ -1,5 +1,5 @@
 -- The places of the live commands in the log by tag.
-use Rattle.std.proofs.Common.{◌≡◌, ◌≢◌, ℕ, ◌+◌, ◌<◌, ◌≤◌, cond, List, [], ◌∷◌, length, get_or, set, take, ap, sym, subst, ◌∙◌, arith, ⊎_elim, inl, inr, ◌⊎◌, ne_eqb}
+use Rattle.std.proofs.Common.{◌≡◌, ◌≢◌, ℕ, ◌+◌, ◌<◌, ◌≤◌, Bool, true, false, cond, List, [], ◌∷◌, length, get_or, set, take, ap, sym, subst, ◌∙◌, arith, ⊎_elim, inl, inr, ◌⊎◌, ne_eqb}
 use Rattle.std.specs.List.{remove, insert}
 use Rattle.std.proofs.lemmas.Bool.{cases_lt, cases_eq, false≢true}
 use Rattle.std.proofs.lemmas.List.{get_or-take, get_or_default, length-take, length-set, get_or-set_same, get_or-set_other}
@@ -9,7 +9,7 @@ use Rattle.iscsi_slots.specs.Slots.{times}
 use Rattle.iscsi_slots.proofs.SlotLemmas.{stands, times_at, times_remove, times_insert}
 use Rattle.iscsi_slots.proofs.SortedLemmas.{same_place, removed_up, inserted_up}
 use Rattle.iscsi_commands.specs.declared.entry.Entry.{Entry}
-use Rattle.iscsi_commands.specs.Log.{NOTHING, entry_at, tag_at, IsLiveAt, ended, group_of, AreTagged}
+use Rattle.iscsi_commands.specs.Log.{NOTHING, entry_at, tag_at, IsLiveAt, ended, group_of, AreMarked, AreTagged}
 use Rattle.iscsi_commands.proofs.LogLemmas.{live_within, group_below}
 
 -- ---- keys that are the same at each element
@@ -31,13 +31,22 @@ times_one slot s some = ⊎_elim
 times_none : (slot s : ℕ) → s ≢ slot → times slot (s ∷ []) ≡ 0
 times_none slot s apart = ap (λ b. cond b 1 0 + 0) (ne_eqb s slot apart)
 
+-- a group that is marked stays so as another one, or itself, is marked
+pub mark_stays : (crowded : List Bool) (group n : ℕ) → group < length crowded → get_or crowded n false ≡ true → get_or (set crowded group true) n false ≡ true
+mark_stays crowded group n inside is = ⊎_elim
+    (λ same. ap (λ g. get_or (set crowded group true) g false) same ∙ get_or-set_same crowded group true false inside)
+    (λ other. get_or-set_other crowded group n true false other ∙ is)
+    (cases_eq n group)
+
 -- no command
-pub none_tagged : (places : List ℕ) → length places ≡ 4096 → AreTagged [] places []
-none_tagged places size = record {
+pub none_tagged : (places : List ℕ) (crowded : List Bool) → length places ≡ 4096 → length crowded ≡ 4096 → AreTagged [] places crowded []
+none_tagged places crowded size groups = record {
   size = size;
+  groups = groups;
   known = λ k live. absurd (false≢true live);
   are_live = λ k some. absurd (omega (arith, some));
   sorted = λ i j d lt l. absurd (omega (arith, l));
+  marked = λ k some. absurd (omega (arith, some));
   few = omega arith;
 }
 
@@ -62,7 +71,7 @@ tag_less log k j l = ap (λ (e : Entry). e.command.itt) (before_at log (k + 1) j
 tag_last : (log : List Entry) (k : ℕ) → tag_at (take (k + 1) log) k ≡ tag_at log k
 tag_last log k = ap (λ (e : Entry). e.command.itt) (before_at log (k + 1) k (omega arith))
 
-module _ {log : List Entry} {places others : List ℕ} (tagged : AreTagged log places others) where
+module _ {log : List Entry} {places : List ℕ} {crowded : List Bool} {others : List ℕ} (tagged : AreTagged log places crowded others) where
   -- each of the others is live
   pub other_live : (i : ℕ) → i < length others → IsLiveAt log (get_or others i 0)
   other_live i l = tagged.are_live (get_or others i 0) (times_at others i l)
@@ -101,6 +110,15 @@ module _ {log : List Entry} {places others : List ℕ} (tagged : AreTagged log p
         other_found found.0 (ap (tag_at log) found.1 ∙ is))
         (cases_eq (get_or places (group_of itt) 0) k)
 
+  -- no live command has a tag whose group isn't marked, where the place of the group has none
+  pub unmarked_tag : (itt : ℕ) → get_or crowded (group_of itt) false ≡ false → (IsLiveAt log (get_or places (group_of itt) 0) → tag_at log (get_or places (group_of itt) 0) ≢ itt) → (k : ℕ) → IsLiveAt log k → tag_at log k ≢ itt
+  unmarked_tag itt unmarked other_first k live is = ⊎_elim
+      (λ here. other_first (subst (IsLiveAt log) (sym here) live) (ap (tag_at log) here ∙ is))
+      (λ apart.
+      let some = tagged.known k live (λ same. apart (ap (λ n. get_or places (group_of n) 0) (sym is) ∙ same)) in
+      false≢true (sym unmarked ∙ ap (λ n. get_or crowded (group_of n) false) (sym is) ∙ tagged.marked k some))
+      (cases_eq (get_or places (group_of itt) 0) k)
+
   -- none of them stands at two places
   twice : (at : ℕ) → at < length others → (j : ℕ) → get_or others at 0 ≡ j → 1 ≤ times j (remove others at) → ⊥
   twice at l j there some =
@@ -129,7 +147,7 @@ module _ {log : List Entry} {places others : List ℕ} (tagged : AreTagged log p
         let apart : j ≢ k = λ same. false≢true (sym (ap (λ (e : Entry). e.is_live) (get_or-set_same log k (ended (entry_at log k)) NOTHING (live_within log k live))) ∙ subst (IsLiveAt (set log k (ended (entry_at log k)))) same is) in
         (apart, ap (λ (e : Entry). e.is_live) (sym (get_or-set_other log k j (ended (entry_at log k)) NOTHING apart)) ∙ is)
 
-    same_tag : (j : ℕ) → tag_at (set log k (ended (entry_at log k))) j ≡ tag_at log j
+    pub same_tag : (j : ℕ) → tag_at (set log k (ended (entry_at log k))) j ≡ tag_at log j
     same_tag j = ⊎_elim
         (λ same. ap (tag_at (set log k (ended (entry_at log k)))) same ∙ ap (λ (e : Entry). e.command.itt) (get_or-set_same log k (ended (entry_at log k)) NOTHING (live_within log k live)) ∙ ap (tag_at log) (sym same))
         (λ apart. ap (λ (e : Entry). e.command.itt) (get_or-set_other log k j (ended (entry_at log k)) NOTHING apart))
@@ -138,21 +156,35 @@ module _ {log : List Entry} {places others : List ℕ} (tagged : AreTagged log p
     same_group : (j : ℕ) → get_or places (group_of (tag_at (set log k (ended (entry_at log k))) j)) 0 ≡ get_or places (group_of (tag_at log j)) 0
     same_group j = ap (λ n. get_or places (group_of n) 0) (same_tag j)
 
-    pub left_first : times k others ≡ 0 → AreTagged (set log k (ended (entry_at log k))) places others
+    -- the groups of those that are left among the others are marked
+    marked_still : (left : List ℕ) → ((j : ℕ) → 1 ≤ times j left → 1 ≤ times j others) → AreMarked (set log k (ended (entry_at log k))) crowded left
+    marked_still left more j some = ap (λ n. get_or crowded (group_of n) false) (same_tag j) ∙ tagged.marked j (more j some)
+
+    -- a command whose group isn't marked isn't among the others
+    pub not_other : get_or crowded (group_of (tag_at log k)) false ≡ false → times k others ≡ 0
+    not_other unmarked = ⊎_elim
+        (λ none. omega (arith, none))
+        (λ some. absurd (false≢true (sym unmarked ∙ tagged.marked k some)))
+        (cases_lt (times k others) 1)
+
+    pub left_first : times k others ≡ 0 → AreTagged (set log k (ended (entry_at log k))) places crowded others
     left_first none = record {
       size = tagged.size;
+      groups = tagged.groups;
       known = λ j is other. let before = was j is in tagged.known j before.1 (λ same. other (same_group j ∙ same));
       are_live = λ j some. still j (λ same. let is = ap (λ n. times n others) same in omega (arith, some, none, is)) (tagged.are_live j some);
       sorted = same_order (tag_at log) (tag_at (set log k (ended (entry_at log k)))) others (λ i d l. same_tag (get_or others i d)) tagged.sorted;
+      marked = marked_still others (λ j some. some);
       few = let few = tagged.few in let long = length-set log k (ended (entry_at log k)) in omega (arith, few, long);
     }
 
-    pub left_other : (at : ℕ) → at < length others → get_or others at 0 ≡ k → AreTagged (set log k (ended (entry_at log k))) places (remove others at)
+    pub left_other : (at : ℕ) → at < length others → get_or others at 0 ≡ k → AreTagged (set log k (ended (entry_at log k))) places crowded (remove others at)
     left_other at l there =
         let counted : (j : ℕ) → times j others ≡ times j (remove others at) + times j (k ∷ []) = λ j. subst (λ s. times j others ≡ times j (remove others at) + times j (s ∷ [])) there (times_remove j others at l) in
         let more : (j : ℕ) → 1 ≤ times j (remove others at) → 1 ≤ times j others = λ j some. let is = counted j in omega (arith, is, some) in
         record {
           size = tagged.size;
+          groups = tagged.groups;
           known = λ j is other.
               let before = was j is in
               let some = tagged.known j before.1 (λ same. other (same_group j ∙ same)) in
@@ -161,12 +193,13 @@ module _ {log : List Entry} {places others : List ℕ} (tagged : AreTagged log p
               omega (arith, some, all, none);
           are_live = λ j some. still j (λ same. twice at l j (there ∙ sym same) some) (tagged.are_live j (more j some));
           sorted = same_order (tag_at log) (tag_at (set log k (ended (entry_at log k)))) (remove others at) (λ i d m. same_tag (get_or (remove others at) i d)) (removed_up (tag_at log) others at l tagged.sorted);
+          marked = marked_still (remove others at) more;
           few = let few = tagged.few in let long = length-set log k (ended (entry_at log k)) in let fewer = length-remove others at l in omega (arith, few, long, fewer);
         }
 
 -- ---- a command enters
 
-module _ (log : List Entry) {places others : List ℕ} (k : ℕ) (tagged : AreTagged (take k log) places others) (inside : k < length log) (live : IsLiveAt log k) where
+module _ (log : List Entry) {places : List ℕ} {crowded : List Bool} {others : List ℕ} (k : ℕ) (tagged : AreTagged (take k log) places crowded others) (inside : k < length log) (live : IsLiveAt log k) where
   live_last : IsLiveAt (take (k + 1) log) k
   live_last = ap (λ (e : Entry). e.is_live) (before_at log (k + 1) k (omega arith)) ∙ live
 
@@ -192,7 +225,7 @@ module _ (log : List Entry) {places others : List ℕ} (k : ℕ) (tagged : AreTa
       tagged.sorted
 
   -- the place of its group is its own
-  pub entered_first : (group : ℕ) → group ≡ group_of (tag_at log k) → (get_or places group 0 < k → IsLiveAt log (get_or places group 0) → group_of (tag_at log (get_or places group 0)) ≢ group) → AreTagged (take (k + 1) log) (set places group k) others
+  pub entered_first : (group : ℕ) → group ≡ group_of (tag_at log k) → (get_or places group 0 < k → IsLiveAt log (get_or places group 0) → group_of (tag_at log (get_or places group 0)) ≢ group) → AreTagged (take (k + 1) log) (set places group k) crowded others
   entered_first group is free =
       let below : group < length places = subst (λ n. n < length places) (sym is) (place_below tagged (tag_at log k)) in
       let here : get_or (set places group k) group 0 ≡ k = get_or-set_same places group k 0 below in
@@ -200,6 +233,7 @@ module _ (log : List Entry) {places others : List ℕ} (k : ℕ) (tagged : AreTa
       let at_group : (j : ℕ) → j < k → group_of (tag_at (take (k + 1) log) j) ≡ group_of (tag_at log j) = λ j l. ap group_of (ap (λ (e : Entry). e.command.itt) (before_at log (k + 1) j (omega (arith, l)))) in
       record {
         size = length-set places group k ∙ tagged.size;
+        groups = tagged.groups;
         known = λ j m other. ⊎_elim
             (λ l. tagged.known j (live_less log k j l m) (λ same. ⊎_elim
             (λ g.
@@ -214,13 +248,14 @@ module _ (log : List Entry) {places others : List ℕ} (k : ℕ) (tagged : AreTa
             (cases_lt j k);
         are_live = λ j some. live_more log k j (tagged.are_live j some);
         sorted = sorted_more;
+        marked = λ j some. ap (λ n. get_or crowded (group_of n) false) (tag_less log k j (other_before j some)) ∙ tagged.marked j some;
         few = let few = tagged.few in let more = more_few in omega (arith, few, more);
       }
 
   -- the place of its group is taken
-  pub entered_other : (at : ℕ) → at ≤ length others → get_or places (group_of (tag_at log k)) 0 < k → ((i : ℕ) → i < at → tag_at log (get_or others i 0) < tag_at log k) → ((i : ℕ) → at ≤ i → i < length others → tag_at log k ≤ tag_at log (get_or others i 0))
-      → ((j : ℕ) → IsLiveAt (take k log) j → tag_at log j ≢ tag_at log k) → AreTagged (take (k + 1) log) places (insert others at k)
-  entered_other at le taken below above unused =
+  pub entered_other : (at group : ℕ) → group ≡ group_of (tag_at log k) → at ≤ length others → get_or places (group_of (tag_at log k)) 0 < k → ((i : ℕ) → i < at → tag_at log (get_or others i 0) < tag_at log k) → ((i : ℕ) → at ≤ i → i < length others → tag_at log k ≤ tag_at log (get_or others i 0))
+      → ((j : ℕ) → IsLiveAt (take k log) j → tag_at log j ≢ tag_at log k) → AreTagged (take (k + 1) log) places (set crowded group true) (insert others at k)
+  entered_other at group is_group le taken below above unused =
       let counted : (j : ℕ) → times j (insert others at k) ≡ times j others + times j (k ∷ []) = λ j. times_insert j others at k le in
       let cases : (j : ℕ) → 1 ≤ times j (insert others at k) → (1 ≤ times j others) ⊎ (k ≡ j) = λ j some. ⊎_elim
       (λ none. let is = counted j in let zero_times : times j others ≡ 0 = omega (arith, none) in inr (times_one j k (omega (arith, is, some, zero_times))))
@@ -229,8 +264,10 @@ module _ (log : List Entry) {places others : List ℕ} (k : ℕ) (tagged : AreTa
       let tag_now : (i : ℕ) → i < length others → tag_at (take (k + 1) log) (get_or others i 0) ≡ tag_at log (get_or others i 0) = λ i l. ap (λ (e : Entry). e.command.itt) (before_at log (k + 1) (get_or others i 0) (let b = other_before (get_or others i 0) (times_at others i l) in omega (arith, b))) in
       let last = tag_last log k in
       let first_of : get_or places (group_of (tag_at (take (k + 1) log) k)) 0 ≡ get_or places (group_of (tag_at log k)) 0 = ap (λ n. get_or places (group_of n) 0) last in
+      let inside_groups : group < length crowded = let groups = tagged.groups in let b = group_below (tag_at log k) in omega (arith, groups, b, is_group) in
       record {
         size = tagged.size;
+        groups = length-set crowded group true ∙ tagged.groups;
         known = λ j m other. ⊎_elim
             (λ l. let some = tagged.known j (live_less log k j l m) (λ same. other (group_more j l ∙ same)) in let is = counted j in omega (arith, some, is))
             (λ from.
@@ -258,5 +295,10 @@ module _ (log : List Entry) {places others : List ℕ} (k : ℕ) (tagged : AreTa
             (λ same. absurd (other same))
             (λ apart. omega (arith, tag, now, is, last, apart))
             (cases_eq (tag_at log (get_or others i 0)) (tag_at log k)));
+        marked = λ j some. ⊎_elim
+            (λ old. ap (λ n. get_or (set crowded group true) (group_of n) false) (tag_less log k j (other_before j old)) ∙ mark_stays crowded group (group_of (tag_at (take k log) j)) inside_groups (tagged.marked j old))
+            (λ now. subst (λ n. get_or (set crowded group true) (group_of (tag_at (take (k + 1) log) n)) false ≡ true) now
+            (ap (λ n. get_or (set crowded group true) (group_of n) false) last ∙ ap (λ g. get_or (set crowded group true) g false) (sym is_group) ∙ get_or-set_same crowded group true false inside_groups))
+            (cases j some);
         few = let few = tagged.few in let more = more_few in let long = length-insert others at k le in omega (arith, few, more, long);
       }

@@ -1,5 +1,5 @@
 -- The commands in the order in which they entered, of which some are live still.
-use Rattle.std.specs.Prelude.{◌≡◌, ◌≢◌, ℕ, ◌+◌, ◌*◌, ◌/◌, ◌%◌, ◌≤◌, false, true, List, length, map, filter, take, slice_index_or, Option, MatchOption}
+use Rattle.std.specs.Prelude.{◌≡◌, ◌≢◌, ℕ, ◌+◌, ◌*◌, ◌/◌, ◌%◌, ◌≤◌, Bool, false, true, List, length, map, filter, take, slice_index_or, Option, MatchOption}
 use Rattle.iscsi_slots.specs.Slots.{times}
 use Rattle.iscsi_slots.specs.Places.{AreAscending}
 use Rattle.iscsi_commands.specs.declared.live.Live.{Live}
@@ -40,12 +40,19 @@ rank log k = length (live_in (take k log))
 unfoldable pub group_of : ℕ → ℕ
 group_of itt = (itt * 2654435769 % 4294967296) / 1048576
 
--- each live command stands at the place of its tag's group, or among the others, which stand in the order of their tags
-pub record AreTagged (log : List Entry) (places others : List ℕ) : Type 0 where
+-- the group of each of the others is marked
+abbrev pub AreMarked : List Entry → List Bool → List ℕ → Type 0
+AreMarked log crowded others = (k : ℕ) → 1 ≤ times k others → slice_index_or crowded (group_of (tag_at log k)) false ≡ true
+
+-- each live command stands at the place of its tag's group, or among the others, which stand in the order of their tags and
+-- whose groups are marked
+pub record AreTagged (log : List Entry) (places : List ℕ) (crowded : List Bool) (others : List ℕ) : Type 0 where
   pub size : length places ≡ 4096
+  pub groups : length crowded ≡ 4096
   pub known : (k : ℕ) → IsLiveAt log k → slice_index_or places (group_of (tag_at log k)) 0 ≢ k → 1 ≤ times k others
   pub are_live : (k : ℕ) → 1 ≤ times k others → IsLiveAt log k
   pub sorted : AreAscending (tag_at log) others
+  pub marked : AreMarked log crowded others
   pub few : length others ≤ length log
 
 -- the place of the live command with this tag, or none
@@ -58,7 +65,7 @@ IsLivePlace log ticket r = MatchOption r ((k : ℕ) → IsLiveAt log k → ticke
 
 -- ---- what is kept of them
 
-pub record AreLogged (log : List Entry) (capacity live room hints : ℕ) (places others : List ℕ) (others_room : ℕ) : Type 0 where
+pub record AreLogged (log : List Entry) (capacity live room hints : ℕ) (places : List ℕ) (crowded : List Bool) (others : List ℕ) (others_room : ℕ) : Type 0 where
   pub ascending : AreAscending ticket_of log
   pub apart : AreTagsApart (live_in log)
   pub counted : live ≡ length (live_in log)
@@ -67,5 +74,5 @@ pub record AreLogged (log : List Entry) (capacity live room hints : ℕ) (places
   pub has_room : 2 * room + 64 ≤ capacity
   pub short : room ≤ 2016
   pub hinted : hints ≡ 4096
-  pub tagged : AreTagged log places others
+  pub tagged : AreTagged log places crowded others
   pub for_others : others_room ≡ 2 * room + 64

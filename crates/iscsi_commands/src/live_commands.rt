@@ -56,7 +56,7 @@ impl Model for LiveCommands {
     ghost view = { λ c. queued (live_in c.log.items) c.room };
 
     ghost invariant = { λ c. AreLogged c.log.items (vec_capacity c.log) c.live c.room (length c.hints.items)
-        c.tags.places.items c.tags.others.items c.tags.others.room };
+        c.tags.places.items c.tags.crowded.items c.tags.others.items c.tags.others.room };
 }
 
 impl LiveCommands {
@@ -143,13 +143,13 @@ fn make_way(log: &mut Vec<Entry>, live: usize, hints: &mut [u16], tags: &mut Tag
     requires counted { live ≡ length (live_in log.old.items) }
     requires short { length log.old.items ≤ 4096 }
     requires hints { length hints.old ≡ 4096 }
-    requires tagged { AreTagged log.old.items tags.old.places.items tags.old.others.items }
+    requires tagged { AreTagged log.old.items tags.old.places.items tags.old.crowded.items tags.old.others.items }
     requires newest { All (λ l. l.ticket < ticket) (live_in log.old.items) }
     ensures same { live_in log.new.items ≡ live_in log.old.items }
     ensures ascending { AreKeysAscending ticket_of log.new.items }
     ensures newest { All (λ e. ticket_of e < ticket) log.new.items }
     ensures few { length log.new.items < 2 * live + 64 }
-    ensures tagged { AreTagged log.new.items tags.new.places.items tags.new.others.items }
+    ensures tagged { AreTagged log.new.items tags.new.places.items tags.new.crowded.items tags.new.others.items }
     ensures room { tags.new.others.room ≡ tags.old.others.room }
     ensures capacity { vec_capacity log.new ≡ vec_capacity log.old }
 {
@@ -164,11 +164,11 @@ fn append(log: &mut Vec<Entry>, hints: &mut [u16], tags: &mut TagIndex, command:
     requires room { vec_len log.old < vec_capacity log.old }
     requires short { length log.old.items < 65536 }
     requires hints { length hints.old ≡ 4096 }
-    requires tagged { AreTagged log.old.items tags.old.places.items tags.old.others.items }
+    requires tagged { AreTagged log.old.items tags.old.places.items tags.old.crowded.items tags.old.others.items }
     requires others { length tags.old.others.items < tags.old.others.room }
     requires unused { list_any (λ l. l.itt == command.itt) (live_in log.old.items) ≡ false }
     ensures log { log.new.items ≡ log.old.items ++ record { command = command; is_live = true } ∷ [] }
-    ensures tagged { AreTagged log.new.items tags.new.places.items tags.new.others.items }
+    ensures tagged { AreTagged log.new.items tags.new.places.items tags.new.crowded.items tags.new.others.items }
     ensures room { tags.new.others.room ≡ tags.old.others.room }
     ensures capacity { vec_capacity log.new ≡ vec_capacity log.old }
 {
@@ -276,10 +276,10 @@ fn count_below(log: &[Entry], ticket: u64) -> usize
 fn close_up(log: &mut Vec<Entry>, hints: &mut [u16], tags: &mut TagIndex)
     requires short { length log.old.items ≤ 4096 }
     requires hints { length hints.old ≡ 4096 }
-    requires tagged { AreTagged log.old.items tags.old.places.items tags.old.others.items }
+    requires tagged { AreTagged log.old.items tags.old.places.items tags.old.crowded.items tags.old.others.items }
     ensures log { log.new.items ≡ filter (λ e. e.is_live) log.old.items }
     ensures capacity { vec_capacity log.new ≡ vec_capacity log.old }
-    ensures tagged { AreTagged log.new.items tags.new.places.items tags.new.others.items }
+    ensures tagged { AreTagged log.new.items tags.new.places.items tags.new.crowded.items tags.new.others.items }
     ensures room { tags.new.others.room ≡ tags.old.others.room }
 {
     note_ranks(log, hints);

@@ -3,7 +3,7 @@
 ghost use Rattle.std.specs.Prelude.{◌≡◌, ◌≢◌, ℕ, ◌+◌, ◌<◌, ◌≤◌, true, [], length, filter, map, take, slice_index_or, slice_set, IfOk};
 ghost use Rattle.iscsi_slots.specs.Queued.{queued};
 ghost use Rattle.iscsi_slots.specs.Places.{AreAscending};
-ghost use Rattle.iscsi_commands.specs.Log.{AreTagged, IsLiveAt, IsTagPlace, ended, entry_at, group_of, rank, tag_at};
+ghost use Rattle.iscsi_commands.specs.Log.{AreMarked, AreTagged, IsLiveAt, IsTagPlace, ended, entry_at, group_of, rank, tag_at};
 
 use crate::entry::{Entry, GROUPS, entry_at, group_of};
 use iscsi_slots::Order;
@@ -12,11 +12,14 @@ use std::alloc::{AllocError, Global};
 /// Where the live commands stand in the log, by tag.
 ///
 /// Tags are in groups, and each group has a place. A command that enters when the place of its group is taken stands apart,
-/// in the order of the tags. So a tag is looked for at one place, and among those that stand apart by a binary search: the
-/// cost is bounded for any tags that an initiator chooses.
+/// in the order of the tags, and the group is marked. So a tag is looked for at one place, and where its group is marked
+/// among those that stand apart, by a binary search: the cost is bounded for any tags that an initiator chooses. A group
+/// stays marked when they leave, until the live commands close up.
 pub(crate) struct TagIndex {
     /// For each group the place of a live command with a tag of the group, or any.
     pub(crate) places: Vec<u16>,
+    /// For each group whether a command of it may be among the others.
+    pub(crate) crowded: Vec<bool>,
     /// The places of those that entered when the place of their group was taken.
     pub(crate) others: Order,
 }
@@ -25,6 +28,7 @@ impl Drop for TagIndex {
     fn drop(self) {
         let TagIndex {
             places: _places,
+            crowded: _crowded,
             others: _others,
         } = self;
     }
@@ -34,23 +38,28 @@ impl TagIndex {
     /// No command yet, and room for so many that are apart.
     pub(crate) fn with_room(alloc: Global, room: usize) -> Result<TagIndex, AllocError>
         requires { room ≤ 65535 }
-        ensures tagged { IfOk result (λ t. AreTagged [] t.places.items t.others.items) }
+        ensures tagged { IfOk result (λ t. AreTagged [] t.places.items t.crowded.items t.others.items) }
         ensures room { IfOk result (λ t. t.others.room ≡ room) }
     {
         Ok(TagIndex {
             places: vec![in alloc; 0; GROUPS]?,
+            crowded: vec![in alloc; false; GROUPS]?,
             others: Order::with_room(alloc, room)?,
         })
     }
 
     /// The place of the live command with this tag.
     pub(crate) fn find(&self, log: &[Entry], itt: u32) -> Option<usize>
-        requires { AreTagged log.now self.now.places.items self.now.others.items }
+        requires { AreTagged log.now self.now.places.items self.now.crowded.items self.now.others.items }
         ensures { IsTagPlace log.now itt result }
     {
-        let at = usize::from(self.places[group_of(itt)]);
+        let group = group_of(itt);
+        let at = usize::from(self.places[group]);
         if is_live_with(log, at, itt) {
             return Some(at);
+        }
+        if !self.crowded[group] {
+            return None;
         }
         let place = count_below(&self.others, log, itt);
         if place < self.others.len() {
@@ -64,13 +73,13 @@ impl TagIndex {
 
     /// The command at a place enters, behind those before it.
     pub(crate) fn enter(&mut self, log: &[Entry], k: usize)
-        requires tagged { AreTagged (take k log.now) self.old.places.items self.old.others.items }
+        requires tagged { AreTagged (take k log.now) self.old.places.items self.old.crowded.items self.old.others.items }
         requires place { k < length log.now }
         requires short { k < 65536 }
         requires room { length self.old.others.items < self.old.others.room }
         requires live { IsLiveAt log.now k }
         requires unused { (j : ℕ) → IsLiveAt (take k log.now) j → tag_at log.now j ≢ tag_at log.now k }
-        ensures tagged { AreTagged (take (k + 1) log.now) self.new.places.items self.new.others.items }
+        ensures tagged { AreTagged (take (k + 1) log.now) self.new.places.items self.new.crowded.items self.new.others.items }
         ensures room { self.new.others.room ≡ self.old.others.room }
     {
         let itt = entry_at(log, k).command.itt;
@@ -78,6 +87,7 @@ impl TagIndex {
         if is_taken(log, k, usize::from(self.places[group]), group) {
             let place = count_below(&self.others, log, itt);
             self.others.insert(place, k as u16);
+            self.crowded[group] = true;
         } else {
             self.places[group] = k as u16;
         }
@@ -85,14 +95,17 @@ impl TagIndex {
 
     /// The live command at a place leaves.
     pub(crate) fn leave(&mut self, log: &[Entry], k: usize)
-        requires tagged { AreTagged log.now self.old.places.items self.old.others.items }
+        requires tagged { AreTagged log.now self.old.places.items self.old.crowded.items self.old.others.items }
         requires live { IsLiveAt log.now k }
         requires place { k < length log.now }
         ensures tagged { AreTagged (slice_set log.now k (ended (entry_at log.now k))) self.new.places.items
-            self.new.others.items }
+            self.new.crowded.items self.new.others.items }
         ensures room { self.new.others.room ≡ self.old.others.room }
     {
         let itt = entry_at(log, k).command.itt;
+        if !self.crowded[group_of(itt)] {
+            return;
+        }
         let place = count_below(&self.others, log, itt);
         if place < self.others.len() && usize::from(self.others.at(place)) == k {
             self.others.remove(place);
@@ -101,14 +114,29 @@ impl TagIndex {
 
     /// The live commands close up in the log: `to` has for each place of the log how many stand before it.
     pub(crate) fn renumber(&mut self, log: &[Entry], to: &[u16])
-        requires tagged { AreTagged log.now self.old.places.items self.old.others.items }
+        requires tagged { AreTagged log.now self.old.places.items self.old.crowded.items self.old.others.items }
         requires size { length log.now ≤ length to.now }
         requires ranks { (k : ℕ) → k < length log.now → slice_index_or to.now k 0 ≡ rank log.now k }
-        ensures tagged { AreTagged (filter (λ e. e.is_live) log.now) self.new.places.items self.new.others.items }
+        ensures tagged { AreTagged (filter (λ e. e.is_live) log.now) self.new.places.items self.new.crowded.items self.new.others.items }
         ensures room { self.new.others.room ≡ self.old.others.room }
     {
+        mark(&mut self.crowded, &self.others, log);
         renumber_others(&mut self.others, to);
         renumber_places(&mut self.places, log, to);
+    }
+}
+
+/// Marks the groups of the others alone.
+fn mark(crowded: &mut [bool], others: &Order, log: &[Entry])
+    requires groups { length crowded.old ≡ 4096 }
+    requires within { (i : ℕ) → i < length others.now.items → slice_index_or others.now.items i 0 < length log.now }
+    ensures groups { length crowded.new ≡ 4096 }
+    ensures marked { AreMarked log.now crowded.new others.now.items }
+{
+    crowded.fill(false);
+    for i in 0..others.len() {
+        let k = usize::from(others.at(i));
+        crowded[group_of(entry_at(log, k).command.itt)] = true;
     }
 }
 

@@ -34,10 +34,10 @@ invariant_of-self c =
     let apart : AreTagsApart (live_in log) = subst AreTagsApart (sym way.same) kept.apart in
     let unused : list_any (λ l. l.itt == c.args.command.itt) (live_in log) ≡ false = subst (λ ls. list_any (λ l. l.itt == c.args.command.itt) ls ≡ false) (sym lives) c.requires.unused in
     let others : c.append.new.tags.others.room ≡ 2 * c.self.inside.room + 64 = c.append.ensures.room ∙ way.room ∙ kept.for_others in
-    let tagged : AreTagged (log ++ e ∷ []) c.append.new.tags.places.items c.append.new.tags.others.items = subst (λ l. AreTagged l c.append.new.tags.places.items c.append.new.tags.others.items) c.append.ensures.log c.append.ensures.tagged in
+    let tagged : AreTagged (log ++ e ∷ []) c.append.new.tags.places.items c.append.new.tags.crowded.items c.append.new.tags.others.items = subst (λ l. AreTagged l c.append.new.tags.places.items c.append.new.tags.crowded.items c.append.new.tags.others.items) c.append.ensures.log c.append.ensures.tagged in
     subst (λ (l : List Entry). AreLogged l (vec_capacity c.append.new.log) (c.self.inside.live + 1) c.self.inside.room
     (length (take c.self.inside.hints.len (c.append.new.hints ++ drop (length c.append.new.hints) (take c.self.inside.hints.len (c.make_way.new.hints ++ drop (length c.make_way.new.hints) hints)))))
-    c.append.new.tags.places.items c.append.new.tags.others.items c.append.new.tags.others.room) (sym c.append.ensures.log)
+    c.append.new.tags.places.items c.append.new.tags.crowded.items c.append.new.tags.others.items c.append.new.tags.others.room) (sym c.append.ensures.log)
     (logged_with log c.args.command way.ascending apart count fewer way.few roomy kept.short
     (same_hints c.self.inside.hints.len c.deref_mut.result.now c.make_way.new.hints c.append.new.hints hints long first c.deref_mut.ensures.value (second ∙ ap length c.deref_mut-2.ensures.value) ∙ kept.hinted)
     others way.newest unused tagged)

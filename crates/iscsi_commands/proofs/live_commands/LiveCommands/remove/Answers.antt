@@ -18,10 +18,10 @@ invariant_of-self c =
     let log = c.self.inside.log.items in
     let k = c.in-Some.k in
     let found = subst (λ (log : List Entry). IsLiveAt log c.in-Some.k × (ticket_of (entry_at log c.in-Some.k) ≡ c.args.ticket)) c.deref.ensures.value c.in-Some.ensures in
-    let tagged = subst (λ (log : List Entry). AreTagged (set log k (ended (entry_at log k))) c.leave.new.self.places.items c.leave.new.self.others.items) c.deref-in-Some.ensures.value c.leave.ensures.tagged in
-    subst (λ (l : List Entry). AreLogged l (vec_capacity c.end.new.log) (c.self.inside.live - 1) c.self.inside.room (length c.self.inside.hints.items) c.leave.new.self.places.items c.leave.new.self.others.items c.leave.new.self.others.room) (sym c.end.ensures.log)
-    (subst (λ n. AreLogged (set log k (ended (entry_at log k))) n (c.self.inside.live - 1) c.self.inside.room (length c.self.inside.hints.items) c.leave.new.self.places.items c.leave.new.self.others.items c.leave.new.self.others.room) (sym c.end.ensures.capacity)
-    (subst (λ n. AreLogged (set log k (ended (entry_at log k))) (vec_capacity c.self.inside.log) (c.self.inside.live - 1) c.self.inside.room (length c.self.inside.hints.items) c.leave.new.self.places.items c.leave.new.self.others.items n) (sym c.leave.ensures.room)
+    let tagged = subst (λ (log : List Entry). AreTagged (set log k (ended (entry_at log k))) c.leave.new.self.places.items c.leave.new.self.crowded.items c.leave.new.self.others.items) c.deref-in-Some.ensures.value c.leave.ensures.tagged in
+    subst (λ (l : List Entry). AreLogged l (vec_capacity c.end.new.log) (c.self.inside.live - 1) c.self.inside.room (length c.self.inside.hints.items) c.leave.new.self.places.items c.leave.new.self.crowded.items c.leave.new.self.others.items c.leave.new.self.others.room) (sym c.end.ensures.log)
+    (subst (λ n. AreLogged (set log k (ended (entry_at log k))) n (c.self.inside.live - 1) c.self.inside.room (length c.self.inside.hints.items) c.leave.new.self.places.items c.leave.new.self.crowded.items c.leave.new.self.others.items c.leave.new.self.others.room) (sym c.end.ensures.capacity)
+    (subst (λ n. AreLogged (set log k (ended (entry_at log k))) (vec_capacity c.self.inside.log) (c.self.inside.live - 1) c.self.inside.room (length c.self.inside.hints.items) c.leave.new.self.places.items c.leave.new.self.crowded.items c.leave.new.self.others.items n) (sym c.leave.ensures.room)
     (logged_without c.self.invariant c.args.ticket k found.0 found.1 tagged)))
 
 pub returns-in-Some : goal.returns-in-Some

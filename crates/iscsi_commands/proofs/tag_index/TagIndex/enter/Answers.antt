@@ -1,9 +1,10 @@
-use Rattle.std.proofs.Common.{◌≡◌, ◌<◌, ◌+◌, ℕ, length, take, get_or, ap, sym, subst, ◌∙◌, arith}
+use Rattle.std.proofs.Common.{◌≡◌, ◌<◌, ◌+◌, ℕ, length, take, get_or, set, true, ap, sym, subst, ◌∙◌, arith}
 use Rattle.std.proofs.lemmas.Bool.{false≢true}
 use Rattle.std.proofs.lemmas.List.{get_or_read}
 use Rattle.iscsi_slots.specs.Queued.{Queued}
 use Rattle.iscsi_slots.proofs.SlotLemmas.{times_at}
 use Rattle.iscsi_commands.specs.Log.{AreTagged, tag_at, group_of, IsLiveAt}
+use Rattle.iscsi_commands.proofs.LogLemmas.{group_below}
 use Rattle.iscsi_commands.proofs.TagIndexLemmas.{place_below, entered_first, entered_other, other_before, sorted_before}
 use Rattle.iscsi_commands.proofs.tag_index.TagIndex.enter.Goals as goal
 
@@ -11,7 +12,10 @@ pub index-requires : goal.index-requires
 index-requires c = let below = place_below c.requires.tagged c.entry_at.result.now.command.itt in let is = c.group_of-group.ensures in omega (arith, below, is)
 
 pub index_mut-requires : goal.index_mut-requires
-index_mut-requires c = let below = place_below c.requires.tagged c.entry_at.result.now.command.itt in let is = c.group_of-group.ensures in omega (arith, below, is)
+index_mut-requires c = let below = group_below c.entry_at.result.now.command.itt in let is = c.group_of-group.ensures in let groups = c.requires.tagged.groups in omega (arith, below, is, groups)
+
+pub index_mut-requires-else-is_taken : goal.index_mut-requires-else-is_taken
+index_mut-requires-else-is_taken c = let below = place_below c.requires.tagged c.entry_at.result.now.command.itt in let is = c.group_of-group.ensures in omega (arith, below, is)
 
 pub count_below-place-requires-clause-within : goal.count_below-place-requires-clause-within
 count_below-place-requires-clause-within c = λ i l.
@@ -31,8 +35,8 @@ returns-then-is_taken-clause-tagged c =
     let inside : c.group_of-group.result < length places = let below = place_below c.requires.tagged (tag_at c.args.log.now c.args.k) in omega (arith, below, group) in
     let is : c.from.result ≡ get_or places (group_of (tag_at c.args.log.now c.args.k)) 0 = c.from.ensures ∙ get_or_read places c.group_of-group.result c.index.result.now inside c.index.ensures 0 ∙ ap (λ n. get_or places n 0) group in
     let taken = (c.is_taken.ensures.yes c.if-is_taken.true).0 in
-    subst (λ (o : Queued ℕ). AreTagged (take (c.args.k + 1) c.args.log.now) places o.items) (sym c.insert.ensures)
-    (entered_other c.args.log.now c.args.k c.requires.tagged c.requires.place c.requires.live c.count_below-place.result found.within
+    subst (λ (o : Queued ℕ). AreTagged (take (c.args.k + 1) c.args.log.now) places (set c.args.self.now.crowded.items c.group_of-group.result true) o.items) (sym c.insert.ensures)
+    (entered_other c.args.log.now c.args.k c.requires.tagged c.requires.place c.requires.live c.count_below-place.result c.group_of-group.result group found.within
     (omega (arith, taken, is))
     (λ i l. let b = found.below i l in omega (arith, b, tag))
     (λ i from l. let a = found.above i from l in omega (arith, a, tag))
