@@ -9,7 +9,7 @@ use Rattle.iscsi_slots.specs.Slots.{times, IsPut}
 use Rattle.iscsi_slots.specs.Places.{AreAscending}
 use Rattle.iscsi_slots.proofs.SlotLemmas.{StandsAt, stands, times_at, times_append, times_remove, times_insert, map-remove, map-insert}
 use Rattle.iscsi_slots.proofs.ShareLemmas.{shared_without, shared_with, values_with, values_same, value_put}
-use Rattle.iscsi_slots.proofs.SearchLemmas.{not_there}
+use Rattle.iscsi_slots.proofs.HalvingLemmas.{not_there}
 use Rattle.iscsi_slots.proofs.SortedLemmas.{same_place, find_nowhere, pushed_up, removed_up, inserted_up}
 use Rattle.iscsi_commands.specs.declared.live.Live.{Live}
 use Rattle.iscsi_commands.specs.declared.key.Key.TheVariants.{Ticket, Tag}

@@ -8,15 +8,14 @@ ghost use Rattle.iscsi_commands.specs.Kept.{IsSortedBy, commands, key_of, order_
 
 use crate::key::Key;
 use crate::live::Live;
-use crate::search::{count_below, key_at};
 use iscsi_slots::{Order, Slots};
 use std::alloc::{AllocError, Global};
 use std::marker::Model;
 
 /// The live commands, in the order in which they entered. No two have the same tag.
 ///
-/// A command keeps its slot until it is taken out. Its place in either order is found by a search that parts the
-/// commands in four, so the cost of a call is bounded for any tags that an initiator chooses.
+/// A command keeps its slot until it is taken out. Its place in either order is found by binary search, so the cost
+/// of a call is bounded for any tags that an initiator chooses.
 ///
 /// While tags go up with the tickets, as those of most initiators do, one order serves for both.
 pub struct Commands {
@@ -111,43 +110,19 @@ impl Commands {
         ensures command { result ≡ find_tag itt self.now.items }
         ensures alone { AreTagsApart self.now.items }
     {
-        let (command, _) = self.look_up_tagged(itt);
-        command
-    }
-
-    /// The command with this Initiator Task Tag, and beside it the guess by which `push_near` finds the place of a command
-    /// with this tag at once, as long as no other one enters or leaves.
-    pub fn look_up_tagged(&self, itt: u32) -> (Option<Live>, usize)
-        ensures command { result.0 ≡ find_tag itt self.now.items }
-        ensures alone { AreTagsApart self.now.items }
-    {
         let tags = tags_of(self.has_apart, &self.by_ticket, &self.by_tag);
         let at = first_from(tags, &self.slots, Key::Tag, u64::from(itt), tags.len());
         if at < tags.len() {
             let command = self.slots.at(tags.at(at));
             if command.itt == itt {
-                return (Some(*command), at);
+                return Some(*command);
             }
         }
-        (None, at)
+        None
     }
 
     /// A command enters. Its ticket is greater than all others', and no other one has its tag.
     pub fn push(&mut self, command: Live)
-        requires room { length self.old.items < self.old.room }
-        requires newest { All (λ l. l.ticket < command.ticket) self.old.items }
-        requires unused { list_any (λ l. l.itt == command.itt) self.old.items ≡ false }
-        ensures { self.new ≡ queued (self.old.items ++ command ∷ []) self.old.room }
-    {
-        let guess = self.len();
-        self.push_near(command, guess);
-    }
-
-    /// A command enters, as by `push`.
-    ///
-    /// The guess is where it stands by its tag, as `look_up_tagged` tells. It may be any: its tag is looked for where it
-    /// isn't right.
-    pub fn push_near(&mut self, command: Live, guess: usize)
         requires room { length self.old.items < self.old.room }
         requires newest { All (λ l. l.ticket < command.ticket) self.old.items }
         requires unused { list_any (λ l. l.itt == command.itt) self.old.items ≡ false }
@@ -159,7 +134,7 @@ impl Commands {
             &self.slots,
             Key::Tag,
             u64::from(command.itt),
-            guess.min(tags.len()),
+            tags.len(),
         );
         let slot = self.slots.put(command);
         enter_by_tag(
@@ -242,7 +217,7 @@ fn first_from(order: &Order, slots: &Slots<Live>, by: Key, key: u64, guess: usiz
     {
         guess
     } else {
-        count_below(order, slots, by, key)
+        halve(order, slots, by, key)
     }
 }
 
@@ -273,4 +248,37 @@ fn is_reached_from(order: &Order, slots: &Slots<Live>, by: Key, key: u64, at: us
         return true;
     }
     key <= key_at(order, slots, by, at)
+}
+
+/// The key of the command at a place of an order.
+fn key_at(order: &Order, slots: &Slots<Live>, by: Key, k: usize) -> u64
+    requires within { slice_index_or order.now.items k 0 < length slots.now.values }
+    requires place { k < length order.now.items }
+    ensures { (d : Live) → result ≡ key_of by (slice_index_or (commands slots.now.values order.now.items) k d) }
+{
+    by.of(slots.at(order.at(k)))
+}
+
+/// How many commands of an order have a lower key, by binary search.
+fn halve(order: &Order, slots: &Slots<Live>, by: Key, key: u64) -> usize
+    requires within { (k : ℕ) → k < length order.now.items →
+        slice_index_or order.now.items k 0 < length slots.now.values }
+    requires sorted { IsSortedBy by slots.now.values order.now.items }
+    ensures within { result ≤ length order.now.items }
+    ensures below { (k : ℕ) (d : Live) → k < result →
+        key_of by (slice_index_or (commands slots.now.values order.now.items) k d) < key }
+    ensures above { (k : ℕ) (d : Live) → result ≤ k → k < length order.now.items →
+        key ≤ key_of by (slice_index_or (commands slots.now.values order.now.items) k d) }
+{
+    let mut low = 0;
+    let mut high = order.len();
+    while low < high {
+        let middle = (low + high) / 2;
+        if key_at(order, slots, by, middle) < key {
+            low = middle + 1;
+        } else {
+            high = middle;
+        }
+    }
+    low
 }

@@ -9,7 +9,6 @@ mod entry;
 mod key;
 mod live;
 mod live_commands;
-mod search;
 mod tag_index;
 
 pub use commands::Commands;

@@ -1,7 +1,7 @@
 //! The search of a ticket in a set.
 //!
 //! It looks at three places at a time, which part the commands in four, and counts those with lower tickets. So it
-//! takes no branch by a ticket, which a processor would guess wrong half of the time. `iscsi_commands` searches so too.
+//! takes no branch by a ticket, which a processor would guess wrong half of the time.
 
 ghost use Rattle.std.specs.Prelude.{◌≡◌, ℕ, ◌+◌, ◌*◌, ◌<◌, ◌≤◌, true, false, length, slice_index_or};
 ghost use Rattle.iscsi_tasks.specs.declared.member.Member.{Member};

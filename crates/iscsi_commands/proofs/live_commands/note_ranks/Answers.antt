@@ -1,4 +1,4 @@
-use Rattle.std.proofs.Common.{◌≤◌, arith}
+use Rattle.std.proofs.Common.{arith}
 use Rattle.iscsi_commands.proofs.RankLemmas.{rank_below}
 use Rattle.iscsi_commands.proofs.live_commands.note_ranks.Goals as goal
 

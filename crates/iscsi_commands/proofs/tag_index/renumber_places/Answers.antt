@@ -1,7 +1,5 @@
-use Rattle.std.proofs.Common.{◌≡◌, ◌≢◌, ◌<◌, ◌≤◌, ◌+◌, ℕ, length, get_or, set, ap, sym, subst, ◌∙◌, arith, ⊎_elim}
-use Rattle.std.proofs.lemmas.Bool.{cases_lt, cases_eq}
-use Rattle.std.proofs.lemmas.List.{get_or_read, get_or-set_same, get_or-set_other, length-set}
-use Rattle.iscsi_commands.specs.Log.{IsLiveAt, group_of, tag_at, rank}
+use Rattle.std.proofs.Common.{◌≡◌, ◌+◌, get_or, ap, sym, subst, ◌∙◌, arith}
+use Rattle.iscsi_commands.specs.Log.{group_of, tag_at}
 use Rattle.iscsi_commands.proofs.LogLemmas.{group_below}
 use Rattle.iscsi_commands.proofs.RankLemmas.{AreRenumbered, renumbered_here, renumbered_past}
 use Rattle.iscsi_commands.proofs.tag_index.renumber_places.Goals as goal

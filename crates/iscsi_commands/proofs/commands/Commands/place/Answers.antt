@@ -1,6 +1,6 @@
 use Rattle.std.proofs.Common.{◌<◌, ◌≤◌, ℕ, length, get_or, ap, subst, ◌∙◌, arith}
 use Rattle.iscsi_slots.specs.Places.{AreAscending}
-use Rattle.iscsi_slots.proofs.SearchLemmas.{not_there}
+use Rattle.iscsi_slots.proofs.HalvingLemmas.{not_there}
 use Rattle.iscsi_commands.specs.declared.live.Live.{Live}
 use Rattle.iscsi_commands.proofs.KeptLemmas.{length-commands, ticket_within}
 use Rattle.iscsi_commands.proofs.commands.Commands.place.Goals.{else-at-len-via-then-at-len+else-at-ticket, else-at-len-via-else-at-len}

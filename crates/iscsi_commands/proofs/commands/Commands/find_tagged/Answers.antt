@@ -4,7 +4,7 @@ use Rattle.iscsi_commands.specs.Commands.{AreTagsApart, find_tag}
 use Rattle.iscsi_commands.specs.Kept.{commands}
 use Rattle.iscsi_commands.proofs.KeptLemmas.{tag_within, kept_by}
 use Rattle.iscsi_commands.proofs.TagLemmas.{tag_found, tag_nowhere, tags_apart}
-use Rattle.iscsi_commands.proofs.commands.Commands.look_up_tagged.Goals as goal
+use Rattle.iscsi_commands.proofs.commands.Commands.find_tagged.Goals as goal
 
 pub first_from-at-requires-clause-within : goal.first_from-at-requires-clause-within
 first_from-at-requires-clause-within c = tag_within (kept_by c.tags_of-tags.ensures c.self.invariant)

@@ -1,7 +1,7 @@
 use Rattle.std.proofs.Common.{◌<◌, length, get_or, ap, sym, subst, ◌∙◌}
 use Rattle.iscsi_commands.specs.Kept.{key_of}
 use Rattle.iscsi_commands.proofs.KeptLemmas.{command_is}
-use Rattle.iscsi_commands.proofs.search.key_at.Goals as goal
+use Rattle.iscsi_commands.proofs.commands.key_at.Goals as goal
 
 pub at-requires-2 : goal.at-requires-2
 at-requires-2 c = subst (λ s. s < length c.args.slots.now.values) (sym c.at.ensures) c.requires.within

@@ -6,7 +6,7 @@ use Rattle.iscsi_commands.specs.declared.live.Live.{Live}
 use Rattle.iscsi_commands.specs.Kept.{BLANK, commands, order_of_tags, AreKept}
 use Rattle.iscsi_commands.proofs.KeptLemmas.{length-commands, kept_by, tag_within}
 use Rattle.iscsi_commands.proofs.TagLemmas.{kept_with}
-use Rattle.iscsi_commands.proofs.commands.Commands.push_near.Goals as goal
+use Rattle.iscsi_commands.proofs.commands.Commands.push.Goals as goal
 
 pub first_from-at-requires-clause-within : goal.first_from-at-requires-clause-within
 first_from-at-requires-clause-within c = tag_within (kept_by c.tags_of-tags.ensures c.self.invariant)
