@@ -1,6 +1,6 @@
 //! A session with the effects of its last event.
 
-ghost use Rattle.std.specs.Prelude.{◌≡◌, ◌+◌, ◌*◌, ℕ, List, [], ◌∷◌, ◌++◌, OnOk, OnErr, IfOk, Option, Some, None, true, is_some, unwrap_or, length, take, vec_capacity};
+ghost use Rattle.std.specs.Prelude.{◌≡◌, ◌+◌, ◌*◌, ℕ, List, [], ◌∷◌, ◌++◌, OnOk, OnErr, IfOk, Option, Some, None, true, is_some, option_map, unwrap_or, length, take, vec_capacity};
 ghost use Rattle.iscsi_history.specs.rules.Settings.{Setting, is_valid};
 ghost use Rattle.iscsi_session.specs.promises.Settings.{setting_of};
 ghost use Rattle.iscsi_session.specs.promises.Refusals.{RefusesAs, refusal_of, refusal_of_options};
@@ -124,8 +124,8 @@ fn room_of(options: &Options) -> usize
 }
 
 /// The last request that executes among the effects.
-fn last_request(effects: &[Effect]) -> Option<Request>
-    ensures { result ≡ last_executing effects.now }
+fn last_request(effects: &[Effect]) -> Option<&Request>
+    ensures { option_map (λ r. r.now) result ≡ last_executing effects.now }
 {
     let mut before = effects.len();
     while before > 0 {
@@ -138,11 +138,11 @@ fn last_request(effects: &[Effect]) -> Option<Request>
 }
 
 /// The request that executes, where the effect says that one does.
-fn executing(effect: &Effect) -> Option<Request>
-    ensures { result ≡ executing_in effect.now }
+fn executing(effect: &Effect) -> Option<&Request>
+    ensures { option_map (λ r. r.now) result ≡ executing_in effect.now }
 {
     match effect {
-        Effect::Deliver { request } | Effect::Immediate { request } => Some(*request),
+        Effect::Deliver { request } | Effect::Immediate { request } => Some(request),
         _ => None,
     }
 }

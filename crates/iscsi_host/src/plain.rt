@@ -1,7 +1,8 @@
 //! Effects and numbers in the plain form in which C reads them.
 
-ghost use Rattle.std.specs.Prelude.{◌≡◌};
-ghost use Rattle.iscsi_host.specs.Plain.{plain_of, request_form, number_form, command_form, enter_form, reply_form, attribute_code, reason_code};
+ghost use Rattle.std.specs.Prelude.{◌≡◌, ◌++◌, None, option_map};
+ghost use Rattle.iscsi_wire.specs.Replies.{bytes_4, header_of};
+ghost use Rattle.iscsi_host.specs.Plain.{NO_HEADER, plain_of, request_form, number_form, command_form, enter_form, reply_form, attribute_code, reason_code};
 
 use iscsi_history::{Effect, Numbers, Why};
 use iscsi_tasks::Attr;
@@ -58,11 +59,11 @@ const NOTHING: PlainEffect = PlainEffect {
 /// last before it.
 pub(crate) fn write_plain(
     effect: &Effect,
-    request: Option<Request>,
+    request: Option<&Request>,
     numbers: Numbers,
     out: &mut PlainEffect,
 )
-    ensures { out.new ≡ plain_of effect.now request numbers }
+    ensures { out.new ≡ plain_of effect.now (option_map (λ r. r.now) request.entry) numbers }
 {
     *out = NOTHING;
     match effect {
@@ -122,12 +123,18 @@ fn put_command(kind: u8, ticket: u64, unit: u16, out: &mut PlainEffect)
 }
 
 #[inline(always)]
-fn put_entering(ticket: u64, unit: u16, attr: Attr, request: Option<Request>, out: &mut PlainEffect)
+fn put_entering(
+    ticket: u64,
+    unit: u16,
+    attr: Attr,
+    request: Option<&Request>,
+    out: &mut PlainEffect,
+)
     requires { out.old ≡ NOTHING }
-    ensures { out.new ≡ enter_form ticket unit attr request }
+    ensures { out.new ≡ enter_form ticket unit attr (option_map (λ r. r.now) request.entry) }
 {
     if let Some(request) = request {
-        put_request(6, &request, out);
+        put_request(6, request, out);
     }
     out.kind = 6;
     out.ticket = ticket;
@@ -140,20 +147,47 @@ fn put_reply(cid: u16, stat_sn: u32, reply: &Reply, numbers: Numbers, out: &mut 
     requires { out.old ≡ NOTHING }
     ensures { out.new ≡ reply_form cid stat_sn reply.now numbers }
 {
-    let pdu = reply.encode(stat_sn, numbers.exp, numbers.max);
     out.kind = 9;
     out.cid = cid;
     out.sn = stat_sn;
-    out.header = *pdu.header();
-    // Most replies are of this kind. Here the compiler knows that there is no tail.
-    if let Reply::Scsi { sense: None, .. } = reply {
+    // Most replies are of this kind.
+    if let Reply::Scsi {
+        itt,
+        status,
+        sense: None,
+    } = reply
+    {
+        put_scsi_header(*itt, *status, stat_sn, numbers, &mut out.header);
         return;
     }
+    let pdu = reply.encode(stat_sn, numbers.exp, numbers.max);
+    out.header = *pdu.header();
     let tail = pdu.tail();
     let length = tail.len().min(48);
     out.tail_length = length as u8;
     let (data, _) = out.tail.split_at_mut(length);
     data.copy_from_slice(&tail[..length]);
+}
+
+/// Writes the header of a SCSI Response without sense, as `Reply::encode` gives it, where it is read: eight bytes at a time,
+/// so that whoever reads as many needn't wait for two stores.
+#[inline(always)]
+fn put_scsi_header(itt: u32, status: u8, stat_sn: u32, numbers: Numbers, header: &mut [u8; 48])
+    requires { header.old ≡ NO_HEADER }
+    ensures { header.new ≡ header_of (Reply.Scsi itt status None) stat_sn numbers.exp numbers.max }
+{
+    header[..8].copy_from_slice(&[0x21, 0x80, 0, status, 0, 0, 0, 0]);
+    header[16..24].copy_from_slice(&pair(itt, 0));
+    header[24..32].copy_from_slice(&pair(stat_sn, numbers.exp));
+    header[32..40].copy_from_slice(&pair(numbers.max, 0));
+}
+
+/// Two numbers in four bytes each, the highest byte first.
+#[inline(always)]
+fn pair(first: u32, second: u32) -> [u8; 8]
+    ensures { result ≡ bytes_4 first ++ bytes_4 second }
+{
+    (u64::from(first) * (1 << 32) + u64::from(second)).to_be_bytes()
 }
 
 fn code_of_attribute(attr: Attr) -> u8
