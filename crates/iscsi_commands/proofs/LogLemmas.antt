@@ -5,11 +5,11 @@ use Rattle.std.proofs.lemmas.Bool.{cases_Bool, cases_lt, cases_eq, false≢true,
 use Rattle.std.proofs.lemmas.List.{get_or_past, get_or-map, get_or_default, length-map, map-append, take_at, get_or_append_left, get_or_push, get_or-set_same, get_or-set_other, length-set, length_push}
 use Rattle.std.proofs.lemmas.List.Quantifiers.{all_pairs_push}
 use Rattle.std.proofs.lemmas.List.Folds.{list_any_at}
-use Rattle.std.proofs.lemmas.List.Elements.{filter-append, filter_passes}
+use Rattle.std.proofs.lemmas.List.Elements.{filter-append}
 use Rattle.std.proofs.lemmas.List.Kept.{AllPairs-filter}
 use Rattle.iscsi_slots.specs.Places.{AreAscending}
 use Rattle.iscsi_slots.proofs.SortedLemmas.{not_greater, same_place}
-use Rattle.iscsi_slots.proofs.SearchLemmas.{IsNarrowed}
+use Rattle.iscsi_slots.proofs.HalvingLemmas.{IsHalved}
 use Rattle.iscsi_commands.specs.declared.live.Live.{Live}
 use Rattle.iscsi_commands.specs.declared.entry.Entry.{Entry}
 use Rattle.iscsi_commands.specs.Commands.{AreAscending as AreTicketsAscending, AreTagsApart, find_ticket, find_tag, without_ticket}
@@ -151,7 +151,7 @@ tickets_up log up i j d lt l =
 -- ---- a search of a ticket in the log
 
 -- a test of a place in the middle
-pub narrowed_up : (log : List Entry) (n low middle high : ℕ) → AreAscending ticket_of log → IsNarrowed ticket_of log n low high → middle < high → ticket_of (entry_at log middle) < n → IsNarrowed ticket_of log n (middle + 1) high
+pub narrowed_up : (log : List Entry) (n low middle high : ℕ) → AreAscending ticket_of log → IsHalved ticket_of log n low high → middle < high → ticket_of (entry_at log middle) < n → IsHalved ticket_of log n (middle + 1) high
 narrowed_up log n low middle high up narrowed l lower =
     let inside = narrowed.inside in
     let within : middle < length log = omega (arith, l, inside) in
@@ -165,7 +165,7 @@ narrowed_up log n low middle high up narrowed l lower =
       above = narrowed.above;
     }
 
-pub narrowed_down : (log : List Entry) (n low middle high : ℕ) → AreAscending ticket_of log → IsNarrowed ticket_of log n low high → low ≤ middle → middle < high → n ≤ ticket_of (entry_at log middle) → IsNarrowed ticket_of log n low middle
+pub narrowed_down : (log : List Entry) (n low middle high : ℕ) → AreAscending ticket_of log → IsHalved ticket_of log n low high → low ≤ middle → middle < high → n ≤ ticket_of (entry_at log middle) → IsHalved ticket_of log n low middle
 narrowed_down log n low middle high up narrowed from l upper =
     let inside = narrowed.inside in
     let within : middle < length log = omega (arith, l, inside) in
@@ -189,18 +189,6 @@ newest log n up last k d l =
 
 -- ---- the live ones closed up
 
-pub all_live : (log : List Entry) (k : ℕ) → k < length (filter (λ e. e.is_live) log) → IsLiveAt (filter (λ e. e.is_live) log) k
-all_live log k l = filter_passes (λ (x : Entry). x.is_live) log k NOTHING l
-
--- no two of them have the same tag
-pub apart_kept : (log : List Entry) → AreTagsApart (live_in log) → (j k : ℕ) → j < k → k < length (filter (λ e. e.is_live) log) → tag_at (filter (λ e. e.is_live) log) j ≢ tag_at (filter (λ e. e.is_live) log) k
-apart_kept log apart j k lt l same =
-    let kept = filter (λ (x : Entry). x.is_live) log in
-    let long = length-map kept (λ (x : Entry). x.command) in
-    let a = get_or-map (λ (x : Entry). x.command) kept j NOTHING BLANK (omega (arith, lt, l)) in
-    let b = get_or-map (λ (x : Entry). x.command) kept k NOTHING BLANK l in
-    apart j k BLANK lt (omega (arith, l, long)) (ap (λ (x : Live). x.itt) a ∙ same ∙ sym (ap (λ (x : Live). x.itt) b))
-
 pub kept_up : (log : List Entry) → AreAscending ticket_of log → AreAscending ticket_of (filter (λ e. e.is_live) log)
 kept_up log up = AllPairs-filter (λ (x y : Entry). ticket_of x < ticket_of y) (λ (x : Entry). x.is_live) log up
 
@@ -212,9 +200,6 @@ kept_newest log n low k d l =
     let is = low k BLANK (omega (arith, l, long)) in
     let same = ap (λ (x : Live). x.ticket) a in
     omega (arith, is, same)
-
-pub kept_length : (log : List Entry) → length (filter (λ e. e.is_live) log) ≡ length (live_in log)
-kept_length log = sym (length-map (filter (λ (x : Entry). x.is_live) log) (λ (x : Entry). x.command))
 
 pub live_fewer : (log : List Entry) → length (live_in log) ≤ length log
 live_fewer [] = omega arith

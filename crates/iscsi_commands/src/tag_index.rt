@@ -79,7 +79,8 @@ impl TagIndex {
         requires room { length self.old.others.items < self.old.others.room }
         requires live { IsLiveAt log.now k }
         requires unused { (j : ℕ) → IsLiveAt (take k log.now) j → tag_at log.now j ≢ tag_at log.now k }
-        ensures tagged { AreTagged (take (k + 1) log.now) self.new.places.items self.new.crowded.items self.new.others.items }
+        ensures tagged { AreTagged (take (k + 1) log.now) self.new.places.items self.new.crowded.items
+            self.new.others.items }
         ensures room { self.new.others.room ≡ self.old.others.room }
     {
         let itt = entry_at(log, k).command.itt;
@@ -117,7 +118,8 @@ impl TagIndex {
         requires tagged { AreTagged log.now self.old.places.items self.old.crowded.items self.old.others.items }
         requires size { length log.now ≤ length to.now }
         requires ranks { (k : ℕ) → k < length log.now → slice_index_or to.now k 0 ≡ rank log.now k }
-        ensures tagged { AreTagged (filter (λ e. e.is_live) log.now) self.new.places.items self.new.crowded.items self.new.others.items }
+        ensures tagged { AreTagged (filter (λ e. e.is_live) log.now) self.new.places.items self.new.crowded.items
+            self.new.others.items }
         ensures room { self.new.others.room ≡ self.old.others.room }
     {
         mark(&mut self.crowded, &self.others, log);
@@ -126,7 +128,8 @@ impl TagIndex {
     }
 }
 
-/// Marks the groups of the others alone.
+/// Marks the groups of the others. The marks of before go, so that they don't gather; no clause says so, as a mark without
+/// need costs a search and no more.
 fn mark(crowded: &mut [bool], others: &Order, log: &[Entry])
     requires groups { length crowded.old ≡ 4096 }
     requires within { (i : ℕ) → i < length others.now.items → slice_index_or others.now.items i 0 < length log.now }

@@ -1,18 +1,10 @@
 -- Searches by ticket.
-use Rattle.std.proofs.Common.{◌≡◌, ◌≢◌, ℕ, ◌+◌, ◌-◌, ◌*◌, ◌/◌, ◌<◌, ◌≤◌, ◌==◌, Bool, true, false, List, length, All, get_or, refl, sym, subst, arith, ⊎_elim, ne_eqb}
-use Rattle.std.proofs.Math.Nat.{div-lt_self}
-use Rattle.std.proofs.lemmas.Bool.{cases_eq, cases_lt}
+use Rattle.std.proofs.Common.{◌≡◌, ℕ, ◌+◌, ◌-◌, ◌*◌, ◌<◌, ◌≤◌, Bool, true, false, List, length, get_or, refl, sym, subst, arith, ⊎_elim}
+use Rattle.std.proofs.lemmas.Bool.{cases_lt}
 use Rattle.std.specs.Int.{from_bool}
 use Rattle.iscsi_slots.specs.Places.{AreAscending}
+use Rattle.iscsi_slots.proofs.HalvingLemmas.{IsHalved}
 use Rattle.iscsi_slots.proofs.SortedLemmas.{not_greater}
-
-module _ {X : Type 0} (ticket : X → ℕ) (xs : List X) (n : ℕ) where
-  -- those before the low place have lower tickets, and those from the high one on have not
-  pub record IsNarrowed (low high : ℕ) : Type 0 where
-    pub ordered : low ≤ high
-    pub inside : high ≤ length xs
-    pub below : (k : ℕ) (d : X) → k < low → ticket (get_or xs k d) < n
-    pub above : (k : ℕ) (d : X) → high ≤ k → k < length xs → n ≤ ticket (get_or xs k d)
 
 -- what a test of the place tells: it has a lower ticket, or not
 pub record Tells {X : Type 0} (ticket : X → ℕ) (xs : List X) (n k : ℕ) (b : Bool) : Type 0 where
@@ -91,7 +83,7 @@ module _ {X : Type 0} (ticket : X → ℕ) (xs : List X) (n : ℕ) (ascending : 
     passed true true true first second third = three (λ d. third.lower d refl) _ (omega arith)
 
   -- where four parts are left, and some of three are passed
-  pub parted : (low len part at : ℕ) → 1 ≤ part → 4 * part ≤ len → IsNarrowed ticket xs n low (low + len) → IsPassed ticket xs n low part at → IsNarrowed ticket xs n at (at + (len - 3 * part))
+  pub parted : (low len part at : ℕ) → 1 ≤ part → 4 * part ≤ len → IsHalved ticket xs n low (low + len) → IsPassed ticket xs n low part at → IsHalved ticket xs n at (at + (len - 3 * part))
   parted low len part at some room narrowed by = record {
     ordered = omega arith;
     inside = let l = narrowed.inside in let to = by.to in omega (arith, l, to, room);
@@ -109,7 +101,7 @@ module _ {X : Type 0} (ticket : X → ℕ) (xs : List X) (n : ℕ) (ascending : 
 
   module _ (low : ℕ) (inside : low ≤ length xs) (below : (k : ℕ) (d : X) → k < low → ticket (get_or xs k d) < n) (above : (k : ℕ) (d : X) → low + 3 ≤ k → k < length xs → n ≤ ticket (get_or xs k d)) where
     -- that is the first place that hasn't a lower ticket
-    ends_at : (at : ℕ) → low ≤ at → at ≤ low + 3 → at ≤ length xs → ((d : X) → low < at → ticket (get_or xs (at - 1) d) < n) → ((d : X) → at < low + 3 → at < length xs → n ≤ ticket (get_or xs at d)) → IsNarrowed ticket xs n at at
+    ends_at : (at : ℕ) → low ≤ at → at ≤ low + 3 → at ≤ length xs → ((d : X) → low < at → ticket (get_or xs (at - 1) d) < n) → ((d : X) → at < low + 3 → at < length xs → n ≤ ticket (get_or xs at d)) → IsHalved ticket xs n at at
     ends_at at from to within lower upper = record {
       ordered = omega arith;
       inside = within;
@@ -123,22 +115,22 @@ module _ {X : Type 0} (ticket : X → ℕ) (xs : List X) (n : ℕ) (ascending : 
           (cases_lt at (low + 3));
     }
 
-    at_first : ((d : X) → low < length xs → n ≤ ticket (get_or xs low d)) → (at : ℕ) → at ≡ low → IsNarrowed ticket xs n at at
+    at_first : ((d : X) → low < length xs → n ≤ ticket (get_or xs low d)) → (at : ℕ) → at ≡ low → IsHalved ticket xs n at at
     at_first upper at is = ends_at at (omega (arith, is)) (omega (arith, is)) (omega (arith, is, inside))
         (λ d l. absurd (omega (arith, l, is)))
         (λ d near l. upper_at at is (λ e. upper e (omega (arith, l, is))) d)
 
-    at_second : low < length xs → ((d : X) → ticket (get_or xs low d) < n) → ((d : X) → low + 1 < length xs → n ≤ ticket (get_or xs (low + 1) d)) → (at : ℕ) → at ≡ low + 1 → IsNarrowed ticket xs n at at
+    at_second : low < length xs → ((d : X) → ticket (get_or xs low d) < n) → ((d : X) → low + 1 < length xs → n ≤ ticket (get_or xs (low + 1) d)) → (at : ℕ) → at ≡ low + 1 → IsHalved ticket xs n at at
     at_second there lower upper at is = ends_at at (omega (arith, is)) (omega (arith, is)) (omega (arith, is, there))
         (λ d l. lower_at (at - 1) (omega (arith, is)) lower d)
         (λ d near l. upper_at at is (λ e. upper e (omega (arith, l, is))) d)
 
-    at_third : low + 1 < length xs → ((d : X) → ticket (get_or xs (low + 1) d) < n) → ((d : X) → low + 2 < length xs → n ≤ ticket (get_or xs (low + 2) d)) → (at : ℕ) → at ≡ low + 2 → IsNarrowed ticket xs n at at
+    at_third : low + 1 < length xs → ((d : X) → ticket (get_or xs (low + 1) d) < n) → ((d : X) → low + 2 < length xs → n ≤ ticket (get_or xs (low + 2) d)) → (at : ℕ) → at ≡ low + 2 → IsHalved ticket xs n at at
     at_third there lower upper at is = ends_at at (omega (arith, is)) (omega (arith, is)) (omega (arith, is, there))
         (λ d l. lower_at (at - 1) (omega (arith, is)) lower d)
         (λ d near l. upper_at at is (λ e. upper e (omega (arith, l, is))) d)
 
-    at_end : low + 2 < length xs → ((d : X) → ticket (get_or xs (low + 2) d) < n) → (at : ℕ) → at ≡ low + 3 → IsNarrowed ticket xs n at at
+    at_end : low + 2 < length xs → ((d : X) → ticket (get_or xs (low + 2) d) < n) → (at : ℕ) → at ≡ low + 3 → IsHalved ticket xs n at at
     at_end there lower at is = ends_at at (omega (arith, is)) (omega (arith, is)) (omega (arith, is, there))
         (λ d l. lower_at (at - 1) (omega (arith, is)) lower d)
         (λ d near l. absurd (omega (arith, near, is)))
@@ -148,7 +140,7 @@ module _ {X : Type 0} (ticket : X → ℕ) (xs : List X) (n : ℕ) (ascending : 
 
     -- the tests of three places count those before it
     pub counted : (a b c : Bool) → TellsOf ticket xs n low a → TellsOf ticket xs n (low + 1) b → TellsOf ticket xs n (low + 2) c
-        → (at : ℕ) → at ≡ ((low + from_bool a) + from_bool b) + from_bool c → IsNarrowed ticket xs n at at
+        → (at : ℕ) → at ≡ ((low + from_bool a) + from_bool b) + from_bool c → IsHalved ticket xs n at at
     counted false false false first second third at is = at_first (λ d. first.upper d refl) at (omega (arith, is))
     counted true false false first second third at is = at_second (first.there refl) (λ d. first.lower d refl) (λ d. second.upper d refl) at (omega (arith, is))
     counted false true false first second third at is = let in2 = second.there refl in at_second (omega (arith, in2))
@@ -164,20 +156,3 @@ module _ {X : Type 0} (ticket : X → ℕ) (xs : List X) (n : ℕ) (ascending : 
     counted false true true first second third at is = at_third (second.there refl) (λ d. second.lower d refl)
         (λ d l. let u = up low (low + 2) (omega arith) l d in let f = first.upper d refl (omega (arith, l)) in omega (arith, u, f)) at (omega (arith, is))
     counted true true true first second third at is = at_end (third.there refl) (λ d. third.lower d refl) at (omega (arith, is))
-
--- the place in the middle
-pub half_from : (low high : ℕ) → low ≤ low + (high - low) / 2
-half_from low high = omega arith
-
-pub half_to : (low high : ℕ) → low < high → low + (high - low) / 2 < high
-half_to low high l = let half : (high - low) / 2 < high - low = div-lt_self (omega (arith, l)) (omega arith) in omega (arith, l, half)
-
--- the ticket isn't there, as the first of those that aren't lower, if there is one, has another
-pub not_there : {X : Type 0} (ticket : X → ℕ) (xs : List X) (n at : ℕ) → AreAscending ticket xs → ((k : ℕ) (d : X) → k < at → ticket (get_or xs k d) < n) → ((k : ℕ) (d : X) → at ≤ k → k < length xs → n ≤ ticket (get_or xs k d)) → (at < length xs → (d : X) → ticket (get_or xs at d) ≢ n) → All (λ x. (ticket x == n) ≡ false) xs
-not_there ticket xs n at ascending below above other = λ k d l. ne_eqb (ticket (get_or xs k d)) n (λ same. ⊎_elim
-    (λ lower. let is = below k d lower in omega (arith, is, same))
-    (λ higher. ⊎_elim
-    (λ here. other (omega (arith, here, l)) d (subst (λ j. ticket (get_or xs j d) ≡ n) here same))
-    (λ apart. let up : ticket (get_or xs at d) < ticket (get_or xs k d) = ascending at k d (omega (arith, higher, apart)) l in let least = above at d (omega arith) (omega (arith, higher, l)) in omega (arith, up, least, same))
-    (cases_eq k at))
-    (cases_lt k at))

@@ -1,6 +1,6 @@
 use Rattle.std.proofs.Common.{◌+◌, ◌-◌, ◌/◌, ap, arith}
 use Rattle.std.proofs.lemmas.Int.{ints}
-use Rattle.iscsi_slots.proofs.SearchLemmas.{half_from, half_to}
+use Rattle.iscsi_slots.proofs.HalvingLemmas.{half_from, half_to}
 use Rattle.iscsi_tasks.specs.declared.member.Member.{Member}
 use Rattle.iscsi_tasks.specs.Counted.{covered_from}
 use Rattle.iscsi_tasks.proofs.FrontLemmas.{split_up, split_down}

@@ -1,5 +1,5 @@
 use Rattle.std.proofs.Common.{ap, ◌∙◌, arith}
-use Rattle.iscsi_slots.proofs.SearchLemmas.{not_there}
+use Rattle.iscsi_slots.proofs.HalvingLemmas.{not_there}
 use Rattle.iscsi_tasks.specs.declared.member.Member.{Member}
 use Rattle.iscsi_tasks.proofs.queue.place_of.Goals.{else-at-len-via-then-at-len+else-at-ticket, else-at-len-via-else-at-len}
 use Rattle.iscsi_tasks.proofs.queue.place_of.Goals as goal

@@ -1,9 +1,10 @@
 use Rattle.std.proofs.Common.{◌+◌, arith}
-use Rattle.iscsi_slots.proofs.SearchLemmas.{IsNarrowed, counted}
+use Rattle.iscsi_slots.proofs.HalvingLemmas.{IsHalved}
+use Rattle.iscsi_slots.proofs.SearchLemmas.{counted}
 use Rattle.iscsi_tasks.specs.declared.member.Member.{Member}
 use Rattle.iscsi_tasks.proofs.search.pass_three.Goals as goal
 
-place_is : (c : goal.After-from-3) → IsNarrowed (λ (m : Member). m.task.ticket) c.args.members.now.items c.args.ticket (c.args.low + c.from.result + c.from-2.result + c.from-3.result) (c.args.low + c.from.result + c.from-2.result + c.from-3.result)
+place_is : (c : goal.After-from-3) → IsHalved (λ (m : Member). m.task.ticket) c.args.members.now.items c.args.ticket (c.args.low + c.from.result + c.from-2.result + c.from-3.result) (c.args.low + c.from.result + c.from-2.result + c.from-3.result)
 place_is c =
     let first = c.is_lower-first.ensures in
     let second = c.is_lower-second.ensures in
