@@ -128,14 +128,17 @@ impl TagIndex {
     }
 }
 
-/// Marks the groups of the others. The marks of before go, so that they don't gather; no clause says so, as a mark without
-/// need costs a search and no more.
+/// Marks the groups of the others. The marks of before go, so that they don't gather, unless there are no others: then a
+/// search looks at none. No clause says that they go, as a mark without need costs a search and no more.
 fn mark(crowded: &mut [bool], others: &Order, log: &[Entry])
     requires groups { length crowded.old ≡ 4096 }
     requires within { (i : ℕ) → i < length others.now.items → slice_index_or others.now.items i 0 < length log.now }
     ensures groups { length crowded.new ≡ 4096 }
     ensures marked { AreMarked log.now crowded.new others.now.items }
 {
+    if others.len() == 0 {
+        return;
+    }
     crowded.fill(false);
     for i in 0..others.len() {
         let k = usize::from(others.at(i));
