@@ -113,9 +113,9 @@ one_fewer (e ∷ log) (suc k) live =
 
 -- ---- a command enters
 
-pub live_pushed : (log : List Entry) (command : Live) → live_in (log ++ record { command = command; is_live = true } ∷ []) ≡ live_in log ++ command ∷ []
-live_pushed log command =
-    let e : Entry = record { command = command; is_live = true } in
+pub live_pushed : (log : List Entry) (command : Live) (slot : ℕ) → live_in (log ++ record { command = command; slot = slot; is_live = true } ∷ []) ≡ live_in log ++ command ∷ []
+live_pushed log command slot =
+    let e : Entry = record { command = command; slot = slot; is_live = true } in
     ap (map (λ (x : Entry). x.command)) (filter-append (λ (x : Entry). x.is_live) log (e ∷ []))
     ∙ map-append (λ (x : Entry). x.command) (filter (λ (x : Entry). x.is_live) log) (e ∷ [])
 
@@ -331,11 +331,11 @@ logged_without {log} logged n k is_live is tagged =
 
 -- ---- and as one enters
 
-pub logged_with : (log : List Entry) (command : Live) {capacity live room hints : ℕ} {places : List ℕ} {crowded : List Bool} {others : List ℕ} {others_room : ℕ} → AreAscending ticket_of log → AreTagsApart (live_in log) → live ≡ length (live_in log) → live < room → length log < 2 * live + 64 → 2 * room + 64 ≤ capacity → room ≤ 2016 → hints ≡ 4096 → others_room ≡ 2 * room + 64
-    → All (λ e. ticket_of e < command.ticket) log → list_any (λ l. l.itt == command.itt) (live_in log) ≡ false → AreTagged (log ++ record { command = command; is_live = true } ∷ []) places crowded others → AreLogged (log ++ record { command = command; is_live = true } ∷ []) capacity (live + 1) room hints places crowded others others_room
-logged_with log command {live = live} {room = room} up apart counted few short has_room small hinted for_others newest unused tagged =
-    let e : Entry = record { command = command; is_live = true } in
-    let pushed = live_pushed log command in
+pub logged_with : (log : List Entry) (command : Live) (slot : ℕ) {capacity live room hints : ℕ} {places : List ℕ} {crowded : List Bool} {others : List ℕ} {others_room : ℕ} → AreAscending ticket_of log → AreTagsApart (live_in log) → live ≡ length (live_in log) → live < room → length log < 2 * live + 64 → 2 * room + 64 ≤ capacity → room ≤ 2016 → hints ≡ 4096 → others_room ≡ 2 * room + 64
+    → All (λ e. ticket_of e < command.ticket) log → list_any (λ l. l.itt == command.itt) (live_in log) ≡ false → AreTagged (log ++ record { command = command; slot = slot; is_live = true } ∷ []) places crowded others → AreLogged (log ++ record { command = command; slot = slot; is_live = true } ∷ []) capacity (live + 1) room hints places crowded others others_room
+logged_with log command slot {live = live} {room = room} up apart counted few short has_room small hinted for_others newest unused tagged =
+    let e : Entry = record { command = command; slot = slot; is_live = true } in
+    let pushed = live_pushed log command slot in
     record {
       ascending = all_pairs_push (λ (x y : Entry). ticket_of x < ticket_of y) log e up newest;
       apart = subst AreTagsApart (sym pushed) (all_pairs_push (λ (a b : Live). a.itt ≢ b.itt) (live_in log) command apart

@@ -9,7 +9,7 @@ use Rattle.iscsi_commands.specs.Kept.{BLANK}
 
 -- no command, which isn't live
 abbrev pub NOTHING : Entry
-NOTHING = record { command = BLANK; is_live = false }
+NOTHING = record { command = BLANK; slot = 0; is_live = false }
 
 abbrev pub entry_at : List Entry → ℕ → Entry
 entry_at log k = slice_index_or log k NOTHING
@@ -25,7 +25,7 @@ IsLiveAt log k = (entry_at log k).is_live ≡ true
 
 -- a command that isn't live any more
 abbrev pub ended : Entry → Entry
-ended e = record { command = e.command; is_live = false }
+ended e = record { command = e.command; slot = e.slot; is_live = false }
 
 -- the live commands
 abbrev pub live_in : List Entry → List Live

@@ -12,6 +12,8 @@ pub(crate) const GROUPS: usize = 4096;
 #[derive(Clone, Copy)]
 pub(crate) struct Entry {
     pub(crate) command: Live,
+    /// The slot that it has in its task set, as the set told it.
+    pub(crate) slot: u16,
     pub(crate) is_live: bool,
 }
 

@@ -12,5 +12,5 @@ mod live_commands;
 mod tag_index;
 
 pub use commands::Commands;
-pub use live::Live;
+pub use live::{Live, Placed};
 pub use live_commands::LiveCommands;

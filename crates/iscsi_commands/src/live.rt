@@ -1,4 +1,4 @@
-//! What is kept of a live command.
+//! What is kept of a live command, and its slot beside it.
 
 /// What is kept of a live command.
 #[derive(Clone, Copy)]
@@ -13,4 +13,15 @@ pub struct Live {
     pub itt: u32,
     /// Whether it was for immediate delivery.
     pub immediate: bool,
+}
+
+/// A live command, and the slot that it has in its task set.
+///
+/// The slot is the one that it entered with. No clause says so, as none needs it: the set that is asked verifies it.
+#[derive(Clone, Copy)]
+pub struct Placed {
+    /// What is kept of the command.
+    pub command: Live,
+    /// The slot that it has in its task set.
+    pub slot: u16,
 }

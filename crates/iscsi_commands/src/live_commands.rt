@@ -1,6 +1,6 @@
 //! The live commands, found by ticket and by tag.
 
-ghost use Rattle.std.specs.Prelude.{◌≡◌, ℕ, ◌+◌, ◌*◌, ◌<◌, ◌≤◌, ◌==◌, ◌↔◌, ◌++◌, [], ◌∷◌, true, false, length, filter, slice_index_or, slice_set, vec_len, vec_capacity, All, IfOk};
+ghost use Rattle.std.specs.Prelude.{◌≡◌, ℕ, ◌+◌, ◌*◌, ◌<◌, ◌≤◌, ◌==◌, ◌↔◌, ◌++◌, [], ◌∷◌, true, false, length, filter, slice_index_or, slice_set, vec_len, vec_capacity, All, IfOk, option_map};
 ghost use Rattle.std.specs.List.{list_any};
 ghost use Rattle.iscsi_slots.specs.Queued.{queued};
 ghost use Rattle.iscsi_slots.specs.Places.{AreAscending as AreKeysAscending};
@@ -8,7 +8,7 @@ ghost use Rattle.iscsi_commands.specs.Commands.{AreAscending, AreTagsApart, find
 ghost use Rattle.iscsi_commands.specs.Log.{AreTagged, IsLiveAt, IsLivePlace, ended, entry_at, live_in, rank, ticket_of};
 
 use crate::entry::{Entry, GROUPS, entry_at};
-use crate::live::Live;
+use crate::live::{Live, Placed};
 use crate::tag_index::TagIndex;
 use std::alloc::{AllocError, Global};
 use std::marker::Model;
@@ -93,6 +93,21 @@ impl LiveCommands {
         Some(entry_at(&self.log, k).command)
     }
 
+    /// The command with this ticket, and the slot that it entered with.
+    ///
+    /// No clause speaks of the slot: it is where the command's task set looks first, and the set verifies it.
+    pub fn find_placed(&self, ticket: u64) -> Option<Placed>
+        ensures command { option_map (λ p. p.command) result ≡ find_ticket ticket self.now.items }
+        ensures ascending { AreAscending self.now.items }
+    {
+        let at = place_of(&self.log, &self.hints, ticket)?;
+        let entry = entry_at(&self.log, at);
+        Some(Placed {
+            command: entry.command,
+            slot: entry.slot,
+        })
+    }
+
     /// The command with this Initiator Task Tag.
     pub fn find_tagged(&self, itt: u32) -> Option<Live>
         ensures command { result ≡ find_tag itt self.now.items }
@@ -102,11 +117,12 @@ impl LiveCommands {
         Some(entry_at(&self.log, k).command)
     }
 
-    /// A command enters. Its ticket is greater than all others', and no other one has its tag.
+    /// A command enters, with the slot that it has in its task set. Its ticket is greater than all others', and no other
+    /// one has its tag.
     ///
     /// Once in as many calls as there are live commands, at the most, these close up in the log: a pass over it. So they
     /// do where the ticket isn't above those of all commands that left since.
-    pub fn push(&mut self, command: Live)
+    pub fn push(&mut self, command: Live, slot: u16)
         requires room { length self.old.items < self.old.room }
         requires newest { All (λ l. l.ticket < command.ticket) self.old.items }
         requires unused { list_any (λ l. l.itt == command.itt) self.old.items ≡ false }
@@ -119,7 +135,13 @@ impl LiveCommands {
             &mut self.tags,
             command.ticket,
         );
-        append(&mut self.log, &mut self.hints, &mut self.tags, command);
+        append(
+            &mut self.log,
+            &mut self.hints,
+            &mut self.tags,
+            command,
+            slot,
+        );
         self.live += 1;
     }
 
@@ -158,16 +180,16 @@ fn make_way(log: &mut Vec<Entry>, live: usize, hints: &mut [u16], tags: &mut Tag
     }
 }
 
-/// A command enters behind all others of the log.
+/// A command enters behind all others of the log, with the slot that it has in its task set.
 #[inline(always)]
-fn append(log: &mut Vec<Entry>, hints: &mut [u16], tags: &mut TagIndex, command: Live)
+fn append(log: &mut Vec<Entry>, hints: &mut [u16], tags: &mut TagIndex, command: Live, slot: u16)
     requires room { vec_len log.old < vec_capacity log.old }
     requires short { length log.old.items < 65536 }
     requires hints { length hints.old ≡ 4096 }
     requires tagged { AreTagged log.old.items tags.old.places.items tags.old.crowded.items tags.old.others.items }
     requires others { length tags.old.others.items < tags.old.others.room }
     requires unused { list_any (λ l. l.itt == command.itt) (live_in log.old.items) ≡ false }
-    ensures log { log.new.items ≡ log.old.items ++ record { command = command; is_live = true } ∷ [] }
+    ensures log { log.new.items ≡ log.old.items ++ record { command = command; slot = slot; is_live = true } ∷ [] }
     ensures tagged { AreTagged log.new.items tags.new.places.items tags.new.crowded.items tags.new.others.items }
     ensures room { tags.new.others.room ≡ tags.old.others.room }
     ensures capacity { vec_capacity log.new ≡ vec_capacity log.old }
@@ -175,6 +197,7 @@ fn append(log: &mut Vec<Entry>, hints: &mut [u16], tags: &mut TagIndex, command:
     let k = log.len();
     log.push_reserved(Entry {
         command,
+        slot,
         is_live: true,
     });
     hints[hint_of(command.ticket)] = k as u16;
@@ -196,9 +219,10 @@ fn end(log: &mut Vec<Entry>, k: usize)
     ensures log { log.new.items ≡ slice_set log.old.items k (ended (entry_at log.old.items k)) }
     ensures capacity { vec_capacity log.new ≡ vec_capacity log.old }
 {
-    let command = log[k].command;
+    let Entry { command, slot, .. } = log[k];
     log[k] = Entry {
         command,
+        slot,
         is_live: false,
     };
 }

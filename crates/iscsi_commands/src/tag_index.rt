@@ -14,7 +14,8 @@ use std::alloc::{AllocError, Global};
 /// Tags are in groups, and each group has a place. A command that enters when the place of its group is taken stands apart,
 /// in the order of the tags, and the group is marked. So a tag is looked for at one place, and where its group is marked
 /// among those that stand apart, by a binary search: the cost is bounded for any tags that an initiator chooses. A group
-/// stays marked when they leave, until the live commands close up.
+/// stays marked when they leave, until the live commands close up while one of any group stands apart. Where none does
+/// at that time it stays marked, as a search looks at none.
 pub(crate) struct TagIndex {
     /// For each group the place of a live command with a tag of the group, or any.
     pub(crate) places: Vec<u16>,

@@ -11,7 +11,7 @@ use Rattle.iscsi_tasks.specs.declared.task.Task.{Task}
 use Rattle.iscsi_tasks.specs.declared.member.Member.{Member}
 use Rattle.iscsi_tasks.specs.Sets.{Members, opened, entered_to, after_moment, given_by}
 use Rattle.iscsi_commands.specs.declared.live.Live.{Live}
-use Rattle.iscsi_session.specs.promises.Standing.{Core, Match, are_ascending, are_within, tickets_of, tickets_in}
+use Rattle.iscsi_session.specs.promises.Standing.{Match, are_ascending, are_within, tickets_of, tickets_in}
 use Rattle.iscsi_session.specs.private.Steps.{enabled_of, find_ticket, without_ticket, all_given, as_given, set_without}
 use Rattle.iscsi_history.proofs.BoolLemmas.{and_parts, and_both}
 use Rattle.iscsi_history.proofs.ListLemmas.{list_all-filter, filter-shorter, filter-map, map-map, filter-swap}
@@ -128,6 +128,6 @@ few_left sets lives l m inside =
     omega (arith, length-map left (λ (m : Member). m.task.ticket), ap length same, length-map here (λ (x : Live). x.ticket), filter-shorter (λ (x : Live). x.unit == l.unit) (without_ticket l.ticket lives))
 
 -- the command that is enabled was found by its ticket
-pub enabled_found : (s : Core) (k : ℕ) (x : Option Live) (l : Live) → enabled_of s k x ≡ Some l → x ≡ Some l
-enabled_found s k None l h = absurd cc
-enabled_found s k (Some y) l h = grind arith
+pub enabled_found : (sets : List Members) (k : ℕ) (x : Option Live) (l : Live) → enabled_of sets k x ≡ Some l → x ≡ Some l
+enabled_found sets k None l h = absurd cc
+enabled_found sets k (Some y) l h = grind arith

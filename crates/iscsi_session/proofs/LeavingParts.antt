@@ -1,13 +1,12 @@
 -- Covered commands of a unit leave: what is left of its set and of the live commands.
-use Rattle.std.proofs.Common.{◌≡◌, ℕ, zero, suc, ◌+◌, ◌<◌, ◌≤◌, ◌==◌, ◌&&◌, ◌||◌, ◌++◌, not, ⊎_elim, cond, Bool, true, false, nat_lt, List, [], ◌∷◌, length, map, filter, count_by, All, take, drop, get_or, set, Option, Some, None, is_some, refl, ap, sym, arith, length-set, ◌∙◌}
+use Rattle.std.proofs.Common.{◌≡◌, ℕ, zero, suc, ◌+◌, ◌<◌, ◌≤◌, ◌==◌, ◌&&◌, ◌||◌, ◌++◌, not, ⊎_elim, cond, Bool, true, false, nat_lt, List, [], ◌∷◌, length, map, filter, count_by, All, take, get_or, set, Option, Some, None, is_some, refl, ap, sym, arith, length-set, ◌∙◌, eq-eqb}
 use Rattle.std.specs.Prelude.{IsSome}
-use Rattle.std.specs.List.{list_any, list_all}
-use Rattle.std.proofs.lemmas.Bool.{cases_eq, eqb-true, false≢true}
+use Rattle.std.specs.List.{list_any, list_all, AllPairs}
+use Rattle.std.proofs.lemmas.Bool.{cases_Bool, cases_eq, eqb-true, false≢true, ltb-true, ne_eqb}
 use Rattle.std.proofs.lemmas.Bool.Decides.{nat_tests}
-use Rattle.std.proofs.lemmas.List.{get_or-map, length-map, drop-map, get_or-set_same, get_or-set_other, take_more, map-append, append-nil}
-use Rattle.std.proofs.lemmas.List.Elements.{filter-append}
+use Rattle.std.proofs.lemmas.List.{length-map, get_or-set_same, get_or-set_other, get_or_default, get_or-take, length-take-le, take_more, map-append}
 use Rattle.std.proofs.lemmas.List.Folds.{list_any_none, list_all-map, list_any_more}
-use Rattle.std.proofs.lemmas.List.Sums.{sum_by-cons}
+use Rattle.std.proofs.lemmas.List.Sums.{sum_by-cons, AllPass-from_list_all}
 use Rattle.iscsi_window.specs.Windows.{Received, with_unfinished}
 use Rattle.iscsi_tasks.specs.declared.task.Task.{Task}
 use Rattle.iscsi_tasks.specs.declared.member.Member.{Member}
@@ -16,14 +15,14 @@ use Rattle.iscsi_history.specs.declared.effect.Effect.TheVariants.{Leave}
 use Rattle.iscsi_commands.specs.declared.live.Live.{Live}
 use Rattle.iscsi_session.specs.promises.Standing.{Match, are_ascending, tickets_of, tickets_in}
 use Rattle.iscsi_session.specs.private.Steps.{all_given, as_given, is_numbered, find_ticket, without_ticket}
-use Rattle.iscsi_session.specs.private.Functions.{is_gone, staying, set_staying, finished_by, leaves, has_covered, covers_ticket, ungiven, ungiven_in}
-use Rattle.iscsi_history.proofs.BoolLemmas.{and_parts, or_false, and_true, and_false}
-use Rattle.iscsi_history.proofs.ListLemmas.{list_any-map, count_by-map, filter-swap, filter-map, map-map, find-found, filter_every, filter_here, list_all-filter, none_both, fewer_counted, none_out}
+use Rattle.iscsi_session.specs.private.Functions.{is_gone, staying, set_staying, finished_by, leaves, leave_each, tickets_covered, without_tickets, has_covered, covers_ticket, ungiven, ungiven_in}
+use Rattle.iscsi_history.proofs.BoolLemmas.{and_both, and_comm, and_parts, and_true, and_false, or_first, or_second}
+use Rattle.iscsi_history.proofs.ListLemmas.{any_filter, any_same, list_any-map, count_by-map, filter-swap, filter-map, map-map, find-found, filter-shorter, filter_every, filter_here, list_all-filter, fewer_counted, none_out}
 use Rattle.iscsi_history.proofs.TraceLemmas.{filter-same, filter-true, weaker}
 use Rattle.iscsi_history.proofs.ApartLemmas.{eq_sym}
 use Rattle.iscsi_history.proofs.NewlyLemmas.{filter-twice, both_all}
 use Rattle.iscsi_history.proofs.CountLemmas.{fewer}
-use Rattle.iscsi_history.proofs.SetLemmas.{none_filtered, tickets, gone_each, has_ticket_at, none_covered, none_found, one_gone, rising, some_covered, unlike_before}
+use Rattle.iscsi_history.proofs.SetLemmas.{none_filtered, tickets, gone_each, none_covered, none_found, one_gone, rising, some_covered}
 use Rattle.iscsi_history.proofs.NumberLemmas.{none_above}
 use Rattle.iscsi_session.proofs.KeptLemmas.{ascending-kept}
 
@@ -42,10 +41,6 @@ rising_in unit lives up = rw rising_are (ascending-kept _ lives up)
 -- ---- who leaves, of a set and of the live commands
 
 module _ (covers : Task → Bool) (now : Members) where
-  -- nothing is left to leave
-  pub stay_none : (lives : List Live) → has_covered covers now ≡ false → staying covers now lives ≡ lives
-  stay_none lives none = simp (none_both, filter-true)
-
   ungiven-staying : ungiven (set_staying covers now) ≤ ungiven now
   ungiven-staying = grind (arith, count_by-map {A = Member}, fewer_counted {A = Member})
 
@@ -113,11 +108,24 @@ ungiven_in-staying sets unit covers inside =
     let old : Members = get_or sets unit (opened 0) in
     omega (arith, ungiven_in-set sets unit (set_staying covers old) inside, ungiven-staying covers old)
 
--- ---- one command after the other
+-- ---- tickets that go up
 
--- the first commands of the set
-abbrev pub upto : ℕ → Members → Members
-upto n now = record now { list = take n now.list }
+-- each of them is among them
+all_in : (ts : List ℕ) → list_all (λ t. list_any (λ u. u == t) ts) ts ≡ true
+all_in [] = refl
+all_in (x ∷ ts) = and_both _ _ (or_first (x == x) (list_any (λ u. u == x) ts) (eq-eqb x x refl)) (weaker (λ t. list_any (λ u. u == t) ts) (λ t. (x == t) || list_any (λ u. u == t) ts) ts (λ t h. or_second (x == t) (list_any (λ u. u == t) ts) h) (all_in ts))
+
+pairs_up : (ts : List ℕ) → rising ts ≡ true → AllPairs (λ (a b : ℕ). a < b) ts
+pairs_up [] up i j d lt l = absurd (omega (arith, l))
+pairs_up (t ∷ ts) up i zero d lt l = absurd (omega (arith, lt))
+pairs_up (t ∷ ts) up zero (suc j) d lt l =
+    let parts = and_parts (list_all (λ u. nat_lt t u) ts) (rising ts) up in
+    ltb-true t (get_or ts j d) (AllPass-from_list_all (λ u. nat_lt t u) ts parts.0 j d (omega (arith, l)))
+pairs_up (t ∷ ts) up (suc i) (suc j) d lt l =
+    let parts = and_parts (list_all (λ u. nat_lt t u) ts) (rising ts) up in
+    pairs_up ts parts.1 i j d (omega (arith, lt)) (omega (arith, l))
+
+-- ---- one command after the other
 
 pub without_shorter : (k : ℕ) (lives : List Live) → IsSome (find_ticket k lives) → length (without_ticket k lives) + 1 ≤ length lives
 without_shorter k lives there = grind (arith, fewer (λ (y : Live). y.ticket == k) lives)
@@ -126,66 +134,77 @@ some_live : (k unit : ℕ) (lives : List Live) → is_in unit lives k ≡ true �
 some_live k unit [] h = absurd (false≢true h)
 some_live k unit (x ∷ lives) h = grind (arith, some_live k unit lives)
 
-module _ (now : Members) (unit : ℕ) (covers : Task → Bool) (lives : List Live) (at : ℕ) (d : Member) (inside : at < length now.list) where
-  abbrev task : Task
-  task = (get_or now.list at d).task
+-- none has left yet
+pub without_none : (lives : List Live) → without_tickets [] lives ≡ lives
+without_none lives = filter-true lives
 
-  gone_more : (t : ℕ) → is_gone covers (upto (at + 1) now) t ≡ (is_gone covers (upto at now) t || (task.ticket == t && covers task))
-  gone_more t = list_any_more _ now.list at d inside
+module _ (ts : List ℕ) (k d : ℕ) (inside : k < length ts) where
+  abbrev ticket : ℕ
+  ticket = get_or ts k d
 
-  -- one that isn't covered stays
-  pub passed_live : covers task ≡ false → staying covers (upto (at + 1) now) lives ≡ staying covers (upto at now) lives
-  passed_live stays = simp (gone_more, stays, and_false, or_false)
+  -- one more leaves
+  pub without_more : (lives : List Live) → without_ticket ticket (without_tickets (take k ts) lives) ≡ without_tickets (take (k + 1) ts) lives
+  without_more lives = rw filter-twice (filter-same _ _ lives (λ l. rw (list_any_more (λ t. t == l.ticket) ts k d inside, eq_sym l.ticket ticket) (grind arith)))
 
-  pub passed_leaves : covers task ≡ false → leaves unit covers (take (at + 1) now.list) ≡ leaves unit covers (take at now.list)
-  passed_leaves stays = rw (take_more now.list at d inside, filter-append, stays, append-nil)
+  pub leave_more : (unit : ℕ) → leave_each unit (take k ts) ++ Leave ticket unit ∷ [] ≡ leave_each unit (take (k + 1) ts)
+  leave_more unit = rw (take_more ts k d inside, map-append)
 
-  -- one that is covered leaves
-  pub more_live : covers task ≡ true → without_ticket task.ticket (staying covers (upto at now) lives) ≡ staying covers (upto (at + 1) now) lives
-  more_live goes = rw filter-twice (filter-same _ _ lives (λ l. rw (eq_sym l.ticket task.ticket) (grind (arith, goes, gone_more l.ticket))))
-
-  pub more_leaves : covers task ≡ true → leaves unit covers (take at now.list) ++ Leave task.ticket unit ∷ [] ≡ leaves unit covers (take (at + 1) now.list)
-  more_leaves goes = rw (take_more now.list at d inside, filter-append, goes, map-append)
-
-  -- it is still among the live ones
-  pub there_yet : tickets_of now ≡ tickets_in unit lives → are_ascending lives ≡ true → IsSome (find_ticket task.ticket (staying covers (upto at now) lives))
-  there_yet match up =
-      let t : ℕ = task.ticket in
-      let stays = none_covered covers t (take at now.list) (unlike_before now.list at d (rw match (rising_in unit lives up)) inside) in
-      let there = some_live t unit lives (rw (← match) (has_ticket_at now.list at d inside)) in
-      still_found lives there (is_gone covers (upto at now)) stays
+  -- it is still among the live ones, as it is above those that left
+  pub there_yet : (lives : List Live) → AllPairs (λ (a b : ℕ). a < b) ts → IsSome (find_ticket ticket lives) → IsSome (find_ticket ticket (without_tickets (take k ts) lives))
+  there_yet lives up there = still_found lives there
     where
-      still_found : (ls : List Live) → IsSome (find_ticket task.ticket ls) → (gone : ℕ → Bool) → gone task.ticket ≡ false → IsSome (find_ticket task.ticket (filter (λ l. not (gone l.ticket)) ls))
-      still_found [] there gone stays = there
-      still_found (l ∷ ls) there gone stays = grind (arith, still_found ls, gone)
+      before : All (λ t. (t == ticket) ≡ false) (take k ts)
+      before i e l =
+          let within : i < k = omega (arith, length-take-le k ts (omega (arith, inside)), l) in
+          let lower : get_or ts i e < get_or ts k e = up i k e within inside in
+          ne_eqb _ _ (λ same. absurd (omega (arith, lower, get_or_default ts k e d inside, get_or-take k ts i e within, same)))
 
--- ---- those from a place on stay
+      stays : list_any (λ t. t == ticket) (take k ts) ≡ false
+      stays = list_any_none _ (take k ts) before
 
-any_to : (p : Member → Bool) (n : ℕ) (ms : List Member) → All (λ m. p m ≡ false) (drop n ms) → list_any p (take n ms) ≡ list_any p ms
-any_to p zero ms none = sym (list_any_none p ms none)
-any_to p (suc n) [] none = refl
-any_to p (suc n) (x ∷ ms) none = ap (λ b. p x || b) (any_to p n ms none)
+      still_found : (ls : List Live) → IsSome (find_ticket ticket ls) → IsSome (find_ticket ticket (without_tickets (take k ts) ls))
+      still_found [] there = there
+      still_found (l ∷ ls) there = grind (arith, still_found ls, stays)
 
-filter_to : (p : Member → Bool) (n : ℕ) (ms : List Member) → All (λ m. p m ≡ false) (drop n ms) → filter p (take n ms) ≡ filter p ms
-filter_to p zero ms none = sym (none_filtered p ms (list_any_none p ms none))
-filter_to p (suc n) [] none = refl
-filter_to p (suc n) (x ∷ ms) none = ap (λ xs. cond (p x) (x ∷ xs) xs) (filter_to p n ms none)
+-- a set has no more commands than are live
+pub few_in : (now : Members) (unit : ℕ) (lives : List Live) → tickets_of now ≡ tickets_in unit lives → length now.list ≤ length lives
+few_in now unit lives match =
+    let here : List Live = filter (λ (x : Live). x.unit == unit) lives in
+    omega (arith, length-map now.list (λ (m : Member). m.task.ticket), ap length match, length-map here (λ (x : Live). x.ticket), filter-shorter (λ (x : Live). x.unit == unit) lives)
 
-module _ (now : Members) (covers : Task → Bool) (n : ℕ) (past : All (λ t. covers t ≡ false) (drop n (tasks_in now))) where
-  stay_past : All (λ m. covers m.task ≡ false) (drop n now.list)
-  stay_past k d l =
-      let f : Member → Task = λ m. m.task in
-      let rest : List Member = drop n now.list in
-      sym (ap covers (get_or-map f rest k d d.task l)) ∙ rw (drop-map f n now.list) at past k d.task (omega (arith, length-map rest f))
+-- ---- the covered commands of a set, by their tickets
 
-  gone_to : (t : ℕ) → is_gone covers (upto n now) t ≡ is_gone covers now t
-  gone_to t = any_to (λ m. m.task.ticket == t && covers m.task) n now.list (λ k d l. rw (stay_past k d l) (and_false _))
+module _ (now : Members) (covers : Task → Bool) where
+  covered_are : tickets_covered covers now ≡ tickets (filter (λ m. covers m.task) now.list)
+  covered_are = rw (filter-map, map-map)
 
-  pub staying_to : (lives : List Live) → staying covers (upto n now) lives ≡ staying covers now lives
-  staying_to lives = simp gone_to
+  gone_are : (k : ℕ) → list_any (λ t. t == k) (tickets_covered covers now) ≡ is_gone covers now k
+  gone_are k = rw (covered_are, list_any-map, any_filter) (any_same _ _ now.list (λ m. and_comm (covers m.task) (m.task.ticket == k)))
 
-  pub leaves_to : (unit : ℕ) → leaves unit covers (take n now.list) ≡ leaves unit covers now.list
-  leaves_to unit = rw (filter_to (λ m. covers m.task) n now.list stay_past)
+  pub without_covered : (lives : List Live) → without_tickets (tickets_covered covers now) lives ≡ staying covers now lives
+  without_covered lives = filter-same _ _ lives (λ l. ap not (gone_are l.ticket))
+
+  pub leave_covered_each : (unit : ℕ) → leave_each unit (tickets_covered covers now) ≡ leaves unit covers now.list
+  leave_covered_each unit = rw (covered_are, map-map)
+
+  -- each is among the live ones
+  pub covered_live : (unit : ℕ) (lives : List Live) → tickets_of now ≡ tickets_in unit lives → All (λ t. IsSome (find_ticket t lives)) (tickets_covered covers now)
+  covered_live unit lives match k d l = some_live (get_or (tickets_covered covers now) k d) unit lives (AllPass-from_list_all (is_in unit lives) (tickets_covered covers now) all k d l)
+    where
+      all : list_all (is_in unit lives) (tickets_covered covers now) ≡ true
+      all = rw (covered_are, list_all-map) (list_all-filter _ _ now.list (sym (list_all-map (is_in unit lives) (λ (m : Member). m.task.ticket) now.list) ∙ rw match (all_in (tickets_in unit lives))))
+
+  -- and their tickets go up
+  pub covered_up : rising (tickets now.list) ≡ true → AllPairs (λ (a b : ℕ). a < b) (tickets_covered covers now)
+  covered_up up = rw covered_are (pairs_up (tickets (filter (λ m. covers m.task) now.list)) (rising-filter now.list up))
+    where
+      rising-filter : (ms : List Member) → rising (tickets ms) ≡ true → rising (tickets (filter (λ m. covers m.task) ms)) ≡ true
+      rising-filter [] up = refl
+      rising-filter (x ∷ ms) up =
+          let parts = and_parts (list_all (λ u. nat_lt x.task.ticket u) (tickets ms)) (rising (tickets ms)) up in
+          let rest = rising-filter ms parts.1 in
+          let first : list_all (λ u. nat_lt x.task.ticket u) (tickets (filter (λ m. covers m.task) ms)) ≡ true = rw list_all-map (list_all-filter _ _ ms (sym (list_all-map (λ u. nat_lt x.task.ticket u) (λ (m : Member). m.task.ticket) ms) ∙ parts.0)) in
+          grind (arith, rest, first)
 
 -- the places that are given back one after the other
 pub finished_on : (w v : Received) (a b c : List Live) → v ≡ finished_by w a b → count_by is_numbered a ≤ w.unfinished → count_by is_numbered c ≤ count_by is_numbered b → count_by is_numbered b ≤ count_by is_numbered a → finished_by v b c ≡ finished_by w a c
@@ -206,6 +225,12 @@ one_leaving k now = by_task (with_ticket k (tasks_in now)) refl
 
 pub one_found : (k unit : ℕ) (now : Members) (lives : List Live) → tickets_of now ≡ tickets_in unit lives → has_covered (covers_ticket k) now ≡ true → IsSome (find_ticket k lives)
 one_found k unit now lives match has = some_live k unit lives (rw (← match, list_any-map) has)
+
+pub one_missing : (k unit : ℕ) (now : Members) (lives : List Live) → tickets_of now ≡ tickets_in unit lives → find_ticket k lives ≡ None → has_covered (covers_ticket k) now ≡ false
+one_missing k unit now lives match none = ⊎_elim
+    (λ there. let found = one_found k unit now lives match there in absurd (false≢true (rw none at found)))
+    (λ no. no)
+    (cases_Bool (has_covered (covers_ticket k) now))
 
 pub one_live : (k : ℕ) (now : Members) (lives : List Live) → cond (has_covered (covers_ticket k) now) (without_ticket k lives) lives ≡ staying (covers_ticket k) now lives
 one_live k now lives = simp one_gone (by_test (has_covered (covers_ticket k) now))

@@ -21,7 +21,7 @@ cids-count_reply cid [] = refl
 cids-count_reply cid (c ∷ conns) = grind (arith, cids-count_reply cid conns)
 
 -- a reply leaves each connection known
-is_known-replied : (cid other : ℕ) (conns : List (ℕ × ℕ)) → is_known other (count_reply cid conns) ≡ is_known other conns
+pub is_known-replied : (cid other : ℕ) (conns : List (ℕ × ℕ)) → is_known other (count_reply cid conns) ≡ is_known other conns
 is_known-replied cid other conns = is_known-cids other (count_reply cid conns) conns (cids-count_reply cid conns)
 
 -- and so what came on known connections

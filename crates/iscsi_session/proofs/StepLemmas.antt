@@ -96,8 +96,8 @@ pub Stepped-completion : (o : Setting) (s : Core) (t : Trace) (event ticket stat
     → Stepped o (after_completion s ticket) t (items_of o event t (Done ticket status)) (completion_effects s ticket status)
 Stepped-completion o s t event ticket status h = by_ticket (first_of (filter (λ d. d.ticket == ticket) (live t))) refl
   where
-    kept_is : find_enabled s ticket ≡ enabled_of s ticket (option_map kept (first_of (filter (λ d. d.ticket == ticket) (live t))))
-    kept_is = ap (enabled_of s ticket) (ap (find_ticket ticket) h.agrees.commands.commands ∙ find_kept ticket (live t))
+    kept_is : find_enabled s ticket ≡ enabled_of s.sets ticket (option_map kept (first_of (filter (λ d. d.ticket == ticket) (live t))))
+    kept_is = ap (enabled_of s.sets ticket) (ap (find_ticket ticket) h.agrees.commands.commands ∙ find_kept ticket (live t))
 
     by_ticket : (x : Option Command) → first_of (filter (λ d. d.ticket == ticket) (live t)) ≡ x → Stepped o (after_completion s ticket) t (completion status (command_of t ticket)) (completion_effects s ticket status)
     by_ticket None none = rw (kept_is, none, none_passing (λ d. was_free d t) ticket (live t) none, after_completion, completion_effects) (Stepped-ignored o s t Stale h)

@@ -30,7 +30,7 @@ use crate::session::waiting::Waitlist;
 use iscsi_commands::LiveCommands;
 use iscsi_connections::{Connections, MOST_IMMEDIATE};
 use iscsi_history::{Effect, Event, Numbers};
-use iscsi_tasks::TaskSet;
+use iscsi_tasks::LinkedTaskSet;
 use iscsi_window::Window;
 use iscsi_wire::Request;
 use std::alloc::Global;
@@ -67,13 +67,15 @@ pub struct Session {
     /// The live commands, found by ticket and by Initiator Task Tag.
     live: LiveCommands,
     /// The task set of each unit, at the unit's number.
-    sets: Vec<TaskSet>,
+    sets: Vec<LinkedTaskSet>,
     /// The protocol level, by which task management knows the queries (RFC 7144).
     level: u32,
     /// For each place of the window the event in which the request arrived that is held there.
     arrived: VecDeque<u64>,
     /// The functions that wait for lower numbers, in the order of their arrival.
     waiting: Waitlist,
+    /// The tickets of the commands that leave by a function or a Logout, while they do: with room for all that are live.
+    left: Vec<u64>,
 }
 
 impl Drop for Session {
@@ -90,11 +92,13 @@ impl Drop for Session {
             level: _level,
             arrived: _arrived,
             waiting: _waiting,
+            left: _left,
         } = self;
     }
 }
 
 impl Model for Session {
+    ghost use Rattle.std.specs.Prelude.{vec_capacity};
     ghost use Rattle.std.specs.VecDeque.{deque_capacity};
     ghost use Rattle.iscsi_session.specs.promises.Standing.{Core};
     ghost use Rattle.iscsi_session.specs.private.Invariant.{IsSessionSound};
@@ -130,6 +134,7 @@ impl Model for Session {
       live_room = s.live.room;
       arrived_room = deque_capacity s.arrived;
       waiting_room = s.waiting.room;
+      left_room = vec_capacity s.left;
     }) };
 }
 
@@ -335,5 +340,6 @@ fn make_on(alloc: Global, options: Options, connections: Connections) -> Option<
         level,
         arrived: arrival::open(alloc, size)?,
         waiting: Waitlist::with_room(alloc, waiting::MOST * conns.len())?,
+        left: Vec::with_capacity(alloc, most_live).ok()?,
     })
 }

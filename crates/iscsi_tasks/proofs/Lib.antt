@@ -16,3 +16,8 @@ pub mod RosterLemmas
 pub mod KeepLemmas
 pub mod FrontLemmas
 pub mod AloneLemmas
+pub mod ChainLemmas
+pub mod ChainedLemmas
+pub mod MarkedLemmas
+pub mod PassingLemmas
+pub mod LinkedSetLemmas

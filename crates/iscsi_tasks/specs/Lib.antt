@@ -3,3 +3,5 @@ pub mod Sets
 pub mod Changes
 pub mod Counted
 pub mod Rosters
+pub mod Chains
+pub mod Marked

@@ -4,11 +4,17 @@
 //! A set takes memory when it is opened, and never again.
 #![tactic(auto)]
 
+mod chain;
 mod counts;
 mod cover;
 mod fault;
 mod front;
+mod linked_front;
+mod linked_queue;
+mod linked_set;
+mod marks;
 mod member;
+mod node;
 mod numbers;
 mod queue;
 mod roster;
@@ -18,5 +24,6 @@ mod task;
 
 pub use cover::Cover;
 pub use fault::TaskFault;
+pub use linked_set::{Entered, LinkedTaskSet};
 pub use set::TaskSet;
 pub use task::{Attr, Task};

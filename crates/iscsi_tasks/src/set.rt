@@ -21,7 +21,7 @@ use std::alloc::Global;
 use std::marker::Model;
 
 /// The most commands that a task set may hold.
-const MOST_TASKS: u32 = 1024;
+pub(crate) const MOST_TASKS: u32 = 1024;
 
 /// The commands of one logical unit that entered its task set and didn't leave it, and which of them the unit may
 /// execute (SAM-5).
@@ -386,14 +386,14 @@ fn test_free(looked: &mut u32, counts: &Counts, len: usize, attr: Attr) -> bool
 }
 
 /// The ticket of a command, if it is given.
-fn ticket_if(given: bool, task: &Task) -> Option<u64>
+pub(crate) fn ticket_if(given: bool, task: &Task) -> Option<u64>
     ensures { result ≡ ticket_if given task.now }
 {
     if given { Some(task.ticket) } else { None }
 }
 
 /// From which number on functions may cover commands of a set, once this one has entered it behind `len` others.
-fn covered_from_with(covered_from: i64, len: usize, task: &Task) -> i64
+pub(crate) fn covered_from_with(covered_from: i64, len: usize, task: &Task) -> i64
     ensures { result ≡ covered_from_with covered_from len task.now }
 {
     if len == 0 {

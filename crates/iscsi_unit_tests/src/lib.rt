@@ -3,6 +3,8 @@
 #![tactic(auto)]
 
 #[cfg(test)]
+mod linked_set;
+#[cfg(test)]
 mod live_commands;
 #[cfg(test)]
 mod logical_unit;

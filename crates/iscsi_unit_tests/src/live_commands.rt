@@ -1,9 +1,10 @@
-//! The live commands beside plain ones, which find each by a search: both answer the same after each of many calls.
+//! The live commands beside plain ones, which find each by a search: both answer the same after each of many calls. And
+//! with each live command the slot is found that it entered with.
 
 ghost use Rattle.std.specs.Prelude.{◌≡◌, ◌==◌, ◌<◌, ◌≤◌, true, false, All};
 ghost use Rattle.std.specs.List.{list_any};
 
-use iscsi_commands::{Commands, Live, LiveCommands};
+use iscsi_commands::{Commands, Live, LiveCommands, Placed};
 use std::alloc::{AllocError, Global};
 use std::test::Fail;
 
@@ -34,7 +35,7 @@ impl Both {
             && is_newest(&self.plain, command.ticket)
             && is_unused(&self.plain, command.itt);
         if may_enter {
-            self.live.push(command);
+            self.live.push(command, slot_of(&command));
             self.plain.push(command);
         }
         may_enter
@@ -48,6 +49,7 @@ impl Both {
     /// Both find the same by a ticket, and by a tag.
     fn agree_on(&self, ticket: u64, itt: u32) -> bool {
         is_same(self.live.find(ticket), self.plain.find(ticket))
+            && is_placed_as(self.live.find_placed(ticket), self.plain.find(ticket))
             && is_same(self.live.find_tagged(itt), self.plain.find_tagged(itt))
     }
 
@@ -57,6 +59,7 @@ impl Both {
         for k in 0..self.plain.len() {
             let command = *self.plain.at(k);
             agree &= is_same(self.live.find(command.ticket), Some(command));
+            agree &= is_placed_as(self.live.find_placed(command.ticket), Some(command));
             agree &= is_same(self.live.find_tagged(command.itt), Some(command));
         }
         agree
@@ -76,6 +79,21 @@ fn is_unused(plain: &Commands, itt: u32) -> bool
     ensures { result ≡ true → list_any (λ l. l.itt == itt) plain.now.items ≡ false }
 {
     plain.find_tagged(itt).is_none()
+}
+
+/// The slot with which a command enters: any, and mostly another one than those of the others.
+fn slot_of(command: &Live) -> u16 {
+    (command.ticket % 65536) as u16 ^ command.conn
+}
+
+/// Whether a command is found, or none, and with it the slot that it entered with.
+fn is_placed_as(placed: Option<Placed>, command: Option<Live>) -> bool {
+    match placed {
+        Some(placed) => {
+            placed.slot == slot_of(&placed.command) && is_same(Some(placed.command), command)
+        }
+        None => command.is_none(),
+    }
 }
 
 fn is_same(one: Option<Live>, other: Option<Live>) -> bool {

@@ -22,7 +22,7 @@ fn task(ticket: u64, attr: Attr) -> Task {
 }
 
 /// Whether the ticket is above those of the set.
-fn is_newest(set: &TaskSet, ticket: u64) -> bool
+pub(crate) fn is_newest(set: &TaskSet, ticket: u64) -> bool
     ensures { IsTrue result → IsNewest ticket set.now }
 {
     for place in 0..set.len() {

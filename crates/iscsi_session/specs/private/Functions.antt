@@ -12,7 +12,7 @@ use Rattle.iscsi_window.specs.Windows.{Received, number_expected, place_in, is_r
 use Rattle.iscsi_tasks.specs.declared.task.Task.{Task}
 use Rattle.iscsi_tasks.specs.declared.cover.Cover.TheVariants.{All as AllOfThem, Below}
 use Rattle.iscsi_tasks.specs.declared.member.Member.{Member}
-use Rattle.iscsi_tasks.specs.Sets.{Members, is_covered}
+use Rattle.iscsi_tasks.specs.Sets.{Members, is_covered, tasks_in}
 pub use Rattle.iscsi_tasks.specs.Sets.{set_staying}
 use Rattle.iscsi_history.specs.declared.effect.Effect.{Effect}
 use Rattle.iscsi_history.specs.declared.effect.Effect.TheVariants.{Void, Empty, Leave}
@@ -52,6 +52,18 @@ leaves unit covers ms = map (λ m. Leave m.task.ticket unit) (filter (λ m. cove
 
 abbrev pub leaving_effects : Core → ℕ → (Task → Bool) → List Effect
 leaving_effects s unit covers = leaves unit covers (set_at s unit).list
+
+-- the tickets of the covered commands of a set
+abbrev pub tickets_covered : (Task → Bool) → Members → List ℕ
+tickets_covered covers set = map (λ (t : Task). t.ticket) (filter covers (tasks_in set))
+
+-- the live commands without those that have one of these tickets
+abbrev pub without_tickets : List ℕ → List Live → List Live
+without_tickets tickets live = filter (λ l. not (list_any (λ t. t == l.ticket) tickets)) live
+
+-- each of the commands with these tickets leaves
+abbrev pub leave_each : ℕ → List ℕ → List Effect
+leave_each unit tickets = map (λ ticket. Leave ticket unit) tickets
 
 -- the unit is told of the commands that became enabled
 abbrev pub with_given : Core → ℕ → Core

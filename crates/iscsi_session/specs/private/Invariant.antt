@@ -28,6 +28,7 @@ pub record Inner : Type 0 where
   pub live_room : ℕ  -- how many elements each of these has memory for
   pub arrived_room : ℕ
   pub waiting_room : ℕ
+  pub left_room : ℕ
 
 -- the window, and the requests that it holds
 pub record IsWindowSound (w : Received) (held count taken : ℕ) (conns : List (ℕ × ℕ)) : Type 0 where
@@ -60,10 +61,11 @@ pub record IsWaitlistSound (functions : List Waiting) (next_turn : ℕ) : Type 0
   pub in_order : AllPairs (λ a b. a.event < b.event) functions  -- each arrived after those before it
 
 -- the containers' rooms, by the numbers of places and connections
-pub record HasRooms (places conns live_room arrived_room waiting_room : ℕ) : Type 0 where
+pub record HasRooms (places conns live_room arrived_room waiting_room left_room : ℕ) : Type 0 where
   pub live : places + 8 * conns ≤ live_room  -- for a command at each place, and the immediate ones of each connection
   pub arrived : places ≤ arrived_room  -- for the event of arrival of each place
   pub waiting : 4 * conns ≤ waiting_room  -- for the functions that may wait on each connection
+  pub left : places + 8 * conns ≤ left_room  -- for the tickets of as many commands as there is room for, where all leave
 
 -- the limits of the options, by the numbers of events, connections and units
 pub record IsWithinLimits (count most cids sets : ℕ) : Type 0 where
@@ -77,6 +79,6 @@ pub record IsSessionSound (s : Inner) : Type 0 where
   pub window : IsWindowSound s.window s.held s.entered s.taken s.conns
   pub commands : AreCommandsSound s.window.unfinished s.entered s.conns s.immediate s.sets s.live
   pub functions : AreFunctionsSound s.taken s.conns s.waiting
-  pub rooms : HasRooms (length s.window.places) (length s.conns) s.live_room s.arrived_room s.waiting_room
+  pub rooms : HasRooms (length s.window.places) (length s.conns) s.live_room s.arrived_room s.waiting_room s.left_room
   pub arrivals : length s.arrived ≡ length s.window.places  -- the events of arrival stand beside the places
   pub limits : IsWithinLimits s.taken s.events (length s.conns) (length s.sets)

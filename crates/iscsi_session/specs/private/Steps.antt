@@ -1,5 +1,5 @@
 -- What a session keeps after a part of an event, and the effects, by what it keeps before. For private contracts alone.
-use Rattle.std.specs.Prelude.{◌≡◌, ◌<◌, ℕ, pos, ◌-ℤ◌, ◌+◌, ◌-◌, ◌≤◌, ◌==◌, ◌&&◌, ◌||◌, not, count_by, nat_lt, nat_le, Bool, true, List, [], ◌∷◌, ◌++◌, length, map, filter, slice_index_or, slice_set, Option, Some, None, option_map, if◌then◌else◌}
+use Rattle.std.specs.Prelude.{◌≡◌, ℕ, pos, ◌-ℤ◌, ◌+◌, ◌-◌, ◌≤◌, ◌==◌, ◌&&◌, ◌||◌, not, count_by, nat_lt, nat_le, Bool, true, List, [], ◌∷◌, ◌++◌, length, map, filter, slice_index_or, slice_set, Option, Some, None, option_map, if◌then◌else◌}
 use Rattle.std.specs.List.{list_any}
 use Rattle.iscsi_wire.specs.declared.request.Request.{Request}
 use Rattle.iscsi_wire.specs.declared.reply.Reply.{Reply}
@@ -172,17 +172,15 @@ execution_effects s r (EnterUnit unit) = entry_effects s r unit
 
 -- ---- a completion
 
--- the command with this ticket, if it is enabled
-abbrev pub enabled_of : Core → ℕ → Option Live → Option Live
-enabled_of s ticket x = elim x [ Some l ↦ if is_enabled_in ticket (set_at s l.unit).list then Some l else None | None ↦ None ]
+-- the command with this ticket, if it is enabled in the set of its unit
+abbrev pub enabled_of : List Members → ℕ → Option Live → Option Live
+enabled_of sets ticket x = elim x [ Some l ↦ if is_enabled_in ticket (slice_index_or sets l.unit (opened_set 0)).list then Some l else None | None ↦ None ]
+
+abbrev pub enabled_in : List Members → List Live → ℕ → Option Live
+enabled_in sets live ticket = enabled_of sets ticket (find_ticket ticket live)
 
 abbrev pub find_enabled : Core → ℕ → Option Live
-find_enabled s ticket = enabled_of s ticket (find_ticket ticket s.live)
-
--- a live command has this place in its set
-pub record IsFound (s : Core) (place : ℕ) (l : Live) : Type 0 where
-  pub placed : place < length (set_at s l.unit).list
-  pub named : (d : Member) → with_ticket l.ticket (tasks_in (set_at s l.unit)) ≡ Some (slice_index_or (set_at s l.unit).list place d).task
+find_enabled s ticket = enabled_in s.sets s.live ticket
 
 -- the set of its unit without it
 abbrev pub set_without : Live → List Members → Members
@@ -190,6 +188,11 @@ set_without l sets = let set = slice_index_or sets l.unit (opened_set 0) in left
 
 abbrev pub set_left : Core → Live → Members
 set_left s l = set_without l s.sets
+
+-- the sets, once a command left that of its unit, if one did
+abbrev pub sets_left : List Members → Option Live → List Members
+sets_left sets None = sets
+sets_left sets (Some l) = slice_set sets l.unit (set_without l sets)
 
 -- a numbered command gives its place back
 abbrev pub finished : Received → Live → Received

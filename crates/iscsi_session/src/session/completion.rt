@@ -1,15 +1,17 @@
 //! The completion of a command by its unit.
 
-ghost use Rattle.std.specs.Prelude.{ℕ, ◌*◌, ◌≡◌, ◌==◌, ◌&&◌, ◌+◌, ◌<◌, ◌≤◌, true, false, if◌then◌else◌, ◌++◌, IfSome, option_map, length, vec_len, vec_capacity};
+ghost use Rattle.std.specs.Prelude.{ℕ, ◌*◌, ◌≡◌, ◌==◌, ◌&&◌, ◌+◌, ◌<◌, ◌≤◌, true, false, if◌then◌else◌, ◌++◌, length, nat_lt, vec_len, vec_capacity};
+ghost use Rattle.std.specs.List.{list_all};
 ghost use Rattle.iscsi_history.specs.rules.Settings.{is_known as known_in};
 ghost use Rattle.iscsi_history.specs.rules.Execution.{sense_of_status};
-ghost use Rattle.iscsi_session.specs.private.Steps.{IsFound, find_enabled, after_completion, completion_effects, counted_on, finished};
+ghost use Rattle.iscsi_session.specs.private.Steps.{enabled_in, sets_left, after_completion, completion_effects, counted_on, finished};
 
 use crate::session::sets::CHECK_CONDITION;
 use crate::session::{Session, sets};
-use iscsi_commands::Live;
+use iscsi_commands::{Live, LiveCommands, Placed};
 use iscsi_connections::Connections;
 use iscsi_history::{Effect, Why};
+use iscsi_tasks::LinkedTaskSet;
 use iscsi_window::Window;
 use iscsi_wire::{Reply, Sense};
 
@@ -19,15 +21,6 @@ const INTERNAL_FAILURE: Sense = Sense {
     asc: 0x44,
     ascq: 0x00,
 };
-
-/// A live command that is enabled, and where it is.
-#[derive(Clone, Copy)]
-struct Enabled {
-    /// Its place in the set of its unit.
-    place: u32,
-    /// What is kept of it.
-    command: Live,
-}
 
 impl Session {
     /// Takes a completion: the command leaves and is answered, and others may become enabled.
@@ -40,12 +33,11 @@ impl Session {
         ensures spent { vec_len out.new ≤ vec_len out.old + 2 * length self.old.live + 1 }
         ensures capacity { vec_capacity out.new ≡ vec_capacity out.old }
     {
-        let Some(found) = self.find_enabled(ticket) else {
+        let Some(command) = take_enabled(&mut self.sets, &self.live, ticket) else {
             out.push_reserved(Effect::Ignore { why: Why::Stale });
             return;
         };
-        let command = found.command;
-        let stat_sn = self.next_stat_sn(command.conn);
+        let stat_sn = self.connections.assign_stat_sn(command.conn);
         finish(&mut self.window, &mut self.connections, &command);
         self.live.remove(ticket);
         out.push_reserved(Effect::Leave {
@@ -61,19 +53,22 @@ impl Session {
                 sense: sense_of(status),
             },
         });
-        sets::leave(&mut self.sets, &command, found.place, out);
+        sets::announce(&mut self.sets, command.unit, out);
     }
+}
 
-    /// The live command with this ticket, if it is enabled. Its ticket is looked for once among the live commands,
-    /// and once in its set.
-    fn find_enabled(&self, ticket: u64) -> Option<Enabled>
-        ensures command { option_map (λ e. e.command) result ≡ find_enabled self.now ticket }
-        ensures known { IfSome result (λ e. known_in e.command.conn self.now.conns ≡ true) }
-        ensures places { IfSome result (λ e. IsFound self.now e.place e.command) }
-    {
-        let command = self.live.find(ticket)?;
-        let place = self.sets[usize::from(command.unit)].enabled_place(ticket, 0)?;
-        Some(Enabled { place, command })
+/// The live command with this ticket leaves the set of its unit, if it is enabled there. It is still among the live ones.
+fn take_enabled(sets: &mut [LinkedTaskSet], live: &LiveCommands, ticket: u64) -> Option<Live>
+    requires units { list_all (λ l. nat_lt l.unit (length sets.old)) live.now.items ≡ true }
+    ensures command { result ≡ enabled_in sets.old live.now.items ticket }
+    ensures sets { sets.new ≡ sets_left sets.old result }
+{
+    let Placed { command, slot } = live.find_placed(ticket)?;
+    let set = &mut sets[usize::from(command.unit)];
+    if set.leave_enabled(ticket, slot) {
+        Some(command)
+    } else {
+        None
     }
 }
 

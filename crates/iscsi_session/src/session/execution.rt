@@ -236,14 +236,6 @@ impl Session {
         self.entered += 1;
         let ticket = self.entered;
         let attr = attr_of(request.attr());
-        let command = Live {
-            ticket,
-            unit,
-            conn: request.conn(),
-            itt: request.itt(),
-            immediate: request.immediate(),
-        };
-        self.live.push(command);
         out.push_reserved(Effect::Enter { ticket, unit, attr });
         let task = Task {
             ticket,
@@ -254,7 +246,15 @@ impl Session {
             pos,
             event,
         };
-        sets::enter(&mut self.sets, unit, task, out);
+        let slot = sets::enter(&mut self.sets, unit, task, out);
+        let command = Live {
+            ticket,
+            unit,
+            conn: task.conn,
+            itt: task.itt,
+            immediate: task.immediate,
+        };
+        self.live.push(command, slot);
     }
 
     /// The number of a request that executes, less the first CmdSN. A numbered one has turned last.

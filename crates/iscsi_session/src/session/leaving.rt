@@ -1,18 +1,19 @@
 //! Commands of a unit that leave before they are completed.
 
-ghost use Rattle.std.specs.Prelude.{ℕ, ◌≡◌, ◌+◌, ◌<◌, ◌≤◌, ◌++◌, [], ◌∷◌, true, length, count_by, slice_index_or, slice_set, IsSome, vec_len, vec_capacity, if◌then◌else◌};
+ghost use Rattle.std.specs.Prelude.{ℕ, ◌≡◌, ◌+◌, ◌<◌, ◌≤◌, ◌++◌, [], ◌∷◌, true, length, count_by, slice_index_or, slice_set, All, IsSome, vec_len, vec_capacity, if◌then◌else◌};
+ghost use Rattle.std.specs.List.{AllPairs};
 ghost use Rattle.iscsi_tasks.specs.Sets.{opened, is_covered};
 ghost use Rattle.iscsi_session.specs.promises.Standing.{are_ascending, are_known, tickets_of, tickets_in};
 ghost use Rattle.iscsi_session.specs.private.Steps.{AreCounted, is_numbered, find_ticket, without_ticket, enable_effects, set_at};
 ghost use Rattle.iscsi_history.specs.declared.effect.Effect.{Effect};
-ghost use Rattle.iscsi_session.specs.private.Functions.{staying, set_staying, finished_by, with_left, leaves, leaving_effects, with_given, covers_ticket, has_covered, owed};
+ghost use Rattle.iscsi_session.specs.private.Functions.{set_staying, finished_by, with_left, leaving_effects, leave_each, tickets_covered, without_tickets, with_given, covers_ticket, has_covered, owed};
 
 use crate::session::completion::finish;
 use crate::session::{Session, sets};
 use iscsi_commands::LiveCommands;
 use iscsi_connections::Connections;
 use iscsi_history::Effect;
-use iscsi_tasks::{Cover, TaskSet};
+use iscsi_tasks::{Cover, LinkedTaskSet};
 use iscsi_window::Window;
 
 impl Session {
@@ -26,16 +27,15 @@ impl Session {
             + owed self.old.live self.old.sets }
         ensures capacity { vec_capacity out.new ≡ vec_capacity out.old }
     {
-        end_covered(
-            &self.sets[usize::from(unit)],
+        dequeue_covered(&mut self.sets, unit, cover, &mut self.left);
+        end_all(
+            &self.left,
             unit,
-            cover,
             &mut self.window,
             &mut self.connections,
             &mut self.live,
             out,
         );
-        dequeue_covered(&mut self.sets, unit, cover);
     }
 
     /// The command of a unit with this ticket leaves.
@@ -48,7 +48,7 @@ impl Session {
             + owed self.old.live self.old.sets }
         ensures capacity { vec_capacity out.new ≡ vec_capacity out.old }
     {
-        let is_there = dequeue_one(&mut self.sets, unit, ticket);
+        let is_there = dequeue_one(&mut self.sets, &self.live, unit, ticket);
         end_one(
             is_there,
             unit,
@@ -74,55 +74,63 @@ impl Session {
     }
 }
 
-/// The covered commands leave the set of their unit.
-fn dequeue_covered(sets: &mut [TaskSet], unit: u16, cover: &Cover)
-    requires { unit < length sets.old }
-    ensures { sets.new ≡ slice_set sets.old unit
+/// The covered commands leave the set of their unit, and their tickets are noted, the oldest one's first. They are still
+/// among the live ones.
+fn dequeue_covered(sets: &mut [LinkedTaskSet], unit: u16, cover: &Cover, left: &mut Vec<u64>)
+    requires unit { unit < length sets.old }
+    requires room { length (slice_index_or sets.old unit (opened 0)).list ≤ vec_capacity left.old }
+    ensures sets { sets.new ≡ slice_set sets.old unit
         (set_staying (is_covered cover.now) (slice_index_or sets.old unit (opened 0))) }
+    ensures left { left.new.items ≡ tickets_covered (is_covered cover.now)
+        (slice_index_or sets.old unit (opened 0)) }
+    ensures capacity { vec_capacity left.new ≡ vec_capacity left.old }
 {
-    sets[usize::from(unit)].leave_covered(cover);
+    left.clear();
+    sets[usize::from(unit)].leave_covered(cover, left);
 }
 
-/// The command with this ticket leaves the set of its unit: whether it was there.
-fn dequeue_one(sets: &mut [TaskSet], unit: u16, ticket: u64) -> bool
-    requires { unit < length sets.old }
+/// The command with this ticket leaves the set of its unit: whether it was there. It is still among the live ones.
+fn dequeue_one(sets: &mut [LinkedTaskSet], live: &LiveCommands, unit: u16, ticket: u64) -> bool
+    requires unit { unit < length sets.old }
+    requires there { tickets_of (slice_index_or sets.old unit (opened 0)) ≡ tickets_in unit live.now.items }
     ensures there { result ≡ has_covered (covers_ticket ticket) (slice_index_or sets.old unit (opened 0)) }
     ensures sets { sets.new ≡ slice_set sets.old unit
         (set_staying (covers_ticket ticket) (slice_index_or sets.old unit (opened 0))) }
 {
-    sets[usize::from(unit)].leave(ticket).is_some()
+    let Some(placed) = live.find_placed(ticket) else {
+        return false;
+    };
+    sets[usize::from(unit)].leave(ticket, placed.slot).is_some()
 }
 
-/// The live commands that are covered are over, and each is told to leave. They are still in their set.
-fn end_covered(
-    set: &TaskSet,
+/// The live commands with these tickets are over, and each is told to leave.
+fn end_all(
+    tickets: &[u64],
     unit: u16,
-    cover: &Cover,
     window: &mut Window,
     connections: &mut Connections,
     live: &mut LiveCommands,
     out: &mut Vec<Effect>,
 )
-    requires there { tickets_of set.now ≡ tickets_in unit live.old.items }
+    requires there { All (λ t. IsSome (find_ticket t live.old.items)) tickets.now }
+    requires in_order { AllPairs (λ a b. a < b) tickets.now }
     requires ascending { are_ascending live.old.items ≡ true }
     requires numbered { count_by is_numbered live.old.items ≤ window.old.unfinished }
     requires known { are_known live.old.items connections.old.conns ≡ true }
     requires counted { AreCounted connections.old.immediate connections.old.conns live.old.items }
     requires room { vec_len out.old + length live.old.items ≤ vec_capacity out.old }
     ensures window { window.new ≡ finished_by window.old live.old.items
-        (staying (is_covered cover.now) set.now live.old.items) }
-    ensures live { live.new.items ≡ staying (is_covered cover.now) set.now live.old.items }
+        (without_tickets tickets.now live.old.items) }
+    ensures live { live.new.items ≡ without_tickets tickets.now live.old.items }
     ensures connections { connections.new ≡ record connections.old { immediate = connections.new.immediate } }
     ensures counted { AreCounted connections.new.immediate connections.old.conns live.new.items }
     ensures live_capacity { live.new.room ≡ live.old.room }
-    ensures effects { out.new.items ≡ out.old.items ++ leaves unit (is_covered cover.now) set.now.list }
+    ensures effects { out.new.items ≡ out.old.items ++ leave_each unit tickets.now }
     ensures spent { vec_len out.new + length live.new.items ≤ vec_len out.old + length live.old.items }
     ensures capacity { vec_capacity out.new ≡ vec_capacity out.old }
 {
-    for at in 0..set.covered_to(cover) {
-        let Some(ticket) = set.covered_at(at, cover) else {
-            continue;
-        };
+    for k in 0..tickets.len() {
+        let ticket = tickets[k];
         end(window, connections, live, ticket);
         out.push_reserved(Effect::Leave { ticket, unit });
     }

@@ -8,9 +8,8 @@ ghost use Rattle.iscsi_session.specs.private.Steps.{is_set_full, place_in, all_g
 
 use crate::reason::Reason;
 use crate::session::execution::reject;
-use iscsi_commands::Live;
 use iscsi_history::{Effect, Verdict};
-use iscsi_tasks::{Task, TaskSet};
+use iscsi_tasks::{LinkedTaskSet, Task};
 use iscsi_wire::{Reply, Request, Sense, unit_of};
 use std::alloc::Global;
 
@@ -28,13 +27,13 @@ const NO_UNIT: Sense = Sense {
 };
 
 /// Opens an empty set for each of so many units. None where memory is refused.
-pub(crate) fn open(alloc: Global, units: u32, depth: u32) -> Option<Vec<TaskSet>>
+pub(crate) fn open(alloc: Global, units: u32, depth: u32) -> Option<Vec<LinkedTaskSet>>
     requires depth { (1 ≤ depth) × (depth ≤ 1024) }
     ensures { IfSome result (λ sets. sets.items ≡ replicate units (opened depth)) }
 {
     let mut sets = Vec::with_capacity(alloc, units as usize).ok()?;
     for _ in 0..units {
-        sets.push_reserved(TaskSet::open(alloc, depth).ok()?);
+        sets.push_reserved(LinkedTaskSet::open(alloc, depth).ok()?);
     }
     Some(sets)
 }
@@ -43,7 +42,7 @@ pub(crate) fn open(alloc: Global, units: u32, depth: u32) -> Option<Vec<TaskSet>
 /// unit's set.
 ///
 /// Rules: `command/no-unit`, `command/crowded`, `command/full`, `command/enters`.
-pub(crate) fn verdict_in(request: &Request, is_crowded: bool, sets: &[TaskSet]) -> Verdict
+pub(crate) fn verdict_in(request: &Request, is_crowded: bool, sets: &[LinkedTaskSet]) -> Verdict
     ensures { result ≡ scsi_to request.now is_crowded (place_in sets.now request.now) }
 {
     let itt = request.itt();
@@ -79,14 +78,14 @@ pub(crate) fn unit_named(request: &Request, units: usize) -> Option<u16>
     }
 }
 
-fn is_full(set: &TaskSet) -> bool
+fn is_full(set: &LinkedTaskSet) -> bool
     ensures { result ≡ is_set_full set.now }
 {
     set.depth() <= set.len()
 }
 
-/// A command enters the set of a unit. None but itself can become enabled by that.
-pub(crate) fn enter(sets: &mut [TaskSet], unit: u16, task: Task, out: &mut Vec<Effect>)
+/// A command enters the set of a unit. None but itself can become enabled by that. The slot that it has there.
+pub(crate) fn enter(sets: &mut [LinkedTaskSet], unit: u16, task: Task, out: &mut Vec<Effect>) -> u16
     requires unit { unit < length sets.old }
     requires not_full { is_set_full (slice_index_or sets.old unit (opened 0)) ≡ false }
     requires newest { IsNewest task.ticket (slice_index_or sets.old unit (opened 0)) }
@@ -99,32 +98,15 @@ pub(crate) fn enter(sets: &mut [TaskSet], unit: u16, task: Task, out: &mut Vec<E
     ensures capacity { vec_capacity out.new ≡ vec_capacity out.old }
 {
     let set = &mut sets[usize::from(unit)];
-    if let Some(ticket) = set.enter_and_give(task).unwrap() {
+    let entered = set.enter_and_give(task).unwrap();
+    if let Some(ticket) = entered.ticket {
         out.push_reserved(Effect::Enable { ticket, unit });
     }
-}
-
-/// A command leaves its set, where it has this place, and others may become enabled by that.
-pub(crate) fn leave(sets: &mut [TaskSet], command: &Live, place: u32, out: &mut Vec<Effect>)
-    requires unit { command.now.unit < length sets.old }
-    requires place { place < length (slice_index_or sets.old command.now.unit (opened 0)).list }
-    requires command { (d : Member) →
-        with_ticket command.now.ticket (tasks_in (slice_index_or sets.old command.now.unit (opened 0)))
-        ≡ Some (slice_index_or (slice_index_or sets.old command.now.unit (opened 0)).list place d).task }
-    requires room { vec_len out.old + length (set_without command.now sets.old).list ≤ vec_capacity out.old }
-    ensures sets { sets.new ≡ slice_set sets.old command.now.unit (all_given (set_without command.now sets.old)) }
-    ensures effects { out.new.items ≡ out.old.items
-        ++ enable_effects command.now.unit (set_without command.now sets.old).list }
-    ensures spent { vec_len out.new ≤ vec_len out.old + length (set_without command.now sets.old).list }
-    ensures capacity { vec_capacity out.new ≡ vec_capacity out.old }
-{
-    let set = &mut sets[usize::from(command.unit)];
-    set.remove_at(place);
-    enable_new(set, command.unit, out);
+    entered.slot
 }
 
 /// Announces to a unit the commands of its set that became enabled.
-pub(crate) fn announce(sets: &mut [TaskSet], unit: u16, out: &mut Vec<Effect>)
+pub(crate) fn announce(sets: &mut [LinkedTaskSet], unit: u16, out: &mut Vec<Effect>)
     requires unit { unit < length sets.old }
     requires room { vec_len out.old + count_by is_new (slice_index_or sets.old unit (opened 0)).list
         ≤ vec_capacity out.old }
@@ -139,7 +121,7 @@ pub(crate) fn announce(sets: &mut [TaskSet], unit: u16, out: &mut Vec<Effect>)
 }
 
 /// Announces to a unit the commands that became enabled, the oldest first.
-pub(crate) fn enable_new(set: &mut TaskSet, unit: u16, out: &mut Vec<Effect>)
+pub(crate) fn enable_new(set: &mut LinkedTaskSet, unit: u16, out: &mut Vec<Effect>)
     requires room { vec_len out.old + count_by is_new set.old.list ≤ vec_capacity out.old }
     ensures set { set.new ≡ all_given set.old }
     ensures effects { out.new.items ≡ out.old.items ++ enable_effects unit set.old.list }

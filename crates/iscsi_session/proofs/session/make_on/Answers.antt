@@ -1,4 +1,4 @@
-use Rattle.std.proofs.Common.{true, Option, ◌+◌, [], rules, ℕ, ◌*◌, ◌≡◌, ◌≤◌, ◌∙◌, ap, sym, arith, length, is_some, replicate, None, refl, List}
+use Rattle.std.proofs.Common.{true, Option, ◌+◌, [], rules, ℕ, ◌*◌, ◌≡◌, ◌≤◌, ◌∙◌, ap, sym, arith, length, is_some, replicate, None, refl, List, vec_capacity}
 use Rattle.std.proofs.lemmas.Bool.Decides.{nat_tests}
 use Rattle.iscsi_wire.specs.declared.request.Request.{Request}
 use Rattle.iscsi_window.specs.Windows.{opened}
@@ -17,7 +17,7 @@ use Rattle.iscsi_history.proofs.PlaceLemmas.{all_none}
 use Rattle.std.proofs.lemmas.List.{length-replicate as so_many}
 
 -- a session that was opened is sound
-opened_sound : (first size events units depth live_room arrived_room waiting_room : ℕ) (conns : List (ℕ × ℕ)) → size ≤ 1024 → HasRooms size (length conns) live_room arrived_room waiting_room → IsWithinLimits 0 events (length conns) units
+opened_sound : (first size events units depth live_room arrived_room waiting_room left_room : ℕ) (conns : List (ℕ × ℕ)) → size ≤ 1024 → HasRooms size (length conns) live_room arrived_room waiting_room left_room → IsWithinLimits 0 events (length conns) units
     → IsSessionSound (record {
       window = opened first size;
       held = 0;
@@ -33,8 +33,9 @@ opened_sound : (first size events units depth live_room arrived_room waiting_roo
       live_room = live_room;
       arrived_room = arrived_room;
       waiting_room = waiting_room;
+      left_room = left_room;
     })
-opened_sound first size events units depth live_room arrived_room waiting_room conns most rooms limits =
+opened_sound first size events units depth live_room arrived_room waiting_room left_room conns most rooms limits =
     let long : length (opened first size).places ≡ size = so_many size None in
     let sets : length (replicate units (opened_set depth)) ≡ units = so_many units (opened_set depth) in
     let none = none_counted {A = Option Request} is_some size refl in
@@ -62,14 +63,16 @@ invariant_of-result c =
     let is : c.in_ok-ok.field-0 ≡ opened c.args.options.first c.args.options.window = search rules in
     let none : c.in_ok-ok-2.field-0.items ≡ [] = search rules in
     let live_room : c.args.options.window + c.from.result * c.len.result ≤ (c.in_ok-ok-2.field-0).room = search rules in
+    let left_room : c.args.options.window + c.from.result * c.len.result ≤ vec_capacity c.in_ok-ok-3.field-0 = search rules in
     let most : c.args.options.window ≤ 1024 = search rules in
     let connections = c.requires.connections in
     rw (is, none, c.in_ok-with_room.ensures, c.in_ok-open.ensures, c.in_ok-open-2.ensures.events, ap (λ (x : Connected). x.conns) connections, ap (λ (x : Connected). x.immediate) connections)
-    (opened_sound c.args.options.first c.args.options.window c.args.options.events c.args.options.units c.args.options.depth _ _ _ c.args.options.conns.items most
+    (opened_sound c.args.options.first c.args.options.window c.args.options.events c.args.options.units c.args.options.depth _ _ _ _ c.args.options.conns.items most
     (record {
       live = omega (arith, c.len.ensures, c.args.options.conns.ok.0, ap (λ n. n * c.len.result) c.from.ensures);
       arrived = c.in_ok-open-2.ensures.capacity;
       waiting = omega (arith, c.len-2.ensures, c.args.options.conns.ok.0);
+      left = omega (arith, c.len.ensures, c.args.options.conns.ok.0, ap (λ n. n * c.len.result) c.from.ensures);
     })
     (within_limits (setting_of c.args.options) c.requires.valid))
 

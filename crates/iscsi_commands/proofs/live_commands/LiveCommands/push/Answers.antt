@@ -21,7 +21,7 @@ invariant_of-self c =
     let kept = c.self.invariant in
     let way = c.make_way.ensures in
     let log = c.make_way.new.log.items in
-    let e : Entry = record { command = c.args.command; is_live = true } in
+    let e : Entry = record { command = c.args.command; slot = c.args.slot; is_live = true } in
     let lives : live_in log ≡ c.args.self.now.items = way.same ∙ ap (λ (q : Queued Live). q.items) c.self.view_is in
     let hints = c.self.inside.hints.items in
     let long : c.self.inside.hints.len ≡ length hints = search rules in
@@ -38,6 +38,6 @@ invariant_of-self c =
     subst (λ (l : List Entry). AreLogged l (vec_capacity c.append.new.log) (c.self.inside.live + 1) c.self.inside.room
     (length (take c.self.inside.hints.len (c.append.new.hints ++ drop (length c.append.new.hints) (take c.self.inside.hints.len (c.make_way.new.hints ++ drop (length c.make_way.new.hints) hints)))))
     c.append.new.tags.places.items c.append.new.tags.crowded.items c.append.new.tags.others.items c.append.new.tags.others.room) (sym c.append.ensures.log)
-    (logged_with log c.args.command way.ascending apart count fewer way.few roomy kept.short
+    (logged_with log c.args.command c.args.slot way.ascending apart count fewer way.few roomy kept.short
     (same_hints c.self.inside.hints.len c.deref_mut.result.now c.make_way.new.hints c.append.new.hints hints long first c.deref_mut.ensures.value (second ∙ ap length c.deref_mut-2.ensures.value) ∙ kept.hinted)
     others way.newest unused tagged)

@@ -16,15 +16,15 @@ use Rattle.iscsi_session.proofs.CountLemmas.{AreCounted-entered, room_for_one}
 use Rattle.iscsi_session.proofs.KeptLemmas.{newest_in, Match-entered}
 use Rattle.iscsi_session.proofs.SoundLemmas.{places_sound, commands_sound_on, entered_sound}
 use Rattle.iscsi_session.proofs.session.Session.enter.Goals as goal
-use Rattle.iscsi_session.proofs.session.Session.enter.Goals.{After-enter}
+use Rattle.iscsi_session.proofs.session.Session.enter.Goals.{After-enter-slot, After-push}
 
 -- the window, once the command began: a place of it is left
 started_parts : (w v : Received) (r : Request) → v ≡ started w r → w.unfinished ≤ length w.places → (is_immediate r ≡ false → w.unfinished < length w.places)
     → (v.turned ≡ w.turned) × ((v.places ≡ w.places) × ((v.unfinished ≡ w.unfinished + cond (not (is_immediate r)) 1 0) × (v.unfinished ≤ length w.places)))
 started_parts w v r is few space = grind arith
 
-pub enter-requires-clause-newest : goal.enter-requires-clause-newest
-enter-requires-clause-newest c =
+pub enter-slot-requires-clause-newest : goal.enter-slot-requires-clause-newest
+enter-slot-requires-clause-newest c =
     let inside : c.args.unit < length c.self.inside.sets.items = omega (arith, c.requires.unit, ap (λ (s : Core). length s.sets) c.self.view_is) in
     rw c.deref_mut.ensures.value
     (newest_in c.self.inside.sets.items c.self.inside.live.items c.self.inside.entered (length c.self.inside.sets.items) c.args.unit c.self.invariant.commands.in_sets c.self.invariant.commands.within inside)
@@ -52,24 +52,25 @@ pub push-requires-clause-unused : goal.push-requires-clause-unused
 push-requires-clause-unused c = rw c.itt.ensures (rw (← c.self.view_is) at c.requires.unused)
 
 -- the set of the unit has the task as the definitions say
-sets_are : (c : After-enter) → c.enter.new.sets ≡ set c.self.inside.sets.items c.args.unit (given_by (entered_to (get_or c.self.inside.sets.items c.args.unit (opened 0)) (new_task c.args.self.now c.args.request.now)))
+sets_are : (c : After-enter-slot) → c.enter-slot.new.sets ≡ set c.self.inside.sets.items c.args.unit (given_by (entered_to (get_or c.self.inside.sets.items c.args.unit (opened 0)) (new_task c.args.self.now c.args.request.now)))
 sets_are c =
     let position = to_z-of_z w64 c.position-pos.result (search rules) in
-    c.enter.ensures.sets
-    ∙ rw (c.deref_mut.ensures.value, c.conn-2.ensures, c.itt-2.ensures, c.attr_of-attr.ensures, c.attr.ensures, c.immediate-2.ensures, position, c.position-pos.ensures, c.event-event.ensures, ap (λ (s : Core). s.entered) c.self.view_is)
+    c.enter-slot.ensures.sets
+    ∙ rw (c.deref_mut.ensures.value, c.conn.ensures, c.itt.ensures, c.attr_of-attr.ensures, c.attr.ensures, c.immediate.ensures, position, c.position-pos.ensures, c.event-event.ensures, ap (λ (s : Core). s.entered) c.self.view_is)
 
 -- and so they are written back
-sets_now : (c : After-enter) → take c.self.inside.sets.len (c.enter.new.sets ++ drop (length c.enter.new.sets) c.self.inside.sets.items) ≡ c.enter.new.sets
-sets_now c = written c.self.inside.sets.len c.enter.new.sets c.self.inside.sets.items (ap length (sets_are c) ∙ length-set c.self.inside.sets.items c.args.unit _) c.self.inside.sets.ok.0
+sets_now : (c : After-enter-slot) → take c.self.inside.sets.len (c.enter-slot.new.sets ++ drop (length c.enter-slot.new.sets) c.self.inside.sets.items) ≡ c.enter-slot.new.sets
+sets_now c = written c.self.inside.sets.len c.enter-slot.new.sets c.self.inside.sets.items (ap length (sets_are c) ∙ length-set c.self.inside.sets.items c.args.unit _) c.self.inside.sets.ok.0
 
 -- the live commands are those of before and the new one
-lives_are : (c : After-enter) → c.push.new.self.items ≡ c.self.inside.live.items ++ new_live c.args.self.now c.args.request.now c.args.unit ∷ []
+lives_are : (c : After-push) → c.push.new.self.items ≡ c.self.inside.live.items ++ new_live c.args.self.now c.args.request.now c.args.unit ∷ []
 lives_are c = ap (λ (q : Queued Live). q.items) c.push.ensures ∙ rw (c.conn.ensures, c.itt.ensures, c.immediate.ensures, ap (λ (s : Core). s.entered) c.self.view_is)
 
 pub invariant_of-self : goal.invariant_of-self
 invariant_of-self c =
     let inv = c.self.invariant in
-    let e : After-enter = (goal.at.invariant_of-self c).After-enter in
+    let e : After-enter-slot = (goal.at.invariant_of-self c).After-enter-slot in
+    let p : After-push = (goal.at.invariant_of-self c).After-push in
     let r : Request = c.args.request.now in
     let l : Live = new_live c.args.self.now r c.args.unit in
     let old : List Members = c.self.inside.sets.items in
@@ -79,7 +80,7 @@ invariant_of-self c =
     let next : l.ticket ≡ c.self.inside.entered + 1 = ap (λ (s : Core). s.entered + 1) (sym c.self.view_is) in
     let now = sets_now e ∙ sets_are e in
     let long = ap length now ∙ length-set old c.args.unit _ in
-    let commands = entered_sound inv.commands l (lives_are e) next inside (rw (← c.self.view_is) at c.requires.known) (omega (arith, inv.commands.numbered, w.1.1.0)) long
+    let commands = entered_sound inv.commands l (lives_are p) next inside (rw (← c.self.view_is) at c.requires.known) (omega (arith, inv.commands.numbered, w.1.1.0)) long
     (rw now (Match-entered old c.self.inside.live.items l (new_task c.args.self.now r) inv.commands.in_sets inside refl))
     (AreCounted-entered c.self.inside.connections.immediate c.begin.new.connections.immediate conns c.self.inside.live.items l inv.commands.counted c.begin.ensures.long c.begin.ensures.counted (rw (← c.self.view_is) at c.requires.few)) in
     commands_sound_on inv (ap (λ (x : Connected). x.conns) c.begin.ensures.connections) (places_sound inv.window w.1.0 w.0 w.1.1.1 (omega (arith, rw (← c.self.view_is) at c.requires.counted))) commands w.1.0 long
@@ -87,11 +88,12 @@ invariant_of-self c =
 
 pub returns-clause-session : goal.returns-clause-session
 returns-clause-session c =
-    let e : After-enter = (goal.at.returns-clause-session c).After-enter in
-    rw (sets_now e, sets_are e, lives_are e, c.begin.ensures.connections, c.begin.ensures.window, ← c.self.view_is)
+    let e : After-enter-slot = (goal.at.returns-clause-session c).After-enter-slot in
+    let p : After-push = (goal.at.returns-clause-session c).After-push in
+    rw (sets_now e, sets_are e, lives_are p, c.begin.ensures.connections, c.begin.ensures.window, ← c.self.view_is)
 
 pub returns-clause-effects : goal.returns-clause-effects
 returns-clause-effects c =
     let position = to_z-of_z w64 c.position-pos.result (search rules) in
-    c.enter.ensures.effects
-    ∙ rw (c.push_reserved.ensures.items, append_assoc, c.deref_mut.ensures.value, c.conn-2.ensures, c.itt-2.ensures, c.attr_of-attr.ensures, c.attr.ensures, c.immediate-2.ensures, position, c.position-pos.ensures, c.event-event.ensures, ← c.self.view_is)
+    c.enter-slot.ensures.effects
+    ∙ rw (c.push_reserved.ensures.items, append_assoc, c.deref_mut.ensures.value, c.conn.ensures, c.itt.ensures, c.attr_of-attr.ensures, c.attr.ensures, c.immediate.ensures, position, c.position-pos.ensures, c.event-event.ensures, ← c.self.view_is)

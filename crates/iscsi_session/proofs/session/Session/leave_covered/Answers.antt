@@ -1,30 +1,74 @@
-use Rattle.std.proofs.Common.{◌≡◌, ◌∙◌, ◌<◌, ◌++◌, length, take, drop, get_or, set, ap, arith}
-use Rattle.std.proofs.lemmas.List.{get_or_default}
+use Rattle.std.proofs.Common.{◌≡◌, ◌∙◌, ◌<◌, ◌++◌, length, take, drop, get_or, set, ap, sym, arith, rules}
 use Rattle.iscsi_tasks.specs.Sets.{opened, is_covered}
 use Rattle.iscsi_session.specs.promises.Standing.{Core}
-use Rattle.iscsi_session.specs.private.Functions.{set_staying, ungiven_in, owed}
-use Rattle.iscsi_session.proofs.LeavingParts.{ungiven_in-staying}
+use Rattle.iscsi_session.specs.private.Functions.{staying, set_staying, finished_by, tickets_covered, ungiven_in, owed}
+use Rattle.iscsi_session.proofs.CountLemmas.{few_live}
+use Rattle.iscsi_session.proofs.LeavingParts.{ungiven_in-staying, rises, few_in, covered_live, covered_up, without_covered, leave_covered_each}
 use Rattle.iscsi_session.proofs.LeftSound.{sets_written, left_sound}
+use Rattle.iscsi_session.proofs.session.Session.leave_covered.Goals.{After-deref_mut, After-deref}
 use Rattle.iscsi_session.proofs.session.Session.leave_covered.Goals as goal
 
-inside : (c : goal.After-self-1) → c.args.unit < length c.self.inside.sets.items
+inside : (c : After-deref_mut) → c.args.unit < length c.self.inside.sets.items
 inside c = rw (← c.self.view_is) at c.requires.unit
 
+-- there is room for the tickets of all that are live, and so for those of one set
+pub dequeue_covered-requires-clause-room : goal.dequeue_covered-requires-clause-room
+dequeue_covered-requires-clause-room c =
+    let i = c.self.inside in
+    let inv = c.self.invariant in
+    let unit = c.args.unit in
+    let within = inside (goal.at.dequeue_covered-requires-clause-room c).After-deref_mut in
+    rw c.deref_mut.ensures.value
+    (omega (
+      arith,
+      inv.rooms.left,
+      few_in (get_or i.sets.items unit (opened 0)) unit i.live.items (inv.commands.in_sets unit within),
+      few_live (length i.window.places) i.connections.conns i.live.items (omega (arith, inv.commands.numbered, inv.window.fits)) inv.commands.counted.few inv.commands.known,
+    ))
+
+-- the tickets are those of the covered commands of the unit
+tickets_are : (c : After-deref) → c.deref.result.now ≡ tickets_covered (is_covered c.args.cover.now) (get_or c.self.inside.sets.items c.args.unit (opened 0))
+tickets_are c = c.deref.ensures.value ∙ rw c.deref_mut.ensures.value at c.dequeue_covered.ensures.left
+
 -- the sets, once the set of the unit was written
-sets_are : (c : goal.After-self-1) → take c.self.inside.sets.len (c.dequeue_covered.new.sets ++ drop (length c.dequeue_covered.new.sets) c.self.inside.sets.items)
+sets_are : (c : After-deref) → take c.self.inside.sets.len (c.dequeue_covered.new.sets ++ drop (length c.dequeue_covered.new.sets) c.self.inside.sets.items)
     ≡ set c.self.inside.sets.items c.args.unit (set_staying (is_covered c.args.cover.now) (get_or c.self.inside.sets.items c.args.unit (opened 0)))
-sets_are c = sets_written c.args.unit c.self.inside.sets.len (is_covered c.args.cover.now) c.self.inside.sets.items c.dequeue_covered.new.sets c.self.inside.sets.ok.0 (rw c.deref_mut.ensures.value at c.dequeue_covered.ensures)
+sets_are c = sets_written c.args.unit c.self.inside.sets.len (is_covered c.args.cover.now) c.self.inside.sets.items c.dequeue_covered.new.sets c.self.inside.sets.ok.0 (rw c.deref_mut.ensures.value at c.dequeue_covered.ensures.sets)
+
+pub end_all-requires-clause-there : goal.end_all-requires-clause-there
+end_all-requires-clause-there c =
+    let within = inside (goal.at.end_all-requires-clause-there c).After-deref_mut in
+    rw (tickets_are (goal.at.end_all-requires-clause-there c).After-deref)
+    (covered_live (get_or c.self.inside.sets.items c.args.unit (opened 0)) (is_covered c.args.cover.now) c.args.unit c.self.inside.live.items (c.self.invariant.commands.in_sets c.args.unit within))
+
+pub end_all-requires-clause-in_order : goal.end_all-requires-clause-in_order
+end_all-requires-clause-in_order c =
+    let i = c.self.inside in
+    let covers = is_covered c.args.cover.now in
+    let within = inside (goal.at.end_all-requires-clause-in_order c).After-deref_mut in
+    rw (tickets_are (goal.at.end_all-requires-clause-in_order c).After-deref)
+    (covered_up (get_or i.sets.items c.args.unit (opened 0)) covers (rises i.sets.items i.live.items c.args.unit covers within c.self.invariant.commands.in_sets c.self.invariant.commands.ascending))
+
+live_are : (c : goal.After-end_all) → c.end_all.new.live.items ≡ staying (is_covered c.args.cover.now) (get_or c.self.inside.sets.items c.args.unit (opened 0)) c.self.inside.live.items
+live_are c = c.end_all.ensures.live ∙ rw (tickets_are (goal.at.returns c).After-deref) (without_covered (get_or c.self.inside.sets.items c.args.unit (opened 0)) (is_covered c.args.cover.now) c.self.inside.live.items)
+
+window_is : (c : goal.After-end_all) → c.end_all.new.window ≡ finished_by c.self.inside.window c.self.inside.live.items (staying (is_covered c.args.cover.now) (get_or c.self.inside.sets.items c.args.unit (opened 0)) c.self.inside.live.items)
+window_is c = c.end_all.ensures.window ∙ ap (finished_by c.self.inside.window c.self.inside.live.items) (sym c.end_all.ensures.live ∙ live_are c)
 
 pub invariant_of-self : goal.invariant_of-self
 invariant_of-self c =
-    let i = c.self.inside in
-    let u = c.args.unit in
-    let from : c.from.result ≡ u = omega (arith, c.from.ensures) in
-    let same : c.index.result.now ≡ get_or i.sets.items u (opened 0) = c.index.ensures ∙ rw from (get_or_default i.sets.items u c.index.result.now (opened 0) (inside c)) in
-    let live = rw same at c.end_covered.ensures.live in
-    rw (c.end_covered.ensures.connections, c.end_covered.ensures.live_capacity, c.end_covered.ensures.window, live, same, sets_are c)
-    (left_sound c.self.invariant u (is_covered c.args.cover.now) (inside c) (rw live at c.end_covered.ensures.counted))
+    let d = (goal.at.invariant_of-self c).After-deref in
+    rw (c.end_all.ensures.connections, c.end_all.ensures.live_capacity, c.dequeue_covered.ensures.capacity, window_is c, live_are c, sets_are d)
+    (left_sound c.self.invariant c.args.unit (is_covered c.args.cover.now) (inside (goal.at.invariant_of-self c).After-deref_mut) (rw (live_are c) at c.end_all.ensures.counted))
 
-pub returns-clause-spent : goal.returns-clause-spent
-returns-clause-spent c =
-    omega (arith, c.end_covered.ensures.spent, ap ungiven_in (sets_are c), ungiven_in-staying c.self.inside.sets.items c.args.unit (is_covered c.args.cover.now) (inside c), ap (λ (x : Core). owed x.live x.sets) c.self.view_is)
+pub returns : goal.returns
+returns c =
+    let i = c.self.inside in
+    let covers = is_covered c.args.cover.now in
+    let d = (goal.at.returns c).After-deref in
+    record {
+      session = rw (← c.self.view_is, c.end_all.ensures.connections, window_is c, live_are c, sets_are d);
+      effects = rw (← c.self.view_is, c.end_all.ensures.effects, tickets_are d, leave_covered_each (get_or i.sets.items c.args.unit (opened 0)) covers c.args.unit);
+      spent = omega (arith, c.end_all.ensures.spent, ap ungiven_in (sets_are d), ungiven_in-staying i.sets.items c.args.unit covers (inside (goal.at.returns c).After-deref_mut), ap (λ (x : Core). owed x.live x.sets) c.self.view_is);
+      capacity = search rules;
+    }

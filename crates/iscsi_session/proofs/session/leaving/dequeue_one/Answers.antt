@@ -1,15 +1,28 @@
-use Rattle.std.proofs.Common.{◌≡◌, ◌∙◌, List, get_or, arith}
-use Rattle.std.proofs.lemmas.List.{get_or_default}
+use Rattle.std.proofs.Common.{◌≡◌, ◌∙◌, List, None, option_map, get_or, ap, sym, arith}
+use Rattle.std.proofs.lemmas.List.{get_or_default, set-get_or}
 use Rattle.iscsi_tasks.specs.Sets.{Members, opened}
-use Rattle.iscsi_session.proofs.LeavingParts.{one_leaving}
+use Rattle.iscsi_commands.specs.declared.live.Placed.{Placed}
+use Rattle.iscsi_session.specs.private.Steps.{find_ticket}
+use Rattle.iscsi_session.proofs.LeavingParts.{one_leaving, one_missing}
 use Rattle.iscsi_session.proofs.session.leaving.dequeue_one.Goals as goal
+
+-- one that isn't live isn't in its set, which stays as it is
+pub returns-in_default : goal.returns-in_default
+returns-in_default c =
+    let set : Members = get_or c.args.sets.now c.args.unit (opened 0) in
+    let none : find_ticket c.args.ticket c.args.live.now.items ≡ None = sym c.find_placed.ensures.command ∙ ap (option_map (λ (p : Placed). p.command)) c.in_default.is in
+    let missing = one_missing c.args.ticket c.args.unit set c.args.live.now.items c.requires.there none in
+    record {
+      there = sym missing;
+      sets = rw missing (sym (set-get_or c.args.sets.now c.args.unit (opened 0)));
+    }
 
 pub returns : goal.returns
 returns c =
     let sets : List Members = c.args.sets.now in
     let at : c.from.result ≡ c.args.unit = omega (arith, c.from.ensures) in
     let one = one_leaving c.args.ticket (get_or sets c.args.unit (opened 0)) in
-    let same : get_or sets c.from.result c.index-sets-from.result ≡ get_or sets c.args.unit (opened 0) = rw at (get_or_default sets c.args.unit c.index-sets-from.result (opened 0) c.requires) in
+    let same : get_or sets c.from.result c.index-sets-from.result ≡ get_or sets c.args.unit (opened 0) = rw at (get_or_default sets c.args.unit c.index-sets-from.result (opened 0) c.requires.unit) in
     record {
       there = c.is_some.ensures ∙ rw (c.leave.ensures.answer, same) one.1;
       sets = rw (at, c.leave.ensures.state, same, one.0);

@@ -1,0 +1,63 @@
+use Rattle.std.proofs.Common.{◌++◌, ◌∙◌, ◌<◌, ◌≤◌, ◌==◌, ℕ, not, List, length, count_by, get_or, append_assoc, ap, sym, arith, rules}
+use Rattle.std.specs.Prelude.{IsSome}
+use Rattle.std.proofs.lemmas.List.{append-nil, take_all}
+use Rattle.iscsi_history.proofs.ListLemmas.{fewer_counted}
+use Rattle.iscsi_commands.specs.declared.live.Live.{Live}
+use Rattle.iscsi_session.specs.private.Steps.{is_numbered, find_ticket, without_ticket}
+use Rattle.iscsi_session.specs.private.Functions.{finished_by, without_tickets, leave_each}
+use Rattle.iscsi_session.proofs.KeptLemmas.{ascending-kept}
+use Rattle.iscsi_session.proofs.ListLemmas.{are_known-left}
+use Rattle.iscsi_session.proofs.LeavingParts.{without_none, without_more, leave_more, there_yet, finished_none, finished_on, without_shorter}
+use Rattle.iscsi_session.proofs.session.leaving.end_all.Goals.{In-loop-k}
+use Rattle.iscsi_session.proofs.session.leaving.end_all.Goals as goal
+
+pub loop-k-init : goal.loop-k-init
+loop-k-init c = search (rules, arith, sym (without_none c.args.live.now.items), sym (finished_none c.args.window.now c.args.live.now.items), sym (append-nil c.args.out.now.items))
+
+-- the command with the next ticket is still live
+still_live : (c : In-loop-k) → IsSome (find_ticket (get_or c.args.tickets.now c.loop-k.k 0) c.loop-k.live.items)
+still_live c =
+    let inside : c.loop-k.k < length c.args.tickets.now = c.loop-k-test.true in
+    rw c.loop-k.invariant.live (there_yet c.args.tickets.now c.loop-k.k 0 inside c.args.live.now.items c.requires.in_order (c.requires.there c.loop-k.k 0 inside))
+
+pub end-requires-clause-there : goal.end-requires-clause-there
+end-requires-clause-there c = still_live (goal.at.end-requires-clause-there c).In-loop-k
+
+pub push_reserved-requires : goal.push_reserved-requires
+push_reserved-requires c =
+    omega (arith, without_shorter (get_or c.args.tickets.now c.loop-k.k 0) c.loop-k.live.items (still_live (goal.at.push_reserved-requires c).In-loop-k), c.loop-k.invariant.spent, c.loop-k.invariant.capacity, c.requires.room)
+
+pub loop-k-preserved : goal.loop-k-preserved
+loop-k-preserved c =
+    let inv = c.loop-k.invariant in
+    let tickets : List ℕ = c.args.tickets.now in
+    let k : ℕ = c.loop-k.k in
+    let ticket : ℕ = get_or tickets k 0 in
+    let lives : List Live = c.args.live.now.items in
+    let before : List Live = c.loop-k.live.items in
+    let inside : k < length tickets = c.loop-k-test.true in
+    let there = still_live (goal.at.loop-k-preserved c).In-loop-k in
+    let less : count_by is_numbered (without_ticket ticket before) ≤ count_by is_numbered before = fewer_counted is_numbered (λ l. not (l.ticket == ticket)) before in
+    record {
+      live = rw (c.end.ensures.live, inv.live) (without_more tickets k 0 inside lives);
+      window = rw (c.end.ensures.window, c.end.ensures.live) (finished_on c.args.window.now c.loop-k.window lives before (without_ticket ticket before) inv.window c.requires.numbered less inv.fewer);
+      fewer = omega (arith, ap (count_by is_numbered) c.end.ensures.live, less, inv.fewer);
+      connections = rw (c.end.ensures.connections, inv.connections);
+      counted = rw inv.connections at c.end.ensures.counted;
+      ascending = rw c.end.ensures.live (ascending-kept (λ l. not (l.ticket == ticket)) before inv.ascending);
+      known = rw c.end.ensures.live (are_known-left ticket before c.args.connections.now.conns inv.known);
+      live_capacity = c.end.ensures.capacity ∙ inv.live_capacity;
+      effects = rw (c.push_reserved.ensures.items, inv.effects, append_assoc, leave_more tickets k 0 inside c.args.unit);
+      spent = omega (arith, ap length c.end.ensures.live, without_shorter ticket before there, inv.spent, c.push_reserved.ensures.len);
+      capacity = c.push_reserved.ensures.capacity ∙ inv.capacity;
+    }
+
+-- at the end all came
+pub returns-clause-live : goal.returns-clause-live
+returns-clause-live c = c.loop-k.invariant.live ∙ ap (λ ts. without_tickets ts c.args.live.now.items) (take_all c.loop-k.k c.args.tickets.now (omega arith))
+
+pub returns-clause-window : goal.returns-clause-window
+returns-clause-window c = c.loop-k.invariant.window ∙ ap (finished_by c.args.window.now c.args.live.now.items) (returns-clause-live c)
+
+pub returns-clause-effects : goal.returns-clause-effects
+returns-clause-effects c = c.loop-k.invariant.effects ∙ ap (λ ts. c.args.out.now.items ++ leave_each c.args.unit ts) (take_all c.loop-k.k c.args.tickets.now (omega arith))

@@ -1,0 +1,569 @@
+-- A chain stays one as a member enters, as one leaves, and as one is written.
+use Rattle.std.proofs.Common.{◌≡◌, ◌≢◌, ℕ, zero, suc, ◌+◌, ◌-◌, ◌<◌, ◌≤◌, List, [], ◌∷◌, ◌++◌, length, map, get_or, set, refl, ap, sym, subst, ◌∙◌, arith, ⊎_elim, nat_lt}
+use Rattle.std.specs.List.{remove}
+use Rattle.std.specs.Bool.{if◌then◌else◌}
+use Rattle.std.proofs.lemmas.Bool.{cases_eq, cases_lt}
+use Rattle.std.proofs.lemmas.Bool.Decides.{nat_tests}
+use Rattle.std.proofs.lemmas.List.{get_or-set_same, get_or-set_other, get_or_past, get_or_push, get_or_append_left, get_or-map, get_or_default, same_lists, length-set, length_push, length-map, map-append}
+use Rattle.std.proofs.lemmas.List.Edits.{length-remove, get_or-remove_below, get_or-remove_above}
+use Rattle.iscsi_slots.specs.Slots.{times, AreShared}
+use Rattle.iscsi_slots.proofs.SlotLemmas.{times_at, times_remove, times_append, map-remove, stands}
+use Rattle.iscsi_slots.proofs.ShareLemmas.{at_most_once, none_beyond}
+use Rattle.iscsi_tasks.specs.declared.member.Member.{Member}
+use Rattle.iscsi_tasks.specs.declared.node.Node.{Node}
+use Rattle.iscsi_tasks.specs.Chains.{AreApart, Chained, chained, BLANK_NODE, node_at, after_of, before_of, member_of, member_at, order_from, order_in, free_in, linked_to, freed_before, IsLinked, IsChained, IsReused, IsAdded, IsTaken}
+use Rattle.iscsi_tasks.proofs.ChainLemmas.{kept_by_set, length_linked, after_here, after_else, before_here, before_else, member_linked, order_is, order_same, length_order, members_same, same_place, same_to_end, not_end, apart_in, inside, inside_order}
+
+module _ {nodes : List Node} {capacity free len room : ℕ} (chained : IsChained nodes capacity free len room) where
+  abbrev pub slots : List ℕ
+  slots = order_in nodes len
+
+  abbrev frees : List ℕ
+  frees = free_in nodes free len
+
+  pub long : length slots ≡ len
+  long = length_order nodes (after_of nodes 0) len
+
+  frees_long : length frees ≡ length nodes - 1 - len
+  frees_long = length_order nodes free (length nodes - 1 - len)
+
+  pub few : len + 1 ≤ length nodes
+  few = let all = chained.shared.all in let a = long in omega (arith, all, a)
+
+  pub within : length nodes ≤ room + 1
+  within = chained.shared.most
+
+  pub apart : AreApart slots
+  apart = apart_in chained.shared
+
+  once_in_ring : (s : ℕ) → times s (0 ∷ slots) ≤ 1
+  once_in_ring s = let one = at_most_once chained.shared s in omega (arith, one)
+
+  -- a place of the ring and the end of the order have slots of the ring
+  in_ring : (k : ℕ) → k ≤ len → 1 ≤ times (get_or slots k 0) (0 ∷ slots)
+  in_ring k l = ⊎_elim
+      (λ below. times_at (0 ∷ slots) (suc k) (omega (arith, below)))
+      (λ past. subst (λ s. 1 ≤ times s (0 ∷ slots)) (sym (get_or_past slots k 0 past)) (times_at (0 ∷ slots) 0 (omega arith)))
+      (cases_lt k (length slots))
+
+  pub last_inside : before_of nodes 0 < length nodes
+  last_inside =
+      let at : before_of nodes 0 ≡ get_or (0 ∷ slots) len 0 = ap (before_of nodes) (sym (get_or_past slots len 0 (let a = long in omega (arith, a)))) ∙ chained.linked.before len (let a = long in omega (arith, a)) in
+      subst (λ s. s < length nodes) (sym at) (inside chained.shared (get_or (0 ∷ slots) len 0) (times_at (0 ∷ slots) len (let a = long in omega (arith, a))))
+
+  pub free_inside : len + 1 < length nodes → free < length nodes
+  free_inside some = ⊎_elim
+      (λ below. below)
+      (λ above.
+      let none = none_beyond chained.shared free above in
+      let n : length nodes - 1 - len ≡ suc (length nodes - 1 - len - 1) = omega (arith, some) in
+      let first : 1 ≤ times free frees = subst (λ m. 1 ≤ times free (order_from nodes free m)) (sym n) (times_at (free ∷ order_from nodes (after_of nodes free) (length nodes - 1 - len - 1)) 0 (omega arith)) in
+      absurd (omega (arith, none, first)))
+      (cases_lt free (length nodes))
+
+  -- ---- a member leaves
+
+  module _ (p : ℕ) (l : p < length slots) where
+    abbrev slot : ℕ
+    slot = get_or slots p 0
+
+    abbrev before : ℕ
+    before = before_of nodes slot
+
+    abbrev after : ℕ
+    after = after_of nodes slot
+
+    before_is : before ≡ get_or (0 ∷ slots) p 0
+    before_is = chained.linked.before p (omega arith)
+
+    after_is : after ≡ get_or slots (p + 1) 0
+    after_is = let same : p + 1 ≡ suc p = omega arith in chained.linked.after (suc p) (omega (arith, l)) ∙ ap (λ n. get_or slots n 0) (sym same)
+
+    slot_in : slot < length nodes
+    slot_in = inside_order chained.shared slot (times_at slots p l)
+
+    pub before_in : before < length nodes
+    before_in = subst (λ s. s < length nodes) (sym before_is) (inside chained.shared (get_or (0 ∷ slots) p 0) (times_at (0 ∷ slots) p (omega (arith, l))))
+
+    pub after_in : after < length nodes
+    after_in = subst (λ s. s < length nodes) (sym after_is) (inside chained.shared (get_or slots (p + 1) 0) (in_ring (p + 1) (let a = long in omega (arith, a, l))))
+
+    abbrev closed : List Node
+    closed = linked_to nodes before after
+
+    abbrev now : List Node
+    now = set closed slot (freed_before free (node_at closed slot))
+
+    abbrev rest : List ℕ
+    rest = remove slots p
+
+    now_long : length now ≡ length nodes
+    now_long = length-set closed slot (freed_before free (node_at closed slot)) ∙ length_linked nodes before after
+
+    slot_closed : slot < length closed
+    slot_closed = let a = length_linked nodes before after in let b = slot_in in omega (arith, a, b)
+
+    rest_long : length rest + 1 ≡ len
+    rest_long = let a = length-remove slots p l in let b = long in omega (arith, a, b)
+
+    ring_below : (k : ℕ) → k ≤ p → get_or (0 ∷ rest) k 0 ≡ get_or (0 ∷ slots) k 0
+    ring_below k b = get_or-remove_below (0 ∷ slots) (suc p) 0 k (omega arith) (omega (arith, l))
+
+    ring_above : (k : ℕ) → p < k → get_or (0 ∷ rest) k 0 ≡ get_or (0 ∷ slots) (k + 1) 0
+    ring_above k a = get_or-remove_above (0 ∷ slots) (suc p) 0 k (omega arith) (omega (arith, l))
+
+    -- what the nodes of others tell
+    after_other : (i : ℕ) → i ≤ len → i ≢ p → i ≢ p + 1 → after_of now (get_or (0 ∷ slots) i 0) ≡ get_or slots i 0
+    after_other i within not_before not_it =
+        let a = long in
+        let j : ℕ = get_or (0 ∷ slots) i 0 in
+        let there : i < length (0 ∷ slots) = omega (arith, within, a) in
+        let it : j ≢ slot = λ same. let e = same_place (0 ∷ slots) once_in_ring i (suc p) there (omega (arith, l)) same in not_it (omega (arith, e)) in
+        let first : j ≢ before = λ same. let e = same_place (0 ∷ slots) once_in_ring i p there (omega (arith, l)) (same ∙ before_is) in not_before e in
+        ap (λ (n : Node). n.after) (get_or-set_other closed slot j (freed_before free (node_at closed slot)) BLANK_NODE it)
+        ∙ after_else nodes before after before_in after_in j first
+        ∙ chained.linked.after i (omega (arith, within, a))
+
+    after_before : after_of now before ≡ after
+    after_before =
+        let a = long in
+        let it : before ≢ slot = λ same. let e = same_place (0 ∷ slots) once_in_ring p (suc p) (omega (arith, l)) (omega (arith, l)) (sym before_is ∙ same) in absurd (omega (arith, e)) in
+        ap (λ (n : Node). n.after) (get_or-set_other closed slot before (freed_before free (node_at closed slot)) BLANK_NODE it)
+        ∙ after_here nodes before after before_in after_in
+
+    before_other : (i : ℕ) → i ≤ len → i ≢ p → i ≢ p + 1 → before_of now (get_or slots i 0) ≡ get_or (0 ∷ slots) i 0
+    before_other i within not_it not_after =
+        let a = long in
+        let j : ℕ = get_or slots i 0 in
+        let it : j ≢ slot = λ same. not_it (same_to_end apart i p (omega (arith, within, a)) (omega (arith, l)) same) in
+        let second : j ≢ after = λ same. not_after (same_to_end apart i (p + 1) (omega (arith, within, a)) (omega (arith, l)) (same ∙ after_is)) in
+        ap (λ (n : Node). n.before) (get_or-set_other closed slot j (freed_before free (node_at closed slot)) BLANK_NODE it)
+        ∙ before_else nodes before after before_in after_in j second
+        ∙ chained.linked.before i (omega (arith, within, a))
+
+    before_after : before_of now after ≡ before
+    before_after =
+        let a = long in
+        let it : after ≢ slot = λ same. let e = same_to_end apart (p + 1) p (omega (arith, l)) (omega (arith, l)) (sym after_is ∙ same) in absurd (omega (arith, e)) in
+        ap (λ (n : Node). n.before) (get_or-set_other closed slot after (freed_before free (node_at closed slot)) BLANK_NODE it)
+        ∙ before_here nodes before after before_in after_in
+
+    linked_without : IsLinked now rest
+    linked_without = record {
+      after = λ k within. let a = rest_long in ⊎_elim
+          (λ below. ap (after_of now) (ring_below k (omega arith)) ∙ after_other k (omega (arith, a, within)) (λ e. omega (arith, e)) (λ e. omega (arith, e)) ∙ sym (get_or-remove_below slots p 0 k below l))
+          (λ above. ⊎_elim
+          (λ (here : k ≡ p). ap (λ n. after_of now (get_or (0 ∷ rest) n 0)) here ∙ ap (after_of now) (ring_below p (omega arith) ∙ sym before_is) ∙ after_before ∙ after_is ∙ sym (get_or-remove_above slots p 0 p (omega arith) l) ∙ ap (λ n. get_or rest n 0) (sym here))
+          (λ more. ap (after_of now) (ring_above k (omega (arith, above, more))) ∙ after_other (k + 1) (omega (arith, a, within)) (λ e. omega (arith, e, above)) (λ e. more (omega (arith, e))) ∙ sym (get_or-remove_above slots p 0 k above l))
+          (cases_eq k p))
+          (cases_lt k p);
+      before = λ k within. let a = rest_long in ⊎_elim
+          (λ below. ap (before_of now) (get_or-remove_below slots p 0 k below l) ∙ before_other k (omega (arith, a, within)) (λ e. omega (arith, e)) (λ e. omega (arith, e)) ∙ sym (ring_below k (omega arith)))
+          (λ above. ⊎_elim
+          (λ (here : k ≡ p). ap (λ n. before_of now (get_or rest n 0)) here ∙ ap (before_of now) (get_or-remove_above slots p 0 p (omega arith) l ∙ sym after_is) ∙ before_after ∙ before_is ∙ sym (ring_below p (omega arith)) ∙ ap (λ n. get_or (0 ∷ rest) n 0) (sym here))
+          (λ more. ap (before_of now) (get_or-remove_above slots p 0 k above l) ∙ before_other (k + 1) (omega (arith, a, within)) (λ e. omega (arith, e, above)) (λ e. more (omega (arith, e))) ∙ sym (ring_above k (omega (arith, above, more))))
+          (cases_eq k p))
+          (cases_lt k p);
+    }
+
+    pub order_without : order_in now (len - 1) ≡ rest
+    order_without =
+        let a = rest_long in
+        let n : len - 1 ≡ length rest = omega (arith, a) in
+        ap (order_in now) n ∙ order_is now 0 rest (λ k k_in. linked_without.after k (omega (arith, k_in)))
+
+    -- a slot of the ring isn't free
+    not_free : (s j : ℕ) → 1 ≤ times s (0 ∷ slots) → 1 ≤ times j frees → j ≢ s
+    not_free s j used some same =
+        let one = at_most_once chained.shared s in
+        let too : 1 ≤ times s frees = subst (λ t. 1 ≤ times t frees) same some in
+        absurd (omega (arith, one, used, too))
+
+    slot_used : 1 ≤ times slot (0 ∷ slots)
+    slot_used = times_at (0 ∷ slots) (suc p) (omega (arith, l))
+
+    before_used : 1 ≤ times before (0 ∷ slots)
+    before_used = subst (λ s. 1 ≤ times s (0 ∷ slots)) (sym before_is) (times_at (0 ∷ slots) p (omega (arith, l)))
+
+    after_used : 1 ≤ times after (0 ∷ slots)
+    after_used = subst (λ s. 1 ≤ times s (0 ∷ slots)) (sym after_is) (in_ring (p + 1) (let a = long in omega (arith, a, l)))
+
+    free_without : free_in now slot (len - 1) ≡ slot ∷ frees
+    free_without =
+        let a = now_long in let b = few in let e = long in
+        let n : length now - 1 - (len - 1) ≡ suc (length nodes - 1 - len) = omega (arith, a, b, e, l) in
+        let m : ℕ = length nodes - 1 - len in
+        let next : after_of now slot ≡ free = ap (λ (x : Node). x.after) (get_or-set_same closed slot (freed_before free (node_at closed slot)) BLANK_NODE slot_closed) in
+        ap (order_from now slot) n
+        ∙ ap (λ s. slot ∷ order_from now s m) next
+        ∙ ap (λ r. slot ∷ r) (order_same nodes now free m (λ j some.
+        ap (λ (x : Node). x.after) (get_or-set_other closed slot j (freed_before free (node_at closed slot)) BLANK_NODE (not_free slot j slot_used some))
+        ∙ after_else nodes before after before_in after_in j (not_free before j before_used some)))
+
+    pub chained_without : IsChained now capacity slot (len - 1) room
+    chained_without =
+        let order = order_without in
+        record {
+          shared = subst (λ o. AreShared (0 ∷ o) (free_in now slot (len - 1)) (length now) (room + 1)) (sym order)
+              (subst (λ f. AreShared (0 ∷ rest) f (length now) (room + 1)) (sym free_without)
+              (subst (λ n. AreShared (0 ∷ rest) (slot ∷ frees) n (room + 1)) (sym now_long)
+              (record {
+                once = λ s. let is = chained.shared.once s in let a = times_remove s slots p l in omega (arith, is, a);
+                all = let is = chained.shared.all in let a = length-remove slots p l in omega (arith, is, a);
+                most = chained.shared.most;
+              })));
+          linked = subst (IsLinked now) (sym order) linked_without;
+          freed = λ s some.
+              let there : 1 ≤ times s (slot ∷ frees) = subst (λ f. 1 ≤ times s f) free_without some in
+              ⊎_elim
+              (λ (same : s ≡ slot). ap (before_of now) same ∙ ap (λ (x : Node). x.before) (get_or-set_same closed slot (freed_before free (node_at closed slot)) BLANK_NODE slot_closed))
+              (λ other.
+              let too : 1 ≤ times s frees = grind (arith, nat_tests) in
+              ap (λ (x : Node). x.before) (get_or-set_other closed slot s (freed_before free (node_at closed slot)) BLANK_NODE other)
+              ∙ before_else nodes before after before_in after_in s (not_free after s after_used too)
+              ∙ chained.freed s too)
+              (cases_eq s slot);
+          has_room = chained.has_room;
+          short = chained.short;
+        }
+
+    pub members_without : map (member_at now) (order_in now (len - 1)) ≡ remove (map (member_at nodes) slots) p
+    members_without =
+        ap (map (member_at now)) order_without
+        ∙ members_same nodes now rest (λ j some. kept_by_set member_of closed slot j (freed_before free (node_at closed slot)) slot_closed refl ∙ member_linked nodes before after before_in after_in j)
+        ∙ map-remove (member_at nodes) slots p
+
+  -- ---- a member is written, and those beside it stay
+
+  module _ (slot : ℕ) (n : Node) (l : slot < length nodes) (same_after : n.after ≡ after_of nodes slot) (same_before : n.before ≡ before_of nodes slot) where
+    after_written : (j : ℕ) → after_of (set nodes slot n) j ≡ after_of nodes j
+    after_written j = kept_by_set (λ x. x.after) nodes slot j n l same_after
+
+    before_written : (j : ℕ) → before_of (set nodes slot n) j ≡ before_of nodes j
+    before_written j = kept_by_set (λ x. x.before) nodes slot j n l same_before
+
+    pub order_written : order_in (set nodes slot n) len ≡ slots
+    order_written = ap (λ s. order_from (set nodes slot n) s len) (after_written 0) ∙ order_same nodes (set nodes slot n) (after_of nodes 0) len (λ j some. after_written j)
+
+    free_written : free_in (set nodes slot n) free len ≡ frees
+    free_written = ap (λ m. order_from (set nodes slot n) free (m - 1 - len)) (length-set nodes slot n) ∙ order_same nodes (set nodes slot n) free (length nodes - 1 - len) (λ j some. after_written j)
+
+    pub chained_written : IsChained (set nodes slot n) capacity free len room
+    chained_written = record {
+      shared = subst (λ o. AreShared (0 ∷ o) (free_in (set nodes slot n) free len) (length (set nodes slot n)) (room + 1)) (sym order_written)
+          (subst (λ f. AreShared (0 ∷ slots) f (length (set nodes slot n)) (room + 1)) (sym free_written)
+          (subst (λ m. AreShared (0 ∷ slots) frees m (room + 1)) (sym (length-set nodes slot n)) chained.shared));
+      linked = subst (IsLinked (set nodes slot n)) (sym order_written) (record {
+        after = λ k k_in. after_written (get_or (0 ∷ slots) k 0) ∙ chained.linked.after k k_in;
+        before = λ k k_in. before_written (get_or slots k 0) ∙ chained.linked.before k k_in;
+      });
+      freed = λ s some. before_written s ∙ chained.freed s (subst (λ f. 1 ≤ times s f) free_written some);
+      has_room = chained.has_room;
+      short = chained.short;
+    }
+
+  pub members_written : (n : Node) (k : ℕ) → k < length slots → n.after ≡ after_of nodes (get_or slots k 0) → n.before ≡ before_of nodes (get_or slots k 0)
+      → map (member_at (set nodes (get_or slots k 0) n)) (order_in (set nodes (get_or slots k 0) n) len) ≡ set (map (member_at nodes) slots) k (member_of n)
+  members_written n k l same_after same_before =
+      let slot : ℕ = get_or slots k 0 in
+      let there : slot < length nodes = inside_order chained.shared slot (times_at slots k l) in
+      ap (map (member_at (set nodes slot n))) (order_written slot n there same_after same_before)
+      ∙ same_lists (map (member_at (set nodes slot n)) slots) (set (map (member_at nodes) slots) k (member_of n))
+      (length-map slots (member_at (set nodes slot n)) ∙ sym (length-set (map (member_at nodes) slots) k (member_of n) ∙ length-map slots (member_at nodes)))
+      (λ i d i_in.
+      let inside_i : i < length slots = let a = length-map slots (member_at (set nodes slot n)) in omega (arith, i_in, a) in
+      get_or-map (member_at (set nodes slot n)) slots i 0 d inside_i
+      ∙ ⊎_elim
+      (λ (same : i ≡ k). ap (λ x. member_at (set nodes slot n) (get_or slots x 0)) same ∙ ap member_of (get_or-set_same nodes slot n BLANK_NODE there)
+      ∙ sym (ap (λ x. get_or (set (map (member_at nodes) slots) k (member_of n)) x d) same ∙ get_or-set_same (map (member_at nodes) slots) k (member_of n) d (let a = length-map slots (member_at nodes) in omega (arith, a, l))))
+      (λ other. ap member_of (get_or-set_other nodes slot (get_or slots i 0) n BLANK_NODE (λ e. other (same_place slots apart.once i k inside_i l e)))
+      ∙ sym (get_or-set_other (map (member_at nodes) slots) k i (member_of n) d other ∙ get_or-map (member_at nodes) slots i 0 d inside_i))
+      (cases_eq i k))
+
+-- ---- a member enters
+
+-- a slot that has a node now, and the nodes of the others are as they were
+record Fresh (nodes n0 : List Node) (order rest : List ℕ) (node : Node) (slot : ℕ) : Type 0 where
+  here : slot < length n0
+  more : length nodes ≤ length n0
+  new : node_at n0 slot ≡ node
+  same : (j : ℕ) → 1 ≤ times j (0 ∷ order) + times j rest → node_at n0 j ≡ node_at nodes j
+  none : times slot (0 ∷ order) + times slot rest ≡ 0
+
+-- the slots that are free then
+abbrev pub left_in : List Node → List Node → ℕ → ℕ → List ℕ
+left_in nodes n0 next len = order_from nodes next (length n0 - 1 - (len + 1))
+
+abbrev pub end_in : List Node → List Node → ℕ → List Node
+end_in nodes n0 slot = linked_to n0 (before_of nodes 0) slot
+
+abbrev pub entered_in : List Node → List Node → ℕ → List Node
+entered_in nodes n0 slot = linked_to (end_in nodes n0 slot) slot 0
+
+module _ {nodes : List Node} {capacity free len room : ℕ} (chained : IsChained nodes capacity free len room) (few_yet : len < room) {node : Node} {n0 : List Node} {next slot : ℕ} where
+  module _ (reused : IsReused nodes free len node n0 next slot) where
+    long_reused : length n0 ≡ length nodes
+    long_reused = ap length reused.written ∙ length-set nodes free node
+
+    free_split : free_in nodes free len ≡ slot ∷ (left_in nodes n0 next len)
+    free_split =
+        let a = long_reused in let b = reused.some in
+        let n : length nodes - 1 - len ≡ suc (length n0 - 1 - (len + 1)) = omega (arith, a, b) in
+        ap (order_from nodes free) n ∙ ap (λ s. free ∷ order_from nodes s (length n0 - 1 - (len + 1))) (sym reused.next) ∙ ap (λ s. s ∷ (left_in nodes n0 next len)) (sym reused.last)
+
+    alone_reused : times slot (0 ∷ (order_in nodes len)) + times slot (left_in nodes n0 next len) ≡ 0
+    alone_reused =
+        let one = at_most_once chained.shared slot in
+        let split = ap (times slot) free_split in
+        let first = times_at (slot ∷ []) 0 (omega arith) in
+        omega (arith, one, split, first)
+
+    fresh_reused : Fresh nodes n0 (order_in nodes len) (left_in nodes n0 next len) node slot
+    fresh_reused = record {
+      here = let a = long_reused in let b = free_inside chained reused.some in let e = reused.last in omega (arith, a, b, e);
+      more = let a = long_reused in omega (arith, a);
+      new = ap (λ ns. node_at ns slot) reused.written ∙ ap (λ s. node_at (set nodes free node) s) reused.last ∙ get_or-set_same nodes free node BLANK_NODE (free_inside chained reused.some);
+      same = λ j some. ap (λ ns. node_at ns j) reused.written ∙ get_or-set_other nodes free j node BLANK_NODE
+          (λ e. let none = alone_reused in
+          let too : 1 ≤ times slot (0 ∷ (order_in nodes len)) + times slot (left_in nodes n0 next len) = subst (λ s. 1 ≤ times s (0 ∷ (order_in nodes len)) + times s (left_in nodes n0 next len)) (e ∙ sym reused.last) some in absurd (omega (arith, none, too)));
+      none = alone_reused;
+    }
+
+    shared_reused : AreShared (0 ∷ ((order_in nodes len) ++ slot ∷ [])) (left_in nodes n0 next len) (length n0) (room + 1)
+    shared_reused = subst (λ n. AreShared (0 ∷ ((order_in nodes len) ++ slot ∷ [])) (left_in nodes n0 next len) n (room + 1)) (sym long_reused) (record {
+      once = λ s. let is = chained.shared.once s in let a = times_append s (order_in nodes len) (slot ∷ []) in let b = ap (times s) free_split in omega (arith, is, a, b);
+      all = let is = chained.shared.all in let a = length_push (order_in nodes len) slot in let b = ap length free_split in omega (arith, is, a, b);
+      most = chained.shared.most;
+    })
+
+  module _ (added : IsAdded nodes free len node n0 next slot) where
+    long_added : length n0 ≡ length nodes + 1
+    long_added = ap length added.added ∙ length_push nodes node
+
+    none_left : (left_in nodes n0 next len) ≡ []
+    none_left = let a = long_added in let b = added.none in let n : length n0 - 1 - (len + 1) ≡ 0 = omega (arith, a, b) in ap (order_from nodes next) n
+
+    none_free : free_in nodes free len ≡ []
+    none_free = let b = added.none in let n : length nodes - 1 - len ≡ 0 = omega (arith, b) in ap (order_from nodes free) n
+
+    fresh_added : Fresh nodes n0 (order_in nodes len) (left_in nodes n0 next len) node slot
+    fresh_added = record {
+      here = let a = long_added in let b = added.new in omega (arith, a, b);
+      more = let a = long_added in omega (arith, a);
+      new = ap (λ ns. node_at ns slot) added.added ∙ get_or_push nodes node BLANK_NODE slot (sym added.new);
+      same = λ j some.
+          let none = ap (times j) none_left in
+          let j_in : j < length nodes = inside chained.shared j (omega (arith, some, none)) in
+          ap (λ ns. node_at ns j) added.added ∙ get_or_append_left nodes (node ∷ []) BLANK_NODE j j_in;
+      none = let a = none_beyond chained.shared slot (let b = added.new in omega (arith, b)) in let e = ap (times slot) none_left in omega (arith, a, e);
+    }
+
+    shared_added : AreShared (0 ∷ ((order_in nodes len) ++ slot ∷ [])) (left_in nodes n0 next len) (length n0) (room + 1)
+    shared_added = record {
+      once = λ s.
+          let is = chained.shared.once s in let a = times_append s (order_in nodes len) (slot ∷ []) in
+          let b = ap (times s) none_free in let e = ap (times s) none_left in let new = added.new in let grown = long_added in
+          grind (arith, nat_tests);
+      all = let is = chained.shared.all in let a = length_push (order_in nodes len) slot in let b = ap length none_free in let e = ap length none_left in let grown = long_added in omega (arith, is, a, b, e, grown);
+      most = let a = long_added in let b = added.none in omega (arith, a, b, few_yet);
+    }
+
+  fresh_slot : IsTaken nodes free len node n0 next slot → Fresh nodes n0 (order_in nodes len) (left_in nodes n0 next len) node slot
+  fresh_slot taken = ⊎_elim fresh_reused fresh_added taken
+
+  shared_with : IsTaken nodes free len node n0 next slot → AreShared (0 ∷ ((order_in nodes len) ++ slot ∷ [])) (left_in nodes n0 next len) (length n0) (room + 1)
+  shared_with taken = ⊎_elim shared_reused shared_added taken
+
+  -- the slots that are free now were free before
+  free_before : IsTaken nodes free len node n0 next slot → (s : ℕ) → 1 ≤ times s (left_in nodes n0 next len) → 1 ≤ times s (free_in nodes free len)
+  free_before taken s some = ⊎_elim
+      (λ reused. let b = ap (times s) (free_split reused) in omega (arith, b, some))
+      (λ added. let b = ap (times s) (none_left added) in absurd (omega (arith, b, some)))
+      taken
+
+  module _ (taken : IsTaken nodes free len node n0 next slot) where
+    is : Fresh nodes n0 (order_in nodes len) (left_in nodes n0 next len) node slot
+    is = fresh_slot taken
+
+    pub slot_fresh : slot < length n0
+    slot_fresh = is.here
+
+    pub last_fresh : (before_of nodes 0) < length n0
+    last_fresh = let a = is.more in let b = last_inside chained in omega (arith, a, b)
+
+    slot_n1 : slot < length (end_in nodes n0 slot)
+    slot_n1 = let a = length_linked n0 (before_of nodes 0) slot in let b = is.here in omega (arith, a, b)
+
+    zero_n1 : 0 < length (end_in nodes n0 slot)
+    zero_n1 = let b = slot_n1 in omega (arith, b)
+
+    entered_long : length (entered_in nodes n0 slot) ≡ length n0
+    entered_long = length_linked (end_in nodes n0 slot) slot 0 ∙ length_linked n0 (before_of nodes 0) slot
+
+    order_long : length (order_in nodes len ++ slot ∷ []) ≡ len + 1
+    order_long = let a = length_push (order_in nodes len) slot in let b = long chained in omega (arith, a, b)
+
+    last_is : (before_of nodes 0) ≡ get_or (0 ∷ (order_in nodes len)) len 0
+    last_is = let a = long chained in ap (before_of nodes) (sym (get_or_past (order_in nodes len) len 0 (omega (arith, a)))) ∙ chained.linked.before len (omega (arith, a))
+
+    -- a slot that was there or is free isn't the new one
+    not_slot : (j : ℕ) → 1 ≤ times j (0 ∷ (order_in nodes len)) + times j (left_in nodes n0 next len) → j ≢ slot
+    not_slot j some same =
+        let none = is.none in
+        let too : 1 ≤ times slot (0 ∷ (order_in nodes len)) + times slot (left_in nodes n0 next len) = subst (λ s. 1 ≤ times s (0 ∷ (order_in nodes len)) + times s (left_in nodes n0 next len)) same some in
+        absurd (omega (arith, none, too))
+
+    ring_old : (k : ℕ) → k ≤ len → 1 ≤ times (get_or (0 ∷ (order_in nodes len)) k 0) (0 ∷ (order_in nodes len)) + times (get_or (0 ∷ (order_in nodes len)) k 0) (left_in nodes n0 next len)
+    ring_old k k_in = let a = long chained in let there = times_at (0 ∷ (order_in nodes len)) k (omega (arith, k_in, a)) in omega (arith, there)
+
+    zero_old : 1 ≤ times 0 (0 ∷ (order_in nodes len)) + times 0 (left_in nodes n0 next len)
+    zero_old = ring_old 0 (omega arith)
+
+    same_ring : (k : ℕ) → k ≤ len → get_or (0 ∷ (order_in nodes len ++ slot ∷ [])) k 0 ≡ get_or (0 ∷ (order_in nodes len)) k 0
+    same_ring k k_in = let a = long chained in get_or_append_left (0 ∷ (order_in nodes len)) (slot ∷ []) 0 k (omega (arith, k_in, a))
+
+    same_order : (k : ℕ) → k < len → get_or (order_in nodes len ++ slot ∷ []) k 0 ≡ get_or (order_in nodes len) k 0
+    same_order k k_in = let a = long chained in get_or_append_left (order_in nodes len) (slot ∷ []) 0 k (omega (arith, k_in, a))
+
+    order_last : get_or (order_in nodes len ++ slot ∷ []) len 0 ≡ slot
+    order_last = get_or_push (order_in nodes len) slot 0 len (long chained)
+
+    order_past : get_or (order_in nodes len ++ slot ∷ []) (len + 1) 0 ≡ 0
+    order_past = let a = order_long in get_or_past (order_in nodes len ++ slot ∷ []) (len + 1) 0 (omega (arith, a))
+
+    ring_last : get_or (0 ∷ (order_in nodes len ++ slot ∷ [])) (len + 1) 0 ≡ slot
+    ring_last = let e : len + 1 ≡ suc len = omega arith in ap (λ n. get_or (0 ∷ (order_in nodes len ++ slot ∷ [])) n 0) e ∙ order_last
+
+    -- what the nodes tell
+    after_new : after_of (entered_in nodes n0 slot) slot ≡ 0
+    after_new = after_here (end_in nodes n0 slot) slot 0 slot_n1 zero_n1
+
+    after_last : after_of (entered_in nodes n0 slot) (before_of nodes 0) ≡ slot
+    after_last =
+        after_else (end_in nodes n0 slot) slot 0 slot_n1 zero_n1 (before_of nodes 0) (subst (λ s. s ≢ slot) (sym last_is) (not_slot (get_or (0 ∷ (order_in nodes len)) len 0) (ring_old len (omega arith))))
+        ∙ after_here n0 (before_of nodes 0) slot last_fresh slot_fresh
+
+    after_old : (j : ℕ) → 1 ≤ times j (0 ∷ (order_in nodes len)) + times j (left_in nodes n0 next len) → j ≢ (before_of nodes 0) → after_of (entered_in nodes n0 slot) j ≡ after_of nodes j
+    after_old j some other =
+        after_else (end_in nodes n0 slot) slot 0 slot_n1 zero_n1 j (not_slot j some) ∙ after_else n0 (before_of nodes 0) slot last_fresh slot_fresh j other ∙ ap (λ (n : Node). n.after) (is.same j some)
+
+    before_zero : before_of (entered_in nodes n0 slot) 0 ≡ slot
+    before_zero = before_here (end_in nodes n0 slot) slot 0 slot_n1 zero_n1
+
+    before_new : before_of (entered_in nodes n0 slot) slot ≡ (before_of nodes 0)
+    before_new = before_else (end_in nodes n0 slot) slot 0 slot_n1 zero_n1 slot (λ e. not_slot 0 zero_old (sym e)) ∙ before_here n0 (before_of nodes 0) slot last_fresh slot_fresh
+
+    before_old : (j : ℕ) → 1 ≤ times j (0 ∷ (order_in nodes len)) + times j (left_in nodes n0 next len) → j ≢ 0 → before_of (entered_in nodes n0 slot) j ≡ before_of nodes j
+    before_old j some other =
+        before_else (end_in nodes n0 slot) slot 0 slot_n1 zero_n1 j other ∙ before_else n0 (before_of nodes 0) slot last_fresh slot_fresh j (not_slot j some) ∙ ap (λ (n : Node). n.before) (is.same j some)
+
+    member_old : (j : ℕ) → 1 ≤ times j (0 ∷ (order_in nodes len)) + times j (left_in nodes n0 next len) → member_at (entered_in nodes n0 slot) j ≡ member_at nodes j
+    member_old j some = member_linked (end_in nodes n0 slot) slot 0 slot_n1 zero_n1 j ∙ member_linked n0 (before_of nodes 0) slot last_fresh slot_fresh j ∙ ap member_of (is.same j some)
+
+    linked_with : IsLinked (entered_in nodes n0 slot) (order_in nodes len ++ slot ∷ [])
+    linked_with = record {
+      after = λ k within. let a = order_long in ⊎_elim
+          (λ below. ap (after_of (entered_in nodes n0 slot)) (same_ring k (omega (arith, below)))
+          ∙ after_old (get_or (0 ∷ (order_in nodes len)) k 0) (ring_old k (omega (arith, below)))
+          (λ same. let b = long chained in let e = same_place (0 ∷ (order_in nodes len)) (once_in_ring chained) k len (omega (arith, below, b)) (omega (arith, b)) (same ∙ last_is) in omega (arith, below, e))
+          ∙ chained.linked.after k (let b = long chained in omega (arith, below, b)) ∙ sym (same_order k below))
+          (λ above. ⊎_elim
+          (λ (here : k ≡ len). ap (λ n. after_of (entered_in nodes n0 slot) (get_or (0 ∷ (order_in nodes len ++ slot ∷ [])) n 0)) here ∙ ap (after_of (entered_in nodes n0 slot)) (same_ring len (omega arith) ∙ sym last_is) ∙ after_last ∙ sym (ap (λ n. get_or (order_in nodes len ++ slot ∷ []) n 0) here ∙ order_last))
+          (λ more. let end : k ≡ len + 1 = omega (arith, above, more, within, a) in
+          ap (λ n. after_of (entered_in nodes n0 slot) (get_or (0 ∷ (order_in nodes len ++ slot ∷ [])) n 0)) end ∙ ap (after_of (entered_in nodes n0 slot)) ring_last ∙ after_new ∙ sym (ap (λ n. get_or (order_in nodes len ++ slot ∷ []) n 0) end ∙ order_past))
+          (cases_eq k len))
+          (cases_lt k len);
+      before = λ k within. let a = order_long in ⊎_elim
+          (λ below. let b = long chained in
+          ap (before_of (entered_in nodes n0 slot)) (same_order k below)
+          ∙ before_old (get_or (order_in nodes len) k 0) (ring_old (suc k) (omega (arith, below))) (not_end (apart chained) k (omega (arith, below, b)))
+          ∙ chained.linked.before k (omega (arith, below, b)) ∙ sym (same_ring k (omega (arith, below))))
+          (λ above. ⊎_elim
+          (λ (here : k ≡ len). ap (λ n. before_of (entered_in nodes n0 slot) (get_or (order_in nodes len ++ slot ∷ []) n 0)) here ∙ ap (before_of (entered_in nodes n0 slot)) order_last ∙ before_new ∙ last_is ∙ sym (ap (λ n. get_or (0 ∷ (order_in nodes len ++ slot ∷ [])) n 0) here ∙ same_ring len (omega arith)))
+          (λ more. let end : k ≡ len + 1 = omega (arith, above, more, within, a) in
+          ap (λ n. before_of (entered_in nodes n0 slot) (get_or (order_in nodes len ++ slot ∷ []) n 0)) end ∙ ap (before_of (entered_in nodes n0 slot)) order_past ∙ before_zero ∙ sym (ap (λ n. get_or (0 ∷ (order_in nodes len ++ slot ∷ [])) n 0) end ∙ ring_last))
+          (cases_eq k len))
+          (cases_lt k len);
+    }
+
+    pub order_with : order_in (entered_in nodes n0 slot) (len + 1) ≡ (order_in nodes len ++ slot ∷ [])
+    order_with = ap (order_in (entered_in nodes n0 slot)) (sym order_long) ∙ order_is (entered_in nodes n0 slot) 0 (order_in nodes len ++ slot ∷ []) (λ k k_in. linked_with.after k (omega (arith, k_in)))
+
+    free_with : free_in (entered_in nodes n0 slot) next (len + 1) ≡ (left_in nodes n0 next len)
+    free_with = ap (λ m. order_from (entered_in nodes n0 slot) next (m - 1 - (len + 1))) entered_long
+        ∙ order_same nodes (entered_in nodes n0 slot) next (length n0 - 1 - (len + 1)) (λ j some. after_old j (omega (arith, some))
+        (λ same.
+        let one = at_most_once (shared_with taken) j in
+        let there = ring_old len (omega arith) in
+        let used : 1 ≤ times j (0 ∷ (order_in nodes len)) = subst (λ s. 1 ≤ times s (0 ∷ (order_in nodes len))) (sym (same ∙ last_is)) (times_at (0 ∷ (order_in nodes len)) len (let b = long chained in omega (arith, b))) in
+        let split = times_append j (order_in nodes len) (slot ∷ []) in
+        absurd (omega (arith, one, used, some, split))))
+
+    pub chained_with : IsChained (entered_in nodes n0 slot) capacity next (len + 1) room
+    chained_with = record {
+      shared = subst (λ o. AreShared (0 ∷ o) (free_in (entered_in nodes n0 slot) next (len + 1)) (length (entered_in nodes n0 slot)) (room + 1)) (sym order_with)
+          (subst (λ f. AreShared (0 ∷ (order_in nodes len ++ slot ∷ [])) f (length (entered_in nodes n0 slot)) (room + 1)) (sym free_with)
+          (subst (λ m. AreShared (0 ∷ (order_in nodes len ++ slot ∷ [])) (left_in nodes n0 next len) m (room + 1)) (sym entered_long) (shared_with taken)));
+      linked = subst (IsLinked (entered_in nodes n0 slot)) (sym order_with) linked_with;
+      freed = λ s some.
+          let there : 1 ≤ times s (left_in nodes n0 next len) = subst (λ f. 1 ≤ times s f) free_with some in
+          let was = free_before taken s there in
+          before_old s (omega (arith, there)) (λ e.
+          let one = at_most_once chained.shared 0 in
+          let too : 1 ≤ times 0 (free_in nodes free len) = subst (λ t. 1 ≤ times t (free_in nodes free len)) e was in
+          let first = times_at (0 ∷ (order_in nodes len)) 0 (omega arith) in
+          absurd (omega (arith, one, too, first)))
+          ∙ chained.freed s was;
+      has_room = chained.has_room;
+      short = chained.short;
+    }
+
+    pub members_with : map (member_at (entered_in nodes n0 slot)) (order_in (entered_in nodes n0 slot) (len + 1)) ≡ map (member_at nodes) (order_in nodes len) ++ member_of node ∷ []
+    members_with =
+        ap (map (member_at (entered_in nodes n0 slot))) order_with
+        ∙ map-append (member_at (entered_in nodes n0 slot)) (order_in nodes len) (slot ∷ [])
+        ∙ ap (λ r. r ++ member_at (entered_in nodes n0 slot) slot ∷ []) (members_same nodes (entered_in nodes n0 slot) (order_in nodes len) (λ j some. member_old j (omega (arith, some))))
+        ∙ ap (λ m. map (member_at nodes) (order_in nodes len) ++ m ∷ []) (member_linked (end_in nodes n0 slot) slot 0 slot_n1 zero_n1 slot ∙ member_linked n0 (before_of nodes 0) slot last_fresh slot_fresh slot ∙ ap member_of is.new)
+
+-- ---- a member is written in place
+
+module _ {nodes : List Node} {capacity free len room : ℕ} (is : IsChained nodes capacity free len room) (slot i : ℕ) (there : 1 ≤ times slot (order_in nodes len)) (at : i ≡ slot) (node : Node) (read : node ≡ get_or nodes i node)
+    (write : Node → Node) (same_after : (n : Node) → (write n).after ≡ n.after) (same_before : (n : Node) → (write n).before ≡ n.before) where
+  slot_there : slot < length nodes
+  slot_there = inside_order is.shared slot there
+
+  node_is : node ≡ node_at nodes slot
+  node_is = read ∙ get_or_default nodes i node BLANK_NODE (let a = slot_there in omega (arith, a, at)) ∙ ap (node_at nodes) at
+
+  pub chained_now : IsChained (set nodes i (write node)) capacity free len room
+  chained_now = subst (λ j. IsChained (set nodes j (write node)) capacity free len room) (sym at)
+      (chained_written is slot (write node) slot_there (same_after node ∙ ap (λ (n : Node). n.after) node_is) (same_before node ∙ ap (λ (n : Node). n.before) node_is))
+
+  pub view_now : (change : Member → Member) → ((n : Node) → member_of (write n) ≡ change (member_of n)) → (v : Chained) → chained (order_in nodes len) (map (member_at nodes) (order_in nodes len)) room ≡ v
+      → (k : ℕ) (d : Member) → k < length v.slots → get_or v.slots k 0 ≡ slot
+      → chained (order_in (set nodes i (write node)) len) (map (member_at (set nodes i (write node))) (order_in (set nodes i (write node)) len)) room ≡ record v { members = set v.members k (change (get_or v.members k d)) }
+  view_now change changed v view k d l here =
+      let slots = order_in nodes len in
+      let k_in : k < length slots = subst (λ (w : Chained). k < length w.slots) (sym view) l in
+      let found : get_or slots k 0 ≡ slot = ap (λ (w : Chained). get_or w.slots k 0) view ∙ here in
+      let a : (write node).after ≡ after_of nodes slot = same_after node ∙ ap (λ (n : Node). n.after) node_is in
+      let b : (write node).before ≡ before_of nodes slot = same_before node ∙ ap (λ (n : Node). n.before) node_is in
+      let ns : List Node = set nodes slot (write node) in
+      let members : map (member_at ns) (order_in ns len) ≡ set (map (member_at nodes) slots) k (member_of (write node)) =
+      subst (λ s. map (member_at (set nodes s (write node))) (order_in (set nodes s (write node)) len) ≡ set (map (member_at nodes) slots) k (member_of (write node))) found
+      (members_written is (write node) k k_in (a ∙ ap (after_of nodes) (sym found)) (b ∙ ap (before_of nodes) (sym found))) in
+      let member : member_of (write node) ≡ change (get_or (map (member_at nodes) slots) k d) =
+      changed node ∙ ap (λ n. change (member_of n)) (node_is ∙ ap (node_at nodes) (sym found)) ∙ sym (ap change (get_or-map (member_at nodes) slots k 0 d k_in)) in
+      ap (λ j. chained (order_in (set nodes j (write node)) len) (map (member_at (set nodes j (write node))) (order_in (set nodes j (write node)) len)) room) at
+      ∙ ap (λ o. chained o (map (member_at ns) (order_in ns len)) room) (order_written is slot (write node) slot_there a b)
+      ∙ ap (λ ms. chained slots ms room) (members ∙ ap (set (map (member_at nodes) slots) k) member)
+      ∙ ap (λ (w : Chained). record w { members = set w.members k (change (get_or w.members k d)) }) view
+
+-- what stands before a slot that has a member is another slot
+pub slot_marked : {nodes : List Node} {capacity free len room : ℕ} → IsChained nodes capacity free len room → (slot : ℕ) → 1 ≤ times slot (order_in nodes len) → (slot < length nodes) × (before_of nodes slot < 65535)
+slot_marked {nodes} {len = len} is slot some =
+    let at = stands slot (order_in nodes len) some in
+    let low = before_in is at.place at.inside in
+    let most = within is in let short = is.short in
+    let before : before_of nodes (get_or (order_in nodes len) at.place 0) ≡ before_of nodes slot = ap (before_of nodes) at.there in
+    (inside_order is.shared slot some, omega (arith, low, most, short, before))

@@ -1,0 +1,111 @@
+-- What holds of every linked set, as its commands change.
+use Rattle.std.proofs.Common.{◌≡◌, ◌∙◌, ℕ, ℤ, ◌+◌, ◌<◌, ◌≤◌, ◌==◌, ◌&&◌, not, Bool, true, ⊎_elim, eq-eqb, ne_eqb, List, [], length, map, get_or, Some, refl, ap, sym, subst, arith}
+use Rattle.std.specs.List.{remove}
+use Rattle.std.proofs.lemmas.List.{length-map, get_or_past}
+use Rattle.iscsi_slots.specs.Slots.{times}
+use Rattle.iscsi_tasks.specs.declared.task.Task.{Task}
+use Rattle.iscsi_tasks.specs.declared.task.Attr.{Attr}
+use Rattle.iscsi_tasks.specs.declared.task.Attr.TheVariants.{Simple, Ordered, Head}
+use Rattle.iscsi_tasks.specs.declared.member.Member.{Member}
+use Rattle.iscsi_tasks.specs.declared.marks.Marks.{Marks}
+use Rattle.iscsi_tasks.specs.Rosters.{BLANK}
+use Rattle.iscsi_tasks.specs.Sets.{InOrder, after_moment, looked_at, without, with_ticket, is_enabled_in}
+use Rattle.iscsi_tasks.specs.Counted.{IsCoveredFrom, IsSettled, IsAscendingTo, is_free_behind, is_ordered_in}
+use Rattle.iscsi_tasks.specs.Marked.{IsMarked, IsKeptLinked, HasTicket, is_free_by}
+use Rattle.std.proofs.lemmas.Bool.{cases_lt}
+use Rattle.iscsi_tasks.proofs.ChainLemmas.{not_end}
+use Rattle.iscsi_tasks.proofs.CountLemmas.{counted_none_yet, first-le}
+use Rattle.iscsi_tasks.proofs.CoveredFromLemmas.{covered_from_left}
+use Rattle.iscsi_tasks.proofs.FrontLemmas.{ascending_none, ascending_left}
+use Rattle.iscsi_tasks.proofs.MarkedLemmas.{some_at}
+use Rattle.iscsi_tasks.proofs.MomentLemmas.{settled_after}
+use Rattle.iscsi_tasks.proofs.SearchLemmas.{remove_is, found, enabled_at}
+use Rattle.iscsi_tasks.proofs.StayingLemmas.{filter-shorter}
+
+pub marked_none_yet : IsMarked (record { heads = 0; ordered = 0; dormant = 0; new_from = 0; new_to = 0 }) [] []
+marked_none_yet = record {
+  counts = record { heads = 0; ordered_at = 0; enabled_to = 0; new_from = 0; new_to = 0 };
+  counted = counted_none_yet;
+  heads = refl;
+  ordered = refl;
+  dormant = refl;
+  new_from = refl;
+  new_to = refl;
+  apart = record { once = λ s. omega arith; some = refl };
+  long = refl;
+}
+
+pub kept_none_yet : (depth : ℕ) (number most : ℤ) → 1 ≤ depth → depth ≤ 1024 → IsKeptLinked depth depth number true most (record { heads = 0; ordered = 0; dormant = 0; new_from = 0; new_to = 0 }) [] []
+unfolding marked_none_yet
+kept_none_yet depth number most least few = record {
+  marked = marked_none_yet;
+  kept = record {
+    kept = record {
+      least = least;
+      within = omega arith;
+      room_left = omega arith;
+      most = few;
+      counted = counted_none_yet;
+      settled = λ k d l. absurd (omega (arith, l));
+      covered_from = λ cover below k d l. absurd (omega (arith, l));
+    };
+    front = λ yes. ascending_none most;
+  };
+}
+
+-- a command that enters is free by the marks where it is by the counts
+pub free_is : {m : Marks} {slots : List ℕ} {list : List Member} (marked : IsMarked m slots list) (attr : Attr) → is_free_by m (length list) attr ≡ is_free_behind marked.counts (length list) attr
+free_is marked Head = refl
+free_is marked Ordered = refl
+free_is {m} {slots} {list} marked Simple =
+    let le = first-le is_ordered_in list in let is = marked.counted.ordered_at in let long = marked.long in
+    ap (λ n. n == 0 && (m.ordered == 0)) marked.heads
+    ∙ ap (λ b. (marked.counts.heads == 0) && b) (⊎_elim
+    (λ below. ne_eqb m.ordered 0 (λ none. not_end marked.apart marked.counts.ordered_at below (sym marked.ordered ∙ none)) ∙ sym (ne_eqb marked.counts.ordered_at (length list) (λ e. omega (arith, e, below, long))))
+    (λ past. eq-eqb m.ordered 0 (marked.ordered ∙ get_or_past slots marked.counts.ordered_at 0 past) ∙ sym (eq-eqb marked.counts.ordered_at (length list) (omega (arith, past, le, is, long))))
+    (cases_lt marked.counts.ordered_at (length slots)))
+
+-- ---- the command with a ticket leaves
+
+module _ {depth room : ℕ} {number : ℤ} {ascends : Bool} {most : ℤ} {m : Marks} {slots : List ℕ} {list : List Member} (kept : IsKeptLinked depth room number ascends most m slots list) (ticket slot : ℕ) (at : HasTicket slots list ticket slot) where
+  pub place_in : at.place < length slots
+  place_in = let l = at.inside in let long = kept.marked.long in omega (arith, l, long)
+
+  pub slot_there : 1 ≤ times slot slots
+  slot_there = some_at slots at.place slot place_in at.there
+
+  -- it is the one that was read
+  pub task_found : (one : Member) → ((k : ℕ) (d : Member) → k < length slots → get_or slots k 0 ≡ slot → one ≡ get_or list k d) → with_ticket ticket (map (λ x. x.task) list) ≡ Some one.task
+  task_found one read = found list kept.marked.counted.order ticket at.place at.inside at.ticket_is BLANK ∙ ap (λ (x : Member). Some x.task) (sym (read at.place BLANK place_in at.there))
+
+  pub enabled_found : (one : Member) → ((k : ℕ) (d : Member) → k < length slots → get_or slots k 0 ≡ slot → one ≡ get_or list k d) → one.enabled ≡ is_enabled_in ticket list
+  enabled_found one read = ap (λ (x : Member). x.enabled) (read at.place BLANK place_in at.there) ∙ enabled_at list kept.marked.counted.order ticket at.place at.inside at.ticket_is BLANK
+
+  pub ticket_read : (one : Member) → ((k : ℕ) (d : Member) → k < length slots → get_or slots k 0 ≡ slot → one ≡ get_or list k d) → one.task.ticket ≡ ticket
+  ticket_read one read = ap (λ (x : Member). x.task.ticket) (read at.place BLANK place_in at.there) ∙ at.ticket_is BLANK
+
+  -- what is left of the set
+  pub left_is : (now : List Member) → ((k : ℕ) → k < length slots → get_or slots k 0 ≡ slot → now ≡ after_moment (remove list k)) → now ≡ after_moment (without ticket list)
+  left_is now is = is at.place place_in at.there ∙ ap after_moment (remove_is list at.place BLANK kept.marked.counted.order at.inside ∙ ap (λ t. without t list) (at.ticket_is BLANK))
+
+  pub kept_left : {after : Marks} {slots_after : List ℕ} {now : List Member} {room_after : ℕ} → IsMarked after slots_after now → now ≡ after_moment (without ticket list) → room_after ≡ room → IsKeptLinked depth room_after number ascends most after slots_after now
+  kept_left {now = now} marked is same =
+      let was = kept.kept.kept in
+      let short = filter-shorter (λ (x : Member). not (x.task.ticket == ticket)) list in
+      let long = ap length is in let mapped = length-map (without ticket list) (looked_at (without ticket list)) in
+      let within = was.within in let left = was.room_left in
+      record {
+        marked = marked;
+        kept = record {
+          kept = record {
+            least = was.least;
+            within = omega (arith, short, long, mapped, within);
+            room_left = omega (arith, left, same);
+            most = was.most;
+            counted = marked.counted;
+            settled = subst IsSettled (sym is) (settled_after (without ticket list));
+            covered_from = subst (λ (l : List Member). IsCoveredFrom number (map (λ x. x.task) l)) (sym is) (covered_from_left number list ticket was.covered_from);
+          };
+          front = λ yes. subst (IsAscendingTo most) (sym is) (ascending_left most list ticket (kept.kept.front yes));
+        };
+      }

@@ -1,0 +1,277 @@
+-- The marks of a linked set stay right.
+use Rattle.std.proofs.Common.{◌≡◌, ◌≢◌, ℕ, zero, suc, ◌+◌, ◌-◌, ◌<◌, ◌≤◌, ◌==◌, ◌&&◌, not, nat_lt, lt-ltb, le-ltb, cond, max, min, Bool, true, false, List, [], ◌∷◌, ◌++◌, length, map, take, drop, set, get_or, position, All, Some, None, refl, ap, sym, subst, ◌∙◌, arith, ⊎_elim, eq-eqb, ne_eqb, eqb-true}
+use Rattle.std.specs.List.{position_or_len, remove}
+use Rattle.std.proofs.lemmas.Bool.{cases_Bool, cases_eq, cases_lt}
+use Rattle.std.proofs.lemmas.List.{get_or_past, get_or_push, get_or_append_left, get_or_default, length_push, length-set}
+use Rattle.std.proofs.lemmas.List.Edits.{length-remove, get_or-remove_below, get_or-remove_above}
+use Rattle.std.proofs.lemmas.List.Quantifiers.{position-Some}
+use Rattle.iscsi_slots.specs.Slots.{times}
+use Rattle.iscsi_slots.proofs.SlotLemmas.{times_at, times_remove}
+use Rattle.iscsi_tasks.specs.declared.task.Attr.{Attr}
+use Rattle.iscsi_tasks.specs.declared.member.Member.{Member}
+use Rattle.iscsi_tasks.specs.declared.counts.Counts.{Counts}
+use Rattle.iscsi_tasks.specs.declared.marks.Marks.{Marks}
+use Rattle.iscsi_tasks.specs.Rules.{is_head_of, is_ordered_of}
+use Rattle.iscsi_tasks.specs.Sets.{is_new}
+use Rattle.iscsi_tasks.specs.Counted.{IsCounted, is_head_in, is_ordered_in, plus_one_if, shifted_by, with_last, without_one, with_enabled, enabled_now, given_now}
+use Rattle.iscsi_tasks.specs.Chains.{AreApart}
+use Rattle.iscsi_tasks.specs.Marked.{IsMarked, IsPastNone, IsFirstNew, moved_off, pushed_by, left_by, enabled_by, is_none_marked}
+use Rattle.iscsi_tasks.proofs.ChainLemmas.{not_end, same_to_end}
+use Rattle.iscsi_tasks.proofs.CountLemmas.{first-le, counted_push, shifted_cases, ordered_shifted, one_less, counted_remove, enabled_up_to, parts-length, counted_enabled, counted_none, counted_given}
+
+pub some_at : (slots : List ℕ) (k slot : ℕ) → k < length slots → get_or slots k 0 ≡ slot → 1 ≤ times slot slots
+some_at slots k slot l at = subst (λ s. 1 ≤ times s slots) at (times_at slots k l)
+
+-- where a slot that is no end stands, there is a place
+pub within_some : (slots : List ℕ) (k slot : ℕ) → slot ≡ get_or slots k 0 → slot ≢ 0 → k < length slots
+within_some slots k slot at some = ⊎_elim (λ below. below) (λ past. absurd (some (at ∙ get_or_past slots k 0 past))) (cases_lt k (length slots))
+
+-- ---- other places between which the new ones are
+
+pub ranged : (c : Counts) (list : List Member) → IsCounted c list → (f t : ℕ) → t ≤ length list → ((k : ℕ) (d : Member) → k < length list → is_new (get_or list k d) ≡ true → (f ≤ k) × (k < t)) → IsCounted (record c { new_from = f; new_to = t }) list
+ranged c list counted f t within between = record {
+  order = counted.order;
+  heads = counted.heads;
+  ordered_at = counted.ordered_at;
+  enabled_to = counted.enabled_to;
+  enabled = counted.enabled;
+  heads_enabled = counted.heads_enabled;
+  new_to = within;
+  new = between;
+}
+
+-- ---- a command enters
+
+module _ (slots : List ℕ) (s : ℕ) (apart : AreApart slots) where
+  at_old : (p : ℕ) → p < length slots → get_or (slots ++ s ∷ []) p 0 ≡ get_or slots p 0
+  at_old p l = get_or_append_left slots (s ∷ []) 0 p l
+
+  at_new : get_or (slots ++ s ∷ []) (length slots) 0 ≡ s
+  at_new = get_or_push slots s 0 (length slots) refl
+
+  at_end : (p : ℕ) → length slots < p → get_or (slots ++ s ∷ []) p 0 ≡ 0
+  at_end p l = let long = length_push slots s in get_or_past (slots ++ s ∷ []) p 0 (omega (arith, l, long))
+
+  -- a mark that is the end moves to the new slot where it should
+  mark_push : (at mark : ℕ) (b : Bool) → at ≤ length slots → mark ≡ get_or slots at 0 → cond (mark == 0 && b) s mark ≡ get_or (slots ++ s ∷ []) (plus_one_if (at == length slots && not b) at) 0
+  mark_push at mark b within is = ⊎_elim
+      (λ below.
+      let some : (mark == 0) ≡ false = ne_eqb mark 0 (λ e. not_end apart at below (sym is ∙ e)) in
+      let before : (at == length slots) ≡ false = ne_eqb at (length slots) (λ e. omega (arith, e, below)) in
+      ap (λ t. cond (t && b) s mark) some ∙ is ∙ sym (ap (λ t. get_or (slots ++ s ∷ []) (plus_one_if (t && not b) at) 0) before ∙ at_old at below))
+      (λ past.
+      let end : at ≡ length slots = omega (arith, past, within) in
+      let none : mark ≡ 0 = is ∙ get_or_past slots at 0 past in
+      ap (λ t. cond (t && b) s mark) (eq-eqb mark 0 none) ∙ last at mark b end none
+      ∙ sym (ap (λ t. get_or (slots ++ s ∷ []) (plus_one_if (t && not b) at) 0) (eq-eqb at (length slots) end)))
+      (cases_lt at (length slots))
+    where
+      last : (at mark : ℕ) (b : Bool) → at ≡ length slots → mark ≡ 0 → cond (true && b) s mark ≡ get_or (slots ++ s ∷ []) (plus_one_if (true && not b) at) 0
+      last at mark true end none = sym (ap (λ n. get_or (slots ++ s ∷ []) n 0) end ∙ at_new)
+      last at mark false end none = none ∙ sym (at_end (at + 1) (omega (arith, end)))
+
+  -- a place, where those at the end or behind it stay behind all
+  abbrev bumped : ℕ → ℕ
+  bumped p = cond (nat_lt p (length slots)) p (length slots + 1)
+
+  bumped_cases : (P : ℕ → Type 0) (p : ℕ) → (p < length slots → P p) → (length slots ≤ p → P (length slots + 1)) → P (bumped p)
+  bumped_cases P p below past = ⊎_elim
+      (λ l. subst P (sym (ap (λ b. cond b p (length slots + 1)) (lt-ltb p (length slots) l))) (below l))
+      (λ l. subst P (sym (ap (λ b. cond b p (length slots + 1)) (le-ltb p (length slots) l))) (past l))
+      (cases_lt p (length slots))
+
+  mark_stays : (p mark : ℕ) → mark ≡ get_or slots p 0 → mark ≡ get_or (slots ++ s ∷ []) (bumped p) 0
+  mark_stays p mark is = bumped_cases (λ n. mark ≡ get_or (slots ++ s ∷ []) n 0) p
+      (λ below. is ∙ sym (at_old p below))
+      (λ past. is ∙ get_or_past slots p 0 past ∙ sym (at_end (length slots + 1) (omega arith)))
+
+twice_not : (b : Bool) → not (not b) ≡ b
+twice_not true = refl
+twice_not false = refl
+
+pub marked_push : {m : Marks} {slots : List ℕ} {list : List Member} (marked : IsMarked m slots list) (one : Member) (s : ℕ) → AreApart (slots ++ s ∷ []) → All (λ x. x.task.ticket < one.task.ticket) list → (is_head_in one ≡ true → one.enabled ≡ true)
+    → IsMarked (pushed_by m one.task.attr one.enabled one.given s (get_or (slots ++ s ∷ []) 0 0)) (slots ++ s ∷ []) (list ++ one ∷ [])
+marked_push {m} {slots} {list} marked one s apart newest head =
+    let c : Counts = marked.counts in
+    let pushed = counted_push c list marked.counted one newest head in
+    let long = marked.long in
+    let grown : length (list ++ one ∷ []) ≡ length list + 1 = length_push list one in
+    let same : IsCounted (with_last c (length slots) one) (list ++ one ∷ []) = subst (λ n. IsCounted (with_last c n one) (list ++ one ∷ [])) (sym long) pushed in
+    let ordered_in : c.ordered_at ≤ length slots = let le = first-le is_ordered_in list in let is = marked.counted.ordered_at in omega (arith, le, is, long) in
+    let enabled_in : c.enabled_to ≤ length slots = let le = marked.counted.enabled_to in omega (arith, le, long) in
+    let ordered = mark_push slots s marked.apart c.ordered_at m.ordered (is_ordered_of one.task.attr) ordered_in marked.ordered in
+    let dormant : cond (m.dormant == 0 && not one.enabled) s m.dormant ≡ get_or (slots ++ s ∷ []) (plus_one_if (c.enabled_to == length slots && one.enabled) c.enabled_to) 0 =
+    mark_push slots s marked.apart c.enabled_to m.dormant (not one.enabled) enabled_in marked.dormant
+    ∙ ap (λ b. get_or (slots ++ s ∷ []) (plus_one_if (c.enabled_to == length slots && b) c.enabled_to) 0) (twice_not one.enabled) in
+    ⊎_elim
+    (λ (new : is_new one ≡ true). record {
+      counts = record (with_last c (length slots) one) { new_from = 0; new_to = length list + 1 };
+      counted = ranged (with_last c (length slots) one) (list ++ one ∷ []) same 0 (length list + 1) (omega (arith, grown)) (λ k d l is. (omega arith, omega (arith, l, grown)));
+      heads = ap (plus_one_if (is_head_of one.task.attr)) marked.heads;
+      ordered = ordered;
+      dormant = dormant;
+      new_from = ap (λ b. cond b (get_or (slots ++ s ∷ []) 0 0) m.new_from) new;
+      new_to = ap (λ b. cond b 0 m.new_to) new ∙ sym (at_end slots s marked.apart (length list + 1) (omega (arith, long)));
+      apart = apart;
+      long = let a = length_push slots s in omega (arith, a, grown, long);
+    })
+    (λ (old : is_new one ≡ false). record {
+      counts = record (with_last c (length slots) one) { new_from = bumped slots s marked.apart c.new_from; new_to = bumped slots s marked.apart c.new_to };
+      counted = ranged (with_last c (length slots) one) (list ++ one ∷ []) same (bumped slots s marked.apart c.new_from) (bumped slots s marked.apart c.new_to)
+          (bumped_cases slots s marked.apart (λ n. n ≤ length (list ++ one ∷ [])) c.new_to (λ below. omega (arith, below, long, grown)) (λ past. omega (arith, long, grown)))
+          (λ k d l is.
+          let was : (c.new_from ≤ k) × (k < c.new_to) = (
+            subst (λ b. cond b (cond (c.new_from == c.new_to) (length slots) (min c.new_from (length slots))) c.new_from ≤ k) old (same.new k d l is).0,
+            subst (λ b. k < cond b (length slots + 1) c.new_to) old (same.new k d l is).1,
+          ) in
+          let most = marked.counted.new_to in (
+            bumped_cases slots s marked.apart (λ n. n ≤ k) c.new_from (λ below. was.0) (λ past. absurd (omega (arith, past, was.0, was.1, most, long))),
+            bumped_cases slots s marked.apart (λ n. k < n) c.new_to (λ below. was.1) (λ past. omega (arith, past, was.1, most, long)),
+          ));
+      heads = ap (plus_one_if (is_head_of one.task.attr)) marked.heads;
+      ordered = ordered;
+      dormant = dormant;
+      new_from = ap (λ b. cond b (get_or (slots ++ s ∷ []) 0 0) m.new_from) old ∙ mark_stays slots s marked.apart c.new_from m.new_from marked.new_from;
+      new_to = ap (λ b. cond b 0 m.new_to) old ∙ mark_stays slots s marked.apart c.new_to m.new_to marked.new_to;
+      apart = apart;
+      long = let a = length_push slots s in omega (arith, a, grown, long);
+    })
+    (cases_Bool (is_new one))
+
+-- ---- a command leaves
+
+module _ (slots : List ℕ) (apart : AreApart slots) (p : ℕ) (l : p < length slots) (slot next : ℕ) (slot_is : get_or slots p 0 ≡ slot) (next_is : next ≡ get_or slots (p + 1) 0) where
+  pub apart_left : AreApart (remove slots p)
+  apart_left = record {
+    once = λ s. let one = apart.once s in let a = times_remove s slots p l in omega (arith, one, a);
+    some = let none = apart.some in let a = times_remove 0 slots p l in omega (arith, none, a);
+  }
+
+  pub mark_left : (at mark : ℕ) → mark ≡ get_or slots at 0 → moved_off mark slot next ≡ get_or (remove slots p) (shifted_by p at) 0
+  mark_left at mark is = ⊎_elim
+      (λ case. ap (λ b. cond b next mark) (ne_eqb mark slot (other at mark is (λ e. omega (arith, e, case.0)))) ∙ is
+      ∙ sym (ap (λ n. get_or (remove slots p) n 0) case.1 ∙ get_or-remove_above slots p 0 (at - 1) (omega (arith, case.0)) l ∙ ap (λ n. get_or slots n 0) (let e : at - 1 + 1 ≡ at = omega (arith, case.0) in e)))
+      (λ case. ⊎_elim
+      (λ (here : at ≡ p). ap (λ b. cond b next mark) (eq-eqb mark slot (is ∙ ap (λ n. get_or slots n 0) here ∙ slot_is)) ∙ next_is
+      ∙ sym (ap (λ n. get_or (remove slots p) n 0) (case.1 ∙ here) ∙ get_or-remove_above slots p 0 p (omega arith) l))
+      (λ apart_from. ap (λ b. cond b next mark) (ne_eqb mark slot (other at mark is apart_from)) ∙ is
+      ∙ sym (ap (λ n. get_or (remove slots p) n 0) case.1 ∙ get_or-remove_below slots p 0 at (omega (arith, case.0, apart_from)) l))
+      (cases_eq at p))
+      (shifted_cases p at)
+    where
+      -- a mark of another place is another slot
+      other : (at mark : ℕ) → mark ≡ get_or slots at 0 → at ≢ p → mark ≢ slot
+      other at mark is apart_from same = ⊎_elim
+          (λ below. apart_from (same_to_end apart at p (omega (arith, below)) (omega (arith, l)) (sym is ∙ same ∙ sym slot_is)))
+          (λ past. not_end apart p l (slot_is ∙ sym same ∙ is ∙ get_or_past slots at 0 past))
+          (cases_lt at (length slots))
+
+module _ {m : Marks} {slots : List ℕ} {list : List Member} (marked : IsMarked m slots list) (p : ℕ) (l : p < length slots) (slot next : ℕ) (slot_is : get_or slots p 0 ≡ slot) (next_is : next ≡ get_or slots (p + 1) 0) where
+  in_list : p < length list
+  in_list = let a = marked.long in omega (arith, a, l)
+
+  -- no ORDERED command is before the mark that is left
+  pub past_none : IsPastNone (remove slots p) (remove list p) (moved_off m.ordered slot next)
+  past_none =
+      let shifted = ordered_shifted list p in_list marked.counts.ordered_at marked.counted.ordered_at in
+      record {
+        place = shifted_by p marked.counts.ordered_at;
+        within = shifted.0;
+        there = mark_left slots marked.apart p l slot next slot_is next_is marked.counts.ordered_at m.ordered marked.ordered;
+        none = shifted.1;
+      }
+
+  pub one_head : (d : Member) (attr : Attr) → attr ≡ (get_or list p d).task.attr → is_head_of attr ≡ true → 0 < m.heads
+  one_head d attr is head = let some = (one_less list p in_list marked.counts d attr marked.counted.heads is).0 head in let same = marked.heads in omega (arith, some, same)
+
+  pub marked_left : (d : Member) (attr : Attr) (ordered : ℕ) → attr ≡ (get_or list p d).task.attr → ordered ≡ get_or (remove slots p) (position_or_len is_ordered_in (remove list p)) 0 → IsMarked (left_by m slot next attr ordered) (remove slots p) (remove list p)
+  marked_left d attr ordered is first = record {
+    counts = without_one marked.counts p attr (position_or_len is_ordered_in (remove list p));
+    counted = counted_remove list p in_list marked.counts d attr (position_or_len is_ordered_in (remove list p)) marked.counted is refl;
+    heads = ap (λ n. cond (is_head_of attr) (n - 1) n) marked.heads;
+    ordered = first;
+    dormant = mark_left slots marked.apart p l slot next slot_is next_is marked.counts.enabled_to m.dormant marked.dormant;
+    new_from = mark_left slots marked.apart p l slot next slot_is next_is marked.counts.new_from m.new_from marked.new_from;
+    new_to = mark_left slots marked.apart p l slot next slot_is next_is marked.counts.new_to m.new_to marked.new_to;
+    apart = apart_left slots marked.apart p l slot next slot_is next_is;
+    long = let a = length-remove slots p l in let b = length-remove list p in_list in let e = marked.long in omega (arith, a, b, e);
+  }
+
+-- ---- commands are enabled, and tickets are given
+
+module _ {m : Marks} {slots : List ℕ} {list : List Member} (marked : IsMarked m slots list) where
+  pub none_marked : is_none_marked m ≡ true → All (λ x. is_new x ≡ false) list
+  none_marked none k d l = ⊎_elim
+      (λ new.
+      let at = marked.counted.new k d l new in
+      let most = marked.counted.new_to in let long = marked.long in
+      let same = same_to_end marked.apart marked.counts.new_from marked.counts.new_to (omega (arith, at.0, l, long)) (omega (arith, most, long)) (sym marked.new_from ∙ eqb-true m.new_from m.new_to none ∙ marked.new_to) in
+      absurd (omega (arith, at.0, at.1, same)))
+      (λ old. old)
+      (cases_Bool (is_new (get_or list k d)))
+
+  pub marked_enabled : (to end oldest : ℕ) → marked.counts.enabled_to < to → to ≤ length list → end ≡ get_or slots to 0 → oldest ≡ get_or slots 0 0 → IsMarked (enabled_by m end oldest) slots (enabled_up_to to list)
+  marked_enabled to end oldest more within end_is oldest_is =
+      let c : Counts = marked.counts in
+      let long = marked.long in
+      let kept = parts-length list to in
+      ⊎_elim
+      (λ (none : is_none_marked m ≡ true).
+      let c0 : Counts = record c { new_from = c.new_to } in
+      let counted = counted_enabled c0 list to (counted_none c list marked.counted (none_marked none)) more within in
+      let same : (c.new_to == c.new_to) ≡ true = eq-eqb c.new_to c.new_to refl in
+      record {
+        counts = record (with_enabled c0 to) { new_from = c.enabled_to; new_to = to };
+        counted = ranged (with_enabled c0 to) (enabled_up_to to list) counted c.enabled_to to (omega (arith, kept, within))
+            (λ k d l new. (
+              subst (λ b. cond b c.enabled_to (min c.new_to c.enabled_to) ≤ k) same (counted.new k d l new).0,
+              subst (λ b. k < cond b to (max c.new_to to)) same (counted.new k d l new).1,
+            ));
+        heads = marked.heads;
+        ordered = marked.ordered;
+        dormant = end_is;
+        new_from = ap (λ b. cond b m.dormant oldest) none ∙ marked.dormant;
+        new_to = ap (λ b. cond b end 0) none ∙ end_is;
+        apart = marked.apart;
+        long = omega (arith, long, kept);
+      })
+      (λ (some : is_none_marked m ≡ false).
+      let counted = counted_enabled c list to marked.counted more within in
+      record {
+        counts = record (with_enabled c to) { new_from = 0; new_to = length list };
+        counted = ranged (with_enabled c to) (enabled_up_to to list) counted 0 (length list) (omega (arith, kept)) (λ k d l new. (omega arith, omega (arith, l, kept)));
+        heads = marked.heads;
+        ordered = marked.ordered;
+        dormant = end_is;
+        new_from = ap (λ b. cond b m.dormant oldest) some ∙ oldest_is;
+        new_to = ap (λ b. cond b end 0) some ∙ sym (get_or_past slots (length list) 0 (omega (arith, long)));
+        apart = marked.apart;
+        long = omega (arith, long, kept);
+      })
+      (cases_Bool (is_none_marked m))
+
+  pub marked_none : All (λ x. is_new x ≡ false) list → IsMarked (record m { new_from = m.new_to }) slots list
+  marked_none none = record {
+    counts = record marked.counts { new_from = marked.counts.new_to };
+    counted = counted_none marked.counts list marked.counted none;
+    heads = marked.heads;
+    ordered = marked.ordered;
+    dormant = marked.dormant;
+    new_from = marked.new_to;
+    new_to = marked.new_to;
+    apart = marked.apart;
+    long = marked.long;
+  }
+
+  pub marked_given : (p next : ℕ) (one : Member) → p < length list → ((d : Member) → get_or list p d ≡ one) → ((k : ℕ) (d : Member) → k < p → is_new (get_or list k d) ≡ false) → next ≡ get_or slots (p + 1) 0 → IsMarked (record m { new_from = next }) slots (set list p (given_now one))
+  marked_given p next one l here before next_is = record {
+    counts = record marked.counts { new_from = p + 1 };
+    counted = counted_given marked.counts list p one marked.counted l here before;
+    heads = marked.heads;
+    ordered = marked.ordered;
+    dormant = marked.dormant;
+    new_from = next_is;
+    new_to = marked.new_to;
+    apart = marked.apart;
+    long = let a = length-set list p (given_now one) in let b = marked.long in omega (arith, a, b);
+  }

@@ -1,0 +1,19 @@
+use Rattle.std.proofs.Common.{◌≡◌, ◌≤◌, true, refl, sym, subst}
+use Rattle.iscsi_slots.specs.Slots.{times}
+use Rattle.iscsi_tasks.specs.declared.node.Node.{Node}
+use Rattle.iscsi_tasks.specs.Chains.{Chained, order_in}
+use Rattle.iscsi_tasks.specs.Counted.{given_now}
+use Rattle.iscsi_tasks.proofs.ChainedLemmas.{chained_now, view_now}
+use Rattle.iscsi_tasks.proofs.chain.Chain.give.Goals as goal
+
+abbrev written : Node → Node
+written n = record { task = n.task; enabled = n.enabled; given = true; before = n.before; after = n.after }
+
+there : (c : goal.After-self-1) → 1 ≤ times c.args.slot (order_in c.self.inside.nodes.items c.self.inside.len)
+there c = subst (λ (v : Chained). 1 ≤ times c.args.slot v.slots) (sym c.self.view_is) c.requires
+
+pub invariant_of-self : goal.invariant_of-self
+invariant_of-self c = chained_now c.self.invariant c.args.slot c.from.result (there c) c.from.ensures c.index_mut.result.now c.index_mut.ensures.value written (λ n. refl) (λ n. refl)
+
+pub returns : goal.returns
+returns c k d l at = view_now c.self.invariant c.args.slot c.from.result (there c) c.from.ensures c.index_mut.result.now c.index_mut.ensures.value written (λ n. refl) (λ n. refl) given_now (λ n. refl) c.args.self.now c.self.view_is k d l at

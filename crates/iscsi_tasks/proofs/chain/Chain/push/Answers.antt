@@ -1,0 +1,63 @@
+use Rattle.std.proofs.Common.{◌≡◌, ◌∙◌, ◌<◌, ◌≤◌, ◌+◌, ◌++◌, ◌∷◌, [], ℕ, List, length, map, get_or, ap, sym, subst, arith}
+use Rattle.std.proofs.lemmas.List.{get_or_default}
+use Rattle.iscsi_tasks.specs.declared.member.Member.{Member}
+use Rattle.iscsi_tasks.specs.declared.node.Node.{Node}
+use Rattle.iscsi_tasks.specs.Chains.{AreApart, Chained, chained, BLANK_NODE, before_of, member_at, order_in, linked_to, IsChained}
+use Rattle.iscsi_tasks.proofs.ChainedLemmas.{few, long, free_inside, slot_fresh, last_fresh, entered_in, chained_with, members_with, order_with, apart}
+use Rattle.iscsi_tasks.proofs.ChainLemmas.{length_linked}
+use Rattle.iscsi_tasks.proofs.chain.Chain.push.Goals as goal
+
+-- the last slot, as it was read
+last_is : {nodes : List Node} {capacity free len room : ℕ} → IsChained nodes capacity free len room → (i : ℕ) (n : Node) → i ≡ 0 → n ≡ get_or nodes i n → n.before ≡ before_of nodes 0
+last_is {nodes} is i n at read = let some = few is in ap (λ (x : Node). x.before) (read ∙ get_or_default nodes i n BLANK_NODE (omega (arith, some, at))) ∙ ap (before_of nodes) at
+
+few_yet : {nodes : List Node} {capacity free len room : ℕ} → IsChained nodes capacity free len room → (v : Chained) → chained (order_in nodes len) (map (member_at nodes) (order_in nodes len)) room ≡ v → length v.slots < v.room → len < room
+few_yet is v view l = let a = long is in let b = ap (λ (w : Chained). length w.slots) view in let r = ap (λ (w : Chained). w.room) view in omega (arith, a, b, r, l)
+
+pub take-slot-requires-clause-free : goal.take-slot-requires-clause-free
+take-slot-requires-clause-free c = free_inside c.self.invariant
+
+pub take-slot-requires-clause-most : goal.take-slot-requires-clause-most
+take-slot-requires-clause-most c = few c.self.invariant
+
+pub link-requires-clause-first : goal.link-requires-clause-first
+link-requires-clause-first c =
+    let l = last_is c.self.invariant c.from.result c.index.result.now c.from.ensures c.index.ensures in
+    let a = last_fresh c.self.invariant (few_yet c.self.invariant c.args.self.now c.self.view_is c.requires) c.take-slot.ensures.taken in
+    omega (arith, l, a)
+
+pub link-requires-clause-second : goal.link-requires-clause-second
+link-requires-clause-second c = slot_fresh c.self.invariant (few_yet c.self.invariant c.args.self.now c.self.view_is c.requires) c.take-slot.ensures.taken
+
+pub link-requires-2-clause-first : goal.link-requires-2-clause-first
+link-requires-2-clause-first c =
+    let there = slot_fresh c.self.invariant (few_yet c.self.invariant c.args.self.now c.self.view_is c.requires) c.take-slot.ensures.taken in
+    let same = ap length c.link.ensures.nodes ∙ length_linked c.take-slot.new.nodes.items c.index.result.now.before c.take-slot.result in
+    omega (arith, there, same)
+
+-- the nodes, once the member entered
+nodes_are : (c : goal.After-self-1) → c.link-2.new.nodes.items ≡ entered_in c.self.inside.nodes.items c.take-slot.new.nodes.items c.take-slot.result
+nodes_are c =
+    c.link-2.ensures.nodes ∙ ap (λ ns. linked_to ns c.take-slot.result 0) (c.link.ensures.nodes ∙ ap (λ l. linked_to c.take-slot.new.nodes.items l c.take-slot.result) (last_is c.self.invariant c.from.result c.index.result.now c.from.ensures c.index.ensures))
+
+pub invariant_of-self : goal.invariant_of-self
+invariant_of-self c =
+    let yet = few_yet c.self.invariant c.args.self.now c.self.view_is c.requires in
+    let i = c.self.inside in
+    subst (λ ns. IsChained ns c.link-2.new.nodes.cap c.take-slot.new.free (i.len + 1) i.room) (sym (nodes_are c))
+    (subst (λ n. IsChained (entered_in i.nodes.items c.take-slot.new.nodes.items c.take-slot.result) n c.take-slot.new.free (i.len + 1) i.room) (sym (c.link-2.ensures.capacity ∙ c.link.ensures.capacity ∙ c.take-slot.ensures.capacity))
+    (chained_with c.self.invariant yet c.take-slot.ensures.taken))
+
+pub returns-clause-state : goal.returns-clause-state
+returns-clause-state c =
+    let yet = few_yet c.self.invariant c.args.self.now c.self.view_is c.requires in
+    let i = c.self.inside in
+    let taken = c.take-slot.ensures.taken in
+    let m : Member = record { task = c.args.task; enabled = c.args.enabled; given = c.args.given } in
+    ap (λ ns. chained (order_in ns (i.len + 1)) (map (member_at ns) (order_in ns (i.len + 1))) i.room) (nodes_are c)
+    ∙ ap (λ o. chained o (map (member_at (entered_in i.nodes.items c.take-slot.new.nodes.items c.take-slot.result)) (order_in (entered_in i.nodes.items c.take-slot.new.nodes.items c.take-slot.result) (i.len + 1))) i.room) (order_with c.self.invariant yet taken)
+    ∙ ap (λ ms. chained (order_in i.nodes.items i.len ++ c.take-slot.result ∷ []) ms i.room) (members_with c.self.invariant yet taken)
+    ∙ ap (λ (v : Chained). chained (v.slots ++ c.take-slot.result ∷ []) (v.members ++ m ∷ []) v.room) c.self.view_is
+
+pub returns-clause-apart : goal.returns-clause-apart
+returns-clause-apart c = apart (invariant_of-self c)

@@ -1,0 +1,127 @@
+use Rattle.std.proofs.Common.{◌≡◌, ◌∙◌, ◌<◌, ◌≤◌, ℕ, List, length, get_or, max, min, refl, ap, sym, subst, arith, ⊎_elim}
+use Rattle.std.specs.List.{position_or_len}
+use Rattle.std.proofs.lemmas.Bool.{cases_lt}
+use Rattle.std.proofs.lemmas.List.{get_or_past}
+use Rattle.iscsi_tasks.specs.declared.member.Member.{Member}
+use Rattle.iscsi_tasks.specs.declared.marks.Marks.{Marks}
+use Rattle.iscsi_tasks.specs.Sets.{after_moment}
+use Rattle.iscsi_tasks.specs.Counted.{is_ordered_in}
+use Rattle.iscsi_tasks.specs.Chains.{Chained, chained}
+use Rattle.iscsi_tasks.specs.Marked.{IsMarked, enabled_by}
+use Rattle.iscsi_tasks.proofs.PlaceLemmas.{enabled_so_far}
+use Rattle.iscsi_tasks.proofs.MomentLemmas.{moment_with_heads, moment_without_heads}
+use Rattle.iscsi_tasks.proofs.CountLemmas.{first-le, enabled_up_to}
+use Rattle.iscsi_tasks.proofs.ChainLemmas.{not_end}
+use Rattle.iscsi_tasks.proofs.MarkedLemmas.{some_at, within_some, marked_enabled}
+use Rattle.iscsi_tasks.proofs.linked_queue.enable_free.Goals.{then-marks-gt0-via-then-marks-gt0, then-marks-gt0-via-else-marks-gt0+then-marks-eq-ENDS}
+use Rattle.iscsi_tasks.proofs.linked_queue.enable_free.Goals as goal
+
+-- up to where the commands are free, where none is HEAD OF QUEUE
+abbrev free_place : List Member → ℕ
+free_place list = min (length list) (max 1 (position_or_len is_ordered_in list))
+
+-- where none becomes free, a moment changes nothing
+unchanged : (m : Marks) (slots : List ℕ) (list : List Member) (marked : IsMarked m slots list) → m.heads ≤ 0 → free_place list ≤ marked.counts.enabled_to → list ≡ after_moment list
+unchanged m slots list marked none over =
+    let heads = marked.heads in let counted = marked.counted.heads in
+    enabled_so_far list (free_place list) (omega arith) (λ k d l. marked.counted.enabled k d (omega (arith, l, over)))
+    ∙ sym (moment_without_heads list (free_place list) marked.counted.order (omega (arith, none, heads, counted)) refl)
+
+-- a dormant command is there
+dormant_in : (m : Marks) (slots : List ℕ) (list : List Member) (marked : IsMarked m slots list) → (m.dormant ≡ 0 → ⊥) → marked.counts.enabled_to < length slots
+dormant_in m slots list marked some = within_some slots marked.counts.enabled_to m.dormant marked.dormant some
+
+pub returns-then-marks-gt0-clause-state : goal.returns-then-marks-gt0-clause-state
+returns-then-marks-gt0-clause-state c =
+    let slots = c.args.chain.now.slots in let list = c.args.chain.now.members in
+    let m = c.requires in
+    let heads = m.heads in let counted = m.counted.heads in
+    ap (λ ms. chained slots ms c.args.chain.now.room) (elim c.then-marks-gt0.branch [
+      | then-marks-gt0-via-then-marks-gt0 w ↦ let some = w.if-marks-gt0.true in
+          sym (moment_with_heads list m.counted.order (omega (arith, some, heads, counted)) m.counted.heads_enabled)
+      | then-marks-gt0-via-else-marks-gt0+then-marks-eq-ENDS w ↦
+          unchanged c.args.marks.now slots list m w.if-marks-gt0.false (⊎_elim
+          (λ below. absurd (not_end m.apart m.counts.enabled_to below (sym m.dormant ∙ w.if-marks-eq-ENDS.true)))
+          (λ past. let long = m.long in omega (arith, past, long))
+          (cases_lt m.counts.enabled_to (length slots)))
+    ])
+
+pub is_before-requires-clause-there : goal.is_before-requires-clause-there
+is_before-requires-clause-there c =
+    let m = c.requires in
+    some_at c.args.chain.now.slots m.counts.enabled_to c.args.marks.now.dormant (dormant_in c.args.marks.now c.args.chain.now.slots c.args.chain.now.members m c.if-marks-eq-ENDS.false) (sym m.dormant)
+
+pub is_before-requires-clause-end : goal.is_before-requires-clause-end
+is_before-requires-clause-end c =
+    let list = c.args.chain.now.members in
+    let m = c.requires in
+    let some = dormant_in c.args.marks.now c.args.chain.now.slots list m c.if-marks-eq-ENDS.false in
+    let le = first-le is_ordered_in list in let long = m.long in
+    record {
+      low = max 1 (position_or_len is_ordered_in list);
+      high = length c.args.chain.now.slots;
+      ordered = omega (arith, some, le, long);
+      within = omega arith;
+      from_is = c.free_end-end.ensures;
+      to_is = sym (get_or_past c.args.chain.now.slots (length c.args.chain.now.slots) 0 (omega arith));
+    }
+
+pub returns-then-not-is_before-clause-state : goal.returns-then-not-is_before-clause-state
+returns-then-not-is_before-clause-state c =
+    let slots = c.args.chain.now.slots in let list = c.args.chain.now.members in
+    let m = c.requires in
+    let some = dormant_in c.args.marks.now slots list m c.if-marks-eq-ENDS.false in
+    let le = first-le is_ordered_in list in let long = m.long in
+    let over = c.is_before.ensures.no m.counts.enabled_to (max 1 (position_or_len is_ordered_in list)) some (omega (arith, some, le, long)) m.dormant c.free_end-end.ensures c.if-not-is_before.true in
+    ap (λ ms. chained slots ms c.args.chain.now.room) (unchanged c.args.marks.now slots list m c.if-marks-gt0.false (omega (arith, over)))
+
+pub enable-requires : goal.enable-requires
+enable-requires c =
+    let slots = c.args.chain.now.slots in let list = c.args.chain.now.members in
+    let m = c.requires in
+    let some = dormant_in c.args.marks.now slots list m c.if-marks-eq-ENDS.false in
+    let le = first-le is_ordered_in list in let long = m.long in
+    let to : ℕ = max 1 (position_or_len is_ordered_in list) in
+    let most : to ≤ length slots = omega (arith, some, le, long) in
+    let more = c.is_before.ensures.yes m.counts.enabled_to to some most m.dormant c.free_end-end.ensures c.if-not-is_before.false in
+    record {
+      low = m.counts.enabled_to;
+      high = to;
+      ordered = omega (arith, more);
+      within = most;
+      from_is = m.dormant;
+      to_is = c.free_end-end.ensures;
+    }
+
+-- the chain, once they are enabled
+enabled : (c : goal.After-with_enabled) → (c.requires.counts.enabled_to < max 1 (position_or_len is_ordered_in c.args.chain.now.members)) × (max 1 (position_or_len is_ordered_in c.args.chain.now.members) ≤ length c.args.chain.now.members)
+    × (c.enable.new.chain ≡ chained c.args.chain.now.slots (enabled_up_to (max 1 (position_or_len is_ordered_in c.args.chain.now.members)) c.args.chain.now.members) c.args.chain.now.room)
+enabled c =
+    let slots = c.args.chain.now.slots in let list = c.args.chain.now.members in
+    let m = c.requires in
+    let some = dormant_in c.args.marks.now slots list m c.if-marks-eq-ENDS.false in
+    let le = first-le is_ordered_in list in let long = m.long in
+    let to : ℕ = max 1 (position_or_len is_ordered_in list) in
+    let most : to ≤ length slots = omega (arith, some, le, long) in
+    let more = c.is_before.ensures.yes m.counts.enabled_to to some most m.dormant c.free_end-end.ensures c.if-not-is_before.false in (
+      more,
+      omega (arith, most, long),
+      c.enable.ensures m.counts.enabled_to to (omega (arith, more)) most m.dormant c.free_end-end.ensures m.counted.enabled,
+    )
+
+pub returns-clause-state : goal.returns-clause-state
+returns-clause-state c =
+    let list = c.args.chain.now.members in
+    let m = c.requires in
+    let is = enabled c in
+    let none = c.if-marks-gt0.false in let heads = m.heads in let counted = m.counted.heads in
+    is.2 ∙ ap (λ ms. chained c.args.chain.now.slots ms c.args.chain.now.room)
+    (sym (moment_without_heads list (max 1 (position_or_len is_ordered_in list)) m.counted.order (omega (arith, none, heads, counted)) (let most = is.1 in omega (arith, most))))
+
+pub returns-clause-marked : goal.returns-clause-marked
+returns-clause-marked c =
+    let list = c.args.chain.now.members in
+    let is = enabled c in
+    subst (λ (m : Marks). IsMarked m c.enable.new.chain.slots c.enable.new.chain.members) (sym (c.with_enabled.ensures ∙ ap (enabled_by c.args.marks.now c.free_end-end.result) (c.oldest.ensures ∙ ap (λ (v : Chained). get_or v.slots 0 0) is.2)))
+    (subst (λ (v : Chained). IsMarked (enabled_by c.args.marks.now c.free_end-end.result (get_or c.args.chain.now.slots 0 0)) v.slots v.members) (sym is.2)
+    (marked_enabled c.requires (max 1 (position_or_len is_ordered_in list)) c.free_end-end.result (get_or c.args.chain.now.slots 0 0) is.0 is.1 c.free_end-end.ensures refl))

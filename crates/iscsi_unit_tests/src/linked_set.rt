@@ -1,0 +1,271 @@
+//! Linked task sets beside the plain ones, which close up and search: both answer the same after each of many calls.
+
+ghost use Rattle.std.specs.Prelude.{◌≡◌, ◌≤◌, vec_capacity};
+
+use crate::task_set::is_newest;
+use iscsi_tasks::{Attr, Cover, LinkedTaskSet, Task, TaskFault, TaskSet};
+use std::alloc::Global;
+use std::test::Fail;
+
+/// The greatest depth of a set here.
+const DEPTH: u32 = 300;
+
+/// The same commands, kept in two ways, and the slot that each got.
+#[derive(Drop)]
+struct Both {
+    linked: LinkedTaskSet,
+    plain: TaskSet,
+    /// For each ticket modulo 4,096 the slot of the command that entered last.
+    slots: Vec<u16>,
+    /// The tickets of commands that left together.
+    left: Vec<u64>,
+    ghost same: { linked ≡ plain },
+    ghost roomy: { 1024 ≤ vec_capacity left },
+}
+
+impl Both {
+    fn open(alloc: Global, depth: u32) -> Result<Both, Fail>
+        requires { (1 ≤ depth) × (depth ≤ 1024) }
+    {
+        Ok(Both {
+            linked: LinkedTaskSet::open(alloc, depth)?,
+            plain: TaskSet::open(alloc, depth)?,
+            slots: vec![in alloc; 0; 4096]?,
+            left: Vec::with_capacity(alloc, 1024)?,
+        })
+    }
+
+    /// The slot that a command with this ticket got, or that of another one.
+    fn slot_of(&self, ticket: u64) -> u16 {
+        *self.slots.get((ticket % 4096) as usize).unwrap_or(&7)
+    }
+
+    /// The command enters, if its ticket may be the newest one. Both give the same ticket then.
+    fn enter(&mut self, task: Task) -> bool {
+        if !is_newest(&self.plain, task.ticket) {
+            return false;
+        }
+        match (self.linked.enter_and_give(task), self.plain.enter(task)) {
+            (Ok(entered), Ok(())) => {
+                if let Some(slot) = self.slots.get_mut((task.ticket % 4096) as usize) {
+                    *slot = entered.slot;
+                }
+                entered.ticket == self.plain.next_new()
+            }
+            (Err(back), Err(plain)) => back == plain,
+            _ => false,
+        }
+    }
+
+    fn leave(&mut self, ticket: u64, slot: u16) -> bool {
+        self.linked.leave(ticket, slot) == self.plain.leave(ticket)
+    }
+
+    fn leave_enabled(&mut self, ticket: u64, slot: u16) -> bool {
+        let is_enabled = self.plain.is_enabled(ticket);
+        if is_enabled {
+            self.plain.leave(ticket);
+        }
+        self.linked.leave_enabled(ticket, slot) == is_enabled
+    }
+
+    /// The covered commands leave, and `left` tells their tickets, the oldest one's first.
+    fn leave_covered(&mut self, cover: &Cover) -> bool {
+        let is_within = self.linked.len() <= self.linked.depth();
+        self.left.clear();
+        self.linked.leave_covered(cover, &mut self.left);
+        let agree = are_covered(&self.left, &self.plain, cover);
+        self.plain.leave_covered(cover);
+        agree && is_within
+    }
+
+    /// Both give the same tickets, until there is none.
+    fn give_all(&mut self) -> bool {
+        for _ in 0..=DEPTH {
+            let ticket = self.linked.next_new();
+            if ticket != self.plain.next_new() {
+                return false;
+            }
+            if ticket.is_none() {
+                return true;
+            }
+        }
+        false
+    }
+
+    fn agree(&self) -> bool {
+        (self.linked.len(), self.linked.depth()) == (self.plain.len(), self.plain.depth())
+    }
+}
+
+/// Whether these are the tickets of the covered commands.
+fn are_covered(tickets: &[u64], set: &TaskSet, cover: &Cover) -> bool {
+    let mut agree = true;
+    let mut covered: usize = 0;
+    for place in 0..set.len() {
+        if let Some(ticket) = set.covered_at(place, cover) {
+            agree &= tickets.get(covered) == Some(&ticket);
+            covered = covered.wrapping_add(1);
+        }
+    }
+    agree && tickets.len() == covered
+}
+
+/// Calls at random, by a seed.
+#[derive(Drop)]
+struct Calls {
+    both: Both,
+    /// The ticket of the last command that entered.
+    ticket: u64,
+    /// The next number that is expected.
+    number: i64,
+    /// How many in 256 commands are ORDERED, and how many HEAD OF QUEUE.
+    ordered: u64,
+    heads: u64,
+    /// Whether immediate commands have numbers that aren't expected next.
+    strays: bool,
+    seed: u64,
+}
+
+impl Calls {
+    /// The next number, by the method SplitMix64.
+    fn random(&mut self) -> u64 {
+        self.seed = self.seed.wrapping_add(0x9e37_79b9_7f4a_7c15);
+        let mixed = (self.seed ^ (self.seed >> 30)).wrapping_mul(0xbf58_476d_1ce4_e5b9);
+        let mixed = (mixed ^ (mixed >> 27)).wrapping_mul(0x94d0_49bb_1331_11eb);
+        mixed ^ (mixed >> 31)
+    }
+
+    /// A command that may enter.
+    fn task(&mut self) -> Task {
+        let random = self.random();
+        let kind = random % 256;
+        let attr = if kind < self.ordered {
+            Attr::Ordered
+        } else if kind < self.ordered.wrapping_add(self.heads) {
+            Attr::Head
+        } else {
+            Attr::Simple
+        };
+        let immediate = random / 256 % 8 == 0;
+        let stray = if self.strays && random / 2048 % 4 == 0 {
+            (random / 8192 % 16) as i64
+        } else {
+            0
+        };
+        if !immediate {
+            self.number = self.number.wrapping_add(1);
+        }
+        self.ticket = self.ticket.wrapping_add(1 + random / 131_072 % 3);
+        Task {
+            ticket: self.ticket,
+            conn: (random / 524_288 % 3) as u16,
+            itt: (random / 2_097_152 % 65_536) as u32,
+            attr,
+            immediate,
+            pos: self.number.wrapping_sub(stray),
+            event: self.ticket,
+        }
+    }
+
+    /// A ticket near the last one, and now and then one that none had.
+    fn any_ticket(&mut self) -> u64 {
+        let random = self.random();
+        let back = if random % 4 == 0 { 4096 } else { 2 * u64::from(DEPTH) };
+        self.ticket.wrapping_sub(random / 4 % back)
+    }
+
+    /// The slot of a ticket, mostly: else any.
+    fn any_slot(&mut self, ticket: u64) -> u16 {
+        let random = self.random();
+        match random % 8 {
+            0 => (random / 8 % 65_536) as u16,
+            1 => (random / 8 % 32) as u16,
+            _ => self.both.slot_of(ticket),
+        }
+    }
+
+    /// What an abort or a logout takes out: mostly the oldest ones.
+    fn cover(&mut self) -> Cover {
+        let random = self.random();
+        match random % 16 {
+            0 => Cover::All,
+            1 | 2 => Cover::Conn((random / 16 % 3) as u16),
+            _ => Cover::Below {
+                pos: self.number.wrapping_sub((random / 16 % 320) as i64),
+                event: self.ticket.wrapping_sub(random / 8192 % 4),
+            },
+        }
+    }
+
+    /// One call on both, and whether they answer the same.
+    fn step(&mut self, grows: bool) -> bool {
+        let random = self.random();
+        let share = if grows { 11 } else { 4 };
+        let agree = match random % 16 {
+            0 => {
+                let cover = self.cover();
+                random / 16 % 8 != 0 || self.both.leave_covered(&cover)
+            }
+            1 => {
+                let ticket = self.any_ticket();
+                let slot = self.any_slot(ticket);
+                self.both.leave(ticket, slot)
+            }
+            2 => self.both.give_all(),
+            kind if kind < share => {
+                let task = self.task();
+                self.both.enter(task)
+            }
+            _ => {
+                let ticket = self.any_ticket();
+                let slot = self.any_slot(ticket);
+                self.both.leave_enabled(ticket, slot)
+            }
+        };
+        // Now and then tickets that are new wait for more calls.
+        let gave = random / 256 % 4 == 0 || self.both.give_all();
+        agree && gave && self.both.agree()
+    }
+}
+
+#[test]
+fn linked_sets_answer_as_plain_ones_do(rt: HostRuntime) -> Result<(), Fail> {
+    for depth in [1, 2, 9, DEPTH] {
+        for (ordered, heads) in [(0, 0), (16, 0), (0, 16), (24, 24), (128, 64)] {
+            for strays in [false, true] {
+                let mut calls = Calls {
+                    both: Both::open(rt.alloc(), depth)?,
+                    ticket: 0,
+                    number: 0,
+                    ordered,
+                    heads,
+                    strays,
+                    seed: u64::from(depth),
+                };
+                let mut agree = true;
+                for k in 0..10_000 {
+                    agree &= calls.step(k % 2048 < 1024);
+                }
+                assert!(rt; agree, "{depth} deep, {ordered} ORDERED, {heads} HEAD OF QUEUE, {strays}");
+            }
+        }
+    }
+    Ok(())
+}
+
+#[test]
+fn a_linked_set_is_from_1_to_1024_deep(rt: HostRuntime) -> Result<(), Fail> {
+    let alloc = rt.alloc();
+    for depth in [0, 1025, u32::MAX] {
+        assert_eq!(rt;
+            LinkedTaskSet::open(alloc, depth).err(),
+            Some(TaskFault::BadDepth)
+        );
+    }
+    for depth in [1, 1024] {
+        let set = LinkedTaskSet::open(alloc, depth)?;
+        assert_eq!(rt; (set.len(), set.depth()), (0, depth));
+    }
+    Ok(())
+}
