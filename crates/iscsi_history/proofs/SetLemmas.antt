@@ -1,18 +1,15 @@
 -- A unit's set of commands: its tickets, and what has been shown of it.
-use Rattle.std.proofs.Common.{List, map, ℕ, [], ap, cond, false, refl, true, ◌∷◌, ◌≡◌, ◌==◌, None, Some, filter, find, not, Option, sym, ◌∙◌, ◌<◌, arith, get_or, replicate, suc, zero, ◌+◌, Bool, count_by, ◌≤◌, ◌++◌, ◌||◌, ◌&&◌, nat_lt, length, eq-eqb, pos, take}
+use Rattle.std.proofs.Common.{List, map, ℕ, [], ap, cond, false, refl, true, ◌∷◌, ◌≡◌, ◌==◌, None, Some, filter, find, not, Option, sym, ◌∙◌, ◌<◌, arith, get_or, replicate, suc, zero, ◌+◌, Bool, count_by, ◌≤◌, ◌++◌, ◌||◌, ◌&&◌, nat_lt, length, eq-eqb}
 use Rattle.std.specs.List.{list_any, list_all}
 use Rattle.std.proofs.lemmas.Bool.{eqb-true}
 use Rattle.std.proofs.lemmas.List.Sums.{sum_by-cons}
 use Rattle.iscsi_tasks.specs.declared.member.Member.{Member}
-use Rattle.iscsi_tasks.specs.Sets.{given_in, is_new, after_moment, looked_at, Members, left_by, tasks_in, with_ticket, without, opened as opened_set, ticket_if, covered_at, is_covered}
+use Rattle.iscsi_tasks.specs.Sets.{given_in, is_new, after_moment, looked_at, Members, left_by, tasks_in, with_ticket, without, opened as opened_set}
 use Rattle.iscsi_tasks.specs.declared.task.Task.{Task}
 use Rattle.iscsi_history.proofs.ListLemmas.{map-map, filter-map, find-found}
-use Rattle.iscsi_history.proofs.BoolLemmas.{or_none, or_false, and_parts, or_first, or_second, and_false}
+use Rattle.iscsi_history.proofs.BoolLemmas.{or_none, or_false, and_parts, and_false}
 use Rattle.iscsi_history.proofs.ApartLemmas.{eq_sym}
 use Rattle.iscsi_history.proofs.NumberLemmas.{later_apart, none_above}
-use Rattle.std.specs.Prelude.{option_and_then, slice_get}
-use Rattle.iscsi_tasks.specs.declared.task.Attr.TheVariants.{Simple}
-use Rattle.iscsi_tasks.specs.declared.cover.Cover.{Cover}
 
 abbrev pub tickets : List Member → List ℕ
 tickets ms = map (λ m. m.task.ticket) ms
@@ -78,14 +75,6 @@ pub any_push : (p : Member → Bool) (ms : List Member) (x : Member) → list_an
 any_push p [] x = or_false (p x)
 any_push p (y ∷ ms) x = elim (p y) as (λ b. (b || list_any p (ms ++ x ∷ [])) ≡ ((b || list_any p ms) || p x)) [ true ↦ refl | false ↦ any_push p ms x ]
 
-pub ticket_some : (b : Bool) (t : Task) (k : ℕ) → ticket_if b t ≡ Some k → (b ≡ true) × (t.ticket ≡ k)
-ticket_some true t k is = (refl, cc)
-ticket_some false t k is = absurd cc
-
-pub ticket_none : (b : Bool) (t : Task) → ticket_if b t ≡ None → b ≡ false
-ticket_none true t is = absurd cc
-ticket_none false t is = refl
-
 -- ---- tickets go up along a set
 
 pub none_found : (covers : Task → Bool) (ms : List Member) → find covers (map (λ (m : Member). m.task) ms) ≡ None → list_any (λ m. covers m.task) ms ≡ false
@@ -133,44 +122,6 @@ gone_each covers (x ∷ ms) (suc k) d up lt =
     let t : ℕ = (get_or ms k d).task.ticket in
     let apart : (x.task.ticket == t) ≡ false = eq_sym x.task.ticket t ∙ later_apart x.task.ticket t (all_at (λ u. nat_lt x.task.ticket u) ms k d parts.0 (omega arith)) in
     ap (λ b. (b && covers x.task) || list_any (λ m. m.task.ticket == t && covers m.task) ms) apart ∙ gone_each covers ms k d parts.1 (omega arith)
-
--- ---- one command after the other
-
--- what is told of a command, by whether it is covered
-pub told_at : (covers : Task → Bool) (ms : List Member) (k : ℕ) (d : Member) → k < length ms → option_and_then (λ t. ticket_if (covers t) t) (slice_get (map (λ (m : Member). m.task) ms) k) ≡ ticket_if (covers (get_or ms k d).task) (get_or ms k d).task
-told_at covers [] k d lt = absurd (omega arith)
-told_at covers (x ∷ ms) zero d lt = refl
-told_at covers (x ∷ ms) (suc k) d lt = told_at covers ms k d (omega arith)
-
-abbrev pub no_member : Member
-no_member = record { task = record { ticket = 0; conn = 0; itt = 0; attr = Simple; immediate = false; pos = pos 0; event = 0 }; enabled = false; given = false }
-
--- how a command of the set is told
-pub told_some : (cover : Cover) (now : Members) (at k : ℕ) (r : Option ℕ) → at < length now.list → r ≡ covered_at cover (tasks_in now) at → r ≡ Some k
-    → (is_covered cover (get_or now.list at no_member).task ≡ true) × ((get_or now.list at no_member).task.ticket ≡ k)
-told_some cover now at k r inside is some =
-    let task : Task = (get_or now.list at no_member).task in
-    ticket_some (is_covered cover task) task k (sym (told_at (is_covered cover) now.list at no_member inside) ∙ sym is ∙ some)
-
-pub told_none : (cover : Cover) (now : Members) (at : ℕ) (r : Option ℕ) → at < length now.list → r ≡ covered_at cover (tasks_in now) at → r ≡ None → is_covered cover (get_or now.list at no_member).task ≡ false
-told_none cover now at r inside is none =
-    let task : Task = (get_or now.list at no_member).task in
-    ticket_none (is_covered cover task) task (sym (told_at (is_covered cover) now.list at no_member inside) ∙ sym is ∙ none)
-
-pub has_ticket_at : (ms : List Member) (k : ℕ) (d : Member) → k < length ms → list_any (λ u. u == (get_or ms k d).task.ticket) (tickets ms) ≡ true
-has_ticket_at [] k d lt = absurd (omega arith)
-has_ticket_at (x ∷ ms) zero d lt = or_first (x.task.ticket == x.task.ticket) (list_any (λ u. u == x.task.ticket) (tickets ms)) (eq-eqb x.task.ticket x.task.ticket refl)
-has_ticket_at (x ∷ ms) (suc k) d lt = or_second (x.task.ticket == (get_or ms k d).task.ticket) (list_any (λ u. u == (get_or ms k d).task.ticket) (tickets ms)) (has_ticket_at ms k d (omega arith))
-
--- none of those before it has its ticket
-pub unlike_before : (ms : List Member) (k : ℕ) (d : Member) → rising (tickets ms) ≡ true → k < length ms → list_any (λ u. u == (get_or ms k d).task.ticket) (tickets (take k ms)) ≡ false
-unlike_before [] k d up lt = absurd (omega arith)
-unlike_before (x ∷ ms) zero d up lt = refl
-unlike_before (x ∷ ms) (suc k) d up lt =
-    let parts = and_parts (list_all (λ u. nat_lt x.task.ticket u) (tickets ms)) (rising (tickets ms)) up in
-    let t : ℕ = (get_or ms k d).task.ticket in
-    ap (λ b. b || list_any (λ u. u == t) (tickets (take k ms))) (eq_sym x.task.ticket t ∙ later_apart x.task.ticket t (all_at (λ u. nat_lt x.task.ticket u) ms k d parts.0 (omega arith)))
-    ∙ unlike_before ms k d parts.1 (omega arith)
 
 -- ---- the one with a ticket
 

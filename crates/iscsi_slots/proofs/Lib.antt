@@ -1,6 +1,4 @@
 pub mod SlotLemmas
-pub mod OrderLemmas
 pub mod ShareLemmas
 pub mod HalvingLemmas
-pub mod SearchLemmas
 pub mod SortedLemmas

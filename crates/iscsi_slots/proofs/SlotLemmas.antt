@@ -1,8 +1,8 @@
 -- The slots of a queue, and the values in them.
-use Rattle.std.proofs.Common.{◌≡◌, ◌≢◌, ℕ, zero, suc, ◌+◌, ◌<◌, ◌≤◌, cond, false, List, [], ◌∷◌, ◌++◌, length, map, drop, get_or, set, refl, ap, sym, subst, ◌∙◌, arith, ⊎_elim, eq-eqb, ne_eqb}
+use Rattle.std.proofs.Common.{◌≡◌, ◌≢◌, ℕ, zero, suc, ◌+◌, ◌<◌, ◌≤◌, cond, false, List, [], ◌∷◌, ◌++◌, length, map, take, drop, drop-drop, get_or, set, refl, ap, sym, subst, ◌∙◌, arith, ⊎_elim, eq-eqb, ne_eqb}
 use Rattle.std.specs.List.{remove, insert}
 use Rattle.std.proofs.lemmas.Bool.{cases_eq, cases_lt}
-use Rattle.std.proofs.lemmas.List.{get_or-set_other, get_or-set_same, get_or_append_left}
+use Rattle.std.proofs.lemmas.List.{length-drop, get_or-set_other, get_or-set_same, get_or_append_left}
 use Rattle.iscsi_slots.specs.Slots.{times, values}
 
 -- a slot that stands first is counted
@@ -72,6 +72,24 @@ drop-remove [] (suc n) k within = absurd (omega arith)
 drop-remove (x ∷ xs) (suc n) k within =
     let same : suc n + k ≡ suc (n + k) = omega arith in
     ap (λ i. drop (suc n) (remove (x ∷ xs) i)) same ∙ drop-remove xs n k (omega arith)
+
+-- those before a place move over it
+pub drop-moved_down : {X : Type 0} (xs : List X) (n k i : ℕ) → n + k < length xs → i ≡ n + 1 + k → drop (suc n) ((take (suc n) xs ++ take k (drop n xs)) ++ drop i xs) ≡ remove (drop n xs) k
+drop-moved_down [] n k i within is = absurd (omega arith)
+drop-moved_down (x ∷ xs) n k zero within is = absurd (omega arith)
+drop-moved_down (x ∷ xs) zero k (suc i) within is = let same : i ≡ k = omega arith in ap (λ j. take k (x ∷ xs) ++ drop j xs) same
+drop-moved_down (x ∷ xs) (suc n) k (suc i) within is = drop-moved_down xs n k i (omega arith) (omega arith)
+
+-- so do some that stand before `n`, of which nobody asks
+pub drop-moved_block : {X : Type 0} (xs : List X) (m f n k i : ℕ) → n ≡ m + f → n + k < length xs → i ≡ n + 1 + k
+    → drop (suc n) ((take (suc m) xs ++ take (f + k) (drop m xs)) ++ drop i xs) ≡ remove (drop n xs) k
+drop-moved_block xs m f n k i sum within is =
+    let moved = (take (suc m) xs ++ take (f + k) (drop m xs)) ++ drop i xs in
+    let cut : suc n ≡ suc m + f = omega (arith, sum) in
+    ap (λ j. drop j moved) cut ∙ sym (drop-drop f (suc m) moved)
+    ∙ ap (drop f) (drop-moved_down xs m (f + k) i (omega (arith, sum, within)) (omega (arith, sum, is)))
+    ∙ drop-remove (drop m xs) f k (omega (arith, length-drop m xs, sum, within))
+    ∙ ap (λ ys. remove ys k) (drop-drop f m xs ∙ ap (λ j. drop j xs) (sym sum))
 
 module _ {X : Type 0} (blank : X) (slots : List X) where
   -- the values of slots that were there are the same behind a new one

@@ -2,14 +2,13 @@
 use Rattle.std.specs.Prelude.{◌≡◌, ℕ, ◌+◌, ◌-◌, ◌*◌, ◌≤◌, ◌==◌, ◌⊎◌, ◌++◌, [], ◌∷◌, nat_lt, List, length, map, slice_index_or, slice_set, refl, if◌then◌else◌}
 use Rattle.std.specs.Coded.{Coded, code_by, coded×, coded_list, coded_ℕ}
 
--- what an order keeps: its slots stand from the head up to the end, and no call asks for memory
-pub record IsOrderSound (head end places capacity room : ℕ) : Type 0 where
-  pub before : head ≤ end
-  pub written : end ≤ places
+-- what an order keeps: the places before the first slot's are over, and no call asks for memory
+pub record IsOrderSound (head places capacity room : ℕ) : Type 0 where
+  pub before : head ≤ places
   pub not_over : places ≤ 2 * room
   pub has_room : 2 * room ≤ capacity
   pub short : room ≤ 65535
-  pub within : end - head ≤ room
+  pub within : places - head ≤ room
 
 -- the value of each slot, the slots that are free, and how many slots there may be
 pub record Slotted (X : Type 0) : Type 0 where

@@ -1,23 +1,14 @@
 -- A command enters a set in which none waits for its ticket to be given, and its own is given at once if it is enabled.
-use Rattle.std.proofs.Common.{◌≡◌, ◌∙◌, ◌++◌, ◌<◌, not, cond, Bool, true, false, List, [], ◌∷◌, get_or, All, Some, None, Option, ℕ, refl, ap, sym, subst, arith, ⊎_elim, true≢false, lt-ltb}
-use Rattle.std.proofs.lemmas.Bool.{cases_Bool}
+use Rattle.std.proofs.Common.{◌≡◌, ◌∙◌, ◌++◌, ◌<◌, cond, Bool, true, false, List, [], ◌∷◌, All, Some, None, Option, ℕ, refl, ap, sym, subst}
 use Rattle.std.proofs.lemmas.List.Elements.{All-head, All-tail}
 use Rattle.std.proofs.lemmas.List.Quantifiers.{all_pairs_push}
 use Rattle.iscsi_tasks.specs.declared.task.Task.{Task}
 use Rattle.iscsi_tasks.specs.declared.member.Member.{Member}
-use Rattle.iscsi_tasks.specs.declared.counts.Counts.{Counts}
 use Rattle.iscsi_tasks.specs.Sets.{Members, InOrder, IsNewest, entered_to, is_new, given_in, given_by, next_in}
 use Rattle.iscsi_tasks.specs.Changes.{Change, Entered, AllBelow, StandsFor, next_after, after_giving}
-use Rattle.iscsi_tasks.specs.Counted.{IsCounted, is_none_new, taken_in}
+use Rattle.iscsi_tasks.specs.Counted.{taken_in}
 use Rattle.iscsi_tasks.proofs.GivingLemmas.{given_in_old, next_in_old, StandsFor-giving}
 use Rattle.iscsi_tasks.proofs.HistoryLemmas.{StandsFor-entered}
-
--- the counts tell that none is new
-pub none_new : (c : Counts) (list : List Member) → IsCounted c list → is_none_new c ≡ true → All (λ m. is_new m ≡ false) list
-none_new c list counted none k d l = ⊎_elim
-    (λ new. let at = counted.new k d l new in absurd (true≢false (sym none ∙ ap not (lt-ltb c.new_from c.new_to (omega arith)))))
-    (λ old. old)
-    (cases_Bool (is_new (get_or list k d)))
 
 given_last : (list : List Member) (m : Member) → All (λ x. is_new x ≡ false) list → given_in (list ++ m ∷ []) ≡ list ++ given_in (m ∷ [])
 given_last [] m none = refl

@@ -1,12 +1,11 @@
 -- Members in slots, each linked to those beside it.
-use Rattle.std.proofs.Common.{◌≡◌, ◌≢◌, ℕ, zero, suc, ◌+◌, ◌-◌, ◌<◌, ◌≤◌, List, [], ◌∷◌, ◌++◌, length, map, get_or, set, refl, ap, sym, subst, ◌∙◌, arith, ⊎_elim}
+use Rattle.std.proofs.Common.{◌≡◌, ◌≢◌, ℕ, zero, suc, ◌+◌, ◌<◌, ◌≤◌, List, [], ◌∷◌, length, map, get_or, set, refl, ap, sym, subst, ◌∙◌, arith, ⊎_elim}
 use Rattle.std.proofs.lemmas.Bool.{cases_eq, cases_lt}
 use Rattle.std.proofs.lemmas.Bool.Decides.{nat_tests}
 use Rattle.std.proofs.lemmas.List.{get_or-set_same, get_or-set_other, get_or_past, length-set}
 use Rattle.iscsi_slots.specs.Slots.{times, AreShared}
 use Rattle.iscsi_slots.proofs.SlotLemmas.{times_at, stands}
 use Rattle.iscsi_slots.proofs.ShareLemmas.{at_most_once, order_within}
-use Rattle.iscsi_tasks.specs.declared.member.Member.{Member}
 use Rattle.iscsi_tasks.specs.declared.node.Node.{Node}
 use Rattle.iscsi_tasks.specs.Chains.{AreApart, BLANK_NODE, node_at, after_of, before_of, member_of, member_at, order_from, with_after, with_before, points_to, linked_to}
 

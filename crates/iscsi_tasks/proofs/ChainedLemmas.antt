@@ -1,7 +1,6 @@
 -- A chain stays one as a member enters, as one leaves, and as one is written.
-use Rattle.std.proofs.Common.{◌≡◌, ◌≢◌, ℕ, zero, suc, ◌+◌, ◌-◌, ◌<◌, ◌≤◌, List, [], ◌∷◌, ◌++◌, length, map, get_or, set, refl, ap, sym, subst, ◌∙◌, arith, ⊎_elim, nat_lt}
+use Rattle.std.proofs.Common.{◌≡◌, ◌≢◌, ℕ, suc, ◌+◌, ◌-◌, ◌<◌, ◌≤◌, List, [], ◌∷◌, ◌++◌, length, map, get_or, set, refl, ap, sym, subst, ◌∙◌, arith, ⊎_elim}
 use Rattle.std.specs.List.{remove}
-use Rattle.std.specs.Bool.{if◌then◌else◌}
 use Rattle.std.proofs.lemmas.Bool.{cases_eq, cases_lt}
 use Rattle.std.proofs.lemmas.Bool.Decides.{nat_tests}
 use Rattle.std.proofs.lemmas.List.{get_or-set_same, get_or-set_other, get_or_past, get_or_push, get_or_append_left, get_or-map, get_or_default, same_lists, length-set, length_push, length-map, map-append}
@@ -23,9 +22,6 @@ module _ {nodes : List Node} {capacity free len room : ℕ} (chained : IsChained
 
   pub long : length slots ≡ len
   long = length_order nodes (after_of nodes 0) len
-
-  frees_long : length frees ≡ length nodes - 1 - len
-  frees_long = length_order nodes free (length nodes - 1 - len)
 
   pub few : len + 1 ≤ length nodes
   few = let all = chained.shared.all in let a = long in omega (arith, all, a)

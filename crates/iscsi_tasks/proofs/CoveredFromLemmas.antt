@@ -12,7 +12,7 @@ use Rattle.iscsi_tasks.specs.declared.cover.Cover.{Cover}
 use Rattle.iscsi_tasks.specs.declared.cover.Cover.TheVariants.{All as AllOfThem, Conn, Below}
 use Rattle.iscsi_tasks.specs.declared.member.Member.{Member}
 use Rattle.iscsi_tasks.specs.Sets.{is_covered, after_moment, without, uncovered, list_staying}
-use Rattle.iscsi_tasks.specs.Counted.{IsCoveredFrom, is_below, covered_from, greatest_number, covered_from_with, covered_from_in, covered_from_first, IsAscending}
+use Rattle.iscsi_tasks.specs.Counted.{IsCoveredFrom, is_below, covered_from, greatest_number, covered_from_with, covered_from_in, covered_from_after, covered_from_first, IsAscending}
 use Rattle.iscsi_tasks.proofs.HistoryLemmas.{tasks-looked}
 use Rattle.iscsi_tasks.proofs.ListLemmas.{filter-map}
 use Rattle.iscsi_tasks.proofs.StayingLemmas.{staying_cases}
@@ -25,7 +25,7 @@ not_lower t at event le apart =
     (ap (λ b. b && nat_lt t.event event) apart)
 
 -- no function with a number below that of the command covers it
-pub none_below : (t : Task) (cover : Cover) → is_below (covered_from t) cover ≡ true → is_covered cover t ≡ false
+none_below : (t : Task) (cover : Cover) → is_below (covered_from t) cover ≡ true → is_covered cover t ≡ false
 none_below t AllOfThem below = cc
 none_below t (Conn cid) below = cc
 none_below t (Below at event) below = ⊎_elim
@@ -83,6 +83,12 @@ least number (m ∷ ms) =
 pub covered_from_all : (list : List Member) → IsCoveredFrom (covered_from_in list) (map (λ m. m.task) list)
 covered_from_all list cover below = All-map (λ t. is_covered cover t ≡ false) (λ (m : Member). m.task) list
     (λ k d l. let m = get_or list k d in none_below m.task cover (is_below-le _ (covered_from m.task) cover ((least greatest_number list).1 k d l) below))
+
+-- a function covered nothing
+pub covered_from_past : (number : ℤ) (list : List Member) (cover : Cover) → IsCoveredFrom number (map (λ m. m.task) list) → IsCoveredFrom (covered_from_after number cover list) (map (λ m. m.task) list)
+covered_from_past number list AllOfThem kept = kept
+covered_from_past number list (Conn cid) kept = kept
+covered_from_past number list (Below at event) kept = covered_from_all list
 
 -- the oldest was looked at
 oldest : (m : Member) (ms : List Member) → IsAscending (m ∷ ms) → (k : ℕ) (d : Member) → k < length (m ∷ ms) → covered_from m.task ≤ℤ covered_from (get_or (m ∷ ms) k d).task

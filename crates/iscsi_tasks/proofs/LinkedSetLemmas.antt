@@ -1,15 +1,14 @@
 -- What holds of every linked set, as its commands change.
-use Rattle.std.proofs.Common.{◌≡◌, ◌∙◌, ℕ, ℤ, ◌+◌, ◌<◌, ◌≤◌, ◌==◌, ◌&&◌, not, Bool, true, ⊎_elim, eq-eqb, ne_eqb, List, [], length, map, get_or, Some, refl, ap, sym, subst, arith}
+use Rattle.std.proofs.Common.{◌≡◌, ◌∙◌, ℕ, ℤ, ◌<◌, ◌≤◌, ◌==◌, ◌&&◌, not, Bool, true, ⊎_elim, eq-eqb, ne_eqb, List, [], length, map, get_or, Some, refl, ap, sym, subst, arith}
 use Rattle.std.specs.List.{remove}
 use Rattle.std.proofs.lemmas.List.{length-map, get_or_past}
 use Rattle.iscsi_slots.specs.Slots.{times}
-use Rattle.iscsi_tasks.specs.declared.task.Task.{Task}
 use Rattle.iscsi_tasks.specs.declared.task.Attr.{Attr}
 use Rattle.iscsi_tasks.specs.declared.task.Attr.TheVariants.{Simple, Ordered, Head}
 use Rattle.iscsi_tasks.specs.declared.member.Member.{Member}
 use Rattle.iscsi_tasks.specs.declared.marks.Marks.{Marks}
 use Rattle.iscsi_tasks.specs.Rosters.{BLANK}
-use Rattle.iscsi_tasks.specs.Sets.{InOrder, after_moment, looked_at, without, with_ticket, is_enabled_in}
+use Rattle.iscsi_tasks.specs.Sets.{after_moment, looked_at, without, with_ticket, is_enabled_in}
 use Rattle.iscsi_tasks.specs.Counted.{IsCoveredFrom, IsSettled, IsAscendingTo, is_free_behind, is_ordered_in}
 use Rattle.iscsi_tasks.specs.Marked.{IsMarked, IsKeptLinked, HasTicket, is_free_by}
 use Rattle.std.proofs.lemmas.Bool.{cases_lt}

@@ -1,10 +1,9 @@
 -- The marks of a linked set stay right.
-use Rattle.std.proofs.Common.{◌≡◌, ◌≢◌, ℕ, zero, suc, ◌+◌, ◌-◌, ◌<◌, ◌≤◌, ◌==◌, ◌&&◌, not, nat_lt, lt-ltb, le-ltb, cond, max, min, Bool, true, false, List, [], ◌∷◌, ◌++◌, length, map, take, drop, set, get_or, position, All, Some, None, refl, ap, sym, subst, ◌∙◌, arith, ⊎_elim, eq-eqb, ne_eqb, eqb-true}
+use Rattle.std.proofs.Common.{◌≡◌, ◌≢◌, ℕ, ◌+◌, ◌-◌, ◌<◌, ◌≤◌, ◌==◌, ◌&&◌, not, nat_lt, lt-ltb, le-ltb, cond, max, min, Bool, true, false, List, [], ◌∷◌, ◌++◌, length, set, get_or, All, refl, ap, sym, subst, ◌∙◌, arith, ⊎_elim, eq-eqb, ne_eqb, eqb-true}
 use Rattle.std.specs.List.{position_or_len, remove}
 use Rattle.std.proofs.lemmas.Bool.{cases_Bool, cases_eq, cases_lt}
-use Rattle.std.proofs.lemmas.List.{get_or_past, get_or_push, get_or_append_left, get_or_default, length_push, length-set}
+use Rattle.std.proofs.lemmas.List.{get_or_past, get_or_push, get_or_append_left, length_push, length-set}
 use Rattle.std.proofs.lemmas.List.Edits.{length-remove, get_or-remove_below, get_or-remove_above}
-use Rattle.std.proofs.lemmas.List.Quantifiers.{position-Some}
 use Rattle.iscsi_slots.specs.Slots.{times}
 use Rattle.iscsi_slots.proofs.SlotLemmas.{times_at, times_remove}
 use Rattle.iscsi_tasks.specs.declared.task.Attr.{Attr}
@@ -13,9 +12,9 @@ use Rattle.iscsi_tasks.specs.declared.counts.Counts.{Counts}
 use Rattle.iscsi_tasks.specs.declared.marks.Marks.{Marks}
 use Rattle.iscsi_tasks.specs.Rules.{is_head_of, is_ordered_of}
 use Rattle.iscsi_tasks.specs.Sets.{is_new}
-use Rattle.iscsi_tasks.specs.Counted.{IsCounted, is_head_in, is_ordered_in, plus_one_if, shifted_by, with_last, without_one, with_enabled, enabled_now, given_now}
+use Rattle.iscsi_tasks.specs.Counted.{IsCounted, is_head_in, is_ordered_in, plus_one_if, shifted_by, with_last, without_one, with_enabled, given_now}
 use Rattle.iscsi_tasks.specs.Chains.{AreApart}
-use Rattle.iscsi_tasks.specs.Marked.{IsMarked, IsPastNone, IsFirstNew, moved_off, pushed_by, left_by, enabled_by, is_none_marked}
+use Rattle.iscsi_tasks.specs.Marked.{IsMarked, IsPastNone, moved_off, pushed_by, left_by, enabled_by, is_none_marked}
 use Rattle.iscsi_tasks.proofs.ChainLemmas.{not_end, same_to_end}
 use Rattle.iscsi_tasks.proofs.CountLemmas.{first-le, counted_push, shifted_cases, ordered_shifted, one_less, counted_remove, enabled_up_to, parts-length, counted_enabled, counted_none, counted_given}
 

@@ -75,10 +75,6 @@ is_free_behind c len Simple = c.heads == 0 && c.ordered_at == len
 abbrev pub free_to : Counts → ℕ → ℕ
 free_to c len = min len (max 1 c.ordered_at)
 
--- no command is enabled and wasn't given
-abbrev pub is_none_new : Counts → Bool
-is_none_new c = not (nat_lt c.new_from c.new_to)
-
 abbrev pub plus_one_if : Bool → ℕ → ℕ
 plus_one_if b n = if b then n + 1 else n
 
@@ -153,6 +149,12 @@ covered_from_with number len t = if len == 0 then covered_from t else int_min nu
 -- the least one of these commands
 abbrev pub covered_from_in : List Member → ℤ
 covered_from_in list = fold (λ n m. int_min n (covered_from m.task)) greatest_number list
+
+-- that of the set, of which this covered nothing
+abbrev pub covered_from_after : ℤ → Cover → List Member → ℤ
+covered_from_after number AllOfThem list = number
+covered_from_after number (Conn cid) list = number
+covered_from_after number (Below at event) list = covered_from_in list
 
 -- that of the oldest
 abbrev pub covered_from_first : List Member → ℤ

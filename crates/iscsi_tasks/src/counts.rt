@@ -2,7 +2,7 @@
 
 ghost use Rattle.std.specs.Prelude.{◌≡◌, ◌<◌, ◌≤◌, true};
 ghost use Rattle.iscsi_tasks.specs.Rules.{is_head_of};
-ghost use Rattle.iscsi_tasks.specs.Counted.{is_free_behind, free_to, is_none_new, plus_one_if, shifted_by, new_from_with, new_to_with, with_last, without_one, with_enabled};
+ghost use Rattle.iscsi_tasks.specs.Counted.{is_free_behind, free_to, plus_one_if, shifted_by, new_from_with, new_to_with, with_last, without_one, with_enabled};
 
 use crate::member::Member;
 use crate::task::Attr;
@@ -47,13 +47,6 @@ impl Counts {
             Attr::Ordered => len == 0,
             Attr::Simple => self.heads == 0 && self.ordered_at == len,
         }
-    }
-
-    /// Whether no command is enabled and wasn't given. False tells nothing.
-    pub(crate) fn is_none_new(&self) -> bool
-        ensures { result ≡ is_none_new self.now }
-    {
-        self.new_from >= self.new_to
     }
 
     /// How many of `len` commands, from the oldest on, are free, where none is HEAD OF QUEUE: those before the oldest

@@ -8,7 +8,6 @@ mod chain;
 mod counts;
 mod cover;
 mod fault;
-mod front;
 mod linked_front;
 mod linked_queue;
 mod linked_set;
@@ -18,7 +17,6 @@ mod node;
 mod numbers;
 mod queue;
 mod roster;
-mod search;
 mod set;
 mod task;
 

@@ -13,7 +13,7 @@ use crate::linked_front::{first_number, numbers_along, remove_covered};
 use crate::linked_queue::{give_next, let_go, push, slot_of};
 use crate::marks::Marks;
 use crate::numbers::ascends_with;
-use crate::set::{MOST_TASKS, covered_from_with, ticket_if};
+use crate::set::{MOST_TASKS, covered_from_with};
 use crate::task::{Attr, Task};
 use std::alloc::Global;
 use std::marker::Model;
@@ -274,4 +274,11 @@ fn test_free(looked: &mut u32, marks: &Marks, len: usize, attr: Attr) -> bool
 {
     *looked += 1;
     marks.is_free_behind(len, attr)
+}
+
+/// The ticket of a command, if it is given.
+fn ticket_if(given: bool, task: &Task) -> Option<u64>
+    ensures { result ≡ ticket_if given task.now }
+{
+    if given { Some(task.ticket) } else { None }
 }

@@ -3,13 +3,12 @@
 ghost use Rattle.std.specs.Prelude.{◌≡◌, ◌↔◌, ℕ, ◌+◌, ◌<◌, ◌≤◌, ◌==◌, [], ◌∷◌, ◌++◌, map, take, drop, length, position, slice_index_or, find, option_map, option_and_then, slice_get, All, true, false};
 ghost use Rattle.std.specs.List.{position_or_len, remove};
 ghost use Rattle.iscsi_tasks.specs.Sets.{InOrder, after_moment, is_head_of, is_covered, is_new, next_in, given_in, uncovered, list_staying, ticket_if};
-ghost use Rattle.iscsi_tasks.specs.Counted.{IsPlaceOf, IsEnabledPlace, IsCounted, AreHeadsEnabled, is_ordered_in, free_to, enabled_now};
+ghost use Rattle.iscsi_tasks.specs.Counted.{IsPlaceOf, IsEnabledPlace, IsCounted, AreHeadsEnabled, is_ordered_in, free_to, enabled_now, covered_from_in};
 
 use crate::counts::{Counts, shifted_by};
 use crate::cover::Cover;
 use crate::member::Member;
 use crate::roster::Roster;
-use crate::search::count_below;
 use crate::task::Task;
 
 /// Where the command with this ticket is. It looks at the place `guess` first, and then at the oldest command, which
@@ -24,7 +23,7 @@ pub(crate) fn place_of(members: &Roster, ticket: u64, guess: usize) -> Option<us
     if is_at(members, 0, ticket) {
         return Some(0);
     }
-    let at = count_below(members, ticket);
+    let at = first_from(members, ticket);
     if at < members.len() && members.at(at).task.ticket == ticket {
         Some(at)
     } else {
@@ -43,6 +42,27 @@ pub(crate) fn enabled_place(members: &Roster, ticket: u64, guess: usize) -> Opti
     } else {
         None
     }
+}
+
+/// How many commands have a lower ticket, by binary search.
+fn first_from(members: &Roster, ticket: u64) -> usize
+    requires { InOrder members.now.items }
+    ensures within { result ≤ length members.now.items }
+    ensures below { (k : ℕ) (d : Member) → k < result → (slice_index_or members.now.items k d).task.ticket < ticket }
+    ensures above { (k : ℕ) (d : Member) → result ≤ k → k < length members.now.items →
+        ticket ≤ (slice_index_or members.now.items k d).task.ticket }
+{
+    let mut low = 0;
+    let mut high = members.len();
+    while low < high {
+        let middle = low + (high - low) / 2;
+        if members.at(middle).task.ticket < ticket {
+            low = middle + 1;
+        } else {
+            high = middle;
+        }
+    }
+    low
 }
 
 /// Whether the command at a place has this ticket.
@@ -90,28 +110,33 @@ pub(crate) fn covered_at(members: &Roster, at: usize, cover: &Cover) -> Option<u
     }
 }
 
+/// From which number on functions may cover one of the commands. It looks at each of them.
+pub(crate) fn covered_from_in(members: &Roster) -> i64
+    ensures { result ≡ covered_from_in members.now.items }
+{
+    let mut least = i64::MAX;
+    for k in 0..members.len() {
+        least = least.min(members.at(k).task.covered_from());
+    }
+    least
+}
+
 /// The command enters behind all others.
-pub(crate) fn push(
-    members: &mut Roster,
-    counts: &mut Counts,
-    task: Task,
-    enabled: bool,
-    given: bool,
-)
+pub(crate) fn push(members: &mut Roster, counts: &mut Counts, task: Task, enabled: bool)
     requires counted { IsCounted counts.old members.old.items }
     requires len { length members.old.items < 1024 }
     requires room { length members.old.items < members.old.room }
     requires newest { All (λ m. m.task.ticket < task.ticket) members.old.items }
     requires head { is_head_of task.attr ≡ true → enabled ≡ true }
-    ensures items { members.new.items ≡ members.old.items
-        ++ record { task = task; enabled = enabled; given = given } ∷ [] }
+    ensures items { members.new.items ≡ members.old.items ++ record { task = task; enabled = enabled; given = false }
+        ∷ [] }
     ensures room { members.new.room ≡ members.old.room }
     ensures counted { IsCounted counts.new members.new.items }
 {
     let member = Member {
         task,
         enabled,
-        given,
+        given: false,
     };
     *counts = counts.with_last(members.len(), &member);
     members.push(member);
@@ -131,8 +156,8 @@ pub(crate) fn remove(members: &mut Roster, counts: &mut Counts, at: usize)
     *counts = counts.without(at, attr, ordered_at);
 }
 
-/// The covered commands leave, all of them before one moment. The others close up. It looks at each command.
-pub(crate) fn remove_everywhere(members: &mut Roster, counts: &mut Counts, cover: &Cover)
+/// The covered commands leave, all of them before one moment. The others close up.
+pub(crate) fn remove_covered(members: &mut Roster, counts: &mut Counts, cover: &Cover)
     requires counted { IsCounted counts.old members.old.items }
     requires len { length members.old.items ≤ 1024 }
     ensures items { members.new.items ≡ list_staying (is_covered cover.now) members.old.items }

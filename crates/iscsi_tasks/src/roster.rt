@@ -53,8 +53,7 @@ impl Roster {
 
     /// How many members there are.
     pub(crate) fn len(&self) -> usize
-        ensures len { result ≡ length self.now.items }
-        ensures few { length self.now.items ≤ 65535 }
+        ensures { result ≡ length self.now.items }
     {
         self.order.len()
     }
@@ -85,8 +84,7 @@ impl Roster {
         self.order.push(slot);
     }
 
-    /// The member at a place leaves. Those on the shorter side of it close up; none moves where it is the oldest one or
-    /// the youngest.
+    /// The member at a place leaves. Those on the shorter side of it close up; none moves where it is the oldest one.
     pub(crate) fn remove(&mut self, k: usize)
         requires { k < length self.old.items }
         ensures { self.new ≡ queued (remove self.old.items k) self.old.room }

@@ -1,19 +1,17 @@
 //! The task set: its commands in the order in which they entered.
 
-ghost use Rattle.std.specs.Prelude.{Err, ◌≡◌, ◌+◌, ◌<◌, ◌≤◌, ◌⊎◌, ◌↔◌, List, [], ◌∷◌, ◌&&◌, length, filter, drop, slice_index_or, position, IsSome, Option, Some, false, All, IsTrue, IfSome, IfOk, IfErr, OnOk, OnErr};
-ghost use Rattle.iscsi_tasks.specs.Sets.{tasks_in, opened, InOrder, IsNewest, entered_to, refused_by, left_by, with_ticket, with_tag, first_covered, is_covered, covered_at, ticket_if, set_staying, is_enabled_in, is_enabled_with, next_in, given_by, StaysFree};
+ghost use Rattle.std.specs.Prelude.{Err, ◌≡◌, ◌+◌, ◌<◌, ◌≤◌, ◌⊎◌, ◌↔◌, List, [], ◌∷◌, length, filter, slice_index_or, position, IsSome, Option, Some, false, All, IsTrue, IfSome, IfOk, IfErr, OnOk, OnErr};
+ghost use Rattle.iscsi_tasks.specs.Sets.{tasks_in, opened, InOrder, IsNewest, entered_to, refused_by, left_by, with_ticket, with_tag, first_covered, is_covered, covered_at, set_staying, is_enabled_in, is_enabled_with, next_in, given_by, StaysFree};
 ghost use Rattle.iscsi_tasks.specs.Changes.{Change, Entered, Left, AllBelow, StandsFor, live, IsEnabled, next_after, after_giving, after_leaving, after_all_left};
-ghost use Rattle.iscsi_tasks.specs.Counted.{is_free_behind, covered_from_with, taken_in};
+ghost use Rattle.iscsi_tasks.specs.Counted.{is_free_behind, covered_from_with, covered_from_after};
 
 use crate::counts::Counts;
 use crate::cover::Cover;
 use crate::fault::TaskFault;
-use crate::front::{covered_to, remove_covered};
 use crate::member::Member;
-use crate::numbers::{Numbers, ascends_with, oldest_covered_from};
 use crate::queue::{
-    covered_at, enable_free, enabled_place, first_covered, give_next, place_of, push, remove,
-    with_tag,
+    covered_at, covered_from_in, enable_free, enabled_place, first_covered, give_next, place_of,
+    push, remove, remove_covered, with_tag,
 };
 use crate::roster::Roster;
 use crate::task::{Attr, Task};
@@ -32,17 +30,13 @@ pub(crate) const MOST_TASKS: u32 = 1024;
 /// enabled until it leaves.
 ///
 /// The set tests no command twice. Counts and the order of entering tell what a leaving enables, and tickets, which go
-/// up along the set, are found by a search. And it keeps a number below which no function covers a command, so that a
+/// up along the set, are found by halving. And it keeps a number below which no function covers a command, so that a
 /// function with a lower one looks at none.
 pub struct TaskSet {
     depth: u32,
     looked: u32,
     /// No function with a number below this one covers a command of the set.
     covered_from: i64,
-    /// Whether the numbers from which on functions may cover the commands go up along the set ..
-    ascends: bool,
-    /// .. and none is above this one then.
-    ascends_to: i64,
     counts: Counts,
     members: Roster,
 }
@@ -53,8 +47,6 @@ impl Drop for TaskSet {
             depth: _depth,
             looked: _looked,
             covered_from: _covered_from,
-            ascends: _ascends,
-            ascends_to: _ascends_to,
             counts: _counts,
             members: _members,
         } = self;
@@ -64,14 +56,13 @@ impl Drop for TaskSet {
 impl Model for TaskSet {
     ghost use Rattle.std.specs.Prelude.{◌≡◌};
     ghost use Rattle.iscsi_tasks.specs.Sets.{Members};
-    ghost use Rattle.iscsi_tasks.specs.Counted.{IsKeptInFront};
+    ghost use Rattle.iscsi_tasks.specs.Counted.{IsKept};
 
     ghost Value = { Members };
 
     ghost view = { λ s. record { depth = s.depth; looked = s.looked; list = s.members.items } };
 
-    ghost invariant = { λ s. IsKeptInFront s.depth s.members.room s.covered_from s.ascends s.ascends_to s.counts
-        s.members.items };
+    ghost invariant = { λ s. IsKept s.depth s.members.room s.covered_from s.counts s.members.items };
 }
 
 impl TaskSet {
@@ -91,8 +82,6 @@ impl TaskSet {
             depth,
             looked: 0,
             covered_from: i64::MAX,
-            ascends: true,
-            ascends_to: i64::MAX,
             counts: Counts::new(),
             members,
         })
@@ -135,30 +124,15 @@ impl TaskSet {
             OnOk result (StandsFor self.new (Entered task ∷ h)) }
         ensures stands_full { (h : List Change) → StandsFor self.old h → OnErr result (StandsFor self.new h) }
     {
-        self.take_in(task, false)?;
-        Ok(())
-    }
-
-    /// The command enters the set, and the oldest enabled ticket is given that no call gave before: what `enter` and then
-    /// `next_new` do. Where no other command waits for its ticket to be given, the command is written once.
-    pub fn enter_and_give(&mut self, task: Task) -> Result<Option<u64>, Task>
-        requires { IsNewest task.ticket self.old }
-        ensures ok { OnOk result ((length self.old.list < self.old.depth)
-            × (self.new ≡ given_by (entered_to self.old task))) }
-        ensures given { IfOk result (λ ticket. ticket ≡ next_in (entered_to self.old task).list) }
-        ensures full { OnErr result ((length self.old.list ≡ self.old.depth) × (self.new ≡ refused_by self.old)) }
-        ensures back { IfErr result (λ t. t ≡ task) }
-        ensures stands { (h : List Change) → StandsFor self.old h → AllBelow task.ticket h →
-            IfOk result (λ ticket. (ticket ≡ next_after (Entered task ∷ h))
-            × StandsFor self.new (after_giving ticket (Entered task ∷ h))) }
-        ensures stands_full { (h : List Change) → StandsFor self.old h → OnErr result (StandsFor self.new h) }
-    {
-        let is_alone = self.counts.is_none_new();
-        let enabled = self.take_in(task, is_alone)?;
-        if !is_alone {
-            return Ok(self.next_new());
+        let len = self.members.len();
+        self.looked = 0;
+        if len == self.depth as usize {
+            return Err(task);
         }
-        Ok(ticket_if(enabled, &task))
+        let enabled = test_free(&mut self.looked, &self.counts, len, task.attr);
+        self.covered_from = covered_from_with(self.covered_from, len, &task);
+        push(&mut self.members, &mut self.counts, task, enabled);
+        Ok(())
     }
 
     /// The command with this ticket leaves. Where there is none, nothing changes.
@@ -188,17 +162,6 @@ impl TaskSet {
         self.take_out(place as usize)
     }
 
-    /// The command at this place, counted from the oldest, leaves: what `leave_at` does, for a caller that has the
-    /// command.
-    pub fn remove_at(&mut self, place: u32)
-        requires { place < length self.old.list }
-        ensures state { (d : Member) → self.new ≡ left_by self.old (Some (slice_index_or self.old.list place d).task) }
-        ensures stands { (h : List Change) (d : Member) → StandsFor self.old h →
-            StandsFor self.new (Left (slice_index_or self.old.list place d).task.ticket ∷ h) }
-    {
-        self.let_go(place as usize);
-    }
-
     /// The oldest of the covered commands leaves. Where none is covered, nothing changes.
     ///
     /// It looks along the set: aborts are rare, and what they cover is no part of its order. For a function whose
@@ -213,7 +176,7 @@ impl TaskSet {
             return None;
         }
         let Some(at) = first_covered(&self.members, cover) else {
-            self.renumber(cover);
+            self.covered_from = covered_from_after(self.covered_from, cover, &self.members);
             return None;
         };
         Some(self.take_out(at))
@@ -224,20 +187,6 @@ impl TaskSet {
         ensures none { result ≡ false → All (λ t. is_covered cover.now t ≡ false) (tasks_in self.now) }
     {
         !cover.is_below(self.covered_from)
-    }
-
-    /// How many commands, counted from the oldest, are to be asked for one that is covered: from that place on none is.
-    ///
-    /// Where the commands entered in the order of their numbers, each immediate one with the number that was expected
-    /// next, those before a function are in front, and it finds the end of them by halving.
-    pub fn covered_to(&self, cover: &Cover) -> u32
-        ensures within { result ≤ length self.now.list }
-        ensures past { All (λ t. is_covered cover.now t ≡ false) (drop result (tasks_in self.now)) }
-    {
-        if cover.is_below(self.covered_from) {
-            return 0;
-        }
-        covered_to(&self.members, self.ascends, cover) as u32
     }
 
     /// The ticket of the command at this place, counted from the oldest, if it is covered.
@@ -251,9 +200,7 @@ impl TaskSet {
     /// All covered commands leave, and what becomes enabled does so in one moment behind them. Where none is covered,
     /// nothing changes.
     ///
-    /// Where the commands entered in the order of their numbers, each immediate one with the number that was expected
-    /// next, it looks at those before the function and at one behind them. Else, and for the other covers, it looks at
-    /// each command and counts those that stay anew. It looks at none where `may_cover` is false.
+    /// It looks at each command, and counts those that stay anew. It looks at none where `may_cover` is false.
     pub fn leave_covered(&mut self, cover: &Cover)
         ensures state { self.new ≡ set_staying (is_covered cover.now) self.old }
         // It is as if they left one after the other, the oldest first.
@@ -263,8 +210,8 @@ impl TaskSet {
         if cover.is_below(self.covered_from) {
             return;
         }
-        remove_covered(&mut self.members, &mut self.counts, self.ascends, cover);
-        self.renumber(cover);
+        remove_covered(&mut self.members, &mut self.counts, cover);
+        self.covered_from = covered_from_after(self.covered_from, cover, &self.members);
     }
 
     /// The place of the command with this ticket, counted from the oldest, if it is in the set and enabled.
@@ -312,66 +259,16 @@ impl TaskSet {
         give_next(&mut self.members, &mut self.counts)
     }
 
-    /// The command enters behind all others, and whether it is enabled. Where it `gives`, its ticket is given at once if
-    /// it is. Where the set is full it comes back.
-    fn take_in(&mut self, task: Task, gives: bool) -> Result<bool, Task>
-        requires { IsNewest task.ticket self.old }
-        ensures ok { IfOk result (λ enabled. (length self.old.list < self.old.depth)
-            × (self.new ≡ taken_in self.old task enabled (gives && enabled))
-            × (entered_to self.old task ≡ taken_in self.old task enabled false)) }
-        ensures full { OnErr result ((length self.old.list ≡ self.old.depth) × (self.new ≡ refused_by self.old)) }
-        ensures back { IfErr result (λ t. t ≡ task) }
-    {
-        let len = self.members.len();
-        self.looked = 0;
-        if len == self.depth as usize {
-            return Err(task);
-        }
-        let enabled = test_free(&mut self.looked, &self.counts, len, task.attr);
-        self.covered_from = covered_from_with(self.covered_from, len, &task);
-        self.ascends = ascends_with(self.ascends, self.ascends_to, len, &task);
-        self.ascends_to = task.covered_from();
-        let given = gives && enabled;
-        push(&mut self.members, &mut self.counts, task, enabled, given);
-        Ok(enabled)
-    }
-
-    /// Determines anew from which number on functions may cover commands, once one has covered none of them, so that the
-    /// next one like it needn't look along the set. Where they didn't go up along it they may do so now.
-    fn renumber(&mut self, cover: &Cover)
-        ensures { self.new ≡ self.old }
-    {
-        let Cover::Below { .. } = *cover else {
-            return;
-        };
-        if self.ascends {
-            self.covered_from = oldest_covered_from(&self.members);
-            return;
-        }
-        let numbers = Numbers::of(&self.members);
-        self.covered_from = numbers.least;
-        self.ascends = numbers.ascends;
-        self.ascends_to = numbers.most;
-    }
-
-    /// The command at this place leaves, and is the answer.
+    /// The command at this place leaves.
     fn take_out(&mut self, at: usize) -> Task
         requires { at < length self.old.list }
         ensures answer { (d : Member) → result ≡ (slice_index_or self.old.list at d).task }
         ensures state { self.new ≡ left_by self.old (Some result) }
     {
         let task = self.members.at(at).task;
-        self.let_go(at);
-        task
-    }
-
-    /// The command at this place leaves.
-    fn let_go(&mut self, at: usize)
-        requires { at < length self.old.list }
-        ensures { (d : Member) → self.new ≡ left_by self.old (Some (slice_index_or self.old.list at d).task) }
-    {
         remove(&mut self.members, &mut self.counts, at);
         enable_free(&mut self.members, &mut self.counts);
+        task
     }
 }
 
@@ -385,13 +282,6 @@ fn test_free(looked: &mut u32, counts: &Counts, len: usize, attr: Attr) -> bool
     counts.is_free_behind(len, attr)
 }
 
-/// The ticket of a command, if it is given.
-pub(crate) fn ticket_if(given: bool, task: &Task) -> Option<u64>
-    ensures { result ≡ ticket_if given task.now }
-{
-    if given { Some(task.ticket) } else { None }
-}
-
 /// From which number on functions may cover commands of a set, once this one has entered it behind `len` others.
 pub(crate) fn covered_from_with(covered_from: i64, len: usize, task: &Task) -> i64
     ensures { result ≡ covered_from_with covered_from len task.now }
@@ -400,5 +290,16 @@ pub(crate) fn covered_from_with(covered_from: i64, len: usize, task: &Task) -> i
         task.covered_from()
     } else {
         covered_from.min(task.covered_from())
+    }
+}
+
+/// From which number on functions may cover commands of a set, once this has covered none of them. For a function it is
+/// determined anew, so that the next one like it needn't look along the set.
+fn covered_from_after(covered_from: i64, cover: &Cover, members: &Roster) -> i64
+    ensures { result ≡ covered_from_after covered_from cover.now members.now.items }
+{
+    match *cover {
+        Cover::Below { .. } => covered_from_in(members),
+        _ => covered_from,
     }
 }

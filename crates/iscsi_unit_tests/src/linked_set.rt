@@ -171,7 +171,11 @@ impl Calls {
     /// A ticket near the last one, and now and then one that none had.
     fn any_ticket(&mut self) -> u64 {
         let random = self.random();
-        let back = if random % 4 == 0 { 4096 } else { 2 * u64::from(DEPTH) };
+        let back = if random % 4 == 0 {
+            4096
+        } else {
+            2 * u64::from(DEPTH)
+        };
         self.ticket.wrapping_sub(random / 4 % back)
     }
 
@@ -247,7 +251,10 @@ fn linked_sets_answer_as_plain_ones_do(rt: HostRuntime) -> Result<(), Fail> {
                 for k in 0..10_000 {
                     agree &= calls.step(k % 2048 < 1024);
                 }
-                assert!(rt; agree, "{depth} deep, {ordered} ORDERED, {heads} HEAD OF QUEUE, {strays}");
+                assert!(rt;
+                    agree,
+                    "{depth} deep, {ordered} ORDERED, {heads} HEAD OF QUEUE, {strays}"
+                );
             }
         }
     }

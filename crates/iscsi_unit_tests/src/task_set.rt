@@ -320,9 +320,6 @@ fn enter_shape(rt: &impl Abort, set: &mut TaskSet, shape: u32) {
 
 /// The covered commands leave the one set together and the other one by one. Both hold and give the same then.
 fn leave_both_ways(rt: &impl Abort, together: &mut TaskSet, apart: &mut TaskSet, cover: &Cover) {
-    for at in together.covered_to(cover)..5 {
-        assert_eq!(rt; together.covered_at(at, cover), None);
-    }
     together.leave_covered(cover);
     for _ in 0..5 {
         apart.leave_first(cover);
@@ -348,74 +345,6 @@ fn a_function_takes_out_what_it_covers_in_any_order(rt: HostRuntime) -> Result<(
             assert_eq!(rt; together.len(), 0);
         }
     }
-    Ok(())
-}
-
-/// The command enters, and the next ticket is given.
-fn enter_and_give(
-    rt: &impl Abort,
-    set: &mut TaskSet,
-    task: Task,
-    at_once: bool,
-) -> Result<Option<u64>, Task> {
-    assert!(rt; is_newest(set, task.ticket));
-    if at_once {
-        return set.enter_and_give(task);
-    }
-    set.enter(task)?;
-    Ok(set.next_new())
-}
-
-/// The command in the middle leaves.
-fn leave_middle(set: &mut TaskSet, by_removing: bool) {
-    let place = set.len() / 2;
-    if place >= set.len() {
-        return;
-    }
-    if by_removing {
-        set.remove_at(place);
-    } else {
-        set.leave_at(place);
-    }
-}
-
-/// The ways in which five commands enter, by the digits of `shape` to the base 6, and leave: what is given.
-fn give_all(rt: &impl Abort, set: &mut TaskSet, shape: u32, at_once: bool) -> [Option<u64>; 11] {
-    let mut given = [None; 11];
-    let mut digits = shape;
-    for k in 0..5 {
-        let attr = [Attr::Simple, Attr::Ordered, Attr::Head][(digits % 3) as usize];
-        let next = task(k as u64 + 1, attr);
-        if digits % 6 < 3 {
-            let entered = enter_and_give(rt, set, next, at_once);
-            assert!(rt; entered.is_ok());
-            given[k] = entered.unwrap_or(None);
-        } else {
-            // Its ticket waits to be given.
-            assert_eq!(rt; enter(rt, set, next), Ok(()));
-        }
-        digits /= 6;
-    }
-    for k in 5..11 {
-        given[k] = set.next_new();
-        leave_middle(set, at_once);
-    }
-    given
-}
-
-#[test]
-fn a_ticket_is_given_at_once_as_it_is_by_two_calls(rt: HostRuntime) -> Result<(), Fail> {
-    for shape in 0..7776 {
-        let mut one = TaskSet::open(rt.alloc(), 5)?;
-        let mut two = TaskSet::open(rt.alloc(), 5)?;
-        let given = give_all(&rt, &mut one, shape, true);
-        assert_eq!(rt; given, give_all(&rt, &mut two, shape, false), "of {shape}");
-        assert_eq!(rt; (one.len(), two.len()), (0, 0));
-    }
-    let mut full = TaskSet::open(rt.alloc(), 1)?;
-    let first = enter_and_give(&rt, &mut full, task(1, Attr::Simple), true);
-    let late = enter_and_give(&rt, &mut full, task(2, Attr::Head), true);
-    assert_eq!(rt; (first, late), (Ok(Some(1)), Err(task(2, Attr::Head))));
     Ok(())
 }
 

@@ -1,15 +1,19 @@
-use Rattle.std.proofs.Common.{rules, ◌+◌, refl, arith}
-use Rattle.iscsi_slots.proofs.OrderLemmas.{none_moved, closed_down}
+use Rattle.std.proofs.Common.{◌≡◌, ◌+◌, ◌-◌, ◌∙◌, suc, drop, drop-drop, ap, sym, arith}
+use Rattle.std.specs.List.{remove}
+use Rattle.iscsi_slots.proofs.SlotLemmas.{drop-moved_block}
 use Rattle.iscsi_slots.proofs.order.close_down.Goals as goal
 
 pub returns-then-count-gt0-clause-slots : goal.returns-then-count-gt0-clause-slots
 returns-then-count-gt0-clause-slots c =
-    closed_down c.args.order.now.items c.copy_within.new.self.items (search rules) _ _ _ c.copy_within.ensures.by_index c.args.head c.args.count
-    c.requires (omega arith) (omega arith) (omega arith)
+    let from = c.args.head - c.filler.result in
+    let many : c.args.head + c.args.count - from ≡ c.filler.result + c.args.count = omega (arith, c.filler.ensures) in
+    let next : from + 1 ≡ suc from = omega arith in
+    let past : c.args.head + 1 ≡ suc c.args.head = omega arith in
+    rw (c.copy_within.ensures.items, many, next, past)
+    (drop-moved_block c.args.order.now.items from c.filler.result c.args.head c.args.count (suc from + (c.filler.result + c.args.count))
+    (omega (arith, c.filler.ensures)) c.requires (omega (arith, c.filler.ensures)))
 
 pub returns-else-count-gt0-clause-slots : goal.returns-else-count-gt0-clause-slots
 returns-else-count-gt0-clause-slots c =
-    let places = c.args.order.now.items in
-    let head = c.args.head in
-    closed_down places places refl head (head + 1) 0 (none_moved places head (head + 1)) head c.args.count
-    c.requires (omega arith) refl (omega arith)
+    let none : 0 ≡ c.args.count = omega (arith, c.if-count-gt0.false) in
+    sym (drop-drop 1 c.args.head c.args.order.now.items) ∙ ap (remove (drop c.args.head c.args.order.now.items)) none

@@ -1,4 +1,4 @@
-use Rattle.std.proofs.Common.{◌≡◌, ◌∙◌, ◌+◌, ◌<◌, ◌≤◌, ◌≤ℤ◌, ◌++◌, ◌∷◌, [], ℕ, suc, List, Bool, true, false, length, get_or, take, drop, map, All, refl, ap, sym, subst, arith, ⊎_elim}
+use Rattle.std.proofs.Common.{◌≡◌, ◌∙◌, ◌+◌, ◌<◌, ◌≤◌, ◌≤ℤ◌, ◌++◌, ◌∷◌, [], ℕ, suc, List, Bool, true, false, length, get_or, take, drop, All, ap, sym, arith, ⊎_elim}
 use Rattle.std.specs.List.{remove}
 use Rattle.std.proofs.lemmas.Int.{ints}
 use Rattle.std.proofs.lemmas.Bool.{cases_eq}
@@ -7,12 +7,11 @@ use Rattle.std.proofs.lemmas.List.Edits.{get_or-remove_above}
 use Rattle.iscsi_slots.specs.Slots.{times}
 use Rattle.iscsi_tasks.specs.declared.task.Task.{Task}
 use Rattle.iscsi_tasks.specs.declared.member.Member.{Member}
-use Rattle.iscsi_tasks.specs.declared.node.Node.{Node}
 use Rattle.iscsi_tasks.specs.Sets.{is_covered}
 use Rattle.iscsi_tasks.specs.Counted.{IsAscending, covered_from}
 use Rattle.iscsi_tasks.specs.Rosters.{BLANK}
 use Rattle.iscsi_tasks.specs.Chains.{Chained, member_of}
-use Rattle.iscsi_tasks.specs.Marked.{IsMarked, covered_tickets}
+use Rattle.iscsi_tasks.specs.Marked.{covered_tickets}
 use Rattle.iscsi_tasks.proofs.PassingLemmas.{kept_yet, passed, yet_at, yet_inside, yet_without, yet_with, yet_all, tickets_more, tickets_all}
 use Rattle.iscsi_tasks.proofs.MarkedLemmas.{some_at}
 use Rattle.iscsi_tasks.proofs.linked_front.keep_uncovered.Goals as goal

@@ -1,11 +1,11 @@
-use Rattle.std.proofs.Common.{◌≡◌, ◌∙◌, ◌+◌, ◌<◌, ℤ, take, length, get_or, w64, to_z, of_z, rules, refl, ap, sym, subst, arith}
+use Rattle.std.proofs.Common.{◌≡◌, ◌∙◌, ◌+◌, ◌<◌, ℤ, take, length, get_or, w64, to_z, of_z, rules, ap, sym, subst, arith}
 use Rattle.std.specs.Int.{int_min}
 use Rattle.std.proofs.lemmas.Int.{to_z-of_z}
 use Rattle.std.proofs.lemmas.List.Sums.{fold_more}
 use Rattle.iscsi_tasks.specs.declared.member.Member.{Member}
 use Rattle.iscsi_tasks.specs.Chains.{member_of}
 use Rattle.iscsi_tasks.specs.Counted.{covered_from, covered_from_in, greatest_number, IsAscendingTo}
-use Rattle.iscsi_tasks.proofs.FrontLemmas.{ascending_none, ascending_more}
+use Rattle.iscsi_tasks.proofs.FrontLemmas.{ascending_more}
 use Rattle.iscsi_tasks.proofs.MarkedLemmas.{some_at}
 use Rattle.iscsi_tasks.proofs.linked_front.numbers_along.Goals as goal
 

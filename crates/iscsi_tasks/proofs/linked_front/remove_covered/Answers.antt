@@ -1,4 +1,4 @@
-use Rattle.std.proofs.Common.{◌∙◌, ap, sym, arith}
+use Rattle.std.proofs.Common.{◌∙◌, ap, arith}
 use Rattle.iscsi_tasks.specs.Sets.{is_covered}
 use Rattle.iscsi_tasks.specs.Chains.{Chained}
 use Rattle.iscsi_tasks.proofs.StayingLemmas.{staying_same, staying_fewer}

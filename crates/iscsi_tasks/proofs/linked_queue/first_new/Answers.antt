@@ -1,4 +1,4 @@
-use Rattle.std.proofs.Common.{◌≡◌, ◌∙◌, ◌+◌, ◌<◌, ◌≤◌, ℕ, List, length, get_or, position, None, Some, false, ap, sym, arith, ⊎_elim}
+use Rattle.std.proofs.Common.{◌≡◌, ◌∙◌, ◌+◌, ◌<◌, ◌≤◌, ℕ, List, length, get_or, position, None, false, ap, sym, arith, ⊎_elim}
 use Rattle.std.proofs.lemmas.Bool.{cases_lt, cases_Bool}
 use Rattle.iscsi_tasks.specs.declared.member.Member.{Member}
 use Rattle.iscsi_tasks.specs.declared.marks.Marks.{Marks}

@@ -1,6 +1,5 @@
-use Rattle.std.proofs.Common.{◌≡◌, ◌≢◌, ◌+◌, ◌∙◌, ◌<◌, ◌≤◌, ℕ, length, get_or, max, ap, sym, arith}
+use Rattle.std.proofs.Common.{◌≡◌, ◌≢◌, ◌+◌, ◌∙◌, get_or, max, ap, sym, arith}
 use Rattle.std.specs.List.{position_or_len}
-use Rattle.std.proofs.lemmas.List.{get_or_past}
 use Rattle.iscsi_tasks.specs.Counted.{is_ordered_in}
 use Rattle.iscsi_tasks.proofs.ChainLemmas.{not_end, same_to_end}
 use Rattle.iscsi_tasks.proofs.CountLemmas.{first-le}

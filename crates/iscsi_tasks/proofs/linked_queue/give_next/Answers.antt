@@ -1,12 +1,11 @@
-use Rattle.std.proofs.Common.{◌≡◌, ◌∙◌, ◌+◌, ◌<◌, ◌≤◌, ℕ, List, Some, position, length, get_or, set, true, false, ap, sym, subst, arith}
+use Rattle.std.proofs.Common.{◌≡◌, ◌∙◌, ◌<◌, ℕ, List, Some, position, length, get_or, set, true, false, ap, sym, subst, arith}
 use Rattle.std.proofs.lemmas.List.{get_or_default}
 use Rattle.std.proofs.lemmas.List.Quantifiers.{position-Some}
-use Rattle.iscsi_slots.specs.Slots.{times}
 use Rattle.iscsi_tasks.specs.declared.member.Member.{Member}
-use Rattle.iscsi_tasks.specs.Sets.{is_new, given_in}
+use Rattle.iscsi_tasks.specs.Sets.{is_new}
 use Rattle.iscsi_tasks.specs.Counted.{given_now}
 use Rattle.iscsi_tasks.specs.Rosters.{BLANK}
-use Rattle.iscsi_tasks.specs.Chains.{Chained, chained, member_of}
+use Rattle.iscsi_tasks.specs.Chains.{Chained, chained}
 use Rattle.iscsi_tasks.specs.Marked.{IsMarked, IsFirstNew}
 use Rattle.iscsi_tasks.proofs.PlaceLemmas.{none_at_position}
 use Rattle.iscsi_tasks.proofs.GivingLemmas.{next_in_none, next_in_at, given_in_none, given_in_at}

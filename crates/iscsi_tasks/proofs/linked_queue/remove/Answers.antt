@@ -1,5 +1,5 @@
-use Rattle.std.proofs.Common.{◌≡◌, ◌∙◌, ◌<◌, length, get_or, ap, sym, subst}
-use Rattle.std.specs.List.{position_or_len, remove}
+use Rattle.std.proofs.Common.{◌∙◌, get_or, ap, sym, subst}
+use Rattle.std.specs.List.{position_or_len}
 use Rattle.iscsi_slots.proofs.SlotLemmas.{stands}
 use Rattle.iscsi_tasks.specs.declared.member.Member.{Member}
 use Rattle.iscsi_tasks.specs.declared.marks.Marks.{Marks}

@@ -1,4 +1,4 @@
-use Rattle.std.proofs.Common.{◌≡◌, List, length, sym, subst, arith, ◌∙◌, ap}
+use Rattle.std.proofs.Common.{◌≡◌, List, false, length, sym, subst, arith, ◌∙◌, ap}
 use Rattle.iscsi_slots.specs.Queued.{Queued}
 use Rattle.iscsi_tasks.specs.declared.member.Member.{Member}
 use Rattle.iscsi_tasks.specs.declared.counts.Counts.{Counts}
@@ -12,7 +12,7 @@ with_last-requires-clause-ordered_at c = omega (arith, first-le is_ordered_in c.
 pub returns-clause-counted : goal.returns-clause-counted
 returns-clause-counted c =
     let list : List Member = c.args.members.now.items in
-    let m : Member = record { task = c.args.task; enabled = c.args.enabled; given = c.args.given } in
+    let m : Member = record { task = c.args.task; enabled = c.args.enabled; given = false } in
     let len : c.len.result ≡ length list = omega arith in
     let counts : with_last c.args.counts.now (length list) m ≡ c.with_last.result = ap (λ n. with_last c.args.counts.now n m) (sym len) ∙ sym c.with_last.ensures in
     subst (λ (x : Counts). IsCounted x c.push.new.self.items) counts

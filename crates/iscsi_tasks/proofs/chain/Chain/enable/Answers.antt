@@ -1,4 +1,4 @@
-use Rattle.std.proofs.Common.{◌≡◌, ◌≤◌, true, refl, sym, subst}
+use Rattle.std.proofs.Common.{◌≤◌, true, refl, sym, subst}
 use Rattle.iscsi_slots.specs.Slots.{times}
 use Rattle.iscsi_tasks.specs.declared.node.Node.{Node}
 use Rattle.iscsi_tasks.specs.Chains.{Chained, order_in}

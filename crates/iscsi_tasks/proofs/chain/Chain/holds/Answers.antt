@@ -1,4 +1,4 @@
-use Rattle.std.proofs.Common.{◌≡◌, ◌∙◌, ◌≤◌, ◌<◌, not, false, length, ap, sym, subst, ne_eqb, arith}
+use Rattle.std.proofs.Common.{◌≡◌, ◌∙◌, ◌≤◌, not, ap, sym, subst, ne_eqb, arith}
 use Rattle.std.proofs.lemmas.List.{get_or_default}
 use Rattle.iscsi_slots.specs.Slots.{times}
 use Rattle.iscsi_tasks.specs.declared.node.Node.{Node}

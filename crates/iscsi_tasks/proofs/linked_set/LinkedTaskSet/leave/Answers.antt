@@ -1,5 +1,4 @@
-use Rattle.std.proofs.Common.{◌≡◌, ◌==◌, ◌∷◌, ◌∙◌, ℕ, List, All, None, Some, false, map, ap, sym, subst}
-use Rattle.iscsi_tasks.specs.declared.task.Task.{Task}
+use Rattle.std.proofs.Common.{◌≡◌, ◌∷◌, ◌∙◌, List, None, Some, ap, sym, subst}
 use Rattle.iscsi_tasks.specs.declared.member.Member.{Member}
 use Rattle.iscsi_tasks.specs.Sets.{Members, left_by, tasks_in, with_ticket, after_moment, without}
 use Rattle.iscsi_tasks.specs.Changes.{Left, StandsFor, after_leaving}

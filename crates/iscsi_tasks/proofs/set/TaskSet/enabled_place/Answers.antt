@@ -9,7 +9,7 @@ use Rattle.iscsi_tasks.proofs.set.TaskSet.enabled_place.Goals as goal
 pub returns-in_err-at-clause-answer : goal.returns-in_err-at-clause-answer
 returns-in_err-at-clause-answer c =
     c.from_residual.ensures
-    ∙ enabled_place_is c.self.inside.members.items c.args.ticket None c.self.invariant.kept.counted.order c.in_err-at.ensures
+    ∙ enabled_place_is c.self.inside.members.items c.args.ticket None c.self.invariant.counted.order c.in_err-at.ensures
     ∙ ap (λ (s : Members). position (is_enabled_with c.args.ticket) s.list) c.self.view_is
 
 pub returns-in_err-at-clause-command : goal.returns-in_err-at-clause-command
@@ -22,7 +22,7 @@ returns-clause-command c =
     let place = c.in_ok-at.ensures.0 in
     let view : Members = record { depth = c.self.inside.depth; looked = c.self.inside.looked; list = list } in
     subst (λ (s : Members). (c.in_ok-at.at < length s.list) × ((d : Member) → with_ticket c.args.ticket (tasks_in s) ≡ Some (get_or s.list c.in_ok-at.at d).task)) c.self.view_is
-    (let v : (c.in_ok-at.at < length view.list) × ((d : Member) → with_ticket c.args.ticket (tasks_in view) ≡ Some (get_or view.list c.in_ok-at.at d).task) = (place.0, λ d. found list c.self.invariant.kept.counted.order c.args.ticket c.in_ok-at.at place.0 place.1 d) in v)
+    (let v : (c.in_ok-at.at < length view.list) × ((d : Member) → with_ticket c.args.ticket (tasks_in view) ≡ Some (get_or view.list c.in_ok-at.at d).task) = (place.0, λ d. found list c.self.invariant.counted.order c.args.ticket c.in_ok-at.at place.0 place.1 d) in v)
 
 pub returns-in_err-at-clause-since : goal.returns-in_err-at-clause-since
 returns-in_err-at-clause-since c = λ h st.
@@ -32,7 +32,7 @@ returns-in_err-at-clause-since c = λ h st.
 
 pub returns-clause-answer : goal.returns-clause-answer
 returns-clause-answer c =
-    enabled_place_is c.self.inside.members.items c.args.ticket (Some c.in_ok-at.at) c.self.invariant.kept.counted.order c.in_ok-at.ensures
+    enabled_place_is c.self.inside.members.items c.args.ticket (Some c.in_ok-at.at) c.self.invariant.counted.order c.in_ok-at.ensures
     ∙ ap (λ (s : Members). position (is_enabled_with c.args.ticket) s.list) c.self.view_is
 
 pub returns-clause-since : goal.returns-clause-since

@@ -23,7 +23,7 @@ returns-in_err-at-clause-stays_free c = stays_free
 
 pub returns-clause-answer : goal.returns-clause-answer
 returns-clause-answer c =
-    sym (present_at c.args.self.now (record { depth = c.self.inside.depth; looked = c.self.inside.looked; list = c.self.inside.members.items }) c.args.ticket c.in_ok-at.at c.take_out.result c.self.view_is c.self.invariant.kept.counted.order c.in_ok-at.ensures c.take_out.ensures.answer)
+    sym (present_at c.args.self.now (record { depth = c.self.inside.depth; looked = c.self.inside.looked; list = c.self.inside.members.items }) c.args.ticket c.in_ok-at.at c.take_out.result c.self.view_is c.self.invariant.counted.order c.in_ok-at.ensures c.take_out.ensures.answer)
 
 pub returns-clause-state : goal.returns-clause-state
 returns-clause-state c = c.take_out.ensures.state ∙ ap (left_by c.args.self.now) (returns-clause-answer c)

@@ -1,13 +1,12 @@
-use Rattle.std.proofs.Common.{◌≡◌, ◌∙◌, ◌≤◌, Bool, filter, true, List, length, w64, map, rules, ap, sym, subst, arith}
+use Rattle.std.proofs.Common.{◌≡◌, ◌∙◌, ◌≤◌, ℤ, Bool, filter, true, List, length, w64, to_z, of_z, map, rules, ap, sym, subst, arith}
 use Rattle.std.proofs.lemmas.Int.{to_z-of_z}
 use Rattle.iscsi_tasks.specs.declared.task.Task.{Task}
 use Rattle.iscsi_tasks.specs.declared.member.Member.{Member}
 use Rattle.iscsi_tasks.specs.Sets.{Members, InOrder, is_covered, list_staying, set_staying}
 use Rattle.iscsi_tasks.specs.Changes.{Change, StandsFor, live, after_all_left}
-use Rattle.iscsi_tasks.specs.Counted.{IsSettled, IsCoveredFrom, is_below, IsAscendingTo}
+use Rattle.iscsi_tasks.specs.Counted.{IsSettled, IsCoveredFrom, is_below, covered_from_after}
 use Rattle.iscsi_tasks.proofs.AllLeftLemmas.{StandsFor-all_left}
-use Rattle.iscsi_tasks.proofs.CoveredFromLemmas.{covered_from_staying}
-use Rattle.iscsi_tasks.proofs.FrontLemmas.{ascending_staying}
+use Rattle.iscsi_tasks.proofs.CoveredFromLemmas.{covered_from_past, covered_from_staying}
 use Rattle.iscsi_tasks.proofs.StayingLemmas.{length-staying, settled-staying, staying_set, set_stays}
 use Rattle.iscsi_tasks.proofs.set.TaskSet.leave_covered.Goals as goal
 
@@ -21,10 +20,10 @@ returns-then-is_below-clause-state c =
     let cover = c.args.cover.now in
     let v : Members = record { depth = i.depth; looked = i.looked; list = i.members.items } in
     let below : is_below i.covered_from cover ≡ true = ap (λ n. is_below n cover) (sym (to_z-of_z w64 i.covered_from (search rules))) ∙ sym c.is_below.ensures ∙ c.if-is_below.true in
-    subst (λ (s : Members). s ≡ set_staying (is_covered cover) s) c.self.view_is (sym (set_stays (is_covered cover) v (c.self.invariant.kept.covered_from cover below)))
+    subst (λ (s : Members). s ≡ set_staying (is_covered cover) s) c.self.view_is (sym (set_stays (is_covered cover) v (c.self.invariant.covered_from cover below)))
 
 pub returns-then-is_below-clause-stands : goal.returns-then-is_below-clause-stands
-returns-then-is_below-clause-stands c = λ h st. stands c.args.self.now (is_covered c.args.cover.now) h (subst (λ (s : Members). InOrder s.list) c.self.view_is c.self.invariant.kept.counted.order) st _ (returns-then-is_below-clause-state c)
+returns-then-is_below-clause-stands c = λ h st. stands c.args.self.now (is_covered c.args.cover.now) h (subst (λ (s : Members). InOrder s.list) c.self.view_is c.self.invariant.counted.order) st _ (returns-then-is_below-clause-state c)
 
 pub invariant_of-self : goal.invariant_of-self
 invariant_of-self c =
@@ -34,29 +33,28 @@ invariant_of-self c =
     let items : c.remove_covered.new.members.items ≡ rest = c.remove_covered.ensures.items in
     let long : length c.remove_covered.new.members.items ≡ length rest = ap length items in
     let most : length rest ≤ length i.members.items = length-staying (is_covered cover) i.members.items in
+    let number : to_z w64 (of_z w64 c.covered_from_after-self-inside.result) ≡ covered_from_after i.covered_from cover c.remove_covered.new.members.items =
+    to_z-of_z w64 c.covered_from_after-self-inside.result (search rules) ∙ c.covered_from_after-self-inside.ensures
+    ∙ ap (λ n. covered_from_after n cover c.remove_covered.new.members.items) (to_z-of_z w64 i.covered_from (search rules)) in
     let kept : IsCoveredFrom i.covered_from (map (λ m. m.task) c.remove_covered.new.members.items) =
-    subst (λ (l : List Member). IsCoveredFrom i.covered_from (map (λ m. m.task) l)) (sym items) (covered_from_staying i.covered_from (is_covered cover) i.members.items c.self.invariant.kept.covered_from) in
-    let up : i.ascends ≡ true → IsAscendingTo i.ascends_to c.remove_covered.new.members.items =
-    λ yes. subst (IsAscendingTo i.ascends_to) (sym items) (ascending_staying i.ascends_to (is_covered cover) i.members.items (c.self.invariant.front yes)) in
+    subst (λ (l : List Member). IsCoveredFrom i.covered_from (map (λ m. m.task) l)) (sym items) (covered_from_staying i.covered_from (is_covered cover) i.members.items c.self.invariant.covered_from) in
     record {
-      kept = record {
-        least = c.self.invariant.kept.least;
-        within = omega (arith, long, most, c.self.invariant.kept.within);
-        room_left = omega (arith, c.self.invariant.kept.room_left, c.remove_covered.ensures.room);
-        most = c.self.invariant.kept.most;
-        counted = c.remove_covered.ensures.counted;
-        settled = subst IsSettled (sym items) (settled-staying (is_covered cover) i.members.items c.self.invariant.kept.settled);
-        covered_from = kept;
-      };
-      front = up;
+      least = c.self.invariant.least;
+      within = omega (arith, long, most, c.self.invariant.within);
+      room_left = omega (arith, c.self.invariant.room_left, c.remove_covered.ensures.room);
+      most = c.self.invariant.most;
+      counted = c.remove_covered.ensures.counted;
+      settled = subst IsSettled (sym items) (settled-staying (is_covered cover) i.members.items c.self.invariant.settled);
+      covered_from = subst (λ (n : ℤ). IsCoveredFrom n (map (λ m. m.task) c.remove_covered.new.members.items)) (sym number)
+          (covered_from_past i.covered_from c.remove_covered.new.members.items cover kept);
     }
 
 pub returns-clause-state : goal.returns-clause-state
 returns-clause-state c =
     let i = c.self.inside in
     let v : Members = record { depth = i.depth; looked = i.looked; list = i.members.items } in
-    c.renumber.ensures ∙ ap (λ (l : List Member). let s : Members = record { depth = i.depth; looked = i.looked; list = l } in s) c.remove_covered.ensures.items
+    ap (λ (l : List Member). let s : Members = record { depth = i.depth; looked = i.looked; list = l } in s) c.remove_covered.ensures.items
     ∙ staying_set (is_covered c.args.cover.now) v ∙ ap (set_staying (is_covered c.args.cover.now)) c.self.view_is
 
 pub returns-clause-stands : goal.returns-clause-stands
-returns-clause-stands c = λ h st. stands c.args.self.now (is_covered c.args.cover.now) h (subst (λ (s : Members). InOrder s.list) c.self.view_is c.self.invariant.kept.counted.order) st _ (returns-clause-state c)
+returns-clause-stands c = λ h st. stands c.args.self.now (is_covered c.args.cover.now) h (subst (λ (s : Members). InOrder s.list) c.self.view_is c.self.invariant.counted.order) st _ (returns-clause-state c)

@@ -5,7 +5,7 @@ use Rattle.iscsi_tasks.specs.declared.member.Member.{Member}
 use Rattle.iscsi_tasks.specs.Sets.{InOrder, is_covered, uncovered}
 use Rattle.iscsi_tasks.specs.Counted.{IsCounted, AreHeadsEnabled, is_head_in}
 use Rattle.iscsi_tasks.proofs.StayingLemmas.{filter-shorter, all_stay, none_leaves, staying_same, staying_fewer}
-use Rattle.iscsi_tasks.proofs.queue.remove_everywhere.Goals as goal
+use Rattle.iscsi_tasks.proofs.queue.remove_covered.Goals as goal
 
 pub returns-then-len-clause-items : goal.returns-then-len-clause-items
 returns-then-len-clause-items c = staying_same (is_covered c.args.cover.now) c.args.members.now.items c.keep_uncovered.new.members.items c.keep_uncovered.ensures.items (omega arith)
