@@ -74,7 +74,8 @@ pub struct Session {
     arrived: VecDeque<u64>,
     /// The functions that wait for lower numbers, in the order of their arrival.
     waiting: Waitlist,
-    /// The tickets of the commands that leave by a function or a Logout, while they do: with room for all that are live.
+    /// The tickets of the commands that left a set together, by the last function or Logout that looked for some: with room
+    /// for all that are live.
     left: Vec<u64>,
 }
 

@@ -4,7 +4,7 @@ ghost use Rattle.std.specs.Prelude.{◌≡◌, ℕ, ◌+◌, ◌-◌, ◌<◌, �
 ghost use Rattle.std.specs.List.{remove};
 ghost use Rattle.iscsi_slots.specs.Slots.{times};
 ghost use Rattle.iscsi_tasks.specs.declared.member.Member.{Member};
-ghost use Rattle.iscsi_tasks.specs.Chains.{AreApart, chained, after_of, before_of, member_of, node_at, free_in, freed_before, IsTaken};
+ghost use Rattle.iscsi_tasks.specs.Chains.{AreApart, chained, member_of, node_at, freed_before, IsTaken};
 ghost use Rattle.iscsi_tasks.specs.Counted.{enabled_now, given_now};
 
 use crate::node::{ENDS, FREE, Node, link};
@@ -21,6 +21,7 @@ pub(crate) struct Chain {
     /// The slot that was freed last, where one is free.
     free: u16,
     len: usize,
+    /// The most members: there is memory for their nodes.
     room: usize,
 }
 

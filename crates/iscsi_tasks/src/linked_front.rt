@@ -1,6 +1,6 @@
 //! The commands of a linked set that an abort or a logout takes out, and from which number on functions may cover them.
 
-ghost use Rattle.std.specs.Prelude.{◌≡◌, ◌+◌, ◌≤◌, ◌++◌, true, false, length, filter, map, vec_len, vec_capacity, ◌≤ℤ◌};
+ghost use Rattle.std.specs.Prelude.{◌≡◌, ◌+◌, ◌≤◌, ◌++◌, true, false, length, vec_len, vec_capacity, ◌≤ℤ◌};
 ghost use Rattle.iscsi_tasks.specs.declared.task.Task.{Task};
 ghost use Rattle.iscsi_tasks.specs.Sets.{is_covered, uncovered, list_staying};
 ghost use Rattle.iscsi_tasks.specs.Counted.{IsAscending, IsAscendingTo, covered_from, covered_from_in, covered_from_first};

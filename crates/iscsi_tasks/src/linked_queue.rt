@@ -7,7 +7,7 @@ ghost use Rattle.iscsi_tasks.specs.declared.member.Member.{Member};
 ghost use Rattle.iscsi_tasks.specs.Sets.{InOrder, after_moment, is_head_of, is_new, next_in, given_in};
 ghost use Rattle.iscsi_tasks.specs.Counted.{is_ordered_in, enabled_now};
 ghost use Rattle.iscsi_tasks.specs.Chains.{AreApart, chained};
-ghost use Rattle.iscsi_tasks.specs.Marked.{IsMarked, IsSlotOf, HasTicket, IsFirstNew, IsPastNone, IsSpan};
+ghost use Rattle.iscsi_tasks.specs.Marked.{IsMarked, IsSlotOf, IsFirstNew, IsPastNone, IsSpan};
 
 use crate::chain::Chain;
 use crate::marks::{Marks, moved_off};
@@ -181,6 +181,8 @@ pub(crate) fn give_next(chain: &mut Chain, marks: &mut Marks) -> Option<u64>
     ensures ticket { result ≡ next_in chain.old.members }
     ensures state { chain.new ≡ record chain.old { members = given_in chain.old.members } }
     ensures marked { IsMarked marks.new chain.new.slots chain.new.members }
+    // Once there is none, no command is looked at again until one is enabled.
+    ensures none { result ≡ None → marks.new.new_from ≡ marks.new.new_to }
 {
     let Some(slot) = first_new(chain, marks) else {
         marks.new_from = marks.new_to;

@@ -1,7 +1,7 @@
 //! The task set whose commands stay in their slots.
 
-ghost use Rattle.std.specs.Prelude.{Err, ◌≡◌, ◌+◌, ◌<◌, ◌≤◌, ◌⊎◌, ◌↔◌, ◌++◌, List, [], ◌∷◌, ◌&&◌, true, false, length, filter, map, is_some, IsTrue, IfOk, IfErr, OnOk, OnErr, vec_len, vec_capacity, if◌then◌else◌, None};
-ghost use Rattle.iscsi_tasks.specs.Sets.{tasks_in, opened, InOrder, IsNewest, entered_to, refused_by, left_by, with_ticket, is_covered, ticket_if, set_staying, is_enabled_in, next_in, given_by, StaysFree};
+ghost use Rattle.std.specs.Prelude.{Err, ◌≡◌, ◌+◌, ◌<◌, ◌≤◌, ◌⊎◌, ◌↔◌, ◌++◌, List, [], ◌∷◌, ◌&&◌, true, false, length, filter, map, IsTrue, IfOk, IfErr, OnOk, OnErr, vec_len, vec_capacity, if◌then◌else◌, None};
+ghost use Rattle.iscsi_tasks.specs.Sets.{tasks_in, opened, InOrder, IsNewest, entered_to, refused_by, left_by, with_ticket, is_covered, ticket_if, set_staying, is_enabled_in, next_in, given_by};
 ghost use Rattle.iscsi_tasks.specs.Changes.{Change, Entered as EnteredOne, AllBelow, StandsFor, live, IsEnabled, next_after, after_giving, after_leaving, after_all_left};
 ghost use Rattle.iscsi_tasks.specs.Counted.{taken_in};
 ghost use Rattle.iscsi_tasks.specs.Marked.{is_free_by};
@@ -21,7 +21,8 @@ use std::marker::Model;
 /// What comes of a command that enters a set.
 #[derive(Clone, Copy, Debug, PartialEq, Eq)]
 pub struct Entered {
-    /// The slot that the command has until it leaves. A caller that hands it back finds the command at once.
+    /// The slot that the command has until it leaves. A caller that hands it back has the command found at once. No
+    /// clause says so, as the set looks whether the command is there.
     pub slot: u16,
     /// The oldest enabled ticket that no call gave before.
     pub ticket: Option<u64>,
@@ -35,6 +36,7 @@ pub struct Entered {
 /// leaves. A slot that isn't that of the command costs a walk along the set, and changes no answer.
 pub struct LinkedTaskSet {
     depth: u32,
+    /// How many commands the last call of `enter_and_give` tested for being free. Contracts speak of it alone.
     looked: u32,
     /// No function with a number below this one covers a command of the set.
     covered_from: i64,
@@ -117,7 +119,8 @@ impl LinkedTaskSet {
 
     /// The command enters the set, behind all others: its ticket is greater than all before. And the oldest enabled ticket
     /// is given that no call gave before: where the others were given, that of the command itself if it is enabled. Where
-    /// the set is full the command comes back. The cost doesn't grow with the set.
+    /// the set is full the command comes back. The cost doesn't grow with the set, where no other ticket waits to be given;
+    /// else it looks along the set for that.
     pub fn enter_and_give(&mut self, task: Task) -> Result<Entered, Task>
         requires { IsNewest task.ticket self.old }
         ensures ok { OnOk result ((length self.old.list < self.old.depth)
@@ -146,7 +149,10 @@ impl LinkedTaskSet {
         })
     }
 
-    /// The command with this ticket leaves. Where there is none, nothing changes. It is sought in the slot first.
+    /// The command with this ticket leaves. Where there is none, nothing changes.
+    ///
+    /// It is sought in the slot, and where it isn't there, along the set. What grows with the set else are the search of
+    /// the next ORDERED command, as the oldest one leaves, and the commands that become enabled.
     pub fn leave(&mut self, ticket: u64, slot: u16) -> Option<Task>
         ensures answer { result ≡ with_ticket ticket (tasks_in self.old) }
         ensures state { self.new ≡ left_by self.old (with_ticket ticket (tasks_in self.old)) }
@@ -159,8 +165,9 @@ impl LinkedTaskSet {
         Some(task)
     }
 
-    /// The command with this ticket leaves if it is enabled, and the result tells whether it was. Else nothing changes. It
-    /// is sought in the slot first.
+    /// The command with this ticket leaves if it is enabled, and the result tells whether it was. Else nothing changes.
+    ///
+    /// What grows with the set is what grows for `leave`.
     pub fn leave_enabled(&mut self, ticket: u64, slot: u16) -> bool
         ensures answer { result ≡ is_enabled_in ticket self.old.list }
         ensures left { result ≡ true → self.new ≡ left_by self.old (with_ticket ticket (tasks_in self.old)) }
@@ -184,8 +191,8 @@ impl LinkedTaskSet {
     ///
     /// Where the commands entered in the order of their numbers, each immediate one with the number that was expected
     /// next, it looks at those before the function and at one behind them. Else, and for the other covers, it looks at
-    /// each command, once. It looks at none where the function's number is below all that the set held since one last
-    /// covered commands or looked for some.
+    /// each command, and for a function once more at each that stays. It looks at none where the function's number is below
+    /// all that the set held since one last covered commands or looked for some.
     pub fn leave_covered(&mut self, cover: &Cover, left: &mut Vec<u64>)
         requires room { vec_len left.old + length self.old.list ≤ vec_capacity left.old }
         ensures state { self.new ≡ set_staying (is_covered cover.now) self.old }

@@ -17,6 +17,8 @@ struct Both {
     plain: TaskSet,
     /// For each ticket modulo 4,096 the slot of the command that entered last.
     slots: Vec<u16>,
+    /// For each slot the ticket of the command that got it last.
+    holders: Vec<u64>,
     /// The tickets of commands that left together.
     left: Vec<u64>,
     ghost same: { linked ≡ plain },
@@ -31,6 +33,7 @@ impl Both {
             linked: LinkedTaskSet::open(alloc, depth)?,
             plain: TaskSet::open(alloc, depth)?,
             slots: vec![in alloc; 0; 4096]?,
+            holders: vec![in alloc; 0; 1025]?,
             left: Vec::with_capacity(alloc, 1024)?,
         })
     }
@@ -40,17 +43,30 @@ impl Both {
         *self.slots.get((ticket % 4096) as usize).unwrap_or(&7)
     }
 
-    /// The command enters, if its ticket may be the newest one. Both give the same ticket then.
+    /// Notes the slot that the command with this ticket got. False where another command has it still, or where no set of
+    /// this depth has it.
+    fn note(&mut self, ticket: u64, slot: u16) -> bool {
+        if let Some(noted) = self.slots.get_mut((ticket % 4096) as usize) {
+            *noted = slot;
+        }
+        let holder = *self.holders.get(usize::from(slot)).unwrap_or(&ticket);
+        if let Some(noted) = self.holders.get_mut(usize::from(slot)) {
+            *noted = ticket;
+        }
+        // The command with this ticket itself entered the plain set before.
+        let is_free = holder != ticket && !is_member(&self.plain, holder);
+        is_free && 1 <= slot && u32::from(slot) <= self.linked.depth()
+    }
+
+    /// The command enters, if its ticket may be the newest one. It gets a free slot, and both give the same ticket then.
     fn enter(&mut self, task: Task) -> bool {
         if !is_newest(&self.plain, task.ticket) {
             return false;
         }
         match (self.linked.enter_and_give(task), self.plain.enter(task)) {
             (Ok(entered), Ok(())) => {
-                if let Some(slot) = self.slots.get_mut((task.ticket % 4096) as usize) {
-                    *slot = entered.slot;
-                }
-                entered.ticket == self.plain.next_new()
+                let gives_same = entered.ticket == self.plain.next_new();
+                self.note(task.ticket, entered.slot) && gives_same
             }
             (Err(back), Err(plain)) => back == plain,
             _ => false,
@@ -69,7 +85,8 @@ impl Both {
         self.linked.leave_enabled(ticket, slot) == is_enabled
     }
 
-    /// The covered commands leave, and `left` tells their tickets, the oldest one's first.
+    /// The covered commands leave, and `left` tells their tickets, the oldest one's first. `is_within` is for the prover:
+    /// there is room for the tickets.
     fn leave_covered(&mut self, cover: &Cover) -> bool {
         let is_within = self.linked.len() <= self.linked.depth();
         self.left.clear();
@@ -98,6 +115,15 @@ impl Both {
     }
 }
 
+/// Whether the set has a command with this ticket.
+fn is_member(set: &TaskSet, ticket: u64) -> bool {
+    let mut is_member = false;
+    for place in 0..set.len() {
+        is_member |= set.covered_at(place, &Cover::All) == Some(ticket);
+    }
+    is_member
+}
+
 /// Whether these are the tickets of the covered commands.
 fn are_covered(tickets: &[u64], set: &TaskSet, cover: &Cover) -> bool {
     let mut agree = true;
@@ -117,7 +143,7 @@ struct Calls {
     both: Both,
     /// The ticket of the last command that entered.
     ticket: u64,
-    /// The next number that is expected.
+    /// The number of the last command that isn't immediate.
     number: i64,
     /// How many in 256 commands are ORDERED, and how many HEAD OF QUEUE.
     ordered: u64,
@@ -153,8 +179,10 @@ impl Calls {
         } else {
             0
         };
+        // An immediate command has the number that is expected next.
+        let expected = self.number.wrapping_add(1);
         if !immediate {
-            self.number = self.number.wrapping_add(1);
+            self.number = expected;
         }
         self.ticket = self.ticket.wrapping_add(1 + random / 131_072 % 3);
         Task {
@@ -163,7 +191,7 @@ impl Calls {
             itt: (random / 2_097_152 % 65_536) as u32,
             attr,
             immediate,
-            pos: self.number.wrapping_sub(stray),
+            pos: expected.wrapping_sub(stray),
             event: self.ticket,
         }
     }
@@ -189,15 +217,19 @@ impl Calls {
         }
     }
 
-    /// What an abort or a logout takes out: mostly the oldest ones.
+    /// What an abort or a logout takes out: mostly the commands below a number, from the next one down.
     fn cover(&mut self) -> Cover {
         let random = self.random();
+        let reach = [2, 8, 64, 320][(random / 16 % 4) as usize];
         match random % 16 {
             0 => Cover::All,
-            1 | 2 => Cover::Conn((random / 16 % 3) as u16),
+            1 | 2 => Cover::Conn((random / 64 % 3) as u16),
             _ => Cover::Below {
-                pos: self.number.wrapping_sub((random / 16 % 320) as i64),
-                event: self.ticket.wrapping_sub(random / 8192 % 4),
+                pos: self
+                    .number
+                    .wrapping_add(1)
+                    .wrapping_sub((random / 64 % reach) as i64),
+                event: self.ticket.wrapping_sub(random / 65_536 % 4),
             },
         }
     }
@@ -208,8 +240,10 @@ impl Calls {
         let share = if grows { 11 } else { 4 };
         let agree = match random % 16 {
             0 => {
+                // The deeper the sets are, the seldomer, for they are to fill again.
                 let cover = self.cover();
-                random / 16 % 8 != 0 || self.both.leave_covered(&cover)
+                let seldom = u64::from(1 + self.both.linked.depth() / 32);
+                random / 16 % seldom != 0 || self.both.leave_covered(&cover)
             }
             1 => {
                 let ticket = self.any_ticket();
@@ -251,8 +285,12 @@ fn linked_sets_answer_as_plain_ones_do(rt: HostRuntime) -> Result<(), Fail> {
                 for k in 0..10_000 {
                     agree &= calls.step(k % 2048 < 1024);
                 }
+                let agree = agree
+                    && calls.both.give_all()
+                    && calls.both.leave_covered(&Cover::All)
+                    && calls.both.give_all();
                 assert!(rt;
-                    agree,
+                    agree && calls.both.linked.len() == 0,
                     "{depth} deep, {ordered} ORDERED, {heads} HEAD OF QUEUE, {strays}"
                 );
             }

@@ -1,10 +1,9 @@
 //! The task sets of a session's units.
 
 ghost use Rattle.std.specs.Prelude.{false, ◌≡◌, ◌+◌, ◌<◌, ◌≤◌, ◌++◌, length, count_by, replicate, slice_index_or, slice_set, Some, IfSome, vec_len, vec_capacity};
-ghost use Rattle.iscsi_tasks.specs.declared.member.Member.{Member};
-ghost use Rattle.iscsi_tasks.specs.Sets.{opened, tasks_in, with_ticket, IsNewest, entered_to, is_new, next_in, given_by};
+ghost use Rattle.iscsi_tasks.specs.Sets.{opened, IsNewest, entered_to, is_new, next_in, given_by};
 ghost use Rattle.iscsi_history.specs.rules.Execution.{scsi_to, unit_named};
-ghost use Rattle.iscsi_session.specs.private.Steps.{is_set_full, place_in, all_given, enable_effect, enable_effects, set_without};
+ghost use Rattle.iscsi_session.specs.private.Steps.{is_set_full, place_in, all_given, enable_effect, enable_effects};
 
 use crate::reason::Reason;
 use crate::session::execution::reject;
