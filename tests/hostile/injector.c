@@ -8,7 +8,7 @@
 //     INJECT_ONE=1            reads and writes move one byte a call
 //     INJECT_NOTE=FILE        the counts below are kept in this file, of at least 64 bytes
 //
-// It has no headers, so that the kit's clang compiles it.
+// It has no headers: what it takes of the C library it declares itself, as malloc and read are its own here.
 
 typedef unsigned long size_t;
 typedef long ssize_t;
