@@ -2,7 +2,7 @@
 use Rattle.std.proofs.Common.{◌≡◌, ◌≢◌, ℕ, zero, suc, ◌+◌, ◌-◌, ◌*◌, ◌<◌, ◌≤◌, ◌==◌, not, cond, Bool, true, false, List, [], ◌∷◌, ◌++◌, length, map, filter, find, get_or, set, take, All, Some, None, refl, ap, sym, subst, ◌∙◌, arith, ⊎_elim, ◌||◌, eq-eqb, ne_eqb}
 use Rattle.std.specs.List.{list_any}
 use Rattle.std.proofs.lemmas.Bool.{cases_Bool, cases_lt, cases_eq, false≢true, or_parts, eqb-true}
-use Rattle.std.proofs.lemmas.List.{get_or_past, get_or-map, get_or_default, length-map, map-append, take_at, get_or_append_left, get_or_push, get_or-set_same, get_or-set_other, length-set, length_push}
+use Rattle.std.proofs.lemmas.List.{get_or_past, get_or-map, get_or_default, get_or-take, length-take, length-map, map-append, take_at, get_or_append_left, get_or_push, get_or-set_same, get_or-set_other, length-set, length_push}
 use Rattle.std.proofs.lemmas.List.Quantifiers.{all_pairs_push}
 use Rattle.std.proofs.lemmas.List.Folds.{list_any_at}
 use Rattle.std.proofs.lemmas.List.Elements.{filter-append}
@@ -187,6 +187,53 @@ newest log n up last k d l =
     let same = ap ticket_of (get_or_default log (length log - 1) d NOTHING (omega (arith, l))) in
     omega (arith, most, is, same)
 
+-- ---- the last ones go, none of which is live
+
+-- where all live commands have lower tickets, one with a ticket that isn't lower isn't live
+pub live_below : (log : List Entry) (n : ℕ) → All (λ l. l.ticket < n) (live_in log) → (k : ℕ) → IsLiveAt log k → ticket_of (entry_at log k) < n
+live_below [] n low k live = absurd (false≢true live)
+live_below (e ∷ log) n low zero live = subst (All (λ l. l.ticket < n)) (live_first e log live) low 0 e.command (omega arith)
+live_below (e ∷ log) n low (suc k) live = ⊎_elim
+    (λ yes.
+    let all : All (λ l. l.ticket < n) (e.command ∷ live_in log) = subst (All (λ l. l.ticket < n)) (live_first e log yes) low in
+    live_below log n (λ i d l. all (suc i) d (omega (arith, l))) k live)
+    (λ no. live_below log n (subst (All (λ l. l.ticket < n)) (ended_first e log no) low) k live)
+    (cases_Bool e.is_live)
+
+none_live : (log : List Entry) → ((k : ℕ) → IsLiveAt log k → ⊥) → live_in log ≡ []
+none_live [] none = refl
+none_live (e ∷ log) none = ⊎_elim
+    (λ yes. absurd (none 0 yes))
+    (λ no. ended_first e log no ∙ none_live log (λ k live. none (suc k) live))
+    (cases_Bool e.is_live)
+
+pub live_taken : (log : List Entry) (n : ℕ) → ((k : ℕ) → IsLiveAt log k → k < n) → live_in (take n log) ≡ live_in log
+live_taken [] zero below = refl
+live_taken [] (suc n) below = refl
+live_taken (e ∷ log) zero below = sym (none_live (e ∷ log) (λ k live. let l = below k live in absurd (omega (arith, l))))
+live_taken (e ∷ log) (suc n) below =
+    let rest = live_taken log n (λ k live. let l = below (suc k) live in omega (arith, l)) in
+    ⊎_elim
+    (λ yes. live_first e (take n log) yes ∙ ap (λ ls. e.command ∷ ls) rest ∙ sym (live_first e log yes))
+    (λ no. ended_first e (take n log) no ∙ rest ∙ sym (ended_first e log no))
+    (cases_Bool e.is_live)
+
+pub taken_up : (log : List Entry) (n : ℕ) → AreAscending ticket_of log → AreAscending ticket_of (take n log)
+taken_up log n up i j d lt l =
+    let long = length-take n log in
+    let a = ap ticket_of (get_or-take n log i d (omega (arith, lt, l, long))) in
+    let b = ap ticket_of (get_or-take n log j d (omega (arith, l, long))) in
+    let u : ticket_of (get_or log i d) < ticket_of (get_or log j d) = up i j d lt (omega (arith, l, long)) in
+    omega (arith, a, b, u)
+
+pub taken_lower : (log : List Entry) (n ticket : ℕ) → ((k : ℕ) → k < n → ticket_of (entry_at log k) < ticket) → All (λ e. ticket_of e < ticket) (take n log)
+taken_lower log n ticket below k d l =
+    let long = length-take n log in
+    let a = ap ticket_of (get_or-take n log k d (omega (arith, l, long))) in
+    let b = ap ticket_of (get_or_default log k d NOTHING (omega (arith, l, long))) in
+    let u = below k (omega (arith, l, long)) in
+    omega (arith, a, b, u)
+
 -- ---- the live ones closed up
 
 pub kept_up : (log : List Entry) → AreAscending ticket_of log → AreAscending ticket_of (filter (λ e. e.is_live) log)
@@ -331,7 +378,7 @@ logged_without {log} logged n k is_live is tagged =
 
 -- ---- and as one enters
 
-pub logged_with : (log : List Entry) (command : Live) (slot : ℕ) {capacity live room hints : ℕ} {places : List ℕ} {crowded : List Bool} {others : List ℕ} {others_room : ℕ} → AreAscending ticket_of log → AreTagsApart (live_in log) → live ≡ length (live_in log) → live < room → length log < 2 * live + 64 → 2 * room + 64 ≤ capacity → room ≤ 2016 → hints ≡ 4096 → others_room ≡ 2 * room + 64
+pub logged_with : (log : List Entry) (command : Live) (slot : ℕ) {capacity live room hints : ℕ} {places : List ℕ} {crowded : List Bool} {others : List ℕ} {others_room : ℕ} → AreAscending ticket_of log → AreTagsApart (live_in log) → live ≡ length (live_in log) → live < room → length log < 2 * live + 64 → 2 * room + 64 ≤ capacity → room ≤ 2016 → hints ≡ 4096 → others_room ≡ room
     → All (λ e. ticket_of e < command.ticket) log → list_any (λ l. l.itt == command.itt) (live_in log) ≡ false → AreTagged (log ++ record { command = command; slot = slot; is_live = true } ∷ []) places crowded others → AreLogged (log ++ record { command = command; slot = slot; is_live = true } ∷ []) capacity (live + 1) room hints places crowded others others_room
 logged_with log command slot {live = live} {room = room} up apart counted few short has_room small hinted for_others newest unused tagged =
     let e : Entry = record { command = command; slot = slot; is_live = true } in
@@ -350,7 +397,7 @@ logged_with log command slot {live = live} {room = room} up apart counted few sh
       for_others = for_others;
     }
 
-pub none_logged : (capacity room hints others_room : ℕ) → 2 * room + 64 ≤ capacity → room ≤ 2016 → hints ≡ 4096 → others_room ≡ 2 * room + 64 → {places : List ℕ} {crowded : List Bool} {others : List ℕ} → AreTagged [] places crowded others → AreLogged [] capacity 0 room hints places crowded others others_room
+pub none_logged : (capacity room hints others_room : ℕ) → 2 * room + 64 ≤ capacity → room ≤ 2016 → hints ≡ 4096 → others_room ≡ room → {places : List ℕ} {crowded : List Bool} {others : List ℕ} → AreTagged [] places crowded others → AreLogged [] capacity 0 room hints places crowded others others_room
 none_logged capacity room hints others_room has_room small hinted for_others tagged = record {
   ascending = λ i j d lt l. absurd (omega (arith, l));
   apart = λ i j d lt l. absurd (omega (arith, l));

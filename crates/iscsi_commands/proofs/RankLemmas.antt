@@ -81,6 +81,10 @@ few_live key (k ∷ ks) log up live =
     let fewer = one_fewer log k here in
     omega (arith, rest, fewer)
 
+-- those that stand apart are no more than the live commands
+pub few_others : (log : List Entry) {places : List ℕ} {crowded : List Bool} {others : List ℕ} → AreTagged log places crowded others → length others ≤ length (live_in log)
+few_others log {others = others} tagged = few_live (tag_at log) others log tagged.sorted (other_live tagged)
+
 -- the live commands closed up, and their places as they are then
 pub renumbered : (log : List Entry) {places : List ℕ} {crowded : List Bool} {others : List ℕ} (tagged : AreTagged log places crowded others) (to : ℕ → ℕ) (after : List ℕ) (marks : List Bool) → length marks ≡ 4096 → AreMarked log marks others → ((k : ℕ) → k < length log → to k ≡ rank log k) → length after ≡ 4096
     → ((k : ℕ) → IsLiveAt log k → get_or places (group_of (tag_at log k)) 0 ≡ k → get_or after (group_of (tag_at log k)) 0 ≡ rank log k)
@@ -118,7 +122,6 @@ renumbered log {others = others} tagged to after marks groups marked ranks size 
           let within : s.place < length others = omega (arith, inside, long) in
           let tag : tag_at kept n ≡ tag_at log (get_or others s.place 0) = ap (tag_at kept) (sym found ∙ at s.place 0 within) ∙ ap (λ (e : Entry). e.command.itt) (there s.place within) in
           ap (λ m. get_or marks (group_of m) false) tag ∙ marked (get_or others s.place 0) (times_at others s.place within);
-      few = let most = few_live (tag_at log) others log tagged.sorted (other_live tagged) in let same = length-map kept (λ (x : Entry). x.command) in omega (arith, most, same, long);
     }
 
 -- ---- the places of groups, one after the other

@@ -3,7 +3,7 @@ use Rattle.std.proofs.Common.{◌≡◌, ◌≢◌, ℕ, ◌+◌, ◌<◌, ◌�
 use Rattle.std.specs.List.{remove, insert}
 use Rattle.std.proofs.lemmas.Bool.{cases_lt, cases_eq, false≢true}
 use Rattle.std.proofs.lemmas.List.{get_or-take, get_or_default, length-take, length-set, get_or-set_same, get_or-set_other}
-use Rattle.std.proofs.lemmas.List.Edits.{length-remove, length-insert, get_or-remove_below, get_or-remove_above}
+use Rattle.std.proofs.lemmas.List.Edits.{length-remove, get_or-remove_below, get_or-remove_above}
 use Rattle.iscsi_slots.specs.Places.{AreAscending}
 use Rattle.iscsi_slots.specs.Slots.{times}
 use Rattle.iscsi_slots.proofs.SlotLemmas.{stands, times_at, times_remove, times_insert}
@@ -47,7 +47,6 @@ none_tagged places crowded size groups = record {
   are_live = λ k some. absurd (omega (arith, some));
   sorted = λ i j d lt l. absurd (omega (arith, l));
   marked = λ k some. absurd (omega (arith, some));
-  few = omega arith;
 }
 
 -- ---- the log up to a place
@@ -175,7 +174,6 @@ module _ {log : List Entry} {places : List ℕ} {crowded : List Bool} {others : 
       are_live = λ j some. still j (λ same. let is = ap (λ n. times n others) same in omega (arith, some, none, is)) (tagged.are_live j some);
       sorted = same_order (tag_at log) (tag_at (set log k (ended (entry_at log k)))) others (λ i d l. same_tag (get_or others i d)) tagged.sorted;
       marked = marked_still others (λ j some. some);
-      few = let few = tagged.few in let long = length-set log k (ended (entry_at log k)) in omega (arith, few, long);
     }
 
     pub left_other : (at : ℕ) → at < length others → get_or others at 0 ≡ k → AreTagged (set log k (ended (entry_at log k))) places crowded (remove others at)
@@ -194,8 +192,27 @@ module _ {log : List Entry} {places : List ℕ} {crowded : List Bool} {others : 
           are_live = λ j some. still j (λ same. twice at l j (there ∙ sym same) some) (tagged.are_live j (more j some));
           sorted = same_order (tag_at log) (tag_at (set log k (ended (entry_at log k)))) (remove others at) (λ i d m. same_tag (get_or (remove others at) i d)) (removed_up (tag_at log) others at l tagged.sorted);
           marked = marked_still (remove others at) more;
-          few = let few = tagged.few in let long = length-set log k (ended (entry_at log k)) in let fewer = length-remove others at l in omega (arith, few, long, fewer);
         }
+
+-- ---- the last ones go, none of which is live
+
+pub tagged_shorter : (log : List Entry) (n : ℕ) {places : List ℕ} {crowded : List Bool} {others : List ℕ} → AreTagged log places crowded others → ((k : ℕ) → IsLiveAt log k → k < n) → AreTagged (take n log) places crowded others
+tagged_shorter log n {places} {crowded} {others} tagged below =
+    let same : (j : ℕ) → j < n → tag_at (take n log) j ≡ tag_at log j = λ j l. ap (λ (e : Entry). e.command.itt) (before_at log n j l) in
+    let other_below : (j : ℕ) → 1 ≤ times j others → j < n = λ j some. below j (tagged.are_live j some) in
+    record {
+      size = tagged.size;
+      groups = tagged.groups;
+      known = λ j live other.
+          let l = before log n j live in
+          tagged.known j (ap (λ (e : Entry). e.is_live) (sym (before_at log n j l)) ∙ live) (λ first. other (ap (λ t. get_or places (group_of t) 0) (same j l) ∙ first));
+      are_live = λ j some. ap (λ (e : Entry). e.is_live) (before_at log n j (other_below j some)) ∙ tagged.are_live j some;
+      sorted = same_order (tag_at log) (tag_at (take n log)) others
+          (λ i d l. let at : get_or others i d ≡ get_or others i 0 = get_or_default others i d 0 l in
+          same (get_or others i d) (subst (λ m. m < n) (sym at) (other_below (get_or others i 0) (times_at others i l))))
+          tagged.sorted;
+      marked = λ j some. ap (λ t. get_or crowded (group_of t) false) (same j (other_below j some)) ∙ tagged.marked j some;
+    }
 
 -- ---- a command enters
 
@@ -205,9 +222,6 @@ module _ (log : List Entry) {places : List ℕ} {crowded : List Bool} {others : 
 
   pub other_before : (j : ℕ) → 1 ≤ times j others → j < k
   other_before j some = before log k j (tagged.are_live j some)
-
-  more_few : length (take k log) + 1 ≡ length (take (k + 1) log)
-  more_few = let a = length-take k log in let b = length-take (k + 1) log in omega (arith, a, b, inside)
 
   group_more : (j : ℕ) → j < k → get_or places (group_of (tag_at (take (k + 1) log) j)) 0 ≡ get_or places (group_of (tag_at (take k log) j)) 0
   group_more j l = ap (λ n. get_or places (group_of n) 0) (tag_less log k j l)
@@ -249,7 +263,6 @@ module _ (log : List Entry) {places : List ℕ} {crowded : List Bool} {others : 
         are_live = λ j some. live_more log k j (tagged.are_live j some);
         sorted = sorted_more;
         marked = λ j some. ap (λ n. get_or crowded (group_of n) false) (tag_less log k j (other_before j some)) ∙ tagged.marked j some;
-        few = let few = tagged.few in let more = more_few in omega (arith, few, more);
       }
 
   -- the place of its group is taken
@@ -300,5 +313,4 @@ module _ (log : List Entry) {places : List ℕ} {crowded : List Bool} {others : 
             (λ now. subst (λ n. get_or (set crowded group true) (group_of (tag_at (take (k + 1) log) n)) false ≡ true) now
             (ap (λ n. get_or (set crowded group true) (group_of n) false) last ∙ ap (λ g. get_or (set crowded group true) g false) (sym is_group) ∙ get_or-set_same crowded group true false inside_groups))
             (cases j some);
-        few = let few = tagged.few in let more = more_few in let long = length-insert others at k le in omega (arith, few, more, long);
       }

@@ -1,5 +1,5 @@
 -- The commands in the order in which they entered, of which some are live still.
-use Rattle.std.specs.Prelude.{◌≡◌, ◌≢◌, ℕ, ◌+◌, ◌*◌, ◌/◌, ◌%◌, ◌≤◌, Bool, false, true, List, length, map, filter, take, slice_index_or, Option, MatchOption}
+use Rattle.std.specs.Prelude.{◌≡◌, ◌≢◌, ℕ, ◌+◌, ◌*◌, ◌/◌, ◌%◌, ◌<◌, ◌≤◌, Bool, false, true, List, length, map, filter, take, slice_index_or, Option, MatchOption}
 use Rattle.iscsi_slots.specs.Slots.{times}
 use Rattle.iscsi_slots.specs.Places.{AreAscending}
 use Rattle.iscsi_commands.specs.declared.live.Live.{Live}
@@ -44,6 +44,16 @@ group_of itt = (itt * 2654435769 % 4294967296) / 1048576
 abbrev pub AreMarked : List Entry → List Bool → List ℕ → Type 0
 AreMarked log crowded others = (k : ℕ) → 1 ≤ times k others → slice_index_or crowded (group_of (tag_at log k)) false ≡ true
 
+-- one of the others before a place has a tag of this group
+pub record IsOfOne (log : List Entry) (others : List ℕ) (n group : ℕ) : Type 0 where
+  pub place : ℕ
+  pub before : place < n
+  pub is : group_of (tag_at log (slice_index_or others place 0)) ≡ group
+
+-- no group is marked but those of the others
+abbrev pub AreMarkedAlone : List Entry → List Bool → List ℕ → Type 0
+AreMarkedAlone log crowded others = (group : ℕ) → slice_index_or crowded group false ≡ true → IsOfOne log others (length others) group
+
 -- each live command stands at the place of its tag's group, or among the others, which stand in the order of their tags and
 -- whose groups are marked
 pub record AreTagged (log : List Entry) (places : List ℕ) (crowded : List Bool) (others : List ℕ) : Type 0 where
@@ -53,7 +63,6 @@ pub record AreTagged (log : List Entry) (places : List ℕ) (crowded : List Bool
   pub are_live : (k : ℕ) → 1 ≤ times k others → IsLiveAt log k
   pub sorted : AreAscending (tag_at log) others
   pub marked : AreMarked log crowded others
-  pub few : length others ≤ length log
 
 -- the place of the live command with this tag, or none
 abbrev pub IsTagPlace : List Entry → ℕ → Option ℕ → Type 0
@@ -75,4 +84,4 @@ pub record AreLogged (log : List Entry) (capacity live room hints : ℕ) (places
   pub short : room ≤ 2016
   pub hinted : hints ≡ 4096
   pub tagged : AreTagged log places crowded others
-  pub for_others : others_room ≡ 2 * room + 64
+  pub for_others : others_room ≡ room

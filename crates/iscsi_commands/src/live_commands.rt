@@ -1,13 +1,13 @@
 //! The live commands, found by ticket and by tag.
 
-ghost use Rattle.std.specs.Prelude.{◌≡◌, ℕ, ◌+◌, ◌*◌, ◌<◌, ◌≤◌, ◌==◌, ◌↔◌, ◌++◌, [], ◌∷◌, true, false, length, filter, slice_index_or, slice_set, vec_len, vec_capacity, All, IfOk, option_map};
+ghost use Rattle.std.specs.Prelude.{◌≡◌, ℕ, ◌+◌, ◌*◌, ◌<◌, ◌≤◌, ◌==◌, ◌↔◌, ◌++◌, Bool, List, [], ◌∷◌, true, false, length, filter, slice_index_or, slice_set, vec_len, vec_capacity, All, IfOk, option_map};
 ghost use Rattle.std.specs.List.{list_any};
 ghost use Rattle.iscsi_slots.specs.Queued.{queued};
 ghost use Rattle.iscsi_slots.specs.Places.{AreAscending as AreKeysAscending};
 ghost use Rattle.iscsi_commands.specs.Commands.{AreAscending, AreTagsApart, find_ticket, find_tag, without_ticket};
 ghost use Rattle.iscsi_commands.specs.Log.{AreTagged, IsLiveAt, IsLivePlace, ended, entry_at, live_in, rank, ticket_of};
 
-use crate::entry::{Entry, GROUPS, entry_at};
+use crate::entry::{Entry, GROUPS, entry_at, table};
 use crate::live::{Live, Placed};
 use crate::tag_index::TagIndex;
 use std::alloc::{AllocError, Global};
@@ -19,16 +19,18 @@ const SPARE: usize = 64;
 /// The live commands, found by ticket and by Initiator Task Tag. No two have the same tag.
 ///
 /// Commands that enter are noted in a log, one behind the other. One that leaves stays there, marked as ended, until a
-/// command enters and there are at least 64 more ended ones than live ones: then the live ones close up. The place of a
-/// command in the log is told by its ticket and by its tag, each at once mostly. Where a younger command has the ticket's
-/// hint, or another live one the place of the tag's group, it is found by a binary search.
+/// command enters and there are at least 64 more ended ones than live ones: then the live ones close up. Or until one
+/// enters whose ticket isn't above its own. The place of a command in the log is told by its ticket and by its tag,
+/// each at once mostly. Where a younger command has the ticket's hint, or another live one the place of the tag's
+/// group, it is found by a binary search, unless the last one or the first one that is searched tells.
 pub struct LiveCommands {
     /// The commands in the order of their tickets.
     log: Vec<Entry>,
     /// How many of them are live.
     live: usize,
     room: usize,
-    /// For each group of tickets where the command that entered last stands in the log, or stood.
+    /// For each group of tickets where the command of it that entered last stands in the log, if it is live. Else any
+    /// number: a place that it had, or what a closing up noted there.
     hints: Vec<u16>,
     tags: TagIndex,
 }
@@ -70,8 +72,8 @@ impl LiveCommands {
             log: Vec::with_capacity(alloc, most)?,
             live: 0,
             room,
-            hints: vec![in alloc; 0; GROUPS]?,
-            tags: TagIndex::with_room(alloc, most)?,
+            hints: table(alloc, 0)?,
+            tags: TagIndex::with_room(alloc, room)?,
         })
     }
 
@@ -120,8 +122,9 @@ impl LiveCommands {
     /// A command enters, with the slot that it has in its task set. Its ticket is greater than all others', and no other
     /// one has its tag.
     ///
-    /// Once in as many calls as there are live commands, at the most, these close up in the log: a pass over it. So they
-    /// do where the ticket isn't above those of all commands that left since.
+    /// Where the log has at least 64 more ended commands than live ones, the live ones close up first: a pass over it,
+    /// which the calls have paid for by which those left. Ended ones go from it whose tickets aren't below the new
+    /// one.
     pub fn push(&mut self, command: Live, slot: u16)
         requires room { length self.old.items < self.old.room }
         requires newest { All (λ l. l.ticket < command.ticket) self.old.items }
@@ -157,7 +160,7 @@ impl LiveCommands {
     }
 }
 
-/// Where the log is long for so many live commands, or has an ended one with this ticket or a greater one, the live ones
+/// Ended commands with this ticket or a greater one go. Where the log is long for so many live commands then, these
 /// close up.
 #[inline(always)]
 fn make_way(log: &mut Vec<Entry>, live: usize, hints: &mut [u16], tags: &mut TagIndex, ticket: u64)
@@ -175,8 +178,28 @@ fn make_way(log: &mut Vec<Entry>, live: usize, hints: &mut [u16], tags: &mut Tag
     ensures room { tags.new.others.room ≡ tags.old.others.room }
     ensures capacity { vec_capacity log.new ≡ vec_capacity log.old }
 {
-    if log.len() >= 2 * live + SPARE || !is_newest(log, ticket) {
+    forget_ended(log, ticket);
+    if log.len() >= 2 * live + SPARE {
         close_up(log, hints, tags);
+    }
+}
+
+/// The ended commands with this ticket or a greater one, which are the last ones of the log, go from it.
+#[inline(always)]
+fn forget_ended(log: &mut Vec<Entry>, ticket: u64)
+    requires ascending { AreKeysAscending ticket_of log.old.items }
+    requires newest { All (λ l. l.ticket < ticket) (live_in log.old.items) }
+    ensures same { live_in log.new.items ≡ live_in log.old.items }
+    ensures ascending { AreKeysAscending ticket_of log.new.items }
+    ensures newest { All (λ e. ticket_of e < ticket) log.new.items }
+    ensures shorter { length log.new.items ≤ length log.old.items }
+    ensures tagged { (places : List ℕ) → (crowded : List Bool) → (others : List ℕ) →
+        AreTagged log.old.items places crowded others → AreTagged log.new.items places crowded others }
+    ensures capacity { vec_capacity log.new ≡ vec_capacity log.old }
+{
+    if !is_newest(log, ticket) {
+        let below = count_below(log, ticket);
+        log.truncate(below);
     }
 }
 
@@ -275,8 +298,25 @@ fn is_at(log: &[Entry], k: usize, ticket: u64) -> bool
     k < log.len() && entry_at(log, k).command.ticket == ticket
 }
 
-/// How many commands of the log have a lower ticket, by binary search.
+/// How many commands of the log have a lower ticket. Where the ticket isn't between those of the last one and the
+/// first one, they tell.
 fn count_below(log: &[Entry], ticket: u64) -> usize
+    requires { AreKeysAscending ticket_of log.now }
+    ensures within { result ≤ length log.now }
+    ensures below { (k : ℕ) → k < result → ticket_of (entry_at log.now k) < ticket }
+    ensures above { (k : ℕ) → result ≤ k → k < length log.now → ticket ≤ ticket_of (entry_at log.now k) }
+{
+    if is_newest(log, ticket) {
+        return log.len();
+    }
+    if ticket <= entry_at(log, 0).command.ticket {
+        return 0;
+    }
+    halve(log, ticket)
+}
+
+/// How many commands of the log have a lower ticket, by binary search.
+fn halve(log: &[Entry], ticket: u64) -> usize
     requires { AreKeysAscending ticket_of log.now }
     ensures within { result ≤ length log.now }
     ensures below { (k : ℕ) → k < result → ticket_of (entry_at log.now k) < ticket }

@@ -3,19 +3,20 @@
 ghost use Rattle.std.specs.Prelude.{◌≡◌, ◌≢◌, ℕ, ◌+◌, ◌<◌, ◌≤◌, true, [], length, filter, map, take, slice_index_or, slice_set, IfOk};
 ghost use Rattle.iscsi_slots.specs.Queued.{queued};
 ghost use Rattle.iscsi_slots.specs.Places.{AreAscending};
-ghost use Rattle.iscsi_commands.specs.Log.{AreMarked, AreTagged, IsLiveAt, IsTagPlace, ended, entry_at, group_of, rank, tag_at};
+ghost use Rattle.iscsi_commands.specs.Log.{AreMarked, AreMarkedAlone, AreTagged, IsLiveAt, IsTagPlace, ended, entry_at, group_of, rank, tag_at};
 
-use crate::entry::{Entry, GROUPS, entry_at, group_of};
+use crate::entry::{Entry, entry_at, group_of, table};
 use iscsi_slots::Order;
 use std::alloc::{AllocError, Global};
 
 /// Where the live commands stand in the log, by tag.
 ///
-/// Tags are in groups, and each group has a place. A command that enters when the place of its group is taken stands apart,
-/// in the order of the tags, and the group is marked. So a tag is looked for at one place, and where its group is marked
-/// among those that stand apart, by a binary search: the cost is bounded for any tags that an initiator chooses. A group
-/// stays marked when they leave, until the live commands close up while one of any group stands apart. Where none does
-/// at that time it stays marked, as a search looks at none.
+/// Tags are in groups, and each group has a place. A command that enters when the place of its group is taken stands
+/// apart, in the order of the tags, and the group is marked. So a tag is looked for at one place, and where its group
+/// is marked among those that stand apart: at the last one and the first one, which tell of tags that go up or down,
+/// and then by a binary search. The cost is bounded for any tags that an initiator chooses. A group stays marked when
+/// they leave, until the live commands close up while one of any group stands apart. Where none does at that time it
+/// stays marked, as a search looks at none.
 pub(crate) struct TagIndex {
     /// For each group the place of a live command with a tag of the group, or any.
     pub(crate) places: Vec<u16>,
@@ -43,8 +44,8 @@ impl TagIndex {
         ensures room { IfOk result (λ t. t.others.room ≡ room) }
     {
         Ok(TagIndex {
-            places: vec![in alloc; 0; GROUPS]?,
-            crowded: vec![in alloc; false; GROUPS]?,
+            places: table(alloc, 0)?,
+            crowded: table(alloc, false)?,
             others: Order::with_room(alloc, room)?,
         })
     }
@@ -130,12 +131,13 @@ impl TagIndex {
 }
 
 /// Marks the groups of the others. The marks of before go, so that they don't gather, unless there are no others: then a
-/// search looks at none. No clause says that they go, as a mark without need costs a search and no more.
+/// search looks at none.
 fn mark(crowded: &mut [bool], others: &Order, log: &[Entry])
     requires groups { length crowded.old ≡ 4096 }
     requires within { (i : ℕ) → i < length others.now.items → slice_index_or others.now.items i 0 < length log.now }
     ensures groups { length crowded.new ≡ 4096 }
     ensures marked { AreMarked log.now crowded.new others.now.items }
+    ensures alone { 0 < length others.now.items → AreMarkedAlone log.now crowded.new others.now.items }
 {
     if others.len() == 0 {
         return;
@@ -203,8 +205,37 @@ fn is_taken(log: &[Entry], to: usize, k: usize, group: usize) -> bool
     entry.is_live && group_of(entry.command.itt) == group
 }
 
-/// How many of the others have a lower tag, by binary search.
+/// How many of the others have a lower tag. Where the tag isn't between those of the last one and the first one, they tell.
 fn count_below(others: &Order, log: &[Entry], itt: u32) -> usize
+    requires within { (i : ℕ) → i < length others.now.items → slice_index_or others.now.items i 0 < length log.now }
+    requires sorted { AreAscending (tag_at log.now) others.now.items }
+    ensures within { result ≤ length others.now.items }
+    ensures below { (i : ℕ) → i < result → tag_at log.now (slice_index_or others.now.items i 0) < itt }
+    ensures above { (i : ℕ) → result ≤ i → i < length others.now.items →
+        itt ≤ tag_at log.now (slice_index_or others.now.items i 0) }
+{
+    let len = others.len();
+    if len == 0 || tag_of(others, log, len - 1) < itt {
+        return len;
+    }
+    if itt <= tag_of(others, log, 0) {
+        return 0;
+    }
+    halve(others, log, itt)
+}
+
+/// The tag of one of the others.
+#[inline(always)]
+fn tag_of(others: &Order, log: &[Entry], i: usize) -> u32
+    requires place { i < length others.now.items }
+    requires within { slice_index_or others.now.items i 0 < length log.now }
+    ensures { result ≡ tag_at log.now (slice_index_or others.now.items i 0) }
+{
+    entry_at(log, usize::from(others.at(i))).command.itt
+}
+
+/// How many of the others have a lower tag, by binary search.
+fn halve(others: &Order, log: &[Entry], itt: u32) -> usize
     requires within { (i : ℕ) → i < length others.now.items → slice_index_or others.now.items i 0 < length log.now }
     requires sorted { AreAscending (tag_at log.now) others.now.items }
     ensures within { result ≤ length others.now.items }

@@ -10,11 +10,18 @@ overflow_mul-live c = let few = live_fewer c.args.log.now.items in let is = c.re
 pub overflow_add-live : goal.overflow_add-live
 overflow_add-live c = let few = live_fewer c.args.log.now.items in let is = c.requires.counted in let short = c.requires.short in omega (arith, few, is, short)
 
+pub close_up-requires-clause-tagged : goal.close_up-requires-clause-tagged
+close_up-requires-clause-tagged c = c.forget_ended.ensures.tagged c.args.tags.now.places.items c.args.tags.now.crowded.items c.args.tags.now.others.items c.requires.tagged
+
+pub returns-else-len-live-clause-tagged : goal.returns-else-len-live-clause-tagged
+returns-else-len-live-clause-tagged c = c.forget_ended.ensures.tagged c.args.tags.now.places.items c.args.tags.now.crowded.items c.args.tags.now.others.items c.requires.tagged
+
 pub returns-then-len-live-clause-same : goal.returns-then-len-live-clause-same
-returns-then-len-live-clause-same c = ap live_in c.close_up.ensures.log ∙ live_again c.args.log.now.items
+returns-then-len-live-clause-same c = ap live_in c.close_up.ensures.log ∙ live_again c.forget_ended.new.log.items ∙ c.forget_ended.ensures.same
 
 pub returns-then-len-live-clause-ascending : goal.returns-then-len-live-clause-ascending
-returns-then-len-live-clause-ascending c = subst (AreAscending ticket_of) (sym c.close_up.ensures.log) (kept_up c.args.log.now.items c.requires.ascending)
+returns-then-len-live-clause-ascending c = subst (AreAscending ticket_of) (sym c.close_up.ensures.log) (kept_up c.forget_ended.new.log.items c.forget_ended.ensures.ascending)
 
 pub returns-then-len-live-clause-newest : goal.returns-then-len-live-clause-newest
-returns-then-len-live-clause-newest c = subst (All (λ e. ticket_of e < c.args.ticket)) (sym c.close_up.ensures.log) (kept_newest c.args.log.now.items c.args.ticket c.requires.newest)
+returns-then-len-live-clause-newest c = subst (All (λ e. ticket_of e < c.args.ticket)) (sym c.close_up.ensures.log)
+    (kept_newest c.forget_ended.new.log.items c.args.ticket (subst (All (λ l. l.ticket < c.args.ticket)) (sym c.forget_ended.ensures.same) c.requires.newest))

@@ -7,6 +7,7 @@ use Rattle.iscsi_commands.specs.declared.live.Live.{Live}
 use Rattle.iscsi_commands.specs.Commands.{AreTagsApart}
 use Rattle.iscsi_commands.specs.Log.{AreTagged, AreLogged, live_in}
 use Rattle.iscsi_commands.proofs.LogLemmas.{logged_with}
+use Rattle.iscsi_commands.proofs.RankLemmas.{few_others}
 use Rattle.iscsi_commands.proofs.live_commands.LiveCommands.push.Goals as goal
 
 -- how many hints there are stays
@@ -15,6 +16,20 @@ same_hints n first way second all is a b c =
     let same = ap length b in
     let d : length (take n (way ++ drop (length way) all)) ≡ length all = simp (length-take, length-append, length-drop) (omega arith) in
     simp (length-take, length-append, length-drop) (omega (arith, d))
+
+-- those that stand apart are live
+pub append-requires-clause-others : goal.append-requires-clause-others
+append-requires-clause-others c =
+    let kept = c.self.invariant in
+    let way = c.make_way.ensures in
+    let apart = few_others c.make_way.new.log.items way.tagged in
+    let fewer = ap length way.same in
+    let counted = kept.counted in
+    let view = ap (λ (q : Queued Live). length q.items) c.self.view_is in
+    let size = ap (λ (q : Queued Live). q.room) c.self.view_is in
+    let room = way.room ∙ kept.for_others in
+    let few = c.requires.room in
+    omega (arith, apart, fewer, counted, view, size, room, few)
 
 pub invariant_of-self : goal.invariant_of-self
 invariant_of-self c =
@@ -33,7 +48,7 @@ invariant_of-self c =
     let roomy : 2 * c.self.inside.room + 64 ≤ vec_capacity c.append.new.log = let has_room = kept.has_room in let a = way.capacity in let b = c.append.ensures.capacity in omega (arith, has_room, a, b) in
     let apart : AreTagsApart (live_in log) = subst AreTagsApart (sym way.same) kept.apart in
     let unused : list_any (λ l. l.itt == c.args.command.itt) (live_in log) ≡ false = subst (λ ls. list_any (λ l. l.itt == c.args.command.itt) ls ≡ false) (sym lives) c.requires.unused in
-    let others : c.append.new.tags.others.room ≡ 2 * c.self.inside.room + 64 = c.append.ensures.room ∙ way.room ∙ kept.for_others in
+    let others : c.append.new.tags.others.room ≡ c.self.inside.room = c.append.ensures.room ∙ way.room ∙ kept.for_others in
     let tagged : AreTagged (log ++ e ∷ []) c.append.new.tags.places.items c.append.new.tags.crowded.items c.append.new.tags.others.items = subst (λ l. AreTagged l c.append.new.tags.places.items c.append.new.tags.crowded.items c.append.new.tags.others.items) c.append.ensures.log c.append.ensures.tagged in
     subst (λ (l : List Entry). AreLogged l (vec_capacity c.append.new.log) (c.self.inside.live + 1) c.self.inside.room
     (length (take c.self.inside.hints.len (c.append.new.hints ++ drop (length c.append.new.hints) (take c.self.inside.hints.len (c.make_way.new.hints ++ drop (length c.make_way.new.hints) hints)))))

@@ -2,7 +2,7 @@ use Rattle.std.proofs.Common.{◌-◌, ◌+◌, ◌/◌, ap, arith}
 use Rattle.iscsi_slots.proofs.HalvingLemmas.{half_from, half_to}
 use Rattle.iscsi_commands.specs.Log.{ticket_of}
 use Rattle.iscsi_commands.proofs.LogLemmas.{narrowed_up, narrowed_down}
-use Rattle.iscsi_commands.proofs.live_commands.count_below.Goals as goal
+use Rattle.iscsi_commands.proofs.live_commands.halve.Goals as goal
 
 pub loop-low-preserved-then-entry_at-ticket : goal.loop-low-preserved-then-entry_at-ticket
 loop-low-preserved-then-entry_at-ticket c =
