@@ -9,7 +9,6 @@ use Rattle.std.proofs.lemmas.List.Elements.{filter-append}
 use Rattle.std.proofs.lemmas.List.Kept.{AllPairs-filter}
 use Rattle.iscsi_slots.specs.Places.{AreAscending}
 use Rattle.iscsi_slots.proofs.SortedLemmas.{not_greater, same_place}
-use Rattle.iscsi_slots.proofs.HalvingLemmas.{IsHalved}
 use Rattle.iscsi_commands.specs.declared.live.Live.{Live}
 use Rattle.iscsi_commands.specs.declared.entry.Entry.{Entry}
 use Rattle.iscsi_commands.specs.Commands.{AreAscending as AreTicketsAscending, AreTagsApart, find_ticket, find_tag, without_ticket}
@@ -148,36 +147,7 @@ tickets_up log up i j d lt l =
     let s = ap (λ (x : Live). x.ticket) a in let t = ap (λ (x : Live). x.ticket) b in
     omega (arith, u, s, t)
 
--- ---- a search of a ticket in the log
-
--- a test of a place in the middle
-pub narrowed_up : (log : List Entry) (n low middle high : ℕ) → AreAscending ticket_of log → IsHalved ticket_of log n low high → middle < high → ticket_of (entry_at log middle) < n → IsHalved ticket_of log n (middle + 1) high
-narrowed_up log n low middle high up narrowed l lower =
-    let inside = narrowed.inside in
-    let within : middle < length log = omega (arith, l, inside) in
-    record {
-      ordered = omega (arith, l);
-      inside = inside;
-      below = λ k d m.
-          let least = not_greater ticket_of log up k middle d (omega (arith, m)) within in
-          let same = ap ticket_of (get_or_default log middle d NOTHING within) in
-          omega (arith, least, same, lower);
-      above = narrowed.above;
-    }
-
-pub narrowed_down : (log : List Entry) (n low middle high : ℕ) → AreAscending ticket_of log → IsHalved ticket_of log n low high → low ≤ middle → middle < high → n ≤ ticket_of (entry_at log middle) → IsHalved ticket_of log n low middle
-narrowed_down log n low middle high up narrowed from l upper =
-    let inside = narrowed.inside in
-    let within : middle < length log = omega (arith, l, inside) in
-    record {
-      ordered = from;
-      inside = omega (arith, within);
-      below = narrowed.below;
-      above = λ k d m here.
-          let least = not_greater ticket_of log up middle k d m here in
-          let same = ap ticket_of (get_or_default log middle d NOTHING within) in
-          omega (arith, least, same, upper);
-    }
+-- ---- a ticket above all
 
 -- a ticket above the last one is above all
 pub newest : (log : List Entry) (n : ℕ) → AreAscending ticket_of log → (0 < length log → ticket_of (entry_at log (length log - 1)) < n) → All (λ e. ticket_of e < n) log

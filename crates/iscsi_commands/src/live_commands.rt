@@ -312,27 +312,7 @@ fn count_below(log: &[Entry], ticket: u64) -> usize
     if ticket <= entry_at(log, 0).command.ticket {
         return 0;
     }
-    halve(log, ticket)
-}
-
-/// How many commands of the log have a lower ticket, by binary search.
-fn halve(log: &[Entry], ticket: u64) -> usize
-    requires { AreKeysAscending ticket_of log.now }
-    ensures within { result ≤ length log.now }
-    ensures below { (k : ℕ) → k < result → ticket_of (entry_at log.now k) < ticket }
-    ensures above { (k : ℕ) → result ≤ k → k < length log.now → ticket ≤ ticket_of (entry_at log.now k) }
-{
-    let mut low = 0;
-    let mut high = log.len();
-    while low < high {
-        let middle = low + (high - low) / 2;
-        if entry_at(log, middle).command.ticket < ticket {
-            low = middle + 1;
-        } else {
-            high = middle;
-        }
-    }
-    low
+    log.partition_point(|entry| entry.command.ticket < ticket)
 }
 
 /// The live commands close up in the log.
