@@ -1,23 +1,12 @@
 //! What is kept of a command that entered.
 
-ghost use Rattle.std.specs.Prelude.{◌≡◌, ◌<◌, length, IfOk};
+ghost use Rattle.std.specs.Prelude.{◌≡◌, ◌<◌, length};
 ghost use Rattle.iscsi_commands.specs.Log.{entry_at, group_of};
 
 use crate::live::Live;
-use std::alloc::{AllocError, Global};
 
 /// In so many groups tags and tickets are parted.
 pub(crate) const GROUPS: usize = 4096;
-
-/// A table that has this value for each group.
-pub(crate) fn table<T: Copy + Drop>(alloc: Global, value: T) -> Result<Vec<T>, AllocError>
-    ensures { IfOk result (λ t. length t.items ≡ 4096) }
-{
-    let mut table = Vec::with_capacity(alloc, GROUPS)?;
-    // quicker than `vec![in alloc; value; GROUPS]`, which writes one after the other
-    table.resize(GROUPS, value)?;
-    Ok(table)
-}
 
 /// A command that entered, and whether it is live still.
 #[derive(Clone, Copy)]

@@ -1,13 +1,13 @@
 //! The live commands, found by ticket and by tag.
 
-ghost use Rattle.std.specs.Prelude.{◌≡◌, ℕ, ◌+◌, ◌*◌, ◌<◌, ◌≤◌, ◌==◌, ◌↔◌, ◌++◌, Bool, List, [], ◌∷◌, true, false, length, filter, slice_index_or, slice_set, vec_len, vec_capacity, All, IfOk, option_map};
+ghost use Rattle.std.specs.Prelude.{◌≡◌, ℕ, ◌+◌, ◌*◌, ◌<◌, ◌≤◌, ◌==◌, ◌↔◌, ◌++◌, Bool, List, [], ◌∷◌, true, false, length, filter, take, slice_index_or, slice_set, vec_len, vec_capacity, All, IfOk, option_map};
 ghost use Rattle.std.specs.List.{list_any};
 ghost use Rattle.iscsi_slots.specs.Queued.{queued};
 ghost use Rattle.iscsi_slots.specs.Places.{AreAscending as AreKeysAscending};
 ghost use Rattle.iscsi_commands.specs.Commands.{AreAscending, AreTagsApart, find_ticket, find_tag, without_ticket};
 ghost use Rattle.iscsi_commands.specs.Log.{AreTagged, IsLiveAt, IsLivePlace, ended, entry_at, live_in, rank, ticket_of};
 
-use crate::entry::{Entry, GROUPS, entry_at, table};
+use crate::entry::{Entry, GROUPS, entry_at};
 use crate::live::{Live, Placed};
 use crate::tag_index::TagIndex;
 use std::alloc::{AllocError, Global};
@@ -72,7 +72,7 @@ impl LiveCommands {
             log: Vec::with_capacity(alloc, most)?,
             live: 0,
             room,
-            hints: table(alloc, 0)?,
+            hints: vec![in alloc; 0; GROUPS]?,
             tags: TagIndex::with_room(alloc, room)?,
         })
     }
@@ -199,8 +199,17 @@ fn forget_ended(log: &mut Vec<Entry>, ticket: u64)
 {
     if !is_newest(log, ticket) {
         let below = count_below(log, ticket);
-        log.truncate(below);
+        shorten(log, below);
     }
+}
+
+/// So many commands stay in the log.
+#[inline(never)]
+fn shorten(log: &mut Vec<Entry>, len: usize)
+    ensures log { log.new.items ≡ take len log.old.items }
+    ensures capacity { vec_capacity log.new ≡ vec_capacity log.old }
+{
+    log.truncate(len);
 }
 
 /// A command enters behind all others of the log, with the slot that it has in its task set.
@@ -300,6 +309,7 @@ fn is_at(log: &[Entry], k: usize, ticket: u64) -> bool
 
 /// How many commands of the log have a lower ticket. Where the ticket isn't between those of the last one and the
 /// first one, they tell.
+#[inline(never)]
 fn count_below(log: &[Entry], ticket: u64) -> usize
     requires { AreKeysAscending ticket_of log.now }
     ensures within { result ≤ length log.now }

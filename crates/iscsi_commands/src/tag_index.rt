@@ -5,7 +5,7 @@ ghost use Rattle.iscsi_slots.specs.Queued.{queued};
 ghost use Rattle.iscsi_slots.specs.Places.{AreAscending};
 ghost use Rattle.iscsi_commands.specs.Log.{AreMarked, AreMarkedAlone, AreTagged, IsLiveAt, IsTagPlace, ended, entry_at, group_of, rank, tag_at};
 
-use crate::entry::{Entry, entry_at, group_of, table};
+use crate::entry::{Entry, GROUPS, entry_at, group_of};
 use iscsi_slots::Order;
 use std::alloc::{AllocError, Global};
 
@@ -44,8 +44,8 @@ impl TagIndex {
         ensures room { IfOk result (λ t. t.others.room ≡ room) }
     {
         Ok(TagIndex {
-            places: table(alloc, 0)?,
-            crowded: table(alloc, false)?,
+            places: vec![in alloc; 0; GROUPS]?,
+            crowded: vec![in alloc; false; GROUPS]?,
             others: Order::with_room(alloc, room)?,
         })
     }
@@ -206,6 +206,7 @@ fn is_taken(log: &[Entry], to: usize, k: usize, group: usize) -> bool
 }
 
 /// How many of the others have a lower tag. Where the tag isn't between those of the last one and the first one, they tell.
+#[inline(never)]
 fn count_below(others: &Order, log: &[Entry], itt: u32) -> usize
     requires within { (i : ℕ) → i < length others.now.items → slice_index_or others.now.items i 0 < length log.now }
     requires sorted { AreAscending (tag_at log.now) others.now.items }

@@ -21,17 +21,17 @@ returns-then-not-is_newest-clause-same c =
     let log = c.args.log.now.items in
     let n = c.count_below-below.result in
     let above = subst (λ (l : List Entry). (k : ℕ) → n ≤ k → k < length l → c.args.ticket ≤ ticket_of (entry_at l k)) c.deref-then-not-is_newest.ensures.value c.count_below-below.ensures.above in
-    ap live_in c.truncate.ensures.items ∙ live_taken log n (none_from log n c.args.ticket c.requires.newest above)
+    ap live_in c.shorten.ensures.log ∙ live_taken log n (none_from log n c.args.ticket c.requires.newest above)
 
 pub returns-then-not-is_newest-clause-newest : goal.returns-then-not-is_newest-clause-newest
 returns-then-not-is_newest-clause-newest c =
     let n = c.count_below-below.result in
     let below = subst (λ (l : List Entry). (k : ℕ) → k < n → ticket_of (entry_at l k) < c.args.ticket) c.deref-then-not-is_newest.ensures.value c.count_below-below.ensures.below in
-    subst (All (λ e. ticket_of e < c.args.ticket)) (sym c.truncate.ensures.items) (taken_lower c.args.log.now.items n c.args.ticket below)
+    subst (All (λ e. ticket_of e < c.args.ticket)) (sym c.shorten.ensures.log) (taken_lower c.args.log.now.items n c.args.ticket below)
 
 pub returns-then-not-is_newest-clause-tagged : goal.returns-then-not-is_newest-clause-tagged
 returns-then-not-is_newest-clause-tagged c = λ places crowded others tagged.
     let log = c.args.log.now.items in
     let n = c.count_below-below.result in
     let above = subst (λ (l : List Entry). (k : ℕ) → n ≤ k → k < length l → c.args.ticket ≤ ticket_of (entry_at l k)) c.deref-then-not-is_newest.ensures.value c.count_below-below.ensures.above in
-    subst (λ (l : List Entry). AreTagged l places crowded others) (sym c.truncate.ensures.items) (tagged_shorter log n tagged (none_from log n c.args.ticket c.requires.newest above))
+    subst (λ (l : List Entry). AreTagged l places crowded others) (sym c.shorten.ensures.log) (tagged_shorter log n tagged (none_from log n c.args.ticket c.requires.newest above))
