@@ -119,7 +119,9 @@ enum Tags {
     Scattered,
     /// All in the group of the tag 0.
     OneGroup,
-    /// All in the group of the tag 0 too, and each below the one before, 4,600 times.
+    /// All in the group of the tag 0 too, and each above the one before, 4,600 times.
+    OneGroupUp,
+    /// The same, and each below the one before.
     OneGroupDown,
 }
 
@@ -130,6 +132,9 @@ impl Tags {
             Tags::InOrder => number,
             Tags::Scattered => number.wrapping_mul(0x9e37_79b1),
             Tags::OneGroup => number.wrapping_mul(OF_THE_GROUP),
+            Tags::OneGroupUp => (number % 4_600)
+                .wrapping_mul(227)
+                .wrapping_mul(OF_THE_GROUP),
             Tags::OneGroupDown => (4_600 - number % 4_600)
                 .wrapping_mul(227)
                 .wrapping_mul(OF_THE_GROUP),
@@ -204,7 +209,7 @@ impl Calls {
         self.both.push(command) && self.both.agree_on(command.ticket, command.itt)
     }
 
-    /// The ticket of the oldest command, of the newest one, of any, or of one that mostly isn't there.
+    /// The ticket of the oldest command, of the newest one, of any, one below all, or one that mostly isn't there.
     fn any_ticket(&self, number: u64) -> u64 {
         let len = self.both.plain.len();
         if len == 0 || number % 4 == 3 {
@@ -215,7 +220,12 @@ impl Calls {
             1 => len - 1,
             _ => (number / 4 % len as u64) as usize,
         };
-        self.both.plain.at(k).ticket
+        let ticket = self.both.plain.at(k).ticket;
+        if number % 32 == 0 {
+            ticket.wrapping_sub(1 + number / 32 % 4096)
+        } else {
+            ticket
+        }
     }
 
     /// A command enters or leaves, and both are compared.
@@ -256,6 +266,7 @@ fn live_commands_are_found_as_plain_ones_are(rt: HostRuntime) -> Result<(), Fail
         Tags::InOrder,
         Tags::Scattered,
         Tags::OneGroup,
+        Tags::OneGroupUp,
         Tags::OneGroupDown,
     ] {
         for room in [1, 2, 9, 70, 300] {
@@ -292,5 +303,51 @@ fn a_ticket_below_one_that_left_enters(rt: HostRuntime) -> Result<(), Fail> {
     agree &= !both.push(command(11)) && both.live.find(2).is_none();
     assert!(rt; agree);
     assert_eq!(rt; both.live.len(), 4);
+    Ok(())
+}
+
+/// So many commands are live. One with a greater ticket enters and leaves, and so on with tickets that go down.
+fn agree_going_down(both: &mut Both, live: u64) -> bool {
+    let mut agree = true;
+    for ticket in 1..=live {
+        agree &= both.push(command(ticket));
+    }
+    for passed in 0..1_000 {
+        let ticket = 2_000 - passed;
+        agree &= both.push(command(ticket)) && both.agree_on(ticket, ticket as u32);
+        both.remove(ticket);
+        agree &= both.agree_on(ticket, ticket as u32) && both.agree_on(ticket + 1, 1);
+        both.remove(0);
+        both.remove(u64::MAX);
+    }
+    agree && both.agree_on(0, 0) && both.agree_on_all()
+}
+
+#[test]
+fn tickets_go_down_with_a_removal_between(rt: HostRuntime) -> Result<(), Fail> {
+    for live in [0, 1, 40, 100] {
+        let mut both = Both::with_room(rt.alloc(), 101)?;
+        assert!(rt; agree_going_down(&mut both, live), "{live} live");
+        assert_eq!(rt; both.live.len() as u64, live);
+    }
+    Ok(())
+}
+
+#[test]
+fn none_is_found_once_all_left(rt: HostRuntime) -> Result<(), Fail> {
+    let mut both = Both::with_room(rt.alloc(), 100)?;
+    let mut agree = true;
+    for ticket in 1..=100 {
+        agree &= both.push(command(ticket));
+    }
+    for ticket in 1..=100 {
+        both.remove(ticket);
+        agree &= both.live.find(ticket).is_none() && both.live.find_tagged(ticket as u32).is_none();
+    }
+    agree &= both.live.find(0).is_none() && both.live.find(101).is_none();
+    both.remove(50);
+    agree &= both.push(command(7)) && both.agree_on_all() && both.agree_on(50, 50);
+    assert!(rt; agree);
+    assert_eq!(rt; both.live.len(), 1);
     Ok(())
 }
