@@ -1,5 +1,5 @@
 -- The marks of a linked set stay right.
-use Rattle.std.proofs.Common.{◌≡◌, ◌≢◌, ℕ, ◌+◌, ◌-◌, ◌<◌, ◌≤◌, ◌==◌, ◌&&◌, not, nat_lt, lt-ltb, le-ltb, cond, max, min, Bool, true, false, List, [], ◌∷◌, ◌++◌, length, set, get_or, All, refl, ap, sym, subst, ◌∙◌, arith, ⊎_elim, eq-eqb, ne_eqb, eqb-true}
+use Rattle.std.proofs.Common.{◌≡◌, ◌≢◌, ℕ, ◌+◌, ◌-◌, ◌<◌, ◌≤◌, ◌==◌, ◌&&◌, not, nat_lt, lt-ltb, le-ltb, cond, max, min, Bool, true, false, List, [], ◌∷◌, ◌++◌, length, set, get_or, All, refl, ap, sym, subst, ◌∙◌, arith, ⊎_elim, eq-eqb, ne_eqb, eqb-true, true≢false}
 use Rattle.std.specs.List.{position_or_len, remove}
 use Rattle.std.proofs.lemmas.Bool.{cases_Bool, cases_eq, cases_lt}
 use Rattle.std.proofs.lemmas.List.{get_or_past, get_or_push, get_or_append_left, length_push, length-set}
@@ -12,9 +12,9 @@ use Rattle.iscsi_tasks.specs.declared.counts.Counts.{Counts}
 use Rattle.iscsi_tasks.specs.declared.marks.Marks.{Marks}
 use Rattle.iscsi_tasks.specs.Rules.{is_head_of, is_ordered_of}
 use Rattle.iscsi_tasks.specs.Sets.{is_new}
-use Rattle.iscsi_tasks.specs.Counted.{IsCounted, is_head_in, is_ordered_in, plus_one_if, shifted_by, with_last, without_one, with_enabled, given_now}
+use Rattle.iscsi_tasks.specs.Counted.{IsCounted, is_head_in, is_ordered_in, plus_one_if, shifted_by, new_from_with, with_last, without_one, with_enabled, given_now}
 use Rattle.iscsi_tasks.specs.Chains.{AreApart}
-use Rattle.iscsi_tasks.specs.Marked.{IsMarked, IsPastNone, moved_off, pushed_by, left_by, enabled_by, is_none_marked}
+use Rattle.iscsi_tasks.specs.Marked.{IsMarked, IsPastNone, IsSpan, moved_off, pushed_by, left_by, enabled_by, is_none_marked}
 use Rattle.iscsi_tasks.proofs.ChainLemmas.{not_end, same_to_end}
 use Rattle.iscsi_tasks.proofs.CountLemmas.{first-le, counted_push, shifted_cases, ordered_shifted, one_less, counted_remove, enabled_up_to, parts-length, counted_enabled, counted_none, counted_given}
 
@@ -79,6 +79,15 @@ module _ (slots : List ℕ) (s : ℕ) (apart : AreApart slots) where
       (λ l. subst P (sym (ap (λ b. cond b p (length slots + 1)) (le-ltb p (length slots) l))) (past l))
       (cases_lt p (length slots))
 
+  -- a mark that is the end moves to the new slot
+  mark_new : (p mark : ℕ) → mark ≡ get_or slots p 0 → cond (mark == 0) s mark ≡ get_or (slots ++ s ∷ []) (min p (length slots)) 0
+  mark_new p mark is = ⊎_elim
+      (λ below. ap (λ t. cond t s mark) (ne_eqb mark 0 (λ e. not_end apart p below (sym is ∙ e))) ∙ is
+      ∙ sym (ap (λ n. get_or (slots ++ s ∷ []) n 0) (let e : min p (length slots) ≡ p = omega (arith, below) in e) ∙ at_old p below))
+      (λ past. ap (λ t. cond t s mark) (eq-eqb mark 0 (is ∙ get_or_past slots p 0 past))
+      ∙ sym (ap (λ n. get_or (slots ++ s ∷ []) n 0) (let e : min p (length slots) ≡ length slots = omega (arith, past) in e) ∙ at_new))
+      (cases_lt p (length slots))
+
   mark_stays : (p mark : ℕ) → mark ≡ get_or slots p 0 → mark ≡ get_or (slots ++ s ∷ []) (bumped p) 0
   mark_stays p mark is = bumped_cases (λ n. mark ≡ get_or (slots ++ s ∷ []) n 0) p
       (λ below. is ∙ sym (at_old p below))
@@ -88,8 +97,15 @@ twice_not : (b : Bool) → not (not b) ≡ b
 twice_not true = refl
 twice_not false = refl
 
+-- what is new begins no later than it is told to
+least_from : (c : Counts) (n k : ℕ) → new_from_with c n ≤ k → min c.new_from n ≤ k
+least_from c n k from = ⊎_elim
+    (λ (none : (c.new_from == c.new_to) ≡ true). let at : n ≤ k = subst (λ b. cond b n (min c.new_from n) ≤ k) none from in omega (arith, at))
+    (λ (some : (c.new_from == c.new_to) ≡ false). subst (λ b. cond b n (min c.new_from n) ≤ k) some from)
+    (cases_Bool (c.new_from == c.new_to))
+
 pub marked_push : {m : Marks} {slots : List ℕ} {list : List Member} (marked : IsMarked m slots list) (one : Member) (s : ℕ) → AreApart (slots ++ s ∷ []) → All (λ x. x.task.ticket < one.task.ticket) list → (is_head_in one ≡ true → one.enabled ≡ true)
-    → IsMarked (pushed_by m one.task.attr one.enabled one.given s (get_or (slots ++ s ∷ []) 0 0)) (slots ++ s ∷ []) (list ++ one ∷ [])
+    → IsMarked (pushed_by m one.task.attr one.enabled one.given s) (slots ++ s ∷ []) (list ++ one ∷ [])
 marked_push {m} {slots} {list} marked one s apart newest head =
     let c : Counts = marked.counts in
     let pushed = counted_push c list marked.counted one newest head in
@@ -104,12 +120,16 @@ marked_push {m} {slots} {list} marked one s apart newest head =
     ∙ ap (λ b. get_or (slots ++ s ∷ []) (plus_one_if (c.enabled_to == length slots && b) c.enabled_to) 0) (twice_not one.enabled) in
     ⊎_elim
     (λ (new : is_new one ≡ true). record {
-      counts = record (with_last c (length slots) one) { new_from = 0; new_to = length list + 1 };
-      counted = ranged (with_last c (length slots) one) (list ++ one ∷ []) same 0 (length list + 1) (omega (arith, grown)) (λ k d l is. (omega arith, omega (arith, l, grown)));
+      counts = record (with_last c (length slots) one) { new_from = min c.new_from (length slots); new_to = length list + 1 };
+      counted = ranged (with_last c (length slots) one) (list ++ one ∷ []) same (min c.new_from (length slots)) (length list + 1) (omega (arith, grown))
+          (λ k d l is. (
+            least_from c (length slots) k (subst (λ b. cond b (new_from_with c (length slots)) c.new_from ≤ k) new (same.new k d l is).0),
+            omega (arith, l, grown),
+          ));
       heads = ap (plus_one_if (is_head_of one.task.attr)) marked.heads;
       ordered = ordered;
       dormant = dormant;
-      new_from = ap (λ b. cond b (get_or (slots ++ s ∷ []) 0 0) m.new_from) new;
+      new_from = ap (λ b. cond (b && m.new_from == 0) s m.new_from) new ∙ mark_new slots s marked.apart c.new_from m.new_from marked.new_from;
       new_to = ap (λ b. cond b 0 m.new_to) new ∙ sym (at_end slots s marked.apart (length list + 1) (omega (arith, long)));
       apart = apart;
       long = let a = length_push slots s in omega (arith, a, grown, long);
@@ -130,7 +150,7 @@ marked_push {m} {slots} {list} marked one s apart newest head =
       heads = ap (plus_one_if (is_head_of one.task.attr)) marked.heads;
       ordered = ordered;
       dormant = dormant;
-      new_from = ap (λ b. cond b (get_or (slots ++ s ∷ []) 0 0) m.new_from) old ∙ mark_stays slots s marked.apart c.new_from m.new_from marked.new_from;
+      new_from = ap (λ b. cond (b && m.new_from == 0) s m.new_from) old ∙ mark_stays slots s marked.apart c.new_from m.new_from marked.new_from;
       new_to = ap (λ b. cond b 0 m.new_to) old ∙ mark_stays slots s marked.apart c.new_to m.new_to marked.new_to;
       apart = apart;
       long = let a = length_push slots s in omega (arith, a, grown, long);
@@ -198,6 +218,20 @@ module _ {m : Marks} {slots : List ℕ} {list : List Member} (marked : IsMarked 
 
 -- ---- commands are enabled, and tickets are given
 
+-- a mark is the end, or a command before it
+pub span_to_end : (slots : List ℕ) (p mark : ℕ) → mark ≡ get_or slots p 0 → IsSpan slots mark 0
+span_to_end slots p mark is = record {
+  low = min p (length slots);
+  high = length slots;
+  ordered = omega arith;
+  within = omega arith;
+  from_is = ⊎_elim
+      (λ below. is ∙ ap (λ n. get_or slots n 0) (let e : p ≡ min p (length slots) = omega (arith, below) in e))
+      (λ past. is ∙ get_or_past slots p 0 past ∙ sym (get_or_past slots (min p (length slots)) 0 (omega (arith, past))))
+      (cases_lt p (length slots));
+  to_is = sym (get_or_past slots (length slots) 0 (omega arith));
+}
+
 module _ {m : Marks} {slots : List ℕ} {list : List Member} (marked : IsMarked m slots list) where
   pub none_marked : is_none_marked m ≡ true → All (λ x. is_new x ≡ false) list
   none_marked none k d l = ⊎_elim
@@ -209,13 +243,11 @@ module _ {m : Marks} {slots : List ℕ} {list : List Member} (marked : IsMarked 
       (λ old. old)
       (cases_Bool (is_new (get_or list k d)))
 
-  pub marked_enabled : (to end oldest : ℕ) → marked.counts.enabled_to < to → to ≤ length list → end ≡ get_or slots to 0 → oldest ≡ get_or slots 0 0 → IsMarked (enabled_by m end oldest) slots (enabled_up_to to list)
-  marked_enabled to end oldest more within end_is oldest_is =
+  pub marked_enabled_first : is_none_marked m ≡ true → (to end : ℕ) → marked.counts.enabled_to < to → to ≤ length list → end ≡ get_or slots to 0 → IsMarked (enabled_by m end m.dormant end) slots (enabled_up_to to list)
+  marked_enabled_first none to end more within end_is =
       let c : Counts = marked.counts in
       let long = marked.long in
       let kept = parts-length list to in
-      ⊎_elim
-      (λ (none : is_none_marked m ≡ true).
       let c0 : Counts = record c { new_from = c.new_to } in
       let counted = counted_enabled c0 list to (counted_none c list marked.counted (none_marked none)) more within in
       let same : (c.new_to == c.new_to) ≡ true = eq-eqb c.new_to c.new_to refl in
@@ -229,25 +261,38 @@ module _ {m : Marks} {slots : List ℕ} {list : List Member} (marked : IsMarked 
         heads = marked.heads;
         ordered = marked.ordered;
         dormant = end_is;
-        new_from = ap (λ b. cond b m.dormant oldest) none ∙ marked.dormant;
-        new_to = ap (λ b. cond b end 0) none ∙ end_is;
+        new_from = marked.dormant;
+        new_to = end_is;
         apart = marked.apart;
         long = omega (arith, long, kept);
-      })
-      (λ (some : is_none_marked m ≡ false).
+      }
+
+  pub marked_enabled_more : is_none_marked m ≡ false → (to end from upto : ℕ) → marked.counts.enabled_to < to → to ≤ length list → end ≡ get_or slots to 0
+      → from ≡ get_or slots (min marked.counts.enabled_to marked.counts.new_from) 0 → upto ≡ get_or slots (max marked.counts.new_to to) 0
+      → IsMarked (enabled_by m end from upto) slots (enabled_up_to to list)
+  marked_enabled_more some to end from upto more within end_is from_is upto_is =
+      let c : Counts = marked.counts in
+      let long = marked.long in
+      let kept = parts-length list to in
+      let most = marked.counted.new_to in
       let counted = counted_enabled c list to marked.counted more within in
+      let other : (c.new_from == c.new_to) ≡ false = ne_eqb c.new_from c.new_to (λ e. true≢false (sym (eq-eqb m.new_from m.new_to (marked.new_from ∙ ap (λ n. get_or slots n 0) e ∙ sym marked.new_to)) ∙ some)) in
       record {
-        counts = record (with_enabled c to) { new_from = 0; new_to = length list };
-        counted = ranged (with_enabled c to) (enabled_up_to to list) counted 0 (length list) (omega (arith, kept)) (λ k d l new. (omega arith, omega (arith, l, kept)));
+        counts = record (with_enabled c to) { new_from = min c.enabled_to c.new_from; new_to = max c.new_to to };
+        counted = ranged (with_enabled c to) (enabled_up_to to list) counted (min c.enabled_to c.new_from) (max c.new_to to) (omega (arith, kept, within, most))
+            (λ k d l new.
+            let low : min c.new_from c.enabled_to ≤ k = subst (λ b. cond b c.enabled_to (min c.new_from c.enabled_to) ≤ k) other (counted.new k d l new).0 in (
+              omega (arith, low),
+              subst (λ b. k < cond b to (max c.new_to to)) other (counted.new k d l new).1,
+            ));
         heads = marked.heads;
         ordered = marked.ordered;
         dormant = end_is;
-        new_from = ap (λ b. cond b m.dormant oldest) some ∙ oldest_is;
-        new_to = ap (λ b. cond b end 0) some ∙ sym (get_or_past slots (length list) 0 (omega (arith, long)));
+        new_from = from_is;
+        new_to = upto_is;
         apart = marked.apart;
         long = omega (arith, long, kept);
-      })
-      (cases_Bool (is_none_marked m))
+      }
 
   pub marked_none : All (λ x. is_new x ≡ false) list → IsMarked (record m { new_from = m.new_to }) slots list
   marked_none none = record {

@@ -38,12 +38,12 @@ abbrev pub moved_off : ℕ → ℕ → ℕ → ℕ
 moved_off mark slot next = if mark == slot then next else mark
 
 -- one command more, in this slot
-abbrev pub pushed_by : Marks → Attr → Bool → Bool → ℕ → ℕ → Marks
-pushed_by m attr enabled given slot oldest = record {
+abbrev pub pushed_by : Marks → Attr → Bool → Bool → ℕ → Marks
+pushed_by m attr enabled given slot = record {
   heads = plus_one_if (is_head_of attr) m.heads;
   ordered = if m.ordered == 0 && is_ordered_of attr then slot else m.ordered;
   dormant = if m.dormant == 0 && not enabled then slot else m.dormant;
-  new_from = if enabled && not given then oldest else m.new_from;
+  new_from = if (enabled && not given) && m.new_from == 0 then slot else m.new_from;
   new_to = if enabled && not given then 0 else m.new_to;
 }
 
@@ -57,14 +57,14 @@ left_by m slot next attr ordered = record {
   new_to = moved_off m.new_to slot next;
 }
 
--- the commands before this slot are enabled too
-abbrev pub enabled_by : Marks → ℕ → ℕ → Marks
-enabled_by m end oldest = record {
+-- the commands before this slot are enabled too, and the new ones are from one slot on and before another one
+abbrev pub enabled_by : Marks → ℕ → ℕ → ℕ → Marks
+enabled_by m end new_from new_to = record {
   heads = m.heads;
   ordered = m.ordered;
   dormant = end;
-  new_from = if is_none_marked m then m.dormant else oldest;
-  new_to = if is_none_marked m then end else 0;
+  new_from = new_from;
+  new_to = new_to;
 }
 
 -- ---- what is found

@@ -1,13 +1,13 @@
 //! The commands of a linked set in the order in which they entered.
 
-ghost use Rattle.std.specs.Prelude.{◌≡◌, ℕ, ◌+◌, ◌<◌, ◌≤◌, ◌++◌, [], ◌∷◌, true, false, None, length, slice_index_or, All, MatchOption, map, take, drop, max, position};
+ghost use Rattle.std.specs.Prelude.{◌≡◌, ℕ, ◌+◌, ◌<◌, ◌≤◌, ◌++◌, [], ◌∷◌, true, false, None, length, slice_index_or, All, MatchOption, map, take, drop, min, max, position, if◌then◌else◌};
 ghost use Rattle.std.specs.List.{position_or_len, remove};
 ghost use Rattle.iscsi_slots.specs.Slots.{times};
 ghost use Rattle.iscsi_tasks.specs.declared.member.Member.{Member};
 ghost use Rattle.iscsi_tasks.specs.Sets.{InOrder, after_moment, is_head_of, is_new, next_in, given_in};
 ghost use Rattle.iscsi_tasks.specs.Counted.{is_ordered_in, enabled_now};
 ghost use Rattle.iscsi_tasks.specs.Chains.{AreApart, chained};
-ghost use Rattle.iscsi_tasks.specs.Marked.{IsMarked, IsSlotOf, IsFirstNew, IsPastNone, IsSpan};
+ghost use Rattle.iscsi_tasks.specs.Marked.{IsMarked, IsSlotOf, IsFirstNew, IsPastNone, IsSpan, is_none_marked};
 
 use crate::chain::Chain;
 use crate::marks::{Marks, moved_off};
@@ -58,7 +58,7 @@ pub(crate) fn push(
     ensures marked { IsMarked marks.new chain.new.slots chain.new.members }
 {
     let slot = chain.push(task, enabled, given);
-    *marks = marks.with_last(task.attr, enabled, given, slot, chain.oldest());
+    *marks = marks.with_last(task.attr, enabled, given, slot);
     slot
 }
 
@@ -118,8 +118,69 @@ pub(crate) fn enable_free(chain: &mut Chain, marks: &mut Marks)
     if !is_before(chain, marks.dormant, end) {
         return;
     }
+    let enabled = with_enabled(chain, marks, end);
     enable(chain, marks.dormant, end);
-    *marks = marks.with_enabled(end, chain.oldest());
+    *marks = enabled;
+}
+
+/// The marks once the commands from the first dormant one on up to slot `end` are enabled. They are new then, and those
+/// that are new stay so.
+fn with_enabled(chain: &Chain, marks: &Marks, end: u16) -> Marks
+    requires marked { IsMarked marks.now chain.now.slots chain.now.members }
+    requires there { 1 ≤ times marks.now.dormant chain.now.slots }
+    requires span { IsSpan chain.now.slots end 0 }
+    ensures marked { (i k : ℕ) → i < k → k ≤ length chain.now.slots →
+        marks.now.dormant ≡ slice_index_or chain.now.slots i 0 → end ≡ slice_index_or chain.now.slots k 0 →
+        IsMarked result chain.now.slots (map enabled_now (take k chain.now.members) ++ drop k chain.now.members) }
+    ensures dormant { result.dormant ≡ end }
+    // What is new begins no earlier and ends no later than it has to.
+    ensures new_from { (i j : ℕ) → marks.now.dormant ≡ slice_index_or chain.now.slots i 0 →
+        marks.now.new_from ≡ slice_index_or chain.now.slots j 0 →
+        result.new_from ≡ slice_index_or chain.now.slots (if is_none_marked marks.now then i else min i j) 0 }
+    ensures new_to { (j k : ℕ) → marks.now.new_to ≡ slice_index_or chain.now.slots j 0 →
+        end ≡ slice_index_or chain.now.slots k 0 →
+        result.new_to ≡ slice_index_or chain.now.slots (if is_none_marked marks.now then k else max j k) 0 }
+{
+    if marks.is_none_new() {
+        return marks.with_enabled(end, marks.dormant, end);
+    }
+    let new_from = older(chain, marks.dormant, marks.new_from);
+    let new_to = younger(chain, marks.new_to, end);
+    marks.with_enabled(end, new_from, new_to)
+}
+
+/// The older one of two commands. `ENDS` stands behind all.
+fn older(chain: &Chain, one: u16, other: u16) -> u16
+    requires order { InOrder chain.now.members }
+    requires apart { AreApart chain.now.slots }
+    requires long { length chain.now.slots ≡ length chain.now.members }
+    requires there { 1 ≤ times one chain.now.slots }
+    requires other { IsSpan chain.now.slots other 0 }
+    ensures { (j k : ℕ) → one ≡ slice_index_or chain.now.slots j 0 → other ≡ slice_index_or chain.now.slots k 0 →
+        result ≡ slice_index_or chain.now.slots (min j k) 0 }
+{
+    if is_before(chain, one, other) {
+        one
+    } else {
+        other
+    }
+}
+
+/// The younger one of two commands. `ENDS` stands behind all.
+fn younger(chain: &Chain, one: u16, other: u16) -> u16
+    requires order { InOrder chain.now.members }
+    requires apart { AreApart chain.now.slots }
+    requires long { length chain.now.slots ≡ length chain.now.members }
+    requires one { IsSpan chain.now.slots one 0 }
+    requires other { IsSpan chain.now.slots other 0 }
+    ensures { (j k : ℕ) → one ≡ slice_index_or chain.now.slots j 0 → other ≡ slice_index_or chain.now.slots k 0 →
+        result ≡ slice_index_or chain.now.slots (max j k) 0 }
+{
+    if one != ENDS && is_before(chain, one, other) {
+        other
+    } else {
+        one
+    }
 }
 
 /// The slot behind the last command that is free, where none is HEAD OF QUEUE and there are some: those before the oldest

@@ -56,18 +56,11 @@ impl Marks {
         self.new_from == self.new_to
     }
 
-    /// The marks once this command is in the last slot. The oldest one is in slot `oldest` then.
+    /// The marks once this command is in the last slot.
     #[inline(always)]
-    pub(crate) fn with_last(
-        self,
-        attr: Attr,
-        enabled: bool,
-        given: bool,
-        slot: u16,
-        oldest: u16,
-    ) -> Marks
+    pub(crate) fn with_last(self, attr: Attr, enabled: bool, given: bool, slot: u16) -> Marks
         requires { self.heads < 1024 }
-        ensures { result ≡ pushed_by self attr enabled given slot oldest }
+        ensures { result ≡ pushed_by self attr enabled given slot }
     {
         let is_new = enabled && !given;
         Marks {
@@ -86,7 +79,11 @@ impl Marks {
             } else {
                 self.dormant
             },
-            new_from: if is_new { oldest } else { self.new_from },
+            new_from: if is_new && self.new_from == ENDS {
+                slot
+            } else {
+                self.new_from
+            },
             new_to: if is_new { ENDS } else { self.new_to },
         }
     }
@@ -111,17 +108,17 @@ impl Marks {
         }
     }
 
-    /// The marks once the commands before slot `end` are enabled. Where others are new too, all may be.
-    pub(crate) fn with_enabled(self, end: u16, oldest: u16) -> Marks
-        ensures { result ≡ enabled_by self end oldest }
+    /// The marks once the commands before slot `end` are enabled. The new ones are from slot `new_from` on and before
+    /// slot `new_to` then.
+    pub(crate) fn with_enabled(self, end: u16, new_from: u16, new_to: u16) -> Marks
+        ensures { result ≡ enabled_by self end new_from new_to }
     {
-        let is_none_new = self.is_none_new();
         Marks {
             heads: self.heads,
             ordered: self.ordered,
             dormant: end,
-            new_from: if is_none_new { self.dormant } else { oldest },
-            new_to: if is_none_new { end } else { ENDS },
+            new_from,
+            new_to,
         }
     }
 }

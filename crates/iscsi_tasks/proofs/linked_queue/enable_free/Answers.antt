@@ -1,18 +1,18 @@
-use Rattle.std.proofs.Common.{◌≡◌, ◌∙◌, ◌<◌, ◌≤◌, ℕ, List, length, get_or, max, min, refl, ap, sym, subst, arith, ⊎_elim}
+use Rattle.std.proofs.Common.{◌≡◌, ◌∙◌, ◌<◌, ◌≤◌, ℕ, List, length, max, min, refl, ap, sym, subst, arith, ⊎_elim}
 use Rattle.std.specs.List.{position_or_len}
 use Rattle.std.proofs.lemmas.Bool.{cases_lt}
-use Rattle.std.proofs.lemmas.List.{get_or_past}
+use Rattle.iscsi_slots.specs.Slots.{times}
 use Rattle.iscsi_tasks.specs.declared.member.Member.{Member}
 use Rattle.iscsi_tasks.specs.declared.marks.Marks.{Marks}
 use Rattle.iscsi_tasks.specs.Sets.{after_moment}
 use Rattle.iscsi_tasks.specs.Counted.{is_ordered_in}
 use Rattle.iscsi_tasks.specs.Chains.{Chained, chained}
-use Rattle.iscsi_tasks.specs.Marked.{IsMarked, enabled_by}
+use Rattle.iscsi_tasks.specs.Marked.{IsMarked}
 use Rattle.iscsi_tasks.proofs.PlaceLemmas.{enabled_so_far}
 use Rattle.iscsi_tasks.proofs.MomentLemmas.{moment_with_heads, moment_without_heads}
 use Rattle.iscsi_tasks.proofs.CountLemmas.{first-le, enabled_up_to}
 use Rattle.iscsi_tasks.proofs.ChainLemmas.{not_end}
-use Rattle.iscsi_tasks.proofs.MarkedLemmas.{some_at, within_some, marked_enabled}
+use Rattle.iscsi_tasks.proofs.MarkedLemmas.{some_at, within_some, span_to_end}
 use Rattle.iscsi_tasks.proofs.linked_queue.enable_free.Goals.{then-marks-gt0-via-then-marks-gt0, then-marks-gt0-via-else-marks-gt0+then-marks-eq-ENDS}
 use Rattle.iscsi_tasks.proofs.linked_queue.enable_free.Goals as goal
 
@@ -46,25 +46,14 @@ returns-then-marks-gt0-clause-state c =
           (cases_lt m.counts.enabled_to (length slots)))
     ])
 
+dormant_there : (m : Marks) (slots : List ℕ) (list : List Member) (marked : IsMarked m slots list) → (m.dormant ≡ 0 → ⊥) → 1 ≤ times m.dormant slots
+dormant_there m slots list marked some = some_at slots marked.counts.enabled_to m.dormant (dormant_in m slots list marked some) (sym marked.dormant)
+
 pub is_before-requires-clause-there : goal.is_before-requires-clause-there
-is_before-requires-clause-there c =
-    let m = c.requires in
-    some_at c.args.chain.now.slots m.counts.enabled_to c.args.marks.now.dormant (dormant_in c.args.marks.now c.args.chain.now.slots c.args.chain.now.members m c.if-marks-eq-ENDS.false) (sym m.dormant)
+is_before-requires-clause-there c = dormant_there c.args.marks.now c.args.chain.now.slots c.args.chain.now.members c.requires c.if-marks-eq-ENDS.false
 
 pub is_before-requires-clause-end : goal.is_before-requires-clause-end
-is_before-requires-clause-end c =
-    let list = c.args.chain.now.members in
-    let m = c.requires in
-    let some = dormant_in c.args.marks.now c.args.chain.now.slots list m c.if-marks-eq-ENDS.false in
-    let le = first-le is_ordered_in list in let long = m.long in
-    record {
-      low = max 1 (position_or_len is_ordered_in list);
-      high = length c.args.chain.now.slots;
-      ordered = omega (arith, some, le, long);
-      within = omega arith;
-      from_is = c.free_end-end.ensures;
-      to_is = sym (get_or_past c.args.chain.now.slots (length c.args.chain.now.slots) 0 (omega arith));
-    }
+is_before-requires-clause-end c = span_to_end c.args.chain.now.slots (max 1 (position_or_len is_ordered_in c.args.chain.now.members)) c.free_end-end.result c.free_end-end.ensures
 
 pub returns-then-not-is_before-clause-state : goal.returns-then-not-is_before-clause-state
 returns-then-not-is_before-clause-state c =
@@ -94,7 +83,7 @@ enable-requires c =
     }
 
 -- the chain, once they are enabled
-enabled : (c : goal.After-with_enabled) → (c.requires.counts.enabled_to < max 1 (position_or_len is_ordered_in c.args.chain.now.members)) × (max 1 (position_or_len is_ordered_in c.args.chain.now.members) ≤ length c.args.chain.now.members)
+enabled : (c : goal.After-enable) → (c.requires.counts.enabled_to < max 1 (position_or_len is_ordered_in c.args.chain.now.members)) × (max 1 (position_or_len is_ordered_in c.args.chain.now.members) ≤ length c.args.chain.now.members)
     × (c.enable.new.chain ≡ chained c.args.chain.now.slots (enabled_up_to (max 1 (position_or_len is_ordered_in c.args.chain.now.members)) c.args.chain.now.members) c.args.chain.now.room)
 enabled c =
     let slots = c.args.chain.now.slots in let list = c.args.chain.now.members in
@@ -120,8 +109,14 @@ returns-clause-state c =
 
 pub returns-clause-marked : goal.returns-clause-marked
 returns-clause-marked c =
-    let list = c.args.chain.now.members in
+    let m = c.requires in
+    let long = m.long in
     let is = enabled c in
-    subst (λ (m : Marks). IsMarked m c.enable.new.chain.slots c.enable.new.chain.members) (sym (c.with_enabled.ensures ∙ ap (enabled_by c.args.marks.now c.free_end-end.result) (c.oldest.ensures ∙ ap (λ (v : Chained). get_or v.slots 0 0) is.2)))
-    (subst (λ (v : Chained). IsMarked (enabled_by c.args.marks.now c.free_end-end.result (get_or c.args.chain.now.slots 0 0)) v.slots v.members) (sym is.2)
-    (marked_enabled c.requires (max 1 (position_or_len is_ordered_in list)) c.free_end-end.result (get_or c.args.chain.now.slots 0 0) is.0 is.1 c.free_end-end.ensures refl))
+    subst (λ (v : Chained). IsMarked c.with_enabled-enabled.result v.slots v.members) (sym is.2)
+    (c.with_enabled-enabled.ensures.marked m.counts.enabled_to (max 1 (position_or_len is_ordered_in c.args.chain.now.members)) is.0 (let most = is.1 in omega (arith, most, long)) m.dormant c.free_end-end.ensures)
+
+pub with_enabled-enabled-requires-clause-there : goal.with_enabled-enabled-requires-clause-there
+with_enabled-enabled-requires-clause-there c = dormant_there c.args.marks.now c.args.chain.now.slots c.args.chain.now.members c.requires c.if-marks-eq-ENDS.false
+
+pub with_enabled-enabled-requires-clause-span : goal.with_enabled-enabled-requires-clause-span
+with_enabled-enabled-requires-clause-span c = span_to_end c.args.chain.now.slots (max 1 (position_or_len is_ordered_in c.args.chain.now.members)) c.free_end-end.result c.free_end-end.ensures

@@ -1,4 +1,4 @@
-use Rattle.std.proofs.Common.{◌++◌, ◌∷◌, [], ◌∙◌, get_or, ap, sym, subst}
+use Rattle.std.proofs.Common.{ap, sym, subst}
 use Rattle.iscsi_tasks.specs.declared.member.Member.{Member}
 use Rattle.iscsi_tasks.specs.declared.marks.Marks.{Marks}
 use Rattle.iscsi_tasks.specs.Chains.{AreApart, Chained}
@@ -11,6 +11,6 @@ returns-clause-marked c =
     let one : Member = record { task = c.args.task; enabled = c.args.enabled; given = c.args.given } in
     let state = c.push-slot.ensures.state in
     let slots_are = ap (λ (v : Chained). v.slots) state in
-    subst (λ (m : Marks). IsMarked m c.push-slot.new.self.slots c.push-slot.new.self.members) (sym (c.with_last.ensures ∙ ap (pushed_by c.args.marks.now c.args.task.attr c.args.enabled c.args.given c.push-slot.result) (c.oldest.ensures ∙ ap (λ (v : Chained). get_or v.slots 0 0) state)))
-    (subst (λ (v : Chained). IsMarked (pushed_by c.args.marks.now c.args.task.attr c.args.enabled c.args.given c.push-slot.result (get_or (c.args.chain.now.slots ++ c.push-slot.result ∷ []) 0 0)) v.slots v.members) (sym state)
+    subst (λ (m : Marks). IsMarked m c.push-slot.new.self.slots c.push-slot.new.self.members) (sym c.with_last.ensures)
+    (subst (λ (v : Chained). IsMarked (pushed_by c.args.marks.now c.args.task.attr c.args.enabled c.args.given c.push-slot.result) v.slots v.members) (sym state)
     (marked_push c.requires.marked one c.push-slot.result (subst AreApart slots_are c.push-slot.ensures.apart) c.requires.newest c.requires.head))
