@@ -175,7 +175,7 @@ pub record IsAscendingTo (most : ℤ) (list : List Member) : Type 0 where
 abbrev pub ascends_with : Bool → ℤ → ℕ → Task → Bool
 ascends_with ascends most len t = len == 0 || (ascends && not (int_lt (covered_from t) most))
 
--- what holds of every set: it is kept, and where it says that they go up, they do
+-- what holds of a linked set by counts of it: it is kept, and where it says that they go up, they do
 pub record IsKeptInFront (depth room : ℕ) (number : ℤ) (ascends : Bool) (most : ℤ) (c : Counts) (list : List Member) : Type 0 where
   pub kept : IsKept depth room number c list
   pub front : ascends ≡ true → IsAscendingTo most list

@@ -1,13 +1,13 @@
 //! The commands of a linked set in the order in which they entered.
 
-ghost use Rattle.std.specs.Prelude.{◌≡◌, ℕ, ◌+◌, ◌<◌, ◌≤◌, ◌++◌, [], ◌∷◌, true, false, None, length, slice_index_or, All, MatchOption, map, take, drop, min, max, position, if◌then◌else◌};
+ghost use Rattle.std.specs.Prelude.{◌≡◌, ℕ, ◌+◌, ◌<◌, ◌≤◌, ◌++◌, [], ◌∷◌, true, false, None, Some, length, slice_index_or, All, MatchOption, map, take, drop, min, max, position, if◌then◌else◌};
 ghost use Rattle.std.specs.List.{position_or_len, remove};
 ghost use Rattle.iscsi_slots.specs.Slots.{times};
 ghost use Rattle.iscsi_tasks.specs.declared.member.Member.{Member};
 ghost use Rattle.iscsi_tasks.specs.Sets.{InOrder, after_moment, is_head_of, is_new, next_in, given_in};
 ghost use Rattle.iscsi_tasks.specs.Counted.{is_ordered_in, enabled_now};
 ghost use Rattle.iscsi_tasks.specs.Chains.{AreApart, chained};
-ghost use Rattle.iscsi_tasks.specs.Marked.{IsMarked, IsSlotOf, IsFirstNew, IsPastNone, IsSpan, is_none_marked};
+ghost use Rattle.iscsi_tasks.specs.Marked.{IsMarked, IsSlotOf, IsFirstNew, IsPastNone, IsSpan, is_none_marked, pushed_by};
 
 use crate::chain::Chain;
 use crate::marks::{Marks, moved_off};
@@ -54,7 +54,9 @@ pub(crate) fn push(
     requires head { is_head_of task.attr ≡ true → enabled ≡ true }
     ensures members { chain.new.members ≡ chain.old.members
         ++ record { task = task; enabled = enabled; given = given } ∷ [] }
+    ensures slots { chain.new.slots ≡ chain.old.slots ++ result ∷ [] }
     ensures room { chain.new.room ≡ chain.old.room }
+    ensures marks { marks.new ≡ pushed_by marks.old task.attr enabled given result }
     ensures marked { IsMarked marks.new chain.new.slots chain.new.members }
 {
     let slot = chain.push(task, enabled, given);
@@ -183,8 +185,8 @@ fn younger(chain: &Chain, one: u16, other: u16) -> u16
     }
 }
 
-/// The slot behind the last command that is free, where none is HEAD OF QUEUE and there are some: those before the oldest
-/// ORDERED one are, and the oldest of all.
+/// The slot behind the last command that is free, where none is HEAD OF QUEUE and there are some: those before the
+/// oldest ORDERED one are, and the oldest of all.
 fn free_end(chain: &Chain, marks: &Marks) -> u16
     requires marked { IsMarked marks.now chain.now.slots chain.now.members }
     requires some { 0 < length chain.now.members }
@@ -242,7 +244,10 @@ pub(crate) fn give_next(chain: &mut Chain, marks: &mut Marks) -> Option<u64>
     ensures ticket { result ≡ next_in chain.old.members }
     ensures state { chain.new ≡ record chain.old { members = given_in chain.old.members } }
     ensures marked { IsMarked marks.new chain.new.slots chain.new.members }
-    // Once there is none, no command is looked at again until one is enabled.
+    // None is looked at again that is given or older than that ..
+    ensures behind { (k : ℕ) → position is_new chain.old.members ≡ Some k →
+        marks.new ≡ record marks.old { new_from = slice_index_or chain.old.slots (k + 1) 0 } }
+    // .. and once there is none, no command until one is enabled.
     ensures none { result ≡ None → marks.new.new_from ≡ marks.new.new_to }
 {
     let Some(slot) = first_new(chain, marks) else {

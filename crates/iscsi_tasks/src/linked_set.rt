@@ -32,8 +32,8 @@ pub struct Entered {
 /// execute (SAM-5): what `TaskSet` is, for callers that keep the slot of each command.
 ///
 /// Each command has a slot, which it keeps until it leaves, and is linked to the one that entered before it and the one
-/// that entered after it. So nothing is searched for where the caller tells the slot, and nothing closes up as a command
-/// leaves. A slot that isn't that of the command costs a walk along the set, and changes no answer.
+/// that entered after it. So nothing is searched for where the caller tells the slot, and nothing closes up as a
+/// command leaves. A slot that isn't that of the command costs a walk along the set, and changes no answer.
 pub struct LinkedTaskSet {
     depth: u32,
     /// How many commands the last call of `enter_and_give` tested for being free. Contracts speak of it alone.
@@ -117,10 +117,10 @@ impl LinkedTaskSet {
         self.depth
     }
 
-    /// The command enters the set, behind all others: its ticket is greater than all before. And the oldest enabled ticket
-    /// is given that no call gave before: where the others were given, that of the command itself if it is enabled. Where
-    /// the set is full the command comes back. The cost doesn't grow with the set, where no other ticket waits to be given;
-    /// else it looks along the set for that.
+    /// The command enters the set, behind all others: its ticket is greater than all before. And the oldest enabled
+    /// ticket is given that no call gave before: where the others were given, that of the command itself if it is
+    /// enabled. Where the set is full the command comes back. The cost doesn't grow with the set, where no other ticket
+    /// waits to be given; else it looks for that as `next_new` does.
     pub fn enter_and_give(&mut self, task: Task) -> Result<Entered, Task>
         requires { IsNewest task.ticket self.old }
         ensures ok { OnOk result ((length self.old.list < self.old.depth)
@@ -151,8 +151,8 @@ impl LinkedTaskSet {
 
     /// The command with this ticket leaves. Where there is none, nothing changes.
     ///
-    /// It is sought in the slot, and where it isn't there, along the set. What grows with the set else are the search of
-    /// the next ORDERED command, as the oldest one leaves, and the commands that become enabled.
+    /// It is sought in the slot, and where it isn't there, along the set. What grows with the set else are the search
+    /// of the next ORDERED command, as the oldest one leaves, and the commands that become enabled.
     pub fn leave(&mut self, ticket: u64, slot: u16) -> Option<Task>
         ensures answer { result ≡ with_ticket ticket (tasks_in self.old) }
         ensures state { self.new ≡ left_by self.old (with_ticket ticket (tasks_in self.old)) }
@@ -190,9 +190,10 @@ impl LinkedTaskSet {
     /// nothing changes. Their tickets are appended to `left`, the oldest first.
     ///
     /// Where the commands entered in the order of their numbers, each immediate one with the number that was expected
-    /// next, it looks at those before the function and at one behind them. Else, and for the other covers, it looks at
-    /// each command, and for a function once more at each that stays. It looks at none where the function's number is below
-    /// all that the set held since one last covered commands or looked for some.
+    /// next, it looks at those of lower number than the function's, at the immediate ones of its own number, and at one
+    /// behind them. Else, and for the other covers, it looks at each command, and for a function once more at each that
+    /// stays. It looks at none where the function's number is too low to cover one of those that the set held since a
+    /// function last covered commands or looked for some.
     pub fn leave_covered(&mut self, cover: &Cover, left: &mut Vec<u64>)
         requires room { vec_len left.old + length self.old.list ≤ vec_capacity left.old }
         ensures state { self.new ≡ set_staying (is_covered cover.now) self.old }
@@ -223,8 +224,8 @@ impl LinkedTaskSet {
         give_next(&mut self.chain, &mut self.marks)
     }
 
-    /// The command enters behind all others. Where it `gives`, its ticket is given at once if it is enabled. Where the set
-    /// is full it comes back.
+    /// The command enters behind all others. Where it `gives`, its ticket is given at once if it is enabled. Where the
+    /// set is full it comes back.
     fn take_in(&mut self, task: Task, gives: bool) -> Result<Taken, Task>
         requires { IsNewest task.ticket self.old }
         ensures ok { IfOk result (λ taken. (length self.old.list < self.old.depth)
@@ -247,8 +248,8 @@ impl LinkedTaskSet {
         Ok(Taken { slot, enabled })
     }
 
-    /// Determines anew from which number on functions may cover commands, once one has covered some or looked for them, so
-    /// that the next one like it needn't look along the set. Where they didn't go up along it they may do so now.
+    /// Determines anew from which number on functions may cover commands, once one has covered some or looked for them,
+    /// so that the next one like it needn't look along the set. Where they didn't go up along it they may do so now.
     fn renumber(&mut self, cover: &Cover)
         ensures { self.new ≡ self.old }
     {

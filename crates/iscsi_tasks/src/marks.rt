@@ -1,4 +1,5 @@
-//! What a linked set keeps beside its commands, so that it needn't test them all again: a count, and slots of some of them.
+//! What a linked set keeps beside its commands, so that it needn't test them all again: a count, and slots of some of
+//! them.
 
 ghost use Rattle.std.specs.Prelude.{◌≡◌, ◌<◌, true};
 ghost use Rattle.iscsi_tasks.specs.Rules.{is_head_of};

@@ -10,7 +10,6 @@ pub invariant_of-result : goal.invariant_of-result
 invariant_of-result c =
     let most = pos 9223372036854775807 in
     let empty : c.in_ok-chain.chain ≡ chained [] [] c.args.depth = search rules in
-    let some = c.if-depth-lt1.false in let few = c.if-depth-gt-MOST_TASKS.false in
     subst (λ (v : Chained). IsKeptLinked c.args.depth v.room most true most c.new.result v.slots v.members) (sym empty)
     (subst (λ (m : Marks). IsKeptLinked c.args.depth c.args.depth most true most m [] []) (sym c.new.ensures)
-    (kept_none_yet c.args.depth most most (omega (arith, some)) (omega (arith, few))))
+    (kept_none_yet c.args.depth most most (omega arith) (omega arith)))
