@@ -2,7 +2,7 @@
 
 ghost use Rattle.std.specs.Prelude.{◌≡◌, ◌≤◌, vec_capacity};
 
-use crate::task_set::is_newest;
+use crate::task_set::{covered, enter, is_newest, shape_tasks};
 use iscsi_tasks::{Attr, Cover, LinkedTaskSet, Task, TaskFault, TaskSet};
 use std::alloc::Global;
 use std::test::Fail;
@@ -19,6 +19,12 @@ struct Both {
     slots: Vec<u16>,
     /// For each slot the ticket of the command that got it last.
     holders: Vec<u64>,
+    /// The slots that are free again, the one that was freed last behind the others ..
+    freed: Vec<usize>,
+    /// .. and how many they are.
+    free: usize,
+    /// How many slots commands had so far.
+    used: usize,
     /// The tickets of commands that left together.
     left: Vec<u64>,
     ghost same: { linked ≡ plain },
@@ -34,6 +40,9 @@ impl Both {
             plain: TaskSet::open(alloc, depth)?,
             slots: vec![in alloc; 0; 4096]?,
             holders: vec![in alloc; 0; 1025]?,
+            freed: vec![in alloc; 0; 1025]?,
+            free: 0,
+            used: 0,
             left: Vec::with_capacity(alloc, 1024)?,
         })
     }
@@ -43,8 +52,28 @@ impl Both {
         *self.slots.get((ticket % 4096) as usize).unwrap_or(&7)
     }
 
-    /// Notes the slot that the command with this ticket got. False where another command has it still, or where no set of
-    /// this depth has it.
+    /// The slot that the next command is to get: the one that was freed last, or else a new one, from 1 on. That a slot
+    /// is told which isn't the command's shows here alone, for it changes no answer of a set.
+    fn next_slot(&mut self) -> usize {
+        if self.free > 0 {
+            self.free -= 1;
+            return self.freed.get(self.free).copied().unwrap_or(0);
+        }
+        self.used = self.used.wrapping_add(1);
+        self.used
+    }
+
+    /// Notes that the command with this ticket has left.
+    fn note_left(&mut self, ticket: u64) {
+        let slot = self.holders.iter().position(|holder| *holder == ticket);
+        if let (Some(slot), Some(noted)) = (slot, self.freed.get_mut(self.free)) {
+            *noted = slot;
+            self.free = self.free.wrapping_add(1);
+        }
+    }
+
+    /// Notes the slot that the command with this ticket got. False where it isn't the one that was to be got, or
+    /// another command has it still, or no set of this depth has it.
     fn note(&mut self, ticket: u64, slot: u16) -> bool {
         if let Some(noted) = self.slots.get_mut((ticket % 4096) as usize) {
             *noted = slot;
@@ -55,10 +84,12 @@ impl Both {
         }
         // The command with this ticket itself entered the plain set before.
         let is_free = holder != ticket && !is_member(&self.plain, holder);
-        is_free && 1 <= slot && u32::from(slot) <= self.linked.depth()
+        let is_next = usize::from(slot) == self.next_slot();
+        is_next && is_free && 1 <= slot && u32::from(slot) <= self.linked.depth()
     }
 
-    /// The command enters, if its ticket may be the newest one. It gets a free slot, and both give the same ticket then.
+    /// The command enters, if its ticket may be the newest one. It gets the slot that is next, and both give the same
+    /// ticket then.
     fn enter(&mut self, task: Task) -> bool {
         if !is_newest(&self.plain, task.ticket) {
             return false;
@@ -74,7 +105,12 @@ impl Both {
     }
 
     fn leave(&mut self, ticket: u64, slot: u16) -> bool {
-        self.linked.leave(ticket, slot) == self.plain.leave(ticket)
+        let left = self.linked.leave(ticket, slot);
+        let agree = left == self.plain.leave(ticket);
+        if left.is_some() {
+            self.note_left(ticket);
+        }
+        agree
     }
 
     fn leave_enabled(&mut self, ticket: u64, slot: u16) -> bool {
@@ -82,18 +118,45 @@ impl Both {
         if is_enabled {
             self.plain.leave(ticket);
         }
-        self.linked.leave_enabled(ticket, slot) == is_enabled
+        let agree = self.linked.leave_enabled(ticket, slot) == is_enabled;
+        if is_enabled {
+            self.note_left(ticket);
+        }
+        agree
     }
 
-    /// The covered commands leave, and `left` tells their tickets, the oldest one's first. `is_within` is for the prover:
-    /// there is room for the tickets.
+    /// The covered commands leave, and `left` tells their tickets, the oldest one's first. `is_within` is for the
+    /// prover: there is room for the tickets.
     fn leave_covered(&mut self, cover: &Cover) -> bool {
         let is_within = self.linked.len() <= self.linked.depth();
         self.left.clear();
         self.linked.leave_covered(cover, &mut self.left);
         let agree = are_covered(&self.left, &self.plain, cover);
         self.plain.leave_covered(cover);
+        for k in 0..self.left.len() {
+            if let Some(&ticket) = self.left.get(k) {
+                self.note_left(ticket);
+            }
+        }
         agree && is_within
+    }
+
+    /// The covered commands leave together, and another set one by one. All hold and give the same then.
+    fn leave_both_ways(&mut self, apart: &mut TaskSet, cover: &Cover) -> bool {
+        let agree = self.leave_covered(cover);
+        for _ in 0..5 {
+            apart.leave_first(cover);
+        }
+        let all = Cover::All;
+        let same = covered(&self.plain, &all) == covered(apart, &all);
+        agree && same && self.gives(apart.next_new())
+    }
+
+    /// Both give this ticket.
+    fn gives(&mut self, ticket: Option<u64>) -> bool {
+        let linked = self.linked.next_new();
+        let plain = self.plain.next_new();
+        linked == ticket && plain == ticket
     }
 
     /// Both give the same tickets, until there is none.
@@ -108,6 +171,38 @@ impl Both {
             }
         }
         false
+    }
+
+    /// Five commands enter that have the tickets behind this one. The digits of `shape` to the base 3 say their
+    /// attributes. Behind each entering one of those so far leaves, if any: the digits of `leavers` say which, the
+    /// first one to the base 2, the next one to the base 3, and so on. What is new is asked for after each step, or at
+    /// the end.
+    fn run(&mut self, before: u64, shape: u32, leavers: u32, asks: bool) -> bool {
+        let mut agree = true;
+        let mut attrs = shape;
+        let mut leaving = leavers;
+        for k in 1..6 {
+            let ticket = before.wrapping_add(u64::from(k));
+            agree &= self.enter(Task {
+                ticket,
+                conn: 1,
+                itt: 0,
+                attr: [Attr::Simple, Attr::Ordered, Attr::Head][(attrs % 3) as usize],
+                immediate: false,
+                pos: i64::from(k),
+                event: ticket,
+            });
+            let leaver = leaving % (k + 1);
+            if leaver > 0 {
+                let ticket = before.wrapping_add(u64::from(leaver));
+                let slot = self.slot_of(ticket);
+                agree &= self.leave(ticket, slot);
+            }
+            agree &= !asks || self.give_all();
+            attrs /= 3;
+            leaving /= k + 1;
+        }
+        agree && self.give_all() && self.leave_covered(&Cover::All) && self.linked.len() == 0
     }
 
     fn agree(&self) -> bool {
@@ -148,7 +243,7 @@ struct Calls {
     /// How many in 256 commands are ORDERED, and how many HEAD OF QUEUE.
     ordered: u64,
     heads: u64,
-    /// Whether immediate commands have numbers that aren't expected next.
+    /// Whether some of the commands have lower numbers than the one that is expected next, immediate or not.
     strays: bool,
     seed: u64,
 }
@@ -179,7 +274,7 @@ impl Calls {
         } else {
             0
         };
-        // An immediate command has the number that is expected next.
+        // A command has the number that is expected next, but for strays.
         let expected = self.number.wrapping_add(1);
         if !immediate {
             self.number = expected;
@@ -294,6 +389,44 @@ fn linked_sets_answer_as_plain_ones_do(rt: HostRuntime) -> Result<(), Fail> {
                     "{depth} deep, {ordered} ORDERED, {heads} HEAD OF QUEUE, {strays}"
                 );
             }
+        }
+    }
+    Ok(())
+}
+
+#[test]
+fn any_five_commands_leave_a_linked_set_as_a_plain_one(rt: HostRuntime) -> Result<(), Fail> {
+    let mut both = Both::open(rt.alloc(), 5)?;
+    let mut ticket: u64 = 0;
+    for shape in 0..243 {
+        for leavers in 0..720 {
+            let asks = (shape + leavers / 2) % 2 == 0;
+            let agree = both.run(ticket, shape, leavers, asks);
+            assert!(rt; agree, "{shape}, {leavers}");
+            ticket = ticket.wrapping_add(5);
+        }
+    }
+    Ok(())
+}
+
+#[test]
+fn a_function_takes_out_of_a_linked_set_what_it_covers_in_any_order(
+    rt: HostRuntime,
+) -> Result<(), Fail> {
+    for shape in 0..1024 {
+        for first in 0..5 {
+            let mut both = Both::open(rt.alloc(), 5)?;
+            let mut apart = TaskSet::open(rt.alloc(), 5)?;
+            for task in shape_tasks(shape) {
+                assert!(rt; both.enter(task));
+                assert_eq!(rt; enter(&rt, &mut apart, task), Ok(()));
+                apart.next_new();
+            }
+            for pos in [first, first + 1, first + 3] {
+                let below = Cover::Below { pos, event: 3 };
+                assert!(rt; both.leave_both_ways(&mut apart, &below));
+            }
+            assert!(rt; both.give_all() && both.leave_covered(&Cover::All));
         }
     }
     Ok(())

@@ -34,7 +34,7 @@ pub(crate) fn is_newest(set: &TaskSet, ticket: u64) -> bool
     true
 }
 
-fn enter(rt: &impl Abort, set: &mut TaskSet, task: Task) -> Result<(), Task> {
+pub(crate) fn enter(rt: &impl Abort, set: &mut TaskSet, task: Task) -> Result<(), Task> {
     assert!(rt; is_newest(set, task.ticket));
     set.enter(task)
 }
@@ -235,7 +235,7 @@ fn a_function_that_covers_nothing_hides_no_command(rt: HostRuntime) -> Result<()
 }
 
 /// The tickets of the covered commands among the first five.
-fn covered(set: &TaskSet, cover: &Cover) -> [Option<u64>; 5] {
+pub(crate) fn covered(set: &TaskSet, cover: &Cover) -> [Option<u64>; 5] {
     [0, 1, 2, 3, 4].map(|at| set.covered_at(at, cover))
 }
 
@@ -290,31 +290,33 @@ fn covered_commands_leave_together(rt: HostRuntime) -> Result<(), Fail> {
     Ok(())
 }
 
-/// Five commands enter. A digit of `shape` to the base 4 says of each that it is numbered, or immediate of the number
-/// that is next, of the one before it or of the one behind it.
-fn enter_shape(rt: &impl Abort, set: &mut TaskSet, shape: u32) {
-    let attrs = [
-        Attr::Simple,
-        Attr::Ordered,
-        Attr::Simple,
-        Attr::Head,
-        Attr::Simple,
+/// Five commands. A digit of `shape` to the base 4 says of each that it is numbered, or immediate of the number that is
+/// next, of the one before it or of the one behind it.
+pub(crate) fn shape_tasks(shape: u32) -> [Task; 5] {
+    let mut tasks = [
+        task(1, Attr::Simple),
+        task(2, Attr::Ordered),
+        task(3, Attr::Simple),
+        task(4, Attr::Head),
+        task(5, Attr::Simple),
     ];
     let mut digits = shape;
     let mut next: i64 = 1;
     for k in 0..5 {
-        let ticket = k as u64 + 1;
         let shifted = [0, 0, -1, 1][(digits % 4) as usize];
-        let placed = Task {
-            immediate: digits % 4 > 0,
-            pos: next.saturating_add(shifted),
-            ..task(ticket, attrs[k])
-        };
+        tasks[k].immediate = digits % 4 > 0;
+        tasks[k].pos = next.saturating_add(shifted);
         if digits % 4 == 0 {
             next = next.saturating_add(1);
         }
         digits /= 4;
-        assert_eq!(rt; enter(rt, set, placed), Ok(()));
+    }
+    tasks
+}
+
+fn enter_shape(rt: &impl Abort, set: &mut TaskSet, shape: u32) {
+    for task in shape_tasks(shape) {
+        assert_eq!(rt; enter(rt, set, task), Ok(()));
     }
 }
 
