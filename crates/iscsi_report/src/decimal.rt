@@ -37,6 +37,16 @@ fn put_pair(n: u32, line: &mut [u8], at: usize) -> usize
     put_text(&pair, line, at)
 }
 
+/// Writes a number of one digit.
+#[inline(always)]
+fn put_one(n: u32, line: &mut [u8], at: usize) -> usize
+    requires { (n < 10) × (at + 1 ≤ length line.old) }
+    ensures end { result ≡ at + 1 }
+    ensures written { take result line.new ≡ take at line.old ++ decimal n }
+{
+    put_text(&[b'0' + n as u8], line, at)
+}
+
 /// Writes a number of one digit or two.
 #[inline(always)]
 fn put_two(n: u32, line: &mut [u8], at: usize) -> usize
@@ -45,7 +55,7 @@ fn put_two(n: u32, line: &mut [u8], at: usize) -> usize
     ensures written { take result line.new ≡ take at line.old ++ decimal n }
 {
     if n < TWO_DIGITS {
-        return put_text(&[b'0' + n as u8], line, at);
+        return put_one(n, line, at);
     }
     put_pair(n, line, at)
 }
@@ -116,7 +126,7 @@ pub fn put_small(n: u16, line: &mut [u8], at: usize) -> usize
 {
     let n = u32::from(n);
     if n < TWO_DIGITS {
-        return put_two(n, line, at);
+        return put_one(n, line, at);
     }
     put_larger(n, line, at)
 }

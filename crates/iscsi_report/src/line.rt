@@ -32,7 +32,7 @@ pub fn put_digits(n: u32, line: &mut [u8], at: usize) -> usize
 {
     let [a, b, c, d] = n.to_be_bytes();
     let (front, _) = digits_of(u8x16::from_array([a, b, c, d, 0, 0, 0, 0, 0, 0, 0, 0, 0, 0, 0, 0]));
-    put_eight(front, line, at)
+    put_first_eight(front, line, at)
 }
 
 /// Writes the number that begins at byte 8 and the one that begins at byte 0, in eight digits each, with a blank
@@ -46,14 +46,14 @@ pub fn put_two_numbers(bytes: &[u8], line: &mut [u8], at: usize) -> usize
         ++ (codes " " ++ eight_digits (big_endian_from 0 (take 4 bytes.now)))) }
 {
     let (second, first) = digits_of(u8x16::from_slice(bytes));
-    let at = put_eight(first, line, at);
+    let at = put_first_eight(first, line, at);
     let at = put_text(b" ", line, at);
-    put_eight(second, line, at)
+    put_first_eight(second, line, at)
 }
 
 /// Writes the first eight of these.
 #[inline(always)]
-fn put_eight(digits: u8x16, line: &mut [u8], at: usize) -> usize
+fn put_first_eight(digits: u8x16, line: &mut [u8], at: usize) -> usize
     requires { (length digits ≡ 16) × (at + 16 ≤ length line.old) }
     ensures end { result ≡ at + 8 }
     ensures written { take result line.new ≡ take at line.old ++ take 8 digits }

@@ -1,11 +1,6 @@
 use Rattle.std.proofs.Common.{ℕ, List, ◌++◌, take, sym, ap, ◌∙◌, arith}
-use Rattle.std.proofs.lemmas.Fmt.{decimal_digit}
 use Rattle.iscsi_report.proofs.DecimalLemmas.{decimal_two}
 use Rattle.iscsi_report.proofs.decimal.put_two.Goals as goal
-
-pub returns-then-n-lt-TWO_DIGITS-clause-written : goal.returns-then-n-lt-TWO_DIGITS-clause-written
-returns-then-n-lt-TWO_DIGITS-clause-written c =
-    c.put_text.ensures.written ∙ ap (λ (l : List ℕ). take c.args.at c.args.line.now ++ l) (sym (decimal_digit c.args.n c.if-n-lt-TWO_DIGITS.true))
 
 pub returns-clause-written : goal.returns-clause-written
 returns-clause-written c =
