@@ -197,7 +197,7 @@ pub(crate) fn first_command(places: &Places, end: u32, itt: u32, unit: u16) -> O
     let end = end.min(places.ring.len() as u32);
     let bound = places.bounds.of(itt).saturating_sub(places.turned);
     let first = bound.min(end as u64) as u32;
-    if holds_command_at(places, first, itt, unit) && first < end {
+    if first < end && holds_command_at(places, first, itt, unit) {
         return Some(first);
     }
     let mut k = first;

@@ -22,12 +22,12 @@ none_yet c j below =
     ap (λ b. is_command c.args.itt c.args.unit (get_or b.items j None)) (sym c.places.view_is)
     ∙ none_before c.places.inside.bounds c.places.inside.turned c.places.inside.ring.items c.args.itt c.args.unit j c.places.invariant.sound.lowest short
 
-pub returns-then-first-end : goal.returns-then-first-end
-returns-then-first-end c =
+pub returns-then-holds_command_at : goal.returns-then-holds_command_at
+returns-then-holds_command_at c =
     let long = ap (λ (b : Buffer (Option (Option Request))). length b.items) c.places.view_is in
     found_below (is_command c.args.itt c.args.unit) c.args.places.now.items c.args.end None c.min-first.result
     (omega (arith, long, c.if-first-end.true, c.min-end.ensures, c.len.ensures.len)) (omega (arith, c.if-first-end.true, c.min-end.ensures))
-    (none_yet (goal.at.returns-then-first-end c).After-min-first) (sym c.holds_command_at.ensures ∙ c.if-holds_command_at.true)
+    (none_yet (goal.at.returns-then-holds_command_at c).After-min-first) (sym c.holds_command_at.ensures ∙ c.if-holds_command_at.true)
 
 pub loop-k-init : goal.loop-k-init
 loop-k-init c = none_yet (goal.at.loop-k-init c).After-min-first
