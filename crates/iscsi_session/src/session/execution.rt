@@ -6,9 +6,9 @@ ghost use Rattle.iscsi_wire.specs.Fields.{connection_of, header_of, is_immediate
 ghost use Rattle.iscsi_window.specs.Windows.{HasRoom};
 ghost use Rattle.iscsi_history.specs.rules.Settings.{is_known as known_in};
 ghost use Rattle.iscsi_history.specs.rules.Execution.{MOST_IMMEDIATE, reject as reject_of, attr_of as attr_named, scsi_verdict, nop_verdict};
-ghost use Rattle.iscsi_session.specs.promises.Standing.{stat_sn_on, is_held};
+ghost use Rattle.iscsi_session.specs.promises.Standing.{is_held};
 ghost use Rattle.iscsi_session.specs.private.Codes.{reason_code};
-ghost use Rattle.iscsi_session.specs.private.Steps.{set_at, is_set_full, is_tag_kept, is_crowded_by, immediate_in, counted_on, place_in, verdict_by, number_by, event_by, started, with_command, entry_effects, with_reply, reply_effects, executed_as, execution_effects, count_reply};
+ghost use Rattle.iscsi_session.specs.private.Steps.{set_at, is_set_full, is_tag_kept, is_crowded_by, immediate_in, counted_on, place_in, verdict_by, number_by, event_by, started, with_command, entry_effects, with_reply, reply_effects, executed_as, execution_effects};
 ghost use Rattle.iscsi_session.specs.private.Functions.{owed};
 ghost use Rattle.iscsi_session.specs.private.Turning.{with_executed, executed_effects};
 
@@ -197,21 +197,12 @@ impl Session {
         ensures len { vec_len out.new ≡ vec_len out.old + 1 }
         ensures capacity { vec_capacity out.new ≡ vec_capacity out.old }
     {
-        let stat_sn = self.next_stat_sn(conn);
+        let stat_sn = self.connections.assign_stat_sn(conn);
         out.push_reserved(Effect::Send {
             conn,
             stat_sn,
             reply,
         });
-    }
-
-    /// Takes the next StatSN of a connection.
-    pub(crate) fn next_stat_sn(&mut self, cid: u16) -> u32
-        requires { known_in cid self.old.conns ≡ true }
-        ensures number { result ≡ stat_sn_on cid self.old.conns }
-        ensures session { self.new ≡ record self.old { conns = count_reply cid self.old.conns } }
-    {
-        self.connections.assign_stat_sn(cid)
     }
 
     /// A command enters the set of a unit, which has room for it. No live command has its tag.
