@@ -1,6 +1,7 @@
 """Requests for memory and for threads that are refused, one after the other, until a run meets no refusal."""
 
 import re
+import tempfile
 
 from hostile.common import (
     CASES,
@@ -20,6 +21,8 @@ from hostile.serving import two_units
 AGAIN = re.compile(rb"again: (\d+) steps, (\d+) turns, (\d+) ends, (\d+) lines, (\d+) from the start\n")
 # More requests than any run here makes.
 MOST = 5000
+# So many bytes are asked of the reader at once.
+CHUNK = 65536
 
 
 def refusals(words, data, inject="ALLOC", **how):
@@ -177,6 +180,38 @@ def threaded_replays():
     return tallies
 
 
+def number_behind(words, front):
+    """The number of the first request that the line behind this front makes: the next after the last one that the front
+    can't be read without. A line that says nothing follows the front, so that no session asks for memory."""
+    return 1 + max(number for number, ran in refusals(words, front + b"x\n") if ran.err == NO_MEMORY)
+
+
+def last_arrivals():
+    """Recordings, with their words, of which a read ends with an arrival whose CID is one digit: 101 bytes."""
+    case = CASES / "half-way-number-outside"
+    recording = (case / "recording").read_bytes()
+    yield "half-way-number-outside", words_of(case), recording, b""
+    front, arrival = recording[:-101], recording[-101:]
+    notes = CHUNK // 100 * (b"#" * 99 + b"\n")
+    chunk = front + notes[len(recording) - CHUNK :] + arrival
+    yield "at the end of a chunk", words_of(case), chunk, notes
+
+
+def arrivals():
+    """An arrival that ends what was read: the request for its memory, where it is refused, is made again."""
+    tally = Tally("memory refused to the last arrival that was read", 2)
+    for name, words, data, rest in last_arrivals():
+        report = run(words, data + rest).out
+        number = number_behind(words, data[:-101])
+        with tempfile.TemporaryFile() as file:
+            file.write(data + rest)
+            file.seek(0)
+            ran = run(words, inject={"ALLOC": number}, stdin=file)
+        unmet = "" if ran.note.refused == 1 else f"{ran.note.refused} requests were refused"
+        tally.judge(f"{name}, request {number}", unmet or compare(ran, 0, report, b""))
+    return [tally]
+
+
 COMMAND_LINES = [
     [],
     ["--help"],
@@ -212,4 +247,5 @@ CLASSES = [
     ("memory refused to the program", replays),
     ("memory and threads refused to the program with threads", threaded_replays),
     ("memory refused to the command line", command_lines),
+    ("memory refused to the last arrival that was read", arrivals),
 ]

@@ -176,17 +176,17 @@ first_says bytes letter n count k e h other clear said =
           ∙ false_or (is_end letter) _ other (no_end-append (take count rest) (32 ∷ text) (no_end-digits (take count rest) n h.leads.digits) clear);
     }
 
-pub arrival_first : (bytes rest header : List ℕ) (conn count k size : ℕ) → rest ≡ drop 2 bytes → 104 < length bytes → get_or bytes 0 0 ≡ 67 → get_or bytes 1 0 ≡ 32
-    → LeadsWith rest conn count → conn ≤ 65535 → count ≤ 5 → k ≡ 96 → get_or rest (count + 1 + k) 0 ≡ 10
+pub arrival_first : (bytes rest header : List ℕ) (conn count k size : ℕ) → rest ≡ drop 2 bytes → 1 < length bytes → get_or bytes 0 0 ≡ 67 → get_or bytes 1 0 ≡ 32
+    → LeadsWith rest conn count → conn ≤ 65535 → count ≤ 5 → k ≡ 96 → count + 1 + k < length rest → get_or rest (count + 1 + k) 0 ≡ 10
     → hex_of 48 (take k (drop (count + 1) rest)) ≡ Some header → size ≡ count + 1 + k + 2 → FirstSays bytes size (Arrive conn header)
-arrival_first bytes rest header conn count k size is long letter blank leads small few hundred end hex whole =
-    let opens : Opens bytes 67 = record { letter_is = letter; blank_is = blank; some = omega arith } in
+arrival_first bytes rest header conn count k size is some letter blank leads small few hundred long end hex whole =
+    let opens : Opens bytes 67 = record { letter_is = letter; blank_is = blank; some = some } in
     let number : LeadsWith (drop 2 bytes) conn count = rw is at leads in
     let digits : hex_of 48 (take k (drop (count + 1) (drop 2 bytes))) ≡ Some header = rw is at hex in
     let first : IsFirst bytes 67 conn count k = record {
       opens = opens;
       leads = number;
-      long = omega (arith, opened_length bytes 67 opens);
+      long = rw is at long;
       short = omega arith;
       end = rw is at end;
     } in

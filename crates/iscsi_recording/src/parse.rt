@@ -198,8 +198,8 @@ const CID_DIGITS: usize = 5;
 
 const TICKET_DIGITS: usize = 18;
 
-/// How many bytes the longest line of an arrival has, and that of a completion in its common form.
-const LONGEST_ARRIVAL: usize = 2 + CID_DIGITS + 1 + 96;
+/// How many bytes the shortest line of an arrival has, and the longest of a completion in its common form.
+const SHORTEST_ARRIVAL: usize = 2 + 1 + 1 + 96;
 
 const LONGEST_COMPLETION: usize = 2 + TICKET_DIGITS + 1 + 2;
 
@@ -261,13 +261,13 @@ fn cid_first(bytes: &[u8]) -> Option<(u16, usize)>
 pub fn first_arrival(bytes: &[u8]) -> Option<(u16, [u8; 48], usize)>
     ensures { IfSome result (λ r. FirstSays bytes.now r.2 (Event.Arrive r.0 r.1)) }
 {
-    if bytes.len() <= LONGEST_ARRIVAL || bytes[0] != b'C' || bytes[1] != b' ' {
+    if bytes.len() <= SHORTEST_ARRIVAL || bytes[0] != b'C' || bytes[1] != b' ' {
         return None;
     }
     let rest = &bytes[2..];
     let conn = cid_first(rest)?;
     let end = conn.1 + 97;
-    if rest[end] != b'\n' {
+    if rest.len() <= end || rest[end] != b'\n' {
         return None;
     }
     let header = decode_48(&rest[conn.1 + 1..end])?;

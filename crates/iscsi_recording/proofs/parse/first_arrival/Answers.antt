@@ -9,5 +9,5 @@ returns c =
     let most = c.in_ok-conn.ensures.most in
     let end : found.1 + 1 + (found.1 + 97 - (found.1 + 1)) ≡ found.1 + 97 = omega arith in
     arrival_first c.args.bytes.now _ c.in_ok-header.header found.0 found.1 (found.1 + 97 - (found.1 + 1)) _ (take_rest c.args.bytes.now 2)
-    (omega arith) (omega arith) (omega arith) c.in_ok-conn.ensures.number (omega (arith, most.0)) most.1 (omega arith)
+    (omega arith) (omega arith) (omega arith) c.in_ok-conn.ensures.number (omega (arith, most.0)) most.1 (omega arith) (omega arith)
     (rw end (omega arith)) (sym c.decode_48.ensures ∙ search rules) (omega arith)
