@@ -102,6 +102,10 @@ impl LiveCommands {
         ensures command { option_map (λ p. p.command) result ≡ find_ticket ticket self.now.items }
         ensures ascending { AreAscending self.now.items }
     {
+        // A stale ticket isn't sought among those that ended.
+        if self.live == 0 {
+            return None;
+        }
         let at = place_of(&self.log, &self.hints, ticket)?;
         let entry = entry_at(&self.log, at);
         Some(Placed {
