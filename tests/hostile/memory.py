@@ -182,7 +182,7 @@ def threaded_replays():
 
 def number_behind(words, front):
     """The number of the first request that the line behind this front makes: the next after the last one that the front
-    can't be read without. A line that says nothing follows the front, so that no session asks for memory."""
+    can't be read without. A bad line follows the front, so that the run ends before a session asks for memory."""
     return 1 + max(number for number, ran in refusals(words, front + b"x\n") if ran.err == NO_MEMORY)
 
 

@@ -1,8 +1,7 @@
 //! The live commands of a session: found by ticket and by Initiator Task Tag.
 //!
-//! `LiveCommands` finds them at once mostly, and is what a session uses; `Commands` finds them by searches, and has places
-//! for them.
-//! All memory is taken when they are opened.
+//! `LiveCommands` finds them at once mostly, and is what a session uses; `Commands` finds them by searches, and has
+//! places for them. All memory is taken when they are opened.
 #![tactic(auto)]
 
 mod commands;

@@ -123,12 +123,12 @@ impl LiveCommands {
         Some(entry_at(&self.log, k).command)
     }
 
-    /// A command enters, with the slot that it has in its task set. Its ticket is greater than all others', and no other
-    /// one has its tag.
+    /// A command enters, with the slot that it has in its task set. Its ticket is greater than all others', and no
+    /// other one has its tag.
     ///
-    /// Where the log has at least 64 more ended commands than live ones, the live ones close up first: a pass over it,
-    /// which the calls have paid for by which those left. Ended ones go from it whose tickets aren't below the new
-    /// one.
+    /// Ended commands go from the log whose tickets aren't below the new one. Where it still has at least 64 more ended
+    /// commands than live ones, the live ones close up: a pass over it, which the calls have paid for by which those
+    /// left.
     pub fn push(&mut self, command: Live, slot: u16)
         requires room { length self.old.items < self.old.room }
         requires newest { All (λ l. l.ticket < command.ticket) self.old.items }
@@ -207,7 +207,8 @@ fn forget_ended(log: &mut Vec<Entry>, ticket: u64)
     }
 }
 
-/// So many commands stay in the log.
+/// So many commands stay in the log. It is rare, and a call of its own: within a push it would cost each one
+/// registers.
 #[inline(never)]
 fn shorten(log: &mut Vec<Entry>, len: usize)
     ensures log { log.new.items ≡ take len log.old.items }

@@ -130,8 +130,8 @@ impl TagIndex {
     }
 }
 
-/// Marks the groups of the others. The marks of before go, so that they don't gather, unless there are no others: then a
-/// search looks at none.
+/// Marks the groups of the others. The marks of before go, so that they don't gather, unless there are no others: then
+/// a search looks at none.
 fn mark(crowded: &mut [bool], others: &Order, log: &[Entry])
     requires groups { length crowded.old ≡ 4096 }
     requires within { (i : ℕ) → i < length others.now.items → slice_index_or others.now.items i 0 < length log.now }
@@ -205,7 +205,8 @@ fn is_taken(log: &[Entry], to: usize, k: usize, group: usize) -> bool
     entry.is_live && group_of(entry.command.itt) == group
 }
 
-/// How many of the others have a lower tag. Where the tag isn't between those of the last one and the first one, they tell.
+/// How many of the others have a lower tag. Where the tag isn't between those of the last one and the first one, these
+/// tell.
 #[inline(never)]
 fn count_below(others: &Order, log: &[Entry], itt: u32) -> usize
     requires within { (i : ℕ) → i < length others.now.items → slice_index_or others.now.items i 0 < length log.now }

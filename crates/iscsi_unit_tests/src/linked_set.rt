@@ -53,7 +53,8 @@ impl Both {
     }
 
     /// The slot that the next command is to get: the one that was freed last, or else a new one, from 1 on. That a slot
-    /// is told which isn't the command's shows here alone, for it changes no answer of a set.
+    /// is told which isn't the command's changes no answer of a set, so no public clause speaks of it: it is compared
+    /// here.
     fn next_slot(&mut self) -> usize {
         if self.free > 0 {
             self.free -= 1;

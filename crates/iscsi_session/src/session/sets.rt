@@ -120,7 +120,7 @@ pub(crate) fn announce(sets: &mut [LinkedTaskSet], unit: u16, out: &mut Vec<Effe
 }
 
 /// Announces to a unit the commands that became enabled, the oldest first.
-pub(crate) fn enable_new(set: &mut LinkedTaskSet, unit: u16, out: &mut Vec<Effect>)
+fn enable_new(set: &mut LinkedTaskSet, unit: u16, out: &mut Vec<Effect>)
     requires room { vec_len out.old + count_by is_new set.old.list ≤ vec_capacity out.old }
     ensures set { set.new ≡ all_given set.old }
     ensures effects { out.new.items ≡ out.old.items ++ enable_effects unit set.old.list }
