@@ -1,6 +1,7 @@
 -- A request that executed has at most one reply, and one whose command was taken out has none, in the trace of each list of events.
-use Rattle.std.proofs.Common.{◌≡◌, ℕ, ◌+◌, ◌<◌, ◌≤◌, inl, inr, ⊎_elim, cond, true, false, List, [], ◌∷◌, ◌++◌, map, length, count_by, Option, Some, None, refl, ap, sym, subst, ◌∙◌, arith, nat_lt, eq-eqb}
+use Rattle.std.proofs.Common.{◌≡◌, ℕ, ◌+◌, ◌<◌, ◌≤◌, inl, inr, ⊎_elim, cond, true, false, List, [], ◌∷◌, ◌++◌, map, length, count_by, Option, Some, None, refl, ap, sym, subst, ◌∙◌, arith, nat_lt, eq-eqb, ◌==◌, ◌&&◌}
 use Rattle.std.specs.List.{filter_map, cons_option}
+use Rattle.std.proofs.lemmas.Bool.{eqb-true}
 use Rattle.std.proofs.lemmas.List.{append-nil}
 use Rattle.std.proofs.lemmas.List.Elements.{filter_map-append}
 use Rattle.iscsi_wire.specs.declared.reply.Reply.{Reply}
@@ -8,12 +9,16 @@ use Rattle.iscsi_wire.specs.declared.reply.Reply.TheVariants.{Scsi, Reject}
 use Rattle.iscsi_wire.specs.declared.request.Request.{Request}
 use Rattle.iscsi_wire.specs.Fields.{connection_of, header_of, itt}
 use Rattle.iscsi_history.specs.declared.event.Event.{Event}
+use Rattle.iscsi_history.specs.declared.event.Event.TheVariants.{Arrive, Done}
 use Rattle.iscsi_history.specs.rules.Settings.{Setting}
-use Rattle.iscsi_history.specs.rules.Trace.{Arrival, Command, Mark, Delivers, Executes, Voids, Empties, Leaves, Enters, Sends, ClosesConn, ClosesSession, Trace}
-use Rattle.iscsi_history.specs.rules.Execution.{sense_of_status}
+use Rattle.iscsi_history.specs.rules.Trace.{Arrival, Command, Mark, Delivers, Executes, Voids, Empties, Leaves, Enters, Sends, ClosesConn, ClosesSession, Trace, live, was_free}
+use Rattle.iscsi_history.specs.rules.Execution.{sense_of_status, completion}
+use Rattle.iscsi_history.specs.rules.Agenda.{command_of}
 use Rattle.iscsi_history.specs.promises.Replies.{executed_in, answered_in, replies_to}
-use Rattle.iscsi_history.specs.rules.Run.{trace_of, run_of}
-use Rattle.iscsi_history.specs.promises.Answers.{Answers, AnswersOnce, AnswersOnceIn}
+use Rattle.iscsi_history.specs.rules.Run.{trace_of, run_of, after_event, effects_of, entries_from}
+use Rattle.iscsi_history.specs.promises.Answers.{Answers, AnswersOnce, AnswersOnceIn, CompletesWith, CompletesAll}
+use Rattle.iscsi_history.proofs.BoolLemmas.{and_parts}
+use Rattle.iscsi_history.proofs.ListLemmas.{first_itself}
 use Rattle.iscsi_history.proofs.ElementLemmas.{In, in-contains}
 use Rattle.iscsi_history.proofs.MomentLemmas.{log_effects}
 use Rattle.iscsi_history.proofs.CountLemmas.{one, count-one}
@@ -175,6 +180,22 @@ answers_once o h = record {
   undelivered = λ n a there none. undelivered_silent o (length h) (trace_of o h) n a (trace_has_forms o h) there none;
 }
 
+-- ---- the entries of completions
+
+completes_with : (o : Setting) (t : Trace) (ticket status : ℕ) → CompletesWith ticket status (effects_of o t (completion status (command_of t ticket)))
+completes_with o t ticket status = by_command (command_of t ticket) refl
+  where
+    by_command : (y : Option Command) → command_of t ticket ≡ y → CompletesWith ticket status (effects_of o t (completion status y))
+    by_command None is = refl
+    by_command (Some c) is =
+        let passes : (c.ticket == ticket && was_free c t) ≡ true = first_itself (λ d. d.ticket == ticket && was_free d t) (live t) c is in
+        (eqb-true c.ticket ticket (and_parts (c.ticket == ticket) _ passes).0, refl, refl)
+
+completes_all : (o : Setting) (event : ℕ) (t : Trace) (h : List Event) → CompletesAll h (entries_from o event t h)
+completes_all o event t [] = tt
+completes_all o event t (Arrive conn header ∷ h) = completes_all o (event + 1) (after_event o event t (Arrive conn header)) h
+completes_all o event t (Done ticket status ∷ h) = (completes_with o t ticket status, completes_all o (event + 1) (after_event o event t (Done ticket status)) h)
+
 -- and for its log
 pub answers_once_in : (o : Setting) (h : List Event) → AnswersOnceIn o h (run_of o h)
-answers_once_in o h = record { whole = sym (log_effects o 0 [] h); hold = answers_once o h }
+answers_once_in o h = record { whole = sym (log_effects o 0 [] h); hold = answers_once o h; completed = completes_all o 0 [] h }

@@ -7,4 +7,5 @@ pub mod SetRows
 pub mod FunctionRows
 pub mod SetAbortRows
 pub mod LogoutRows
+pub mod UnitRows
 pub mod QueryRows

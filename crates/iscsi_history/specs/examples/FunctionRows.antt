@@ -127,6 +127,14 @@ pub abort_twice : Worked (setting 1 8) (
 unfolding Rules.bars_as
 abort_twice = refl
 
+-- it finds what is held at the last place of the window
+pub abort_at_the_last_place : Worked (setting 1 4) (
+    is_held 1 (command 0xc4 4) 1 4
+    ∷ at_once 1 (function_now 1 5 0xb1 0xc4 4) 1 4 (Empty 4 ∷ Send 1 1 (Task 0xb1 0) ∷ [])
+    ∷ [])
+unfolding Rules.bars_as
+abort_at_the_last_place = refl
+
 -- ABORT TASK of a number that hasn't come: it is received without a request, and closes the gap
 abbrev pub abort_voids : List Event
 abort_voids =

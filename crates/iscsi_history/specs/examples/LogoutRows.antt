@@ -213,3 +213,11 @@ pub closed_takes_nothing : Worked (of_two 4) (
     ∷ [])
 unfolding Rules.bars_as
 closed_takes_nothing = refl
+
+-- what is held at the last place of the window is taken out as well
+pub last_place_closed : Worked (of_two 4) (
+    is_held 2 (command 0xa4 4) 1 4
+    ∷ at_once 1 (logout_now 1 0xc1 1 2) 1 4 (Empty 4 ∷ Send 1 1 (Logout 0xc1 0) ∷ CloseConn 2 ∷ [])
+    ∷ [])
+unfolding Rules.bars_as
+last_place_closed = refl

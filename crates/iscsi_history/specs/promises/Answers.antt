@@ -1,10 +1,14 @@
 -- Replies: a request that executed has at most one, and one whose command was taken out has none.
-use Rattle.std.specs.Prelude.{◌≡◌, ◌≤◌, ℕ, false, List, [], ◌∷◌, ◌++◌, length, Some, None, Contains}
+use Rattle.std.specs.Prelude.{◌≡◌, ◌≤◌, ℕ, false, List, [], ◌∷◌, ◌++◌, length, Some, None, Contains, ⊤}
 use Rattle.iscsi_wire.specs.declared.reply.Reply.{Reply}
 use Rattle.iscsi_wire.specs.declared.reply.Reply.TheVariants.{Scsi, Task, Logout, Nop, Reject}
 use Rattle.iscsi_wire.specs.declared.request.Request.{Request}
 use Rattle.iscsi_wire.specs.Fields.{connection_of, header_of, itt}
+use Rattle.iscsi_history.specs.declared.effect.Effect.{Effect}
+use Rattle.iscsi_history.specs.declared.effect.Effect.TheVariants.{Leave, Send, Ignore}
+use Rattle.iscsi_history.specs.declared.effect.Why.TheVariants.{Stale}
 use Rattle.iscsi_history.specs.declared.event.Event.{Event}
+use Rattle.iscsi_history.specs.declared.event.Event.TheVariants.{Arrive, Done}
 use Rattle.iscsi_history.specs.declared.entry.Entry.{Entry}
 use Rattle.iscsi_history.specs.rules.Settings.{Setting}
 use Rattle.iscsi_history.specs.rules.Trace.{Arrival, Command, Mark, Leaves, Sends, Trace, admitted, is_delivered}
@@ -39,7 +43,21 @@ pub record AnswersOnce (t : Trace) : Type 0 where
   -- nor is a numbered request that wasn't delivered, as one that is taken out while it is held
   pub undelivered : (n : ℕ) (a : Arrival) → admitted t n ≡ Some a → is_delivered t n ≡ false → replies_to a.event t ≡ []
 
+-- a completion is passed over, or the command of its ticket leaves and is answered with its status
+abbrev pub CompletesWith : ℕ → ℕ → List Effect → Type 0
+CompletesWith ticket status (Ignore why ∷ rest) = why ≡ Stale
+CompletesWith ticket status (Leave left unit ∷ Send conn stat_sn (Scsi tag shown sense) ∷ rest) = (left ≡ ticket) × (shown ≡ status) × (sense ≡ sense_of_status status)
+CompletesWith ticket status _ = ⊥
+
+-- so is each completion of the events, in its own entry of the log
+abbrev pub CompletesAll : List Event → List Entry → Type 0
+CompletesAll [] [] = ⊤
+CompletesAll (Arrive conn header ∷ h) (entry ∷ log) = CompletesAll h log
+CompletesAll (Done ticket status ∷ h) (entry ∷ log) = CompletesWith ticket status entry.effects × CompletesAll h log
+CompletesAll _ _ = ⊥
+
 pub record AnswersOnceIn (o : Setting) (h : List Event) (log : List Entry) : Type 0 where
   -- the log has the effects of all items, one after the other
   pub whole : effects_in log ≡ effects_so_far o (trace_of o h)
   pub hold : AnswersOnce (trace_of o h)
+  pub completed : CompletesAll h log
