@@ -9,7 +9,8 @@ use Rattle.iscsi_history.proofs.RunLemmas.{run_of-push, trace_of-push}
 use Rattle.iscsi_session.specs.declared.fault.SessionFault.{SessionFault}
 use Rattle.iscsi_session.specs.declared.fault.SessionFault.TheVariants.{NoMemory}
 use Rattle.iscsi_session.specs.promises.Refusals.{RefusesAs, refusal_of}
-use Rattle.iscsi_session.specs.promises.Standing.{Core, StandsFor, most_effects}
+use Rattle.iscsi_session.specs.promises.Bounds.{most_effects}
+use Rattle.iscsi_session.specs.private.Standing.{Core, StandsFor}
 use Rattle.iscsi_session.specs.private.Steps.{refusal_by}
 use Rattle.iscsi_session.proofs.StepLemmas.{refusal_is}
 use Rattle.iscsi_host.specs.Serving.{Hosted, Serves, last_effects}

@@ -7,7 +7,8 @@ use Rattle.iscsi_history.specs.declared.event.Event.{Event}
 use Rattle.iscsi_history.specs.rules.Settings.{Setting}
 use Rattle.iscsi_history.specs.rules.Run.{run_of, trace_of, numbers_of}
 use Rattle.iscsi_session.specs.declared.fault.SessionFault.{SessionFault}
-use Rattle.iscsi_session.specs.promises.Standing.{Core, StandsFor, most_effects}
+use Rattle.iscsi_session.specs.promises.Bounds.{most_effects}
+use Rattle.iscsi_session.specs.private.Standing.{Core, StandsFor}
 
 -- a host as its callers see it
 pub record Hosted : Type 0 where

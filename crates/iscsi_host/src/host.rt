@@ -4,7 +4,7 @@ ghost use Rattle.std.specs.Prelude.{◌≡◌, ◌+◌, ◌*◌, ℕ, List, [], 
 ghost use Rattle.iscsi_history.specs.rules.Settings.{Setting, is_valid};
 ghost use Rattle.iscsi_session.specs.promises.Settings.{setting_of};
 ghost use Rattle.iscsi_session.specs.promises.Refusals.{RefusesAs, refusal_of, refusal_of_options};
-ghost use Rattle.iscsi_session.specs.promises.Standing.{most_effects};
+ghost use Rattle.iscsi_session.specs.promises.Bounds.{most_effects};
 ghost use Rattle.iscsi_host.specs.Serving.{Serves, fault_of};
 ghost use Rattle.iscsi_host.specs.Plain.{plain_at, executing as executing_in, last_executing, plain_numbers};
 

@@ -4,7 +4,7 @@ ghost use Rattle.std.specs.Prelude.{◌≡◌, ◌≢◌, ◌↔◌, ◌⊎◌, 
 ghost use Rattle.std.specs.List.{list_all};
 ghost use Rattle.std.specs.Io.KnownBytes.{Appends};
 ghost use Rattle.iscsi_history.specs.rules.Settings.{is_valid};
-ghost use Rattle.iscsi_session.specs.promises.Standing.{StandsFor};
+ghost use Rattle.iscsi_session.specs.private.Standing.{StandsFor};
 ghost use Rattle.iscsi_report.specs.Lines.{event_line, entry_lines};
 ghost use Rattle.iscsi_settings.specs.Limits.{are_valid};
 ghost use Rattle.iscsi_recording.specs.Recorded.{Recorded, view, read_of, belongs_to};

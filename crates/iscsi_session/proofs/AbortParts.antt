@@ -18,7 +18,7 @@ use Rattle.iscsi_history.specs.rules.Trace.{Arrival, Command, Mark, Delivers, Ex
 use Rattle.iscsi_history.specs.rules.Execution.{exp_of, max_of}
 use Rattle.iscsi_history.specs.rules.Management.{answer, live_with_tag, held_command, abort_missing, abort_task}
 use Rattle.iscsi_history.specs.rules.Agenda.{arrival_of}
-use Rattle.iscsi_session.specs.promises.Standing.{WaitingAgrees, CommandsAgree, Core, kept, arrival_waiting, WindowAgrees, Agrees, Settled}
+use Rattle.iscsi_session.specs.private.Standing.{WaitingAgrees, CommandsAgree, Core, kept, arrival_waiting, WindowAgrees, Agrees, Settled}
 use Rattle.iscsi_session.specs.private.Functions.{missing_at, tagged_in, abort_by, covers_ticket}
 use Rattle.iscsi_session.proofs.OpenConns.{open_of-same}
 use Rattle.iscsi_history.proofs.BoolLemmas.{and_parts, not_true}

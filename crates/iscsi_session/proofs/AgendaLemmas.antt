@@ -15,7 +15,7 @@ use Rattle.iscsi_history.specs.rules.Execution.{exp_of}
 use Rattle.iscsi_history.specs.rules.Management.{may_wait}
 use Rattle.iscsi_history.specs.rules.Items.{item_of, function_item, functions_at, turn_at, agenda}
 use Rattle.iscsi_history.specs.rules.Run.{effects_of_item, effects_of}
-use Rattle.iscsi_session.specs.promises.Standing.{Core, arrival_waiting, Agrees, Settled}
+use Rattle.iscsi_session.specs.private.Standing.{Core, arrival_waiting, Agrees, Settled}
 use Rattle.iscsi_session.specs.private.Turning.{with_executed, executed_effects, next_arrived, turned_if, turn_effects, next_waiting, function_if, function_effects}
 use Rattle.iscsi_history.proofs.TraceLemmas.{after_items-append}
 use Rattle.iscsi_history.proofs.Missing.{expected_past}

@@ -13,7 +13,7 @@ use Rattle.iscsi_history.specs.rules.Settings.{Setting, is_known}
 use Rattle.iscsi_history.specs.rules.Trace.{Arrival, Command, Mark, Admits, Ignores, Trace, after_items, has, entered, sent_on, waiting, leaves_ticket, live, is_received}
 use Rattle.iscsi_history.specs.rules.Execution.{exp_of, max_of, ignored}
 use Rattle.iscsi_history.specs.rules.Run.{effects_of, numbers_of}
-use Rattle.iscsi_session.specs.promises.Standing.{Core, CommandsAgree, WindowAgrees, ArrivalsAgree, is_regular, is_regular_request, Agrees, Settled}
+use Rattle.iscsi_session.specs.private.Standing.{Core, CommandsAgree, WindowAgrees, ArrivalsAgree, is_regular, is_regular_request, Agrees, Settled}
 use Rattle.iscsi_session.specs.private.Steps.{numbers_by}
 use Rattle.iscsi_history.proofs.BoolLemmas.{and_parts}
 use Rattle.iscsi_history.proofs.ListLemmas.{list_all-filter}

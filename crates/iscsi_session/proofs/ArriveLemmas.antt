@@ -19,7 +19,7 @@ use Rattle.iscsi_history.specs.rules.Execution.{exp_of, rejected, ignored}
 use Rattle.iscsi_history.specs.rules.Agenda.{with_turns, numbered, kind_of, arrival_as, arrival_open, arrival, arrival_of}
 use Rattle.iscsi_history.specs.rules.Items.{immediate_item, functions_at, agenda}
 use Rattle.iscsi_history.specs.rules.Run.{effects_of, effects_of_item, stat_sn_of}
-use Rattle.iscsi_session.specs.promises.Standing.{Core, Agrees, Settled}
+use Rattle.iscsi_session.specs.private.Standing.{Core, Agrees, Settled}
 use Rattle.iscsi_session.specs.private.Steps.{with_reply, reply_effects, with_offered}
 use Rattle.iscsi_session.specs.private.Turning.{turned_if, turn_effects, comes_next, next_waiting, deferral_by, immediate_as, immediate_effects}
 use Rattle.iscsi_history.specs.rules.Logout.{is_open}

@@ -7,7 +7,7 @@ use Rattle.iscsi_wire.specs.declared.request.Request.{Request}
 use Rattle.iscsi_window.specs.Windows.{Received, number_expected, room_of, at_place}
 use Rattle.iscsi_history.specs.rules.Settings.{Setting}
 use Rattle.iscsi_history.specs.rules.Trace.{Arrival, Mark, Admits, Delivers, Trace, first_of, is_delivered, is_emptied, held, admitted}
-use Rattle.iscsi_session.specs.promises.Standing.{WindowAgrees, ArrivalsAgree}
+use Rattle.iscsi_session.specs.private.Standing.{WindowAgrees, ArrivalsAgree}
 use Rattle.iscsi_history.proofs.TraceLemmas.{unadmitted}
 use Rattle.iscsi_history.proofs.HeldLemmas.{held-admits, held-turned}
 use Rattle.iscsi_history.proofs.DeliveryLemmas.{IsQuiet, held-quiet}

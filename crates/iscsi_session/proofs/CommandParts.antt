@@ -8,7 +8,7 @@ use Rattle.std.proofs.lemmas.List.Folds.{list_any-append}
 use Rattle.iscsi_commands.specs.declared.live.Live.{Live}
 use Rattle.iscsi_history.specs.rules.Settings.{Setting}
 use Rattle.iscsi_history.specs.rules.Trace.{Command, Mark, Trace, has, entered, leaves_ticket, live, live_in, is_among, first_of, are_apart}
-use Rattle.iscsi_session.specs.promises.Standing.{kept, is_regular, CommandsAgree}
+use Rattle.iscsi_session.specs.private.Standing.{kept, is_regular, CommandsAgree}
 use Rattle.iscsi_session.specs.private.Steps.{find_ticket}
 use Rattle.iscsi_history.proofs.ApartLemmas.{eq_sym, unamong-filter, apart-push, apart-filter}
 use Rattle.iscsi_history.proofs.TraceLemmas.{live-enters}

@@ -7,7 +7,7 @@ use Rattle.iscsi_wire.specs.declared.request.Request.{Request}
 use Rattle.iscsi_wire.specs.Serial.{wire}
 use Rattle.iscsi_window.specs.Windows.{is_held_from}
 use Rattle.iscsi_history.specs.declared.effect.Effect.TheVariants.{Empty}
-use Rattle.iscsi_session.specs.promises.Standing.{is_held, is_place_known}
+use Rattle.iscsi_session.specs.private.Standing.{is_held, is_place_known}
 use Rattle.iscsi_session.specs.private.Closing.{emptied_place, emptied_from, is_clear_below}
 use Rattle.iscsi_history.proofs.BoolLemmas.{and_parts}
 

@@ -14,7 +14,7 @@ use Rattle.iscsi_history.specs.rules.Trace.{Arrival, Command, Mark, Empties, Lea
 use Rattle.iscsi_history.specs.rules.Execution.{exp_of}
 use Rattle.iscsi_history.specs.promises.Executed.{delivers, request_at}
 use Rattle.iscsi_history.specs.rules.Logout.{all_held}
-use Rattle.iscsi_session.specs.promises.Standing.{place_of, WindowAgrees, ArrivalsAgree}
+use Rattle.iscsi_session.specs.private.Standing.{place_of, WindowAgrees, ArrivalsAgree}
 use Rattle.iscsi_session.specs.private.Closing.{emptied_place, emptied_from}
 use Rattle.iscsi_history.proofs.HeldLemmas.{held-number, unreceived_unheld}
 use Rattle.iscsi_history.proofs.DeliveryLemmas.{IsQuiet, same_range}

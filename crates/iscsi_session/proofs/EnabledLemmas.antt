@@ -7,7 +7,7 @@ use Rattle.iscsi_tasks.specs.Sets.{is_free, queued, is_free_among, looked_at, af
 use Rattle.iscsi_history.specs.declared.effect.Effect.TheVariants.{Enable}
 use Rattle.iscsi_history.specs.rules.Settings.{Setting}
 use Rattle.iscsi_history.specs.rules.Trace.{Command, Mark, Trace, live, live_in, is_among, queued_of, was_free}
-use Rattle.iscsi_session.specs.promises.Standing.{task_of, member_of, set_of}
+use Rattle.iscsi_session.specs.private.Standing.{task_of, member_of, set_of}
 use Rattle.iscsi_session.specs.private.Steps.{as_given, enable_effects, enable_effect}
 use Rattle.iscsi_history.proofs.BoolLemmas.{and_parts, or_comm}
 use Rattle.iscsi_history.proofs.ListLemmas.{list_all-filter, all_of_filter, filter-map, map-map, map_all}

@@ -9,7 +9,7 @@ use Rattle.iscsi_history.specs.rules.Settings.{Setting}
 use Rattle.iscsi_history.specs.rules.Trace.{Command, Mark, Trace, has, leaves_ticket, live, live_in, is_among, was_free}
 use Rattle.iscsi_history.specs.rules.Run.{newly_enabled}
 use Rattle.iscsi_history.specs.promises.Enabling.{EnabledSoFar}
-use Rattle.iscsi_session.specs.promises.Standing.{CommandsAgree}
+use Rattle.iscsi_session.specs.private.Standing.{CommandsAgree}
 use Rattle.iscsi_history.proofs.NewlyLemmas.{new_in-more}
 use Rattle.iscsi_session.proofs.CommandParts.{live-entered, live_in-entered, live_in-elsewhere}
 use Rattle.iscsi_history.proofs.EnabledItems.{newly-one, EnabledSoFar-more, Exact, enabled_once, exact_now, same_enabled, shown-before, shown-item}

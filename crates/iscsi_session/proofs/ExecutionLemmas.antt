@@ -18,7 +18,7 @@ use Rattle.iscsi_history.specs.rules.Execution.{unfinished, unit_named, is_crowd
 use Rattle.iscsi_history.specs.rules.Management.{may_wait}
 use Rattle.iscsi_history.specs.rules.Items.{execution}
 use Rattle.iscsi_history.specs.rules.Run.{effects_of_mark, effects_of_item}
-use Rattle.iscsi_session.specs.promises.Standing.{open_of, Core, kept, is_regular, task_of, member_of, WindowAgrees, RepliesAgree, CommandsAgree, SetsAgree, ArrivalsAgree, arrival_waiting, Agrees}
+use Rattle.iscsi_session.specs.private.Standing.{open_of, Core, kept, is_regular, task_of, member_of, WindowAgrees, RepliesAgree, CommandsAgree, SetsAgree, ArrivalsAgree, arrival_waiting, Agrees}
 use Rattle.iscsi_history.specs.promises.Enabling.{EnabledSoFar}
 use Rattle.iscsi_session.specs.private.Steps.{new_live, new_task, number_by, event_by, started, is_immediate_on, is_crowded_by, is_set_full, place_in, verdict_by, count_reply, executed_as, execution_effects}
 use Rattle.iscsi_history.proofs.BoolLemmas.{and_both}

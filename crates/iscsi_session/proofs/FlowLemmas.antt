@@ -11,7 +11,7 @@ use Rattle.iscsi_history.specs.rules.Settings.{Setting}
 use Rattle.iscsi_history.specs.rules.Trace.{Trace, received, is_received}
 use Rattle.iscsi_history.specs.rules.Execution.{max_of}
 use Rattle.iscsi_history.specs.rules.Run.{after_event}
-use Rattle.iscsi_session.specs.promises.Standing.{Core, Settled}
+use Rattle.iscsi_session.specs.private.Standing.{Core, Settled}
 use Rattle.iscsi_session.specs.private.Steps.{KeepsPace, find_enabled, after_completion, without_command}
 use Rattle.iscsi_history.specs.promises.Flow.{HasOneMore, Flows}
 use Rattle.iscsi_history.proofs.FlowItems.{exp_stays}

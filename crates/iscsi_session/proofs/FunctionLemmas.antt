@@ -34,7 +34,7 @@ use Rattle.iscsi_history.specs.rules.Management.{may_wait, waiting_on, refusal_t
 use Rattle.iscsi_history.specs.rules.Agenda.{arrival_of}
 use Rattle.iscsi_history.specs.rules.Items.{execution, waiting_item, immediate_item, item_of, function_item}
 use Rattle.iscsi_history.specs.rules.Run.{effects_of_mark, effects_of_item}
-use Rattle.iscsi_session.specs.promises.Standing.{Core, kept, task_of, WindowAgrees, ArrivalsAgree, arrival_waiting, WaitingAgrees, Agrees, Settled}
+use Rattle.iscsi_session.specs.private.Standing.{Core, kept, task_of, WindowAgrees, ArrivalsAgree, arrival_waiting, WaitingAgrees, Agrees, Settled}
 use Rattle.iscsi_session.specs.private.Functions.{outcome_by, abort_by, performed_as, performance_effects, covers_ticket, response_effects}
 use Rattle.iscsi_session.specs.private.Steps.{with_reply, number_by, event_by, executed_as, execution_effects}
 use Rattle.iscsi_session.specs.private.Turning.{position_by, next_position, without_waiting, performed, performed_effects, managed, managed_effects, with_executed, executed_effects, next_arrived, next_waiting, waiting_in, wait_by, function_if, function_effects, deferral_by, immediate_as, immediate_effects}

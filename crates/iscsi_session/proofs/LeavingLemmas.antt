@@ -16,7 +16,7 @@ use Rattle.iscsi_history.specs.rules.Settings.{Setting}
 use Rattle.iscsi_history.specs.rules.Trace.{Arrival, Command, Mark, Leaves, Trace, waiting, waiting_by, entered, live, live_in, is_among, are_apart}
 use Rattle.iscsi_history.specs.rules.Execution.{unfinished, reply_on}
 use Rattle.iscsi_history.specs.rules.Run.{effects_of_item}
-use Rattle.iscsi_session.specs.promises.Standing.{Core, kept, task_of, member_of, set_of, WindowAgrees, CommandsAgree, Agrees}
+use Rattle.iscsi_session.specs.private.Standing.{Core, kept, task_of, member_of, set_of, WindowAgrees, CommandsAgree, Agrees}
 use Rattle.iscsi_session.specs.private.Steps.{set_at, all_given, as_given, enable_effects, is_numbered}
 use Rattle.iscsi_session.specs.private.Functions.{is_gone, staying, set_staying, has_covered, aborted, abort_effects}
 use Rattle.iscsi_session.proofs.OpenConns.{open_of-same}

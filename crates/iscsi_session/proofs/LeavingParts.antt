@@ -13,7 +13,7 @@ use Rattle.iscsi_tasks.specs.declared.member.Member.{Member}
 use Rattle.iscsi_tasks.specs.Sets.{Members, opened, tasks_in, left_by, with_ticket, uncovered, is_new}
 use Rattle.iscsi_history.specs.declared.effect.Effect.TheVariants.{Leave}
 use Rattle.iscsi_commands.specs.declared.live.Live.{Live}
-use Rattle.iscsi_session.specs.promises.Standing.{Match, are_ascending, tickets_of, tickets_in}
+use Rattle.iscsi_session.specs.private.Standing.{Match, are_ascending, tickets_of, tickets_in}
 use Rattle.iscsi_session.specs.private.Steps.{all_given, as_given, is_numbered, find_ticket, without_ticket}
 use Rattle.iscsi_session.specs.private.Functions.{is_gone, staying, set_staying, finished_by, leaves, leave_each, tickets_covered, without_tickets, has_covered, covers_ticket, ungiven, ungiven_in}
 use Rattle.iscsi_history.proofs.BoolLemmas.{and_both, and_comm, and_parts, and_true, and_false, or_first, or_second}

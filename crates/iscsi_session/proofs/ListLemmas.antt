@@ -5,7 +5,7 @@ use Rattle.std.proofs.lemmas.List.Folds.{list_all-append}
 use Rattle.iscsi_commands.specs.declared.live.Live.{Live}
 use Rattle.iscsi_history.specs.rules.Settings.{is_known}
 use Rattle.iscsi_wire.specs.declared.request.Request.{Request}
-use Rattle.iscsi_session.specs.promises.Standing.{are_known, is_place_known}
+use Rattle.iscsi_session.specs.private.Standing.{are_known, is_place_known}
 use Rattle.iscsi_session.specs.private.Steps.{count_reply, without_ticket}
 use Rattle.iscsi_history.proofs.ListLemmas.{is_known-cids, list_all-filter, list_all-same}
 

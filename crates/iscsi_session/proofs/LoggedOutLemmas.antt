@@ -8,7 +8,7 @@ use Rattle.iscsi_tasks.specs.declared.task.Task.{Task}
 use Rattle.iscsi_session.specs.declared.closing.Closing.{Closing}
 use Rattle.iscsi_session.specs.declared.closing.Closing.TheVariants.{Refused, Session, Conn}
 use Rattle.iscsi_session.specs.declared.session.waiting.Waiting.{Waiting}
-use Rattle.iscsi_session.specs.promises.Standing.{Core, is_held}
+use Rattle.iscsi_session.specs.private.Standing.{Core, is_held}
 use Rattle.iscsi_session.specs.private.Steps.{set_at, is_numbered}
 use Rattle.iscsi_session.specs.private.Functions.{is_gone, set_staying, with_left}
 use Rattle.iscsi_session.specs.private.Closing.{units_of, covers_of, with_all_left, emptied_place, emptying_effects, close_effects, logged_out, closed_as}

@@ -23,7 +23,7 @@ use Rattle.iscsi_history.specs.rules.Execution.{NO_TAG, reply_on, unfinished}
 use Rattle.iscsi_history.specs.rules.Logout.{live_of_units, is_open, is_last_open, taken_out, parting, end_session, close_conn, logout_marks}
 use Rattle.iscsi_history.specs.rules.Management.{may_wait}
 use Rattle.iscsi_history.specs.rules.Run.{effects_of_mark, effects_of_item, newly_enabled, stat_sn_of}
-use Rattle.iscsi_session.specs.promises.Standing.{Core, Agrees, WindowAgrees, ArrivalsAgree, CommandsAgree, SetsAgree, arrival_waiting, open_of, task_of}
+use Rattle.iscsi_session.specs.private.Standing.{Core, Agrees, WindowAgrees, ArrivalsAgree, CommandsAgree, SetsAgree, arrival_waiting, open_of, task_of}
 use Rattle.iscsi_session.specs.private.Steps.{set_at, all_given}
 use Rattle.iscsi_session.specs.private.Functions.{set_staying}
 use Rattle.iscsi_session.specs.private.Closing.{is_among_open, closing_by, units_of, covers_of, all_leaving_effects, left_to, still_open, waiting_then, close_effects, all_enable_effects, logged_out, logout_effects, closed_as, closed_effects}

@@ -5,7 +5,7 @@ use Rattle.std.proofs.lemmas.Bool.{cases_eq}
 use Rattle.std.proofs.lemmas.List.{get_or-set_same, get_or-set_other}
 use Rattle.iscsi_tasks.specs.declared.task.Task.{Task}
 use Rattle.iscsi_tasks.specs.Sets.{opened}
-use Rattle.iscsi_session.specs.promises.Standing.{Core}
+use Rattle.iscsi_session.specs.private.Standing.{Core}
 use Rattle.iscsi_session.specs.private.Steps.{set_at, is_numbered}
 use Rattle.iscsi_session.specs.private.Functions.{is_gone, set_staying, with_left, leaving_effects}
 use Rattle.iscsi_session.specs.private.Closing.{with_all_left, all_leaving_effects}

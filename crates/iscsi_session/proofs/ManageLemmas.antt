@@ -29,7 +29,7 @@ use Rattle.iscsi_session.specs.declared.deferral.Deferral.TheVariants.{Now, Late
 use Rattle.iscsi_history.specs.rules.Settings.{is_known}
 use Rattle.iscsi_history.specs.rules.Execution.{unit_named}
 use Rattle.iscsi_history.specs.rules.Management.{may_wait, refusal_to}
-use Rattle.iscsi_session.specs.promises.Standing.{Core, is_held}
+use Rattle.iscsi_session.specs.private.Standing.{Core, is_held}
 use Rattle.iscsi_session.specs.private.Steps.{noted_in, KeepsPace, is_numbered, new_live, set_at, set_entered, new_task, with_command, with_reply, verdict_by, executed_as}
 use Rattle.iscsi_session.specs.private.Functions.{abort_by, outcome_by, staying, covers_ticket, aborted, performed_as, ungiven, ungiven_in, owed}
 use Rattle.iscsi_session.specs.private.Turning.{waiting_in, wait_by, deferral_by, performed, managed, position_by, with_executed}

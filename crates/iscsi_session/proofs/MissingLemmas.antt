@@ -12,7 +12,7 @@ use Rattle.iscsi_window.specs.Windows.{Received, number_expected, room_of, at_pl
 use Rattle.iscsi_history.specs.rules.Settings.{Setting}
 use Rattle.iscsi_history.specs.rules.Trace.{Arrival, Mark, Voids, Empties, Trace, shown, first_of, contains, is_received, is_emptied, held, admits_at, delivers_number}
 use Rattle.iscsi_history.specs.promises.Executed.{delivers, request_at}
-use Rattle.iscsi_session.specs.promises.Standing.{place_of, WindowAgrees}
+use Rattle.iscsi_session.specs.private.Standing.{place_of, WindowAgrees}
 use Rattle.iscsi_history.proofs.BoolLemmas.{or_none, or_false, or_second}
 use Rattle.iscsi_history.proofs.HeldLemmas.{held-number, held_received, unreceived_unheld}
 use Rattle.iscsi_history.proofs.DeliveryLemmas.{IsQuiet, same_range}

@@ -3,7 +3,7 @@ use Rattle.std.proofs.Common.{◌≡◌, ℕ, ◌&&◌, not, List, ◌∷◌, ma
 use Rattle.iscsi_history.specs.rules.Settings.{Setting, is_known}
 use Rattle.iscsi_history.specs.rules.Trace.{Mark, Trace}
 use Rattle.iscsi_history.specs.rules.Logout.{is_open}
-use Rattle.iscsi_session.specs.promises.Standing.{open_of}
+use Rattle.iscsi_session.specs.private.Standing.{open_of}
 use Rattle.iscsi_history.proofs.TraceLemmas.{filter-same}
 use Rattle.iscsi_history.proofs.ClosingItems.{ClosesNone, closed-same}
 

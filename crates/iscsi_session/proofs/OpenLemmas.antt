@@ -10,7 +10,8 @@ use Rattle.iscsi_history.specs.rules.Settings.{Setting}
 use Rattle.iscsi_history.specs.rules.Trace.{Arrival, Trace, first_of, is_received, held, live}
 use Rattle.iscsi_history.specs.rules.Run.{trace_of}
 use Rattle.iscsi_history.specs.promises.Executed.{request_at}
-use Rattle.iscsi_session.specs.promises.Standing.{Core, Settled, StandsFor, place_of, is_held, stat_sn_on, held_count, effect_bound_of, kept, arrival_waiting}
+use Rattle.iscsi_session.specs.promises.Bounds.{held_count, effect_bound_of}
+use Rattle.iscsi_session.specs.private.Standing.{Core, Settled, StandsFor, place_of, is_held, stat_sn_on, kept, arrival_waiting}
 use Rattle.iscsi_history.proofs.EnabledItems.{EnabledSoFar-none}
 use Rattle.iscsi_history.proofs.HeldLemmas.{unreceived_unheld}
 use Rattle.iscsi_history.proofs.ClosingItems.{all_open}

@@ -5,7 +5,7 @@ use Rattle.std.proofs.lemmas.List.Sums.{sum_by-cons, length-filter, count_by-le-
 use Rattle.iscsi_tasks.specs.declared.member.Member.{Member}
 use Rattle.iscsi_tasks.specs.Sets.{Members, opened}
 use Rattle.iscsi_commands.specs.declared.live.Live.{Live}
-use Rattle.iscsi_session.specs.promises.Standing.{Match, tickets_of, tickets_in}
+use Rattle.iscsi_session.specs.private.Standing.{Match, tickets_of, tickets_in}
 use Rattle.iscsi_session.specs.private.Functions.{ungiven, ungiven_in, owed}
 use Rattle.iscsi_history.proofs.NumberLemmas.{one_unit}
 

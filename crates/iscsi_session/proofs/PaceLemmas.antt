@@ -17,7 +17,7 @@ use Rattle.iscsi_history.specs.declared.verdict.Verdict.{Verdict}
 use Rattle.iscsi_history.specs.declared.verdict.Verdict.TheVariants.{Nothing, Answer, Enter}
 use Rattle.iscsi_history.specs.rules.Execution.{unit_named}
 use Rattle.iscsi_history.specs.rules.Management.{refusal_to}
-use Rattle.iscsi_session.specs.promises.Standing.{Core}
+use Rattle.iscsi_session.specs.private.Standing.{Core}
 use Rattle.iscsi_session.specs.private.Steps.{KeepsPace, set_at, is_numbered, verdict_by, executed_as, with_reply}
 use Rattle.iscsi_session.specs.private.Functions.{is_gone, with_left, outcome_by, performed_as}
 use Rattle.iscsi_session.specs.private.Closing.{closing_by, closed_as}

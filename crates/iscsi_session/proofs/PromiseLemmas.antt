@@ -17,7 +17,7 @@ use Rattle.iscsi_history.proofs.AnswerTheorem.{answers_once_in}
 use Rattle.iscsi_history.proofs.NumberingLemmas.{counts_replies}
 use Rattle.iscsi_history.proofs.OrderRuns.{keeps_order}
 use Rattle.iscsi_history.proofs.MeaningTheorem.{means_what_it_says}
-use Rattle.iscsi_session.specs.promises.Standing.{Core, StandsFor}
+use Rattle.iscsi_session.specs.private.Standing.{Core, StandsFor}
 use Rattle.iscsi_session.proofs.AgreeLemmas.{settled_expected}
 
 pub stands_delivers : (o : Setting) (s : Core) (h : List Event) → StandsFor o s h → delivered (run_of o h) ≡ executed o h

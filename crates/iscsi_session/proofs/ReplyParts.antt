@@ -8,7 +8,7 @@ use Rattle.iscsi_wire.specs.Serial.{wire}
 use Rattle.iscsi_history.specs.rules.Settings.{Setting, is_known}
 use Rattle.iscsi_history.specs.rules.Trace.{Mark, Trace, shown, sent_on}
 use Rattle.iscsi_history.specs.rules.Run.{stat_sn_of, first_stat_sn}
-use Rattle.iscsi_session.specs.promises.Standing.{stat_sn_on, RepliesAgree}
+use Rattle.iscsi_session.specs.private.Standing.{stat_sn_on, RepliesAgree}
 use Rattle.iscsi_session.specs.private.Steps.{count_reply}
 use Rattle.iscsi_session.proofs.ListLemmas.{cids-count_reply}
 use Rattle.iscsi_history.proofs.ListLemmas.{is_known-cids, count_by-push}

@@ -9,7 +9,7 @@ use Rattle.iscsi_commands.specs.declared.live.Live.{Live}
 use Rattle.iscsi_history.specs.rules.Settings.{Setting}
 use Rattle.iscsi_history.specs.rules.Trace.{Command, Mark, Trace, live, live_in, is_among}
 use Rattle.iscsi_history.specs.rules.Run.{newly_enabled}
-use Rattle.iscsi_session.specs.promises.Standing.{task_of, member_of, set_of, SetsAgree, CommandsAgree}
+use Rattle.iscsi_session.specs.private.Standing.{task_of, member_of, set_of, SetsAgree, CommandsAgree}
 use Rattle.iscsi_session.specs.private.Steps.{all_given, enable_effects, enable_effect}
 use Rattle.iscsi_history.proofs.NewlyLemmas.{never_free, Untouched, live_in-untouched}
 use Rattle.iscsi_session.proofs.EnabledLemmas.{noted_given, noted_effects, set_of-same, set-entered}

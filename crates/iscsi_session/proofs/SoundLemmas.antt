@@ -9,7 +9,7 @@ use Rattle.iscsi_commands.specs.declared.live.Live.{Live}
 use Rattle.iscsi_session.specs.declared.session.waiting.Waiting.{Waiting}
 use Rattle.iscsi_history.specs.rules.Settings.{is_known}
 use Rattle.iscsi_history.specs.rules.Management.{may_wait}
-use Rattle.iscsi_session.specs.promises.Standing.{is_held, is_place_known, Match, are_within}
+use Rattle.iscsi_session.specs.private.Standing.{is_held, is_place_known, Match, are_within}
 use Rattle.iscsi_session.specs.private.Steps.{AreCounted, is_numbered, count_reply}
 use Rattle.iscsi_session.specs.private.Invariant.{Inner, IsWindowSound, AreCommandsSound, AreFunctionsSound, IsSessionSound}
 use Rattle.iscsi_history.proofs.ListLemmas.{count_by-push, list_all-filter, fewer_counted}

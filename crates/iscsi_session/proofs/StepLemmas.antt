@@ -24,7 +24,7 @@ use Rattle.iscsi_history.specs.rules.Agenda.{with_turns, numbered, arrival_of, c
 use Rattle.iscsi_history.specs.rules.Items.{agenda}
 use Rattle.iscsi_history.specs.rules.Run.{newly_enabled, effects_of, trace_of}
 use Rattle.iscsi_session.specs.promises.Refusals.{refusal_of}
-use Rattle.iscsi_session.specs.promises.Standing.{Core, CommandsAgree, place_of, kept, is_regular, member_of, WindowAgrees, Agrees, Settled, StandsFor, ArrivalsAgree}
+use Rattle.iscsi_session.specs.private.Standing.{Core, CommandsAgree, place_of, kept, is_regular, member_of, WindowAgrees, Agrees, Settled, StandsFor, ArrivalsAgree}
 use Rattle.iscsi_session.specs.private.Steps.{set_at, set_left, finished, with_offered, comes_on, refusal_by, find_ticket, without_ticket, enabled_of, find_enabled, without_command, leave_effects, after_completion, completion_effects, counted}
 use Rattle.iscsi_session.proofs.OpenConns.{open_of-same}
 use Rattle.iscsi_history.proofs.BoolLemmas.{and_both, or_false}

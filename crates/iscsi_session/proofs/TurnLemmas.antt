@@ -6,7 +6,7 @@ use Rattle.iscsi_window.specs.Windows.{number_expected, at_place}
 use Rattle.iscsi_history.specs.declared.effect.Effect.TheVariants.{Deliver}
 use Rattle.iscsi_history.specs.rules.Settings.{Setting}
 use Rattle.iscsi_history.specs.rules.Trace.{Arrival, Delivers, Trace}
-use Rattle.iscsi_session.specs.promises.Standing.{Core, Agrees}
+use Rattle.iscsi_session.specs.private.Standing.{Core, Agrees}
 use Rattle.iscsi_session.specs.private.Steps.{number_by, event_by}
 use Rattle.iscsi_session.specs.private.Turning.{with_executed, executed_effects, next_arrived, turned_if, turn_effects}
 use Rattle.iscsi_history.proofs.BoolLemmas.{and_parts, not_true}

@@ -8,7 +8,7 @@ use Rattle.iscsi_session.specs.declared.session.waiting.Waiting.{Waiting}
 use Rattle.iscsi_history.specs.rules.Settings.{Setting}
 use Rattle.iscsi_history.specs.rules.Trace.{Arrival, Trace, waiting}
 use Rattle.iscsi_history.specs.rules.Items.{function_item, functions_at}
-use Rattle.iscsi_session.specs.promises.Standing.{arrival_waiting}
+use Rattle.iscsi_session.specs.private.Standing.{arrival_waiting}
 use Rattle.iscsi_history.proofs.ListLemmas.{filter-map}
 use Rattle.iscsi_history.proofs.PlaceLemmas.{position-cons}
 use Rattle.iscsi_history.proofs.TraceLemmas.{filter-same}

@@ -4,7 +4,7 @@ use Rattle.std.specs.List.{list_all}
 use Rattle.std.specs.Option.{option_flatten}
 use Rattle.std.proofs.lemmas.Bool.Decides.{nat_tests}
 use Rattle.std.proofs.lemmas.List.{length_push}
-use Rattle.iscsi_session.specs.promises.Standing.{Core, is_held, is_place_known}
+use Rattle.iscsi_session.specs.private.Standing.{Core, is_held, is_place_known}
 use Rattle.iscsi_session.specs.private.Steps.{noted_at, with_offered}
 use Rattle.iscsi_session.specs.private.Turning.{comes_next, next_waiting, with_advanced, next_arrived}
 use Rattle.iscsi_window.specs.declared.answer.Turned.{Turned}

@@ -6,7 +6,7 @@ use Rattle.iscsi_wire.specs.Serial.{number_of_first, wire}
 use Rattle.iscsi_history.specs.rules.Settings.{Setting}
 use Rattle.iscsi_history.specs.rules.Trace.{Arrival, Mark, Admits, Delivers, Trace, shown, received, contains, is_received, is_delivered, is_emptied, held, admits_at, admitted}
 use Rattle.iscsi_history.specs.promises.Executed.{request_at, executed_below, delivers}
-use Rattle.iscsi_session.specs.promises.Standing.{place_of, is_regular_request, WindowAgrees}
+use Rattle.iscsi_session.specs.private.Standing.{place_of, is_regular_request, WindowAgrees}
 use Rattle.std.proofs.lemmas.Bool.{cases_lt, cases_eq, ne_eqb}
 use Rattle.std.proofs.lemmas.Grind.{elements}
 use Rattle.iscsi_wire.specs.Fields.{cmd_sn}

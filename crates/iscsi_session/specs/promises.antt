@@ -1,4 +1,4 @@
--- What the session promises: which calls it refuses, and for which events it stands.
+-- What the session promises: which calls it refuses, and how many effects an event gives.
 pub mod Settings
 pub mod Refusals
-pub mod Standing
+pub mod Bounds

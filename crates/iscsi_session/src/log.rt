@@ -3,11 +3,7 @@
 ghost use Rattle.std.specs.Prelude.{◌≡◌, IfOk};
 ghost use Rattle.iscsi_session.specs.promises.Settings.{setting_of};
 ghost use Rattle.iscsi_history.specs.rules.Run.{run_of};
-ghost use Rattle.iscsi_history.specs.promises.Executed.{executed, delivered};
-ghost use Rattle.iscsi_history.specs.promises.Flow.{FlowsThrough};
-ghost use Rattle.iscsi_history.specs.promises.Enabling.{EnablesByTheRule};
-ghost use Rattle.iscsi_history.specs.promises.Aborts.{AbortsHoldIn};
-ghost use Rattle.iscsi_history.specs.promises.Closes.{ClosesHoldIn};
+ghost use Rattle.iscsi_history.specs.promises.Promises.{KeepsPromises};
 ghost use Rattle.iscsi_session.specs.promises.Refusals.{RunRefusesAs, refusal_of_options, first_refusal};
 
 use crate::fault::SessionFault;
@@ -22,23 +18,9 @@ use std::alloc::Global;
 pub fn run(alloc: Global, options: Options, events: &[Event]) -> Result<Log, SessionFault>
     ensures log { IfOk result (λ log. log.items ≡ run_of (setting_of options) events.now) }
 
-    // The numbered requests executed are those received from the first CmdSN on without a gap, in CmdSN
-    // order, each once.
-    ensures delivery { IfOk result (λ log. delivered log.items ≡ executed (setting_of options) events.now) }
-
-    // At each moment, the commands with an `Enable` and no `Leave` so far are those that the rules of task sets
-    // enable.
-    ensures enabling { IfOk result (λ log. EnablesByTheRule (setting_of options) events.now log.items) }
-
-    // What a completed abort covers is over: it is in no task set, isn't answered, and isn't delivered.
-    ensures aborts { IfOk result (λ log. AbortsHoldIn (setting_of options) events.now log.items) }
-
-    // In a session that was closed nothing goes on, and nothing on a connection that was.
-    ensures closes { IfOk result (λ log. ClosesHoldIn (setting_of options) events.now log.items) }
-
-    // Each event receives one number at the most. ExpCmdSN and MaxCmdSN don't go back, and no more commands
-    // are unfinished than the window has places.
-    ensures flow { IfOk result (λ log. FlowsThrough (setting_of options) events.now) }
+    // The log keeps all promises: delivery in CmdSN order, task sets by their rules, aborts and closes that hold, the
+    // flow of numbers, and each command started and answered once.
+    ensures promises { IfOk result (λ log. KeepsPromises (setting_of options) events.now log.items) }
 
     ensures refused { RunRefusesAs (refusal_of_options (setting_of options))
         (first_refusal (setting_of options) 0 events.now) result }

@@ -20,7 +20,8 @@ ghost use Rattle.iscsi_history.specs.promises.Numbering.{CountsReplies};
 ghost use Rattle.iscsi_history.specs.promises.Order.{KeepsOrder};
 ghost use Rattle.iscsi_history.specs.promises.Meaning.{MeansWhatItSays};
 ghost use Rattle.iscsi_session.specs.promises.Refusals.{RefusesAs, refusal_of, refusal_of_options};
-ghost use Rattle.iscsi_session.specs.promises.Standing.{Settled, StandsFor, effect_bound_of, most_effects, is_held, are_ascending};
+ghost use Rattle.iscsi_session.specs.promises.Bounds.{effect_bound_of, most_effects};
+ghost use Rattle.iscsi_session.specs.private.Standing.{Settled, StandsFor, is_held, are_ascending};
 ghost use Rattle.iscsi_session.specs.private.Steps.{refusal_by, comes_on, KeepsPace, counted, numbers_by};
 ghost use Rattle.iscsi_session.specs.private.Functions.{owed};
 
@@ -101,7 +102,7 @@ impl Drop for Session {
 impl Model for Session {
     ghost use Rattle.std.specs.Prelude.{vec_capacity};
     ghost use Rattle.std.specs.VecDeque.{deque_capacity};
-    ghost use Rattle.iscsi_session.specs.promises.Standing.{Core};
+    ghost use Rattle.iscsi_session.specs.private.Standing.{Core};
     ghost use Rattle.iscsi_session.specs.private.Invariant.{IsSessionSound};
 
     ghost Value = { Core };

@@ -2,7 +2,7 @@
 
 ghost use Rattle.std.specs.Prelude.{◌≡◌, ◌≤◌, ◌<◌, ℕ, true, map, length, vec_len};
 ghost use Rattle.iscsi_session.specs.promises.Settings.{setting_of};
-ghost use Rattle.iscsi_session.specs.promises.Standing.{StandsFor};
+ghost use Rattle.iscsi_session.specs.private.Standing.{StandsFor};
 ghost use Rattle.iscsi_history.specs.rules.Run.{run_of};
 ghost use Rattle.iscsi_history.specs.promises.Enabling.{effects_in};
 ghost use Rattle.iscsi_threads.specs.Outlets.{given, heard, got};

@@ -16,7 +16,7 @@ use Rattle.iscsi_session.specs.declared.closing.Closing.{Closing}
 use Rattle.iscsi_session.specs.declared.closing.Closing.TheVariants.{Refused, Session, Conn}
 use Rattle.iscsi_session.specs.declared.session.waiting.Waiting.{Waiting}
 use Rattle.iscsi_history.specs.rules.Execution.{NO_TAG}
-use Rattle.iscsi_session.specs.promises.Standing.{Core}
+use Rattle.iscsi_session.specs.private.Standing.{Core}
 pub use Rattle.iscsi_connections.specs.Connected.{is_among_open, still_open}
 use Rattle.iscsi_session.specs.private.Steps.{set_at, all_given, enable_effects, with_reply, reply_effects}
 use Rattle.iscsi_session.specs.private.Functions.{with_left, leaving_effects}

@@ -21,7 +21,7 @@ use Rattle.iscsi_session.specs.declared.outcome.Outcome.TheVariants.{Respond, Ab
 use Rattle.iscsi_session.specs.declared.response.Response.TheVariants.{Complete, NoTask, Succeeded}
 use Rattle.iscsi_session.specs.private.Codes.{response_code}
 use Rattle.iscsi_commands.specs.declared.live.Live.{Live}
-use Rattle.iscsi_session.specs.promises.Standing.{Core}
+use Rattle.iscsi_session.specs.private.Standing.{Core}
 use Rattle.iscsi_session.specs.private.Steps.{set_at, with_set, all_given, enable_effects, is_numbered, with_reply, reply_effects}
 
 -- ---- commands of a unit leave

@@ -25,7 +25,7 @@ use Rattle.iscsi_history.specs.declared.verdict.Verdict.{Verdict}
 use Rattle.iscsi_history.specs.declared.verdict.Verdict.TheVariants.{Nothing, Answer, Enter as EnterUnit}
 use Rattle.iscsi_history.specs.rules.Settings.{is_known}
 use Rattle.iscsi_history.specs.rules.Execution.{sense_of_status, unit_named, attr_of, MOST_IMMEDIATE, request_verdict}
-use Rattle.iscsi_session.specs.promises.Standing.{Core, stat_sn_on}
+use Rattle.iscsi_session.specs.private.Standing.{Core, stat_sn_on}
 pub use Rattle.iscsi_connections.specs.Connected.{count_reply, counted_on}
 pub use Rattle.iscsi_commands.specs.Commands.{find_ticket, without_ticket}
 

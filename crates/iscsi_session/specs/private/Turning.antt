@@ -13,7 +13,7 @@ use Rattle.iscsi_session.specs.declared.deferral.Deferral.TheVariants.{Now, Late
 use Rattle.iscsi_session.specs.declared.session.waiting.Waiting.{Waiting}
 use Rattle.iscsi_history.specs.rules.Execution.{unit_named}
 use Rattle.iscsi_history.specs.rules.Management.{may_wait, refusal_to, MOST_WAITING}
-use Rattle.iscsi_session.specs.promises.Standing.{Core}
+use Rattle.iscsi_session.specs.private.Standing.{Core}
 use Rattle.iscsi_session.specs.private.Steps.{with_reply, reply_effects, verdict_by, number_by, executed_as, execution_effects}
 use Rattle.iscsi_session.specs.private.Functions.{outcome_by, performed_as, performance_effects}
 use Rattle.iscsi_session.specs.private.Closing.{closing_by, closed_as, closed_effects}

@@ -12,7 +12,7 @@ ghost use Rattle.iscsi_history.specs.rules.Execution.{exp_of};
 ghost use Rattle.iscsi_history.specs.rules.Agenda.{arrival, arrival_open, arrival_of, numbered};
 ghost use Rattle.iscsi_history.specs.rules.Items.{agenda, functions_at};
 ghost use Rattle.iscsi_history.specs.rules.Run.{effects_of};
-ghost use Rattle.iscsi_session.specs.promises.Standing.{Agrees, Settled, is_held};
+ghost use Rattle.iscsi_session.specs.private.Standing.{Agrees, Settled, is_held};
 ghost use Rattle.iscsi_session.specs.private.Steps.{KeepsPace, noted_in, with_offered};
 ghost use Rattle.iscsi_session.specs.private.Functions.{owed};
 ghost use Rattle.iscsi_session.specs.private.Turning.{turned_if, turn_effects, comes_next};

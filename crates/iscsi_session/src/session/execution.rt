@@ -6,7 +6,7 @@ ghost use Rattle.iscsi_wire.specs.Fields.{connection_of, header_of, is_immediate
 ghost use Rattle.iscsi_window.specs.Windows.{HasRoom};
 ghost use Rattle.iscsi_history.specs.rules.Settings.{is_known as known_in};
 ghost use Rattle.iscsi_history.specs.rules.Execution.{MOST_IMMEDIATE, reject as reject_of, attr_of as attr_named, scsi_verdict, nop_verdict};
-ghost use Rattle.iscsi_session.specs.promises.Standing.{is_held};
+ghost use Rattle.iscsi_session.specs.private.Standing.{is_held};
 ghost use Rattle.iscsi_session.specs.private.Codes.{reason_code};
 ghost use Rattle.iscsi_session.specs.private.Steps.{set_at, is_set_full, is_tag_kept, is_crowded_by, immediate_in, counted_on, place_in, verdict_by, number_by, event_by, started, with_command, entry_effects, with_reply, reply_effects, executed_as, execution_effects};
 ghost use Rattle.iscsi_session.specs.private.Functions.{owed};

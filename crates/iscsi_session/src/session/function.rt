@@ -3,7 +3,7 @@
 ghost use Rattle.std.specs.Prelude.{ℤ, ℕ, if◌then◌else◌, [], ◌∷◌, ◌++◌, ◌≡◌, ◌+◌, ◌<◌, ◌≤◌, length, count_by, is_some, vec_len, vec_capacity};
 ghost use Rattle.iscsi_wire.specs.Fields.{ref_cmd_sn as referenced};
 ghost use Rattle.iscsi_window.specs.Windows.{place_in, IsInside, held_at, voided, emptied};
-ghost use Rattle.iscsi_session.specs.promises.Standing.{is_held};
+ghost use Rattle.iscsi_session.specs.private.Standing.{is_held};
 ghost use Rattle.iscsi_session.specs.private.Functions.{tagged_in, abort_by, missing_at, answer_if as answer_of, outcome_by, void_effects};
 
 use crate::function::Function;

@@ -3,7 +3,7 @@
 ghost use Rattle.std.specs.Prelude.{ℕ, ◌≡◌, ◌+◌, ◌<◌, ◌≤◌, ◌++◌, [], ◌∷◌, true, length, count_by, slice_index_or, slice_set, All, IsSome, vec_len, vec_capacity, if◌then◌else◌};
 ghost use Rattle.std.specs.List.{AllPairs};
 ghost use Rattle.iscsi_tasks.specs.Sets.{opened, is_covered};
-ghost use Rattle.iscsi_session.specs.promises.Standing.{are_ascending, are_known, tickets_of, tickets_in};
+ghost use Rattle.iscsi_session.specs.private.Standing.{are_ascending, are_known, tickets_of, tickets_in};
 ghost use Rattle.iscsi_session.specs.private.Steps.{AreCounted, is_numbered, find_ticket, without_ticket, enable_effects, set_at};
 ghost use Rattle.iscsi_history.specs.declared.effect.Effect.{Effect};
 ghost use Rattle.iscsi_session.specs.private.Functions.{set_staying, finished_by, with_left, leaving_effects, leave_each, tickets_covered, without_tickets, with_given, covers_ticket, has_covered, owed};

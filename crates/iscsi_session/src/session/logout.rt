@@ -4,7 +4,7 @@ ghost use Rattle.std.specs.Prelude.{ℕ, ◌≡◌, ◌+◌, ◌*◌, ◌≤◌,
 ghost use Rattle.iscsi_wire.specs.Fields.{connection_of, itt as tag_of, cid as cid_of};
 ghost use Rattle.iscsi_window.specs.Windows.{is_asked};
 ghost use Rattle.iscsi_history.specs.rules.Settings.{is_known as known_in};
-ghost use Rattle.iscsi_session.specs.promises.Standing.{is_held};
+ghost use Rattle.iscsi_session.specs.private.Standing.{is_held};
 ghost use Rattle.iscsi_session.specs.private.Codes.{logout_response_code};
 ghost use Rattle.iscsi_session.specs.private.Functions.{owed};
 ghost use Rattle.iscsi_session.specs.private.Closing.{is_among_open, closing_by, closed_as, closed_effects, logged_out, logout_effects, cover_of as cover_named, covers_of, units_of, with_all_left, all_leaving_effects, with_emptied, is_clear_below, emptying_effects, with_dropped, ended_if, session_closes, with_closed, close_effects, with_all_given, all_enable_effects};

@@ -7,7 +7,7 @@ ghost use Rattle.iscsi_wire.specs.Fields.{connection_of, is_immediate, function 
 ghost use Rattle.iscsi_window.specs.Windows.{number_expected, HasRoom, IsInside, place_in, held_at};
 ghost use Rattle.iscsi_history.specs.rules.Settings.{is_known as known_in};
 ghost use Rattle.iscsi_history.specs.rules.Management.{may_wait as may_wait_named, is_supported as supported_at, refusal_to};
-ghost use Rattle.iscsi_session.specs.promises.Standing.{stat_sn_on, is_held};
+ghost use Rattle.iscsi_session.specs.private.Standing.{stat_sn_on, is_held};
 ghost use Rattle.iscsi_session.specs.private.Codes.{response_code};
 ghost use Rattle.iscsi_session.specs.private.Steps.{KeepsPace, with_reply, reply_effects};
 ghost use Rattle.iscsi_session.specs.private.Functions.{outcome_by, performed_as, performance_effects, owed};

@@ -5,7 +5,7 @@ use Rattle.std.proofs.lemmas.Result.{IfOk-weaker}
 use Rattle.iscsi_history.specs.promises.Flow.{FlowsThrough}
 use Rattle.iscsi_history.proofs.FlowItems.{FlowsThrough-push, FlowsThrough-none}
 use Rattle.iscsi_session.proofs.PromiseLemmas.{promises_kept}
-use Rattle.iscsi_session.specs.promises.Standing.{StandsFor}
+use Rattle.iscsi_session.specs.private.Standing.{StandsFor}
 use Rattle.iscsi_recording.specs.declared.fault.ReplayFault.{ReplayFault}
 use Rattle.iscsi_recording.specs.declared.fault.ReplayFault.TheVariants.{Write, NoMemory}
 use Rattle.iscsi_replay.specs.Replayed.{setting_with}

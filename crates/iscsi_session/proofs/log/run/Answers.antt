@@ -10,15 +10,13 @@ use Rattle.iscsi_session.specs.declared.fault.SessionFault.TheVariants.{NoMemory
 use Rattle.iscsi_history.specs.rules.Settings.{Setting}
 use Rattle.iscsi_session.specs.promises.Settings.{setting_of}
 use Rattle.iscsi_history.specs.rules.Run.{run_of}
-use Rattle.iscsi_history.specs.promises.Executed.{delivered}
 use Rattle.iscsi_history.specs.promises.Flow.{FlowsThrough}
-use Rattle.iscsi_history.proofs.AbortTheorem.{aborts_hold_in}
 use Rattle.iscsi_session.specs.promises.Refusals.{refusal_of, refusal_of_options, first_refusal}
-use Rattle.iscsi_session.specs.promises.Standing.{StandsFor}
+use Rattle.iscsi_session.specs.private.Standing.{StandsFor}
 use Rattle.iscsi_history.proofs.RunLemmas.{run_of-push}
 use Rattle.iscsi_history.proofs.FlowItems.{FlowsThrough-push}
 use Rattle.iscsi_session.proofs.RefusalLemmas.{taken_none, refused_cases, refusal_more, refusal_here, options_refused, event_refused, run_taken}
-use Rattle.iscsi_session.proofs.PromiseLemmas.{stands_delivers, stands_enables, stands_closes}
+use Rattle.iscsi_session.proofs.PromiseLemmas.{promises_kept}
 use Rattle.iscsi_session.proofs.log.run.Goals as goal
 
 pub returns-in_err-session-clause-refused : goal.returns-in_err-session-clause-refused
@@ -82,10 +80,6 @@ returns c =
     let over : drop c.loop-event.event-index events ≡ [] = grind (arith, common_steps) in
     record {
       log = log;
-      delivery = ap delivered log ∙ stands_delivers o c.loop-event.session events stands;
-      enabling = rw log (stands_enables o c.loop-event.session events stands);
-      aborts = rw log (aborts_hold_in o events);
-      closes = rw log (stands_closes o c.loop-event.session events stands);
-      flow = subst (FlowsThrough o) all inv.flow;
+      promises = rw log (promises_kept o c.loop-event.session events stands (subst (FlowsThrough o) all inv.flow));
       refused = run_taken (refusal_of_options o) (first_refusal o 0 events) c.loop-event.log opened (sym inv.refusal ∙ ap (first_refusal o c.loop-event.event-index) over);
     }

@@ -4,7 +4,7 @@ use Rattle.iscsi_session.specs.promises.Settings.{setting_of}
 use Rattle.iscsi_history.specs.rules.Run.{run_of}
 use Rattle.iscsi_history.specs.promises.Flow.{FlowsThrough}
 use Rattle.iscsi_session.specs.promises.Refusals.{first_refusal}
-use Rattle.iscsi_session.specs.promises.Standing.{StandsFor}
+use Rattle.iscsi_session.specs.private.Standing.{StandsFor}
 use Rattle.iscsi_session.proofs.log.run.Given as goal
 
 -- the session stands for the events so far, of which the log is, and nothing was refused

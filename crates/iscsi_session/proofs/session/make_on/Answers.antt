@@ -5,7 +5,7 @@ use Rattle.iscsi_window.specs.Windows.{opened}
 use Rattle.iscsi_tasks.specs.Sets.{opened as opened_set}
 use Rattle.iscsi_connections.specs.Connected.{Connected}
 use Rattle.iscsi_session.specs.promises.Settings.{setting_of}
-use Rattle.iscsi_session.specs.promises.Standing.{is_held, is_place_known, tickets_of}
+use Rattle.iscsi_session.specs.private.Standing.{is_held, is_place_known, tickets_of}
 use Rattle.iscsi_history.specs.rules.Settings.{Setting, is_valid}
 use Rattle.iscsi_session.specs.private.Invariant.{HasRooms, IsWithinLimits, IsSessionSound}
 use Rattle.iscsi_session.proofs.CountLemmas.{AreCounted-opened}

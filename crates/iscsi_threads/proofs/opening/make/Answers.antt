@@ -3,7 +3,7 @@ use Rattle.std.proofs.Common.{◌≡◌, ◌∙◌, ap, sym, subst, rules, [], l
 use Rattle.iscsi_history.specs.rules.Settings.{Setting}
 use Rattle.iscsi_session.specs.promises.Settings.{setting_of}
 use Rattle.iscsi_threads.specs.Journal.{cids_of, parts, AllDiffer}
-use Rattle.iscsi_session.specs.promises.Standing.{StandsFor}
+use Rattle.iscsi_session.specs.private.Standing.{StandsFor}
 use Rattle.iscsi_threads.proofs.OpenLemmas.{Limits, limits, parts_none, range_none, differ_of}
 use Rattle.iscsi_threads.proofs.opening.make.Goals as goal
 

@@ -4,7 +4,7 @@ use Rattle.iscsi_wire.specs.Fields.{rtt, cmd_sn, ref_cmd_sn}
 use Rattle.iscsi_window.specs.Windows.{place_in, find_command, number_shown}
 use Rattle.iscsi_session.specs.declared.outcome.Outcome.{Outcome}
 use Rattle.iscsi_session.specs.declared.outcome.Outcome.TheVariants.{Empty as EmptyNumber}
-use Rattle.iscsi_session.specs.promises.Standing.{Core}
+use Rattle.iscsi_session.specs.private.Standing.{Core}
 use Rattle.iscsi_session.specs.private.Functions.{tagged_in, missing_at, abort_by}
 use Rattle.iscsi_session.proofs.session.Session.abort_task.Goals as goal
 use Rattle.iscsi_session.proofs.session.Session.abort_task.Goals.{After-find_held}

@@ -1,5 +1,5 @@
 use Rattle.std.proofs.Common.{◌∙◌, ◌+◌, ◌-◌, ◌<◌, ℕ, arith, length-set, append_assoc}
-use Rattle.iscsi_session.specs.promises.Standing.{Core}
+use Rattle.iscsi_session.specs.private.Standing.{Core}
 use Rattle.iscsi_session.specs.private.Steps.{set_at, all_given}
 use Rattle.iscsi_session.proofs.TellingLemmas.{given_all, told_more, told_all, told_later}
 use Rattle.iscsi_session.proofs.session.Session.announce_all.Goals as goal

@@ -4,7 +4,7 @@ use Rattle.iscsi_wire.specs.Fields.{connection_of, itt}
 use Rattle.iscsi_session.specs.private.Steps.{is_tag_kept, is_crowded_by, is_set_full, set_at, immediate_in, place_in}
 use Rattle.iscsi_history.proofs.VerdictLemmas.{Entering, entering_by}
 use Rattle.iscsi_session.proofs.ExecutionLemmas.{placed}
-use Rattle.iscsi_session.specs.promises.Standing.{Core}
+use Rattle.iscsi_session.specs.private.Standing.{Core}
 use Rattle.iscsi_session.specs.private.Functions.{owed}
 use Rattle.iscsi_session.proofs.ManageLemmas.{owed_entered}
 use Rattle.iscsi_session.proofs.session.Session.answer_or_enter.Goals as goal

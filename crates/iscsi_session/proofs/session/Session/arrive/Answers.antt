@@ -5,7 +5,7 @@ use Rattle.iscsi_history.specs.rules.Settings.{is_known}
 use Rattle.iscsi_history.specs.rules.Trace.{Mark, after_items, received}
 use Rattle.iscsi_history.specs.promises.Flow.{HasOneMore}
 use Rattle.iscsi_history.specs.rules.Run.{effects_of}
-use Rattle.iscsi_session.specs.promises.Standing.{Settled}
+use Rattle.iscsi_session.specs.private.Standing.{Settled}
 use Rattle.iscsi_session.specs.private.Closing.{is_among_open}
 use Rattle.iscsi_history.proofs.ListLemmas.{is_known-cids}
 use Rattle.iscsi_session.proofs.ArriveLemmas.{opened_arrival, closed_arrival, closed_receives}

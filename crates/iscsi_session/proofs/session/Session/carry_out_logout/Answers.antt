@@ -1,5 +1,5 @@
 use Rattle.std.proofs.Common.{append_assoc}
-use Rattle.iscsi_session.specs.promises.Standing.{Core}
+use Rattle.iscsi_session.specs.private.Standing.{Core}
 use Rattle.iscsi_session.specs.private.Closing.{units_of, covers_of, left_to}
 use Rattle.iscsi_session.proofs.LoggedOutLemmas.{Keeps, left_keeps, kept_conns, kept_emptying, kept_close}
 use Rattle.iscsi_session.proofs.session.Session.carry_out_logout.Goals as goal

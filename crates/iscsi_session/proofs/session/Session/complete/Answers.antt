@@ -7,7 +7,7 @@ use Rattle.iscsi_tasks.specs.Sets.{Members, opened, is_new}
 use Rattle.iscsi_slots.specs.Queued.{Queued}
 use Rattle.iscsi_commands.specs.declared.live.Live.{Live}
 use Rattle.iscsi_connections.specs.Connected.{Connected, count_reply}
-use Rattle.iscsi_session.specs.promises.Standing.{Core}
+use Rattle.iscsi_session.specs.private.Standing.{Core}
 use Rattle.iscsi_session.specs.private.Steps.{is_numbered, finished, find_ticket, enabled_in, find_enabled, without_ticket, set_without, all_given}
 use Rattle.iscsi_history.proofs.BoolLemmas.{and_second}
 use Rattle.iscsi_history.proofs.ListLemmas.{find-passes}

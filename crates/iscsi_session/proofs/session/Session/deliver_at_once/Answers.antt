@@ -6,7 +6,7 @@ use Rattle.iscsi_window.specs.Windows.{Received, offered_to, advanced}
 use Rattle.iscsi_history.specs.declared.effect.Effect.TheVariants.{Deliver}
 use Rattle.iscsi_history.specs.rules.Settings.{is_known}
 use Rattle.iscsi_session.specs.contracts.session.Session.{the_view}
-use Rattle.iscsi_session.specs.promises.Standing.{Core, is_held}
+use Rattle.iscsi_session.specs.private.Standing.{Core, is_held}
 use Rattle.iscsi_session.specs.private.Steps.{with_offered}
 use Rattle.iscsi_session.specs.private.Turning.{comes_next, with_executed, executed_effects, with_advanced, turned_if, turn_effects}
 use Rattle.iscsi_session.specs.private.Functions.{owed}

@@ -6,7 +6,7 @@ use Rattle.iscsi_window.specs.Windows.{Received, at_place, advanced}
 use Rattle.iscsi_history.specs.declared.effect.Effect.TheVariants.{Deliver}
 use Rattle.iscsi_history.specs.rules.Settings.{is_known}
 use Rattle.iscsi_session.specs.contracts.session.Session.{the_view}
-use Rattle.iscsi_session.specs.promises.Standing.{Core, is_held}
+use Rattle.iscsi_session.specs.private.Standing.{Core, is_held}
 use Rattle.iscsi_session.specs.private.Functions.{owed}
 use Rattle.iscsi_session.specs.private.Invariant.{Inner, IsSessionSound}
 use Rattle.iscsi_session.specs.private.Turning.{with_executed, executed_effects, with_advanced, turned_if, turn_effects}

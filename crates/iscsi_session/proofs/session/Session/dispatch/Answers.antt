@@ -6,7 +6,7 @@ use Rattle.iscsi_history.specs.rules.Trace.{Arrival, Mark, after_items, received
 use Rattle.iscsi_history.specs.promises.Flow.{HasOneMore}
 use Rattle.iscsi_history.specs.rules.Agenda.{arrival_open, arrival_of}
 use Rattle.iscsi_history.specs.rules.Run.{effects_of}
-use Rattle.iscsi_session.specs.promises.Standing.{Core, Settled}
+use Rattle.iscsi_session.specs.private.Standing.{Core, Settled}
 use Rattle.iscsi_session.specs.private.Turning.{deferral_by}
 use Rattle.iscsi_history.proofs.ListLemmas.{is_known-cids}
 use Rattle.iscsi_history.proofs.ReceivedItems.{passed_receives, rejected_receives, is_numbered_arrival}

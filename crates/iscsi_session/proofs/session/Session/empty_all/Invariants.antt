@@ -1,5 +1,5 @@
 use Rattle.std.proofs.Common.{◌≡◌, ◌+◌, ◌≤◌, ◌++◌, true, length, count_by, vec_len, vec_capacity}
-use Rattle.iscsi_session.specs.promises.Standing.{is_held}
+use Rattle.iscsi_session.specs.private.Standing.{is_held}
 use Rattle.iscsi_session.specs.private.Closing.{is_clear_below, with_emptied, emptying_effects}
 use Rattle.iscsi_session.proofs.session.Session.empty_all.Given as goal
 

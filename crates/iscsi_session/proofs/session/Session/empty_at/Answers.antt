@@ -1,6 +1,6 @@
 use Rattle.std.proofs.Common.{◌≡◌, ℕ, false, ◌∙◌, ap, sym, arith, rules, count_by, Option, Some, None, refl, append_assoc, length-set}
 use Rattle.iscsi_window.specs.Windows.{Received, number_expected, number_shown, with_place, at_place, is_held_from}
-use Rattle.iscsi_session.specs.promises.Standing.{is_held}
+use Rattle.iscsi_session.specs.private.Standing.{is_held}
 use Rattle.iscsi_session.proofs.DroppingLemmas.{Dropped, dropped, clear_past, answered_some, answered_none}
 use Rattle.iscsi_session.proofs.WindowLemmas.{Changed}
 use Rattle.iscsi_session.proofs.SoundLemmas.{window_sound, changed_sound, same_sound}

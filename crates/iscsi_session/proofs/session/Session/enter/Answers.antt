@@ -10,7 +10,7 @@ use Rattle.iscsi_window.specs.Windows.{Received}
 use Rattle.iscsi_tasks.specs.Sets.{Members, opened, entered_to, given_by}
 use Rattle.iscsi_commands.specs.declared.live.Live.{Live}
 use Rattle.iscsi_connections.specs.Connected.{Connected}
-use Rattle.iscsi_session.specs.promises.Standing.{Core, are_within}
+use Rattle.iscsi_session.specs.private.Standing.{Core, are_within}
 use Rattle.iscsi_session.specs.private.Steps.{started, new_live, new_task}
 use Rattle.iscsi_session.proofs.CountLemmas.{AreCounted-entered, room_for_one}
 use Rattle.iscsi_session.proofs.KeptLemmas.{newest_in, Match-entered}

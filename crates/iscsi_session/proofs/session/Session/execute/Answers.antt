@@ -1,5 +1,5 @@
 use Rattle.std.proofs.Common.{◌≡◌, ap, arith, length, count_by}
-use Rattle.iscsi_session.specs.promises.Standing.{Core, is_held}
+use Rattle.iscsi_session.specs.private.Standing.{Core, is_held}
 use Rattle.iscsi_session.specs.private.Steps.{verdict_by}
 use Rattle.iscsi_session.specs.private.Closing.{closing_by}
 use Rattle.iscsi_session.proofs.ManageLemmas.{Eased, managed_eased, managed_waiting, answered_places, answered_waiting}

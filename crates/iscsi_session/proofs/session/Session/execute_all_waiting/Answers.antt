@@ -5,7 +5,7 @@ use Rattle.iscsi_history.specs.declared.effect.Effect.{Effect}
 use Rattle.iscsi_session.specs.declared.session.waiting.Waiting.{Waiting}
 use Rattle.iscsi_history.specs.rules.Trace.{after_items}
 use Rattle.iscsi_history.specs.rules.Items.{functions_at}
-use Rattle.iscsi_session.specs.promises.Standing.{Core, Agrees}
+use Rattle.iscsi_session.specs.private.Standing.{Core, Agrees}
 use Rattle.iscsi_session.specs.private.Steps.{KeepsPace}
 use Rattle.iscsi_session.specs.private.Turning.{next_waiting, function_if, function_effects}
 use Rattle.iscsi_session.proofs.AgendaLemmas.{Leads, left_functions, functions-on, functions-done}

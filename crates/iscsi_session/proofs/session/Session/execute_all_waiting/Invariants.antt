@@ -3,7 +3,7 @@ use Rattle.iscsi_window.specs.Windows.{number_expected}
 use Rattle.iscsi_history.specs.rules.Settings.{Setting}
 use Rattle.iscsi_history.specs.rules.Trace.{Trace}
 use Rattle.iscsi_history.specs.rules.Items.{functions_at}
-use Rattle.iscsi_session.specs.promises.Standing.{Agrees}
+use Rattle.iscsi_session.specs.private.Standing.{Agrees}
 use Rattle.iscsi_session.specs.private.Steps.{KeepsPace}
 use Rattle.iscsi_session.specs.private.Functions.{owed}
 use Rattle.iscsi_session.proofs.AgendaLemmas.{Leads, left_functions}

@@ -7,7 +7,7 @@ use Rattle.iscsi_window.specs.Windows.{number_expected}
 use Rattle.iscsi_slots.specs.Queued.{Queued, queued}
 use Rattle.iscsi_history.specs.rules.Settings.{is_known}
 use Rattle.iscsi_history.specs.rules.Management.{may_wait}
-use Rattle.iscsi_session.specs.promises.Standing.{Core}
+use Rattle.iscsi_session.specs.private.Standing.{Core}
 use Rattle.iscsi_history.specs.declared.effect.Effect.TheVariants.{Immediate}
 use Rattle.iscsi_session.specs.declared.session.waiting.Waiting.{Waiting}
 use Rattle.iscsi_session.specs.private.Turning.{performed, performed_effects, next_waiting, next_position, function_if, function_effects}

@@ -1,5 +1,5 @@
 use Rattle.std.proofs.Common.{◌≡◌, ◌∙◌, ℕ, arith, length-set, append_assoc}
-use Rattle.iscsi_session.specs.promises.Standing.{Core}
+use Rattle.iscsi_session.specs.private.Standing.{Core}
 use Rattle.iscsi_session.specs.private.Functions.{with_left}
 use Rattle.iscsi_session.specs.private.Closing.{covers_of}
 use Rattle.iscsi_history.proofs.ListLemmas.{range_step}

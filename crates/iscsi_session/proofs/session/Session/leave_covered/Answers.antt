@@ -1,6 +1,6 @@
 use Rattle.std.proofs.Common.{◌≡◌, ◌∙◌, ◌<◌, ◌++◌, length, take, drop, get_or, set, ap, sym, arith, rules}
 use Rattle.iscsi_tasks.specs.Sets.{opened, is_covered}
-use Rattle.iscsi_session.specs.promises.Standing.{Core}
+use Rattle.iscsi_session.specs.private.Standing.{Core}
 use Rattle.iscsi_session.specs.private.Functions.{staying, set_staying, finished_by, tickets_covered, ungiven_in, owed}
 use Rattle.iscsi_session.proofs.CountLemmas.{few_live}
 use Rattle.iscsi_session.proofs.LeavingParts.{ungiven_in-staying, rises, few_in, covered_live, covered_up, without_covered, leave_covered_each}

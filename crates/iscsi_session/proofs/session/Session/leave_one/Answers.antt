@@ -1,6 +1,6 @@
 use Rattle.std.proofs.Common.{◌≡◌, ◌∙◌, ◌<◌, ◌++◌, length, take, drop, get_or, set, ap, sym, arith, rules}
 use Rattle.iscsi_tasks.specs.Sets.{opened}
-use Rattle.iscsi_session.specs.promises.Standing.{Core}
+use Rattle.iscsi_session.specs.private.Standing.{Core}
 use Rattle.iscsi_session.specs.private.Functions.{staying, set_staying, covers_ticket, has_covered, ungiven_in, owed}
 use Rattle.iscsi_session.proofs.LeavingParts.{ungiven_in-staying, rises, one_found, one_live, one_leaves}
 use Rattle.iscsi_session.proofs.LeftSound.{sets_written, left_sound}

@@ -4,7 +4,7 @@ use Rattle.iscsi_history.specs.declared.event.Event.{Event}
 use Rattle.iscsi_history.specs.rules.Settings.{Setting}
 use Rattle.iscsi_history.specs.rules.Trace.{live}
 use Rattle.iscsi_history.specs.rules.Run.{trace_of}
-use Rattle.iscsi_session.specs.promises.Standing.{Core, StandsFor, kept}
+use Rattle.iscsi_session.specs.private.Standing.{Core, StandsFor, kept}
 use Rattle.iscsi_session.proofs.session.Session.live_len.Goals as goal
 
 -- as many commands are kept as are live

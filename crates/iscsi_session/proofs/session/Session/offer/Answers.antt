@@ -4,7 +4,7 @@ use Rattle.iscsi_wire.specs.Fields.{connection_of}
 use Rattle.iscsi_window.specs.declared.answer.Offer.TheVariants.{Held}
 use Rattle.iscsi_window.specs.Windows.{offer_to}
 use Rattle.iscsi_history.specs.rules.Settings.{is_known}
-use Rattle.iscsi_session.specs.promises.Standing.{Core, is_held}
+use Rattle.iscsi_session.specs.private.Standing.{Core, is_held}
 use Rattle.iscsi_session.proofs.WindowLemmas.{Grown, grown, grown_sound}
 use Rattle.iscsi_session.proofs.ManageLemmas.{length-noted, unheld_same}
 use Rattle.iscsi_session.proofs.SoundLemmas.{window_sound, same_sound, arrivals_sound}

@@ -5,7 +5,7 @@ use Rattle.std.proofs.lemmas.List.{get_or_default, length-map}
 use Rattle.iscsi_wire.specs.Fields.{function, rtt}
 use Rattle.iscsi_tasks.specs.Sets.{Members, opened}
 use Rattle.iscsi_commands.specs.declared.live.Live.{Live}
-use Rattle.iscsi_session.specs.promises.Standing.{Match}
+use Rattle.iscsi_session.specs.private.Standing.{Match}
 use Rattle.iscsi_session.specs.private.Functions.{tagged_in}
 use Rattle.iscsi_session.proofs.TagLemmas.{any_found}
 use Rattle.iscsi_session.proofs.session.Session.outcome.Goals as goal

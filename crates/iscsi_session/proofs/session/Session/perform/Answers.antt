@@ -1,7 +1,7 @@
 use Rattle.std.proofs.Common.{◌<◌, ◌∙◌, ap, sym, subst, arith, length}
 use Rattle.iscsi_wire.specs.Fields.{cmd_sn, rtt}
 use Rattle.iscsi_window.specs.Windows.{IsSound}
-use Rattle.iscsi_session.specs.promises.Standing.{Core}
+use Rattle.iscsi_session.specs.private.Standing.{Core}
 use Rattle.iscsi_history.proofs.VerdictLemmas.{named_below}
 use Rattle.iscsi_history.proofs.ReceivedItems.{one_waits_not}
 use Rattle.iscsi_session.proofs.ManageLemmas.{outcome_empties, outcome_voids, found_held}

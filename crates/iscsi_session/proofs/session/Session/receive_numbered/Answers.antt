@@ -6,7 +6,7 @@ use Rattle.iscsi_history.specs.declared.effect.Effect.{Effect}
 use Rattle.iscsi_history.specs.declared.effect.Why.TheVariants.{Outside, Duplicate}
 use Rattle.iscsi_history.specs.rules.Trace.{after_items}
 use Rattle.iscsi_history.specs.rules.Agenda.{numbered, arrival_of}
-use Rattle.iscsi_session.specs.promises.Standing.{Core, Settled}
+use Rattle.iscsi_session.specs.private.Standing.{Core, Settled}
 use Rattle.iscsi_history.proofs.ReceivedItems.{ignored_receives}
 use Rattle.iscsi_session.proofs.ArriveLemmas.{offered_known, carried_at_once, held_settled, held_effects, held_receives}
 use Rattle.iscsi_session.specs.private.Steps.{KeepsPace, with_offered}

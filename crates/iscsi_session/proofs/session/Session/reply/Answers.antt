@@ -1,6 +1,6 @@
 use Rattle.std.proofs.Common.{◌∙◌, refl, ap, sym, subst, deque_capacity, vec_capacity}
 use Rattle.iscsi_connections.specs.Connected.{Connected}
-use Rattle.iscsi_session.specs.promises.Standing.{Core}
+use Rattle.iscsi_session.specs.private.Standing.{Core}
 use Rattle.iscsi_session.specs.private.Steps.{count_reply}
 use Rattle.iscsi_session.specs.private.Invariant.{Inner, IsSessionSound}
 use Rattle.iscsi_session.proofs.SoundLemmas.{replied_sound}

@@ -1,7 +1,7 @@
 use Rattle.std.proofs.Common.{◌∙◌, ap, sym, subst, refl, arith, List, count_by}
 use Rattle.iscsi_window.specs.Windows.{at_place}
 use Rattle.iscsi_history.specs.declared.effect.Effect.{Effect}
-use Rattle.iscsi_session.specs.promises.Standing.{Core, is_held}
+use Rattle.iscsi_session.specs.private.Standing.{Core, is_held}
 use Rattle.iscsi_session.specs.private.Steps.{KeepsPace}
 use Rattle.iscsi_session.specs.private.Turning.{turned_if}
 use Rattle.iscsi_session.proofs.AgendaLemmas.{Due, whole_of, Due-functions, turned-one}

@@ -3,7 +3,7 @@ use Rattle.iscsi_wire.specs.declared.request.Request.{Request}
 use Rattle.iscsi_wire.specs.Fields.{attr_code, itt}
 use Rattle.iscsi_tasks.specs.Sets.{Members}
 use Rattle.iscsi_history.specs.rules.Execution.{scsi_to}
-use Rattle.iscsi_session.specs.promises.Standing.{Core}
+use Rattle.iscsi_session.specs.private.Standing.{Core}
 use Rattle.iscsi_session.specs.private.Steps.{is_tag_kept, is_crowded_by, place_in}
 use Rattle.iscsi_history.proofs.VerdictLemmas.{by_place}
 use Rattle.iscsi_session.proofs.session.Session.scsi_verdict.Goals as goal

@@ -6,7 +6,8 @@ use Rattle.iscsi_history.specs.rules.Settings.{Setting}
 use Rattle.iscsi_session.specs.declared.fault.SessionFault.{SessionFault}
 use Rattle.iscsi_history.specs.rules.Run.{trace_of, next_entry, after_event}
 use Rattle.iscsi_session.specs.promises.Refusals.{refusal_of}
-use Rattle.iscsi_session.specs.promises.Standing.{Core, Settled, StandsFor, effect_bound_of}
+use Rattle.iscsi_session.specs.promises.Bounds.{effect_bound_of}
+use Rattle.iscsi_session.specs.private.Standing.{Core, Settled, StandsFor}
 use Rattle.iscsi_session.specs.private.Steps.{KeepsPace, refusal_by}
 use Rattle.iscsi_history.specs.rules.Trace.{received}
 use Rattle.iscsi_history.specs.promises.Flow.{Flows, HasOneMore}

@@ -8,7 +8,7 @@ use Rattle.iscsi_session.specs.promises.Settings.{setting_of}
 use Rattle.iscsi_history.specs.rules.Run.{trace_of, next_entry}
 use Rattle.iscsi_history.specs.rules.Agenda.{belongs}
 use Rattle.iscsi_session.specs.promises.Refusals.{refusal_of}
-use Rattle.iscsi_session.specs.promises.Standing.{effect_bound_of}
+use Rattle.iscsi_session.specs.promises.Bounds.{effect_bound_of}
 use Rattle.iscsi_threads.proofs.Journals.{heads_after, dones_after, source_of_polled, sources_snoc, range_length}
 use Rattle.iscsi_threads.proofs.Turning.{belongs_polled, taken_next, only_memory, cut_after, cut_within, known_next, jobs_after}
 use Rattle.iscsi_threads.specs.declared.job.Job.{Job}

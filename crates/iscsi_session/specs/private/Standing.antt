@@ -192,16 +192,3 @@ pub record StandsFor (o : Setting) (s : Core) (h : List Event) : Type 0 where
   pub settled : Settled o s (trace_of o h)
   pub taken : s.taken ≡ length h
   pub belong : list_all (belongs o) h ≡ true  -- each arrival came on a connection of the session
-
--- how many requests are held
-abbrev pub held_count : Setting → Trace → ℕ
-held_count o t = count_by (λ n. is_some (held t n)) (range_with_len (exp_of o t) o.window)
-
--- the most effects of the next event
-abbrev pub effect_bound_of : Setting → Trace → ℕ
-effect_bound_of o t = 12 * (held_count o t + length (waiting t) + 1) + 2 * length (live t)
-
--- what no bound is above: each place of the window may hold a request and each connection four functions that wait, and as many
--- commands are live as the window has places, and eight immediate ones of each connection
-abbrev pub most_effects : Setting → ℕ
-most_effects o = 12 * (o.window + 4 * length o.conns + 1) + 2 * (o.window + 8 * length o.conns)
