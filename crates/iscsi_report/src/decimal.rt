@@ -117,7 +117,7 @@ pub fn put_number(n: u64, line: &mut [u8], at: usize) -> usize
     put_many(n, line, at)
 }
 
-/// Writes a decimal number that is mostly one digit, as connections and units are.
+/// Writes a decimal number that mostly has a digit or two, as those of connections and units.
 #[inline(always)]
 pub fn put_small(n: u16, line: &mut [u8], at: usize) -> usize
     requires { at + 20 ≤ length line.old }
@@ -128,9 +128,13 @@ pub fn put_small(n: u16, line: &mut [u8], at: usize) -> usize
     if n < TWO_DIGITS {
         return put_one(n, line, at);
     }
+    if n < THREE_DIGITS {
+        return put_two(n, line, at);
+    }
     put_larger(n, line, at)
 }
 
+/// Writes a number of up to five digits. It is apart, so that a shorter one is written where its line is.
 #[inline(never)]
 fn put_larger(n: u32, line: &mut [u8], at: usize) -> usize
     requires { (n < 65536) × (at + 8 ≤ length line.old) }
