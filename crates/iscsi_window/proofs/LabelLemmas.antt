@@ -1,20 +1,17 @@
 -- The tags beside the places stay right where a place is written, and where the first one turns; a search by them.
-use Rattle.std.proofs.Common.{◌^◌, ◌⊎◌, inl, inr, min, ◌≡◌, ◌≢◌, ◌∙◌, ℕ, zero, suc, ◌+◌, ◌-◌, ◌%◌, ◌<◌, ◌≤◌, ◌==◌, ◌&&◌, ◌++◌, Bool, true, false, List, [], ◌∷◌, length, take, drop, replicate, set, get_or, position, is_some, Option, Some, None, arith, ap, sym, refl, ⊎_elim, length-set, length-drop, get_or-set_same, get_or-set_other}
-use Rattle.std.specs.List.{list_any}
-use Rattle.std.proofs.lemmas.Bool.{cases_eq, cases_lt, eq-eqb, eqb-true, and_parts}
-use Rattle.std.proofs.lemmas.List.{get_or_past, get_or-take, get_or-drop, length-take, length-replicate}
-use Rattle.std.proofs.lemmas.List.Folds.{list_any_at}
-use Rattle.iscsi_wire.specs.Fields.{opcode, itt, lun, unit_of}
+use Rattle.std.proofs.Common.{◌^◌, ◌⊎◌, inl, inr, min, ◌≡◌, ◌≢◌, ◌∙◌, ℕ, zero, suc, ◌+◌, ◌-◌, ◌%◌, ◌<◌, ◌≤◌, ◌++◌, Bool, true, false, List, [], ◌∷◌, length, take, drop, replicate, set, get_or, position, is_some, Option, Some, None, arith, ap, sym, refl, ⊎_elim, length-set, get_or-set_same, get_or-set_other}
+use Rattle.std.proofs.lemmas.Bool.{cases_eq, cases_lt}
+use Rattle.std.proofs.lemmas.List.{get_or_past, length-replicate}
+use Rattle.iscsi_wire.specs.Fields.{itt}
 use Rattle.iscsi_wire.specs.declared.request.Request.{Request}
-use Rattle.iscsi_window.specs.Windows.{is_unit, is_command}
 use Rattle.iscsi_window.specs.PlaceTags.{labelled, AreLabelled, IsFirstBetween}
 use Rattle.iscsi_window.proofs.BoundLemmas.{found_below}
 
 -- what a place has stands within
-inside : (xs : List (Option (Option Request))) (k : ℕ) (x : Option Request) → get_or xs k None ≡ Some x → k < length xs
+pub inside : (xs : List (Option (Option Request))) (k : ℕ) (x : Option Request) → get_or xs k None ≡ Some x → k < length xs
 inside xs k x is = ⊎_elim (λ lt. lt) (λ past. let none : get_or xs k None ≡ None = get_or_past xs k None past in absurd cc) (cases_lt k (length xs))
 
-nothing_at : (size k : ℕ) → get_or (let xs : List (Option (Option Request)) = replicate size None in xs) k None ≡ None
+pub nothing_at : (size k : ℕ) → get_or (let xs : List (Option (Option Request)) = replicate size None in xs) k None ≡ None
 nothing_at zero k = refl
 nothing_at (suc size) zero = refl
 nothing_at (suc size) (suc k) = nothing_at size k
@@ -28,7 +25,7 @@ opened_labels size = record {
 -- ---- a place is written
 
 -- two places of a window have two slots
-apart : (turned j k : ℕ) → j ≢ k → j < 1024 → k < 1024 → turned + j < 2 ^ 64 - 1 → (turned + j) % 1024 ≢ min (turned + k) (2 ^ 64 - 1) % 1024
+pub apart : (turned j k : ℕ) → j ≢ k → j < 1024 → k < 1024 → turned + j < 2 ^ 64 - 1 → (turned + j) % 1024 ≢ min (turned + k) (2 ^ 64 - 1) % 1024
 apart turned j k ne low high fits same = omega (arith, same)
 
 pub labels_put : (tags : List ℕ) (turned : ℕ) (xs : List (Option (Option Request))) (k : ℕ) (v : Option (Option Request)) → AreLabelled tags turned xs → length xs ≤ 1024 → k < length xs → AreLabelled (labelled tags v (min (turned + k) (2 ^ 64 - 1))) turned (set xs k v)
@@ -74,7 +71,7 @@ pub labels_cleared : (tags : List ℕ) (turned : ℕ) (xs : List (Option (Option
 labels_cleared tags turned xs k l few within = labels_put tags turned xs k (Some None) l few within
 
 -- the first place turns
-passed : (xs : List (Option (Option Request))) (j : ℕ) → get_or (drop 1 xs ++ None ∷ []) j None ≡ get_or xs (suc j) None
+pub passed : (xs : List (Option (Option Request))) (j : ℕ) → get_or (drop 1 xs ++ None ∷ []) j None ≡ get_or xs (suc j) None
 passed [] zero = refl
 passed [] (suc j) = refl
 passed (x ∷ xs) j = pushed xs j
@@ -92,37 +89,6 @@ labels_turned tags turned xs l = record {
       let number : min (turned + 1) (2 ^ 64 - 1) + j ≡ turned + suc j = omega (arith, fits) in
       ap (λ n. get_or tags (n % 1024) 0) number ∙ l.named (suc j) r (sym (passed xs j) ∙ is) (omega (arith, fits, number));
 }
-
--- ---- a search
-
--- no command with the tag is held at places that have other ones
-pub untagged : (tags : List ℕ) (turned : ℕ) (xs : List (Option (Option Request))) (tag unit k count number j : ℕ) → AreLabelled tags turned xs → number ≡ min (turned + k) (2 ^ 64 - 1) → number ≤ 2 ^ 64 - 2049 → number % 1024 + count ≤ 1024
-    → list_any (λ t. t == tag) (take count (drop (number % 1024) tags)) ≡ false → k ≤ j → j < k + count → is_command tag unit (get_or xs j None) ≡ false
-untagged tags turned xs tag unit k count number j l is fits together none low high = by_place (get_or xs j None) refl
-  where
-    part : List ℕ
-    part = take count (drop (number % 1024) tags)
-
-    other : (r : Request) → get_or xs j None ≡ Some (Some r) → itt r ≡ tag → ⊥
-    other r held same =
-        let at : (turned + j) % 1024 ≡ number % 1024 + (j - k) = omega (arith, is, fits, together, low, high) in
-        let read : get_or part (j - k) 0 ≡ get_or tags (number % 1024 + (j - k)) 0 = get_or-take count (drop (number % 1024) tags) (j - k) 0 (omega (arith, low, high)) ∙ get_or-drop (number % 1024) tags (j - k) 0 in
-        let tagged : get_or part (j - k) 0 ≡ tag = read ∙ ap (λ i. get_or tags i 0) (sym at) ∙ l.named j r held (omega (arith, is, fits, together, low, high)) ∙ same in
-        let within : j - k < length part = simp (length-take, length-drop) (omega (arith, low, high, together, l.as_many)) in
-        let any : list_any (λ t. t == tag) part ≡ true = list_any_at (λ t. t == tag) part (j - k) 0 within (eq-eqb _ _ tagged) in
-        absurd cc
-
-    by_test : (r : Request) (b : Bool) → get_or xs j None ≡ Some (Some r) → is_command tag unit (Some (Some r)) ≡ b → b ≡ false
-    by_test r false held test = refl
-    by_test r true held test =
-        let parts = and_parts (opcode r == 1 && itt r == tag) (is_unit unit (unit_of (lun r))) test in
-        let named : (itt r == tag) ≡ true = (and_parts (opcode r == 1) (itt r == tag) parts.0).1 in
-        absurd (other r held (eqb-true (itt r) tag named))
-
-    by_place : (x : Option (Option Request)) → get_or xs j None ≡ x → is_command tag unit x ≡ false
-    by_place None held = refl
-    by_place (Some None) held = refl
-    by_place (Some (Some r)) held = by_test r (is_command tag unit (Some (Some r))) held refl
 
 -- ---- a block of places
 

@@ -7,3 +7,4 @@ pub mod SoundLemmas
 pub mod TagLemmas
 pub mod BoundLemmas
 pub mod LabelLemmas
+pub mod FilledLemmas

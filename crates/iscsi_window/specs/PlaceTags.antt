@@ -2,6 +2,7 @@
 use Rattle.std.specs.Prelude.{◌≡◌, ℕ, ◌+◌, ◌-◌, ◌%◌, ◌^◌, ◌<◌, ◌≤◌, Bool, true, false, MatchOption, List, length, slice_set, slice_index, slice_index_or, Option, Some, None}
 use Rattle.iscsi_wire.specs.Fields.{itt}
 use Rattle.iscsi_wire.specs.declared.request.Request.{Request}
+use Rattle.iscsi_window.specs.FilledSlots.{AreFilled}
 use Rattle.iscsi_window.specs.Tags.{ArePlacesSound}
 
 -- the place with this number gets the tag of a request
@@ -15,10 +16,11 @@ pub record AreLabelled (tags : List ℕ) (turned : ℕ) (places : List (Option (
   pub as_many : length tags ≡ 1024
   pub named : (k : ℕ) (r : Request) → slice_index_or places k None ≡ Some (Some r) → turned + k < 2 ^ 64 - 1 → slice_index tags ((turned + k) % 1024) ≡ itt r
 
--- what the counters, bounds and tags beside the places say of them
-pub record ArePlacesFound (counts bounds tags : List ℕ) (turned received : ℕ) (places : List (Option (Option Request))) : Type 0 where
+-- what the counters, bounds, tags and bits beside the places say of them
+pub record ArePlacesFound (counts bounds tags words : List ℕ) (turned received : ℕ) (places : List (Option (Option Request))) : Type 0 where
   pub sound : ArePlacesSound counts bounds turned received places
   pub labels : AreLabelled tags turned places
+  pub filled : AreFilled words turned places
 
 -- the first place from one on, below another, that passes, if one does
 abbrev pub IsFirstBetween : (Option (Option Request) → Bool) → List (Option (Option Request)) → ℕ → ℕ → Option ℕ → Type 0

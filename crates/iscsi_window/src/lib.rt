@@ -6,6 +6,7 @@
 
 mod answer;
 mod fault;
+mod filled_slots;
 mod place_tags;
 mod places;
 mod tags;

@@ -5,7 +5,8 @@ ghost use Rattle.circular_buffer.specs.Buffer.{buffer};
 ghost use Rattle.iscsi_window.specs.Windows.{is_command, is_held_from};
 ghost use Rattle.iscsi_window.specs.PlaceTags.{IsFirstBetween};
 
-use crate::place_tags::{PlaceTags, side_by_side};
+use crate::filled_slots::FilledSlots;
+use crate::place_tags::{PlaceTags, of_one_word};
 use crate::tags::{TagBounds, TagCounts};
 use circular_buffer::HeapCircularBuffer;
 use iscsi_wire::{Request, unit_of};
@@ -21,7 +22,12 @@ pub(crate) type Received = Option<Option<Request>>;
 /// As many of them as the window has places, at every time.
 type Ring = HeapCircularBuffer<Received>;
 
-/// The places, of which contracts see the ring alone. The counters, bounds and tags say where a search need not look.
+/// Where no more numbers than this are received, a search looks at the tags of their places first. To look at the tags
+/// of all places is quicker than at those of twice as many.
+const FEW: u32 = 64;
+
+/// The places, of which contracts see the ring alone. The counters, bounds, tags and bits say where a search need not
+/// look.
 #[derive(Drop)]
 pub(crate) struct Places {
     ring: Ring,
@@ -30,6 +36,7 @@ pub(crate) struct Places {
     tags: TagCounts,
     bounds: TagBounds,
     labels: PlaceTags,
+    filled: FilledSlots,
     /// How many places turned, which is the number of the first place. It counts no further than it can.
     turned: u64,
 }
@@ -44,7 +51,7 @@ impl Model for Places {
 
     ghost view = { λ p. p.ring };
 
-    ghost invariant = { λ p. ArePlacesFound p.tags p.bounds p.labels p.turned p.received p.ring.items };
+    ghost invariant = { λ p. ArePlacesFound p.tags p.bounds p.labels p.filled p.turned p.received p.ring.items };
 }
 
 /// So many places, and nothing received.
@@ -62,6 +69,7 @@ pub(crate) fn empty_places(alloc: Global, size: u32) -> Result<Places, AllocErro
         tags,
         bounds,
         labels,
+        filled: FilledSlots::new(),
         turned: 0,
     })
 }
@@ -108,6 +116,7 @@ pub(crate) fn fill(places: &mut Places, k: u32, held: Option<Request>) -> bool
     places.bounds.occupy(&received, number, is_only);
     places.tags.raise(&received);
     places.labels.put(&received, number);
+    places.filled.set(number);
     places.received += 1;
     *place = received;
     true
@@ -136,6 +145,7 @@ pub(crate) fn turn_first(places: &mut Places)
         let first = turn_ring(&mut places.ring);
         places.tags.lower(&first);
         places.received -= count(&first);
+        places.filled.clear(places.turned);
     }
     places.turned = places.turned.saturating_add(1);
 }
@@ -186,7 +196,7 @@ pub(crate) fn holds_from(received: &Received, conn: Option<u16>) -> bool
 }
 
 /// The first of the places below `end` where a SCSI Command with this tag and to this unit is held. It looks at the
-/// bound of the tag's group, and from there on block by block, into none that hasn't the tag.
+/// bound of the tag's group, and from there on word by word of slots, into none that hasn't the tag.
 pub(crate) fn first_command(places: &Places, end: u32, itt: u32, unit: u16) -> Option<u32>
     requires { length places.now.items ≤ 1024 }
     ensures { result ≡ position (is_command itt unit) (take end places.now.items) }
@@ -200,11 +210,18 @@ pub(crate) fn first_command(places: &Places, end: u32, itt: u32, unit: u16) -> O
     if first < end && holds_command_at(places, first, itt, unit) {
         return Some(first);
     }
+    if places.received <= FEW
+        && !places
+            .labels
+            .may_be_filled(&places.filled, places.turned, itt)
+    {
+        return None;
+    }
     let mut k = first;
     while k < end {
         let number = places.turned.saturating_add(k as u64);
-        let count = side_by_side(number, end - k);
-        if places.labels.may_have(number, count, itt) {
+        let count = of_one_word(number, end - k);
+        if places.labels.may_have(number, itt) {
             let found = first_between(places, k, k + count, itt, unit);
             if found.is_some() {
                 return found;

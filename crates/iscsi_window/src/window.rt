@@ -186,10 +186,11 @@ impl Window {
     /// tag and to this unit is held.
     ///
     /// Where no request is held whose tag leaves the same remainder on division by 4,093, it looks at no place, and
-    /// else at none below the first of those requests. From there on it reads the tags of 64 places at a time, and
-    /// looks at each of the 64 where one of them last had the tag, also at places without a request. So one request
-    /// with the tag in each 64 places, none of them a command to this unit, is enough to make it look at all below
-    /// `below`.
+    /// else at none below the first of those requests. Where at most 64 numbers are received and haven't turned, it reads
+    /// the tags of their places before, and ends where none is this one. It goes on by 64 places at a time, reads their
+    /// tags, and looks at each of the 64 where one of them last had the tag, also at places without a request. So one
+    /// request with the tag in each 64 places, none of them a command to this unit, is enough to make it look at all
+    /// below `below`.
     pub fn find_held(&self, itt: u32, unit: u16, below: u32) -> Option<u32>
         ensures answer { result ≡ option_map (number_shown self.now) (find_command self.now itt unit below) }
         ensures answer_since { (h : List Change) → StandsFor self.now h →

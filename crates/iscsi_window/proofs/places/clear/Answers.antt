@@ -8,6 +8,7 @@ use Rattle.std.proofs.lemmas.Option.{slice_get_within, get_or_from_slice_get}
 use Rattle.iscsi_window.proofs.BoundLemmas.{bounds_cleared}
 use Rattle.iscsi_window.proofs.ReceivedLemmas.{one, one_most, received_set}
 use Rattle.iscsi_window.proofs.LabelLemmas.{labels_cleared}
+use Rattle.iscsi_window.proofs.FilledLemmas.{filled_cleared}
 use Rattle.iscsi_window.proofs.places.clear.Goals as goal
 
 pub lower-requires : goal.lower-requires
@@ -25,6 +26,7 @@ invariant_of-places c =
         as_many = let more = received_set c.places.inside.ring.items c.args.k (Some None) within in let before = ap one (get_or_from_slice_get c.places.inside.ring.items c.args.k _ None read) in let counted : c.count.result ≡ one c.in-Some.place.now = c.count.ensures in omega (arith, more, before, counted, one_most c.in-Some.place.now, s.as_many);
       };
       labels = labels_cleared c.places.inside.labels c.places.inside.turned c.places.inside.ring.items c.args.k c.places.invariant.labels s.tags.few within;
+      filled = filled_cleared c.places.inside.filled c.places.inside.turned c.places.inside.ring.items c.args.k c.places.invariant.filled within;
     }
 
 pub returns-in_default : goal.returns-in_default

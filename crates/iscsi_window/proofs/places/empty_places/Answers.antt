@@ -2,6 +2,7 @@ use Rattle.iscsi_window.proofs.TagLemmas.{opened_counted}
 use Rattle.iscsi_window.proofs.BoundLemmas.{opened_bounds}
 use Rattle.iscsi_window.proofs.ReceivedLemmas.{none_received}
 use Rattle.iscsi_window.proofs.LabelLemmas.{opened_labels}
+use Rattle.iscsi_window.proofs.FilledLemmas.{none_filled}
 use Rattle.iscsi_window.proofs.places.empty_places.Goals as goal
 
 pub invariant_of-result : goal.invariant_of-result
@@ -12,4 +13,5 @@ invariant_of-result c = record {
     as_many = rw c.in_ok-ring.ensures (none_received c.args.size);
   };
   labels = rw (c.in_ok-labels.ensures, c.in_ok-ring.ensures) (opened_labels c.args.size);
+  filled = rw (c.new.ensures, c.in_ok-ring.ensures) (none_filled c.args.size);
 }

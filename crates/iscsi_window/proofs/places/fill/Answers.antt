@@ -1,4 +1,4 @@
-use Rattle.std.proofs.Common.{arith, cond, ◌≡◌, ◌∙◌, not, is_some, true, false, Option, Some, None, get_or, ap, sym, refl}
+use Rattle.std.proofs.Common.{arith, cond, min, ◌+◌, ◌-◌, ◌^◌, ◌≡◌, ◌∙◌, not, is_some, true, false, Option, Some, None, get_or, ap, sym, refl}
 use Rattle.std.specs.List.{slice_get}
 use Rattle.std.specs.Option.{option_copied_mut}
 use Rattle.std.proofs.lemmas.Option.{slice_get_within, get_or_from_slice_get}
@@ -8,6 +8,8 @@ use Rattle.iscsi_window.proofs.TagLemmas.{is_few, raised_counted}
 use Rattle.iscsi_window.proofs.BoundLemmas.{bounds_filled}
 use Rattle.iscsi_window.proofs.ReceivedLemmas.{one, received_set}
 use Rattle.iscsi_window.proofs.LabelLemmas.{labels_put}
+use Rattle.iscsi_window.proofs.FilledLemmas.{filled_put}
+use Rattle.iscsi_window.specs.FilledSlots.{IsSlotSet}
 use Rattle.iscsi_window.proofs.places.fill.Goals as goal
 use Rattle.iscsi_window.proofs.places.fill.Goals.{In-Some}
 
@@ -44,6 +46,9 @@ invariant_of-places-2 c =
         as_many = let more = received_set c.places.inside.ring.items c.args.k (Some c.args.held) within in let before = ap one free in omega (arith, more, before, s.as_many);
       };
       labels = rw (c.put.ensures, c.saturating_add-number.ensures) (labels_put c.places.inside.labels c.places.inside.turned c.places.inside.ring.items c.args.k (Some c.args.held) c.places.invariant.labels s.tags.few within);
+      filled =
+          let set : IsSlotSet c.places.inside.filled c.set.new.self (min (c.places.inside.turned + c.args.k) (2 ^ 64 - 1)) 1 = rw c.saturating_add-number.ensures at c.set.ensures in
+          filled_put c.places.inside.filled c.set.new.self c.places.inside.turned c.places.inside.ring.items c.args.k (Some c.args.held) c.places.invariant.filled set s.tags.few within;
     }
 
 pub returns-clause-answer : goal.returns-clause-answer

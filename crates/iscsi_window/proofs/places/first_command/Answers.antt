@@ -5,7 +5,8 @@ use Rattle.circular_buffer.specs.Buffer.{Buffer}
 use Rattle.iscsi_window.specs.Windows.{is_command}
 use Rattle.iscsi_window.proofs.TagLemmas.{none_found}
 use Rattle.iscsi_window.proofs.BoundLemmas.{none_before, found_below, none_below}
-use Rattle.iscsi_window.proofs.LabelLemmas.{untagged, none_between, first_between}
+use Rattle.iscsi_window.proofs.LabelLemmas.{none_between, first_between}
+use Rattle.iscsi_window.proofs.FilledLemmas.{untagged, none_filled_with}
 use Rattle.iscsi_window.proofs.places.first_command.Goals as goal
 use Rattle.iscsi_window.proofs.places.first_command.Goals.{After-min-first, then-may_have+else-is_some, else-may_have}
 
@@ -38,19 +39,19 @@ loop-k-preserved c = λ j below. ⊎_elim
     (λ before. c.loop-k.invariant j before)
     (λ inside. elim c.if-may_have.branch [
       | then-may_have+else-is_some w ↦
-          none_between (is_command c.args.itt c.args.unit) c.args.places.now.items c.loop-k.k (c.loop-k.k + c.side_by_side-count.result) w.first_between-found.result w.first_between-found.ensures (sym w.is_some.ensures ∙ w.if-is_some.false) j inside (omega (arith, below))
+          none_between (is_command c.args.itt c.args.unit) c.args.places.now.items c.loop-k.k (c.loop-k.k + c.of_one_word-count.result) w.first_between-found.result w.first_between-found.ensures (sym w.is_some.ensures ∙ w.if-is_some.false) j inside (omega (arith, below))
       | else-may_have w ↦
           ap (λ b. is_command c.args.itt c.args.unit (get_or b.items j None)) (sym c.places.view_is)
-          ∙ untagged c.places.inside.labels c.places.inside.turned c.places.inside.ring.items c.args.itt c.args.unit c.loop-k.k c.side_by_side-count.result c.saturating_add-number.result j c.places.invariant.labels c.saturating_add-number.ensures
-          (c.may_have.ensures.fits w.if-may_have.false) c.side_by_side-count.ensures.together (c.may_have.ensures.none w.if-may_have.false) inside (omega (arith, below))
+          ∙ untagged c.places.inside.labels c.places.inside.turned c.places.inside.ring.items c.args.itt c.args.unit c.loop-k.k c.of_one_word-count.result c.saturating_add-number.result j c.places.invariant.labels c.saturating_add-number.ensures
+          (c.may_have.ensures.fits w.if-may_have.false) c.of_one_word-count.ensures.together (c.may_have.ensures.none w.if-may_have.false) inside (omega (arith, below))
     ])
     (cases_lt j c.loop-k.k)
 
 pub returns-then-is_some : goal.returns-then-is_some
 returns-then-is_some c =
     let long = ap (λ (b : Buffer (Option (Option Request))). length b.items) c.places.view_is in
-    let to : ℕ = c.loop-k.k + c.side_by_side-count.result in
-    let short : to ≤ c.min-end.result = omega (arith, c.side_by_side-count.ensures.most, c.loop-k-test.true) in
+    let to : ℕ = c.loop-k.k + c.of_one_word-count.result in
+    let short : to ≤ c.min-end.result = omega (arith, c.of_one_word-count.ensures.most, c.loop-k-test.true) in
     first_between (is_command c.args.itt c.args.unit) c.args.places.now.items c.args.end c.loop-k.k to c.first_between-found.result c.first_between-found.ensures (sym c.is_some.ensures ∙ c.if-is_some.true)
     (omega (arith, short, c.min-end.ensures)) (omega (arith, long, short, c.min-end.ensures, c.len.ensures.len)) c.loop-k.invariant
 
@@ -58,3 +59,11 @@ pub returns : goal.returns
 returns c =
     let long = ap (λ (b : Buffer (Option (Option Request))). length b.items) c.places.view_is in
     none_below (is_command c.args.itt c.args.unit) c.args.places.now.items c.args.end None (λ j short within. c.loop-k.invariant j (omega (arith, long, short, within)))
+
+-- no place with a bit has the tag
+pub returns-then-not-may_be_filled : goal.returns-then-not-may_be_filled
+returns-then-not-may_be_filled c =
+    none_below (is_command c.args.itt c.args.unit) c.args.places.now.items c.args.end None (λ j short within.
+    ap (λ b. is_command c.args.itt c.args.unit (get_or b.items j None)) (sym c.places.view_is)
+    ∙ none_filled_with c.places.inside.labels c.places.inside.filled c.places.inside.turned c.places.inside.ring.items c.args.itt c.args.unit j c.places.invariant.labels c.places.invariant.filled
+    (c.may_be_filled.ensures.fits c.if-not-may_be_filled.true) (c.may_be_filled.ensures.none c.if-not-may_be_filled.true) (omega (arith, c.requires, short, within)))

@@ -1,0 +1,159 @@
+-- The bits of the slots stay right where a place is written, and where the first one turns; a search by them.
+use Rattle.std.proofs.Common.{◌^◌, w64, min, ◌≡◌, ◌≢◌, ◌∙◌, ℕ, suc, ◌+◌, ◌-◌, ◌*◌, ◌/◌, ◌%◌, ◌<◌, ◌≤◌, ◌==◌, ◌&&◌, ◌++◌, Bool, true, false, List, [], ◌∷◌, length, take, drop, replicate, set, get_or, Option, Some, None, arith, ap, sym, refl, ⊎_elim, get_or-set_same, get_or-set_other, eq-eqb, eqb-true}
+use Rattle.std.specs.Prelude.{bit_and, bit_or}
+use Rattle.std.specs.Int.{bit_at, bit_not}
+use Rattle.std.specs.List.{list_any}
+use Rattle.std.proofs.lemmas.Bool.{cases_eq, and_parts}
+use Rattle.std.proofs.lemmas.List.{get_or-take, get_or-drop}
+use Rattle.std.proofs.lemmas.List.Folds.{list_any_at}
+use Rattle.std.proofs.lemmas.Nat.{and_le_l}
+use Rattle.std.proofs.lemmas.Nat.Bits.{bit_at_set_same, bit_at_set_other, bit_at_clear_same, bit_at_clear_other}
+use Rattle.iscsi_wire.specs.Fields.{opcode, itt, lun, unit_of}
+use Rattle.iscsi_wire.specs.declared.request.Request.{Request}
+use Rattle.iscsi_window.specs.Windows.{is_unit, is_command}
+use Rattle.iscsi_window.specs.FilledSlots.{slot_bit, IsSlotSet, AreFilled, NoneTagged}
+use Rattle.iscsi_window.specs.PlaceTags.{AreLabelled}
+use Rattle.iscsi_window.proofs.LabelLemmas.{inside, nothing_at, apart, passed}
+
+-- ---- one bit of a word is written
+
+-- two slots of one word have two bits
+two_bits : (n m : ℕ) → n % 1024 ≢ m % 1024 → n % 1024 / 64 ≡ m % 1024 / 64 → n % 64 ≢ m % 64
+two_bits n m ne same both = ne (omega (arith, same, both))
+
+module _ (words : List ℕ) (n x b : ℕ) (long : length words ≡ 16) (here : bit_at x (n % 64) ≡ b)
+    (others : (i : ℕ) → i < 64 → i ≢ n % 64 → bit_at x i ≡ bit_at (get_or words (n % 1024 / 64) 0) i) where
+  -- a word that differs in one bit
+  pub written : IsSlotSet words (set words (n % 1024 / 64) x) n b
+  written = record {
+    here = ap (λ y. bit_at y (n % 64)) (get_or-set_same words (n % 1024 / 64) x 0 (omega (arith, long))) ∙ here;
+    others = λ m ne. ⊎_elim
+        (λ same.
+        ap (λ i. bit_at (get_or (set words (n % 1024 / 64) x) i 0) (m % 64)) same
+        ∙ ap (λ y. bit_at y (m % 64)) (get_or-set_same words (n % 1024 / 64) x 0 (omega (arith, long)))
+        ∙ others (m % 64) (omega arith) (two_bits m n ne same)
+        ∙ ap (λ i. bit_at (get_or words i 0) (m % 64)) (sym same))
+        (λ other. ap (λ y. bit_at y (m % 64)) (get_or-set_other words (n % 1024 / 64) (m % 1024 / 64) x 0 other))
+        (cases_eq (m % 1024 / 64) (n % 1024 / 64));
+  }
+
+pub bit_set : (words : List ℕ) (n : ℕ) → length words ≡ 16 → IsSlotSet words (set words (n % 1024 / 64) (bit_or (get_or words (n % 1024 / 64) 0) (1 * 2 ^ (n % 64) % 2 ^ 64))) n 1
+bit_set words n long =
+    let word : ℕ = get_or words (n % 1024 / 64) 0 in
+    let within : n % 64 < 64 = omega arith in
+    written words n (bit_or word (1 * 2 ^ (n % 64) % 2 ^ 64)) 1 long (bit_at_set_same w64 word (n % 64) within) (λ i small ne. bit_at_set_other w64 word (n % 64) within i ne)
+
+pub bit_cleared : (words : List ℕ) (n : ℕ) → length words ≡ 16 → IsSlotSet words (set words (n % 1024 / 64) (bit_and (get_or words (n % 1024 / 64) 0) (bit_not w64 (1 * 2 ^ (n % 64) % 2 ^ 64)))) n 0
+bit_cleared words n long =
+    let word : ℕ = get_or words (n % 1024 / 64) 0 in
+    let within : n % 64 < 64 = omega arith in
+    written words n (bit_and word (bit_not w64 (1 * 2 ^ (n % 64) % 2 ^ 64))) 0 long (bit_at_clear_same w64 word (n % 64) within) (λ i small ne. bit_at_clear_other w64 word (n % 64) within i small ne)
+
+-- ---- a place is written, or the first one turns
+
+pub none_filled : (size : ℕ) → AreFilled (replicate 16 0) 0 (replicate size None)
+none_filled size = record {
+  marked = λ k r is fits. let none = nothing_at size k in absurd cc;
+}
+
+pub filled_put : (old new : List ℕ) (turned : ℕ) (xs : List (Option (Option Request))) (k : ℕ) (v : Option (Option Request)) → AreFilled old turned xs → IsSlotSet old new (min (turned + k) (2 ^ 64 - 1)) 1 → length xs ≤ 1024 → k < length xs → AreFilled new turned (set xs k v)
+filled_put old new turned xs k v f at few within = record {
+  marked = λ j r is fits. ⊎_elim
+      (λ same.
+      let number : turned + j ≡ min (turned + k) (2 ^ 64 - 1) = omega (arith, same, fits) in
+      ap (slot_bit new) number ∙ at.here)
+      (λ ne.
+      let there : get_or xs j None ≡ Some (Some r) = sym (get_or-set_other xs k j v None ne) ∙ is in
+      at.others (turned + j) (apart turned j k ne (omega (arith, inside xs j (Some r) there, few)) (omega (arith, within, few)) fits) ∙ f.marked j r there fits)
+      (cases_eq j k);
+}
+
+-- a place has no request any more
+pub filled_cleared : (words : List ℕ) (turned : ℕ) (xs : List (Option (Option Request))) (k : ℕ) → AreFilled words turned xs → k < length xs → AreFilled words turned (set xs k (Some None))
+filled_cleared words turned xs k f within = record {
+  marked = λ j r is fits. ⊎_elim
+      (λ same. absurd (let b : Some None ≡ Some (Some r) = sym (get_or-set_same xs k (Some None) None within) ∙ ap (λ i. get_or (set xs k (Some None)) i None) (sym same) ∙ is in cc))
+      (λ ne. f.marked j r (sym (get_or-set_other xs k j (Some None) None ne) ∙ is) fits)
+      (cases_eq j k);
+}
+
+-- the first place turns, whether its bit is cleared or not
+pub filled_passed : (words : List ℕ) (turned : ℕ) (xs : List (Option (Option Request))) → AreFilled words turned xs → AreFilled words (min (turned + 1) (2 ^ 64 - 1)) (drop 1 xs ++ None ∷ [])
+filled_passed words turned xs f = record {
+  marked = λ j r is fits.
+      let number : min (turned + 1) (2 ^ 64 - 1) + j ≡ turned + suc j = omega (arith, fits) in
+      ap (slot_bit words) number ∙ f.marked (suc j) r (sym (passed xs j) ∙ is) (omega (arith, fits, number));
+}
+
+pub filled_turned : (old new : List ℕ) (turned : ℕ) (xs : List (Option (Option Request))) → AreFilled old turned xs → IsSlotSet old new turned 0 → length xs ≤ 1024 → AreFilled new (min (turned + 1) (2 ^ 64 - 1)) (drop 1 xs ++ None ∷ [])
+filled_turned old new turned xs f at few = record {
+  marked = λ j r is fits.
+      let number : min (turned + 1) (2 ^ 64 - 1) + j ≡ turned + suc j = omega (arith, fits) in
+      let there : get_or xs (suc j) None ≡ Some (Some r) = sym (passed xs j) ∙ is in
+      let low : suc j < 1024 = omega (arith, inside xs (suc j) (Some r) there, few) in
+      let other : (turned + suc j) % 1024 ≢ turned % 1024 = λ same. omega (arith, low, same) in
+      ap (slot_bit new) number ∙ at.others (turned + suc j) other ∙ f.marked (suc j) r there (omega (arith, fits, number));
+}
+
+-- ---- a search
+
+-- the tags of a word, read one by one
+pub read_of_word : (tags part : List ℕ) (from : ℕ) → part ≡ take 64 (drop from tags) → (i : ℕ) → i < 64 → get_or part i 0 ≡ get_or tags (from + i) 0
+read_of_word tags part from is i low = ap (λ ts. get_or ts i 0) is ∙ get_or-take 64 (drop from tags) i 0 low ∙ get_or-drop from tags i 0
+
+-- the slot of a place behind another one of its word
+of_one_word : (n d : ℕ) → n % 64 + d < 64 → (n + d) % 1024 ≡ n % 1024 / 64 * 64 + (n + d) % 64
+of_one_word n d low = omega (arith, low)
+
+-- none of them is one that isn't among them
+pub none_of_word : (tags part : List ℕ) (from tag : ℕ) → part ≡ take 64 (drop from tags) → length part ≡ 64 → list_any (λ t. t == tag) part ≡ false → (i : ℕ) → i < 64 → get_or tags (from + i) 0 ≢ tag
+none_of_word tags part from tag is long none i low same =
+    let tagged : get_or part i 0 ≡ tag = read_of_word tags part from is i low ∙ same in
+    let any : list_any (λ t. t == tag) part ≡ true = list_any_at (λ t. t == tag) part i 0 (omega (arith, low, long)) (eq-eqb _ _ tagged) in
+    absurd cc
+
+-- what holds a command with the tag has the tag
+command_tag : (tag unit : ℕ) (x : Option (Option Request)) → ((r : Request) → x ≡ Some (Some r) → itt r ≡ tag → ⊥) → is_command tag unit x ≡ false
+command_tag tag unit None other = refl
+command_tag tag unit (Some None) other = refl
+command_tag tag unit (Some (Some r)) other = by_test (is_command tag unit (Some (Some r))) refl
+  where
+    by_test : (b : Bool) → is_command tag unit (Some (Some r)) ≡ b → b ≡ false
+    by_test false test = refl
+    by_test true test =
+        let parts = and_parts (opcode r == 1 && itt r == tag) (is_unit unit (unit_of (lun r))) test in
+        let named : (itt r == tag) ≡ true = (and_parts (opcode r == 1) (itt r == tag) parts.0).1 in
+        absurd (other r refl (eqb-true (itt r) tag named))
+
+-- no command with the tag is held where no slot with a bit has it
+pub none_filled_with : (tags words : List ℕ) (turned : ℕ) (xs : List (Option (Option Request))) (tag unit j : ℕ) → AreLabelled tags turned xs → AreFilled words turned xs → turned ≤ 2 ^ 64 - 2049 → NoneTagged tags words tag → j < 1024 → is_command tag unit (get_or xs j None) ≡ false
+none_filled_with tags words turned xs tag unit j l f fits none low =
+    let short : turned + j < 2 ^ 64 - 1 = omega (arith, fits, low) in
+    command_tag tag unit (get_or xs j None) (λ r held same. none (turned + j) (f.marked j r held short) (l.named j r held short ∙ same))
+
+-- no command with the tag is held at places of a word none of whose slots has it
+pub untagged : (tags : List ℕ) (turned : ℕ) (xs : List (Option (Option Request))) (tag unit k count number j : ℕ) → AreLabelled tags turned xs → number ≡ min (turned + k) (2 ^ 64 - 1) → number ≤ 2 ^ 64 - 2049 → number % 64 + count ≤ 64
+    → ((i : ℕ) → i < 64 → get_or tags (number % 1024 / 64 * 64 + i) 0 ≢ tag) → k ≤ j → j < k + count → is_command tag unit (get_or xs j None) ≡ false
+untagged tags turned xs tag unit k count number j l is fits together none low high =
+    let at : turned + j ≡ number + (j - k) = omega (arith, is, fits, low) in
+    let short : turned + j < 2 ^ 64 - 1 = omega (arith, is, fits, together, low, high) in
+    let slot : (number + (j - k)) % 1024 ≡ number % 1024 / 64 * 64 + (number + (j - k)) % 64 = of_one_word number (j - k) (omega (arith, together, low, high)) in
+    command_tag tag unit (get_or xs j None) (λ r held same.
+    none ((number + (j - k)) % 64) (omega arith)
+    (ap (λ s. get_or tags s 0) (sym slot) ∙ ap (λ n. get_or tags (n % 1024) 0) (sym at) ∙ l.named j r held short ∙ same))
+
+-- ---- the bits of a word, from the lowest on
+
+-- to clear a bit that is set makes the word smaller, and leaves the other bits
+pub bit_taken : (word k : ℕ) → k < 64 → bit_at word k ≡ 1
+    → let left = bit_and word (bit_not w64 (1 * 2 ^ k % 2 ^ 64)) in
+    (left < word) × ((j : ℕ) → j < 64 → j ≢ k → bit_at left j ≡ bit_at word j)
+bit_taken word k within one =
+    let left : ℕ = bit_and word (bit_not w64 (1 * 2 ^ k % 2 ^ 64)) in
+    let gone : bit_at left k ≡ 0 = bit_at_clear_same w64 word k within in (
+      ⊎_elim
+          (λ same. absurd (let both : bit_at left k ≡ bit_at word k = ap (λ x. bit_at x k) same in omega (arith, both, gone, one)))
+          (λ other. omega (arith, other, and_le_l word (bit_not w64 (1 * 2 ^ k % 2 ^ 64))))
+          (cases_eq left word),
+      λ j small other. bit_at_clear_other w64 word k within j small other,
+    )
