@@ -9,6 +9,7 @@ ghost use Rattle.iscsi_session.specs.private.Turning.{waiting_in};
 use crate::session::logout::is_of;
 use iscsi_wire::Request;
 use std::alloc::Global;
+use std::collections::VecDeque;
 use std::marker::Model;
 
 /// The most functions of a connection that wait.
@@ -28,23 +29,24 @@ pub(crate) struct Waiting {
 /// The functions that wait, in the order of their arrival.
 ///
 /// Nearly all numbers turn without one that waits for them, so the lowest turn is kept beside them: as long as it isn't
-/// reached, none is looked at.
+/// reached, none is looked at. Those that wait for one number are mostly the first ones, and a first one is taken out
+/// of a deque without a move of the others.
 #[derive(Drop)]
 pub(crate) struct Waitlist {
-    functions: Vec<Waiting>,
+    functions: VecDeque<Waiting>,
     /// No function waits for a turn below this one.
     next_turn: u64,
 }
 
 impl Model for Waitlist {
-    ghost use Rattle.std.specs.Prelude.{vec_capacity};
+    ghost use Rattle.std.specs.VecDeque.{deque_capacity};
     ghost use Rattle.iscsi_slots.specs.Queued.{Queued, queued};
     ghost use Rattle.iscsi_session.specs.declared.session.waiting.Waiting.{Waiting};
     ghost use Rattle.iscsi_session.specs.private.Invariant.{IsWaitlistSound};
 
     ghost Value = { Queued Waiting };
 
-    ghost view = { λ w. queued w.functions.items (vec_capacity w.functions) };
+    ghost view = { λ w. queued w.functions.items (deque_capacity w.functions) };
 
     ghost invariant = { λ w. IsWaitlistSound w.functions.items w.next_turn };
 }
@@ -55,7 +57,7 @@ impl Waitlist {
         ensures { IfSome result (λ w. w ≡ queued [] room) }
     {
         Some(Waitlist {
-            functions: Vec::with_capacity(alloc, room).ok()?,
+            functions: VecDeque::with_capacity(alloc, room).ok()?,
             next_turn: u64::MAX,
         })
     }
@@ -71,10 +73,8 @@ impl Waitlist {
     pub(crate) fn count_on(&self, conn: u16) -> usize
         ensures { result ≡ waiting_in self.now.items conn }
     {
-        self.functions
-            .iter()
-            .filter(|function| function.request.conn() == conn)
-            .count()
+        let (front, back) = self.functions.as_slices();
+        count_among(front, conn) + count_among(back, conn)
     }
 
     /// Whether a function waits for this turn.
@@ -92,7 +92,7 @@ impl Waitlist {
         ensures { self.new ≡ queued (self.old.items ++ function ∷ []) self.old.room }
     {
         self.next_turn = self.next_turn.min(function.turn);
-        self.functions.push_reserved(function);
+        self.functions.push_back_reserved(function);
     }
 
     /// Takes out the first function that waits for this turn.
@@ -102,7 +102,7 @@ impl Waitlist {
             (λ w. self.new ≡ queued (filter (λ v. not (v.event == w.event)) self.old.items) self.old.room) }
     {
         if let Some(at) = place_at(&self.functions, turn) {
-            return Some(self.functions.remove(at));
+            return self.functions.remove(at);
         }
         self.next_turn = lowest_turn(&self.functions);
         None
@@ -127,15 +127,33 @@ impl Waitlist {
     }
 }
 
+/// How many of these functions are of a connection.
+fn count_among(waiting: &[Waiting], conn: u16) -> usize
+    ensures { result ≡ waiting_in waiting.now conn }
+{
+    waiting
+        .iter()
+        .filter(|function| function.request.conn() == conn)
+        .count()
+}
+
 /// The place of the first function that waits for this turn.
-fn place_at(waiting: &[Waiting], turn: u64) -> Option<usize>
-    ensures { result ≡ position (λ w. w.turn == turn) waiting.now }
+fn place_at(waiting: &VecDeque<Waiting>, turn: u64) -> Option<usize>
+    ensures { result ≡ position (λ w. w.turn == turn) waiting.now.items }
 {
     waiting.iter().position(|function| function.turn == turn)
 }
 
 /// The lowest turn that one of these functions waits for. The greatest number where there is none.
-fn lowest_turn(waiting: &[Waiting]) -> u64
+fn lowest_turn(waiting: &VecDeque<Waiting>) -> u64
+    ensures { All (λ w. result ≤ w.turn) waiting.now.items }
+{
+    let (front, back) = waiting.as_slices();
+    lowest_among(front).min(lowest_among(back))
+}
+
+/// The lowest turn that one of a slice waits for. The greatest number where there is none.
+fn lowest_among(waiting: &[Waiting]) -> u64
     ensures { All (λ w. result ≤ w.turn) waiting.now }
 {
     let mut lowest = u64::MAX;

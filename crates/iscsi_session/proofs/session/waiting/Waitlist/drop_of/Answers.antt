@@ -1,4 +1,4 @@
-use Rattle.std.proofs.Common.{rules, ◌≡◌, ◌<◌, ◌≤◌, filter, not, All}
+use Rattle.std.proofs.Common.{rules, ◌≡◌, ◌<◌, filter, not}
 use Rattle.std.proofs.lemmas.Fn.{filter_same}
 use Rattle.std.proofs.lemmas.List.Kept.{AllPairs-filter}
 use Rattle.iscsi_wire.specs.Fields.{connection_of}
@@ -14,7 +14,7 @@ pub invariant_of-self : goal.invariant_of-self
 invariant_of-self c =
     let here = rest (goal.at.invariant_of-self c).After-retain in
     record {
-      none_before = let low : All (λ w. c.lowest_turn-self-inside.result ≤ w.turn) c.deref.result.now = c.lowest_turn-self-inside.ensures in rw c.deref.ensures.value at low;
+      none_before = c.lowest_turn-self-inside.ensures;
       in_order = rw here (AllPairs-filter (λ (a b : Waiting). a.event < b.event) (λ w. not (is_asked c.args.scope (connection_of w.request))) c.self.inside.functions.items c.self.invariant.in_order);
     }
 
