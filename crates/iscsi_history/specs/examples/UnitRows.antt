@@ -1,5 +1,5 @@
 -- Worked recordings: several units in one item, units ascending.
-use Rattle.std.specs.Prelude.{◌≡◌, ℕ, [], ◌∷◌, refl}
+use Rattle.std.specs.Prelude.{ℕ, [], ◌∷◌, refl}
 use Rattle.iscsi_wire.specs.declared.reply.Reply.TheVariants.{Logout}
 use Rattle.iscsi_tasks.specs.declared.task.Attr.TheVariants.{Simple, Ordered}
 use Rattle.iscsi_tasks.specs.Rules as Rules

@@ -1,6 +1,6 @@
 -- When a session stands for a list of events.
-use Rattle.std.specs.Prelude.{◌≡◌, ℕ, pos, ◌-ℤ◌, ◌+◌, ◌*◌, ◌<◌, ◌≤◌, ◌==◌, ◌&&◌, not, Bool, true, false, List, [], ◌∷◌, length, map, filter, nat_lt, nat_le, Option, Some, None, option_map, is_some, count_by, slice_index_or, if◌then◌else◌}
-use Rattle.std.specs.List.{list_all, range_with_len}
+use Rattle.std.specs.Prelude.{◌≡◌, ℕ, pos, ◌-ℤ◌, ◌+◌, ◌<◌, ◌≤◌, ◌==◌, ◌&&◌, not, Bool, true, false, List, [], ◌∷◌, length, map, filter, nat_lt, nat_le, Option, Some, None, option_map, slice_index_or, if◌then◌else◌}
+use Rattle.std.specs.List.{list_all}
 use Rattle.iscsi_wire.specs.declared.request.Request.{Request}
 use Rattle.iscsi_wire.specs.Serial.{wire, number_of_first}
 use Rattle.iscsi_wire.specs.Fields.{connection_of, is_immediate, itt, cmd_sn}
@@ -13,7 +13,7 @@ use Rattle.iscsi_commands.specs.declared.live.Live.{Live}
 use Rattle.iscsi_session.specs.declared.session.waiting.Waiting.{Waiting}
 use Rattle.iscsi_history.specs.rules.Settings.{Setting, is_known}
 use Rattle.iscsi_history.specs.rules.Trace.{Arrival, Command, Trace, has, shown, waiting, held, admitted, is_received, is_delivered, is_emptied, entered, live, live_in, was_free, is_among, leaves_ticket, are_apart}
-use Rattle.iscsi_history.specs.rules.Execution.{exp_of, unfinished}
+use Rattle.iscsi_history.specs.rules.Execution.{unfinished}
 use Rattle.iscsi_history.specs.rules.Management.{may_wait}
 use Rattle.iscsi_history.specs.rules.Logout.{is_open}
 use Rattle.iscsi_history.specs.rules.Agenda.{belongs}
