@@ -23,13 +23,19 @@ use std::alloc::Global;
 /// A session on the side of C or plain Rust: closed, or the owner of a host. In a clause `inside` is the host, if it
 /// is open.
 ///
-/// It begins as zeros, and a foreign caller never writes nor copies its fields.
+/// It begins as zeros, and a foreign caller never writes nor copies its fields. A Rattle caller may let it go: its drop
+/// closes it.
 #[repr(C)]
-#[derive(Drop)]
 pub struct Handle {
     is_open: bool,
     owner: Owner,
     pub ghost sound: { is_open ≡ is_some owner.host },
+}
+
+impl Drop for Handle {
+    fn drop(self) {
+        drop(self.into_host());
+    }
 }
 
 impl Handle {
@@ -194,10 +200,18 @@ impl Handle {
         ensures closed { inside self.new ≡ None }
         ensures host { option_map (λ b. b.value) result ≡ inside self.old }
     {
-        let Handle { is_open, owner } = std::mem::replace(self, Handle::closed(alloc));
+        std::mem::replace(self, Handle::closed(alloc)).into_host()
+    }
+
+    /// The host, if the handle is open.
+    fn into_host(self) -> Option<Box<Host>>
+        ensures { option_map (λ b. b.value) result ≡ inside self }
+    {
+        let Handle { is_open, owner } = self;
         if is_open {
             Some(owner.into_parts().into_box())
         } else {
+            owner.end();
             None
         }
     }

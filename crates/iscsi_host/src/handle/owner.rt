@@ -10,8 +10,9 @@ use std::alloc::Global;
 use std::marker::Model;
 
 /// A pointer that owns the box of a host, or nothing.
+///
+/// It can't be let go, so that no host is lost: an owner of a host is taken apart, one of nothing is ended.
 #[repr(C)]
-#[derive(Drop)]
 pub(super) struct Owner {
     at: *mut u8,
     alloc: Global,
@@ -42,6 +43,13 @@ impl Owner {
             at: pointer as *mut u8,
             alloc,
         }
+    }
+
+    /// Ends an owner of nothing.
+    pub(super) fn end(self)
+        requires { self.host ≡ None }
+    {
+        let Owner { at: _, alloc: _ } = self;
     }
 
     /// The parts of what it owns.
