@@ -1,5 +1,5 @@
 -- What serve says.
-use Rattle.std.specs.Prelude.{◌≡◌, ℕ, ◌<◌, ◌≤◌, true, List, [], ◌++◌, length, map, slice_index, slice_index_or, Vec, Option, vec_capacity}
+use Rattle.std.specs.Prelude.{◌≡◌, ℕ, ◌<◌, ◌≤◌, Bool, true, false, IsTrue, List, [], ◌++◌, length, map, slice_index, slice_index_or, Vec, vec_capacity, ⊤}
 use Rattle.std.specs.declared.alloc.Global.{Global}
 use mathlib.Core.List.{IsPrefix}
 use Rattle.iscsi_history.specs.declared.event.Event.{Event}
@@ -12,7 +12,12 @@ use Rattle.iscsi_threads.specs.declared.session_loop.Loop.{Loop}
 use Rattle.iscsi_threads.specs.declared.finish.Ended.{Ended}
 use Rattle.iscsi_threads.specs.declared.finish.Outcome.{Outcome}
 use Rattle.iscsi_threads.specs.declared.serving.Rooms.{Rooms}
+use Rattle.iscsi_threads.specs.declared.serving.End.{End}
+use Rattle.iscsi_threads.specs.declared.serving.End.TheVariants.{Quiet, Full}
+use Rattle.iscsi_threads.specs.declared.serving.Progress.{Progress}
+use Rattle.iscsi_threads.specs.declared.serving.Progress.TheVariants as progress
 use Rattle.std.specs.declared.thread.PromisedHandle.{PromisedHandle}
+use Rattle.iscsi_threads.specs.declared.posting.Posted.{Posted}
 use Rattle.iscsi_threads.specs.declared.posting.Posts.{Posts}
 use Rattle.iscsi_threads.specs.Promises.{AllPostedOn}
 use Rattle.iscsi_threads.specs.Ports.{Answer, posted, port_ring}
@@ -20,7 +25,7 @@ use Rattle.iscsi_threads.specs.Outlets.{got}
 use Rattle.iscsi_threads.specs.Loops.{journal, setting, Belong}
 use Rattle.iscsi_threads.specs.Journal.{cids_of, part, done, are_sources}
 use Rattle.iscsi_threads.specs.Jobs.{jobs, GivesJobs}
-use Rattle.iscsi_threads.specs.Outcomes.{ticket_of}
+use Rattle.iscsi_threads.specs.Outcomes.{ticket_of, EndedAs}
 use Rattle.iscsi_threads.specs.Works.{ticket_answered, InTurn}
 
 -- the unit's worker took the first of its jobs, and the rest is untaken; it answered the first of those that it took, in their order
@@ -60,23 +65,61 @@ pub record IsQuiet (l : Loop) (ports : List Port) : Type 0 where
   pub all_taken : map posted ports ≡ map got l.inlets.items
   pub ended : live (trace_of (setting l) (journal l)) ≡ []
 
--- the posters gave their ports back, on which the loop alone has turned since
-pub record CameBack (posts : List (PromisedHandle (Option Port) Posts)) (many : ℕ) (ports : List Port) : Type 0 where
+-- the journal has as many events as the options allow
+abbrev pub IsFull : Loop → Type 0
+IsFull l = (setting l).events ≤ length (journal l)
+
+-- the journal has room for one event more
+abbrev pub HasRoom : Loop → Type 0
+HasRoom l = length (journal l) < (setting l).events
+
+-- what a turn comes to, which left this loop
+abbrev pub ComesTo : Progress → Loop → Type 0
+ComesTo progress.Took l = ⊤
+ComesTo progress.Idle l = HasRoom l
+ComesTo progress.Full l = IsFull l
+
+-- the journal is full, unless every list was posted
+abbrev pub IsFullUnless : Bool → Loop → Type 0
+IsFullUnless true l = ⊤
+IsFullUnless false l = IsFull l
+
+-- the turns ended so
+abbrev pub IsEnd : End → Loop → List Port → Type 0
+IsEnd Quiet l ports = IsQuiet l ports × HasRoom l
+IsEnd Full l ports = IsFull l
+
+abbrev pub is_quiet : End → Bool
+is_quiet Quiet = true
+is_quiet Full = false
+
+-- the posters gave their ports back, on which the loop alone has turned since; at a quiet end each list was posted whole
+pub record CameBack (posts : List (PromisedHandle Posted Posts)) (many : ℕ) (ports : List Port) (end : End) : Type 0 where
   pub joined : List Port
   pub len : length joined ≡ many
-  pub kept : AllPostedOn posts joined many
+  pub kept : AllPostedOn posts joined (is_quiet end) many
   pub rings : map port_ring ports ≡ map port_ring joined
   pub posted_are : map posted ports ≡ map posted joined
 
--- the threads ran to their end: the loop, its ports and its unit ports are together again
-pub record Ran (o : Setting) (lists : List (Vec (List ℕ) Global)) (l : Loop) (ports : List Port) (units : List UnitPort) : Type 0 where
+-- the threads have ended: the loop, its ports and its unit ports are together again
+pub record Together (o : Setting) (lists : List (Vec (List ℕ) Global)) (l : Loop) (ports : List Port) (units : List UnitPort) (end : End) : Type 0 where
   pub setting_is : setting l ≡ o
   pub belong : Belong l ports units
   pub ports_len : length ports ≡ length lists
   pub units_len : length units ≡ o.units
-  pub posted_are : (i : ℕ) (p : Port) (x : Vec (List ℕ) Global) → i < length lists → posted (slice_index_or ports i p) ≡ (slice_index_or lists i x).items
-  pub quiet : IsQuiet l ports
+  -- a front of each list was posted, and at a quiet end the whole of it
+  pub fronts : (i : ℕ) (p : Port) (x : Vec (List ℕ) Global) → i < length lists → IsPrefix (posted (slice_index_or ports i p)) (slice_index_or lists i x).items
+  pub posted_are : IsTrue (is_quiet end) → (i : ℕ) (p : Port) (x : Vec (List ℕ) Global) → i < length lists → posted (slice_index_or ports i p) ≡ (slice_index_or lists i x).items
+  pub ended : IsEnd end l ports
   pub in_turn : (i : ℕ) (q : UnitPort) → i < length units → InTurn (slice_index_or units i q)
+
+-- they ran to a quiet end
+abbrev pub Ran : Setting → List (Vec (List ℕ) Global) → Loop → List Port → List UnitPort → Type 0
+Ran o lists l ports units = Together o lists l ports units Quiet
+
+-- the rings were emptied, and each is accounted for
+abbrev pub Emptied : Loop → List Port → List UnitPort → Type 0
+Emptied l ports units = (e : Ended) × EndedAs l ports units e
 
 -- all rooms are empty, and have so many places
 pub record HasRooms (r : Rooms) (conns units : ℕ) : Type 0 where

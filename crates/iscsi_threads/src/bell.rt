@@ -1,5 +1,5 @@
-//! Which rings to look at. No clause rests on it: a bell that never rang would leave items in their rings, and tests
-//! show that none does.
+//! Which rings to look at. No clause rests on it: an item whose bell was lost waits until the loop looks at its ring
+//! all the same, as it does after a nap and in turn where it is idle (`Watch`).
 
 ghost use Rattle.std.specs.Prelude.{◌<◌, ◌≤◌, IfSome};
 

@@ -21,6 +21,8 @@ pub(crate) struct Watch {
     pub(crate) crowded: Marks,
     /// The units that were given a job since the last wake-up, from 0.
     pub(crate) supplied: Marks,
+    /// How many rings `look_further` has marked, connections first, since it began anew.
+    further: usize,
 }
 
 impl Watch {
@@ -30,6 +32,35 @@ impl Watch {
             rung: Marks::new(),
             crowded: Marks::new(),
             supplied: Marks::new(),
+            further: 0,
+        }
+    }
+
+    /// Marks every ring of so many connections and units.
+    pub(crate) fn look_everywhere(&mut self, conns: usize, units: usize)
+        requires { (conns ≤ 64) × (units ≤ 256) }
+    {
+        for conn in 0..conns {
+            self.rung.set(conn);
+        }
+        for unit in 0..units {
+            self.rung.set(FIRST_UNIT + unit);
+        }
+    }
+
+    /// Marks one ring more of so many connections and units, in turn, and once in a round none.
+    pub(crate) fn look_further(&mut self, conns: usize, units: usize)
+        requires { (conns ≤ 64) × (units ≤ 256) }
+    {
+        let at = self.further;
+        if at < conns {
+            self.rung.set(at);
+            self.further = at + 1;
+        } else if at < conns + units {
+            self.rung.set(FIRST_UNIT + (at - conns));
+            self.further = at + 1;
+        } else {
+            self.further = 0;
         }
     }
 
@@ -142,7 +173,7 @@ pub(crate) fn spread(
 }
 
 /// Takes the first item that waits, looked for from the ring `next` on. It writes the event, and answers the place of
-/// its port or unit port; `next` is then the ring after the one that was served.
+/// its port or unit port; `next` is then the ring after the one that was served. Where nothing waits, it stays.
 ///
 /// The event is written where the turn reads it: one that is handed on is copied in pieces that wait for one another.
 pub(crate) fn poll(
@@ -164,11 +195,13 @@ pub(crate) fn poll(
         × (map outlet_rings outlets.new.items ≡ map outlet_rings outlets.old.items) }
     ensures len { (vec_len inlets.new ≡ vec_len inlets.old) × (vec_len outlets.new ≡ vec_len outlets.old) }
 {
+    let mut first = *next;
     for _ in 0..=MOST_RINGS {
-        let at = rung.next_around(*next)?;
-        *next = at + 1;
+        let at = rung.next_around(first)?;
+        first = at + 1;
         if at < inlets.len() {
             if let Some(header) = hear_inlet(inlets, at) {
+                *next = first;
                 let conn = conns[at].0;
                 *event = Event::Arrive { conn, header };
                 return Some(at as u16);
@@ -176,6 +209,7 @@ pub(crate) fn poll(
         } else if at >= FIRST_UNIT && at - FIRST_UNIT < outlets.len() {
             let unit = at - FIRST_UNIT;
             if let Some((ticket, status)) = hear_outlet(outlets, unit) {
+                *next = first;
                 *event = Event::Done { ticket, status };
                 return Some(unit as u16);
             }

@@ -10,6 +10,7 @@ mod desk;
 mod ends;
 mod fault;
 mod finish;
+mod halt;
 mod inlet;
 mod job;
 mod opening;

@@ -59,6 +59,10 @@ impl Loop {
     /// Moves jobs into their rings, and takes at most one item, from the ring after the one last served on. The event
     /// goes to the journal, and its effects behind those in `out`.
     ///
+    /// A turn looks at the rings that were marked as something was put into them, and where none of them has an item it
+    /// is idle. It then marks one ring more, each in its turn, for the next turn to look at. So an item whose mark was
+    /// lost is found after as many idle turns as there are rings, and one more.
+    ///
     /// `Exhausted` where the journal has as many events as the options allow, whether an item waits or not; then
     /// `NoMemory`. A refused turn takes nothing.
     pub fn turn(&mut self, out: &mut Vec<Effect>) -> Result<Turn, LoopFault>
@@ -99,6 +103,8 @@ impl Loop {
             &mut self.next,
             &mut event,
         ) else {
+            self.watch
+                .look_further(self.inlets.len(), self.outlets.len());
             return Ok(Turn::Idle);
         };
         let before = out.len();

@@ -52,18 +52,21 @@ impl<'a> Rest<'a> {
         }
     }
 
-    /// There was nothing to do. The caller looks again after this call.
-    pub(crate) fn pause<R: Wait>(&mut self, rt: &R) {
+    /// There was nothing to do. The caller looks again after this call. Whether it slept meanwhile.
+    pub(crate) fn pause<R: Wait>(&mut self, rt: &R) -> bool {
         if !self.backoff.is_completed() {
             self.backoff.snooze();
-        } else if self.has_said {
-            self.waiter
-                .parker
-                .park_timeout(rt, Duration::from_secs(NAP_SECONDS));
-        } else {
+            return false;
+        }
+        if !self.has_said {
             self.has_said = true;
             self.waiter.is_asleep.store(true, Ordering::SeqCst);
+            return false;
         }
+        self.waiter
+            .parker
+            .park_timeout(rt, Duration::from_secs(NAP_SECONDS));
+        true
     }
 
     /// There was something to do.

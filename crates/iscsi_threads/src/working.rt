@@ -1,10 +1,11 @@
 //! The workers of the units.
 
-ghost use Rattle.std.specs.Prelude.{◌≡◌, ◌≤◌, ◌<◌, ◌++◌, ◌∷◌, [], ℕ, IsTrue, length, vec_len, vec_capacity, slice_index_or, false};
+ghost use Rattle.std.specs.Prelude.{◌≡◌, ◌≤◌, ◌<◌, ◌++◌, ◌∷◌, [], ℕ, IsTrue, OnOk, length, vec_len, vec_capacity, slice_index_or, false};
 ghost use Rattle.iscsi_threads.specs.Ports.{taken, answered, unit_rings};
 ghost use Rattle.iscsi_threads.specs.Works.{InTurn, AllAnswered};
 ghost use Rattle.iscsi_threads.specs.Promises.{AllWorks, AllWorkedOn};
 
+use crate::halt::ThreadLost;
 use crate::job::Job;
 use crate::port::UnitPort;
 use crate::shared::Shared;
@@ -35,7 +36,7 @@ impl Promise<UnitPort> for Works {
     ghost kept_by = { λ p r. (unit_rings r ≡ unit_rings p.port.value) × InTurn r };
 }
 
-/// Starts a worker for each unit port. Whether all were started.
+/// Starts a worker for each unit port.
 pub(crate) fn start_works<'s, E, R: Wait + Sync, W: UnitWork + Sync>(
     rt: &'s R,
     scope: &Scope<'s, E>,
@@ -43,12 +44,12 @@ pub(crate) fn start_works<'s, E, R: Wait + Sync, W: UnitWork + Sync>(
     work: &'s W,
     shared: &'s Shared,
     handles: &mut Vec<PromisedHandle<UnitPort, Works>>,
-) -> bool
+) -> Result<(), ThreadLost>
     requires few { vec_len ports ≤ 256 }
     requires fresh { (i : ℕ) (d : _) → i < vec_len ports → AllAnswered (slice_index_or ports.items i d) }
     requires room { (handles.old.items ≡ []) × (vec_len ports ≤ vec_capacity handles.old) }
-    ensures { IsTrue result → (vec_len handles.new ≡ vec_len ports)
-        × AllWorks handles.new.items ports.items (vec_len ports) }
+    ensures { OnOk result ((vec_len handles.new ≡ vec_len ports)
+        × AllWorks handles.new.items ports.items (vec_len ports)) }
 {
     let mut unit: u16 = 0;
     for port in ports {
@@ -62,14 +63,14 @@ pub(crate) fn start_works<'s, E, R: Wait + Sync, W: UnitWork + Sync>(
             { work_all(rt, port, unit, work, shared) },
         );
         let Ok(handle) = started else {
-            return false;
+            return Err(ThreadLost::Refused);
         };
         let Ok(()) = handles.push(handle) else {
             unreachable!()
         };
         unit += 1;
     }
-    true
+    Ok(())
 }
 
 /// Joins the workers, and gives their unit ports back in order.

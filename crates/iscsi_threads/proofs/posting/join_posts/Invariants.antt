@@ -8,5 +8,5 @@ invariant-loop-handle g l = record {
   rest : into_iter_items l.handle-iterator ≡ drop (vec_len l.ports) l.fn.handles.items;
   left : vec_len l.ports + into_iter_len l.handle-iterator ≡ vec_len l.fn.handles;
   room : vec_len l.fn.handles ≤ vec_capacity l.ports;
-  done : AllPostedOn l.fn.handles.items l.ports.items (vec_len l.ports);
+  done : AllPostedOn l.fn.handles.items l.ports.items l.are_whole (vec_len l.ports);
 }

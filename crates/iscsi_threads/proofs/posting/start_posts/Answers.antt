@@ -1,10 +1,10 @@
 use Rattle.std.proofs.Common.{refl, ◌≡◌, ℕ, List, ◌<◌, ◌∙◌, ◌∷◌, ap, sym, drop, get_or, below_more, rules, arith, length, vec_len, Vec}
-use Rattle.std.specs.Prelude.{Option}
 use Rattle.std.proofs.lemmas.List.{get_or_default}
 use Rattle.std.specs.Vec.Iter.{into_iter_items}
 use Rattle.std.specs.declared.alloc.Global.{Global}
 use Rattle.std.specs.declared.thread.PromisedHandle.{PromisedHandle}
 use Rattle.iscsi_threads.specs.declared.port.Port.{Port}
+use Rattle.iscsi_threads.specs.declared.posting.Posted.{Posted}
 use Rattle.iscsi_threads.specs.declared.posting.Posts.{Posts}
 use Rattle.iscsi_threads.proofs.Steps.{next_of, rest_of}
 use Rattle.iscsi_threads.proofs.posting.start_posts.Goals as goal
@@ -22,7 +22,7 @@ loop-port-preserved g c =
       rest = rest_of xs i _ _ next;
       left = search rules;
       room = search rules;
-      started = λ k h p l lo. below_more (λ (j : ℕ). (h' : PromisedHandle (Option Port) Posts) (p' : Port) (l' : Vec (List ℕ) Global) →
+      started = λ k h p l lo. below_more (λ (j : ℕ). (h' : PromisedHandle Posted Posts) (p' : Port) (l' : Vec (List ℕ) Global) →
           ((get_or hs j h').promise.port.value ≡ get_or xs j p') × ((get_or hs j h').promise.list.now ≡ (get_or ls j l').items)) i
           (λ j lo' h' p' l'. let at : get_or hs j h' ≡ _ = e.by_index.0 j h' (omega arith) in rw at (v.started j h' p' l' lo'))
           (λ h' p' l'.
@@ -36,7 +36,7 @@ loop-port-preserved g c =
     }
 
 pub returns : goal.returns
-returns g c = λ yes.
+returns g c =
     let v = c.loop-port.invariant in
     let last : c.loop-port.i ≡ vec_len c.args.ports = omega (arith, c.in-None.ensures.steps.0, v.left) in
     (v.count ∙ last, rw (← last) v.started)
