@@ -221,10 +221,19 @@ impl Handle {
         requires closed { inside self.old ≡ None }
         ensures host { inside self.new ≡ Some host.value }
     {
-        *self = Handle {
+        let whole = Handle {
             is_open: true,
             owner: Owner::of_parts(Parts::of(host)),
         };
+        std::mem::replace(self, whole).end();
+    }
+
+    /// Ends a closed handle. Unlike its drop, this needn't ask whether there is a host to free.
+    fn end(self)
+        requires closed { inside self ≡ None }
+    {
+        let Handle { is_open: _, owner } = self;
+        owner.end();
     }
 }
 
