@@ -5,6 +5,7 @@ use mathlib.Core.List.{IsPrefix}
 use Rattle.iscsi_history.specs.declared.event.Event.{Event}
 use Rattle.iscsi_history.specs.rules.Settings.{Setting}
 use Rattle.iscsi_history.specs.rules.Run.{run_of}
+use Rattle.iscsi_history.specs.promises.Promises.{KeepsPromises}
 use Rattle.iscsi_threads.specs.declared.job.Job.{Job}
 use Rattle.iscsi_threads.specs.declared.port.Port.{Port}
 use Rattle.iscsi_threads.specs.declared.port.UnitPort.{UnitPort}
@@ -55,9 +56,10 @@ pub record EndedAs (l : Loop) (ports : List Port) (units : List UnitPort) (e : E
   pub sources_are : e.from.items ≡ sources l
   pub accounted : Accounted l ports units e.left.items e.untaken.items e.unread.items
 
--- the journal is that of the loop's turns, the log is that of the journal, and each ring is accounted for
+-- the journal is that of the loop's turns, the log is that of the journal and keeps all promises, and each ring is accounted for
 pub record Finished (l : Loop) (ports : List Port) (units : List UnitPort) (x : Outcome) : Type 0 where
   pub journal_is : x.journal.items ≡ journal l
   pub sources_are : x.from.items ≡ sources l
   pub log_is : x.log.items ≡ run_of (setting l) (journal l)
+  pub keeps : KeepsPromises (setting l) (journal l) x.log.items
   pub accounted : Accounted l ports units x.left.items x.untaken.items x.unread.items

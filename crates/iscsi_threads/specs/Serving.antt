@@ -6,6 +6,7 @@ use Rattle.iscsi_history.specs.declared.event.Event.{Event}
 use Rattle.iscsi_history.specs.rules.Settings.{Setting}
 use Rattle.iscsi_history.specs.rules.Trace.{live}
 use Rattle.iscsi_history.specs.rules.Run.{run_of, trace_of}
+use Rattle.iscsi_history.specs.promises.Promises.{KeepsPromises}
 use Rattle.iscsi_threads.specs.declared.port.Port.{Port}
 use Rattle.iscsi_threads.specs.declared.port.UnitPort.{UnitPort}
 use Rattle.iscsi_threads.specs.declared.session_loop.Loop.{Loop}
@@ -55,9 +56,10 @@ pub record ServedBy (o : Setting) (lists : List (Vec (List ℕ) Global)) (j : Li
 abbrev pub ServedUnlogged : Setting → List (Vec (List ℕ) Global) → Ended → Type 0
 ServedUnlogged o lists e = ServedBy o lists e.journal.items e.from.items e.left.items e.untaken.items e.unread.items
 
--- and the log is that of the journal
+-- and the log is that of the journal, and keeps all promises
 pub record Served (o : Setting) (lists : List (Vec (List ℕ) Global)) (x : Outcome) : Type 0 where
   pub log_is : x.log.items ≡ run_of o x.journal.items
+  pub keeps : KeepsPromises o x.journal.items x.log.items
   pub served : ServedBy o lists x.journal.items x.from.items x.left.items x.untaken.items x.unread.items
 
 -- every header that was posted was taken, and no command is live

@@ -246,6 +246,7 @@ fn hand_back(core: Loop, ports: Vec<Port>, units: Vec<UnitPort>) -> Unfinished
 impl Loop {
     ghost use Rattle.std.specs.Prelude.{◌≡◌, IfOk, IfErr};
     ghost use Rattle.iscsi_history.specs.rules.Run.{run_of};
+    ghost use Rattle.iscsi_history.specs.promises.Promises.{KeepsPromises};
     ghost use Rattle.iscsi_threads.specs.declared.fault.LoopFault.{LoopFault};
     ghost use Rattle.iscsi_threads.specs.Loops.{Belong, journal, setting};
     ghost use Rattle.iscsi_threads.specs.Outcomes.{EndedAs, Finished};
@@ -292,7 +293,8 @@ impl Loop {
 
     // The log of the journal.
     fn make_log(&self) -> Result<Log, AllocError>
-        ensures { IfOk result (λ log. log.items ≡ run_of (setting self.now) (journal self.now)) }
+        ensures { IfOk result (λ log. (log.items ≡ run_of (setting self.now) (journal self.now))
+            × KeepsPromises (setting self.now) (journal self.now) log.items) }
     {
         let options = self.options.copy(self.alloc)?;
         run(self.alloc, options, &self.journal).or(Err(AllocError))

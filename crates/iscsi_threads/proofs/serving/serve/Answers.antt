@@ -15,5 +15,6 @@ returns-clause-served g c =
     let ran' : Ran (setting l) lists l c.in_ok-core.ports.items c.in_ok-core.units.items = subst (λ (o : Setting). Ran o lists l c.in_ok-core.ports.items c.in_ok-core.units.items) (sym same) ran in
     record {
       log_is = rw (f.journal_is, ← same) f.log_is;
+      keeps = rw (f.journal_is, ← same) f.keeps;
       served = rw (f.journal_is, f.sources_are, ← same) (served_by l lists _ _ ran' _ _ _ f.accounted);
     }
