@@ -1,5 +1,5 @@
 -- What threads make of a recording.
-use Rattle.std.specs.Prelude.{IsSome, ◌≡◌, ℕ, ◌<◌, ◌==◌, ◌&&◌, Bool, true, false, nat_lt, nat_eq, List, [], ◌∷◌, ◌++◌, length, map, position, slice_index, Some, None, Vec, refl}
+use Rattle.std.specs.Prelude.{IsSome, IfSome, Option, Result, Ok, Err, ◌≡◌, ℕ, ◌<◌, ◌==◌, ◌&&◌, Bool, true, false, nat_lt, nat_eq, List, [], ◌∷◌, ◌++◌, length, map, position, slice_index, Some, None, Vec, refl}
 use Rattle.std.specs.List.{list_all}
 use Rattle.std.specs.declared.alloc.Global.{Global}
 use Rattle.std.proofs.Common.{ap, sym, subst, ◌∙◌, arith, get_or, append-nil, append_assoc}
@@ -14,6 +14,9 @@ use Rattle.iscsi_history.specs.declared.event.Event.{Event}
 use Rattle.iscsi_history.specs.declared.event.Event.TheVariants.{Arrive, Done}
 use Rattle.iscsi_history.specs.rules.Settings.{Setting, is_known, are_distinct}
 use Rattle.iscsi_history.specs.rules.Run.{run_of}
+use Rattle.iscsi_threads.specs.declared.fault.LoopFault.{LoopFault}
+use Rattle.iscsi_threads.specs.declared.fault.LoopFault.TheVariants as loop
+use Rattle.iscsi_threads.specs.Full as served
 use Rattle.iscsi_threads.specs.Ports.{Answer}
 use Rattle.iscsi_threads.specs.Journal.{cids_in, part, parts, done, is_source, are_sources}
 use Rattle.iscsi_threads.specs.Jobs.{jobs}
@@ -26,8 +29,10 @@ use Rattle.iscsi_threads.proofs.Turning.{known_at}
 use Rattle.iscsi_threads.proofs.OpenLemmas.{differ_of}
 use Rattle.iscsi_threads.proofs.Journals.{heads_after, map_same, part_snoc}
 use Rattle.iscsi_settings.specs.declared.settings.Settings.{Settings}
-use Rattle.iscsi_recording.specs.Recorded.{Recorded, belongs_to}
-use Rattle.iscsi_replay.specs.Threaded.{setting_for_threads, headers, ThreadsRan}
+use Rattle.iscsi_recording.specs.Recorded.{Recorded, belongs_to, read_of}
+use Rattle.iscsi_recording.specs.declared.fault.ReplayFault.{ReplayFault}
+use Rattle.iscsi_recording.specs.declared.fault.ReplayFault.TheVariants as replay
+use Rattle.iscsi_replay.specs.Threaded.{setting_for_threads, headers, ThreadsRan, FillsJournal, IsFaultOf, ComesOfThreads, CanStopThreads, ThreadsAnswerAs}
 
 -- ---- the lists of headers
 
@@ -110,3 +115,50 @@ ran_of s r lists j from left untaken unread given h =
           let w = some_of unread u (omega (arith, lt, h.unreads)) in
           unit_in_turn o j from u (get_or untaken u v).items (get_or unread u w).items (h.in_turn u v w lt);
     }
+
+-- what filled the journal of the threads was given by the recording
+pub filled_of : (s : Settings) (r : Recorded) (lists : List (Vec (List ℕ) Global)) → map headers lists ≡ parts (cids_in r.conns) r.events
+    → served.FillsJournal (setting_for_threads s r.conns) lists → FillsJournal s r
+filled_of s r lists given h =
+    let cids = cids_in r.conns in
+    let count : length lists ≡ length r.conns = sym (length-map lists headers) ∙ ap length given ∙ length-map cids (λ c. part c r.events) ∙ length-map r.conns (λ (c : ℕ × ℕ). c.0) in
+    record {
+      journal = h.journal;
+      from = h.from;
+      full = h.full;
+      sourced = h.sourced;
+      fronts = λ i lt.
+          let low : i < length lists = omega (arith, lt, count) in
+          let below : i < length cids = let l = length-map r.conns (λ (c : ℕ × ℕ). c.0) in omega (arith, lt) in
+          let x = some_of lists i low in
+          let list : (get_or lists i x).items ≡ part (slice_index cids i) r.events =
+          sym (get_or-map headers lists i x [] low) ∙ ap (λ (l : List (List (List ℕ))). get_or l i []) given ∙ get_or-map (λ c. part c r.events) cids i 0 [] below
+          in
+          subst (IsPrefix (part (slice_index cids i) h.journal)) list (h.fronts i x low);
+      in_turn = h.in_turn;
+    }
+
+-- why threads stop
+pub stopped_for : (s : Settings) (r : Recorded) (fault : LoopFault) (e : ReplayFault) → IsFaultOf fault e → (fault ≡ loop.Exhausted → FillsJournal s r) → ComesOfThreads s r e
+stopped_for s r loop.BadOptions e is fills = absurd is
+stopped_for s r loop.NoMemory e is fills = subst (ComesOfThreads s r) (sym is) tt
+stopped_for s r loop.NoThread e is fills = subst (ComesOfThreads s r) (sym is) tt
+stopped_for s r loop.Exhausted e is fills = subst (ComesOfThreads s r) (sym is) (fills refl)
+
+can_stop : (s : Settings) (r : Recorded) (e : ReplayFault) → ComesOfThreads s r e → CanStopThreads s r e
+can_stop s r replay.NoMemory h = tt
+can_stop s r replay.NoThread h = tt
+can_stop s r replay.Exhausted h = h
+can_stop s r (replay.BadLine line) h = absurd h
+can_stop s r (replay.LineTooLong line) h = absurd h
+can_stop s r replay.TooManyLines h = absurd h
+can_stop s r replay.Read h = absurd h
+can_stop s r replay.NoConnection h = absurd h
+can_stop s r replay.Write h = absurd h
+can_stop s r replay.BadSettings h = absurd h
+
+-- threads stopped that were given the recording
+pub threads_stop : (s : Settings) (r : Recorded) (e : ReplayFault) (given : Option (List ℕ)) → IfSome given (λ bytes. read_of bytes ≡ Ok r) → ComesOfThreads s r e
+    → IfSome given (λ bytes. ThreadsAnswerAs s (read_of bytes) (Err e))
+threads_stop s r e None read h = tt
+threads_stop s r e (Some bytes) read h = subst (λ (x : Result Recorded ReplayFault). ThreadsAnswerAs s x (Err e)) (sym read) (can_stop s r e h)

@@ -31,7 +31,7 @@ pub record Replays (threads : Bool) (s : Settings) (answer : Result (Unit {0}) R
   pub bad : IsErrOf answer BadSettings → are_valid s ≡ false
   pub report : OnOk answer (IfSome given (λ bytes. ReportedBy threads s (read_of bytes) old new))
   pub promises : OnOk answer (IfSome given (λ bytes. KeepsWordBy threads s (read_of bytes) old new))
-  pub fault : are_valid s ≡ true → IfSome given (λ bytes. AnswersBy threads (read_of bytes) answer)
+  pub fault : are_valid s ≡ true → IfSome given (λ bytes. AnswersBy threads s (read_of bytes) answer)
   pub front : IfSome given (λ bytes. FrontBy threads s (read_of bytes) old new)
   pub order : ReadsInOrder read_of answer given left
 

@@ -8,6 +8,8 @@ use Rattle.iscsi_history.specs.rules.Trace.{live}
 use Rattle.iscsi_history.specs.rules.Run.{run_of, trace_of}
 use Rattle.iscsi_history.specs.promises.Promises.{KeepsPromises}
 use Rattle.iscsi_history.specs.declared.event.Event.{Event}
+use Rattle.iscsi_threads.specs.declared.fault.LoopFault.{LoopFault}
+use Rattle.iscsi_threads.specs.declared.fault.LoopFault.TheVariants as loop
 use Rattle.iscsi_threads.specs.Journal.{cids_in, part, done, are_sources}
 use Rattle.iscsi_threads.specs.Jobs.{jobs}
 use Rattle.iscsi_threads.specs.Outcomes.{ticket_of}
@@ -70,22 +72,41 @@ abbrev pub FrontOfThreads : Settings → Result Recorded ReplayFault → Option 
 FrontOfThreads s (Ok r) old new = Keeps old new ⊎ ReportsFront s r old new
 FrontOfThreads s (Err e) old new = Keeps old new
 
--- what threads may stop for
-abbrev pub ComesOfThreads : ReplayFault → Type 0
-ComesOfThreads fault.NoMemory = ⊤
-ComesOfThreads fault.NoThread = ⊤
-ComesOfThreads fault.Exhausted = ⊤
-ComesOfThreads e = ⊥
+-- headers of the recording and the answers to their commands gave all the events that a session with threads takes
+pub record FillsJournal (s : Settings) (r : Recorded) : Type 0 where
+  pub journal : List Event
+  pub from : List ℕ
+  pub full : length journal ≡ 2097152
+  -- an event's source is the place of its connection, or a unit
+  pub sourced : are_sources (cids_in r.conns) s.units journal from ≡ true
+  -- the first of the recording's headers arrived on each connection, in the same order
+  pub fronts : (i : ℕ) → i < length r.conns → IsPrefix (part (slice_index (cids_in r.conns) i) journal) (part (slice_index (cids_in r.conns) i) r.events)
+  -- each unit answered the first of its jobs, in their order
+  pub in_turn : (u : ℕ) → u < s.units → IsPrefix (map ticket_answered (done u journal from)) (map ticket_of (jobs u (run_of (setting_for_threads s r.conns) journal)))
 
--- why a replay with threads of bytes that are a recording may be refused
-abbrev pub CanStopThreads : ReplayFault → Type 0
-CanStopThreads fault.NoThread = ⊤
-CanStopThreads fault.Exhausted = ⊤
-CanStopThreads e = CanStop e
+-- what a refusal of the threads is in a replay, whose options are valid
+abbrev pub IsFaultOf : LoopFault → ReplayFault → Type 0
+IsFaultOf loop.BadOptions e = ⊥
+IsFaultOf loop.NoMemory e = e ≡ fault.NoMemory
+IsFaultOf loop.NoThread e = e ≡ fault.NoThread
+IsFaultOf loop.Exhausted e = e ≡ fault.Exhausted
+
+-- what threads may stop for
+abbrev pub ComesOfThreads : Settings → Recorded → ReplayFault → Type 0
+ComesOfThreads s r fault.NoMemory = ⊤
+ComesOfThreads s r fault.NoThread = ⊤
+ComesOfThreads s r fault.Exhausted = FillsJournal s r
+ComesOfThreads s r e = ⊥
+
+-- why a replay with threads of bytes that are this recording may be refused
+abbrev pub CanStopThreads : Settings → Recorded → ReplayFault → Type 0
+CanStopThreads s r fault.NoThread = ⊤
+CanStopThreads s r fault.Exhausted = FillsJournal s r
+CanStopThreads s r e = CanStop e
 
 -- the answer is that of the bytes, unless memory ran out, a read or a write failed, or threads stopped
-abbrev pub ThreadsAnswerAs : Result Recorded ReplayFault → Result (Unit {0}) ReplayFault → Type 0
-ThreadsAnswerAs (Ok r) (Ok x) = ⊤
-ThreadsAnswerAs (Ok r) (Err e) = CanStopThreads e
-ThreadsAnswerAs (Err f) (Ok x) = ⊥
-ThreadsAnswerAs (Err f) (Err e) = IsFaultOr f e
+abbrev pub ThreadsAnswerAs : Settings → Result Recorded ReplayFault → Result (Unit {0}) ReplayFault → Type 0
+ThreadsAnswerAs s (Ok r) (Ok x) = ⊤
+ThreadsAnswerAs s (Ok r) (Err e) = CanStopThreads s r e
+ThreadsAnswerAs s (Err f) (Ok x) = ⊥
+ThreadsAnswerAs s (Err f) (Err e) = IsFaultOr f e

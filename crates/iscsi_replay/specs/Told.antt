@@ -23,9 +23,9 @@ KeepsWordBy false s read old new = KeepsWord s read old new
 KeepsWordBy true s read old new = ⊤
 
 -- the answer to the bytes, in threads or event by event
-abbrev pub AnswersBy : (threads : Bool) → Result Recorded ReplayFault → Result (Unit {0}) ReplayFault → Type 0
-AnswersBy false read answer = AnswersAs read answer
-AnswersBy true read answer = ThreadsAnswerAs read answer
+abbrev pub AnswersBy : (threads : Bool) → Settings → Result Recorded ReplayFault → Result (Unit {0}) ReplayFault → Type 0
+AnswersBy false s read answer = AnswersAs read answer
+AnswersBy true s read answer = ThreadsAnswerAs s read answer
 
 -- what is written in any case, in threads or event by event
 abbrev pub FrontBy : (threads : Bool) → Settings → Result Recorded ReplayFault → (old new : Option (List ℕ)) → Type 0
@@ -44,7 +44,7 @@ pub record IsReplayAsTold (words : List Text) (answer : Result (Unit {0}) Replay
   pub valid : answer ≢ Err BadSettings
   pub report : OnOk answer (IfSome given (λ bytes. ReportedBy threads settings (read_of bytes) old new))
   pub promises : OnOk answer (IfSome given (λ bytes. KeepsWordBy threads settings (read_of bytes) old new))
-  pub fault : IfSome given (λ bytes. AnswersBy threads (read_of bytes) answer)
+  pub fault : IfSome given (λ bytes. AnswersBy threads settings (read_of bytes) answer)
   pub front : IfSome given (λ bytes. FrontBy threads settings (read_of bytes) old new)
   pub order : ReadsInOrder read_of answer given left
 

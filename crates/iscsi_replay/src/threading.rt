@@ -9,7 +9,7 @@ ghost use Rattle.iscsi_settings.specs.Limits.{are_valid};
 ghost use Rattle.iscsi_recording.specs.Recorded.{view, read_of, belongs_to, IsSound};
 ghost use Rattle.iscsi_recording.specs.Order.{ReadsInOrder};
 ghost use Rattle.iscsi_replay.specs.Replayed.{ComesOfReading, IsReadWhole};
-ghost use Rattle.iscsi_replay.specs.Threaded.{headers, ComesOfThreads, IsJournalOf, ThreadsReported, FrontOfThreads, ThreadsAnswerAs};
+ghost use Rattle.iscsi_replay.specs.Threaded.{headers, IsFaultOf, ComesOfThreads, IsJournalOf, ThreadsReported, FrontOfThreads, ThreadsAnswerAs};
 
 use crate::replaying::write_report;
 use iscsi_recording::{
@@ -37,7 +37,7 @@ impl UnitWork for Good {
 // What a refusal of the threads is here, where the options are valid.
 fn fault_of(fault: LoopFault) -> ReplayFault
     requires { fault ≢ LoopFault.BadOptions }
-    ensures { ComesOfThreads result }
+    ensures { IsFaultOf fault result }
 {
     match fault {
         LoopFault::BadOptions => unreachable!(),
@@ -119,7 +119,7 @@ fn run_threads<T: Threads + Wait + Sync>(
     requires sound { IsSound (view recording) }
     ensures ok { IfOk result (λ j. IsJournalOf settings.now (view recording)
         (record { conns = j.conns.items; events = j.events.items })) }
-    ensures err { IfErr result ComesOfThreads }
+    ensures err { IfErr result (λ e. ComesOfThreads settings.now (view recording) e) }
 {
     let Recording { conns, events } = recording;
     let conns = conns.into_list();
@@ -175,9 +175,10 @@ pub fn replay_threads<T: Threads + Wait + Sync, R: Source, W: Sink>(
     // end no command is live. It is the report of a log that keeps all promises.
     ensures ok { OnOk result (IfSome (R.remaining reader.old)
         (λ bytes. ThreadsReported settings.now (read_of bytes) (W.contents writer.old) (W.contents writer.new))) }
-    // The answer is that of the bytes, unless memory ran out, a read or a write failed, or threads stopped.
+    // The answer is that of the bytes, unless memory ran out, a read or a write failed, or threads stopped: no thread
+    // could be made, or headers of the recording and the answers to their commands filled the journal.
     ensures fault { are_valid settings.now ≡ true →
-        IfSome (R.remaining reader.old) (λ bytes. ThreadsAnswerAs (read_of bytes) result) }
+        IfSome (R.remaining reader.old) (λ bytes. ThreadsAnswerAs settings.now (read_of bytes) result) }
     // In any case nothing is written, or a front of such a report, and nothing where the bytes are no recording.
     ensures front { IfSome (R.remaining reader.old)
         (λ bytes. FrontOfThreads settings.now (read_of bytes) (W.contents writer.old) (W.contents writer.new)) }
