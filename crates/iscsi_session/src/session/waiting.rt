@@ -1,6 +1,7 @@
 //! The task management functions that wait for lower numbers.
 
-ghost use Rattle.std.specs.Prelude.{◌≡◌, ◌==◌, ◌<◌, ◌≤◌, ◌++◌, ◌∷◌, [], not, filter, find, position, is_some, length, All, IfSome, MatchOption};
+ghost use Rattle.std.specs.Prelude.{◌≡◌, ◌==◌, ◌<◌, ◌≤◌, ◌++◌, ◌∷◌, [], not, filter, find, position, remove, slice_index_or, is_some, length, All, IfSome, Some, MatchOption};
+ghost use Rattle.std.specs.VecDeque.{deque_len, deque_capacity};
 ghost use Rattle.iscsi_wire.specs.Fields.{connection_of};
 ghost use Rattle.iscsi_window.specs.Windows.{is_asked};
 ghost use Rattle.iscsi_slots.specs.Queued.{queued};
@@ -102,7 +103,7 @@ impl Waitlist {
             (λ w. self.new ≡ queued (filter (λ v. not (v.event == w.event)) self.old.items) self.old.room) }
     {
         if let Some(at) = place_at(&self.functions, turn) {
-            return self.functions.remove(at);
+            return take_at(&mut self.functions, at);
         }
         self.next_turn = lowest_turn(&self.functions);
         None
@@ -125,6 +126,20 @@ impl Waitlist {
         self.functions.clear();
         self.next_turn = u64::MAX;
     }
+}
+
+/// Takes out the function at this place. None beyond the last one.
+///
+/// The one that is due is mostly the first, which goes without a look at the others.
+fn take_at(waiting: &mut VecDeque<Waiting>, at: usize) -> Option<Waiting>
+    ensures taken { (w : Waiting) → at < deque_len waiting.old → result ≡ Some (slice_index_or waiting.old.items at w) }
+    ensures items { at < deque_len waiting.old → waiting.new.items ≡ remove waiting.old.items at }
+    ensures capacity { deque_capacity waiting.new ≡ deque_capacity waiting.old }
+{
+    if at == 0 {
+        return waiting.pop_front();
+    }
+    waiting.remove(at)
 }
 
 /// How many of these functions are of a connection.

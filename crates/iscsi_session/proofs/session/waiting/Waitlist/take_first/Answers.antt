@@ -1,5 +1,8 @@
-use Rattle.std.proofs.Common.{◌≡◌, ◌<◌, ◌==◌, ◌∙◌, position, remove, length, get_or, [], Some, None, List, arith, ap, sym}
-use Rattle.std.proofs.lemmas.List.Quantifiers.{position-Some}
+use Rattle.std.proofs.Common.{◌≡◌, ◌<◌, ◌≤◌, ◌==◌, ◌∙◌, position, remove, length, get_or, [], Some, None, List, arith, ap, sym, nat_lt, true, false, refl, ◌+◌}
+use Rattle.std.proofs.lemmas.List.Quantifiers.{position-Some, all_pairs_remove}
+use Rattle.std.proofs.lemmas.Bool.{ltb-true, ltb-false}
+use Rattle.std.proofs.lemmas.List.Edits.{get_or-remove_below, get_or-remove_above, length-remove}
+use Rattle.std.specs.List.{All}
 use Rattle.std.specs.VecDeque.{deque_capacity}
 use Rattle.iscsi_slots.specs.Queued.{queued}
 use Rattle.iscsi_slots.proofs.SortedLemmas.{remove_is}
@@ -24,20 +27,36 @@ returns-in-Some-clause-first c =
     let ws : List Waiting = c.self.inside.functions.items in
     let here = (goal.at.returns-in-Some-clause-first c).In-Some in
     let found = found_there (λ (w : Waiting). w.turn == c.args.turn) ws c.in-Some.at some_waiting (there here) in
-    rw (← c.self.view_is) (c.remove.ensures.succeeds some_waiting (omega (arith, within here, c.self.inside.functions.ok.0)) ∙ sym found)
+    rw (← c.self.view_is) (c.take_at.ensures.taken some_waiting (omega (arith, within here, c.self.inside.functions.ok.0)) ∙ sym found)
 
 -- no other one arrived in its event
 pub returns-in-Some-clause-rest : goal.returns-in-Some-clause-rest
 returns-in-Some-clause-rest c =
     let ws : List Waiting = c.self.inside.functions.items in
     let here = (goal.at.returns-in-Some-clause-rest c).In-Some in
-    let taken : c.remove.result ≡ Some (get_or ws c.in-Some.at some_waiting) = c.remove.ensures.succeeds some_waiting (omega (arith, within here, c.self.inside.functions.ok.0)) in
-    let items : c.remove.new.self.items ≡ remove ws c.in-Some.at = rw taken at c.remove.ensures.items in
+    let taken : c.take_at.result ≡ Some (get_or ws c.in-Some.at some_waiting) = c.take_at.ensures.taken some_waiting (omega (arith, within here, c.self.inside.functions.ok.0)) in
+    let items : c.take_at.new.waiting.items ≡ remove ws c.in-Some.at = (c.take_at.ensures.items (omega (arith, within here, c.self.inside.functions.ok.0))) in
     let rest = remove_is (λ (w : Waiting). w.event) ws c.in-Some.at some_waiting c.self.invariant.in_order (within here) in
-    rw (taken, ← c.self.view_is, items, c.remove.ensures.capacity) (ap (λ xs. queued xs (deque_capacity c.self.inside.functions)) rest)
+    rw (taken, ← c.self.view_is, items, c.take_at.ensures.capacity) (ap (λ xs. queued xs (deque_capacity c.self.inside.functions)) rest)
 
 pub returns-clause-first : goal.returns-clause-first
 returns-clause-first c =
     let ws : List Waiting = c.self.inside.functions.items in
     let none : position (λ (w : Waiting). w.turn == c.args.turn) ws ≡ None = sym c.place_at.ensures ∙ c.in_default.is in
     rw (← c.self.view_is) (sym (found_nowhere (λ (w : Waiting). w.turn == c.args.turn) ws none))
+
+-- those behind the next turn stay so, in the order of their arrival
+pub invariant_of-self : goal.invariant_of-self
+invariant_of-self c =
+    let ws : List Waiting = c.self.inside.functions.items in
+    let here = (goal.at.invariant_of-self c).In-Some in
+    let items : c.take_at.new.waiting.items ≡ remove ws c.in-Some.at = c.take_at.ensures.items (omega (arith, within here, c.self.inside.functions.ok.0)) in
+    let lower : All (λ (w : Waiting). c.self.inside.next_turn ≤ w.turn) ws = c.self.invariant.none_before in
+    rw items (record {
+      none_before = λ k d lt.
+          elim (nat_lt k c.in-Some.at) as (λ b. nat_lt k c.in-Some.at ≡ b → c.self.inside.next_turn ≤ (get_or (remove ws c.in-Some.at) k d).turn) [
+            | true ↦ λ low. rw (get_or-remove_below ws c.in-Some.at d k (ltb-true k c.in-Some.at low) (within here)) (lower k d (omega (arith, ltb-true k c.in-Some.at low, within here)))
+            | false ↦ λ high. rw (get_or-remove_above ws c.in-Some.at d k (ltb-false k c.in-Some.at high) (within here)) (lower (k + 1) d (omega (arith, lt, length-remove ws c.in-Some.at (within here))))
+          ] refl;
+      in_order = all_pairs_remove (λ (a b : Waiting). a.event < b.event) ws c.in-Some.at (within here) c.self.invariant.in_order;
+    })
