@@ -22,16 +22,13 @@ prove() {
 
 # Proves the crates, builds the program and keeps it. Sources may change meanwhile, so they are summed before and after.
 prove_anew() {
-    local was at=0 name
+    local was
     was=$(basis) || fail "$not_built" "rt version doesn't say which kit this is"
     [ "$root" = "$top" ] || copy_sources 2> /dev/null ||
         fail "$not_built" "the sources could not be copied to $root"
     : 2> /dev/null > "$log" || fail "$not_built" "$not_writable"
     SECONDS=0
-    for name in "${crates[@]}"; do
-        at=$((at + 1))
-        prove_crate "$name" "$name, $at of ${#crates[@]}"
-    done
+    prove_crates
     [ -x "$built" ] || fail "$not_built" "rt left no program in $built; $log says more"
     [ "$(basis)" = "$was" ] || fail "$not_built" "a source or the kit changed while the program was proved; run it again"
     keep "$was" 2> /dev/null || fail "$not_built" "the program could not be kept in ${kept%/*}"
@@ -56,21 +53,80 @@ copy_sources() {
     cp "$top/HANDLES" "$top/crates.txt" "$root/"
 }
 
-# Proves one crate over those below, which are built by then, so that rt makes no quick pass over all sources first.
-# rt's lines go to the log. What becomes of the words on standard error doesn't matter to it.
+# Proves the crates, the lowest first, and some beside one another: each begins once all below it are built, so that rt
+# makes no quick pass over all sources first. `waiting` are still to begin, and `running` are under way.
+prove_crates() {
+    local waiting=("${crates[@]}") running=() begun=0 most failed='' name status ended
+    most=$(at_once)
+    # As rt ends with a crate, the name and the status come by this pipe.
+    exec {ended}<> <(:)
+    while ((${#waiting[@]} + ${#running[@]} > 0)); do
+        begin_crates
+        if read -r -t 60 -u "$ended" name status; then
+            end_crate "$name" "$status"
+        else
+            tell "still proving ${running[*]} $(elapsed)"
+        fi
+    done
+    exec {ended}>&-
+    [ -z "$failed" ] || fail "$not_built" "$failed was not proved; $log says more"
+}
+
+# How many crates at once: three at the most, with a processor and 6 GB of memory for each.
+at_once() {
+    local most=3 limit
+    for limit in "$(nproc)" "$(awk '$1 == "MemAvailable:" { print int($2 / 6000000) }' /proc/meminfo)"; do
+        [ "${limit:-0}" -ge "$most" ] || most=${limit:-0}
+    done 2> /dev/null
+    echo $((most > 1 ? most : 1))
+}
+
+# Begins with each crate that waits for no other one, as long as there is a place for it.
+begin_crates() {
+    local name left=()
+    for name in "${waiting[@]}"; do
+        if ((${#running[@]} == most)) || waits "$name"; then
+            left+=("$name")
+            continue
+        fi
+        begun=$((begun + 1))
+        running+=("$name")
+        tell "proving $name, $begun of ${#crates[@]} $(elapsed)"
+        prove_crate "$name" &
+    done
+    waiting=("${left[@]}")
+}
+
+# Whether a crate below this one isn't built yet.
+waits() {
+    local low below
+    read -ra below < <(awk -F: -v name="$1" '$1 == name { print $2 }' "$top/crates.txt")
+    for low in "${below[@]}"; do
+        [[ " ${waiting[*]} ${running[*]} " != *" $low "* ]] || return 0
+    done
+    return 1
+}
+
+# Has rt prove a crate in its folder, and tells how it ended. An interrupt is rt's, too, as if it ran in the foreground.
 prove_crate() {
     local how=(lib)
     [ "$1" != iscsi_replay ] || how=(run ${cpu:+--cpu="$cpu"} -- --help)
-    tell "proving $2 $(elapsed)"
-    if ! during "proving $2" prove_by_rt "$1" "${how[@]}"; then
-        tail -n 20 "$log" >&2
-        fail "$not_built" "$1 was not proved; $log says more"
-    fi
+    trap - INT QUIT
+    (cd "$root/crates/$1" && trap - PIPE && exec rt "${how[@]}" > "$log.$1" 2>&1 < /dev/null)
+    echo "$1 $?" >&"$ended"
 }
 
-# Runs rt in a crate's folder, with these words.
-prove_by_rt() {
-    cd "$root/crates/$1" && trap - PIPE && exec rt "${@:2}" >> "$log" 2>&1 < /dev/null
+# Takes in how rt ended with a crate. Its lines go to the log, and after a failure no other crate begins.
+end_crate() {
+    local name still=()
+    for name in "${running[@]}"; do [ "$name" = "$1" ] || still+=("$name"); done
+    running=("${still[@]}")
+    cat "$log.$1" >> "$log"
+    if [ "$2" != 0 ]; then
+        tail -n 20 "$log.$1" >&2
+        waiting=() failed=${failed:-$1}
+    fi
+    rm -f "$log.$1"
 }
 
 # Does something, and tells each minute what it is. The pipe has no words: its end says that the work has ended.
