@@ -1,0 +1,7 @@
+//! What goes out of a session of an iSCSI target, and when: the rules as definitions over the list of calls to an outbox
+//! (RFC 7143 sections 4.2.2 and 4.2.3, SAM-5 section 7), with the types that they share with the code.
+#![tactic(auto)]
+
+mod own_pdu;
+
+pub use own_pdu::{OwnPdu, PutRefusal};
