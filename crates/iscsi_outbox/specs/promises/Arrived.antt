@@ -57,11 +57,11 @@ shows_later conn (d ∷ since) = elim (handed_in_deed d) [ Some g ↦ g.0 == con
 abbrev pub has_arrived : ℕ → Handed → List Deed → Bool
 has_arrived conn h since = shows_arrival conn h since || shows_later conn since
 
--- it is written: so many PDUs were handed out before it, and more were written since the outbox was opened
-abbrev pub is_written : ℕ → List Deed → List Deed → Bool
-is_written conn before since = nat_lt (length (handed_on conn before)) (writes_on conn (before ++ since))
+-- the PDU that was handed out by this call is written: so many were handed out before it, and more were written by now
+abbrev pub is_written : ℕ → List Deed → Deed → List Deed → Bool
+is_written conn before handing since = nat_lt (length (handed_on conn before)) (writes_on conn (before ++ handing ∷ since))
 
 -- it isn't under way any more: its connection was lost, or it is known to have arrived, or, where that isn't looked for, written
-abbrev pub is_through : Opening → ℕ → List Deed → Handed → List Deed → Bool
-is_through o conn before h since =
-    was_lost since conn || has_arrived conn h since || (not o.acknowledged && is_written conn before since)
+abbrev pub is_through : Opening → ℕ → List Deed → Deed → Handed → List Deed → Bool
+is_through o conn before handing h since =
+    was_lost since conn || has_arrived conn h since || (not o.acknowledged && is_written conn before handing since)

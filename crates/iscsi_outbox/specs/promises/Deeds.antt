@@ -1,7 +1,10 @@
 -- Calls with what they answered, and what these show. No state is looked at.
-use Rattle.std.specs.Prelude.{ℕ, ◌==◌, ◌&&◌, Bool, false, List, [], ◌∷◌, filter, filter_map, map, Option, Some, None}
+use Rattle.std.specs.Prelude.{◌≡◌, ℕ, ◌==◌, ◌&&◌, Bool, false, List, [], ◌∷◌, filter, filter_map, map, Option, Some, None}
 use Rattle.std.specs.List.{list_any, flat_map}
 use Rattle.iscsi_history.specs.declared.effect.Effect.{Effect}
+use Rattle.iscsi_history.specs.declared.event.Event.{Event}
+use Rattle.iscsi_history.specs.declared.entry.Entry.{Entry}
+use Rattle.iscsi_history.specs.rules.Run.{run_of}
 use Rattle.iscsi_history.specs.promises.Order.{in_parts}
 use Rattle.iscsi_outbox.specs.rules.Calls.{Opening, Call, Takes, Puts, Stops, Nexts, Writes, Hears, Joins, Loses, Clears}
 use Rattle.iscsi_outbox.specs.rules.Boxes.{Handed, Box}
@@ -83,3 +86,13 @@ has_joined ds conn = list_any (is_join_of conn) ds
 
 abbrev pub was_lost : List Deed → ℕ → Bool
 was_lost ds conn = list_any (λ (d : Deed). is_lose_of conn d.0) ds
+
+-- ---- the session
+
+abbrev pub entry_taken : Call → List Entry
+entry_taken (Takes effects numbers) = record { numbers = numbers; effects = effects } ∷ []
+entry_taken _ = []
+
+-- what was taken is what a session gave, event by event
+abbrev pub FollowsSession : Opening → List Call → Type 0
+FollowsSession o cs = (h : List Event) × (flat_map entry_taken cs ≡ run_of o.session h)

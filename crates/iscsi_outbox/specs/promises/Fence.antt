@@ -1,10 +1,10 @@
 -- The response fence of functions of several tasks (RFC 7143 section 4.2.2.3.4): with several connections.
-use Rattle.std.specs.Prelude.{◌≡◌, ◌≢◌, ◌<◌, ℕ, ◌==◌, ◌||◌, Bool, true, false, List, ◌∷◌, ◌++◌, Some, None}
+use Rattle.std.specs.Prelude.{◌≡◌, ◌≢◌, ◌<◌, ℕ, ◌==◌, ◌||◌, Bool, true, false, List, ◌∷◌, ◌++◌, Some, None, not}
 use Rattle.std.specs.List.{list_any}
 use Rattle.iscsi_history.specs.declared.effect.Effect.{Effect}
 use Rattle.iscsi_outbox.specs.rules.Calls.{Opening}
 use Rattle.iscsi_outbox.specs.rules.Boxes.{Handed, Aim, AtUnit}
-use Rattle.iscsi_outbox.specs.promises.Deeds.{Deed, handed_in_deed, handed_in, items_in, was_lost}
+use Rattle.iscsi_outbox.specs.promises.Deeds.{Deed, handed_in_deed, handed_in, items_in, has_joined, was_lost}
 use Rattle.iscsi_outbox.specs.promises.Arrived.{is_through}
 use Rattle.iscsi_outbox.specs.promises.Scope.{Sent, nth, sent_by, sent_as, aim_of_sent, closes_in}
 
@@ -33,17 +33,18 @@ pub record FenceHolds (o : Opening) (ds : List Deed) : Type 0 where
       → earlier ++ handing ∷ (since ++ answer ∷ after) ≡ ds
       → handed_in_deed answer ≡ Some (c, h) → is_fenced o (items_in (earlier ++ handing ∷ since)) h ≡ true
       → handed_in_deed handing ≡ Some (d, g) → d ≢ c → g.out.takes ≡ true
-      → is_through o d earlier g since ≡ true
+      → is_through o d earlier handing g since ≡ true
   -- what takes a StatSN goes out behind it on another connection only when it is known to have arrived, where that is looked
   -- for, or its own connection is lost
   pub behind : (earlier since after : List Deed) (answer handing : Deed) (c d : ℕ) (h g : Handed)
       → earlier ++ answer ∷ (since ++ handing ∷ after) ≡ ds
       → handed_in_deed answer ≡ Some (c, h) → is_fenced o (items_in earlier) h ≡ true
       → handed_in_deed handing ≡ Some (d, g) → d ≢ c → g.out.takes ≡ true → o.acknowledged ≡ true
-      → is_through o c earlier h since ≡ true
-  -- a reply that stands before it in the log, and didn't have to wait, goes out before it, unless its connection was closed or lost
+      → is_through o c earlier answer h since ≡ true
+  -- a reply that stands before it in the log, and didn't have to wait, goes out before it, unless its connection hasn't joined, was
+  -- closed or lost
   pub first : (earlier after : List Deed) (answer : Deed) (c : ℕ) (h : Handed) (place fenced : ℕ) (s : Sent)
       → earlier ++ answer ∷ after ≡ ds
       → handed_in_deed answer ≡ Some (c, h) → is_fenced o (items_in earlier) h ≡ true → h.out.sent ≡ Some fenced
       → place < fenced → nth place (sent_by (items_in earlier)) ≡ Some s → aim_of_sent o s ≡ None
-      → is_handed place earlier || was_lost earlier s.conn || is_closed (items_in earlier) s.conn ≡ true
+      → is_handed place earlier || not (has_joined earlier s.conn) || was_lost earlier s.conn || is_closed (items_in earlier) s.conn ≡ true

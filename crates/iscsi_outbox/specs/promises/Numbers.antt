@@ -1,5 +1,5 @@
 -- Numbers: StatSN in sequence, ExpCmdSN and MaxCmdSN of the moment, and never back (RFC 7143 section 4.2.2).
-use Rattle.std.specs.Prelude.{◌≡◌, ◌≤◌, ℕ, ◌+◌, ◌-◌, Bool, true, false, List, [], ◌∷◌, ◌++◌, map, filter_map, Option, Some, None, if◌then◌else◌}
+use Rattle.std.specs.Prelude.{◌≡◌, ◌≤◌, ◌<◌, ◌^◌, ℕ, ◌+◌, ◌-◌, Bool, true, false, List, [], ◌∷◌, ◌++◌, length, map, filter_map, Option, Some, None, if◌then◌else◌}
 use Rattle.iscsi_wire.specs.Serial.{wire, lift, number_of_first}
 use Rattle.iscsi_history.specs.declared.effect.Numbers.{Numbers as SessionNumbers}
 use Rattle.iscsi_history.specs.rules.Trace.{first_of}
@@ -51,8 +51,10 @@ pub record NumbersHold (o : Opening) (ds : List Deed) : Type 0 where
       → map (λ (h : Handed). h.stat_sn) (handed_on conn ds) ≡ in_sequence first (handed_on conn ds)
   pub exp : (before after : List Deed) (handing : Deed) (c : ℕ) (h : Handed)
       → before ++ handing ∷ after ≡ ds → handed_in_deed handing ≡ Some (c, h) → h.exp ≡ (numbers_after (first_numbers o) before).exp
-  -- MaxCmdSN doesn't go back, on any connection
+  -- MaxCmdSN doesn't go back, on any connection: of two PDUs with fewer than 2 ^ 19 calls between them, each of which moves it by
+  -- less than 2 ^ 12, so that no number of 32 bits comes round
   pub onward : (before between after : List Deed) (handing later : Deed) (c d : ℕ) (h g : Handed)
       → before ++ handing ∷ (between ++ later ∷ after) ≡ ds
       → handed_in_deed handing ≡ Some (c, h) → handed_in_deed later ≡ Some (d, g)
+      → length between < 2 ^ 19
       → number_of_first h.max ≤ lift (number_of_first h.max) g.max

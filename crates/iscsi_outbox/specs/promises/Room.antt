@@ -1,14 +1,16 @@
 -- Room: of the events of a session, where arrivals are taken only while there is room, everything has its place.
-use Rattle.std.specs.Prelude.{◌≡◌, ◌≤◌, ℕ, ◌+◌, ◌-◌, ◌*◌, ◌&&◌, not, nat_le, Bool, true, false, List, [], ◌∷◌, count_by, if◌then◌else◌}
+use Rattle.std.specs.Prelude.{◌≡◌, ◌≤◌, ℕ, ◌==◌, ◌+◌, ◌-◌, ◌*◌, ◌&&◌, not, nat_le, Bool, true, false, List, [], ◌∷◌, count_by, if◌then◌else◌, ◌||◌}
+use Rattle.std.specs.List.{list_any}
+use Rattle.iscsi_wire.specs.declared.request.Request.{Request}
 use Rattle.iscsi_wire.specs.Serial.{lift}
-use Rattle.iscsi_wire.specs.Fields.{is_immediate, cmd_sn, request_of}
+use Rattle.iscsi_wire.specs.Fields.{connection_of, is_immediate, cmd_sn, request_of, opcode}
 use Rattle.iscsi_history.specs.declared.event.Event.{Event}
 use Rattle.iscsi_history.specs.declared.event.Event.TheVariants.{Arrive, Done}
 use Rattle.iscsi_history.specs.rules.Trace.{Trace, Command, live}
 use Rattle.iscsi_history.specs.rules.Execution.{exp_of}
 use Rattle.iscsi_history.specs.rules.Run.{entry_of, after_event}
 use Rattle.iscsi_outbox.specs.rules.Calls.{Opening, Call, Takes}
-use Rattle.iscsi_outbox.specs.rules.Boxes.{Task, Box}
+use Rattle.iscsi_outbox.specs.rules.Boxes.{Task, Link, Box}
 use Rattle.iscsi_outbox.specs.rules.Words.{is_live_phase, most_at_once, numbered_room, replies_waiting, numbered_waiting, owing, may_take}
 use Rattle.iscsi_outbox.specs.rules.Run.{opened, after_call}
 
@@ -42,9 +44,13 @@ after_steps o s (step ∷ steps) = after_steps o (after_step o s step) steps
 abbrev pub begun : Opening → Both
 begun o = record { event = 0; trace = []; box = opened o }
 
--- an arrival is taken where there is room
+-- the Logout by which a session is told that a connection was lost: immediate, on that connection
+abbrev pub is_parting : Both → Request → Bool
+is_parting s r = is_immediate r && opcode r == 0x06 && list_any (λ (l : Link). l.conn == connection_of r && l.lost) s.box.links
+
+-- an arrival is taken where there is room, or tells that a connection was lost
 abbrev pub is_read_with_room : Opening → Both → Step → Bool
-is_read_with_room o s (Happens (Arrive conn header)) = may_take o s.box
+is_read_with_room o s (Happens (Arrive conn header)) = may_take o s.box || is_parting s (request_of conn header)
 is_read_with_room o s (Happens (Done ticket status)) = true
 is_read_with_room o s (Other c) = is_other c
 

@@ -50,4 +50,4 @@ pub record StillBefore (o : Opening) (ds : List Deed) : Type 0 where
       → answers_abort o (items_in before) h ≡ true → says_over o (items_in before) h.out ticket ≡ true
       → (earlier since : List Deed) (handing : Deed) (d : ℕ) (g : Handed) → earlier ++ handing ∷ since ≡ before
       → handed_in_deed handing ≡ Some (d, g) → d ≢ c → ticket_of (items_in earlier) g.out ≡ Some ticket
-      → is_through o d earlier g since ≡ true
+      → is_through o d earlier handing g since ≡ true

@@ -14,8 +14,8 @@ use Rattle.iscsi_history.specs.rules.Execution.{unit_named}
 use Rattle.iscsi_history.specs.promises.Order.{in_parts}
 use Rattle.iscsi_outbox.specs.rules.Calls.{Opening}
 use Rattle.iscsi_outbox.specs.rules.Boxes.{Phase, Dormant, Fresh, Started, Completed, Running, Gone, Task, Replies, Outgoing, Aim, AtTag, AtUnit, AtConns, Answer, Link, Box}
-use Rattle.iscsi_outbox.specs.rules.Words.{contains, is_live_phase, is_left_phase, is_open}
-use Rattle.iscsi_outbox.specs.rules.Queues.{at_link, enter, drop_of, drop_on}
+use Rattle.iscsi_outbox.specs.rules.Words.{contains, is_live_phase, is_left_phase}
+use Rattle.iscsi_outbox.specs.rules.Queues.{takes_more, at_link, enter, drop_of, drop_on}
 use Rattle.iscsi_outbox.specs.rules.Due.{settle}
 
 -- ---- what an item shows
@@ -128,8 +128,8 @@ is_aimed_at (AtTag tag unit) conns t = t.tag == tag
 is_aimed_at (AtUnit unit) conns t = t.unit == unit
 is_aimed_at AtConns conns t = contains conns t.conn
 
--- the scope of an answer: of what it is about, all that left by now; of an ABORT TASK all with its tag, whatever their unit is. That of a Logout is of the connections that it closes, of
--- one that closes the session all
+-- the scope of an answer: of what it is about, all that left by now. That of an ABORT TASK are all with its tag, whatever their
+-- unit is; that of a Logout those of the connections that it closes, and of one that closes the session all
 -- outbox: answer/or-before
 abbrev pub scope_of : Box → Aim → List ℕ → List ℕ
 scope_of b aim conns = map (λ (t : Task). t.ticket) (filter (λ (t : Task). is_left_phase t.phase && is_aimed_at aim conns t) b.tasks)
@@ -166,7 +166,7 @@ answer o b r conns closes conn out aim = record {
 
 -- an answer waits until it is due, if its connection takes it
 abbrev pub await : Answer → Box → Box
-await a b = if list_any (λ (l : Link). l.conn == a.conn && is_open l && not l.cut) b.links then record b { undue = b.undue ++ a ∷ [] } else b
+await a b = if list_any (λ (l : Link). l.conn == a.conn && takes_more l) b.links then record b { undue = b.undue ++ a ∷ [] } else b
 
 abbrev pub send_as : Opening → Option Request → Option Aim → List ℕ → List ℕ → ℕ → Outgoing → Box → Box
 send_as o (Some r) (Some aim) conns closes conn out b = await (answer o b r conns closes conn out aim) b

@@ -1,15 +1,18 @@
 -- What enters a queue, and what is taken out of one.
 use Rattle.std.specs.Prelude.{ℕ, ◌+◌, ◌==◌, ◌&&◌, not, Bool, List, [], ◌∷◌, ◌++◌, map, filter, if◌then◌else◌}
 use Rattle.iscsi_outbox.specs.rules.Boxes.{Outgoing, Answer, Link, Box}
-use Rattle.iscsi_outbox.specs.rules.Words.{is_open, is_of}
+use Rattle.iscsi_outbox.specs.rules.Words.{is_of}
 
 abbrev pub at_link : ℕ → (Link → Link) → List Link → List Link
 at_link conn change links = map (λ (l : Link). if l.conn == conn then change l else l) links
 
--- a connection that another one's Logout closed takes nothing more; one that a Logout on itself closes still takes the answers
--- that had to wait
+-- a connection that another one's Logout closed, or that was lost, takes nothing more; one that a Logout on itself closes still
+-- takes the answers that had to wait
+abbrev pub takes_more : Link → Bool
+takes_more l = not l.lost && not l.cut
+
 abbrev pub append : Outgoing → Link → Link
-append out l = if is_open l && not l.cut then record l { queue = l.queue ++ out ∷ [] } else l
+append out l = if takes_more l then record l { queue = l.queue ++ out ∷ [] } else l
 
 -- it enters the queue of a connection
 abbrev pub enter : ℕ → Outgoing → Box → Box
