@@ -42,6 +42,20 @@ pub window_opens : Worked (outbox (of_two 1)) (
 unfolding Rules.bars_as
 window_opens = refl
 
+-- what a lost connection showed may not have been read: it is shown again
+pub shown_again : Worked (outbox (of_two 1)) (
+    joins 1 1
+    ∷ joins 2 1
+    ∷ arrives 2 (nop 0xc1 1)
+    ∷ replies 2 (Nop 0xc1) 1 2 2
+    ∷ none_goes 1
+    ∷ is_lost 2
+    ∷ goes 1 Notices 1 2 2
+    ∷ none_goes 1
+    ∷ [])
+unfolding Rules.bars_as
+shown_again = refl
+
 abbrev pub immediate_nops : ℕ → List Move
 immediate_nops count = map (λ n. Happens (Arrive 1 (nop_now 0xc1 1))) (range_with_len 0 count)
 

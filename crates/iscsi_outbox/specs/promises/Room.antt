@@ -1,5 +1,5 @@
 -- Room: of the events of a session, where arrivals are taken only while there is room, everything has its place.
-use Rattle.std.specs.Prelude.{◌≡◌, ◌≤◌, ℕ, ◌==◌, ◌+◌, ◌-◌, ◌*◌, ◌&&◌, not, nat_le, Bool, true, false, List, [], ◌∷◌, count_by, if◌then◌else◌, ◌||◌}
+use Rattle.std.specs.Prelude.{◌≡◌, ◌≤◌, ℕ, ◌==◌, ◌+◌, ◌-◌, ◌*◌, ◌&&◌, not, nat_le, Bool, true, false, List, [], ◌∷◌, count_by, ◌||◌, nat_lt}
 use Rattle.std.specs.List.{list_any}
 use Rattle.iscsi_wire.specs.declared.request.Request.{Request}
 use Rattle.iscsi_wire.specs.Serial.{lift}
@@ -54,12 +54,16 @@ is_read_with_room o s (Happens (Arrive conn header)) = may_take o s.box || is_pa
 is_read_with_room o s (Happens (Done ticket status)) = true
 is_read_with_room o s (Other c) = is_other c
 
+-- a request that has a number of its own: no Data-Out or SNACK, and not immediate
+abbrev pub has_number : Request → Bool
+has_number r = not (is_immediate r) && (nat_lt (opcode r) 0x05 || opcode r == 0x06)
+
 -- an arrival has a number that the initiator was shown (RFC 7143 section 4.2.2.1)
 abbrev pub is_within_shown : Opening → Both → Step → Bool
-is_within_shown o s (Happens (Arrive conn header)) = let r = request_of conn header in
-    if is_immediate r then true else nat_le (lift (exp_of o.session s.trace) (cmd_sn r)) s.box.shown
+is_within_shown o s (Happens (Arrive conn header)) =
+    let r = request_of conn header in not (has_number r) || nat_le (lift (exp_of o.session s.trace) (cmd_sn r)) s.box.shown
 is_within_shown o s (Happens (Done ticket status)) = true
-is_within_shown o s (Other c) = true
+is_within_shown o s (Other c) = is_other c
 
 abbrev pub all_are : (Both → Step → Bool) → Opening → Both → List Step → Bool
 all_are test o s [] = true

@@ -80,3 +80,4 @@ pub record Box : Type 0 where
   pub exp : ℕ  -- ExpCmdSN, as the last event showed it
   pub max : ℕ  -- the session's MaxCmdSN, without bound
   pub shown : ℕ  -- the last MaxCmdSN that was shown, without bound
+  pub reached : ℕ  -- the same, and 0 once a connection was lost since: what it showed may not have been read

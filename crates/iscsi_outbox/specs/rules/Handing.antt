@@ -86,12 +86,13 @@ nop_in b pdu = record {
 abbrev pub ping : Box → Link → Outgoing
 ping b l = nop_in b (Pings (FIRST_PING + count_pings l % 0x7fff_ffff))
 
--- all numbers that were shown are used, more may be shown, and nothing waits that shows them: one connection says so
+-- all numbers that were shown are used, more may be shown, and nothing waits that shows them: the first connection that takes
+-- requests says so
 -- outbox: room/notice
 abbrev pub wants_notice : Opening → Box → Link → Bool
 wants_notice o b l =
     elim (first_of (filter is_usable b.links)) [ Some m ↦ m.conn == l.conn | None ↦ false ]
-    && nat_lt b.shown (lift b.shown b.exp) && nat_lt b.shown (max_shown o b)
+    && nat_lt b.reached (lift b.shown b.exp) && nat_lt b.reached (max_shown o b)
 
 -- what the queue gives
 abbrev pub first_waiting : Opening → Box → Link → List Outgoing → Option Outgoing
@@ -178,4 +179,5 @@ after_given o b l h =
     record b' {
       links = at_link l.conn (λ m. record m { handed = m.handed ++ h ∷ [] }) b'.links;
       shown = max_shown o b';
+      reached = max_shown o b';
     }

@@ -1,5 +1,5 @@
 -- The whole run: what each call of a list answers, and the state after it.
-use Rattle.std.specs.Prelude.{ℕ, ◌+◌, ◌-◌, ◌==◌, ◌&&◌, not, nat_lt, nat_le, max, zero, suc, Bool, true, false, List, [], ◌∷◌, length, map, Option, Some, None, if◌then◌else◌}
+use Rattle.std.specs.Prelude.{ℕ, ◌+◌, ◌-◌, ◌==◌, ◌&&◌, not, nat_lt, nat_le, max, zero, suc, Bool, true, false, List, [], ◌∷◌, length, map, Option, Some, None, if◌then◌else◌, ◌^◌}
 use Rattle.std.specs.List.{list_any, position}
 use Rattle.iscsi_wire.specs.Serial.{lift, number_of_first}
 use Rattle.iscsi_outbox.specs.declared.own_pdu.PutRefusal.{PutRefusal}
@@ -40,6 +40,7 @@ opened o =
       exp = o.session.first;
       max = last;
       shown = last;
+      reached = last;
     }
 
 -- ---- stopped
@@ -63,12 +64,13 @@ up_to_taking zero hs = 0
 up_to_taking (suc count) [] = 0
 up_to_taking (suc count) (h ∷ hs) = 1 + (if h.out.takes then up_to_taking count hs else up_to_taking (suc count) hs)
 
--- by an ExpStatSN: all up to the one that took the StatSN before it. One that wasn't handed out yet says nothing
+-- by an ExpStatSN: all up to the one that took the StatSN before it. One that wasn't handed out yet says nothing, nor does one
+-- that is half of the numbers behind
 -- outbox: arrived/stat-sn
 abbrev pub arrived_by_stat_sn : Link → ℕ → ℕ
 arrived_by_stat_sn l exp_stat_sn =
     let n = lift (next_stat_sn l) exp_stat_sn in
-    if nat_le n (next_stat_sn l) then up_to_taking (n - l.first) l.handed else 0
+    if nat_le n (next_stat_sn l) && nat_lt (next_stat_sn l - n) (2 ^ 31 - 1) then up_to_taking (n - l.first) l.handed else 0
 
 abbrev pub is_ping_with : ℕ → Handed → Bool
 is_ping_with tag h = elim (h.out.pdu) [ Pings t ↦ t == tag | Replies reply ↦ false | Owns p ↦ false | Notices ↦ false ]
@@ -95,7 +97,7 @@ link_lost l = record l { lost = true }
 
 -- outbox: lost/dropped
 abbrev pub after_lost : Opening → Box → ℕ → Box
-after_lost o b conn = settle o (drop_on conn (record b { links = at_link conn link_lost b.links }))
+after_lost o b conn = settle o (drop_on conn (record b { links = at_link conn link_lost b.links; reached = 0 }))
 
 -- ---- cleared
 
