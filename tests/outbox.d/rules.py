@@ -21,6 +21,11 @@ class Options(NamedTuple):
     acknowledged: bool
 
     @property
+    def looks_for_arrival(self):
+        """In a session of one connection StatSN orders all."""
+        return self.acknowledged and len(self.conns) > 1
+
+    @property
     def numbered_room(self):
         """Places for replies to numbered requests: for one window that is taken, and for another one that waits."""
         return 2 * self.window + self.immediate * len(self.conns)
@@ -46,7 +51,8 @@ class Entry(NamedTuple):
 
 
 class Answer(NamedTuple):
-    """The answer to an abort or Logout that isn't due yet, in the order of the session's log. `own`: what left in its item."""
+    """The answer to an abort or Logout that isn't due yet, in the order of the session's log. `own`: what left in its item;
+    `aim`: the tag or the unit that it is about."""
 
     conn: int
     kind: str
@@ -54,6 +60,7 @@ class Answer(NamedTuple):
     scope: frozenset
     own: frozenset = frozenset()
     closes: frozenset = frozenset()
+    aim: tuple = ()
 
     def awaits(self, wrong):
         """The tickets that it waits for: all of its scope, that is also those that left before its item."""
@@ -68,6 +75,11 @@ class Handed(NamedTuple):
 
 
 PING = Entry(-1, "ping", takes=False)
+# A NOP-In that asks for no answer: it shows MaxCmdSN.
+NOTICE = Entry(-1, "notice", takes=False)
+
+
+ANSWERS = ("abort", "set", "logout")
 
 
 class Outbox:
@@ -82,7 +94,10 @@ class Outbox:
         self.left = self.running = frozenset()
         # Closed by a Logout; of these, those closed by one on another connection; lost; joined.
         self.closed = self.cut = self.gone = self.joined = frozenset()
-        self.shown = options.window
+        # MaxCmdSN as it was last shown; and None instead, once a connection was lost on which that may have been.
+        self.shown = self.reached = options.window
+        # Of the last event: how many numbered requests were received, and how many numbered commands are live.
+        self.numbers = (0, 0)
 
     def copy(self):
         new = object.__new__(Outbox)
@@ -93,10 +108,15 @@ class Outbox:
     # ---- the effects of an event
 
     def enter(self, conn, entry):
-        """Something enters the queue of a connection, unless that takes nothing more."""
-        if conn not in self.gone and (conn not in self.closed or entry.closes):
+        """Something enters the queue of a connection, unless that takes nothing more. One that a Logout on itself closes takes
+        the answers that had to wait."""
+        if conn not in self.gone | self.cut and (conn not in self.closed or self.takes_still(entry)):
             self.queue[conn] += (entry._replace(time=self.time),)
         self.time += 1
+
+    def takes_still(self, entry):
+        """A closed connection takes what had to wait."""
+        return entry.closes if self.wrong == "drops-answers" else entry.kind in ANSWERS
 
     def leave(self, tickets, started):
         """Tickets leave by an abort, a Logout or the loss of their connection. What waits of them is dropped."""
@@ -151,6 +171,8 @@ class Outbox:
         self.closed |= {conn}
         self.gone |= {conn}
         self.drop(conn)
+        if self.wrong != "lost-notice":
+            self.reached = None
         if self.wrong != "lose-keeps":
             self.handed[conn], self.written[conn] = (), 0
         self.settle()
@@ -172,8 +194,7 @@ class Outbox:
         return self.handed[conn][self.written[conn]:]
 
     def under_way(self, conn):
-        acknowledged = self.options.acknowledged and len(self.open_conns()) > 1
-        return self.handed[conn] if acknowledged else self.unwritten(conn)
+        return self.handed[conn] if self.options.looks_for_arrival else self.unwritten(conn)
 
     def holding(self, answer):
         """The other connections on which something of the answer's scope is under way. A Logout waits for none: what lies on
@@ -184,13 +205,15 @@ class Outbox:
         return [conn for conn in self.others(answer.conn) if any(pdu.entry.ticket in answer.awaits(self.wrong) for pdu in way(conn))]
 
     def is_due(self, answer, before):
-        """No ticket of its scope is running; nothing of one is under way elsewhere; and a Logout that closes its own
-        connection goes behind every answer before it there."""
+        """No ticket of its scope is running; nothing of one is under way elsewhere; a Logout that closes its own connection goes
+        behind every answer before it there; and answers that are about one tag, or one unit, go in their order."""
         if self.wrong == "at-once":
             return True
         if answer.awaits(self.wrong) & self.running and self.wrong != "not-stopped":
             return False
-        if answer.conn in answer.closes and answer.conn in before and self.wrong != "logout-first":
+        if answer.conn in answer.closes and any(other.conn == answer.conn for other in before) and self.wrong != "logout-first":
+            return False
+        if answer.aim and any(other.aim == answer.aim for other in before):
             return False
         return not self.holding(answer)
 
@@ -198,7 +221,7 @@ class Outbox:
         """What is due enters, in the order of the log."""
         undue = ()
         for answer in self.undue:
-            if self.is_due(answer, {other.conn for other in undue}):
+            if self.is_due(answer, undue):
                 self.enter(answer.conn, Entry(0, answer.kind, None, True, answer.fenced, False, answer.scope, answer.closes))
             else:
                 undue += (answer,)
@@ -207,9 +230,10 @@ class Outbox:
     # ---- what may be handed out
 
     def wants_ping(self, conn):
-        """Something waits for what was handed out here to arrive, and no ping is unanswered; not behind a Logout Response."""
+        """Something waits for what was handed out here to arrive, or something of a ticket that left is under way here; and no
+        ping is unanswered; not behind a Logout Response."""
         handed = self.handed[conn]
-        if self.wrong == "no-ping" or not self.options.acknowledged or len(self.open_conns()) < 2:
+        if self.wrong == "no-ping" or not self.options.looks_for_arrival:
             return False
         if any(pdu.entry is PING for pdu in handed):
             return False
@@ -219,7 +243,7 @@ class Outbox:
         if self.wrong == "ping-idle" and takes:
             return False
         elsewhere = [entry for other in self.others(conn) for entry in self.queue[other]]
-        return (any(conn in self.holding(answer) for answer in self.undue)
+        return (any(pdu.entry.ticket in self.left for pdu in handed)
                 or takes and any(entry.fenced for entry in elsewhere)
                 or any(pdu.entry.fenced for pdu in handed) and any(entry.takes for entry in elsewhere))
 
@@ -249,15 +273,21 @@ class Outbox:
             return PING
         if waiting and (not waiting[0].takes or self.passes_fence(conn, waiting[0])):
             return waiting[0]
-        return None
+        return NOTICE if not waiting and self.wants_notice(conn) else None
 
-    def next(self, conn, numbers):
-        """Hands out the next PDU of a connection, numbered now. `numbers`: how many numbered requests were received, and how
-        many numbered commands are live."""
+    def wants_notice(self, conn):
+        """All numbers that were shown are used, more may be shown, and nothing waits that shows them: the first connection that
+        takes requests says so. What a lost connection showed may not have been read."""
+        usable = [other for other in self.open_conns() if other not in self.closed]
+        return (self.wrong != "no-notice" and usable[:1] == [conn]
+                and (self.reached is None or self.reached <= self.numbers[0] and self.reached < self.max_shown()))
+
+    def next(self, conn):
+        """Hands out the next PDU of a connection, numbered now."""
         entry = self.gives(conn)
-        if entry is not PING:
+        if entry not in (PING, NOTICE):
             self.queue[conn] = self.queue[conn][1:]
-        self.shown = self.max_shown(numbers)
+        self.shown = self.reached = self.max_shown()
         self.handed[conn] += (Handed(entry, self.shown),)
         return entry
 
@@ -275,16 +305,22 @@ class Outbox:
     def waiting_numbered(self):
         return sum(entry.numbered for waiting in self.queue.values() for entry in waiting)
 
-    def may_take(self, live):
-        """One more arrival's reply has room, counted with those of what is live. It never rules what has been taken."""
-        return self.waiting() + live + 1 <= self.options.room
+    def owing(self):
+        """The tickets that left and are running, or something of which is under way."""
+        way = {pdu.entry.ticket for conn in self.open_conns() for pdu in self.under_way(conn)}
+        return len(self.running | (self.left & way))
 
-    def max_shown(self, numbers):
-        """MaxCmdSN as it is shown: the session's, less what waits beyond a window's replies; and never back."""
-        received, live = numbers
+    def may_take(self):
+        """One more arrival's reply has room, and what it takes out; for what is live, held or waits there are further places. It
+        never rules what has been taken."""
+        return self.waiting() < self.options.room and self.owing() < self.options.room
+
+    def max_shown(self):
+        """MaxCmdSN as it is shown: the session's, less what waits or owes beyond a window's; and never back."""
+        received, live = self.numbers
         window = self.options.window
         if self.wrong != "max-of-the-session":
-            window = min(window, self.options.numbered_room - self.waiting_numbered())
+            window = min(window, self.options.numbered_room - max(self.waiting_numbered(), self.owing()))
         return max(self.shown, received + window - live)
 
     def key(self):
@@ -292,4 +328,5 @@ class Outbox:
         rank = {time: place for place, time in enumerate(sorted(entry.time for q in self.queue.values() for entry in q))}
         return (tuple(tuple((rank[entry.time], *entry[1:]) for entry in q) for q in self.queue.values()), self.undue, self.running,
                 tuple(tuple((pdu.entry[1:], pdu.shown) for pdu in h) for h in self.handed.values()), tuple(self.written.values()),
-                self.left, self.closed, self.cut, self.gone, self.joined, self.shown)
+                self.left, self.closed, self.cut, self.gone, self.joined, self.shown - self.numbers[0], self.numbers[1],
+                self.reached is not None and self.reached - self.numbers[0])

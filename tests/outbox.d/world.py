@@ -5,7 +5,7 @@ until the initiator reads it, whenever that is; so do the initiator's requests u
 keeps to the MaxCmdSN that it was shown.
 """
 
-from rules import PING, Answer, Entry, Outbox
+from rules import ANSWERS, NOTICE, PING, Answer, Entry, Outbox
 
 
 class Broken(Exception):
@@ -39,13 +39,16 @@ class World:
         self.allowed = options.window
         # The immediate requests of a connection whose answers the initiator hasn't read.
         self.immediate = dict.fromkeys(options.conns, 0)
+        # The replies that the session sent on a connection and that weren't handed out.
+        self.unanswered = dict.fromkeys(options.conns, 0)
+        self.box.numbers = (0, 0)
         self.box.join(0)
 
     def copy(self):
         new = object.__new__(World)
         new.__dict__.update(self.__dict__)
         new.box = self.box.copy()
-        for name in ("state", "conn", "last", "last_taking", "last_fenced", "read", "inward", "immediate"):
+        for name in ("state", "conn", "last", "last_taking", "last_fenced", "read", "inward", "immediate", "unanswered"):
             setattr(new, name, dict(getattr(self, name)))
         return new
 
@@ -61,7 +64,7 @@ class World:
         return frozenset(t for t in self.tickets if self.state[t] != "new" and self.tag(t) == self.tag(ticket))
 
     def takes_arrivals(self, conn):
-        return not self.inward[conn] and self.box.may_take(len(self.live()))
+        return not self.inward[conn] and self.box.may_take()
 
     def moves(self):
         yield from self.requests()
@@ -110,7 +113,7 @@ class World:
                 yield ("read", conn)
             if self.options.acknowledged and any(pdu.entry.takes for pdu in box.handed[conn][: self.read[conn]]):
                 yield ("acknowledge", conn)
-            if self.inward[conn] and (self.inward[conn][0] == "pong" or box.may_take(len(self.live()))):
+            if self.inward[conn] and (self.inward[conn][0] == "pong" or box.may_take()):
                 yield ("receive", conn)
             if box.is_over(conn):
                 yield ("lose", conn)
@@ -131,6 +134,7 @@ class World:
 
     def do(self, move):
         getattr(self, "do_" + move[0])(*move[1:])
+        self.box.numbers = (self.received, len(self.live()))
 
     def do_join(self, conn):
         self.box.join(conn)
@@ -154,14 +158,18 @@ class World:
     def do_complete(self, ticket):
         self.state[ticket] = "done"
         self.medium -= {ticket}
-        self.box.enter(self.conn[ticket], Entry(0, "response", ticket, numbered=True))
+        self.enter(self.conn[ticket], Entry(0, "response", ticket, numbered=True))
+
+    def enter(self, conn, entry):
+        self.unanswered[conn] += 1
+        self.box.enter(conn, entry)
 
     def do_data(self, ticket):
         self.box.put(self.conn[ticket], ticket)
 
     def do_nop(self, conn):
         self.number()
-        self.box.enter(conn, Entry(0, "nop", numbered=True))
+        self.enter(conn, Entry(0, "nop", numbered=True))
 
     def do_send(self, conn):
         self.sent += 1
@@ -175,7 +183,7 @@ class World:
         else:
             # Those that lie unread execute in the order of their numbers; which one is read first makes no difference here.
             self.received += 1
-            self.box.enter(conn, Entry(0, "nop", numbered=True))
+            self.enter(conn, Entry(0, "nop", numbered=True))
 
     def do_abort(self, ticket, conn):
         same = self.same_tag(ticket)
@@ -183,14 +191,14 @@ class World:
         over = frozenset(t for t in same if self.state[t] != "done")
         self.immediate[conn] += 1
         if there or self.box.wrong != "no-task":
-            self.take_out(there, Answer(conn, "abort", False, over))
+            self.take_out(there, Answer(conn, "abort", False, over, aim=("tag", self.tag(ticket))))
         else:
-            self.box.enter(conn, Entry(0, "abort", scope=over))
+            self.enter(conn, Entry(0, "abort", scope=over))
 
     def do_abort_set(self, conn):
-        every = frozenset(ticket for ticket in self.tickets if self.state[ticket] != "new")
+        every = frozenset(ticket for ticket in self.tickets if self.state[ticket] not in ("new", "done"))
         self.immediate[conn] += 1
-        self.take_out(self.live(), Answer(conn, "set", True, every))
+        self.take_out(self.live(), Answer(conn, "set", True, every, aim=("unit",)))
 
     def do_logout(self, closing, conn):
         self.immediate[conn] += 1
@@ -203,7 +211,7 @@ class World:
     def log_out(self, closing, conn):
         for other in closing:
             self.box.close(other, other != conn)
-        mine = frozenset(ticket for ticket in self.tickets if self.conn.get(ticket) in closing)
+        mine = frozenset(ticket for ticket in self.tickets if self.conn.get(ticket) in closing and self.state[ticket] != "done")
         self.take_out([t for t in self.live() if t in mine], Answer(conn, "logout", False, mine, closes=frozenset(closing)))
 
     def do_lose(self, conn):
@@ -218,6 +226,7 @@ class World:
             self.state[ticket] = "aborted"
         self.box.leave(frozenset(tickets), started)
         if answer:
+            self.unanswered[answer.conn] += 1
             self.box.answer(answer._replace(own=frozenset(tickets)))
         else:
             self.box.settle()
@@ -239,7 +248,7 @@ class World:
         self.allowed = max(self.allowed, shown)
         if entry is PING:
             self.inward[conn] += ("pong",)
-        if entry.kind in ("abort", "set", "logout"):
+        if entry.kind in ANSWERS:
             self.immediate[conn] -= 1
 
     def do_acknowledge(self, conn):
@@ -259,15 +268,16 @@ class World:
         self.box.arrived(conn, count)
 
     def do_next(self, conn):
-        numbered_live = len(self.live())
-        entry = self.box.next(conn, (self.received, numbered_live))
+        entry = self.box.next(conn)
         promise(conn in self.box.joined, "nothing before the connection joined")
         promise(conn not in self.ended, "closed: nothing behind a Logout Response")
         promise(entry.ticket not in self.answered, "silent after")
         promise(not entry.scope & self.medium, "still before")
-        if entry is not PING:
+        if entry not in (PING, NOTICE):
             promise(entry.time > self.last[conn], "in the order in which they entered")
             self.last[conn] = entry.time
+        if entry.kind not in ("ping", "notice", "data"):
+            self.unanswered[conn] -= 1
         if entry.takes:
             self.see_fence(conn, entry)
         self.answered |= entry.scope
@@ -303,11 +313,16 @@ class World:
             moved = False
             for conn in order:
                 while (name := self.owed(conn)) is not None:
+                    promise(name != "lose" or conn in self.box.cut or not self.unanswered[conn], "no reply is lost")
                     self.do((name, conn))
                     moved = True
         box = self.box
         promise(not box.undue and not any(box.queue[conn] for conn in box.open_conns()), "no deadlock")
         promise(not any(self.inward[conn] for conn in box.open_conns()), "no deadlock: a request isn't taken")
+        kept = [conn for conn in box.open_conns() if conn not in box.cut]
+        promise(not any(self.unanswered[conn] for conn in kept), "no reply is lost")
+        usable = [conn for conn in kept if conn not in box.closed]
+        promise(not usable or self.allowed > self.received or box.max_shown() <= self.allowed, "no deadlock: the window")
 
     def owed(self, conn):
         box = self.box
@@ -319,7 +334,7 @@ class World:
             return "written"
         if self.read[conn] < box.written[conn]:
             return "read"
-        if self.inward[conn] and (self.inward[conn][0] == "pong" or box.may_take(len(self.live()))):
+        if self.inward[conn] and (self.inward[conn][0] == "pong" or box.may_take()):
             return "receive"
         return "lose" if box.is_over(conn) else None
 
@@ -328,4 +343,4 @@ class World:
         order = tuple((entry.time > self.last_fenced[conn], entry.time > self.last_taking[conn]) for entry, conn in entries)
         return (self.box.key(), tuple(self.state.values()), tuple(sorted(self.conn.items())), self.medium, self.answered,
                 self.silent, self.ended, self.shut, tuple(self.read.values()), tuple(self.inward.values()),
-                self.sent - self.received, self.allowed - self.received, tuple(self.immediate.values()), order)
+                self.sent - self.received, self.allowed - self.received, tuple(self.immediate.values()), tuple(self.unanswered.values()), order)
