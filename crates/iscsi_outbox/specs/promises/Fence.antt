@@ -41,6 +41,12 @@ pub record FenceHolds (o : Opening) (ds : List Deed) : Type 0 where
       → handed_in_deed answer ≡ Some (c, h) → is_fenced o (items_in earlier) h ≡ true
       → handed_in_deed handing ≡ Some (d, g) → d ≢ c → g.out.takes ≡ true → o.acknowledged ≡ true
       → is_through o c earlier answer h since ≡ true
+  -- and no other way: of it and what takes a StatSN on another connection, the one that entered its queue first goes first
+  pub in_order : (earlier since after : List Deed) (handing later : Deed) (c d : ℕ) (h g : Handed)
+      → earlier ++ handing ∷ (since ++ later ∷ after) ≡ ds
+      → handed_in_deed handing ≡ Some (c, h) → handed_in_deed later ≡ Some (d, g) → d ≢ c → h.out.takes ≡ true → g.out.takes ≡ true
+      → is_fenced o (items_in earlier) h || is_fenced o (items_in (earlier ++ handing ∷ since)) g ≡ true
+      → h.out.time < g.out.time
   -- a reply that stands before it in the log, and didn't have to wait, goes out before it, unless its connection hasn't joined, was
   -- closed or lost
   pub first : (earlier after : List Deed) (answer : Deed) (c : ℕ) (h : Handed) (place fenced : ℕ) (s : Sent)

@@ -1,10 +1,10 @@
 -- Each once: every reply of the session's log goes out at most once, on its connection, in the log's order but for answers that
 -- had to wait.
-use Rattle.std.specs.Prelude.{◌≡◌, ◌<◌, ℕ, List, ◌∷◌, ◌++◌, Some, None}
+use Rattle.std.specs.Prelude.{◌≡◌, ◌<◌, ℕ, List, ◌∷◌, ◌++◌, Some, None, Contains}
 use Rattle.iscsi_wire.specs.declared.reply.Reply.{Reply}
 use Rattle.iscsi_outbox.specs.rules.Calls.{Opening}
 use Rattle.iscsi_outbox.specs.rules.Boxes.{Replies, Handed}
-use Rattle.iscsi_outbox.specs.promises.Deeds.{Deed, handed_in_deed, items_in}
+use Rattle.iscsi_outbox.specs.promises.Deeds.{Deed, handed_in_deed, items_in, handed_in}
 use Rattle.iscsi_outbox.specs.promises.Scope.{Sent, nth, sent_by, sent_as, aim_of_sent}
 
 pub record OnceHolds (o : Opening) (ds : List Deed) : Type 0 where
@@ -24,3 +24,9 @@ pub record OnceHolds (o : Opening) (ds : List Deed) : Type 0 where
       → h.out.sent ≡ Some place → g.out.sent ≡ Some behind
       → sent_as (items_in before) h.out ≡ Some s → sent_as (items_in (before ++ handing ∷ between)) g.out ≡ Some r
       → aim_of_sent o s ≡ None → aim_of_sent o r ≡ None → place < behind
+  -- on all connections they entered their queues in the log's order
+  pub moments : (c d : ℕ) (h g : Handed) (place behind : ℕ) (s r : Sent)
+      → Contains (handed_in ds) (c, h) → Contains (handed_in ds) (d, g)
+      → h.out.sent ≡ Some place → g.out.sent ≡ Some behind
+      → sent_as (items_in ds) h.out ≡ Some s → sent_as (items_in ds) g.out ≡ Some r
+      → aim_of_sent o s ≡ None → aim_of_sent o r ≡ None → place < behind → h.out.time < g.out.time
