@@ -1,5 +1,5 @@
 -- Worked lists: the response fence, and pings.
-use Rattle.std.specs.Prelude.{[], ◌∷◌, refl}
+use Rattle.std.specs.Prelude.{[], ◌∷◌, refl, false}
 use Rattle.iscsi_wire.specs.declared.reply.Reply.TheVariants.{Task, Nop}
 use Rattle.iscsi_tasks.specs.Rules as Rules
 use Rattle.iscsi_history.specs.examples.Rows.{nop_now, function_now, of_two}
@@ -95,3 +95,35 @@ pub lost_before_fence : Worked (outbox (of_two 4)) (
     ∷ [])
 unfolding Rules.bars_as
 lost_before_fence = refl
+
+-- an ExpStatSN that wasn't handed out yet says nothing
+pub not_handed_out_yet : Worked (outbox (of_two 4)) (
+    joins 1 1
+    ∷ joins 2 1
+    ∷ arrives 1 (nop_now 0xc1 1)
+    ∷ arrives 2 (function_now 2 1 0xb1 0 0)
+    ∷ replies 1 (Nop 0xc1) 1 1 4
+    ∷ acknowledges 1 3
+    ∷ none_goes 2
+    ∷ acknowledges 1 2
+    ∷ replies 2 (Task 0xb1 0) 1 1 4
+    ∷ [])
+unfolding Rules.bars_as
+not_handed_out_yet = refl
+
+-- where that was chosen, written is enough, and there are no pings
+pub written_is_enough : Worked (record (outbox (of_two 4)) { acknowledged = false }) (
+    joins 1 1
+    ∷ joins 2 1
+    ∷ arrives 1 (nop_now 0xc1 1)
+    ∷ arrives 2 (function_now 2 1 0xb1 0 0)
+    ∷ arrives 1 (nop_now 0xc2 1)
+    ∷ replies 1 (Nop 0xc1) 1 1 4
+    ∷ none_goes 1
+    ∷ none_goes 2
+    ∷ is_written 1
+    ∷ replies 2 (Task 0xb1 0) 1 1 4
+    ∷ replies 1 (Nop 0xc2) 2 1 4
+    ∷ [])
+unfolding Rules.bars_as
+written_is_enough = refl

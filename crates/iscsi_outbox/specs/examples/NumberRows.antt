@@ -1,5 +1,5 @@
 -- Worked lists: numbers, own PDUs, and other sessions.
-use Rattle.std.specs.Prelude.{[], ◌∷◌, replicate, refl, true}
+use Rattle.std.specs.Prelude.{◌≡◌, [], ◌∷◌, replicate, refl, true, ◌++◌}
 use Rattle.iscsi_wire.specs.declared.reply.Reply.TheVariants.{Task, Nop}
 use Rattle.iscsi_wire.specs.Replies.{NO_TAG}
 use Rattle.iscsi_tasks.specs.Rules as Rules
@@ -7,7 +7,8 @@ use Rattle.iscsi_history.specs.examples.Rows.{command, nop, function_now, settin
 use Rattle.iscsi_outbox.specs.declared.own_pdu.OwnPdu.TheVariants.{OfCommand, OfConnection}
 use Rattle.iscsi_outbox.specs.declared.own_pdu.PutRefusal.TheVariants.{Unfit, Gone, Full}
 use Rattle.iscsi_outbox.specs.rules.Calls.{Clears}
-use Rattle.iscsi_outbox.specs.rules.Boxes.{Owns}
+use Rattle.iscsi_outbox.specs.rules.Boxes.{Owns, Pings}
+use Rattle.iscsi_outbox.specs.rules.Handing.{header_with}
 use Rattle.iscsi_outbox.specs.examples.Rows.{outbox, Calls, Quiet, Worked, arrives, joins, goes, replies, none_goes, data_of, message, own_nop, puts, is_refused}
 
 -- numbers are those of the moment of handing out: StatSN in sequence with the target's own PDUs, ExpCmdSN and MaxCmdSN of the
@@ -57,3 +58,12 @@ pub reset_of_shared : Worked (record (outbox (setting 1 4)) { shared = true }) (
     ∷ [])
 unfolding Rules.bars_as
 reset_of_shared = refl
+
+-- the bytes of an R2T, in which the numbers are filled in, and of a ping
+pub numbers_of_r2t : header_with (Owns (OfCommand 1 (0x31 ∷ 0x80 ∷ replicate 46 7))) 1 2 0x0304 ≡
+    0x31 ∷ 0x80 ∷ replicate 22 7 ++ 0 ∷ 0 ∷ 0 ∷ 1 ∷ 0 ∷ 0 ∷ 0 ∷ 2 ∷ 0 ∷ 0 ∷ 3 ∷ 4 ∷ replicate 12 7
+numbers_of_r2t = refl
+
+pub bytes_of_ping : header_with (Pings 0x8000_0005) 1 2 3 ≡
+    0x20 ∷ 0x80 ∷ replicate 14 0 ++ replicate 4 0xff ++ 0x80 ∷ 0 ∷ 0 ∷ 5 ∷ 0 ∷ 0 ∷ 0 ∷ 1 ∷ 0 ∷ 0 ∷ 0 ∷ 2 ∷ 0 ∷ 0 ∷ 0 ∷ 3 ∷ replicate 12 0
+bytes_of_ping = refl
