@@ -1,0 +1,114 @@
+-- Worked lists: Logout, lost connections, and joining.
+use Rattle.std.specs.Prelude.{[], ◌∷◌, refl}
+use Rattle.iscsi_wire.specs.declared.reply.Reply.TheVariants.{Task, Nop, Logout}
+use Rattle.iscsi_tasks.specs.Rules as Rules
+use Rattle.iscsi_history.specs.examples.Rows.{command, nop_now, function_now, logout_now, of_two}
+use Rattle.iscsi_outbox_rules.specs.declared.own_pdu.PutRefusal.TheVariants.{Closed}
+use Rattle.iscsi_outbox_rules.specs.rules.Calls.{Joins}
+use Rattle.iscsi_outbox_rules.specs.rules.Boxes.{Owns}
+use Rattle.iscsi_outbox_rules.specs.examples.Rows.{outbox, Calls, IsRefused, Worked, arrives, joins, is_lost, stops, is_written, goes, replies, none_goes, none_is_left, data_of, message, puts, is_refused}
+
+-- a Logout Response goes behind an answer that waits on its connection; then, and when all is written, nothing is left
+pub logout_behind_abort : Worked (outbox (of_two 4)) (
+    joins 1 1
+    ∷ joins 2 1
+    ∷ arrives 2 (command 0xa1 1)
+    ∷ arrives 1 (function_now 1 2 0xb1 0xa1 1)
+    ∷ arrives 1 (logout_now 1 0xd1 2 1)
+    ∷ none_goes 1
+    ∷ is_refused (message 1) Closed
+    ∷ stops 1
+    ∷ replies 1 (Task 0xb1 0) 1 2 5
+    ∷ replies 1 (Logout 0xd1 0) 2 2 5
+    ∷ none_goes 1
+    ∷ is_written 1
+    ∷ none_goes 1
+    ∷ is_written 1
+    ∷ none_is_left 1
+    ∷ is_lost 1
+    ∷ none_goes 1
+    ∷ [])
+unfolding Rules.bars_as
+logout_behind_abort = refl
+
+-- a Logout waits for the commands of the connection that it closes
+pub logout_held : Worked (outbox (of_two 4)) (
+    joins 1 1
+    ∷ joins 2 1
+    ∷ arrives 2 (command 0xa2 1)
+    ∷ arrives 1 (command 0xa1 2)
+    ∷ arrives 1 (logout_now 1 0xd1 3 1)
+    ∷ none_goes 1
+    ∷ stops 2
+    ∷ replies 1 (Logout 0xd1 0) 1 3 5
+    ∷ [])
+unfolding Rules.bars_as
+logout_held = refl
+
+-- what waits on a connection that another one's Logout closes is dropped
+pub closed_by_another : Worked (outbox (of_two 4)) (
+    joins 1 1
+    ∷ joins 2 1
+    ∷ arrives 2 (nop_now 0xc1 1)
+    ∷ arrives 2 (command 0xa1 1)
+    ∷ arrives 2 (function_now 1 2 0xb1 0xa1 1)
+    ∷ arrives 1 (logout_now 1 0xd1 2 2)
+    ∷ none_is_left 2
+    ∷ none_goes 1
+    ∷ stops 1
+    ∷ none_is_left 2
+    ∷ replies 1 (Logout 0xd1 0) 1 2 5
+    ∷ [])
+unfolding Rules.bars_as
+closed_by_another = refl
+
+-- a Logout of the session closes all: its own connection when its response is written
+pub session_closed : Worked (outbox (of_two 4)) (
+    joins 1 1
+    ∷ joins 2 1
+    ∷ arrives 2 (nop_now 0xc1 1)
+    ∷ arrives 1 (nop_now 0xc2 1)
+    ∷ arrives 1 (logout_now 0 0xd1 1 0)
+    ∷ none_is_left 2
+    ∷ replies 1 (Nop 0xc2) 1 1 4
+    ∷ replies 1 (Logout 0xd1 0) 2 1 4
+    ∷ none_goes 1
+    ∷ is_written 1
+    ∷ is_written 1
+    ∷ none_is_left 1
+    ∷ [])
+unfolding Rules.bars_as
+session_closed = refl
+
+-- a lost connection: what waits there is dropped, and so are its answers; the session is told by a Logout on it, whose response
+-- goes nowhere. What it handed out isn't waited for
+pub connection_lost : Worked (outbox (of_two 4)) (
+    joins 1 1
+    ∷ joins 2 1
+    ∷ arrives 2 (command 0xa1 1)
+    ∷ puts (data_of 1)
+    ∷ goes 2 (Owns (data_of 1)) 1 2 4
+    ∷ puts (data_of 1)
+    ∷ arrives 1 (function_now 1 2 0xb1 0xa1 1)
+    ∷ stops 1
+    ∷ none_goes 1
+    ∷ is_lost 2
+    ∷ arrives 2 (logout_now 1 0xd1 2 2)
+    ∷ replies 1 (Task 0xb1 0) 1 2 5
+    ∷ none_goes 2
+    ∷ [])
+unfolding Rules.bars_as
+connection_lost = refl
+
+-- a connection that hasn't joined takes nothing, and one that was closed before it came may not join
+pub join_refused : Worked (outbox (of_two 4)) (
+    joins 1 1
+    ∷ is_refused (message 2) Closed
+    ∷ none_goes 2
+    ∷ arrives 1 (logout_now 1 0xd1 1 2)
+    ∷ (Calls (Joins 2 1), IsRefused)
+    ∷ (Calls (Joins 1 1), IsRefused)
+    ∷ replies 1 (Logout 0xd1 0) 1 1 4
+    ∷ [])
+unfolding Rules.bars_as
+join_refused = refl

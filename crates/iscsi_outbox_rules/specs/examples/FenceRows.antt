@@ -1,0 +1,129 @@
+-- Worked lists: the response fence, and pings.
+use Rattle.std.specs.Prelude.{[], ◌∷◌, refl, false}
+use Rattle.iscsi_wire.specs.declared.reply.Reply.TheVariants.{Task, Nop}
+use Rattle.iscsi_tasks.specs.Rules as Rules
+use Rattle.iscsi_history.specs.examples.Rows.{nop_now, function_now, of_two}
+use Rattle.iscsi_outbox_rules.specs.rules.Boxes.{Owns, Pings}
+use Rattle.iscsi_outbox_rules.specs.examples.Rows.{outbox, Worked, arrives, joins, is_lost, is_written, acknowledges, answers_ping, goes, replies, none_goes, message, puts}
+
+-- what entered before on another connection goes first, and is known to have arrived; what entered behind goes behind
+pub fence : Worked (outbox (of_two 4)) (
+    joins 1 1
+    ∷ joins 2 1
+    ∷ arrives 1 (nop_now 0xc1 1)
+    ∷ arrives 2 (function_now 2 1 0xb1 0 0)
+    ∷ arrives 1 (nop_now 0xc2 1)
+    ∷ arrives 2 (nop_now 0xc3 1)
+    ∷ none_goes 2
+    ∷ replies 1 (Nop 0xc1) 1 1 4
+    ∷ goes 1 (Pings 0x8000_0000) 2 1 4
+    ∷ none_goes 1
+    ∷ is_written 1
+    ∷ is_written 1
+    ∷ none_goes 2
+    ∷ answers_ping 1 1 0x8000_0000
+    ∷ replies 2 (Task 0xb1 0) 1 1 4
+    ∷ goes 2 (Pings 0x8000_0000) 2 1 4
+    ∷ replies 2 (Nop 0xc3) 2 1 4
+    ∷ none_goes 1
+    ∷ acknowledges 2 1
+    ∷ none_goes 1
+    ∷ acknowledges 2 2
+    ∷ replies 1 (Nop 0xc2) 2 1 4
+    ∷ [])
+unfolding Rules.bars_as
+fence = refl
+
+-- a ping goes before what waits behind the fence; its answer tells that all before it arrived, whatever its ExpStatSN is
+pub ping_first : Worked (outbox (of_two 4)) (
+    joins 1 1
+    ∷ joins 2 1
+    ∷ puts (message 1)
+    ∷ goes 1 (Owns (message 1)) 1 1 4
+    ∷ arrives 2 (function_now 2 1 0xb1 0 0)
+    ∷ puts (message 1)
+    ∷ none_goes 2
+    ∷ goes 1 (Pings 0x8000_0000) 2 1 4
+    ∷ none_goes 1
+    ∷ answers_ping 1 1 0x8000_0001
+    ∷ none_goes 2
+    ∷ answers_ping 1 1 0x8000_0000
+    ∷ replies 2 (Task 0xb1 0) 1 1 4
+    ∷ [])
+unfolding Rules.bars_as
+ping_first = refl
+
+-- two fences on two connections: the one that entered first goes first
+pub two_fences : Worked (outbox (of_two 4)) (
+    joins 1 1
+    ∷ joins 2 1
+    ∷ arrives 2 (function_now 2 1 0xb1 0 0)
+    ∷ arrives 1 (function_now 4 1 0xb2 0 0)
+    ∷ none_goes 1
+    ∷ replies 2 (Task 0xb1 0) 1 1 4
+    ∷ none_goes 1
+    ∷ acknowledges 2 2
+    ∷ replies 1 (Task 0xb2 0) 1 1 4
+    ∷ [])
+unfolding Rules.bars_as
+two_fences = refl
+
+-- with one open connection nothing waits, and there are no pings
+pub one_connection : Worked (outbox (of_two 4)) (
+    joins 1 1
+    ∷ arrives 1 (nop_now 0xc1 1)
+    ∷ arrives 1 (function_now 2 1 0xb1 0 0)
+    ∷ replies 1 (Nop 0xc1) 1 1 4
+    ∷ replies 1 (Task 0xb1 0) 2 1 4
+    ∷ none_goes 1
+    ∷ [])
+unfolding Rules.bars_as
+one_connection = refl
+
+-- what a lost connection handed out is waited for no more
+pub lost_before_fence : Worked (outbox (of_two 4)) (
+    joins 1 1
+    ∷ joins 2 1
+    ∷ arrives 1 (nop_now 0xc1 1)
+    ∷ arrives 1 (nop_now 0xc2 1)
+    ∷ arrives 2 (function_now 2 1 0xb1 0 0)
+    ∷ replies 1 (Nop 0xc1) 1 1 4
+    ∷ none_goes 2
+    ∷ is_lost 1
+    ∷ replies 2 (Task 0xb1 0) 1 1 4
+    ∷ none_goes 1
+    ∷ [])
+unfolding Rules.bars_as
+lost_before_fence = refl
+
+-- an ExpStatSN that wasn't handed out yet says nothing
+pub not_handed_out_yet : Worked (outbox (of_two 4)) (
+    joins 1 1
+    ∷ joins 2 1
+    ∷ arrives 1 (nop_now 0xc1 1)
+    ∷ arrives 2 (function_now 2 1 0xb1 0 0)
+    ∷ replies 1 (Nop 0xc1) 1 1 4
+    ∷ acknowledges 1 3
+    ∷ none_goes 2
+    ∷ acknowledges 1 2
+    ∷ replies 2 (Task 0xb1 0) 1 1 4
+    ∷ [])
+unfolding Rules.bars_as
+not_handed_out_yet = refl
+
+-- where that was chosen, written is enough, and there are no pings
+pub written_is_enough : Worked (record (outbox (of_two 4)) { acknowledged = false }) (
+    joins 1 1
+    ∷ joins 2 1
+    ∷ arrives 1 (nop_now 0xc1 1)
+    ∷ arrives 2 (function_now 2 1 0xb1 0 0)
+    ∷ arrives 1 (nop_now 0xc2 1)
+    ∷ replies 1 (Nop 0xc1) 1 1 4
+    ∷ none_goes 1
+    ∷ none_goes 2
+    ∷ is_written 1
+    ∷ replies 2 (Task 0xb1 0) 1 1 4
+    ∷ replies 1 (Nop 0xc2) 2 1 4
+    ∷ [])
+unfolding Rules.bars_as
+written_is_enough = refl

@@ -1,0 +1,69 @@
+-- Worked lists: room, and the window that is shown.
+use Rattle.std.specs.Prelude.{◌≡◌, ℕ, List, [], ◌∷◌, ◌++◌, map, refl, true, false}
+use Rattle.std.specs.List.{range_with_len}
+use Rattle.iscsi_wire.specs.declared.reply.Reply.TheVariants.{Nop}
+use Rattle.iscsi_tasks.specs.Rules as Rules
+use Rattle.iscsi_history.specs.declared.event.Event.TheVariants.{Arrive}
+use Rattle.iscsi_history.specs.examples.Rows.{nop, nop_now, setting, of_two}
+use Rattle.iscsi_outbox_rules.specs.rules.Calls.{Joins}
+use Rattle.iscsi_outbox_rules.specs.rules.Boxes.{Notices}
+use Rattle.iscsi_outbox_rules.specs.rules.Words.{may_take}
+use Rattle.iscsi_outbox_rules.specs.examples.Rows.{outbox, Move, Happens, Calls, Row, Worked, box_after, arrives, joins, is_lost, goes, replies, none_goes}
+
+-- so many NOP-Outs from this number on, and none of their answers is handed out
+abbrev pub nops : ℕ → ℕ → ℕ → List Row
+nops conn count from = map (λ n. arrives conn (nop 0xc1 n)) (range_with_len from count)
+
+-- a window of 1 and a connection have a numbered room of 14: with fifteen replies to numbered requests the window is shut
+-- where it is shown, though the session has it open; with thirteen it is open
+pub window_shown : Worked (outbox (setting 1 1)) (
+    joins 1 1
+    ∷ nops 1 16 1 ++ (
+    replies 1 (Nop 0xc1) 1 17 16
+    ∷ replies 1 (Nop 0xc1) 2 17 16
+    ∷ replies 1 (Nop 0xc1) 3 17 17
+    ∷ replies 1 (Nop 0xc1) 4 17 17
+    ∷ []))
+unfolding Rules.bars_as
+window_shown = refl
+
+-- the window opens as a connection is lost, with what waited there: a NOP-In says so
+pub window_opens : Worked (outbox (of_two 1)) (
+    joins 1 1
+    ∷ joins 2 1
+    ∷ nops 2 26 1 ++ (
+    arrives 1 (nop_now 0xc2 27)
+    ∷ replies 1 (Nop 0xc2) 1 27 26
+    ∷ none_goes 1
+    ∷ is_lost 2
+    ∷ goes 1 Notices 2 27 27
+    ∷ none_goes 1
+    ∷ []))
+unfolding Rules.bars_as
+window_opens = refl
+
+-- what a lost connection showed may not have been read: it is shown again
+pub shown_again : Worked (outbox (of_two 1)) (
+    joins 1 1
+    ∷ joins 2 1
+    ∷ arrives 2 (nop 0xc1 1)
+    ∷ replies 2 (Nop 0xc1) 1 2 2
+    ∷ none_goes 1
+    ∷ is_lost 2
+    ∷ goes 1 Notices 1 2 2
+    ∷ none_goes 1
+    ∷ [])
+unfolding Rules.bars_as
+shown_again = refl
+
+abbrev pub immediate_nops : ℕ → List Move
+immediate_nops count = map (λ n. Happens (Arrive 1 (nop_now 0xc1 1))) (range_with_len 0 count)
+
+-- a window of 1 and a connection have room for 26 replies that wait
+pub room_left : may_take (outbox (setting 1 1)) (box_after (outbox (setting 1 1)) (Calls (Joins 1 1) ∷ immediate_nops 25)) ≡ true
+unfolding Rules.bars_as
+room_left = refl
+
+pub no_room_left : may_take (outbox (setting 1 1)) (box_after (outbox (setting 1 1)) (Calls (Joins 1 1) ∷ immediate_nops 26)) ≡ false
+unfolding Rules.bars_as
+no_room_left = refl

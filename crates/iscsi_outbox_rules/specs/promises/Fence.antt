@@ -1,0 +1,56 @@
+-- The response fence of functions of several tasks (RFC 7143 section 4.2.2.3.4): with several connections.
+use Rattle.std.specs.Prelude.{◌≡◌, ◌≢◌, ◌<◌, ℕ, ◌==◌, ◌||◌, Bool, true, false, List, ◌∷◌, ◌++◌, Some, None, not}
+use Rattle.std.specs.List.{list_any}
+use Rattle.iscsi_history.specs.declared.effect.Effect.{Effect}
+use Rattle.iscsi_outbox_rules.specs.rules.Calls.{Opening}
+use Rattle.iscsi_outbox_rules.specs.rules.Boxes.{Handed, Aim, AtUnit}
+use Rattle.iscsi_outbox_rules.specs.promises.Deeds.{Deed, handed_in_deed, handed_in, items_in, has_joined, was_lost}
+use Rattle.iscsi_outbox_rules.specs.promises.Arrived.{is_through}
+use Rattle.iscsi_outbox_rules.specs.promises.Scope.{Sent, nth, sent_by, sent_as, aim_of_sent, closes_in}
+
+abbrev pub is_of_set : Aim → Bool
+is_of_set (AtUnit unit) = true
+is_of_set _ = false
+
+-- the answer to a function of several tasks
+abbrev pub is_fenced : Opening → List (List Effect) → Handed → Bool
+is_fenced o items h = elim (sent_as items h.out) [
+  | Some s ↦ elim (aim_of_sent o s) [ Some about ↦ is_of_set about | None ↦ false ]
+  | None ↦ false
+]
+
+-- the reply with this place in the log was handed out
+abbrev pub is_handed : ℕ → List Deed → Bool
+is_handed place ds = list_any (λ (g : ℕ × Handed). elim (g.1.out.sent) [ Some k ↦ k == place | None ↦ false ]) (handed_in ds)
+
+-- its connection was closed by a Logout
+abbrev pub is_closed : List (List Effect) → ℕ → Bool
+is_closed items conn = list_any (closes_in conn) items
+
+pub record FenceHolds (o : Opening) (ds : List Deed) : Type 0 where
+  -- as it goes out, what took a StatSN before it on another connection isn't under way any more
+  pub before : (earlier since after : List Deed) (handing answer : Deed) (c d : ℕ) (h g : Handed)
+      → earlier ++ handing ∷ (since ++ answer ∷ after) ≡ ds
+      → handed_in_deed answer ≡ Some (c, h) → is_fenced o (items_in (earlier ++ handing ∷ since)) h ≡ true
+      → handed_in_deed handing ≡ Some (d, g) → d ≢ c → g.out.takes ≡ true
+      → is_through o d earlier handing g since ≡ true
+  -- what takes a StatSN goes out behind it on another connection only when it is known to have arrived, where that is looked
+  -- for, or its own connection is lost
+  pub behind : (earlier since after : List Deed) (answer handing : Deed) (c d : ℕ) (h g : Handed)
+      → earlier ++ answer ∷ (since ++ handing ∷ after) ≡ ds
+      → handed_in_deed answer ≡ Some (c, h) → is_fenced o (items_in earlier) h ≡ true
+      → handed_in_deed handing ≡ Some (d, g) → d ≢ c → g.out.takes ≡ true → o.acknowledged ≡ true
+      → is_through o c earlier answer h since ≡ true
+  -- and no other way: of it and what takes a StatSN on another connection, the one that entered its queue first goes first
+  pub in_order : (earlier since after : List Deed) (handing later : Deed) (c d : ℕ) (h g : Handed)
+      → earlier ++ handing ∷ (since ++ later ∷ after) ≡ ds
+      → handed_in_deed handing ≡ Some (c, h) → handed_in_deed later ≡ Some (d, g) → d ≢ c → h.out.takes ≡ true → g.out.takes ≡ true
+      → is_fenced o (items_in earlier) h || is_fenced o (items_in (earlier ++ handing ∷ since)) g ≡ true
+      → h.out.time < g.out.time
+  -- a reply that stands before it in the log, and didn't have to wait, goes out before it, unless its connection hasn't joined, was
+  -- closed or lost
+  pub first : (earlier after : List Deed) (answer : Deed) (c : ℕ) (h : Handed) (place fenced : ℕ) (s : Sent)
+      → earlier ++ answer ∷ after ≡ ds
+      → handed_in_deed answer ≡ Some (c, h) → is_fenced o (items_in earlier) h ≡ true → h.out.sent ≡ Some fenced
+      → place < fenced → nth place (sent_by (items_in earlier)) ≡ Some s → aim_of_sent o s ≡ None
+      → is_handed place earlier || not (has_joined earlier s.conn) || was_lost earlier s.conn || is_closed (items_in earlier) s.conn ≡ true

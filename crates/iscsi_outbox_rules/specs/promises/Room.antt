@@ -1,0 +1,86 @@
+-- Room: of the events of a session, where arrivals are taken only while there is room, everything has its place.
+use Rattle.std.specs.Prelude.{◌≡◌, ◌≤◌, ℕ, ◌==◌, ◌+◌, ◌-◌, ◌*◌, ◌&&◌, not, nat_le, Bool, true, false, List, [], ◌∷◌, count_by, ◌||◌, nat_lt}
+use Rattle.std.specs.List.{list_any}
+use Rattle.iscsi_wire.specs.declared.request.Request.{Request}
+use Rattle.iscsi_wire.specs.Serial.{lift}
+use Rattle.iscsi_wire.specs.Fields.{connection_of, is_immediate, cmd_sn, request_of, opcode}
+use Rattle.iscsi_history.specs.declared.event.Event.{Event}
+use Rattle.iscsi_history.specs.declared.event.Event.TheVariants.{Arrive, Done}
+use Rattle.iscsi_history.specs.rules.Trace.{Trace, Command, live}
+use Rattle.iscsi_history.specs.rules.Execution.{exp_of}
+use Rattle.iscsi_history.specs.rules.Run.{entry_of, after_event}
+use Rattle.iscsi_outbox_rules.specs.rules.Calls.{Opening, Call, Takes}
+use Rattle.iscsi_outbox_rules.specs.rules.Boxes.{Task, Link, Box}
+use Rattle.iscsi_outbox_rules.specs.rules.Words.{is_live_phase, most_at_once, numbered_room, replies_waiting, numbered_waiting, owing, may_take}
+use Rattle.iscsi_outbox_rules.specs.rules.Run.{opened, after_call}
+
+-- an event of the session, or a call that takes none
+pub data Step : Type 0 where
+  Happens : Event → Step
+  Other : Call → Step
+
+-- a session and its outbox
+pub record Both : Type 0 where
+  pub event : ℕ  -- how many events there were
+  pub trace : Trace
+  pub box : Box
+
+abbrev pub is_other : Call → Bool
+is_other (Takes effects numbers) = false
+is_other _ = true
+
+abbrev pub after_step : Opening → Both → Step → Both
+after_step o s (Happens e) = let entry = entry_of o.session s.event s.trace e in record {
+  event = s.event + 1;
+  trace = after_event o.session s.event s.trace e;
+  box = after_call o s.box (Takes entry.effects entry.numbers);
+}
+after_step o s (Other c) = record s { box = after_call o s.box c }
+
+abbrev pub after_steps : Opening → Both → List Step → Both
+after_steps o s [] = s
+after_steps o s (step ∷ steps) = after_steps o (after_step o s step) steps
+
+abbrev pub begun : Opening → Both
+begun o = record { event = 0; trace = []; box = opened o }
+
+-- the Logout by which a session is told that a connection was lost: immediate, on that connection
+abbrev pub is_parting : Both → Request → Bool
+is_parting s r = is_immediate r && opcode r == 0x06 && list_any (λ (l : Link). l.conn == connection_of r && l.lost) s.box.links
+
+-- an arrival is taken where there is room, or tells that a connection was lost
+abbrev pub is_read_with_room : Opening → Both → Step → Bool
+is_read_with_room o s (Happens (Arrive conn header)) = may_take o s.box || is_parting s (request_of conn header)
+is_read_with_room o s (Happens (Done ticket status)) = true
+is_read_with_room o s (Other c) = is_other c
+
+-- a request that has a number of its own: no Data-Out or SNACK, and not immediate
+abbrev pub has_number : Request → Bool
+has_number r = not (is_immediate r) && (nat_lt (opcode r) 0x05 || opcode r == 0x06)
+
+-- an arrival has a number that the initiator was shown (RFC 7143 section 4.2.2.1)
+abbrev pub is_within_shown : Opening → Both → Step → Bool
+is_within_shown o s (Happens (Arrive conn header)) =
+    let r = request_of conn header in not (has_number r) || nat_le (lift (exp_of o.session s.trace) (cmd_sn r)) s.box.shown
+is_within_shown o s (Happens (Done ticket status)) = true
+is_within_shown o s (Other c) = is_other c
+
+abbrev pub all_are : (Both → Step → Bool) → Opening → Both → List Step → Bool
+all_are test o s [] = true
+all_are test o s (step ∷ steps) = test s step && all_are test o (after_step o s step) steps
+
+-- places for replies, and for commands that are live or owe
+abbrev pub places : Opening → ℕ
+places o = 3 * most_at_once o
+
+-- commands that are live or owe
+abbrev pub tasks_kept : Opening → Box → ℕ
+tasks_kept o b = count_by (λ (t : Task). is_live_phase t.phase) b.tasks + owing o b
+
+pub record RoomHolds (o : Opening) (steps : List Step) : Type 0 where
+  pub replies : all_are (is_read_with_room o) o (begun o) steps ≡ true → replies_waiting (after_steps o (begun o) steps).box ≤ places o
+  pub tasks : all_are (is_read_with_room o) o (begun o) steps ≡ true → tasks_kept o (after_steps o (begun o) steps).box ≤ places o
+  -- whatever was shown has room: an initiator that keeps to it isn't held back by its numbered requests
+  pub shown : all_are (is_within_shown o) o (begun o) steps ≡ true →
+      let s = after_steps o (begun o) steps in
+      (numbered_waiting s.box + count_by (λ (c : Command). not (is_immediate c.arrival.request)) (live s.trace) + (s.box.shown + 1 - exp_of o.session s.trace) ≤ numbered_room o)

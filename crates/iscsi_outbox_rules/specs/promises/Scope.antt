@@ -1,0 +1,100 @@
+-- What an answer to an abort or Logout is about, read off the effects that were taken.
+use Rattle.std.specs.Prelude.{ℕ, zero, suc, ◌==◌, ◌&&◌, not, Bool, true, false, List, [], ◌∷◌, ◌++◌, filter_map, map, Option, Some, None}
+use Rattle.std.specs.List.{list_any, flat_map}
+use Rattle.iscsi_wire.specs.declared.reply.Reply.{Reply}
+use Rattle.iscsi_wire.specs.declared.request.Request.{Request}
+use Rattle.iscsi_wire.specs.Fields.{connection_of, itt}
+use Rattle.iscsi_history.specs.declared.effect.Effect.{Effect}
+use Rattle.iscsi_history.specs.declared.effect.Effect.TheVariants.{Enter, CloseConn, CloseSession}
+use Rattle.iscsi_outbox_rules.specs.rules.Calls.{Opening}
+use Rattle.iscsi_outbox_rules.specs.rules.Boxes.{Aim, AtTag, AtUnit, AtConns, Outgoing}
+use Rattle.iscsi_outbox_rules.specs.rules.Words.{contains}
+use Rattle.iscsi_outbox_rules.specs.rules.Items.{executing, tickets_left, reply_sent, aim}
+
+-- a reply as the session sent it: in this item, after these
+pub record Sent : Type 0 where
+  pub before : List (List Effect)
+  pub item : List Effect
+  pub conn : ℕ
+  pub reply : Reply
+
+abbrev pub sent_in : List (List Effect) → List Effect → List Sent
+sent_in before item = map (λ (s : ℕ × Reply). record { before = before; item = item; conn = s.0; reply = s.1 }) (filter_map reply_sent item)
+
+abbrev pub sent_from : List (List Effect) → List (List Effect) → List Sent
+sent_from before [] = []
+sent_from before (item ∷ items) = sent_in before item ++ sent_from (before ++ item ∷ []) items
+
+-- all replies of the items, in order
+abbrev pub sent_by : List (List Effect) → List Sent
+sent_by items = sent_from [] items
+
+abbrev pub nth : {A : Type 0} → ℕ → List A → Option A
+nth n [] = None
+nth zero (x ∷ xs) = Some x
+nth (suc n) (x ∷ xs) = nth n xs
+
+-- a command: its ticket, its unit, and the request
+pub record Entered : Type 0 where
+  pub ticket : ℕ
+  pub unit : ℕ
+  pub request : Request
+
+abbrev pub entered_as : Request → Effect → Option Entered
+entered_as r (Enter ticket unit attr) = Some (record { ticket = ticket; unit = unit; request = r })
+entered_as r _ = None
+
+abbrev pub entered_in : List Effect → List Entered
+entered_in item = elim (executing item) [ Some r ↦ filter_map (entered_as r) item | None ↦ [] ]
+
+-- the ticket left its task set in this item by a request that executed: an abort or a Logout
+abbrev pub is_taken_out_in : ℕ → List Effect → Bool
+is_taken_out_in ticket item = elim (executing item) [ Some r ↦ contains (tickets_left item) ticket | None ↦ false ]
+
+-- the connections that an item closes; CloseSession closes all
+abbrev pub is_closed_by : ℕ → Effect → Bool
+is_closed_by conn (CloseConn c) = c == conn
+is_closed_by conn CloseSession = true
+is_closed_by conn _ = false
+
+abbrev pub closes_in : ℕ → List Effect → Bool
+closes_in conn item = list_any (is_closed_by conn) item
+
+-- a command is of what the answer in this item is about: its tag and unit, its unit, or the connections that are closed
+abbrev pub is_about : Aim → List Effect → Entered → Bool
+is_about (AtTag tag unit) item e = itt e.request == tag && e.unit == unit
+is_about (AtUnit unit) item e = e.unit == unit
+is_about AtConns item e = closes_in (connection_of e.request) item
+
+-- what the reply is about, where it answers an abort or a Logout that was carried out
+abbrev pub aim_of_sent : Opening → Sent → Option Aim
+aim_of_sent o s = aim o (executing s.item) s.reply
+
+-- by this reply the initiator holds the command for over: it is of what the answer is about, and was taken out in its item or
+-- before (RFC 7143 section 4.2.3, SAM-5 section 7)
+abbrev pub is_over_by : Opening → Sent → ℕ → Bool
+is_over_by o s ticket =
+    let items = s.before ++ s.item ∷ [] in
+    list_any (is_taken_out_in ticket) items
+    && elim (aim_of_sent o s) [
+      | Some about ↦ list_any (λ (e : Entered). e.ticket == ticket && is_about about s.item e) (flat_map entered_in items)
+      | None ↦ false
+    ]
+
+-- the connection is closed by this reply, and wasn't before
+abbrev pub is_closed_with : Opening → Sent → ℕ → Bool
+is_closed_with o s conn = elim (aim_of_sent o s) [
+  | Some about ↦ closes_in conn s.item && not (list_any (closes_in conn) s.before)
+  | None ↦ false
+]
+
+-- the reply that was handed out, as the session sent it
+abbrev pub sent_as : List (List Effect) → Outgoing → Option Sent
+sent_as items out = elim (out.sent) [ Some place ↦ nth place (sent_by items) | None ↦ None ]
+
+-- the answer that was handed out says that this command is over
+abbrev pub says_over : Opening → List (List Effect) → Outgoing → ℕ → Bool
+says_over o items out ticket = elim (sent_as items out) [ Some s ↦ is_over_by o s ticket | None ↦ false ]
+
+abbrev pub says_closed : Opening → List (List Effect) → Outgoing → ℕ → Bool
+says_closed o items out conn = elim (sent_as items out) [ Some s ↦ is_closed_with o s conn | None ↦ false ]
