@@ -1,6 +1,6 @@
 //! Bytes that come one after another.
 
-ghost use Rattle.std.specs.Prelude.{◌≡◌, ◌+◌, ◌≤◌, ◌<◌, ◌^◌, [], ◌++◌, length, take, vec_len, max, OnOk, OnErr};
+ghost use Rattle.std.specs.Prelude.{◌≡◌, ◌+◌, ◌≤◌, ◌<◌, ◌^◌, [], ◌++◌, length, take, vec_len, max, true, false, OnOk, OnErr};
 
 use std::alloc::{AllocError, Global};
 use std::marker::Model;
@@ -89,12 +89,6 @@ impl Bytes {
         &self.memory[..self.len]
     }
 
-    /// Whether so many more fit the memory that is there.
-    #[inline(always)]
-    pub fn has_room(&self, more: usize) -> bool {
-        self.memory.len() - self.len >= more
-    }
-
     /// Puts more behind the others. On `Err`, where memory is refused, they stay as they were.
     #[inline(always)]
     pub fn extend(&mut self, more: &[u8]) -> Result<(), AllocError>
@@ -105,5 +99,20 @@ impl Bytes {
         make_room(&mut self.memory, self.len, more.len())?;
         self.len = put_at(more, &mut self.memory, self.len);
         Ok(())
+    }
+
+    /// Puts bytes behind the others where they fit the memory that is there, and tells whether they do. Otherwise they
+    /// stay as they were.
+    #[inline(always)]
+    pub fn extend_in_place(&mut self, bytes: &[u8]) -> bool
+        ensures put { result ≡ true → self.new ≡ self.old ++ bytes.now }
+        ensures not { result ≡ false → self.new ≡ self.old }
+        ensures few { length self.old < 2 ^ 63 }
+    {
+        if self.memory.len() - self.len < bytes.len() {
+            return false;
+        }
+        self.len = put_at(bytes, &mut self.memory, self.len);
+        true
     }
 }

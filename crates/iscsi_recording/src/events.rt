@@ -1,6 +1,6 @@
 //! Events that stand one after another in few bytes.
 
-ghost use Rattle.std.specs.Prelude.{◌≡◌, ◌==◌, ◌<◌, ◌^◌, [], ◌∷◌, ◌++◌, length, OnOk, OnErr};
+ghost use Rattle.std.specs.Prelude.{◌≡◌, ◌==◌, ◌<◌, ◌^◌, [], ◌∷◌, ◌++◌, length, true, false, OnOk, OnErr};
 ghost use Rattle.iscsi_recording.specs.Dense.{bytes_of, Fits, first_size, event_in};
 
 use crate::bytes::Bytes;
@@ -79,6 +79,28 @@ fn put_arrival(conn: u16, header: &[u8; 48], bytes: &mut Bytes) -> Result<(), Al
     ensures few { length bytes.old < 2 ^ 63 }
 {
     bytes.extend(&arrival(conn, header))
+}
+
+/// Appends the bytes of an arrival where they fit the memory that is there, and tells whether they do.
+#[inline(always)]
+fn put_arrival_in_place(conn: u16, header: &[u8; 48], bytes: &mut Bytes) -> bool
+    ensures put { result ≡ true → bytes.new ≡ bytes.old ++ bytes_of (Event.Arrive conn header.now) }
+    ensures not { result ≡ false → bytes.new ≡ bytes.old }
+    ensures fits { Fits (Event.Arrive conn header.now) }
+    ensures few { length bytes.old < 2 ^ 63 }
+{
+    bytes.extend_in_place(&arrival(conn, header))
+}
+
+/// Appends the bytes of a completion where they fit the memory that is there, and tells whether they do.
+#[inline(always)]
+fn put_completion_in_place(ticket: u64, status: u8, bytes: &mut Bytes) -> bool
+    ensures put { result ≡ true → bytes.new ≡ bytes.old ++ bytes_of (Event.Done ticket status) }
+    ensures not { result ≡ false → bytes.new ≡ bytes.old }
+    ensures fits { Fits (Event.Done ticket status) }
+    ensures few { length bytes.old < 2 ^ 63 }
+{
+    bytes.extend_in_place(&completion(ticket, status))
 }
 
 /// Appends the bytes of a completion.
@@ -177,21 +199,32 @@ impl Events {
         Ok(())
     }
 
-    /// Whether an event of any kind fits the memory that is there.
+    /// Puts an arrival behind the others where it fits the memory that is there, and tells whether it does. Otherwise
+    /// they stay as they were.
     #[inline(always)]
-    pub(crate) fn has_room(&self) -> bool {
-        self.bytes.has_room(ARRIVAL_SIZE)
+    pub(crate) fn push_arrival_in_place(&mut self, conn: u16, header: &[u8; 48]) -> bool
+        ensures put { result ≡ true → self.new ≡ self.old ++ Event.Arrive conn header.now ∷ [] }
+        ensures not { result ≡ false → self.new ≡ self.old }
+    {
+        if !put_arrival_in_place(conn, header, &mut self.bytes) {
+            return false;
+        }
+        self.count += 1;
+        true
     }
 
-    /// Puts a completion behind the others. On `Err` they stay as they were.
+    /// Puts a completion behind the others where it fits the memory that is there, and tells whether it does. Otherwise
+    /// they stay as they were.
     #[inline(always)]
-    pub(crate) fn push_completion(&mut self, ticket: u64, status: u8) -> Result<(), AllocError>
-        ensures ok { OnOk result (self.new ≡ self.old ++ Event.Done ticket status ∷ []) }
-        ensures err { OnErr result (self.new ≡ self.old) }
+    pub(crate) fn push_completion_in_place(&mut self, ticket: u64, status: u8) -> bool
+        ensures put { result ≡ true → self.new ≡ self.old ++ Event.Done ticket status ∷ [] }
+        ensures not { result ≡ false → self.new ≡ self.old }
     {
-        put_completion(ticket, status, &mut self.bytes)?;
+        if !put_completion_in_place(ticket, status, &mut self.bytes) {
+            return false;
+        }
         self.count += 1;
-        Ok(())
+        true
     }
 
     /// A reader of them, from the first on.

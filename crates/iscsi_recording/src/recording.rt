@@ -100,18 +100,24 @@ impl Recording {
     }
 
     /// Takes an arrival, if its connection is known and memory isn't wanting, and tells whether it did. Otherwise the
-    /// recording stays as it was.
+    /// recording stays as it was. One whose CID has several digits asks for no memory here, so that a refusal is its
+    /// fault at once.
     #[inline(always)]
     pub fn take_common(&mut self, conn: u16, header: &[u8; 48]) -> bool
         ensures taken { result ≡ true → take (view self.old) (Line.Event (Event.Arrive conn header.now))
             ≡ Some (view self.new) }
         ensures not { result ≡ false → self.new ≡ self.old }
     {
-        self.conns.knows(conn) && self.events.push_arrival(conn, header).is_ok()
+        if !self.conns.knows(conn) {
+            return false;
+        }
+        if self.events.push_arrival_in_place(conn, header) {
+            return true;
+        }
+        conn < TWO_DIGITS && self.events.push_arrival(conn, header).is_ok()
     }
 
-    /// Takes the arrival that the first line of these bytes says: as `take_first`. One whose CID has several digits asks
-    /// for no memory here, so that a refusal is its fault at once.
+    /// Takes the arrival that the first line of these bytes says: as `take_first`.
     #[inline(always)]
     fn take_first_arrival(&mut self, bytes: &[u8]) -> usize
         ensures taken { 0 < result → TookFirst (view self.old) (view self.new) bytes.now result }
@@ -120,9 +126,6 @@ impl Recording {
         let Some(found) = first_arrival(bytes) else {
             return 0;
         };
-        if found.0 >= TWO_DIGITS && !self.events.has_room() {
-            return 0;
-        }
         if !self.take_common(found.0, &found.1) {
             return 0;
         }
@@ -139,13 +142,10 @@ impl Recording {
         let Some(found) = first_completion(bytes) else {
             return 0;
         };
-        if !self.events.has_room() {
+        if !self.events.push_completion_in_place(found.0, found.1) {
             return 0;
         }
-        match self.events.push_completion(found.0, found.1) {
-            Ok(()) => found.2,
-            Err(_) => 0,
-        }
+        found.2
     }
 
     /// Takes the event that the first line of these bytes says, where the line is there with its end and in a common

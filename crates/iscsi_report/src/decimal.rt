@@ -1,6 +1,6 @@
 //! Decimal numbers, written from a place of a slice on.
 
-ghost use Rattle.std.specs.Prelude.{◌≡◌, ◌+◌, ◌*◌, ◌<◌, ◌≤◌, ◌++◌, length, take, decimal};
+ghost use Rattle.std.specs.Prelude.{◌≡◌, ◌+◌, ◌*◌, ◌<◌, ◌≤◌, ◌++◌, length, take, codes, decimal};
 ghost use Rattle.iscsi_report.specs.Decimals.{two_digits};
 
 use crate::line::put_text;
@@ -17,13 +17,18 @@ const FIVE_DIGITS: u32 = 10_000;
 
 const NINE_DIGITS: u64 = 100_000_000;
 
-/// The two digits of each number below 100.
-static PAIRS: [u8; 200] = *b"\
-0001020304050607080910111213141516171819\
-2021222324252627282930313233343536373839\
-4041424344454647484950515253545556575859\
-6061626364656667686970717273747576777879\
-8081828384858687888990919293949596979899";
+/// The two digits of each number below 100, and two blanks behind them.
+static PAIRS: [u8; 400] = *b"\
+00  01  02  03  04  05  06  07  08  09  \
+10  11  12  13  14  15  16  17  18  19  \
+20  21  22  23  24  25  26  27  28  29  \
+30  31  32  33  34  35  36  37  38  39  \
+40  41  42  43  44  45  46  47  48  49  \
+50  51  52  53  54  55  56  57  58  59  \
+60  61  62  63  64  65  66  67  68  69  \
+70  71  72  73  74  75  76  77  78  79  \
+80  81  82  83  84  85  86  87  88  89  \
+90  91  92  93  94  95  96  97  98  99  ";
 
 /// Writes a number below 100 in two digits.
 #[inline(always)]
@@ -32,7 +37,7 @@ fn put_pair(n: u32, line: &mut [u8], at: usize) -> usize
     ensures end { result ≡ at + 2 }
     ensures written { take result line.new ≡ take at line.old ++ two_digits n }
 {
-    let place = 2 * n as usize;
+    let place = 4 * n as usize;
     let pair = [PAIRS[place], PAIRS[place + 1]];
     put_text(&pair, line, at)
 }
@@ -117,7 +122,45 @@ pub fn put_number(n: u64, line: &mut [u8], at: usize) -> usize
     put_many(n, line, at)
 }
 
-/// Writes a decimal number that mostly has a digit or two, as those of connections and units.
+/// Writes a number below 100 in two digits, and a blank.
+#[inline(always)]
+fn put_pair_and_blank(n: u32, line: &mut [u8], at: usize) -> usize
+    requires { (n < 100) × (at + 4 ≤ length line.old) }
+    ensures end { result ≡ at + 3 }
+    ensures written { take result line.new ≡ take at line.old ++ (two_digits n ++ codes " ") }
+{
+    let place = 4 * n as usize;
+    // Four bytes are written at once, the last of which is behind the end.
+    let word = [
+        PAIRS[place],
+        PAIRS[place + 1],
+        PAIRS[place + 2],
+        PAIRS[place + 3],
+    ];
+    put_text(&word, line, at);
+    at + 3
+}
+
+/// Writes a decimal number that mostly has a digit or two, as those of connections, and a blank.
+#[inline(always)]
+pub fn put_small_and_blank(n: u16, line: &mut [u8], at: usize) -> usize
+    requires { at + 24 ≤ length line.old }
+    ensures end { (at < result) × (result ≤ at + 21) }
+    ensures written { take result line.new ≡ take at line.old ++ (decimal n ++ codes " ") }
+{
+    let n = u32::from(n);
+    if n < TWO_DIGITS {
+        let word = [b'0' + n as u8, b' '];
+        return put_text(&word, line, at);
+    }
+    if n < THREE_DIGITS {
+        return put_pair_and_blank(n, line, at);
+    }
+    let at = put_larger(n, line, at);
+    put_text(b" ", line, at)
+}
+
+/// Writes a decimal number that mostly has a digit or two, as those of units.
 #[inline(always)]
 pub fn put_small(n: u16, line: &mut [u8], at: usize) -> usize
     requires { at + 20 ≤ length line.old }

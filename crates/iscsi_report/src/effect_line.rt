@@ -5,7 +5,7 @@ ghost use Rattle.hex.specs.Hex.{encode_lower};
 ghost use Rattle.iscsi_wire.specs.Pdus.{pdu_header, pdu_tail};
 ghost use Rattle.iscsi_report.specs.Lines.{eight_digits, request_fields, enter_fields, attr_word, why_word, effect_line};
 
-use crate::decimal::{put_number, put_small};
+use crate::decimal::{put_number, put_small, put_small_and_blank};
 use crate::line::{put_bytes, put_digits, put_header, put_text, put_two_numbers};
 use iscsi_history::{Effect, Numbers, Why};
 use iscsi_tasks::Attr;
@@ -71,8 +71,7 @@ fn write_request(word: &[u8], request: &Request, line: &mut [u8], at: usize) -> 
         ++ (word.now ++ (request_fields request.now ++ codes "\n")) }
 {
     let at = put_text(word, line, at);
-    let at = put_small(request.conn(), line, at);
-    let at = put_text(b" ", line, at);
+    let at = put_small_and_blank(request.conn(), line, at);
     let at = put_two_numbers(&request.bytes()[16..32], line, at);
     put_text(b"\n", line, at)
 }
@@ -183,6 +182,9 @@ fn write_any_send(
         ++ effect_line (Effect.Send conn stat_sn reply.now) numbers }
 {
     let pdu = reply.encode(stat_sn, numbers.exp, numbers.max);
+    if pdu.tail().is_empty() {
+        return write_header(conn, pdu.header(), line, at);
+    }
     write_pdu(conn, &pdu, line, at)
 }
 
@@ -196,8 +198,7 @@ fn write_header(conn: u16, header: &[u8; 48], line: &mut [u8], at: usize) -> usi
 {
     let word = *b"  send ";
     let at = put_text(&word, line, at);
-    let at = put_small(conn, line, at);
-    let at = put_text(b" ", line, at);
+    let at = put_small_and_blank(conn, line, at);
     let at = put_header(header, line, at);
     put_text(b"\n", line, at)
 }
@@ -213,8 +214,7 @@ fn write_pdu(conn: u16, pdu: &Pdu, line: &mut [u8], at: usize) -> usize
         ++ (codes " " ++ (encode_lower (pdu_header pdu.now) ++ (encode_lower (pdu_tail pdu.now) ++ codes "\n"))))) }
 {
     let at = put_text(b"  send ", line, at);
-    let at = put_small(conn, line, at);
-    let at = put_text(b" ", line, at);
+    let at = put_small_and_blank(conn, line, at);
     let at = put_header(pdu.header(), line, at);
     let at = put_bytes(pdu.tail(), line, at);
     put_text(b"\n", line, at)

@@ -3,7 +3,7 @@
 ghost use Rattle.std.specs.Prelude.{◌≡◌, ◌+◌, ◌≤◌, ◌++◌, length, take};
 ghost use Rattle.iscsi_report.specs.Lines.{event_line};
 
-use crate::decimal::{put_number, put_small};
+use crate::decimal::{put_number, put_small_and_blank};
 use crate::line::{put_byte, put_header, put_text};
 use iscsi_history::Event;
 
@@ -27,8 +27,7 @@ fn write_arrival(conn: u16, header: &[u8; 48], line: &mut [u8], at: usize) -> us
     ensures written { take result line.new ≡ take at line.old ++ event_line (Event.Arrive conn header.now) }
 {
     let at = put_text(b"> C ", line, at);
-    let at = put_small(conn, line, at);
-    let at = put_text(b" ", line, at);
+    let at = put_small_and_blank(conn, line, at);
     let at = put_header(header, line, at);
     put_text(b"\n", line, at)
 }

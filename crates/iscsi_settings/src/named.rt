@@ -1,5 +1,7 @@
 //! The words of a command line, whatever the program's name is.
 
+ghost use Rattle.std.specs.Prelude.{◌≡◌};
+
 use std::env::{Env, FillError};
 
 /// The program's name.
@@ -13,7 +15,9 @@ pub struct Named<'a, R> {
 
 impl<'a, R> Named<'a, R> {
     /// The environment of a process, with the program's own name.
-    pub fn new(rt: &'a R) -> Named<'a, R> {
+    pub fn new(rt: &'a R) -> Named<'a, R>
+        ensures { result.rt.now ≡ rt.now }
+    {
         Named { rt }
     }
 }
