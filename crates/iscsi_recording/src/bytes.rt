@@ -71,6 +71,33 @@ fn grow(memory: &mut Vec<u8>, more: usize) -> Result<(), AllocError>
     memory.resize(memory.len() + more.max(GROWTH), 0)
 }
 
+/// Sees that there is room for so many bytes behind the first `len` where that needs no memory to be asked for, and
+/// tells whether there is.
+#[inline(always)]
+fn find_room(memory: &mut Vec<u8>, len: usize, more: usize) -> bool
+    requires within { len ≤ vec_len memory.old }
+    requires few { more < 2 ^ 63 }
+    ensures room { result ≡ true → len + more ≤ vec_len memory.new }
+    ensures kept { take len memory.new.items ≡ take len memory.old.items }
+    ensures longer { vec_len memory.old ≤ vec_len memory.new }
+{
+    if memory.len() - len >= more {
+        return true;
+    }
+    grow_in_place(memory, more)
+}
+
+/// Grows as `grow` where the capacity suffices, and tells whether it did.
+#[inline(never)]
+fn grow_in_place(memory: &mut Vec<u8>, more: usize) -> bool
+    requires { more < 2 ^ 63 }
+    ensures grown { result ≡ true → vec_len memory.new ≡ vec_len memory.old + max more 1024 }
+    ensures not { result ≡ false → vec_len memory.new ≡ vec_len memory.old }
+    ensures kept { take (vec_len memory.old) memory.new.items ≡ memory.old.items }
+{
+    memory.capacity() - memory.len() >= more.max(GROWTH) && grow(memory, more).is_ok()
+}
+
 impl Bytes {
     /// No bytes, without memory.
     pub fn new(alloc: Global) -> Bytes
@@ -101,15 +128,15 @@ impl Bytes {
         Ok(())
     }
 
-    /// Puts bytes behind the others where they fit the memory that is there, and tells whether they do. Otherwise they
-    /// stay as they were.
+    /// Puts bytes behind the others where they fit without more memory being asked for, and tells whether they do.
+    /// Otherwise the others stay as they were.
     #[inline(always)]
     pub fn extend_in_place(&mut self, bytes: &[u8]) -> bool
         ensures put { result ≡ true → self.new ≡ self.old ++ bytes.now }
         ensures not { result ≡ false → self.new ≡ self.old }
         ensures few { length self.old < 2 ^ 63 }
     {
-        if self.memory.len() - self.len < bytes.len() {
+        if !find_room(&mut self.memory, self.len, bytes.len()) {
             return false;
         }
         self.len = put_at(bytes, &mut self.memory, self.len);

@@ -81,7 +81,7 @@ fn put_arrival(conn: u16, header: &[u8; 48], bytes: &mut Bytes) -> Result<(), Al
     bytes.extend(&arrival(conn, header))
 }
 
-/// Appends the bytes of an arrival where they fit the memory that is there, and tells whether they do.
+/// Appends the bytes of an arrival where they fit without more memory being asked for, and tells whether they do.
 #[inline(always)]
 fn put_arrival_in_place(conn: u16, header: &[u8; 48], bytes: &mut Bytes) -> bool
     ensures put { result ≡ true → bytes.new ≡ bytes.old ++ bytes_of (Event.Arrive conn header.now) }
@@ -92,7 +92,7 @@ fn put_arrival_in_place(conn: u16, header: &[u8; 48], bytes: &mut Bytes) -> bool
     bytes.extend_in_place(&arrival(conn, header))
 }
 
-/// Appends the bytes of a completion where they fit the memory that is there, and tells whether they do.
+/// Appends the bytes of a completion where they fit without more memory being asked for, and tells whether they do.
 #[inline(always)]
 fn put_completion_in_place(ticket: u64, status: u8, bytes: &mut Bytes) -> bool
     ensures put { result ≡ true → bytes.new ≡ bytes.old ++ bytes_of (Event.Done ticket status) }
@@ -199,8 +199,8 @@ impl Events {
         Ok(())
     }
 
-    /// Puts an arrival behind the others where it fits the memory that is there, and tells whether it does. Otherwise
-    /// they stay as they were.
+    /// Puts an arrival behind the others where it fits without more memory being asked for, and tells whether it does.
+    /// Otherwise they stay as they were.
     #[inline(always)]
     pub(crate) fn push_arrival_in_place(&mut self, conn: u16, header: &[u8; 48]) -> bool
         ensures put { result ≡ true → self.new ≡ self.old ++ Event.Arrive conn header.now ∷ [] }
@@ -213,8 +213,8 @@ impl Events {
         true
     }
 
-    /// Puts a completion behind the others where it fits the memory that is there, and tells whether it does. Otherwise
-    /// they stay as they were.
+    /// Puts a completion behind the others where it fits without more memory being asked for, and tells whether it does.
+    /// Otherwise they stay as they were.
     #[inline(always)]
     pub(crate) fn push_completion_in_place(&mut self, ticket: u64, status: u8) -> bool
         ensures put { result ≡ true → self.new ≡ self.old ++ Event.Done ticket status ∷ [] }

@@ -266,7 +266,7 @@ fn two_digits_first(bytes: &[u8]) -> Option<(u16, usize)>
 {
     let high = bytes[0];
     let low = bytes[1];
-    if high == b'0' || !is_decimal(high) || !is_decimal(low) {
+    if !(b'1'..=b'9').contains(&high) || !is_decimal(low) {
         return None;
     }
     Some((u16::from(high - b'0') * 10 + u16::from(low - b'0'), 2))
