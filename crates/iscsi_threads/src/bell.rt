@@ -2,6 +2,7 @@
 //! all the same, as it does after a nap and in turn where it is idle (`Watch`).
 
 ghost use Rattle.std.specs.Prelude.{◌<◌, ◌≤◌, IfSome};
+ghost use Rattle.iscsi_threads.specs.Watched.{IsMarked};
 
 use std::alloc::Global;
 use std::sync::Arc;
@@ -35,6 +36,7 @@ impl Marks {
     /// Puts a number in.
     pub(crate) fn set(&mut self, number: usize)
         requires { number < 320 }
+        ensures { IsMarked self.old.words self.new.words number }
     {
         self.words[number / 64] |= 1 << (number % 64);
     }

@@ -1,8 +1,9 @@
 //! The loop's ends of all rings.
 
-ghost use Rattle.std.specs.Prelude.{◌≡◌, ◌<◌, ◌≤◌, map, length, vec_len, IfSome, IfNone, OnOk, IfErr};
+ghost use Rattle.std.specs.Prelude.{◌≡◌, ◌+◌, ◌<◌, ◌≤◌, ℕ, map, length, vec_len, if◌then◌else◌, nat_lt, IfSome, IfNone, MatchOption, OnOk, IfErr};
 ghost use Rattle.iscsi_threads.specs.Outlets.{given, heard, outlet_rings, got, inlet_ring};
 ghost use Rattle.iscsi_threads.specs.Ends.{Polled, put_jobs, grow};
+ghost use Rattle.iscsi_threads.specs.Watched.{mark, ring_at, ring_behind};
 ghost use Rattle.iscsi_threads.specs.Journal.{cids_in};
 
 use crate::bell::{FIRST_UNIT, MOST_RINGS, Marks};
@@ -39,6 +40,8 @@ impl Watch {
     /// Marks every ring of so many connections and units.
     pub(crate) fn look_everywhere(&mut self, conns: usize, units: usize)
         requires { (conns ≤ 64) × (units ≤ 256) }
+        ensures of_conns { (n : ℕ) → n < conns → mark self.new.rung.words n ≡ 1 }
+        ensures of_units { (u : ℕ) → u < units → mark self.new.rung.words (64 + u) ≡ 1 }
     {
         for conn in 0..conns {
             self.rung.set(conn);
@@ -51,6 +54,10 @@ impl Watch {
     /// Marks one ring more of so many connections and units, in turn, and once in a round none.
     pub(crate) fn look_further(&mut self, conns: usize, units: usize)
         requires { (conns ≤ 64) × (units ≤ 256) }
+        ensures marked { self.old.further < conns + units →
+            mark self.new.rung.words (ring_at conns self.old.further) ≡ 1 }
+        ensures further { self.new.further ≡
+            (if nat_lt self.old.further (conns + units) then self.old.further + 1 else 0) }
     {
         let at = self.further;
         if at < conns {
@@ -190,6 +197,7 @@ pub(crate) fn poll(
         (map got inlets.new.items) (map heard outlets.old.items) (map heard outlets.new.items) event.new source) }
     ensures none { IfNone result ((map got inlets.new.items ≡ map got inlets.old.items)
         × (map heard outlets.new.items ≡ map heard outlets.old.items)) }
+    ensures next { MatchOption result (next.new ≡ next.old) (λ source. next.new ≡ ring_behind event.new source) }
     ensures given { map given outlets.new.items ≡ map given outlets.old.items }
     ensures rings { (map inlet_ring inlets.new.items ≡ map inlet_ring inlets.old.items)
         × (map outlet_rings outlets.new.items ≡ map outlet_rings outlets.old.items) }

@@ -9,6 +9,7 @@ invariant-loop l = record {
   given : map given l.outlets.items ≡ map given l.initial.outlets.items;
   inlets : map inlet_ring l.inlets.items ≡ map inlet_ring l.initial.inlets.items;
   rings : map outlet_rings l.outlets.items ≡ map outlet_rings l.initial.outlets.items;
+  next : l.next ≡ l.initial.next;
   inlets_len : vec_len l.inlets ≡ vec_len l.initial.inlets;
   len : vec_len l.outlets ≡ vec_len l.initial.outlets;
 }
