@@ -18,7 +18,8 @@ from hostile.headers import nop_out
 from hostile.scripts import SCRIPTS, other_answers
 from hostile.serving import two_units
 
-AGAIN = re.compile(rb"again: (\d+) steps, (\d+) turns, (\d+) ends, (\d+) lines, (\d+) from the start\n")
+AGAIN = re.compile(rb"again: (\d+) steps, (\d+) turns, (\d+) ends, (\d+) lines, (\d+) from the start, ")
+WANTING = re.compile(rb" (\d+) of them for want of a thread\n")
 # More requests than any run here makes.
 MOST = 5000
 # So many bytes are asked of the reader at once.
@@ -102,14 +103,27 @@ def threads_left(ran):
     return "" if ran.note.ended == ran.note.threads else f"{ran.note.threads - ran.note.ended} threads are left"
 
 
+def threads_wanting(ran):
+    """How often `serve` said that it wants a thread; 0 where the driver doesn't tell."""
+    counts = WANTING.search(ran.err)
+    return int(counts.group(1)) if counts else 0
+
+
 def serves():
-    """`serve` with each request refused, and with each thread refused; then it is called anew."""
+    """`serve` with each request refused, and with each thread refused; then it is called anew.
+
+    It says that it wants a thread where one is refused, or the memory that each takes once to be made, and never else.
+    """
     tallies = []
     serving = two_units()
-    for what, inject, floor in (("memory", "ALLOC", 550), ("a thread", "THREAD", 5)):
+    threads = len(serving.lists) + serving.units
+    for what, inject, floor in (("memory", "ALLOC", 551), ("a thread", "THREAD", 6)):
         tally = Tally(f"{what} refused to serve", floor)
+        wanting = 0
         for number, ran in refusals(serving.words, serving.text(), inject, program=DRIVER):
             tally.judge(f"{what}, {number}", serving.wrong(ran, [200]) or threads_left(ran))
+            wanting += threads_wanting(ran)
+        tally.judge(f"{what}, what was said", "" if wanting == threads else f"a thread was wanting {wanting} times")
         tallies.append(tally)
     return tallies
 

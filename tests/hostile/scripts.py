@@ -22,7 +22,7 @@ from hostile.headers import (
 # The events of a session, where a script says no other number.
 MOST_EVENTS = 1048576
 # What the driver tells on standard error where no call was made again.
-NOTHING_AGAIN = b"again: 0 steps, 0 turns, 0 ends, 0 lines, 0 from the start\n"
+NOTHING_AGAIN = b"again: 0 steps, 0 turns, 0 ends, 0 lines, 0 from the start, 0 of them for want of a thread\n"
 ATTRIBUTES = {SIMPLE: "Simple", ORDERED: "Ordered", HEAD: "Head"}
 
 

@@ -3,8 +3,8 @@
 //!
 //! A call that is refused for want of memory is made again, and what is printed is the second answer. So a run in
 //! which a request for memory is refused prints the same as one with ample memory. Where `open`, `serve` or the
-//! driver's own work is refused, all is begun anew. On standard error it tells how many calls were made again. What
-//! the thread layer refuses for another reason, the driver tells.
+//! driver's own work is refused, all is begun anew. On standard error it tells how many calls were made again, and how
+//! often a thread was wanting. What the thread layer refuses for another reason, the driver tells.
 #![tactic(auto)]
 
 mod calls;
@@ -49,7 +49,7 @@ fn drive<R: Threads + Wait + Sync>(
     }
 }
 
-/// Makes the calls of a script, and begins anew where memory is refused.
+/// Makes the calls of a script, and begins anew where memory or a thread is refused.
 fn drive_again<R: Threads + Wait + Sync>(
     rt: &R,
     alloc: Global,
@@ -60,6 +60,10 @@ fn drive_again<R: Threads + Wait + Sync>(
     for _ in 0..TRIES {
         match drive(rt, alloc, words, script, told) {
             Err(Halt::NoMemory) => told.begin_anew(),
+            Err(Halt::NoThread) => {
+                told.threads = told.threads.saturating_add(1);
+                told.begin_anew();
+            }
             done => return done,
         }
     }
@@ -114,8 +118,8 @@ fn main(rt: HostRuntime) -> io::Result<ExitCode> {
     let done = drive_again(&rt, rt.alloc(), &words, script, &mut told);
     io::writer(&rt).write_all(&told.text)?;
     eprintln!(rt;
-        "again: {} steps, {} turns, {} ends, {} lines, {} from the start",
-        told.steps, told.turns, told.ends, told.lines, told.starts
+        "again: {} steps, {} turns, {} ends, {} lines, {} from the start, {} of them for want of a thread",
+        told.steps, told.turns, told.ends, told.lines, told.starts, told.threads
     )?;
     match done {
         Ok(()) => Ok(ExitCode::SUCCESS),

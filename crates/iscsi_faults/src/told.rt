@@ -14,6 +14,9 @@ pub(crate) enum Halt {
     /// Memory was refused: all may be begun anew.
     #[error("out of memory")]
     NoMemory,
+    /// A thread was refused: all may be begun anew.
+    #[error("no thread could be made")]
+    NoThread,
     /// The words or the script are none of the driver's.
     #[error("the driver doesn't know this script")]
     BadScript,
@@ -46,6 +49,8 @@ pub(crate) struct Told {
     pub(crate) ends: u32,
     pub(crate) lines: u32,
     pub(crate) starts: u32,
+    /// How many of the starts from the beginning were for want of a thread.
+    pub(crate) threads: u32,
 }
 
 impl Drop for Told {
@@ -57,6 +62,7 @@ impl Drop for Told {
             ends: _ends,
             lines: _lines,
             starts: _starts,
+            threads: _threads,
         } = self;
     }
 }
@@ -70,6 +76,7 @@ impl Told {
             ends: 0,
             lines: 0,
             starts: 0,
+            threads: 0,
         }
     }
 
@@ -90,7 +97,8 @@ impl Told {
         match fault {
             LoopFault::BadOptions => self.say("bad options"),
             LoopFault::Exhausted => self.say("exhausted"),
-            LoopFault::NoMemory | LoopFault::NoThread => Err(Halt::NoMemory),
+            LoopFault::NoMemory => Err(Halt::NoMemory),
+            LoopFault::NoThread => Err(Halt::NoThread),
         }
     }
 
