@@ -2,6 +2,8 @@
 //! (RFC 7143 sections 4.2.2 and 4.2.3, SAM-5 section 7), with the types that they share with the code.
 #![tactic(auto)]
 
+mod laws;
 mod own_pdu;
 
+pub use laws::{closed_law, numbers_law};
 pub use own_pdu::{OwnPdu, PutRefusal};

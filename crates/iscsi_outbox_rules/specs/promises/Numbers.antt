@@ -46,15 +46,26 @@ numbers_after n (d ∷ ds) = numbers_after (elim (d.0) [
 abbrev pub first_numbers : Opening → SessionNumbers
 first_numbers o = record { exp = o.session.first; max = wire (o.session.first + o.session.window - 1) }
 
+-- the StatSNs of each connection are in sequence from the one with which it joined
+abbrev pub CountStatSns : List Deed → Type 0
+CountStatSns ds = (conn first : ℕ) → joined_with conn ds ≡ Some first
+    → map (λ (h : Handed). h.stat_sn) (handed_on conn ds) ≡ in_sequence first (handed_on conn ds)
+
+-- a PDU shows ExpCmdSN as the last event that was taken left it
+abbrev pub ShowsExp : Opening → List Deed → Type 0
+ShowsExp o ds = (before after : List Deed) (handing : Deed) (c : ℕ) (h : Handed)
+    → before ++ handing ∷ after ≡ ds → handed_in_deed handing ≡ Some (c, h) → h.exp ≡ (numbers_after (first_numbers o) before).exp
+
+-- MaxCmdSN doesn't go back, on any connection: of two PDUs with fewer than 2 ^ 19 calls between them, each of which moves it by
+-- less than 2 ^ 12, so that no number of 32 bits comes round
+abbrev pub GoesOnward : List Deed → Type 0
+GoesOnward ds = (before between after : List Deed) (handing later : Deed) (c d : ℕ) (h g : Handed)
+    → before ++ handing ∷ (between ++ later ∷ after) ≡ ds
+    → handed_in_deed handing ≡ Some (c, h) → handed_in_deed later ≡ Some (d, g)
+    → length between < 2 ^ 19
+    → number_of_first h.max ≤ lift (number_of_first h.max) g.max
+
 pub record NumbersHold (o : Opening) (ds : List Deed) : Type 0 where
-  pub stat_sns : (conn first : ℕ) → joined_with conn ds ≡ Some first
-      → map (λ (h : Handed). h.stat_sn) (handed_on conn ds) ≡ in_sequence first (handed_on conn ds)
-  pub exp : (before after : List Deed) (handing : Deed) (c : ℕ) (h : Handed)
-      → before ++ handing ∷ after ≡ ds → handed_in_deed handing ≡ Some (c, h) → h.exp ≡ (numbers_after (first_numbers o) before).exp
-  -- MaxCmdSN doesn't go back, on any connection: of two PDUs with fewer than 2 ^ 19 calls between them, each of which moves it by
-  -- less than 2 ^ 12, so that no number of 32 bits comes round
-  pub onward : (before between after : List Deed) (handing later : Deed) (c d : ℕ) (h g : Handed)
-      → before ++ handing ∷ (between ++ later ∷ after) ≡ ds
-      → handed_in_deed handing ≡ Some (c, h) → handed_in_deed later ≡ Some (d, g)
-      → length between < 2 ^ 19
-      → number_of_first h.max ≤ lift (number_of_first h.max) g.max
+  pub stat_sns : CountStatSns ds
+  pub exp : ShowsExp o ds
+  pub onward : GoesOnward ds

@@ -1,0 +1,11 @@
+mod EachLemmas
+mod Cuts
+mod Walks
+mod FirstLemmas
+mod Linkwise
+mod DeedLemmas
+mod Chosen
+mod Callwise
+mod LinkRuns
+mod ExpLemmas
+mod NumberTheorem

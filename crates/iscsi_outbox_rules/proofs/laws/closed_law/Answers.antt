@@ -1,0 +1,8 @@
+use Rattle.iscsi_outbox_rules.proofs.NumberTheorem.{none_unjoined, none_lost}
+use Rattle.iscsi_outbox_rules.proofs.laws.closed_law.Goals as goal
+
+pub returns-clause-joined : goal.returns-clause-joined
+returns-clause-joined c = none_unjoined
+
+pub returns-clause-lost : goal.returns-clause-lost
+returns-clause-lost c = none_lost

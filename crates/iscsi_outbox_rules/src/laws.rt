@@ -1,0 +1,20 @@
+//! What the rules of an outbox come to, for every list of calls: laws of the definitions, which no code is needed for.
+
+ghost use Rattle.std.specs.Prelude.{List};
+ghost use Rattle.iscsi_outbox_rules.specs.promises.Closed.{NoneLost, NoneUnjoined};
+ghost use Rattle.iscsi_outbox_rules.specs.promises.Deeds.{deeds_of};
+ghost use Rattle.iscsi_outbox_rules.specs.promises.Numbers.{CountStatSns, ShowsExp};
+ghost use Rattle.iscsi_outbox_rules.specs.rules.Calls.{Call, Opening};
+
+/// The numbers that a PDU shows: its StatSN, in sequence on its connection, and ExpCmdSN of the moment (RFC 7143 section
+/// 4.2.2).
+pub fn numbers_law()
+    ensures stat_sns { (o : Opening) (calls : List Call) → CountStatSns (deeds_of o calls) }
+    ensures exp { (o : Opening) (calls : List Call) → ShowsExp o (deeds_of o calls) }
+{}
+
+/// Nothing goes out on a connection before it joined, nor after it was lost.
+pub fn closed_law()
+    ensures joined { (o : Opening) (calls : List Call) → NoneUnjoined (deeds_of o calls) }
+    ensures lost { (o : Opening) (calls : List Call) → NoneLost (deeds_of o calls) }
+{}
