@@ -1,5 +1,5 @@
 -- What holds of each element of a list.
-use Rattle.std.proofs.Common.{◌≡◌, ℕ, ◌==◌, ◌||◌, cond, Bool, true, false, List, [], ◌∷◌, ◌++◌, map, filter, Some, refl, subst}
+use Rattle.std.proofs.Common.{◌≡◌, ℕ, ◌==◌, ◌||◌, cond, Bool, true, false, List, [], ◌∷◌, ◌++◌, map, filter, drop, Some, refl, subst}
 use Rattle.std.specs.List.{list_any}
 use Rattle.std.proofs.lemmas.Bool.{false≢true, cond_both, eqb-true}
 use Rattle.iscsi_history.specs.rules.Trace.{first_of}
@@ -57,3 +57,7 @@ pub each-at_link : (P Q : Link → Type 0) (conn : ℕ) (change : Link → Link)
 each-at_link P Q conn change links here there h =
     each-map P Q (λ (l : Link). cond (l.conn == conn) (change l) l) links
     (λ l k. cond_both (l.conn == conn) (change l) l Q (λ is. here l (eqb-true l.conn conn is) k) (λ isnt. there l isnt k)) h
+
+pub each-drop_one : {A : Type 0} (P : A → Type 0) (xs : List A) → EachOf P xs → EachOf P (drop 1 xs)
+each-drop_one P [] h = tt
+each-drop_one P (x ∷ xs) h = h.1

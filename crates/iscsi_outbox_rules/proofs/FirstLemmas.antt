@@ -22,7 +22,7 @@ firsts_from before (item ∷ items) = cons_option (first_sent before item) (firs
 abbrev pub firsts : List (List Effect) → List Sent
 firsts items = firsts_from [] items
 
-cons_append : {A : Type 0} (x : Option A) (xs ys : List A) → cons_option x (xs ++ ys) ≡ cons_option x xs ++ ys
+pub cons_append : {A : Type 0} (x : Option A) (xs ys : List A) → cons_option x (xs ++ ys) ≡ cons_option x xs ++ ys
 cons_append None xs ys = refl
 cons_append (Some x) xs ys = refl
 
@@ -34,6 +34,15 @@ firsts_from-more before (x ∷ items) item =
 
 pub firsts-more : (items : List (List Effect)) (item : List Effect) → firsts (items ++ item ∷ []) ≡ firsts items ++ cons_option (first_sent items item) []
 firsts-more items item = firsts_from-more [] items item
+
+-- those of more items are only more
+pub firsts-append : (items more : List (List Effect)) → (rest : List Sent) × (firsts (items ++ more) ≡ firsts items ++ rest)
+firsts-append items [] = ([], ap firsts (append-nil items) ∙ sym (append-nil (firsts items)))
+firsts-append items (item ∷ more) =
+    let later = firsts-append (items ++ item ∷ []) more in (
+      cons_option (first_sent items item) [] ++ later.0,
+      ap firsts (sym (append_assoc items (item ∷ []) more)) ∙ later.1 ∙ ap (λ ss. ss ++ later.0) (firsts-more items item) ∙ append_assoc (firsts items) (cons_option (first_sent items item) []) later.0,
+    )
 
 -- an item that sends nothing, and one that sends
 pub firsts-none : (items : List (List Effect)) (item : List Effect) → first_of (filter_map reply_sent item) ≡ None → firsts (items ++ item ∷ []) ≡ firsts items

@@ -9,3 +9,9 @@ mod Callwise
 mod LinkRuns
 mod ExpLemmas
 mod NumberTheorem
+mod SentLemmas
+mod PlaceRuns
+mod FoundLemmas
+mod Boxwise
+mod CountRuns
+mod OnceTheorem

@@ -1,5 +1,5 @@
 -- What the calls show of a connection, and what the box has of it.
-use Rattle.std.proofs.Common.{◌≡◌, ℕ, ⊎_elim, ◌==◌, ◌+◌, ◌&&◌, ◌||◌, not, cond, Bool, true, false, List, [], ◌∷◌, ◌++◌, map, drop, count_by, Some, refl, ap, sym, subst, ◌∙◌, eq-eqb, arith}
+use Rattle.std.proofs.Common.{◌≡◌, ℕ, ⊎_elim, ◌==◌, ◌+◌, ◌&&◌, ◌||◌, not, cond, Bool, true, false, List, [], ◌∷◌, ◌++◌, map, count_by, Some, refl, ap, sym, subst, ◌∙◌, eq-eqb, arith}
 use Rattle.std.proofs.lemmas.Bool.{false≢true}
 use Rattle.std.proofs.lemmas.List.{append-nil, map-append}
 use Rattle.std.proofs.lemmas.List.Sums.{sum_by-cons}
@@ -13,7 +13,7 @@ use Rattle.iscsi_outbox_rules.specs.rules.Handing.{is_from_queue, takes_handed, 
 use Rattle.iscsi_outbox_rules.specs.rules.Run.{Answered, Silent, Joined, link_joined, link_lost, new_link, opened}
 use Rattle.iscsi_outbox_rules.specs.promises.Deeds.{Deed, handed_in_deed, handed_on, is_join_of, is_lose_of, has_joined, was_lost}
 use Rattle.iscsi_outbox_rules.specs.promises.Numbers.{takes_stat_sn, in_sequence, joined_with}
-use Rattle.iscsi_outbox_rules.proofs.EachLemmas.{EachOf, each-append, each-filter}
+use Rattle.iscsi_outbox_rules.proofs.EachLemmas.{each-drop_one, EachOf, each-append, each-filter}
 use Rattle.iscsi_outbox_rules.proofs.Linkwise.{Linkwise, Stands}
 use Rattle.iscsi_outbox_rules.proofs.DeedLemmas.{has_joined-more, was_lost-more, handed_on-append, some_on, joined_with-same, joined_with-now, unjoined_with}
 use Rattle.iscsi_outbox_rules.proofs.Chosen.{FromQueue, IsPing, IsNotice, Chosen}
@@ -144,10 +144,6 @@ fits_out o b l out from fit =
     ⊎_elim (λ (q : FromQueue o b l out). (subst (EachOf Fit) q.queue_is fit).0.takes)
     (⊎_elim (λ (p : IsPing o b l out). subst (λ (x : Outgoing). x.takes ≡ takes_stat_sn x.pdu) (sym p.is) refl) (λ (p : IsNotice o b l out). subst (λ (x : Outgoing). x.takes ≡ takes_stat_sn x.pdu) (sym p.is) refl))
     from.source
-
-each-drop_one : {A : Type 0} (P : A → Type 0) (xs : List A) → EachOf P xs → EachOf P (drop 1 xs)
-each-drop_one P [] h = tt
-each-drop_one P (x ∷ xs) h = h.1
 
 pub hands : (o : Opening) (ds : List Deed) (b : Box) (l m : Link) (out : Outgoing) (deed : Deed) (queue : List Outgoing) → LinkShows ds l → LinkShows ds m → m.conn ≡ l.conn → Chosen o b l out
     → handed_in_deed deed ≡ Some (l.conn, handed_as o b l out) → is_join_of m.conn deed ≡ false → is_lose_of m.conn deed.0 ≡ false → EachOf Fit queue

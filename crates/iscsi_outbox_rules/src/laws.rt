@@ -2,8 +2,9 @@
 
 ghost use Rattle.std.specs.Prelude.{List};
 ghost use Rattle.iscsi_outbox_rules.specs.promises.Closed.{NoneLost, NoneUnjoined};
-ghost use Rattle.iscsi_outbox_rules.specs.promises.Deeds.{deeds_of};
+ghost use Rattle.iscsi_outbox_rules.specs.promises.Deeds.{FollowsSession, deeds_of};
 ghost use Rattle.iscsi_outbox_rules.specs.promises.Numbers.{CountStatSns, ShowsExp};
+ghost use Rattle.iscsi_outbox_rules.specs.promises.Once.{GoesOnce, SendsWhatWasSent};
 ghost use Rattle.iscsi_outbox_rules.specs.rules.Calls.{Call, Opening};
 
 /// The numbers that a PDU shows: its StatSN, in sequence on its connection, and ExpCmdSN of the moment (RFC 7143 section
@@ -17,4 +18,11 @@ pub fn numbers_law()
 pub fn closed_law()
     ensures joined { (o : Opening) (calls : List Call) → NoneUnjoined (deeds_of o calls) }
     ensures lost { (o : Opening) (calls : List Call) → NoneLost (deeds_of o calls) }
+{}
+
+/// A reply that goes out is one that the session sent on this connection, if what is taken is what a session gives; and none
+/// goes out twice.
+pub fn once_law()
+    ensures sent { (o : Opening) (calls : List Call) → FollowsSession o calls → SendsWhatWasSent (deeds_of o calls) }
+    ensures once { (o : Opening) (calls : List Call) → GoesOnce (deeds_of o calls) }
 {}

@@ -1,0 +1,8 @@
+use Rattle.iscsi_outbox_rules.proofs.OnceTheorem.{sends_what_was_sent, goes_once}
+use Rattle.iscsi_outbox_rules.proofs.laws.once_law.Goals as goal
+
+pub returns-clause-sent : goal.returns-clause-sent
+returns-clause-sent c = sends_what_was_sent
+
+pub returns-clause-once : goal.returns-clause-once
+returns-clause-once c = goes_once
