@@ -28,6 +28,7 @@ pub record Alike (l m : Link) : Type 0 where
 -- `J` stands as a PDU is handed out
 pub record Boxwise (o : Opening) (J : List Deed → Box → Type 0) (I : List (List Effect) → Box → Type 0) : Type 0 where
   pub walk : Walk o I
+  pub numbers : (items : List (List Effect)) (b : Box) (exp max : ℕ) → I items b → I items (record b { exp = exp; max = max })
   pub puts : (items : List (List Effect)) (b : Box) (conn : ℕ) (p : OwnPdu) → I items b → I items (enter conn (own_outgoing p) b)
   pub marks : (items : List (List Effect)) (b : Box) (conn : ℕ) (change : Link → Link) → ((l : Link) → Alike l (change l)) → I items b → I items (record b { links = at_link conn change b.links })
   pub reaches : (items : List (List Effect)) (b : Box) (n : ℕ) → I items b → I items (record b { reached = n })
@@ -70,7 +71,7 @@ module _ (o : Opening) (J : List Deed → Box → Type 0) (I : List (List Effect
   pub box_keeps : (ds : List Deed) (b : Box) (c : Call) → J ds b → I (items_in ds) b → I (items_in (ds ++ (c, answered o b c) ∷ [])) (after_call o b c)
   box_keeps ds b (Takes effects numbers) j h =
       subst (λ its. I its (after_call o b (Takes effects numbers))) (sym (items_in-more ds (Takes effects numbers, answered o b (Takes effects numbers))))
-      (event_keeps o I w.walk (items_in ds) b effects numbers h)
+      (event_keeps o I w.walk w.numbers (items_in ds) b effects numbers h)
   box_keeps ds b (Puts p) j h = no_items ds (Puts p, answered o b (Puts p)) (after_call o b (Puts p)) refl (put (items_in ds) b p h)
   box_keeps ds b (Stops ticket) j h =
       no_items ds (Stops ticket, answered o b (Stops ticket)) (after_call o b (Stops ticket)) refl

@@ -67,7 +67,7 @@ module _ (o : Opening) (P : List Deed → List (List Effect) → Link → Type 0
       let d : Deed = (Takes effects numbers, Silent) in
       subst (λ its. Stands (P (ds ++ d ∷ [])) E its (after_call o b (Takes effects numbers))) (sym (items_in-more ds d))
       (quiet_all ds (items_in ds ++ in_parts effects) d (after_call o b (Takes effects numbers)) (λ c. none_on c d refl) (λ c. refl) (λ c. refl)
-      (event_keeps o (Stands (P ds) E) (walk o (P ds) E (w.wise ds)) (items_in ds) b effects numbers h))
+      (event_keeps o (Stands (P ds) E) (walk o (P ds) E (w.wise ds)) (λ its b' exp max k. record { sent = k.sent; links = k.links; undue = k.undue }) (items_in ds) b effects numbers h))
 
   put : (ds : List Deed) (b : Box) (p : OwnPdu) → StandsAfter ds b → Stands (P ds) E (items_in ds) (after_call o b (Puts p))
   put ds b p h =

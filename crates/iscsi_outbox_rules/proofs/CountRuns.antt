@@ -125,7 +125,6 @@ fewer sent undue undue' l queue here there k p = omega (arith, here p, there p, 
 count_walk : (o : Opening) → Walk o AllOnce
 count_walk o = record {
   tasks = λ items b ts h. h;
-  numbers = λ items b exp max h. h;
   drops = λ items b these h. found-map (Once b.sent b.undue) (Once b.sent b.undue) (without these) (λ l. refl) b.links
       (λ c l found k. fewer b.sent b.undue b.undue l (without these l).queue (λ p. counted-filter (is_at p) _ l.queue) (λ p. omega arith) k) h;
   closes = λ items b conn h. found-at_link (Once b.sent b.undue) (Once b.sent b.undue) conn (λ l. record l { closed = true }) (λ l. refl) b.links (λ l found k. k) (λ l isnt k. k) h;
@@ -223,6 +222,7 @@ count_hands o ds b conn h n from places once =
 pub count_boxes : (o : Opening) → Boxwise o PlacesStand AllOnce
 count_boxes o = record {
   walk = count_walk o;
+  numbers = λ items b exp max h. h;
   puts = λ items b conn p h. entered b.sent b.sent b.undue b.undue conn (record (own_outgoing p) { time = b.time }) b.links (λ l k p'. omega (arith, k p')) h;
   marks = λ items b conn change alike h. found-at_link (Once b.sent b.undue) (Once b.sent b.undue) conn change (λ l. (alike l).conn) b.links
       (λ l found k p. omega (arith, k p, ap (handed_at p) (alike l).handed, ap (waiting_at p) (alike l).queue)) (λ l isnt k. k) h;

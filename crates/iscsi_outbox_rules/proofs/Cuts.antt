@@ -11,6 +11,7 @@ pub record Cut (o : Opening) (b : Box) (cs : List Call) (before : List Deed) (de
   pub first : List Call
   pub call : Call
   pub rest : List Call
+  pub calls_are : cs ≡ first ++ call ∷ rest
   pub before_is : before ≡ deeds_from o b first
   pub deed_is : deed ≡ (call, answered o (after_calls o b first) call)
   pub after_is : after ≡ deeds_from o (after_call o (after_calls o b first) call) rest
@@ -18,7 +19,7 @@ pub record Cut (o : Opening) (b : Box) (cs : List Call) (before : List Deed) (de
 pub cut : (o : Opening) (b : Box) (cs : List Call) (before : List Deed) (deed : Deed) (after : List Deed) → before ++ deed ∷ after ≡ deeds_from o b cs → Cut o b cs before deed after
 cut o b [] [] deed after h = absurd cc
 cut o b [] (x ∷ before) deed after h = absurd cc
-cut o b (c ∷ cs) [] deed after h = record { first = []; call = c; rest = cs; before_is = refl; deed_is = cc; after_is = cc }
+cut o b (c ∷ cs) [] deed after h = record { first = []; call = c; rest = cs; calls_are = refl; before_is = refl; deed_is = cc; after_is = cc }
 cut o b (c ∷ cs) (x ∷ before) deed after h =
     let t : Cut o (after_call o b c) cs before deed after = cut o (after_call o b c) cs before deed after cc in
     let head : x ≡ (c, answered o b c) = cc in
@@ -26,6 +27,7 @@ cut o b (c ∷ cs) (x ∷ before) deed after h =
       first = c ∷ t.first;
       call = t.call;
       rest = t.rest;
+      calls_are = ap (λ xs. c ∷ xs) t.calls_are;
       before_is = ap (λ y. y ∷ before) head ∙ ap (λ ys. (c, answered o b c) ∷ ys) t.before_is;
       deed_is = t.deed_is;
       after_is = t.after_is;

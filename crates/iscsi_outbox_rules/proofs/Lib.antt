@@ -15,3 +15,6 @@ mod FoundLemmas
 mod Boxwise
 mod CountRuns
 mod OnceTheorem
+mod ShownLemmas
+mod FlowRuns
+mod OnwardTheorem

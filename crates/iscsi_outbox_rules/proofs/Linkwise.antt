@@ -113,7 +113,6 @@ module _ (o : Opening) (P : List (List Effect) → Link → Type 0) (E : List (L
   pub walk : Walk o (Stands P E)
   walk = record {
     tasks = λ items b ts h. record { sent = h.sent; links = h.links; undue = h.undue };
-    numbers = λ items b exp max h. record { sent = h.sent; links = h.links; undue = h.undue };
     drops = λ items b these h. record { sent = h.sent; links = each-map (P items) (P items) (without these) b.links (λ l k. w.filters items l these k) h.links; undue = h.undue };
     closes = λ items b conn h. record { sent = h.sent; links = each-at_link (P items) (P items) conn (λ l. record l { closed = true }) b.links (λ l is k. w.closes items l k) (λ l is k. k) h.links; undue = h.undue };
     cuts = λ items b conn h. record { sent = h.sent; links = each-at_link (P items) (P items) conn (λ l. record l { closed = true; cut = true }) b.links (λ l is k. w.cuts items l k) (λ l is k. k) h.links; undue = h.undue };

@@ -18,7 +18,6 @@ use Rattle.iscsi_outbox_rules.specs.rules.Items.{executing, tickets_left, ticket
 
 pub record Walk (o : Opening) (I : List (List Effect) → Box → Type 0) : Type 0 where
   pub tasks : (items : List (List Effect)) (b : Box) (ts : List Task) → I items b → I items (record b { tasks = ts })
-  pub numbers : (items : List (List Effect)) (b : Box) (exp max : ℕ) → I items b → I items (record b { exp = exp; max = max })
   pub drops : (items : List (List Effect)) (b : Box) (these : ℕ → Bool) → I items b → I items (drop_of these b)
   pub closes : (items : List (List Effect)) (b : Box) (conn : ℕ) → I items b → I items (record b { links = at_link conn (λ l. record l { closed = true }) b.links })
   pub cuts : (items : List (List Effect)) (b : Box) (conn : ℕ) → I items b → I items (record b { links = at_link conn (λ l. record l { closed = true; cut = true }) b.links })
@@ -72,13 +71,14 @@ item_keeps o I w items b item h =
     let k : I (items ++ item ∷ []) sent = w.sends items closed item conns closes (closes_by o I w items entered r closes (enters_tasks o I w items left r item (leaves o I w items b r tickets h))) in
     settles o I w (items ++ item ∷ []) (in_phase phase_enabled (filter_map ticket_enabled item) sent) (w.tasks (items ++ item ∷ []) sent _ k)
 
-items_keep : (o : Opening) (I : List (List Effect) → Box → Type 0) (w : Walk o I) (items : List (List Effect)) (b : Box) (more : List (List Effect)) → I items b → I (items ++ more) (after_items o b more)
+pub items_keep : (o : Opening) (I : List (List Effect) → Box → Type 0) (w : Walk o I) (items : List (List Effect)) (b : Box) (more : List (List Effect)) → I items b → I (items ++ more) (after_items o b more)
 items_keep o I w items b [] h = subst (λ its. I its b) (sym (append-nil items)) h
 items_keep o I w items b (item ∷ more) h =
     subst (λ its. I its (after_items o (after_item o b item) more)) (append_assoc items (item ∷ []) more)
     (items_keep o I w (items ++ item ∷ []) (after_item o b item) more (item_keeps o I w items b item h))
 
-pub event_keeps : (o : Opening) (I : List (List Effect) → Box → Type 0) (w : Walk o I) (items : List (List Effect)) (b : Box) (effects : List Effect) (numbers : Numbers) → I items b → I (items ++ in_parts effects) (after_event o b effects numbers)
-event_keeps o I w items b effects numbers h =
+pub event_keeps : (o : Opening) (I : List (List Effect) → Box → Type 0) (w : Walk o I) → ((items : List (List Effect)) (b : Box) (exp max : ℕ) → I items b → I items (record b { exp = exp; max = max }))
+    → (items : List (List Effect)) (b : Box) (effects : List Effect) (numbers : Numbers) → I items b → I (items ++ in_parts effects) (after_event o b effects numbers)
+event_keeps o I w numbered items b effects numbers h =
     let b' : Box = after_items o b (in_parts effects) in
-    w.numbers (items ++ in_parts effects) _ numbers.exp (lift b'.max numbers.max) (w.tasks (items ++ in_parts effects) b' _ (items_keep o I w items b (in_parts effects) h))
+    numbered (items ++ in_parts effects) _ numbers.exp (lift b'.max numbers.max) (w.tasks (items ++ in_parts effects) b' _ (items_keep o I w items b (in_parts effects) h))

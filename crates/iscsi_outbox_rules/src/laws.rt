@@ -2,16 +2,17 @@
 
 ghost use Rattle.std.specs.Prelude.{List};
 ghost use Rattle.iscsi_outbox_rules.specs.promises.Closed.{NoneLost, NoneUnjoined};
-ghost use Rattle.iscsi_outbox_rules.specs.promises.Deeds.{FollowsSession, deeds_of};
-ghost use Rattle.iscsi_outbox_rules.specs.promises.Numbers.{CountStatSns, ShowsExp};
+ghost use Rattle.iscsi_outbox_rules.specs.promises.Deeds.{FollowsFlow, FollowsSession, deeds_of};
+ghost use Rattle.iscsi_outbox_rules.specs.promises.Numbers.{CountStatSns, GoesOnward, ShowsExp};
 ghost use Rattle.iscsi_outbox_rules.specs.promises.Once.{GoesOnce, SendsWhatWasSent};
 ghost use Rattle.iscsi_outbox_rules.specs.rules.Calls.{Call, Opening};
 
-/// The numbers that a PDU shows: its StatSN, in sequence on its connection, and ExpCmdSN of the moment (RFC 7143 section
-/// 4.2.2).
+/// The numbers that a PDU shows (RFC 7143 section 4.2.2): its StatSN, in sequence on its connection; ExpCmdSN of the moment; and
+/// a MaxCmdSN that never goes back, if what is taken is what a session gives.
 pub fn numbers_law()
     ensures stat_sns { (o : Opening) (calls : List Call) → CountStatSns (deeds_of o calls) }
     ensures exp { (o : Opening) (calls : List Call) → ShowsExp o (deeds_of o calls) }
+    ensures onward { (o : Opening) (calls : List Call) → FollowsFlow o calls → GoesOnward (deeds_of o calls) }
 {}
 
 /// Nothing goes out on a connection before it joined, nor after it was lost.

@@ -1,10 +1,11 @@
 -- Calls with what they answered, and what these show. No state is looked at.
-use Rattle.std.specs.Prelude.{◌≡◌, ℕ, ◌==◌, ◌&&◌, Bool, false, List, [], ◌∷◌, filter, filter_map, map, Option, Some, None}
+use Rattle.std.specs.Prelude.{◌≡◌, ◌≤◌, ℕ, ◌==◌, ◌&&◌, Bool, false, List, [], ◌∷◌, filter, filter_map, map, Option, Some, None}
 use Rattle.std.specs.List.{list_any, flat_map}
 use Rattle.iscsi_history.specs.declared.effect.Effect.{Effect}
 use Rattle.iscsi_history.specs.declared.event.Event.{Event}
 use Rattle.iscsi_history.specs.declared.entry.Entry.{Entry}
 use Rattle.iscsi_history.specs.rules.Run.{run_of}
+use Rattle.iscsi_history.specs.promises.Flow.{FlowsThrough}
 use Rattle.iscsi_history.specs.promises.Order.{in_parts}
 use Rattle.iscsi_outbox_rules.specs.rules.Calls.{Opening, Call, Takes, Puts, Stops, Nexts, Writes, Hears, Joins, Loses, Clears}
 use Rattle.iscsi_outbox_rules.specs.rules.Boxes.{Handed, Box}
@@ -96,3 +97,10 @@ entry_taken _ = []
 -- what was taken is what a session gave, event by event
 abbrev pub FollowsSession : Opening → List Call → Type 0
 FollowsSession o cs = (h : List Event) × (flat_map entry_taken cs ≡ run_of o.session h)
+
+-- and MaxCmdSN flows from event to event, as it does in a session, whose window has at most 1024 places
+pub record FollowsFlow (o : Opening) (cs : List Call) : Type 0 where
+  pub events : List Event
+  pub follows : flat_map entry_taken cs ≡ run_of o.session events
+  pub flows : FlowsThrough o.session events
+  pub window : o.session.window ≤ 1024

@@ -57,7 +57,8 @@ ShowsExp o ds = (before after : List Deed) (handing : Deed) (c : ℕ) (h : Hande
     → before ++ handing ∷ after ≡ ds → handed_in_deed handing ≡ Some (c, h) → h.exp ≡ (numbers_after (first_numbers o) before).exp
 
 -- MaxCmdSN doesn't go back, on any connection: of two PDUs with fewer than 2 ^ 19 calls between them, each of which moves it by
--- less than 2 ^ 12, so that no number of 32 bits comes round
+-- less than 2 ^ 12, so that no number of 32 bits comes round. Numbers that no session gives could move it by more, so it holds
+-- under `FollowsFlow` alone
 abbrev pub GoesOnward : List Deed → Type 0
 GoesOnward ds = (before between after : List Deed) (handing later : Deed) (c d : ℕ) (h g : Handed)
     → before ++ handing ∷ (between ++ later ∷ after) ≡ ds
