@@ -152,7 +152,7 @@ clears-counted p unit (a ∷ answers) =
 not_there : (p : ℕ) (out : Outgoing) → IsOwn out → is_at p out ≡ false
 not_there p out own = ap (λ x. elim x [ Some q ↦ q == p | None ↦ false ]) own.none
 
-from_queue : (items : List (List Effect)) (conn : ℕ) (out : Outgoing) → IsSent items conn out → is_from_queue out ≡ true
+pub from_queue : (items : List (List Effect)) (conn : ℕ) (out : Outgoing) → IsSent items conn out → is_from_queue out ≡ true
 from_queue items conn out s = ap (λ x. elim x [ Replies reply ↦ true | Owns p ↦ true | Pings tag ↦ false | Notices ↦ false ]) s.pdu_is
 
 pub taken_at : (o : Opening) (b : Box) (l : Link) (out : Outgoing) (items : List (List Effect)) → Chosen o b l out → EachOf (Entry items l.conn) l.queue → (p : ℕ) → waiting_at p (taken_from out l).queue + one (is_at p out) ≤ waiting_at p l.queue
@@ -180,7 +180,7 @@ taken_at o b l out items from waits p =
         fewer-drop [] = omega arith
         fewer-drop (x ∷ queue) = omega (arith, sum_by-cons (λ y. one (is_at p y)) x queue)
 
-some_link : (l m : Link) → Some l ≡ Some m → l ≡ m
+pub some_link : (l m : Link) → Some l ≡ Some m → l ≡ m
 some_link l m h = cc
 
 count_hands : (o : Opening) (ds : List Deed) (b : Box) (conn : ℕ) (h : Handed) (n : Handing o b conn h) → Chosen o b n.link n.out → PlacesStand ds b → AllOnce (items_in ds) b → AllOnce (items_in ds) (after_given o b n.link (handed_as o b n.link n.out))

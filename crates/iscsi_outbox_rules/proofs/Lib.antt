@@ -18,3 +18,6 @@ mod OnceTheorem
 mod ShownLemmas
 mod FlowRuns
 mod OnwardTheorem
+mod SortedLemmas
+mod LineRuns
+mod InOrderTheorem

@@ -89,7 +89,7 @@ wise o ds = record {
   awaits = λ items b item r conns closes conn reply about found counted. entry_new items item conn reply _ b.sent found counted refl refl;
 }
 
-own_ping : (o : Opening) (b : Box) (l : Link) (out : Outgoing) → IsPing o b l out ⊎ IsNotice o b l out → IsOwn out
+pub own_ping : (o : Opening) (b : Box) (l : Link) (out : Outgoing) → IsPing o b l out ⊎ IsNotice o b l out → IsOwn out
 own_ping o b l out h =
     ⊎_elim (λ (p : IsPing o b l out). subst IsOwn (sym p.is) (record { none = refl; apart = λ reply is. absurd cc }))
     (λ (p : IsNotice o b l out). subst IsOwn (sym p.is) (record { none = refl; apart = λ reply is. absurd cc })) h

@@ -1,3 +1,4 @@
+use Rattle.iscsi_outbox_rules.proofs.InOrderTheorem.{goes_in_order}
 use Rattle.iscsi_outbox_rules.proofs.OnceTheorem.{sends_what_was_sent, goes_once}
 use Rattle.iscsi_outbox_rules.proofs.laws.once_law.Goals as goal
 
@@ -6,3 +7,6 @@ returns-clause-sent c = sends_what_was_sent
 
 pub returns-clause-once : goal.returns-clause-once
 returns-clause-once c = goes_once
+
+pub returns-clause-order : goal.returns-clause-order
+returns-clause-order c = goes_in_order
