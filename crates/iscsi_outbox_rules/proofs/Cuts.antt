@@ -16,22 +16,26 @@ pub record Cut (o : Opening) (b : Box) (cs : List Call) (before : List Deed) (de
   pub deed_is : deed ≡ (call, answered o (after_calls o b first) call)
   pub after_is : after ≡ deeds_from o (after_call o (after_calls o b first) call) rest
 
+later : (o : Opening) (b : Box) (c : Call) (cs : List Call) (x : Deed) (before : List Deed) (deed : Deed) (after : List Deed) → x ≡ (c, answered o b c)
+    → Cut o (after_call o b c) cs before deed after → Cut o b (c ∷ cs) (x ∷ before) deed after
+later o b c cs x before deed after head t = record {
+  first = c ∷ t.first;
+  call = t.call;
+  rest = t.rest;
+  calls_are = ap (λ ys. c ∷ ys) t.calls_are;
+  before_is = ap (λ y. y ∷ before) head ∙ ap (λ ys. (c, answered o b c) ∷ ys) t.before_is;
+  deed_is = t.deed_is;
+  after_is = t.after_is;
+}
+
 pub cut : (o : Opening) (b : Box) (cs : List Call) (before : List Deed) (deed : Deed) (after : List Deed) → before ++ deed ∷ after ≡ deeds_from o b cs → Cut o b cs before deed after
 cut o b [] [] deed after h = absurd cc
 cut o b [] (x ∷ before) deed after h = absurd cc
 cut o b (c ∷ cs) [] deed after h = record { first = []; call = c; rest = cs; calls_are = refl; before_is = refl; deed_is = cc; after_is = cc }
 cut o b (c ∷ cs) (x ∷ before) deed after h =
-    let t : Cut o (after_call o b c) cs before deed after = cut o (after_call o b c) cs before deed after cc in
     let head : x ≡ (c, answered o b c) = cc in
-    record {
-      first = c ∷ t.first;
-      call = t.call;
-      rest = t.rest;
-      calls_are = ap (λ xs. c ∷ xs) t.calls_are;
-      before_is = ap (λ y. y ∷ before) head ∙ ap (λ ys. (c, answered o b c) ∷ ys) t.before_is;
-      deed_is = t.deed_is;
-      after_is = t.after_is;
-    }
+    let tail : before ++ deed ∷ after ≡ deeds_from o (after_call o b c) cs = cc in
+    later o b c cs x before deed after head (cut o (after_call o b c) cs before deed after tail)
 
 -- what each call keeps
 pub keeps : (o : Opening) (I : List Deed → Box → Type 0) → ((ds : List Deed) (b : Box) (c : Call) → I ds b → I (ds ++ (c, answered o b c) ∷ []) (after_call o b c))

@@ -21,3 +21,6 @@ mod OnwardTheorem
 mod SortedLemmas
 mod LineRuns
 mod InOrderTheorem
+mod ConnLemmas
+mod TimeRuns
+mod MomentTheorem

@@ -63,7 +63,7 @@ module _ (o : Opening) (all : List (List Effect)) where
   abbrev pub Lines : List (List Effect) → Box → Type 0
   Lines items b = (rest : List (List Effect)) → items ++ rest ≡ all → LinesStand items b
 
-  none_some : (x : Option ℕ) (p : ℕ) → x ≡ None → x ≡ Some p → ⊥
+  pub none_some : (x : Option ℕ) (p : ℕ) → x ≡ None → x ≡ Some p → ⊥
   none_some x p none some = let no : None ≡ Some p = sym none ∙ some in absurd cc
 
   place_same : (x : Option ℕ) (p q : ℕ) → x ≡ Some p → place_of x ≡ Some q → p ≡ q
@@ -74,7 +74,7 @@ module _ (o : Opening) (all : List (List Effect)) where
         | false ↦ λ no_place. absurd cc
       ] place
 
-  place_some : (x : Option ℕ) (q : ℕ) → place_of x ≡ Some q → x ≡ Some q
+  pub place_some : (x : Option ℕ) (q : ℕ) → place_of x ≡ Some q → x ≡ Some q
   place_some None q place = absurd cc
   place_some (Some k) q place =
       elim (went_at_once (nth k (firsts all))) as (λ v. cond v (Some k) None ≡ Some q → Some k ≡ Some q) [
@@ -82,13 +82,13 @@ module _ (o : Opening) (all : List (List Effect)) where
         | false ↦ λ no_place. absurd cc
       ] place
 
-  below-more : (n : ℕ) (x : Outgoing) → SentBelow n x → SentBelow (n + 1) x
+  pub below-more : (n : ℕ) (x : Outgoing) → SentBelow n x → SentBelow (n + 1) x
   below-more n x h p is = omega (arith, h p is)
 
   in_order-more : (n : ℕ) (l : Link) → InOrder n l → InOrder (n + 1) l
   in_order-more n l h = (h.0, each-weaken (SentBelow n) (SentBelow (n + 1)) (line l) (below-more n) h.1)
 
-  waits-more : (n : ℕ) (answers : List Answer) → EachOf (Waits n) answers → EachOf (Waits (n + 1)) answers
+  pub waits-more : (n : ℕ) (answers : List Answer) → EachOf (Waits n) answers → EachOf (Waits (n + 1)) answers
   waits-more n answers h = each-weaken (Waits n) (Waits (n + 1)) answers (λ a k. (k.0, below-more n a.out k.1)) h
 
   -- it enters at the end
@@ -128,7 +128,7 @@ module _ (o : Opening) (all : List (List Effect)) where
 
   -- ---- what an item sends
 
-  sent_now : (items rest : List (List Effect)) (item : List Effect) (conn n : ℕ) (reply : Reply) → items ++ item ∷ rest ≡ all → first_of (filter_map reply_sent item) ≡ Some (conn, reply) → n ≡ length (firsts items)
+  pub sent_now : (items rest : List (List Effect)) (item : List Effect) (conn n : ℕ) (reply : Reply) → items ++ item ∷ rest ≡ all → first_of (filter_map reply_sent item) ≡ Some (conn, reply) → n ≡ length (firsts items)
       → nth n (firsts all) ≡ Some (record { before = items; item = item; conn = conn; reply = reply })
   sent_now items rest item conn n reply whole found counted =
       let s : Sent = record { before = items; item = item; conn = conn; reply = reply } in
@@ -320,7 +320,7 @@ module _ (o : Opening) (all : List (List Effect)) where
           (λ m found j. let same : l ≡ m = some_link l m (sym (ap (λ c. find_link c b.links) at ∙ n.found) ∙ found) in subst (λ (x : Link). Between (taken_from out x)) same (taken (k.lines conn l n.found)))
           (λ m isnt j. ((λ same. absurd (eqb-false m.conn l.conn isnt same)), (λ apart. j))) k.lines)
 
-  clears_waits : (n unit : ℕ) (answers : List Answer) → EachOf (Waits n) answers → EachOf (Waits n) (cleared unit answers)
+  pub clears_waits : (n unit : ℕ) (answers : List Answer) → EachOf (Waits n) answers → EachOf (Waits n) (cleared unit answers)
   clears_waits n unit [] h = tt
   clears_waits n unit (a ∷ answers) h =
       cond_both (waits_for_clear unit a) (record a { uncleared = false } ∷ answers) (a ∷ cleared unit answers) (EachOf (Waits n)) (λ is. (h.0, h.1)) (λ is. (h.0, clears_waits n unit answers h.1))

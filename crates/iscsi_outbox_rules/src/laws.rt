@@ -4,7 +4,7 @@ ghost use Rattle.std.specs.Prelude.{List};
 ghost use Rattle.iscsi_outbox_rules.specs.promises.Closed.{NoneLost, NoneUnjoined};
 ghost use Rattle.iscsi_outbox_rules.specs.promises.Deeds.{FollowsFlow, FollowsSession, deeds_of};
 ghost use Rattle.iscsi_outbox_rules.specs.promises.Numbers.{CountStatSns, GoesOnward, ShowsExp};
-ghost use Rattle.iscsi_outbox_rules.specs.promises.Once.{GoesInOrder, GoesOnce, SendsWhatWasSent};
+ghost use Rattle.iscsi_outbox_rules.specs.promises.Once.{EntersInOrder, GoesInOrder, GoesOnce, SendsWhatWasSent};
 ghost use Rattle.iscsi_outbox_rules.specs.rules.Calls.{Call, Opening};
 
 /// The numbers that a PDU shows (RFC 7143 section 4.2.2): its StatSN, in sequence on its connection; ExpCmdSN of the moment; and
@@ -22,9 +22,10 @@ pub fn closed_law()
 {}
 
 /// No reply goes out twice. If what is taken is what a session gives, each is one that the session sent on this connection, and
-/// those of a connection that didn't have to wait go out in the log's order.
+/// those that didn't have to wait enter their queues in the log's order, and go out in it on each connection.
 pub fn once_law()
     ensures sent { (o : Opening) (calls : List Call) → FollowsSession o calls → SendsWhatWasSent (deeds_of o calls) }
     ensures once { (o : Opening) (calls : List Call) → GoesOnce (deeds_of o calls) }
     ensures order { (o : Opening) (calls : List Call) → FollowsSession o calls → GoesInOrder o (deeds_of o calls) }
+    ensures moments { (o : Opening) (calls : List Call) → FollowsSession o calls → EntersInOrder o (deeds_of o calls) }
 {}

@@ -1,3 +1,4 @@
+use Rattle.iscsi_outbox_rules.proofs.MomentTheorem.{enters_in_order}
 use Rattle.iscsi_outbox_rules.proofs.InOrderTheorem.{goes_in_order}
 use Rattle.iscsi_outbox_rules.proofs.OnceTheorem.{sends_what_was_sent, goes_once}
 use Rattle.iscsi_outbox_rules.proofs.laws.once_law.Goals as goal
@@ -10,3 +11,6 @@ returns-clause-once c = goes_once
 
 pub returns-clause-order : goal.returns-clause-order
 returns-clause-order c = goes_in_order
+
+pub returns-clause-moments : goal.returns-clause-moments
+returns-clause-moments c = enters_in_order
