@@ -1,5 +1,5 @@
 -- What each step of a call keeps, the call keeps.
-use Rattle.std.proofs.Common.{◌≡◌, ℕ, ⊎_elim, List, [], ◌∷◌, ◌++◌, length, max, nat_lt, Some, None, refl, ap, sym, subst, ◌+◌, ◌∙◌}
+use Rattle.std.proofs.Common.{◌≡◌, ℕ, ⊎_elim, List, [], ◌∷◌, ◌++◌, length, max, nat_lt, Some, None, refl, ap, sym, subst, ◌+◌, ◌∙◌, true}
 use Rattle.std.proofs.lemmas.Bool.{cond_both}
 use Rattle.std.proofs.lemmas.List.{append-nil}
 use Rattle.iscsi_history.specs.declared.effect.Effect.{Effect}
@@ -14,7 +14,8 @@ use Rattle.iscsi_outbox_rules.specs.rules.Own.{own_conn, own_outgoing, put_refus
 use Rattle.iscsi_outbox_rules.specs.rules.Handing.{handed_as, after_given}
 use Rattle.iscsi_outbox_rules.specs.rules.Run.{after_call, answered, phase_stopped, one_written, arrived_by_stat_sn, arrived_by_ping, link_heard, may_join, link_joined, link_lost, cleared}
 use Rattle.iscsi_outbox_rules.specs.promises.Deeds.{Deed, items_in, items_of_call}
-use Rattle.iscsi_outbox_rules.proofs.Walks.{Walk, settles, event_keeps}
+use Rattle.iscsi_history.proofs.BoolLemmas.{or_second}
+use Rattle.iscsi_outbox_rules.proofs.Walks.{over_after, Walk, settles, event_keeps}
 use Rattle.iscsi_outbox_rules.proofs.DeedLemmas.{items_in-more}
 use Rattle.iscsi_outbox_rules.proofs.Chosen.{Chosen, chosen_from}
 use Rattle.iscsi_outbox_rules.proofs.Cuts.{Handing, Hand, Idle, next}
@@ -66,7 +67,7 @@ module _ (o : Opening) (J : List Deed → Box → Type 0) (I : List (List Effect
   lose items b conn h =
       let marked : Box = record b { links = at_link conn link_lost b.links } in
       let lost : Box = record marked { reached = 0 } in
-      settled items (drop_on conn lost) (w.walk.drops_on items lost conn (w.reaches items marked 0 (w.marks items b conn link_lost (λ l. record { conn = refl; queue = refl; handed = refl }) h)))
+      settled items (drop_on conn lost) (w.walk.drops_on items lost conn (over_after conn link_lost (λ l. or_second l.closed true refl) b.links) (w.reaches items marked 0 (w.marks items b conn link_lost (λ l. record { conn = refl; queue = refl; handed = refl }) h)))
 
   pub box_keeps : (ds : List Deed) (b : Box) (c : Call) → J ds b → I (items_in ds) b → I (items_in (ds ++ (c, answered o b c) ∷ [])) (after_call o b c)
   box_keeps ds b (Takes effects numbers) j h =

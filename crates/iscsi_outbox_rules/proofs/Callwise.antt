@@ -4,7 +4,7 @@ use Rattle.std.proofs.lemmas.Bool.{cond_both, false≢true, eqb-true, eqb-false}
 use Rattle.std.proofs.lemmas.List.{append-nil}
 use Rattle.iscsi_history.specs.declared.effect.Effect.{Effect}
 use Rattle.iscsi_history.specs.promises.Order.{in_parts}
-use Rattle.iscsi_history.proofs.BoolLemmas.{and_parts}
+use Rattle.iscsi_history.proofs.BoolLemmas.{or_second, and_parts}
 use Rattle.iscsi_history.proofs.ListLemmas.{first_itself}
 use Rattle.iscsi_outbox_rules.specs.declared.own_pdu.OwnPdu.{OwnPdu}
 use Rattle.iscsi_outbox_rules.specs.rules.Calls.{Opening, Call, Takes, Puts, Stops, Nexts, Writes, Hears, Joins, Loses, Clears}
@@ -18,7 +18,7 @@ use Rattle.iscsi_outbox_rules.specs.rules.Handing.{is_from_queue, handed_as, tak
 use Rattle.iscsi_outbox_rules.specs.rules.Run.{Silent, Joined, after_call, answered, phase_stopped, one_written, arrived_by_stat_sn, arrived_by_ping, link_heard, may_join, link_joined, link_lost, waits_for_clear, cleared}
 use Rattle.iscsi_outbox_rules.specs.promises.Deeds.{Deed, items_in, items_of_call, handed_in_deed, handed_on, is_join_of, is_lose_of}
 use Rattle.iscsi_outbox_rules.proofs.EachLemmas.{EachOf, each-weaken, each-at_link, each-first_of, each-any}
-use Rattle.iscsi_outbox_rules.proofs.Walks.{settles, event_keeps}
+use Rattle.iscsi_outbox_rules.proofs.Walks.{over_after, settles, event_keeps}
 use Rattle.iscsi_outbox_rules.proofs.Linkwise.{Linkwise, Stands, enters_queue, walk}
 use Rattle.iscsi_outbox_rules.proofs.DeedLemmas.{items_in-more, none_on, other_on}
 use Rattle.iscsi_outbox_rules.proofs.Chosen.{Chosen, chosen_from}
@@ -114,7 +114,7 @@ module _ (o : Opening) (P : List Deed → List (List Effect) → Link → Type 0
   lose : (ds : List Deed) (b : Box) (conn : ℕ) → StandsAfter ds b → StandsAfter (ds ++ (Loses conn, Silent) ∷ []) (after_call o b (Loses conn))
   lose ds b conn h =
       no_items ds d (after_call o b (Loses conn)) refl
-      (settled (ds ++ d ∷ []) (items_in ds) (drop_on conn lost) ((walk o (P (ds ++ d ∷ [])) E (w.wise (ds ++ d ∷ []))).drops_on (items_in ds) lost conn stands))
+      (settled (ds ++ d ∷ []) (items_in ds) (drop_on conn lost) ((walk o (P (ds ++ d ∷ [])) E (w.wise (ds ++ d ∷ []))).drops_on (items_in ds) lost conn (over_after conn link_lost (λ l. or_second l.closed true refl) b.links) stands))
     where
       d : Deed
       d = (Loses conn, Silent)

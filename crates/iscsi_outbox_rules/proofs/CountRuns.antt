@@ -129,7 +129,7 @@ count_walk o = record {
       (λ c l found k. fewer b.sent b.undue b.undue l (without these l).queue (λ p. counted-filter (is_at p) _ l.queue) (λ p. omega arith) k) h;
   closes = λ items b conn h. found-at_link (Once b.sent b.undue) (Once b.sent b.undue) conn (λ l. record l { closed = true }) (λ l. refl) b.links (λ l found k. k) (λ l isnt k. k) h;
   cuts = λ items b conn h. found-at_link (Once b.sent b.undue) (Once b.sent b.undue) conn (λ l. record l { closed = true; cut = true }) (λ l. refl) b.links (λ l found k. k) (λ l isnt k. k) h;
-  drops_on = λ items b conn h.
+  drops_on = λ items b conn over h.
       let undue' : List Answer = filter (λ (a : Answer). not (a.conn == conn)) b.undue in
       let less : (p : ℕ) → undue_at p undue' ≤ undue_at p b.undue = λ p. counted-filter (λ (a : Answer). is_at p a.out) (λ (a : Answer). not (a.conn == conn)) b.undue in
       found-at_link (Once b.sent b.undue) (Once b.sent undue') conn emptied (λ l. refl) b.links

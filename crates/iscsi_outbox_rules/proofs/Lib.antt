@@ -24,3 +24,5 @@ mod InOrderTheorem
 mod ConnLemmas
 mod TimeRuns
 mod MomentTheorem
+mod OwnRuns
+mod OwnTheorem

@@ -197,7 +197,7 @@ module _ (o : Opening) (all : List (List Effect)) where
       lines = found-at_link (InOrder b.sent) (InOrder b.sent) conn (λ l. record l { closed = true; cut = true }) (λ l. refl) b.links (λ l found j. j) (λ l isnt j. j) k.lines;
       undue = k.undue;
     };
-    drops_on = λ items b conn h rest whole. let k = h rest whole in record {
+    drops_on = λ items b conn over h rest whole. let k = h rest whole in record {
       counted = k.counted;
       lines = found-at_link (InOrder b.sent) (InOrder b.sent) conn emptied (λ l. refl) b.links (λ l found j. fewer b.sent l [] (λ P e. tt) (λ e. tt) j) (λ l isnt j. j) k.lines;
       undue = each-filter (Waits b.sent) (λ (a : Answer). not (a.conn == conn)) b.undue k.undue;

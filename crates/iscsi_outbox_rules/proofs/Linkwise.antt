@@ -116,7 +116,7 @@ module _ (o : Opening) (P : List (List Effect) → Link → Type 0) (E : List (L
     drops = λ items b these h. record { sent = h.sent; links = each-map (P items) (P items) (without these) b.links (λ l k. w.filters items l these k) h.links; undue = h.undue };
     closes = λ items b conn h. record { sent = h.sent; links = each-at_link (P items) (P items) conn (λ l. record l { closed = true }) b.links (λ l is k. w.closes items l k) (λ l is k. k) h.links; undue = h.undue };
     cuts = λ items b conn h. record { sent = h.sent; links = each-at_link (P items) (P items) conn (λ l. record l { closed = true; cut = true }) b.links (λ l is k. w.cuts items l k) (λ l is k. k) h.links; undue = h.undue };
-    drops_on = λ items b conn h. record {
+    drops_on = λ items b conn over h. record {
       sent = h.sent;
       links = each-at_link (P items) (P items) conn emptied b.links (λ l is k. w.empties items l k) (λ l is k. k) h.links;
       undue = each-filter (λ (a : Answer). E items a.conn a.out) (λ (a : Answer). not (a.conn == conn)) b.undue h.undue;

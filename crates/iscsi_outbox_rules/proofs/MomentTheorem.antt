@@ -13,7 +13,7 @@ use Rattle.iscsi_outbox_rules.specs.promises.Scope.{Sent, nth, sent_by, sent_as,
 use Rattle.iscsi_outbox_rules.specs.promises.Once.{EntersInOrder}
 use Rattle.iscsi_outbox_rules.proofs.EachLemmas.{EachOf, each-first_of, each-second}
 use Rattle.iscsi_outbox_rules.proofs.Cuts.{keeps, Handing, at_handing}
-use Rattle.iscsi_outbox_rules.proofs.ConnLemmas.{conns_of, Conns, conn_boxes, find_again}
+use Rattle.iscsi_outbox_rules.proofs.ConnLemmas.{conns_of, HeldBy, conn_boxes, HaveConns, have_conns, find_again}
 use Rattle.iscsi_outbox_rules.proofs.DeedLemmas.{handed_on-append, some_on}
 use Rattle.iscsi_outbox_rules.proofs.FirstLemmas.{firsts}
 use Rattle.iscsi_outbox_rules.proofs.FoundLemmas.{found-conn}
@@ -48,13 +48,13 @@ moment_of c h (d ∷ ds) there = by_deed (handed_in_deed d) refl (moment_of c h 
 record Stand (o : Opening) (all : List (List Effect)) (ds : List Deed) (b : Box) : Type 0 where
   places : PlacesStand ds b
   times : Times o all (items_in ds) b
-  conns : Conns (conns_of (opened o).links) (items_in ds) b
+  conns : HaveConns (conns_of (opened o).links) b.links
 
 kept : (o : Opening) (all : List (List Effect)) (ds : List Deed) (b : Box) (c : Call) → Stand o all ds b → Stand o all (ds ++ (c, answered o b c) ∷ []) (after_call o b c)
 kept o all ds b c h = record {
   places = places_kept o ds b c h.places;
   times = box_keeps o PlacesStand (Times o all) (time_boxes o all PlacesStand) ds b c h.places h.times;
-  conns = box_keeps o PlacesStand (Conns (conns_of (opened o).links)) (conn_boxes o PlacesStand (conns_of (opened o).links)) ds b c h.places h.conns;
+  conns = box_keeps o PlacesStand (HeldBy (HaveConns (conns_of (opened o).links)) (have_conns (conns_of (opened o).links))) (conn_boxes (HaveConns (conns_of (opened o).links)) (have_conns (conns_of (opened o).links)) o PlacesStand) ds b c h.places h.conns;
 }
 
 starts : (o : Opening) (all : List (List Effect)) → Stand o all [] (opened o)

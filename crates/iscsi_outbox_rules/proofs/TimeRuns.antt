@@ -196,7 +196,7 @@ module _ (o : Opening) (all : List (List Effect)) where
     cuts = λ items b conn h rest whole. let k = h rest whole in
         with_links items b (at_link conn (λ l. record l { closed = true; cut = true }) b.links) b.undue k
         (each-at_link (LinkTimed k.times b.sent) (LinkTimed k.times b.sent) conn (λ l. record l { closed = true; cut = true }) b.links (λ l is j. j) (λ l is j. j) k.links) k.undue;
-    drops_on = λ items b conn h rest whole. let k = h rest whole in
+    drops_on = λ items b conn over h rest whole. let k = h rest whole in
         with_links items b (at_link conn emptied b.links) (filter (λ (a : Answer). not (a.conn == conn)) b.undue) k
         (each-at_link (LinkTimed k.times b.sent) (LinkTimed k.times b.sent) conn emptied b.links (λ l is j. (tt, j.1)) (λ l is j. j) k.links)
         (each-filter (Waits o all b.sent) (λ (a : Answer). not (a.conn == conn)) b.undue k.undue);

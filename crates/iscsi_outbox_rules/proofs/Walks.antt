@@ -1,6 +1,8 @@
 -- What each step of an event keeps, the event keeps.
-use Rattle.std.proofs.Common.{ℕ, ◌==◌, Bool, true, List, [], ◌∷◌, ◌++◌, filter_map, Option, Some, None, sym, subst}
-use Rattle.std.proofs.lemmas.Bool.{cond_both}
+use Rattle.std.proofs.Common.{refl, ◌≡◌, ℕ, ◌==◌, Bool, true, List, [], ◌∷◌, ◌++◌, filter_map, Option, Some, None, sym, subst}
+use Rattle.std.proofs.lemmas.Bool.{cond_both, eqb-false}
+use Rattle.std.proofs.Common.{◌||◌}
+use Rattle.iscsi_outbox_rules.proofs.EachLemmas.{EachOf, each-at_link}
 use Rattle.std.proofs.lemmas.List.{append_assoc, append-nil}
 use Rattle.iscsi_wire.specs.Fields.{connection_of}
 use Rattle.iscsi_wire.specs.Serial.{lift}
@@ -10,18 +12,30 @@ use Rattle.iscsi_history.specs.declared.effect.Numbers.{Numbers}
 use Rattle.iscsi_history.specs.rules.Trace.{first_of}
 use Rattle.iscsi_history.specs.promises.Order.{in_parts}
 use Rattle.iscsi_outbox_rules.specs.rules.Calls.{Opening}
-use Rattle.iscsi_outbox_rules.specs.rules.Boxes.{Task, Answer, Box}
+use Rattle.iscsi_outbox_rules.specs.rules.Boxes.{Task, Answer, Box, Link}
 use Rattle.iscsi_outbox_rules.specs.rules.Words.{contains}
 use Rattle.iscsi_outbox_rules.specs.rules.Queues.{at_link, enter, drop_of, drop_on}
 use Rattle.iscsi_outbox_rules.specs.rules.Due.{is_due, settle_from, settle}
 use Rattle.iscsi_outbox_rules.specs.rules.Items.{executing, tickets_left, ticket_enabled, reply_sent, closed_in, newly_closed, phase_taken_out, phase_enabled, in_phase, leave, enter_tasks, close_one, close_all, close, send, after_item, after_items, after_event}
+
+-- a connection with this CID was closed or lost
+abbrev pub IsOver : ℕ → Link → Type 0
+IsOver conn l = l.conn ≡ conn → (l.closed || l.lost) ≡ true
+
+any : (links : List Link) → EachOf (λ (l : Link). Unit {0}) links
+any [] = tt
+any (l ∷ links) = (tt, any links)
+
+pub over_after : (conn : ℕ) (change : Link → Link) → ((l : Link) → ((change l).closed || (change l).lost) ≡ true) → (links : List Link) → EachOf (IsOver conn) (at_link conn change links)
+over_after conn change over links =
+    each-at_link (λ (l : Link). Unit {0}) (IsOver conn) conn change links (λ l is k same. over l) (λ l isnt k same. absurd (eqb-false l.conn conn isnt same)) (any links)
 
 pub record Walk (o : Opening) (I : List (List Effect) → Box → Type 0) : Type 0 where
   pub tasks : (items : List (List Effect)) (b : Box) (ts : List Task) → I items b → I items (record b { tasks = ts })
   pub drops : (items : List (List Effect)) (b : Box) (these : ℕ → Bool) → I items b → I items (drop_of these b)
   pub closes : (items : List (List Effect)) (b : Box) (conn : ℕ) → I items b → I items (record b { links = at_link conn (λ l. record l { closed = true }) b.links })
   pub cuts : (items : List (List Effect)) (b : Box) (conn : ℕ) → I items b → I items (record b { links = at_link conn (λ l. record l { closed = true; cut = true }) b.links })
-  pub drops_on : (items : List (List Effect)) (b : Box) (conn : ℕ) → I items b → I items (drop_on conn b)
+  pub drops_on : (items : List (List Effect)) (b : Box) (conn : ℕ) → EachOf (IsOver conn) b.links → I items b → I items (drop_on conn b)
   pub moves : (items : List (List Effect)) (b : Box) (before rest : List Answer) (a : Answer) → I items (record b { undue = before ++ a ∷ rest }) → I items (enter a.conn a.out (record b { undue = before ++ rest }))
   pub sends : (items : List (List Effect)) (b : Box) (item : List Effect) (conns closes : List ℕ) → I items b
       → I (items ++ item ∷ []) (send o (executing item) (tickets_left item) conns closes (first_of (filter_map reply_sent item)) b)
@@ -48,7 +62,7 @@ closes_one : (o : Opening) (I : List (List Effect) → Box → Type 0) (w : Walk
 closes_one o I w items b by conn h =
     cond_both (conn == by) (record b { links = at_link conn (λ l. record l { closed = true }) b.links }) (drop_on conn (record b { links = at_link conn (λ l. record l { closed = true; cut = true }) b.links })) (I items)
     (λ is. w.closes items b conn h)
-    (λ is. w.drops_on items (record b { links = at_link conn (λ l. record l { closed = true; cut = true }) b.links }) conn (w.cuts items b conn h))
+    (λ is. w.drops_on items (record b { links = at_link conn (λ l. record l { closed = true; cut = true }) b.links }) conn (over_after conn (λ l. record l { closed = true; cut = true }) (λ l. refl) b.links) (w.cuts items b conn h))
 
 closes_all : (o : Opening) (I : List (List Effect) → Box → Type 0) (w : Walk o I) (items : List (List Effect)) (b : Box) (by : ℕ) (conns : List ℕ) → I items b → I items (close_all by conns b)
 closes_all o I w items b by [] h = h

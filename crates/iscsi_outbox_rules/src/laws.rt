@@ -5,6 +5,7 @@ ghost use Rattle.iscsi_outbox_rules.specs.promises.Closed.{NoneLost, NoneUnjoine
 ghost use Rattle.iscsi_outbox_rules.specs.promises.Deeds.{FollowsFlow, FollowsSession, deeds_of};
 ghost use Rattle.iscsi_outbox_rules.specs.promises.Numbers.{CountStatSns, GoesOnward, ShowsExp};
 ghost use Rattle.iscsi_outbox_rules.specs.promises.Once.{EntersInOrder, GoesInOrder, GoesOnce, SendsWhatWasSent};
+ghost use Rattle.iscsi_outbox_rules.specs.promises.Order.{KeepsConnectionOrder};
 ghost use Rattle.iscsi_outbox_rules.specs.rules.Calls.{Call, Opening};
 
 /// The numbers that a PDU shows (RFC 7143 section 4.2.2): its StatSN, in sequence on its connection; ExpCmdSN of the moment; and
@@ -28,4 +29,9 @@ pub fn once_law()
     ensures once { (o : Opening) (calls : List Call) → GoesOnce (deeds_of o calls) }
     ensures order { (o : Opening) (calls : List Call) → FollowsSession o calls → GoesInOrder o (deeds_of o calls) }
     ensures moments { (o : Opening) (calls : List Call) → FollowsSession o calls → EntersInOrder o (deeds_of o calls) }
+{}
+
+/// The target's own PDUs of a connection go out as they were put: those that went out are a beginning of those that were taken.
+pub fn order_law()
+    ensures of_connection { (o : Opening) (calls : List Call) → KeepsConnectionOrder (deeds_of o calls) }
 {}
