@@ -1,0 +1,6 @@
+pub mod LinkLemmas
+pub mod WithoutLemmas
+pub mod KeptLemmas
+pub mod ReadLemmas
+pub mod OpenLemmas
+pub mod ListedLemmas

@@ -1,0 +1,186 @@
+//! Lists of values.
+
+ghost use Rattle.std.specs.Prelude.{◌≡◌, ℕ, ◌+◌, ◌<◌, ◌≤◌, ◌++◌, List, [], ◌∷◌, Some, None, true, length, map, replicate, slice_index_or, slice_set, IfOk};
+ghost use Rattle.iscsi_slots.specs.Slots.{times};
+ghost use Rattle.iscsi_lists.specs.Lists.{AreApart, first_of, last_of, counted, without, with_last, times_in, linked_in};
+
+use crate::links::Links;
+use std::alloc::{AllocError, Global};
+use std::marker::Model;
+
+/// Some lists over one set of slots. Each slot has a value, and is in one of the lists or free.
+///
+/// A slot is a number from 1 on. A value keeps its slot while it moves from list to list, until it is taken out. Lists
+/// are numbered from 0 on. Each call takes the same time however many lists, slots and values there are, but for `clear`.
+#[derive(Drop)]
+pub struct Lists<T: Copy> {
+    links: Links,
+    /// The value of each slot. The first one is of no slot.
+    values: Vec<T>,
+}
+
+impl<T: Copy> Model for Lists<T> {
+    ghost use Rattle.iscsi_lists.specs.Lists.{Listed, listed, listed_code, IsListed};
+
+    ghost Value = { Listed T };
+
+    ghost coded = { listed_code T.code };
+
+    ghost view = { λ s. listed s.links.free s.links.lists s.links.room s.values.items };
+
+    ghost invariant = { λ s. IsListed s.links s.values.items };
+}
+
+impl<T: Copy> Lists<T> {
+    /// So many empty lists, and so many slots for all of them. It takes all its memory here. Any value will do as
+    /// `blank`: it is what a slot has that was never used.
+    pub fn with_room(
+        alloc: Global,
+        lists: usize,
+        room: usize,
+        blank: T,
+    ) -> Result<Lists<T>, AllocError>
+        requires { room + lists + 2 ≤ 4294967295 }
+        ensures { IfOk result (λ s. s ≡ record {
+          free = counted 1 room;
+          lists = replicate lists [];
+          room = room;
+          values = replicate (room + 1) blank;
+        }) }
+    {
+        Ok(Lists {
+            links: Links::with_room(alloc, lists, room)?,
+            values: filled(alloc, room + 1, blank)?,
+        })
+    }
+
+    /// Whether no slot is free.
+    pub fn is_full(&self) -> bool
+        ensures yes { result ≡ true → self.now.free ≡ [] }
+        ensures no { self.now.free ≡ [] → result ≡ true }
+        ensures apart { AreApart (linked_in self.now) }
+    {
+        self.links.is_full()
+    }
+
+    /// The first slot of a list.
+    pub fn first(&self, list: usize) -> Option<u32>
+        requires { list < length self.now.lists }
+        ensures { result ≡ first_of (slice_index_or self.now.lists list []) }
+    {
+        self.links.first(list)
+    }
+
+    /// The slot behind another one of its list.
+    pub fn next(&self, slot: u32) -> Option<u32>
+        requires { slot ≤ self.now.room }
+        ensures { (list : ℕ) (before after : List ℕ) → list < length self.now.lists →
+            slice_index_or self.now.lists list [] ≡ before ++ slot ∷ after → result ≡ first_of after }
+    {
+        self.links.next(slot)
+    }
+
+    /// The slot before another one of its list.
+    pub fn previous(&self, slot: u32) -> Option<u32>
+        requires { slot ≤ self.now.room }
+        ensures { (list : ℕ) (before after : List ℕ) → list < length self.now.lists →
+            slice_index_or self.now.lists list [] ≡ before ++ slot ∷ after → result ≡ last_of before }
+    {
+        self.links.previous(slot)
+    }
+
+    /// The list that a slot is in.
+    pub fn list_of(&self, slot: u32) -> usize
+        requires { slot ≤ self.now.room }
+        ensures { (list : ℕ) → list < length self.now.lists →
+            1 ≤ times slot (slice_index_or self.now.lists list []) → result ≡ list }
+    {
+        self.links.list_of(slot)
+    }
+
+    /// The value of a slot.
+    pub fn at(&self, slot: u32) -> &T
+        requires { slot ≤ self.now.room }
+        ensures { (d : T) → result.now ≡ slice_index_or self.now.values slot d }
+    {
+        &self.values[slot as usize]
+    }
+
+    /// Writes the value of a slot.
+    pub fn set(&mut self, slot: u32, value: T)
+        requires { slot ≤ self.old.room }
+        ensures { self.new ≡ record self.old { values = slice_set self.old.values slot value } }
+    {
+        self.values[slot as usize] = value;
+    }
+
+    /// Puts a value behind all others of a list, into the slot that was freed last: the slot.
+    pub fn push_back(&mut self, list: usize, value: T) -> u32
+        requires list { list < length self.old.lists }
+        requires room { 1 ≤ length self.old.free }
+        ensures slot { last_of self.old.free ≡ Some result }
+        ensures state { self.new ≡ record self.old {
+          free = without result self.old.free;
+          lists = with_last list result self.old.lists;
+          values = slice_set self.old.values result value;
+        } }
+    {
+        let slot = self.links.free_slot();
+        self.links.move_to_back(slot, list);
+        self.set(slot, value);
+        slot
+    }
+
+    /// Takes the first value of a list out: what it was. Its slot is free then.
+    pub fn pop_front(&mut self, list: usize) -> Option<T>
+        requires { list < length self.old.lists }
+        ensures none { slice_index_or self.old.lists list [] ≡ [] → result ≡ None }
+        ensures unchanged { slice_index_or self.old.lists list [] ≡ [] → self.new ≡ self.old }
+        ensures value { (slot : ℕ) (rest : List ℕ) (d : T) → slice_index_or self.old.lists list [] ≡ slot ∷ rest →
+            result ≡ Some (slice_index_or self.old.values slot d) }
+        ensures state { (slot : ℕ) (rest : List ℕ) → slice_index_or self.old.lists list [] ≡ slot ∷ rest →
+            self.new ≡ record self.old {
+              free = self.old.free ++ slot ∷ [];
+              lists = slice_set self.old.lists list rest;
+            } }
+    {
+        let slot = self.links.first(list)?;
+        Some(self.remove(slot))
+    }
+
+    /// Takes a value out, from whichever list it is in: what it was. Its slot is free then.
+    pub fn remove(&mut self, slot: u32) -> T
+        requires { 1 ≤ times_in slot self.old.lists }
+        ensures value { (d : T) → result ≡ slice_index_or self.old.values slot d }
+        ensures state { self.new ≡ record self.old {
+          free = self.old.free ++ slot ∷ [];
+          lists = map (without slot) self.old.lists;
+        } }
+    {
+        self.links.give_back(slot);
+        *self.at(slot)
+    }
+
+    /// Takes a value from its place and puts it behind all others of a list, of its own or another one. It keeps its
+    /// slot.
+    pub fn move_to_back(&mut self, slot: u32, list: usize)
+        requires slot { 1 ≤ times_in slot self.old.lists }
+        requires list { list < length self.old.lists }
+        ensures { self.new ≡ record self.old {
+          lists = with_last list slot (map (without slot) self.old.lists);
+        } }
+    {
+        self.links.move_to_back(slot, list);
+    }
+}
+
+/// So many copies of a value.
+fn filled<T: Copy>(alloc: Global, count: usize, value: T) -> Result<Vec<T>, AllocError>
+    ensures { IfOk result (λ xs. xs.items ≡ replicate count value) }
+{
+    let mut values = Vec::with_capacity(alloc, count)?;
+    for _ in 0..count {
+        values.push_reserved(value);
+    }
+    Ok(values)
+}
