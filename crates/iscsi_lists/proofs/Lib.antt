@@ -4,3 +4,4 @@ pub mod KeptLemmas
 pub mod ReadLemmas
 pub mod OpenLemmas
 pub mod ListedLemmas
+pub mod ClearLemmas

@@ -1,8 +1,9 @@
 -- Lists of values, by their slots.
 use Rattle.std.proofs.Common.{◌≡◌, ℕ, zero, suc, ◌+◌, ◌<◌, ◌≤◌, List, [], ◌∷◌, ◌++◌, length, map, get_or, set, Some, refl, ap, sym, subst, ◌∙◌, arith}
+use Rattle.std.proofs.lemmas.List.{append-nil, length-map}
 use Rattle.iscsi_slots.specs.Slots.{times}
 use Rattle.iscsi_lists.specs.Lists.{Linked, AreApart, times_in, without, with_last, freed, moved, first_of, Listed, listed}
-use Rattle.iscsi_lists.proofs.WithoutLemmas.{times_same, without_same, without_none, map_without_none}
+use Rattle.iscsi_lists.proofs.WithoutLemmas.{times_same, without_same, without_none, map_without_none, without_append, times_in_without}
 use Rattle.iscsi_lists.proofs.ReadLemmas.{times_of}
 
 module _ {v : Linked} (apart : AreApart v) (slot : ℕ) where
@@ -84,3 +85,22 @@ module _ {X : Type 0} {v : Linked} {xs : List X} {s : Listed X} (apart : AreApar
       is
       ∙ ap (λ ls. record s { free = s.free ++ slot ∷ []; lists = ls }) (taken_first i slot rest s.lists l (at ∙ ap (λ n. n ∷ rest) (sym same)) once)
       ∙ ap (λ n. record s { free = s.free ++ n ∷ []; lists = set s.lists i rest }) same
+
+-- ---- the other slots stay
+
+pub others_with : (s i : ℕ) (lists : List (List ℕ)) → i < length lists → map (without s) (with_last i s lists) ≡ map (without s) lists
+others_with s i [] l = absurd (omega (arith, l))
+others_with s zero (xs ∷ lists) l =
+    ap (λ r. r ∷ map (without s) lists) (without_append s xs (s ∷ []) ∙ ap (λ r. without s xs ++ r) (without_same s s [] refl) ∙ append-nil (without s xs))
+others_with s (suc i) (xs ∷ lists) l = ap (λ r. without s xs ∷ r) (others_with s i lists (omega (arith, l)))
+
+pub others_without : (s : ℕ) (lists : List (List ℕ)) → map (without s) (map (without s) lists) ≡ map (without s) lists
+others_without s lists = map_without_none s (map (without s) lists) (times_in_without s lists)
+
+module _ {X : Type 0} {v : Linked} {xs : List X} {s : Listed X} (apart : AreApart v) (view : listed v.free v.lists v.room xs ≡ s) (slot : ℕ) where
+  pub fresh_shown : 1 ≤ times slot v.free → times_in slot s.lists ≡ 0
+  fresh_shown there = subst (λ (u : Listed X). times_in slot u.lists ≡ 0) view (not_listed apart slot there)
+
+-- what a list has, where a slot is taken out of all and put behind one of them
+pub others_moved : (s i : ℕ) (lists : List (List ℕ)) → i < length lists → map (without s) (with_last i s (map (without s) lists)) ≡ map (without s) lists
+others_moved s i lists l = others_with s i (map (without s) lists) (let a = length-map lists (without s) in omega (arith, a, l)) ∙ others_without s lists

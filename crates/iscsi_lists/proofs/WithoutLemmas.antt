@@ -87,7 +87,7 @@ without_flat n (xs ∷ lists) s low =
     without_other s n (xs ++ flat (suc n) lists) (λ e. omega (arith, e, low))
     ∙ ap (λ r. n ∷ r) (without_append s xs (flat (suc n) lists) ∙ ap (λ r. without s xs ++ r) (without_flat (suc n) lists s (omega (arith, low))))
 
-append_one : (xs ys : List ℕ) (s : ℕ) → xs ++ s ∷ ys ≡ (xs ++ s ∷ []) ++ ys
+pub append_one : (xs ys : List ℕ) (s : ℕ) → xs ++ s ∷ ys ≡ (xs ++ s ∷ []) ++ ys
 append_one [] ys s = refl
 append_one (x ∷ xs) ys s = ap (λ r. x ∷ r) (append_one xs ys s)
 

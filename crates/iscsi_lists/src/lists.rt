@@ -63,6 +63,15 @@ impl<T: Copy> Lists<T> {
         self.links.is_full()
     }
 
+    /// Whether a list has no slot.
+    pub fn is_empty(&self, list: usize) -> bool
+        requires { list < length self.now.lists }
+        ensures yes { result ≡ true → slice_index_or self.now.lists list [] ≡ [] }
+        ensures no { slice_index_or self.now.lists list [] ≡ [] → result ≡ true }
+    {
+        self.links.first(list).is_none()
+    }
+
     /// The first slot of a list.
     pub fn first(&self, list: usize) -> Option<u32>
         requires { list < length self.now.lists }
@@ -119,6 +128,8 @@ impl<T: Copy> Lists<T> {
         requires list { list < length self.old.lists }
         requires room { 1 ≤ length self.old.free }
         ensures slot { last_of self.old.free ≡ Some result }
+        ensures fresh { times_in result self.old.lists ≡ 0 }
+        ensures others { map (without result) self.new.lists ≡ self.old.lists }
         ensures state { self.new ≡ record self.old {
           free = without result self.old.free;
           lists = with_last list result self.old.lists;
@@ -135,6 +146,7 @@ impl<T: Copy> Lists<T> {
     pub fn pop_front(&mut self, list: usize) -> Option<T>
         requires { list < length self.old.lists }
         ensures none { slice_index_or self.old.lists list [] ≡ [] → result ≡ None }
+        ensures empty { result ≡ None → slice_index_or self.old.lists list [] ≡ [] }
         ensures unchanged { slice_index_or self.old.lists list [] ≡ [] → self.new ≡ self.old }
         ensures value { (slot : ℕ) (rest : List ℕ) (d : T) → slice_index_or self.old.lists list [] ≡ slot ∷ rest →
             result ≡ Some (slice_index_or self.old.values slot d) }
@@ -152,6 +164,8 @@ impl<T: Copy> Lists<T> {
     pub fn remove(&mut self, slot: u32) -> T
         requires { 1 ≤ times_in slot self.old.lists }
         ensures value { (d : T) → result ≡ slice_index_or self.old.values slot d }
+        ensures others { map (without slot) self.new.lists ≡ map (without slot) self.old.lists }
+        ensures gone { times_in slot self.new.lists ≡ 0 }
         ensures state { self.new ≡ record self.old {
           free = self.old.free ++ slot ∷ [];
           lists = map (without slot) self.old.lists;
@@ -161,12 +175,25 @@ impl<T: Copy> Lists<T> {
         *self.at(slot)
     }
 
+    /// Takes all values of a list out. Their slots are free then, that of the last one for the next to come. It takes as
+    /// many steps as there were values.
+    pub fn clear(&mut self, list: usize)
+        requires { list < length self.old.lists }
+        ensures { self.new ≡ record self.old {
+          free = self.old.free ++ slice_index_or self.old.lists list [];
+          lists = slice_set self.old.lists list [];
+        } }
+    {
+        while self.pop_front(list).is_some() {}
+    }
+
     /// Takes a value from its place and puts it behind all others of a list, of its own or another one. It keeps its
     /// slot.
     pub fn move_to_back(&mut self, slot: u32, list: usize)
         requires slot { 1 ≤ times_in slot self.old.lists }
         requires list { list < length self.old.lists }
-        ensures { self.new ≡ record self.old {
+        ensures others { map (without slot) self.new.lists ≡ map (without slot) self.old.lists }
+        ensures state { self.new ≡ record self.old {
           lists = with_last list slot (map (without slot) self.old.lists);
         } }
     {

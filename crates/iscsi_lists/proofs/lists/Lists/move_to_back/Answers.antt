@@ -1,5 +1,10 @@
-use Rattle.iscsi_lists.proofs.ListedLemmas.{moved_shown}
+use Rattle.std.proofs.Common.{◌∙◌, map, ap}
+use Rattle.iscsi_lists.specs.Lists.{without, Listed}
+use Rattle.iscsi_lists.proofs.ListedLemmas.{moved_shown, others_moved}
 use Rattle.iscsi_lists.proofs.lists.Lists.move_to_back.Goals as goal
 
-pub returns : goal.returns
-returns g c = moved_shown c.self.invariant.apart c.self.view_is c.args.slot c.args.list c.move_to_back.new.self c.move_to_back.ensures.state c.requires.slot
+pub returns-clause-state : goal.returns-clause-state
+returns-clause-state g c = moved_shown c.self.invariant.apart c.self.view_is c.args.slot c.args.list c.move_to_back.new.self c.move_to_back.ensures.state c.requires.slot
+
+pub returns-clause-others : goal.returns-clause-others
+returns-clause-others g c = ap (λ (u : Listed g.row.T.Denot). map (without c.args.slot) u.lists) (returns-clause-state g c) ∙ others_moved c.args.slot c.args.list c.args.self.now.lists c.requires.list
