@@ -6,7 +6,7 @@ use Rattle.iscsi_slots.specs.Slots.{times}
 use Rattle.iscsi_slots.proofs.SlotLemmas.{times_append}
 use Rattle.iscsi_lists.specs.declared.link.Link.{Link}
 use Rattle.iscsi_lists.specs.Lists.{Linked, linked, AreApart, times_in, total, without, with_last, freed, moved, end_of}
-use Rattle.iscsi_lists.specs.Linking.{after_of, list_of, moved_before, walk, slots_of, lists_from, view_of, behind, flat, AreLinked, AreListed, AreKept, IsLinked}
+use Rattle.iscsi_lists.specs.Linking.{NO_LIST, after_of, list_of, moved_before, walk, slots_of, lists_from, view_of, behind, flat, AreLinked, AreListed, AreKept, IsLinked}
 use Rattle.iscsi_lists.proofs.WithoutLemmas.{times_same, times_other, times_without, times_without_other, without_append, length_without, put, put_append_flat, put_first, without_flat, times_low, times_head, head_there, end_append, end_flat, times_in_without, times_in_other, times_in_with, total_without, total_with}
 use Rattle.iscsi_lists.proofs.LinkLemmas.{linked_moved, linked_behind, inside_moved, long_moved, list_here, list_else}
 
@@ -130,6 +130,10 @@ module _ {nodes : List Link} {v : Linked} (kept : AreKept nodes v) (slot : ℕ) 
           listed = listed_with (moved_before nodes slot t i) 0 i slot (map (without slot) v.lists)
               (listed_without nodes (moved_before nodes slot t i) slot (list_else nodes slot t i kept.inside slot_in (target_in t i low high)) 0 v.lists kept.listed)
               (list_here nodes slot t i kept.inside slot_in (target_in t i low high) ∙ omega arith);
+          freed = λ s there. ⊎_elim
+              (λ (same : s ≡ slot). let none = subst (λ x. times x (without slot v.free) ≡ 0) (sym same) (times_without slot v.free) in absurd (omega (arith, none, there)))
+              (λ other. list_else nodes slot t i kept.inside slot_in (target_in t i low high) s other ∙ kept.freed s (let c = times_without_other slot s v.free other in omega (arith, c, there)))
+              (cases_eq s slot);
           inside = inside_moved nodes slot t i kept.inside slot_in (target_in t i low high);
           long = let a = long_moved nodes slot t i kept.inside slot_in (target_in t i low high) in let b = kept.long in let c = long_lists in omega (arith, a, b, c);
         }
@@ -142,17 +146,22 @@ module _ {nodes : List Link} {v : Linked} (kept : AreKept nodes v) (slot : ℕ) 
       (λ t other. let a = times_without_other slot t v.free other in let b = times_append t (without slot v.free) (slot ∷ []) in let c = times_in_other slot t v.lists other in let d = times_other t slot [] (λ e. other (sym e)) in omega (arith, a, b, c, d))
       (let a = length_without slot v.free in let b = length_push (without slot v.free) slot in let c = total_without slot v.lists in let d = kept.apart.once slot some within in let e = kept.apart.all in omega (arith, a, b, c, d, e))
 
-  pub kept_freed : AreKept (moved_before nodes slot (v.room + 1) 0) (freed slot v)
+  pub kept_freed : AreKept (moved_before nodes slot (v.room + 1) NO_LIST) (freed slot v)
   kept_freed =
       let t : ℕ = v.room + 1 in
       let low : v.room + 1 ≤ t = omega arith in
       let high : t ≤ v.room + 1 + length v.lists = omega arith in
       record {
-        chain = subst (AreLinked (moved_before nodes slot t 0) 0) (put_first t slot (without slot v.free) (map (without slot) v.lists) (free_none t 0 low high)) (chain_moved t 0 low high);
+        chain = subst (AreLinked (moved_before nodes slot t NO_LIST) 0) (put_first t slot (without slot v.free) (map (without slot) v.lists) (free_none t NO_LIST low high)) (chain_moved t NO_LIST low high);
         apart = apart_freed;
-        listed = listed_without nodes (moved_before nodes slot t 0) slot (list_else nodes slot t 0 kept.inside slot_in (target_in t 0 low high)) 0 v.lists kept.listed;
-        inside = inside_moved nodes slot t 0 kept.inside slot_in (target_in t 0 low high);
-        long = let a = long_moved nodes slot t 0 kept.inside slot_in (target_in t 0 low high) in let b = kept.long in let c = length-map v.lists (without slot) in omega (arith, a, b, c);
+        listed = listed_without nodes (moved_before nodes slot t NO_LIST) slot (list_else nodes slot t NO_LIST kept.inside slot_in (target_in t NO_LIST low high)) 0 v.lists kept.listed;
+        freed = λ s there. ⊎_elim
+            (λ (same : s ≡ slot). ap (list_of (moved_before nodes slot t NO_LIST)) same ∙ list_here nodes slot t NO_LIST kept.inside slot_in (target_in t NO_LIST low high))
+            (λ other. list_else nodes slot t NO_LIST kept.inside slot_in (target_in t NO_LIST low high) s other
+            ∙ kept.freed s (let a = times_append s (without slot v.free) (slot ∷ []) in let b = times_other s slot [] (λ e. other (sym e)) in let c = times_without_other slot s v.free other in omega (arith, a, b, c, there)))
+            (cases_eq s slot);
+        inside = inside_moved nodes slot t NO_LIST kept.inside slot_in (target_in t NO_LIST low high);
+        long = let a = long_moved nodes slot t NO_LIST kept.inside slot_in (target_in t NO_LIST low high) in let b = kept.long in let c = length-map v.lists (without slot) in omega (arith, a, b, c);
       }
 
 -- ---- what nodes tell
@@ -226,9 +235,9 @@ module _ {nodes : List Link} {n room : ℕ} (is : IsLinked nodes n room) {v : Li
       pub moved_apart : AreApart (view_of now n room)
       moved_apart = moved_links.kept.apart
 
-    module _ (now : List Link) (given : now ≡ moved_before nodes slot (room + 1) 0) where
+    module _ (now : List Link) (given : now ≡ moved_before nodes slot (room + 1) NO_LIST) where
       kept_after : AreKept now (freed slot v)
-      kept_after = subst (λ ns. AreKept ns (freed slot v)) (sym given) (subst (λ r. AreKept (moved_before nodes slot (r + 1) 0) (freed slot v)) room_at (kept_freed kept_at slot some within))
+      kept_after = subst (λ ns. AreKept ns (freed slot v)) (sym given) (subst (λ r. AreKept (moved_before nodes slot (r + 1) NO_LIST) (freed slot v)) room_at (kept_freed kept_at slot some within))
 
       long_after : length (map (without slot) v.lists) ≡ n
       long_after = length-map v.lists (without slot) ∙ count_at

@@ -5,12 +5,12 @@ use Rattle.std.proofs.lemmas.List.{get_or_append_left, get_or_push, get_or_past,
 use Rattle.iscsi_slots.specs.Slots.{times}
 use Rattle.iscsi_lists.specs.declared.link.Link.{Link}
 use Rattle.iscsi_lists.specs.Lists.{Linked, linked, AreApart, times_in, total, counted}
-use Rattle.iscsi_lists.specs.Linking.{BLANK, node_at, before_of, first_links, view_of, behind, flat, Follows, AreLinked, AreListed, AreInside, AreKept, IsLinked}
+use Rattle.iscsi_lists.specs.Linking.{BLANK, NO_LIST, node_at, before_of, first_links, view_of, behind, flat, Follows, AreLinked, AreListed, AreInside, AreKept, IsLinked}
 use Rattle.iscsi_lists.proofs.WithoutLemmas.{times_same, times_other}
 use Rattle.iscsi_lists.proofs.KeptLemmas.{linked_again, view_is}
 
 abbrev a_link : ℕ → Link
-a_link k = record { before = k - 1; after = k + 1; list = 0 }
+a_link k = record { before = k - 1; after = k + 1; list = NO_LIST }
 
 pub first_long : (m : ℕ) → length (first_links m) ≡ m
 first_long zero = refl
@@ -127,6 +127,10 @@ module _ (n room : ℕ) where
       all = let a = length_counted 1 room in let b = total_none n in omega (arith, a, b);
     };
     listed = listed_none (all_links (room + n + 1)) 0 n;
+    freed = λ s there. ⊎_elim
+        (λ below. ap (λ (x : Link). x.list) (at_low (room + n + 1) s (omega (arith, below))))
+        (λ above. let a = times_counted_high s 1 room (omega (arith, above)) in absurd (omega (arith, a, there)))
+        (cases_lt s (room + 1));
     inside = inside_all (room + n + 1);
     long = let a = all_long (room + n + 1) in let b = length_none n in omega (arith, a, b);
   }

@@ -1,6 +1,6 @@
 -- What the nodes of a slot and of a head tell.
-use Rattle.std.proofs.Common.{◌≡◌, ℕ, zero, suc, ◌+◌, ◌<◌, ◌≤◌, cond, List, [], ◌∷◌, ◌++◌, length, get_or, Some, None, refl, ap, sym, subst, ◌∙◌, arith}
-use Rattle.std.proofs.lemmas.Bool.{lt-ltb, le-ltb}
+use Rattle.std.proofs.Common.{◌≡◌, ℕ, zero, suc, ◌+◌, ◌<◌, ◌≤◌, cond, List, [], ◌∷◌, ◌++◌, length, get_or, Some, None, refl, ap, sym, subst, ◌∙◌, arith, ⊎_elim}
+use Rattle.std.proofs.lemmas.Bool.{cases_lt, lt-ltb, le-ltb}
 use Rattle.std.proofs.lemmas.List.{get_or_default}
 use Rattle.iscsi_slots.specs.Slots.{times}
 use Rattle.iscsi_lists.specs.declared.link.Link.{Link}
@@ -8,7 +8,7 @@ use Rattle.iscsi_lists.specs.Lists.{Linked, times_in, first_of, last_of, end_of}
 use Rattle.iscsi_lists.specs.Linking.{BLANK, node_at, after_of, before_of, list_of, a_slot, view_of, behind, flat, AreLinked, AreListed, AreKept, IsLinked}
 use Rattle.iscsi_lists.proofs.WithoutLemmas.{times_same}
 use Rattle.iscsi_lists.proofs.LinkLemmas.{linked_behind}
-use Rattle.iscsi_lists.proofs.KeptLemmas.{kept_at, room_at}
+use Rattle.iscsi_lists.proofs.KeptLemmas.{kept_at, room_at, count_at}
 
 pub node_read : (nodes : List Link) (i : ℕ) (n : Link) → n ≡ get_or nodes i n → i < length nodes → n ≡ node_at nodes i
 node_read nodes i n read l = read ∙ get_or_default nodes i n BLANK l
@@ -26,6 +26,13 @@ listed_at nodes k (suc i) s (xs ∷ lists) listed l some = listed_at nodes (suc 
 pub end_there : (s : ℕ) (slots : List ℕ) → 1 ≤ times (end_of s slots) (s ∷ slots)
 end_there s [] = let a = times_same s s [] refl in omega (arith, a)
 end_there s (t ∷ slots) = let rest = end_there t slots in omega (arith, rest)
+
+pub listed_below : (nodes : List Link) (k s : ℕ) (lists : List (List ℕ)) → AreListed nodes k lists → 1 ≤ times_in s lists → list_of nodes s < k + length lists
+listed_below nodes k s [] listed some = absurd (omega (arith, some))
+listed_below nodes k s (xs ∷ lists) listed some = ⊎_elim
+    (λ here. let a = listed.0 s here in omega (arith, a))
+    (λ none. let a = listed_below nodes (suc k) s lists listed.1 (omega (arith, none, some)) in omega (arith, a))
+    (cases_lt 0 (times s xs))
 
 -- the slots of a list, behind its head and before the next one
 record Part (nodes : List Link) (h : ℕ) (xs : List ℕ) : Type 0 where
@@ -108,6 +115,22 @@ module _ {nodes : List Link} {n room : ℕ} (is : IsLinked nodes n room) {v : Li
 
   pub first_inside : room + 1 < length nodes
   first_inside = let a = kept.long in let b = same in omega (arith, a, b)
+
+  pub slot_at_room : (slot : ℕ) → slot ≤ room → slot < length nodes
+  slot_at_room slot within = let a = kept.long in let b = same in omega (arith, a, b, within)
+
+  -- a slot whose list is known is in it
+  pub held : (slot : ℕ) → 1 ≤ slot → slot ≤ room → (list_of nodes slot ≡ 4294967295 → ⊥) → 1 ≤ times_in slot v.lists
+  held slot some within known = ⊎_elim
+      (λ there. there)
+      (λ none. let one = kept.apart.once slot some (let a = same in omega (arith, a, within)) in absurd (known (kept.freed slot (omega (arith, one, none)))))
+      (cases_lt 0 (times_in slot v.lists))
+
+  pub known : (slot : ℕ) → 1 ≤ times_in slot v.lists → list_of nodes slot < 4294967295
+  known slot there = let a = listed_below nodes 0 slot v.lists kept.listed there in let b = count_at is view in let c = is.short in omega (arith, a, b, c)
+
+  pub slot_low : (slot : ℕ) → 1 ≤ times_in slot v.lists → (1 ≤ slot) × (slot ≤ room)
+  slot_low slot there = let a = kept.apart.some slot (omega (arith, there)) in let b = kept.apart.within slot (omega (arith, there)) in let c = same in (a, omega (arith, b, c))
 
   pub free_some : (s : ℕ) → 1 ≤ times s v.free → 1 ≤ s
   free_some s there = kept.apart.some s (omega (arith, there))

@@ -8,6 +8,10 @@ use Rattle.iscsi_lists.specs.Lists.{Linked, linked, AreApart}
 abbrev pub BLANK : Link
 BLANK = record { before = 0; after = 0; list = 0 }
 
+-- the list of a slot that is free
+abbrev pub NO_LIST : ℕ
+NO_LIST = 4294967295
+
 abbrev pub node_at : List Link → ℕ → Link
 node_at nodes s = slice_index_or nodes s BLANK
 
@@ -78,7 +82,7 @@ a_slot room node = if nat_lt room node then None else Some node
 -- so many nodes, each linked to the one before it and the one behind it
 abbrev pub first_links : ℕ → List Link
 first_links zero = []
-first_links (suc n) = first_links n ++ record { before = n - 1; after = n + 1; list = 0 } ∷ []
+first_links (suc n) = first_links n ++ record { before = n - 1; after = n + 1; list = NO_LIST } ∷ []
 
 -- ---- the chain
 
@@ -113,6 +117,7 @@ pub record AreKept (nodes : List Link) (v : Linked) : Type 0 where
   pub chain : AreLinked nodes 0 (v.free ++ flat (v.room + 1) v.lists)
   pub apart : AreApart v
   pub listed : AreListed nodes 0 v.lists
+  pub freed : (s : ℕ) → 1 ≤ times s v.free → list_of nodes s ≡ NO_LIST
   pub inside : AreInside nodes
   pub long : length nodes ≡ v.room + length v.lists + 2
 

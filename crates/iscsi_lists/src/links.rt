@@ -2,12 +2,15 @@
 
 ghost use Rattle.std.specs.Prelude.{◌≡◌, ℕ, ◌+◌, ◌<◌, ◌≤◌, ◌++◌, List, [], ◌∷◌, Some, true, length, replicate, slice_index_or, vec_capacity, IfOk};
 ghost use Rattle.iscsi_slots.specs.Slots.{times};
-ghost use Rattle.iscsi_lists.specs.Lists.{AreApart, linked, freed, moved, first_of, last_of, counted};
+ghost use Rattle.iscsi_lists.specs.Lists.{AreApart, times_in, linked, freed, moved, first_of, last_of, counted};
 ghost use Rattle.iscsi_lists.specs.Linking.{first_links, a_slot};
 
 use crate::link::{Link, move_before};
 use std::alloc::{AllocError, Global};
 use std::marker::Model;
+
+/// What a free slot has in place of its list.
+const NOWHERE: u32 = u32::MAX;
 
 /// Which slots are in which list, and in which order.
 ///
@@ -94,6 +97,14 @@ impl Links {
         slot_at(self.room, self.nodes[slot as usize].before)
     }
 
+    /// Whether a slot is in a list.
+    pub(crate) fn holds(&self, slot: u32) -> bool
+        ensures yes { result ≡ true → 1 ≤ times_in slot self.now.lists }
+        ensures no { 1 ≤ times_in slot self.now.lists → result ≡ true }
+    {
+        1 <= slot && slot as usize <= self.room && self.nodes[slot as usize].list != NOWHERE
+    }
+
     /// The list that a slot is in.
     pub(crate) fn list_of(&self, slot: u32) -> usize
         requires { slot ≤ self.now.room }
@@ -123,7 +134,7 @@ impl Links {
         ensures apart { AreApart self.new }
     {
         let target = (self.room + 1) as u32;
-        move_before(&mut self.nodes, slot, target, 0);
+        move_before(&mut self.nodes, slot, target, NOWHERE);
     }
 }
 
@@ -148,7 +159,7 @@ fn chain_up(nodes: &mut Vec<Link>, count: u32)
         nodes.push_reserved(Link {
             before: node.saturating_sub(1),
             after: node + 1,
-            list: 0,
+            list: NOWHERE,
         });
     }
 }

@@ -98,6 +98,15 @@ impl<T: Copy> Lists<T> {
         self.links.previous(slot)
     }
 
+    /// Whether a slot is in a list. A number that is no slot's isn't.
+    pub fn holds(&self, slot: u32) -> bool
+        ensures yes { result ≡ true → 1 ≤ times_in slot self.now.lists }
+        ensures no { 1 ≤ times_in slot self.now.lists → result ≡ true }
+        ensures within { result ≡ true → slot ≤ self.now.room }
+    {
+        self.links.holds(slot)
+    }
+
     /// The list that a slot is in.
     pub fn list_of(&self, slot: u32) -> usize
         requires { slot ≤ self.now.room }
@@ -128,6 +137,7 @@ impl<T: Copy> Lists<T> {
         requires list { list < length self.old.lists }
         requires room { 1 ≤ length self.old.free }
         ensures slot { last_of self.old.free ≡ Some result }
+        ensures count { length self.new.lists ≡ length self.old.lists }
         ensures fresh { times_in result self.old.lists ≡ 0 }
         ensures others { map (without result) self.new.lists ≡ self.old.lists }
         ensures state { self.new ≡ record self.old {
@@ -145,6 +155,7 @@ impl<T: Copy> Lists<T> {
     /// Takes the first value of a list out: what it was. Its slot is free then.
     pub fn pop_front(&mut self, list: usize) -> Option<T>
         requires { list < length self.old.lists }
+        ensures count { length self.new.lists ≡ length self.old.lists }
         ensures none { slice_index_or self.old.lists list [] ≡ [] → result ≡ None }
         ensures empty { result ≡ None → slice_index_or self.old.lists list [] ≡ [] }
         ensures unchanged { slice_index_or self.old.lists list [] ≡ [] → self.new ≡ self.old }
@@ -164,6 +175,7 @@ impl<T: Copy> Lists<T> {
     pub fn remove(&mut self, slot: u32) -> T
         requires { 1 ≤ times_in slot self.old.lists }
         ensures value { (d : T) → result ≡ slice_index_or self.old.values slot d }
+        ensures count { length self.new.lists ≡ length self.old.lists }
         ensures others { map (without slot) self.new.lists ≡ map (without slot) self.old.lists }
         ensures gone { times_in slot self.new.lists ≡ 0 }
         ensures state { self.new ≡ record self.old {
@@ -179,7 +191,8 @@ impl<T: Copy> Lists<T> {
     /// many steps as there were values.
     pub fn clear(&mut self, list: usize)
         requires { list < length self.old.lists }
-        ensures { self.new ≡ record self.old {
+        ensures count { length self.new.lists ≡ length self.old.lists }
+        ensures state { self.new ≡ record self.old {
           free = self.old.free ++ slice_index_or self.old.lists list [];
           lists = slice_set self.old.lists list [];
         } }
@@ -192,6 +205,7 @@ impl<T: Copy> Lists<T> {
     pub fn move_to_back(&mut self, slot: u32, list: usize)
         requires slot { 1 ≤ times_in slot self.old.lists }
         requires list { list < length self.old.lists }
+        ensures count { length self.new.lists ≡ length self.old.lists }
         ensures others { map (without slot) self.new.lists ≡ map (without slot) self.old.lists }
         ensures state { self.new ≡ record self.old {
           lists = with_last list slot (map (without slot) self.old.lists);
