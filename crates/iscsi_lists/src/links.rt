@@ -1,6 +1,6 @@
 //! The slots of many lists, linked.
 
-ghost use Rattle.std.specs.Prelude.{◌≡◌, ℕ, ◌+◌, ◌<◌, ◌≤◌, ◌++◌, List, [], ◌∷◌, Some, true, length, replicate, slice_index_or, vec_capacity, IfOk};
+ghost use Rattle.std.specs.Prelude.{◌≡◌, ℕ, ◌+◌, ◌<◌, ◌≤◌, ◌++◌, List, [], ◌∷◌, Some, true, length, replicate, slice_index_or, vec_capacity, IfOk, IfSome};
 ghost use Rattle.iscsi_slots.specs.Slots.{times};
 ghost use Rattle.iscsi_lists.specs.Lists.{AreApart, times_in, linked, freed, moved, first_of, last_of, counted};
 ghost use Rattle.iscsi_lists.specs.Linking.{first_links, a_slot};
@@ -74,7 +74,8 @@ impl Links {
     /// The first slot of a list.
     pub(crate) fn first(&self, list: usize) -> Option<u32>
         requires { list < length self.now.lists }
-        ensures { result ≡ first_of (slice_index_or self.now.lists list []) }
+        ensures slot { result ≡ first_of (slice_index_or self.now.lists list []) }
+        ensures within { IfSome result (λ s. s ≤ self.now.room) }
     {
         slot_at(self.room, self.nodes[self.room + 1 + list].after)
     }
@@ -82,8 +83,9 @@ impl Links {
     /// The slot behind another one of its list.
     pub(crate) fn next(&self, slot: u32) -> Option<u32>
         requires { slot ≤ self.now.room }
-        ensures { (list : ℕ) (before after : List ℕ) → list < length self.now.lists →
+        ensures slot { (list : ℕ) (before after : List ℕ) → list < length self.now.lists →
             slice_index_or self.now.lists list [] ≡ before ++ slot ∷ after → result ≡ first_of after }
+        ensures within { IfSome result (λ s. s ≤ self.now.room) }
     {
         slot_at(self.room, self.nodes[slot as usize].after)
     }
@@ -91,8 +93,9 @@ impl Links {
     /// The slot before another one of its list.
     pub(crate) fn previous(&self, slot: u32) -> Option<u32>
         requires { slot ≤ self.now.room }
-        ensures { (list : ℕ) (before after : List ℕ) → list < length self.now.lists →
+        ensures slot { (list : ℕ) (before after : List ℕ) → list < length self.now.lists →
             slice_index_or self.now.lists list [] ≡ before ++ slot ∷ after → result ≡ last_of before }
+        ensures within { IfSome result (λ s. s ≤ self.now.room) }
     {
         slot_at(self.room, self.nodes[slot as usize].before)
     }
@@ -140,7 +143,8 @@ impl Links {
 
 /// A node, where it is a slot and no head.
 fn slot_at(room: usize, node: u32) -> Option<u32>
-    ensures { result ≡ a_slot room node }
+    ensures slot { result ≡ a_slot room node }
+    ensures within { IfSome result (λ s. s ≤ room) }
 {
     if room < node as usize {
         return None;

@@ -1,6 +1,6 @@
 //! Lists of values.
 
-ghost use Rattle.std.specs.Prelude.{◌≡◌, ℕ, ◌+◌, ◌<◌, ◌≤◌, ◌++◌, List, [], ◌∷◌, Some, None, true, length, map, replicate, slice_index_or, slice_set, IfOk};
+ghost use Rattle.std.specs.Prelude.{◌≡◌, ℕ, ◌+◌, ◌<◌, ◌≤◌, ◌++◌, List, [], ◌∷◌, Some, None, true, false, length, map, replicate, slice_index_or, slice_set, IfOk, IfSome};
 ghost use Rattle.iscsi_slots.specs.Slots.{times};
 ghost use Rattle.iscsi_lists.specs.Lists.{AreApart, first_of, last_of, counted, without, with_last, times_in, linked_in};
 
@@ -58,6 +58,7 @@ impl<T: Copy> Lists<T> {
     pub fn is_full(&self) -> bool
         ensures yes { result ≡ true → self.now.free ≡ [] }
         ensures no { self.now.free ≡ [] → result ≡ true }
+        ensures some { result ≡ false → 1 ≤ length self.now.free }
         ensures apart { AreApart (linked_in self.now) }
     {
         self.links.is_full()
@@ -75,7 +76,8 @@ impl<T: Copy> Lists<T> {
     /// The first slot of a list.
     pub fn first(&self, list: usize) -> Option<u32>
         requires { list < length self.now.lists }
-        ensures { result ≡ first_of (slice_index_or self.now.lists list []) }
+        ensures slot { result ≡ first_of (slice_index_or self.now.lists list []) }
+        ensures within { IfSome result (λ s. s ≤ self.now.room) }
     {
         self.links.first(list)
     }
@@ -83,8 +85,9 @@ impl<T: Copy> Lists<T> {
     /// The slot behind another one of its list.
     pub fn next(&self, slot: u32) -> Option<u32>
         requires { slot ≤ self.now.room }
-        ensures { (list : ℕ) (before after : List ℕ) → list < length self.now.lists →
+        ensures slot { (list : ℕ) (before after : List ℕ) → list < length self.now.lists →
             slice_index_or self.now.lists list [] ≡ before ++ slot ∷ after → result ≡ first_of after }
+        ensures within { IfSome result (λ s. s ≤ self.now.room) }
     {
         self.links.next(slot)
     }
@@ -92,8 +95,9 @@ impl<T: Copy> Lists<T> {
     /// The slot before another one of its list.
     pub fn previous(&self, slot: u32) -> Option<u32>
         requires { slot ≤ self.now.room }
-        ensures { (list : ℕ) (before after : List ℕ) → list < length self.now.lists →
+        ensures slot { (list : ℕ) (before after : List ℕ) → list < length self.now.lists →
             slice_index_or self.now.lists list [] ≡ before ++ slot ∷ after → result ≡ last_of before }
+        ensures within { IfSome result (λ s. s ≤ self.now.room) }
     {
         self.links.previous(slot)
     }
