@@ -26,3 +26,7 @@ mod TimeRuns
 mod MomentTheorem
 mod OwnRuns
 mod OwnTheorem
+mod TicketLemmas
+mod TaskWalks
+mod CommandRuns
+mod CommandTheorem

@@ -354,7 +354,7 @@ module _ (c : ℕ) where
         | false ↦ λ is later. new_found e cs later
       ] refl some
 
-  new_twins : (all part : List (ℕ × ℕ)) → ((e : ℕ) → list_any (λ (x : ℕ × ℕ). x.0 == e) part ≡ true → list_any (λ (x : ℕ × ℕ). x.0 == e) all ≡ true)
+  pub new_twins : (all part : List (ℕ × ℕ)) → ((e : ℕ) → list_any (λ (x : ℕ × ℕ). x.0 == e) part ≡ true → list_any (λ (x : ℕ × ℕ). x.0 == e) all ≡ true)
       → EachOf (λ (l : Link). find_link l.conn (map (λ (x : ℕ × ℕ). new_link x.0) all) ≡ Some l) (map (λ (x : ℕ × ℕ). new_link x.0) part)
   new_twins all [] among = tt
   new_twins all (x ∷ part) among =

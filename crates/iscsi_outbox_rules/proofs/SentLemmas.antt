@@ -22,7 +22,7 @@ use Rattle.iscsi_outbox_rules.proofs.FirstLemmas.{sent_as_first, first_sent, fir
 
 -- ---- the items that were taken are those of the log
 
-items_logged : (o : Opening) (b : Box) (cs : List Call) → items_in (deeds_from o b cs) ≡ flat_map (λ (e : Entry). in_parts e.effects) (flat_map entry_taken cs)
+pub items_logged : (o : Opening) (b : Box) (cs : List Call) → items_in (deeds_from o b cs) ≡ flat_map (λ (e : Entry). in_parts e.effects) (flat_map entry_taken cs)
 items_logged o b [] = refl
 items_logged o b (Takes effects numbers ∷ cs) = ap (λ its. in_parts effects ++ its) (items_logged o (after_call o b (Takes effects numbers)) cs)
 items_logged o b (Puts p ∷ cs) = items_logged o (after_call o b (Puts p)) cs

@@ -5,7 +5,7 @@ ghost use Rattle.iscsi_outbox_rules.specs.promises.Closed.{NoneLost, NoneUnjoine
 ghost use Rattle.iscsi_outbox_rules.specs.promises.Deeds.{FollowsFlow, FollowsSession, deeds_of};
 ghost use Rattle.iscsi_outbox_rules.specs.promises.Numbers.{CountStatSns, GoesOnward, ShowsExp};
 ghost use Rattle.iscsi_outbox_rules.specs.promises.Once.{EntersInOrder, GoesInOrder, GoesOnce, SendsWhatWasSent};
-ghost use Rattle.iscsi_outbox_rules.specs.promises.Order.{KeepsConnectionOrder};
+ghost use Rattle.iscsi_outbox_rules.specs.promises.Order.{KeepsCommandOrder, KeepsConnectionOrder};
 ghost use Rattle.iscsi_outbox_rules.specs.rules.Calls.{Call, Opening};
 
 /// The numbers that a PDU shows (RFC 7143 section 4.2.2): its StatSN, in sequence on its connection; ExpCmdSN of the moment; and
@@ -31,7 +31,9 @@ pub fn once_law()
     ensures moments { (o : Opening) (calls : List Call) → FollowsSession o calls → EntersInOrder o (deeds_of o calls) }
 {}
 
-/// The target's own PDUs of a connection go out as they were put: those that went out are a beginning of those that were taken.
+/// The target's own PDUs of a connection go out as they were put: those that went out are a beginning of those that were taken. If
+/// what is taken is what a session gives, so do those of each command, its Data-Ins and R2Ts.
 pub fn order_law()
+    ensures of_command { (o : Opening) (calls : List Call) → FollowsSession o calls → KeepsCommandOrder (deeds_of o calls) }
     ensures of_connection { (o : Opening) (calls : List Call) → KeepsConnectionOrder (deeds_of o calls) }
 {}

@@ -38,14 +38,18 @@ own_handed ds = filter_map (λ (g : ℕ × Handed). own_of g.1.out.pdu) (handed_
 abbrev pub completes : List (List Effect) → Handed → Option ℕ
 completes items h = elim (sent_as items h.out) [ Some s ↦ completed_in s.item | None ↦ None ]
 
+-- what was handed out of a command's own PDUs is a beginning of what was put
+abbrev pub KeepsCommandOrder : List Deed → Type 0
+KeepsCommandOrder ds = (before after : List Deed) (ticket : ℕ) → before ++ after ≡ ds
+    → (waiting : List OwnPdu) × (filter (is_of_command ticket) (own_handed before) ++ waiting ≡ filter (is_of_command ticket) (own_taken before))
+
 -- what was handed out of a connection's own PDUs is a beginning of what was put
 abbrev pub KeepsConnectionOrder : List Deed → Type 0
 KeepsConnectionOrder ds = (before after : List Deed) (conn : ℕ) → before ++ after ≡ ds
     → (waiting : List OwnPdu) × (filter (is_of_connection conn) (own_handed before) ++ waiting ≡ filter (is_of_connection conn) (own_taken before))
 
 pub record OrderHolds (ds : List Deed) : Type 0 where
-  pub of_command : (before after : List Deed) (ticket : ℕ) → before ++ after ≡ ds
-      → (waiting : List OwnPdu) × (filter (is_of_command ticket) (own_handed before) ++ waiting ≡ filter (is_of_command ticket) (own_taken before))
+  pub of_command : KeepsCommandOrder ds
   pub of_connection : KeepsConnectionOrder ds
   -- as the response goes out, none waits
   pub response : (before after : List Deed) (handing : Deed) (c : ℕ) (h : Handed) (ticket : ℕ)

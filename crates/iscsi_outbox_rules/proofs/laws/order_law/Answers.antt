@@ -1,5 +1,9 @@
+use Rattle.iscsi_outbox_rules.proofs.CommandTheorem.{keeps_command_order}
 use Rattle.iscsi_outbox_rules.proofs.OwnTheorem.{keeps_connection_order}
 use Rattle.iscsi_outbox_rules.proofs.laws.order_law.Goals as goal
 
-pub returns : goal.returns
-returns c = record { of_connection = keeps_connection_order }
+pub returns-clause-of_command : goal.returns-clause-of_command
+returns-clause-of_command c = keeps_command_order
+
+pub returns-clause-of_connection : goal.returns-clause-of_connection
+returns-clause-of_connection c = keeps_connection_order
