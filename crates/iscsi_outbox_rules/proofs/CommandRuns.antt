@@ -1,10 +1,10 @@
 -- A command's own PDUs go out as they were put, on the connection on which it entered.
-use Rattle.std.proofs.Common.{◌≡◌, ℕ, ◌⊎◌, inl, inr, ⊎_elim, ◌==◌, ◌+◌, ◌≤◌, ◌&&◌, ◌||◌, not, cond, Bool, true, false, List, [], ◌∷◌, ◌++◌, map, filter, Option, Some, None, refl, ap, sym, subst, ◌∙◌, arith, eq-eqb}
+use Rattle.std.proofs.Common.{◌≡◌, ℕ, ◌⊎◌, inl, inr, ⊎_elim, ◌==◌, ◌+◌, ◌≤◌, ◌&&◌, ◌||◌, not, cond, Bool, true, false, List, [], ◌∷◌, ◌++◌, map, filter, Option, Some, None, refl, ap, sym, subst, ◌∙◌, arith}
 use Rattle.std.specs.List.{list_any, flat_map, cons_option}
 use Rattle.std.proofs.lemmas.Bool.{cond_both, eqb-true}
 use Rattle.std.proofs.lemmas.List.{append-nil}
 use Rattle.std.proofs.lemmas.List.Concat.{flat_map-append}
-use Rattle.std.proofs.lemmas.List.Sums.{sum_by-cons, sum_by-append}
+use Rattle.std.proofs.lemmas.List.Sums.{sum_by-append}
 use Rattle.iscsi_wire.specs.declared.reply.Reply.{Reply}
 use Rattle.iscsi_wire.specs.declared.request.Request.{Request}
 use Rattle.iscsi_outbox_rules.specs.declared.own_pdu.OwnPdu.{OwnPdu}
@@ -19,8 +19,8 @@ use Rattle.iscsi_outbox_rules.specs.promises.Order.{own_of, is_of_command, own_t
 use Rattle.iscsi_outbox_rules.proofs.EachLemmas.{EachOf, each-append, each-first, each-second, each-filter, each-map, each-weaken, each-first_of}
 use Rattle.iscsi_outbox_rules.proofs.FoundLemmas.{find_link, found-conn, found-map}
 use Rattle.iscsi_outbox_rules.proofs.Walks.{IsOver}
-use Rattle.iscsi_outbox_rules.proofs.TicketLemmas.{none_or_some, with_ticket}
-use Rattle.iscsi_outbox_rules.proofs.TaskWalks.{Onward, phased, taken_out_ends, TaskWalk}
+use Rattle.iscsi_outbox_rules.proofs.TicketLemmas.{none_of, none_or_some, ticket_counts, with_ticket}
+use Rattle.iscsi_outbox_rules.proofs.TaskWalks.{Onward, onward_ends, phased, phased_onward, taken_out_ends, TaskWalk}
 
 module _ (t c : ℕ) where
   -- what a PDU is of the command's own ones
@@ -98,17 +98,10 @@ module _ (t c : ℕ) where
 
   -- ---- commands
 
-  ticket_counts : (f : Task → Task) → ((x : Task) → (f x).ticket ≡ x.ticket) → (ts : List Task) → with_ticket t (map f ts) ≡ with_ticket t ts
-  ticket_counts f same [] = refl
-  ticket_counts f same (x ∷ ts) =
-      sum_by-cons (λ (y : Task). cond (y.ticket == t) 1 0) (f x) (map f ts)
-      ∙ ap (λ k. cond (k == t) 1 0 + with_ticket t (map f ts)) (same x) ∙ ap (λ n. cond (x.ticket == t) 1 0 + n) (ticket_counts f same ts)
-      ∙ sym (sum_by-cons (λ (y : Task). cond (y.ticket == t) 1 0) x ts)
-
   past_map : (f : Task → Task) → ((x : Task) → Onward x (f x)) → (ts : List Task) → Past ts → Past (map f ts)
   past_map f onward ts p = record {
-    entered = subst (λ n. 1 ≤ n) (sym (ticket_counts f (λ x. (onward x).ticket) ts)) p.entered;
-    past = each-map IsPast IsPast f ts (λ x k same. (onward x).ends (k (sym (onward x).ticket ∙ same))) p.past;
+    entered = subst (λ n. 1 ≤ n) (sym (ticket_counts t f (λ x. (onward x).ticket) ts)) p.entered;
+    past = each-map IsPast IsPast f ts (λ x k same. onward_ends x (f x) (onward x) (k (sym (onward x).ticket ∙ same))) p.past;
   }
 
   still_queued : (ts us : List Task) → (Past ts → Past us) → (waiting : List OwnPdu) (l : Link) → Queued ts waiting l → Queued us waiting l
@@ -123,15 +116,9 @@ module _ (t c : ℕ) where
     fits = h.fits;
     undue = h.undue;
     homes = each-map (λ (x : Task). x.ticket ≡ t → x.conn ≡ c) (λ (x : Task). x.ticket ≡ t → x.conn ≡ c) f b.tasks (λ x k same. (onward x).conn ∙ k (sym (onward x).ticket ∙ same)) h.homes;
-    before = λ none. h.before (sym (ticket_counts f (λ x. (onward x).ticket) b.tasks) ∙ none);
-    known = subst (λ k. k ≤ n) (sym (ticket_counts f (λ x. (onward x).ticket) b.tasks)) h.known;
+    before = λ none. h.before (sym (ticket_counts t f (λ x. (onward x).ticket) b.tasks) ∙ none);
+    known = subst (λ k. k ≤ n) (sym (ticket_counts t f (λ x. (onward x).ticket) b.tasks)) h.known;
   }
-
-  none_of : (ts : List Task) → with_ticket t ts ≡ 0 → EachOf (λ (x : Task). x.ticket ≡ t → ⊥) ts
-  none_of [] none = tt
-  none_of (x ∷ ts) none =
-      let parts : with_ticket t (x ∷ ts) ≡ cond (x.ticket == t) 1 0 + with_ticket t ts = sum_by-cons (λ (y : Task). cond (y.ticket == t) 1 0) x ts in
-      ((λ same. let one : cond {A = ℕ} (x.ticket == t) 1 0 ≡ 1 = ap (λ v. cond {A = ℕ} v 1 0) (eq-eqb x.ticket t same) in absurd (omega (arith, parts, none, one))), none_of ts (omega (arith, parts, none)))
 
   pub enters_task : (n k : ℕ) (ds : List Deed) (b : Box) (ts : List Task) → n + k ≤ 1 → (1 ≤ k → EachOf (λ (x : Task). x.conn ≡ c) ts) → with_ticket t ts ≤ k → CommandStands n ds b
       → CommandStands (n + k) ds (record b { tasks = b.tasks ++ ts })
@@ -152,7 +139,7 @@ module _ (t c : ℕ) where
       new_homes : (m : ℕ) → (1 ≤ m → EachOf (λ (x : Task). x.conn ≡ c) ts) → with_ticket t ts ≤ m → EachOf (λ (x : Task). x.ticket ≡ t → x.conn ≡ c) ts
       new_homes m on fits =
           ⊎_elim
-          (λ (none : m ≡ 0). each-weaken (λ (x : Task). x.ticket ≡ t → ⊥) (λ (x : Task). x.ticket ≡ t → x.conn ≡ c) ts (λ x no same. absurd (no same)) (none_of ts (omega (arith, none, fits))))
+          (λ (none : m ≡ 0). each-weaken (λ (x : Task). x.ticket ≡ t → ⊥) (λ (x : Task). x.ticket ≡ t → x.conn ≡ c) ts (λ x no same. absurd (no same)) (none_of t ts (omega (arith, none, fits))))
           (λ (some : 1 ≤ m). each-weaken (λ (x : Task). x.conn ≡ c) (λ (x : Task). x.ticket ≡ t → x.conn ≡ c) ts (λ x is same. is) (on some))
           (none_or_some m)
 
@@ -162,7 +149,7 @@ module _ (t c : ℕ) where
           let known : with_ticket t b.tasks ≤ n = h.known in
           record {
             entered = omega (arith, counted, before);
-            past = each-append IsPast b.tasks ts p.past (each-weaken (λ (x : Task). x.ticket ≡ t → ⊥) IsPast ts (λ x no same. absurd (no same)) (none_of ts (omega (arith, before, known, once, few))));
+            past = each-append IsPast b.tasks ts p.past (each-weaken (λ (x : Task). x.ticket ≡ t → ⊥) IsPast ts (λ x no same. absurd (no same)) (none_of t ts (omega (arith, before, known, once, few))));
           }
 
   -- ---- dropping what is of commands
@@ -196,9 +183,7 @@ module _ (t c : ℕ) where
   empty_second (x ∷ xs) ys h = absurd cc
 
   taken_out_onward : (tickets : List ℕ) (x : Task) → Onward x (phased phase_taken_out tickets x)
-  taken_out_onward tickets x =
-      cond_both (contains tickets x.ticket) (record x { phase = phase_taken_out x.phase }) x (Onward x)
-      (λ is. record { ticket = refl; conn = refl; ends = λ h. taken_out_ends x.phase }) (λ is. record { ticket = refl; conn = refl; ends = λ h. h })
+  taken_out_onward tickets x = phased_onward phase_taken_out (λ among stays. stays.taken_out) tickets x
 
   all_past : (tickets : List ℕ) → contains tickets t ≡ true → (ts : List Task) → EachOf IsPast (map (phased phase_taken_out tickets) ts)
   all_past tickets of [] = tt

@@ -36,7 +36,7 @@ use Rattle.iscsi_outbox_rules.proofs.ConnLemmas.{Twins, twins_kept, HeldBy, conn
 use Rattle.iscsi_outbox_rules.proofs.Boxwise.{box_keeps}
 use Rattle.iscsi_outbox_rules.proofs.OwnTheorem.{new_twins}
 use Rattle.iscsi_outbox_rules.proofs.TicketLemmas.{with_ticket, entries, entries-append, enters_once, EntersOn, enters_on}
-use Rattle.iscsi_outbox_rules.proofs.TaskWalks.{phased, phased_onward, stopped_ends, task_settles, task_event}
+use Rattle.iscsi_outbox_rules.proofs.TaskWalks.{phased, phased_onward, task_settles, task_event}
 use Rattle.iscsi_outbox_rules.proofs.CommandRuns.{own_in, own_waiting, handed_of, taken_of, OwnEntry, LinkFits, IsPast, Past, Dropped, Queued, CommandStands, phases, command_walk, at_one, same_else, new_undue, enters, append-conn}
 
 module _ (t c : ℕ) where
@@ -437,7 +437,7 @@ module _ (t c : ℕ) where
       (command_walk t c o (ds ++ (Stops ticket, answered o b (Stops ticket)) ∷ [])).more n 0 (after_call o b (Stops ticket))
       (quiet n ds (Stops ticket, answered o b (Stops ticket)) (after_call o b (Stops ticket)) refl refl
       (cond_both (is_running b ticket) (settle o (in_phase phase_stopped (ticket ∷ []) b)) b (CommandStands t c n ds)
-      (λ is. settled o n ds (in_phase phase_stopped (ticket ∷ []) b) (phases t c n ds b (phased phase_stopped (ticket ∷ [])) (phased_onward phase_stopped stopped_ends (ticket ∷ [])) h)) (λ is. h)))
+      (λ is. settled o n ds (in_phase phase_stopped (ticket ∷ []) b) (phases t c n ds b (phased phase_stopped (ticket ∷ [])) (phased_onward phase_stopped (λ among stays. stays.stopped) (ticket ∷ [])) h)) (λ is. h)))
   own_call o n ds b (Nexts conn) once on twins h =
       (command_walk t c o (ds ++ (Nexts conn, answered o b (Nexts conn)) ∷ [])).more n 0 (after_call o b (Nexts conn))
       (⊎_elim

@@ -30,3 +30,4 @@ mod TicketLemmas
 mod TaskWalks
 mod CommandRuns
 mod CommandTheorem
+mod TaskRuns

@@ -1,6 +1,7 @@
 -- What each step of an event keeps, the event keeps, where the steps say what becomes of the commands.
-use Rattle.std.proofs.Common.{◌≡◌, ℕ, ◌==◌, ◌+◌, ◌≤◌, cond, true, false, List, [], ◌∷◌, ◌++◌, map, filter_map, Option, Some, None, refl, sym, subst, ◌∙◌, arith}
-use Rattle.std.proofs.lemmas.Bool.{cond_both}
+use Rattle.std.proofs.Common.{not, ◌≡◌, ℕ, ◌==◌, ◌+◌, ◌≤◌, cond, true, false, List, [], ◌∷◌, ◌++◌, map, filter_map, Option, Some, None, refl, sym, subst, ◌∙◌, arith, Bool, ap}
+use Rattle.std.proofs.lemmas.Bool.{cond_both, false≢true}
+use Rattle.iscsi_history.proofs.BoolLemmas.{not_true}
 use Rattle.std.proofs.lemmas.List.{append_assoc, append-nil}
 use Rattle.iscsi_wire.specs.Fields.{connection_of}
 use Rattle.iscsi_wire.specs.Serial.{lift}
@@ -12,7 +13,7 @@ use Rattle.iscsi_history.specs.rules.Trace.{first_of}
 use Rattle.iscsi_history.specs.promises.Order.{in_parts}
 use Rattle.iscsi_outbox_rules.specs.rules.Calls.{Opening}
 use Rattle.iscsi_outbox_rules.specs.rules.Boxes.{Phase, Dormant, Fresh, Started, Completed, Running, Gone, Task, Answer, Box}
-use Rattle.iscsi_outbox_rules.specs.rules.Words.{contains, is_live_phase}
+use Rattle.iscsi_outbox_rules.specs.rules.Words.{contains, is_live_phase, is_left_phase}
 use Rattle.iscsi_outbox_rules.specs.rules.Queues.{at_link, enter, drop_of, drop_on}
 use Rattle.iscsi_outbox_rules.specs.rules.Due.{is_due, settle_from, settle}
 use Rattle.iscsi_outbox_rules.specs.rules.Items.{executing, tickets_left, ticket_enabled, reply_sent, closed_in, newly_closed, phase_taken_out, phase_completed, phase_enabled, phase_told, task_entered, in_phase, leave, enter_tasks, close_one, close_all, close, send, after_item, after_items, after_event}
@@ -21,41 +22,29 @@ use Rattle.iscsi_outbox_rules.proofs.EachLemmas.{EachOf, each-weaken}
 use Rattle.iscsi_outbox_rules.proofs.Walks.{IsOver, over_after}
 use Rattle.iscsi_outbox_rules.proofs.TicketLemmas.{entered, entries, with_ticket, EntersOn, count_entering, conns_entering}
 
--- a command may come to another phase, but what isn't live stays so
+-- phases that a command doesn't come out of again
+pub record Stays (among : Phase → Bool) : Type 0 where
+  pub taken_out : (p : Phase) → among p ≡ true → among (phase_taken_out p) ≡ true
+  pub completed : (p : Phase) → among p ≡ true → among (phase_completed p) ≡ true
+  pub enabled : (p : Phase) → among p ≡ true → among (phase_enabled p) ≡ true
+  pub told : (p : Phase) → among p ≡ true → among (phase_told p) ≡ true
+  pub stopped : (p : Phase) → among p ≡ true → among (phase_stopped p) ≡ true
+
+-- the same command, no phase before
 pub record Onward (x y : Task) : Type 0 where
   pub ticket : y.ticket ≡ x.ticket
   pub conn : y.conn ≡ x.conn
-  pub ends : is_live_phase x.phase ≡ false → is_live_phase y.phase ≡ false
+  pub phase : (among : Phase → Bool) → Stays among → among x.phase ≡ true → among y.phase ≡ true
 
-abbrev pub Ends : (Phase → Phase) → Type 0
-Ends change = (p : Phase) → is_live_phase p ≡ false → is_live_phase (change p) ≡ false
+-- not live any more
+abbrev pub is_past_phase : Phase → Bool
+is_past_phase p = not (is_live_phase p)
 
-pub completed_ends : Ends phase_completed
-completed_ends p h = cond_both (is_live_phase p) Completed p (λ q. is_live_phase q ≡ false) (λ is. refl) (λ is. h)
-
-pub enabled_ends : Ends phase_enabled
-enabled_ends Dormant h = absurd cc
-enabled_ends Fresh h = h
-enabled_ends Started h = h
-enabled_ends Completed h = h
-enabled_ends Running h = h
-enabled_ends Gone h = h
-
-pub told_ends : Ends phase_told
-told_ends Dormant h = h
-told_ends Fresh h = absurd cc
-told_ends Started h = h
-told_ends Completed h = h
-told_ends Running h = h
-told_ends Gone h = h
-
-pub stopped_ends : Ends phase_stopped
-stopped_ends Dormant h = h
-stopped_ends Fresh h = h
-stopped_ends Started h = h
-stopped_ends Completed h = h
-stopped_ends Running h = refl
-stopped_ends Gone h = h
+-- completed, or left and not running
+abbrev pub is_over_phase : Phase → Bool
+is_over_phase Completed = true
+is_over_phase Gone = true
+is_over_phase _ = false
 
 -- what is taken out isn't live
 pub taken_out_ends : (p : Phase) → is_live_phase (phase_taken_out p) ≡ false
@@ -66,13 +55,61 @@ taken_out_ends Completed = refl
 taken_out_ends Running = refl
 taken_out_ends Gone = refl
 
+-- in each phase of six
+by_phase : (P : Phase → Type 0) → P Dormant → P Fresh → P Started → P Completed → P Running → P Gone → (p : Phase) → P p
+by_phase P d f s c r g Dormant = d
+by_phase P d f s c r g Fresh = f
+by_phase P d f s c r g Started = s
+by_phase P d f s c r g Completed = c
+by_phase P d f s c r g Running = r
+by_phase P d f s c r g Gone = g
+
+keeps : (among : Phase → Bool) (change : Phase → Phase) → (among Dormant ≡ true → among (change Dormant) ≡ true) → (among Fresh ≡ true → among (change Fresh) ≡ true) → (among Started ≡ true → among (change Started) ≡ true)
+    → (among Completed ≡ true → among (change Completed) ≡ true) → (among Running ≡ true → among (change Running) ≡ true) → (among Gone ≡ true → among (change Gone) ≡ true) → (p : Phase) → among p ≡ true → among (change p) ≡ true
+keeps among change d f s c r g p = by_phase (λ q. among q ≡ true → among (change q) ≡ true) d f s c r g p
+
+no : {A : Type 0} → false ≡ true → A
+no h = absurd (false≢true h)
+
+pub past_stays : Stays is_past_phase
+past_stays = record {
+  taken_out = keeps is_past_phase phase_taken_out (λ h. no h) (λ h. no h) (λ h. no h) (λ h. h) (λ h. h) (λ h. h);
+  completed = keeps is_past_phase phase_completed (λ h. no h) (λ h. no h) (λ h. no h) (λ h. h) (λ h. h) (λ h. h);
+  enabled = keeps is_past_phase phase_enabled (λ h. no h) (λ h. no h) (λ h. no h) (λ h. h) (λ h. h) (λ h. h);
+  told = keeps is_past_phase phase_told (λ h. no h) (λ h. no h) (λ h. no h) (λ h. h) (λ h. h) (λ h. h);
+  stopped = keeps is_past_phase phase_stopped (λ h. no h) (λ h. no h) (λ h. no h) (λ h. h) (λ h. refl) (λ h. h);
+}
+
+-- what left stays left
+pub left_stays : Stays is_left_phase
+left_stays = record {
+  taken_out = keeps is_left_phase phase_taken_out (λ h. no h) (λ h. no h) (λ h. no h) (λ h. no h) (λ h. h) (λ h. h);
+  completed = keeps is_left_phase phase_completed (λ h. no h) (λ h. no h) (λ h. no h) (λ h. no h) (λ h. h) (λ h. h);
+  enabled = keeps is_left_phase phase_enabled (λ h. no h) (λ h. no h) (λ h. no h) (λ h. no h) (λ h. h) (λ h. h);
+  told = keeps is_left_phase phase_told (λ h. no h) (λ h. no h) (λ h. no h) (λ h. no h) (λ h. h) (λ h. h);
+  stopped = keeps is_left_phase phase_stopped (λ h. no h) (λ h. no h) (λ h. no h) (λ h. no h) (λ h. refl) (λ h. h);
+}
+
+-- what doesn't run, and isn't live, doesn't run again
+pub over_stays : Stays is_over_phase
+over_stays = record {
+  taken_out = keeps is_over_phase phase_taken_out (λ h. no h) (λ h. no h) (λ h. no h) (λ h. h) (λ h. no h) (λ h. h);
+  completed = keeps is_over_phase phase_completed (λ h. no h) (λ h. no h) (λ h. no h) (λ h. h) (λ h. no h) (λ h. h);
+  enabled = keeps is_over_phase phase_enabled (λ h. no h) (λ h. no h) (λ h. no h) (λ h. h) (λ h. no h) (λ h. h);
+  told = keeps is_over_phase phase_told (λ h. no h) (λ h. no h) (λ h. no h) (λ h. h) (λ h. no h) (λ h. h);
+  stopped = keeps is_over_phase phase_stopped (λ h. no h) (λ h. no h) (λ h. no h) (λ h. h) (λ h. refl) (λ h. h);
+}
+
+pub onward_ends : (x y : Task) → Onward x y → is_live_phase x.phase ≡ false → is_live_phase y.phase ≡ false
+onward_ends x y h ends = not_true (is_live_phase y.phase) (h.phase is_past_phase past_stays (ap not ends))
+
 abbrev pub phased : (Phase → Phase) → List ℕ → Task → Task
 phased change tickets x = cond (contains tickets x.ticket) (record x { phase = change x.phase }) x
 
-pub phased_onward : (change : Phase → Phase) → Ends change → (tickets : List ℕ) (x : Task) → Onward x (phased change tickets x)
-phased_onward change ends tickets x =
+pub phased_onward : (change : Phase → Phase) → ((among : Phase → Bool) → Stays among → (p : Phase) → among p ≡ true → among (change p) ≡ true) → (tickets : List ℕ) (x : Task) → Onward x (phased change tickets x)
+phased_onward change turns tickets x =
     cond_both (contains tickets x.ticket) (record x { phase = change x.phase }) x (Onward x)
-    (λ is. record { ticket = refl; conn = refl; ends = ends x.phase }) (λ is. record { ticket = refl; conn = refl; ends = λ h. h })
+    (λ is. record { ticket = refl; conn = refl; phase = λ among stays. turns among stays x.phase }) (λ is. record { ticket = refl; conn = refl; phase = λ among stays h. h })
 
 -- `K n b`: `n` Enters of the ticket were taken
 pub record TaskWalk (o : Opening) (t c : ℕ) (K : ℕ → Box → Type 0) : Type 0 where
@@ -100,7 +137,7 @@ module _ (o : Opening) (t c : ℕ) (K : ℕ → Box → Type 0) (w : TaskWalk o 
 
   leaves : (n : ℕ) (b : Box) (r : Option Request) (tickets : List ℕ) → K n b → K n (leave r tickets b)
   leaves n b (Some r) tickets h = w.takes_out n b tickets h
-  leaves n b None tickets h = w.phases n b (phased phase_completed tickets) (phased_onward phase_completed completed_ends tickets) h
+  leaves n b None tickets h = w.phases n b (phased phase_completed tickets) (phased_onward phase_completed (λ among stays. stays.completed) tickets) h
 
   enters_tasks : (n : ℕ) (b : Box) (r : Option Request) (item : List Effect) → executing item ≡ r → n + entered t item ≤ 1 → EntersOn t c item → K n b → K (n + entered t item) (enter_tasks r item b)
   enters_tasks n b None item is once on h = w.more n (entered t item) b h
@@ -136,7 +173,7 @@ module _ (o : Opening) (t c : ℕ) (K : ℕ → Box → Type 0) (w : TaskWalk o 
       let sent : Box = send o r tickets conns closes (first_of (filter_map reply_sent item)) closed in
       let k : K m sent = w.sends m closed r tickets conns closes (first_of (filter_map reply_sent item)) (closes_by m entering r closes (enters_tasks n left r item refl once on (leaves n b r tickets h))) in
       task_settles m (in_phase phase_enabled (filter_map ticket_enabled item) sent)
-      (w.phases m sent (phased phase_enabled (filter_map ticket_enabled item)) (phased_onward phase_enabled enabled_ends (filter_map ticket_enabled item)) k)
+      (w.phases m sent (phased phase_enabled (filter_map ticket_enabled item)) (phased_onward phase_enabled (λ among stays. stays.enabled) (filter_map ticket_enabled item)) k)
 
   items_keep : (n : ℕ) (b : Box) (items : List (List Effect)) → n + entries t items ≤ 1 → EachOf (EntersOn t c) items → K n b → K (n + entries t items) (after_items o b items)
   items_keep n b [] once on h = w.more n 0 b h
@@ -153,4 +190,4 @@ module _ (o : Opening) (t c : ℕ) (K : ℕ → Box → Type 0) (w : TaskWalk o 
       let m : ℕ = n + entries t (in_parts effects) in
       let told : Task → Task = λ x. record x { phase = phase_told x.phase } in
       w.numbers m (record b' { tasks = map told b'.tasks }) numbers.exp (lift b'.max numbers.max)
-      (w.phases m b' told (λ x. record { ticket = refl; conn = refl; ends = told_ends x.phase }) (items_keep n b (in_parts effects) once on h))
+      (w.phases m b' told (λ x. record { ticket = refl; conn = refl; phase = λ among stays. stays.told x.phase }) (items_keep n b (in_parts effects) once on h))

@@ -1,5 +1,5 @@
 -- Under a session each ticket enters once.
-use Rattle.std.proofs.Common.{◌≡◌, ℕ, zero, suc, ◌==◌, ◌+◌, ◌≤◌, ◌<◌, ◌⊎◌, inl, inr, ⊎_elim, cond, true, false, List, [], ◌∷◌, ◌++◌, length, map, filter_map, count_by, Some, None, refl, ap, sym, subst, ◌∙◌, arith}
+use Rattle.std.proofs.Common.{◌≡◌, ℕ, zero, suc, ◌==◌, ◌+◌, ◌≤◌, ◌<◌, ◌⊎◌, inl, inr, ⊎_elim, cond, true, false, List, [], ◌∷◌, ◌++◌, length, map, filter_map, count_by, Some, None, refl, ap, sym, subst, ◌∙◌, arith, eq-eqb}
 use Rattle.std.specs.List.{flat_map, cons_option, range_with_len}
 use Rattle.std.proofs.lemmas.Bool.{eqb-true}
 use Rattle.std.proofs.lemmas.List.{append_assoc}
@@ -148,6 +148,19 @@ module _ (t : ℕ) where
       by_effect (CloseConn conn) rest = rest
       by_effect CloseSession rest = rest
       by_effect (Ignore why) rest = rest
+
+  pub ticket_counts : (f : Task → Task) → ((x : Task) → (f x).ticket ≡ x.ticket) → (ts : List Task) → with_ticket (map f ts) ≡ with_ticket ts
+  ticket_counts f same [] = refl
+  ticket_counts f same (x ∷ ts) =
+      sum_by-cons (λ (y : Task). cond (y.ticket == t) 1 0) (f x) (map f ts)
+      ∙ ap (λ k. cond (k == t) 1 0 + with_ticket (map f ts)) (same x) ∙ ap (λ n. cond (x.ticket == t) 1 0 + n) (ticket_counts f same ts)
+      ∙ sym (sum_by-cons (λ (y : Task). cond (y.ticket == t) 1 0) x ts)
+
+  pub none_of : (ts : List Task) → with_ticket ts ≡ 0 → EachOf (λ (x : Task). x.ticket ≡ t → ⊥) ts
+  none_of [] none = tt
+  none_of (x ∷ ts) none =
+      let parts : with_ticket (x ∷ ts) ≡ cond (x.ticket == t) 1 0 + with_ticket ts = sum_by-cons (λ (y : Task). cond (y.ticket == t) 1 0) x ts in
+      ((λ same. let one : cond {A = ℕ} (x.ticket == t) 1 0 ≡ 1 = ap (λ v. cond {A = ℕ} v 1 0) (eq-eqb x.ticket t same) in absurd (omega (arith, parts, none, one))), none_of ts (omega (arith, parts, none)))
 
   -- ---- the connection on which it enters
 
