@@ -31,3 +31,4 @@ mod TaskWalks
 mod CommandRuns
 mod CommandTheorem
 mod TaskRuns
+mod LeaveLemmas

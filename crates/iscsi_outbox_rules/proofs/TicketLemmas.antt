@@ -38,6 +38,16 @@ parts_whole (e ∷ es) =
       | false ↦ onto_whole e (in_parts es) ∙ ap (λ xs. e ∷ xs) (parts_whole es)
     ]
 
+joined_flat : (xs ys : List (List Effect)) → flat_map (λ (es : List Effect). es) (xs ++ ys) ≡ flat_map (λ (es : List Effect). es) xs ++ flat_map (λ (es : List Effect). es) ys
+joined_flat [] ys = refl
+joined_flat (x ∷ xs) ys = ap (λ zs. x ++ zs) (joined_flat xs ys) ∙ sym (append_assoc x (flat_map (λ (es : List Effect). es) xs) (flat_map (λ (es : List Effect). es) ys))
+
+pub log_whole : (es : List Entry) → flat_map (λ (p : List Effect). p) (flat_map (λ (e : Entry). in_parts e.effects) es) ≡ effects_in es
+log_whole [] = refl
+log_whole (e ∷ es) =
+    joined_flat (in_parts e.effects) (flat_map (λ (x : Entry). in_parts x.effects) es)
+    ∙ ap (λ xs. xs ++ flat_map (λ (p : List Effect). p) (flat_map (λ (x : Entry). in_parts x.effects) es)) (parts_whole e.effects) ∙ ap (λ xs. e.effects ++ xs) (log_whole es)
+
 -- ---- a ticket among numbers in order
 
 below_first : (t s n : ℕ) → t < s → count_by (λ k. k == t) (range_with_len s n) ≡ 0
@@ -85,17 +95,7 @@ module _ (t : ℕ) where
       ∙ sum_by-append (λ k. cond (k == t) 1 0) (tickets_entered item) (tickets_entered (flat_map (λ (es : List Effect). es) items)))
 
   entries_log : (log : List Entry) → entries (flat_map (λ (e : Entry). in_parts e.effects) log) ≡ entered (effects_in log)
-  entries_log log = entries_flat (flat_map (λ (e : Entry). in_parts e.effects) log) ∙ ap entered (whole log)
-    where
-      joined : (xs ys : List (List Effect)) → flat_map (λ (es : List Effect). es) (xs ++ ys) ≡ flat_map (λ (es : List Effect). es) xs ++ flat_map (λ (es : List Effect). es) ys
-      joined [] ys = refl
-      joined (x ∷ xs) ys = ap (λ zs. x ++ zs) (joined xs ys) ∙ sym (append_assoc x (flat_map (λ (es : List Effect). es) xs) (flat_map (λ (es : List Effect). es) ys))
-
-      whole : (es : List Entry) → flat_map (λ (p : List Effect). p) (flat_map (λ (e : Entry). in_parts e.effects) es) ≡ effects_in es
-      whole [] = refl
-      whole (e ∷ es) =
-          joined (in_parts e.effects) (flat_map (λ (x : Entry). in_parts x.effects) es) ∙ ap (λ xs. xs ++ flat_map (λ (p : List Effect). p) (flat_map (λ (x : Entry). in_parts x.effects) es)) (parts_whole e.effects)
-          ∙ ap (λ xs. e.effects ++ xs) (whole es)
+  entries_log log = entries_flat (flat_map (λ (e : Entry). in_parts e.effects) log) ∙ ap entered (log_whole log)
 
   pub enters_once : (o : Opening) (cs : List Call) → FollowsSession o cs → entries (items_in (deeds_of o cs)) ≤ 1
   enters_once o cs follows =
