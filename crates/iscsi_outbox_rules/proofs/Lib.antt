@@ -32,3 +32,4 @@ mod CommandRuns
 mod CommandTheorem
 mod TaskRuns
 mod LeaveLemmas
+mod TicketRuns
