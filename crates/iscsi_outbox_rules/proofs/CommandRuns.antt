@@ -166,7 +166,7 @@ module _ (t c : ℕ) where
       ap (λ v. own_waiting (cond v (x ∷ filter (λ out. not (is_of these out)) queue) (filter (λ out. not (is_of these out)) queue))) stays ∙ ap (λ ys. own_in x ++ ys) rest)
       h.0
 
-  dropped_own : (these : ℕ → Bool) (conn : ℕ) (queue : List Outgoing) → these t ≡ true → EachOf (OwnEntry conn) queue → own_waiting (filter (λ out. not (is_of these out)) queue) ≡ []
+  pub dropped_own : (these : ℕ → Bool) (conn : ℕ) (queue : List Outgoing) → these t ≡ true → EachOf (OwnEntry conn) queue → own_waiting (filter (λ out. not (is_of these out)) queue) ≡ []
   dropped_own these conn [] of h = refl
   dropped_own these conn (x ∷ queue) of h =
       let rest : own_waiting (filter (λ out. not (is_of these out)) queue) ≡ [] = dropped_own these conn queue of h.1 in
@@ -222,7 +222,7 @@ module _ (t c : ℕ) where
 
   -- ---- entering what is none of them
 
-  waiting-push : (queue : List Outgoing) (out : Outgoing) → own_in out ≡ [] → own_waiting (queue ++ out ∷ []) ≡ own_waiting queue
+  pub waiting-push : (queue : List Outgoing) (out : Outgoing) → own_in out ≡ [] → own_waiting (queue ++ out ∷ []) ≡ own_waiting queue
   waiting-push queue out none = flat_map-append own_in queue (out ∷ []) ∙ ap (λ ys. own_waiting queue ++ (ys ++ [])) none ∙ append-nil (own_waiting queue)
 
   other : (ts : List Task) (waiting : List OwnPdu) (l : Link) (queue : List Outgoing) → own_waiting queue ≡ own_waiting l.queue → Queued ts waiting l → Queued ts waiting (record l { queue = queue })
@@ -283,7 +283,7 @@ module _ (t c : ℕ) where
   pub command_walk : (o : Opening) (ds : List Deed) → TaskWalk o t c (λ n b. CommandStands n ds b)
   command_walk o ds = record {
     takes_out = λ n b tickets h. takes_out n ds b tickets h;
-    phases = λ n b f onward h. phases n ds b f onward h;
+    phases = λ n b f onward back h. phases n ds b f onward h;
     enters = λ n k b ts once conns few h. enters_task n k ds b ts once conns few h;
     closes = λ n b conn h. at_one n ds b conn (λ l. record l { closed = true }) b.undue (λ l. refl) h (λ l is found k. closed_queued b.tasks h.waiting l l.cut k) (λ l f. (f.0, (λ cut. refl))) h.undue;
     cuts = λ n b conn h. at_one n ds b conn (λ l. record l { closed = true; cut = true }) b.undue (λ l. refl) h (λ l is found k. closed_queued b.tasks h.waiting l true k) (λ l f. (f.0, (λ cut. refl))) h.undue;

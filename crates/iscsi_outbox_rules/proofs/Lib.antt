@@ -33,3 +33,4 @@ mod CommandTheorem
 mod TaskRuns
 mod LeaveLemmas
 mod TicketRuns
+mod LeftRuns

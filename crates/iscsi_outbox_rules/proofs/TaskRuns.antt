@@ -109,7 +109,7 @@ module _ (t c : ℕ) (among : Phase → Bool) (stays : Stays among) where
   phase_walk : (o : Opening) → TaskWalk o t c PhaseStands
   phase_walk o = record {
     takes_out = λ n b tickets h. same n (in_phase phase_taken_out tickets b) _ refl (phase_moves n b (phased phase_taken_out tickets) (phased_onward phase_taken_out (λ in' s. s.taken_out) tickets) h) _ refl;
-    phases = phase_moves;
+    phases = λ n b f onward back h. phase_moves n b f onward h;
     enters = λ n k b ts once conns few h. phase_enters n k b ts once few h;
     closes = λ n b conn h. same n b b.tasks refl h _ refl;
     cuts = λ n b conn h. same n b b.tasks refl h _ refl;

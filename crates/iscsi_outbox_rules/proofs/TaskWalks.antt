@@ -103,6 +103,20 @@ over_stays = record {
 pub onward_ends : (x y : Task) → Onward x y → is_live_phase x.phase ≡ false → is_live_phase y.phase ≡ false
 onward_ends x y h ends = not_true (is_live_phase y.phase) (h.phase is_past_phase past_stays (ap not ends))
 
+unleft_by : (change : Phase → Phase) → ((p : Phase) → is_left_phase (change p) ≡ true → is_left_phase p ≡ true) → (tickets : List ℕ) (x : Task) → is_left_phase (cond (contains tickets x.ticket) (record x { phase = change x.phase }) x).phase ≡ true → is_left_phase x.phase ≡ true
+unleft_by change back tickets x =
+    cond_both (contains tickets x.ticket) (record x { phase = change x.phase }) x (λ (y : Task). is_left_phase y.phase ≡ true → is_left_phase x.phase ≡ true) (λ is. back x.phase) (λ is h. h)
+
+-- these take out none
+unleft_completed : (p : Phase) → is_left_phase (phase_completed p) ≡ true → is_left_phase p ≡ true
+unleft_completed = by_phase (λ p. is_left_phase (phase_completed p) ≡ true → is_left_phase p ≡ true) (λ h. h) (λ h. h) (λ h. h) (λ h. h) (λ h. h) (λ h. h)
+
+unleft_enabled : (p : Phase) → is_left_phase (phase_enabled p) ≡ true → is_left_phase p ≡ true
+unleft_enabled = by_phase (λ p. is_left_phase (phase_enabled p) ≡ true → is_left_phase p ≡ true) (λ h. h) (λ h. h) (λ h. h) (λ h. h) (λ h. h) (λ h. h)
+
+unleft_told : (p : Phase) → is_left_phase (phase_told p) ≡ true → is_left_phase p ≡ true
+unleft_told = by_phase (λ p. is_left_phase (phase_told p) ≡ true → is_left_phase p ≡ true) (λ h. h) (λ h. h) (λ h. h) (λ h. h) (λ h. h) (λ h. h)
+
 abbrev pub phased : (Phase → Phase) → List ℕ → Task → Task
 phased change tickets x = cond (contains tickets x.ticket) (record x { phase = change x.phase }) x
 
@@ -114,7 +128,7 @@ phased_onward change turns tickets x =
 -- `K n b`: `n` Enters of the ticket were taken
 pub record TaskWalk (o : Opening) (t c : ℕ) (K : ℕ → Box → Type 0) : Type 0 where
   pub takes_out : (n : ℕ) (b : Box) (tickets : List ℕ) → K n b → K n (drop_of (contains tickets) (in_phase phase_taken_out tickets b))
-  pub phases : (n : ℕ) (b : Box) (change : Task → Task) → ((x : Task) → Onward x (change x)) → K n b → K n (record b { tasks = map change b.tasks })
+  pub phases : (n : ℕ) (b : Box) (change : Task → Task) → ((x : Task) → Onward x (change x)) → ((x : Task) → is_left_phase (change x).phase ≡ true → is_left_phase x.phase ≡ true) → K n b → K n (record b { tasks = map change b.tasks })
   pub enters : (n k : ℕ) (b : Box) (ts : List Task) → n + k ≤ 1 → (1 ≤ k → EachOf (λ (x : Task). x.conn ≡ c) ts) → with_ticket t ts ≤ k → K n b → K (n + k) (record b { tasks = b.tasks ++ ts })
   pub closes : (n : ℕ) (b : Box) (conn : ℕ) → K n b → K n (record b { links = at_link conn (λ l. record l { closed = true }) b.links })
   pub cuts : (n : ℕ) (b : Box) (conn : ℕ) → K n b → K n (record b { links = at_link conn (λ l. record l { closed = true; cut = true }) b.links })
@@ -137,7 +151,7 @@ module _ (o : Opening) (t c : ℕ) (K : ℕ → Box → Type 0) (w : TaskWalk o 
 
   leaves : (n : ℕ) (b : Box) (r : Option Request) (tickets : List ℕ) → K n b → K n (leave r tickets b)
   leaves n b (Some r) tickets h = w.takes_out n b tickets h
-  leaves n b None tickets h = w.phases n b (phased phase_completed tickets) (phased_onward phase_completed (λ among stays. stays.completed) tickets) h
+  leaves n b None tickets h = w.phases n b (phased phase_completed tickets) (phased_onward phase_completed (λ among stays. stays.completed) tickets) (unleft_by phase_completed unleft_completed tickets) h
 
   enters_tasks : (n : ℕ) (b : Box) (r : Option Request) (item : List Effect) → executing item ≡ r → n + entered t item ≤ 1 → EntersOn t c item → K n b → K (n + entered t item) (enter_tasks r item b)
   enters_tasks n b None item is once on h = w.more n (entered t item) b h
@@ -173,7 +187,7 @@ module _ (o : Opening) (t c : ℕ) (K : ℕ → Box → Type 0) (w : TaskWalk o 
       let sent : Box = send o r tickets conns closes (first_of (filter_map reply_sent item)) closed in
       let k : K m sent = w.sends m closed r tickets conns closes (first_of (filter_map reply_sent item)) (closes_by m entering r closes (enters_tasks n left r item refl once on (leaves n b r tickets h))) in
       task_settles m (in_phase phase_enabled (filter_map ticket_enabled item) sent)
-      (w.phases m sent (phased phase_enabled (filter_map ticket_enabled item)) (phased_onward phase_enabled (λ among stays. stays.enabled) (filter_map ticket_enabled item)) k)
+      (w.phases m sent (phased phase_enabled (filter_map ticket_enabled item)) (phased_onward phase_enabled (λ among stays. stays.enabled) (filter_map ticket_enabled item)) (unleft_by phase_enabled unleft_enabled (filter_map ticket_enabled item)) k)
 
   items_keep : (n : ℕ) (b : Box) (items : List (List Effect)) → n + entries t items ≤ 1 → EachOf (EntersOn t c) items → K n b → K (n + entries t items) (after_items o b items)
   items_keep n b [] once on h = w.more n 0 b h
@@ -190,4 +204,4 @@ module _ (o : Opening) (t c : ℕ) (K : ℕ → Box → Type 0) (w : TaskWalk o 
       let m : ℕ = n + entries t (in_parts effects) in
       let told : Task → Task = λ x. record x { phase = phase_told x.phase } in
       w.numbers m (record b' { tasks = map told b'.tasks }) numbers.exp (lift b'.max numbers.max)
-      (w.phases m b' told (λ x. record { ticket = refl; conn = refl; phase = λ among stays. stays.told x.phase }) (items_keep n b (in_parts effects) once on h))
+      (w.phases m b' told (λ x. record { ticket = refl; conn = refl; phase = λ among stays. stays.told x.phase }) (λ x. unleft_told x.phase) (items_keep n b (in_parts effects) once on h))
