@@ -47,7 +47,7 @@ module _ (Q : List Link → Type 0) (closed : (g : Link → Link) → ((l : Link
           let a : Answer = answer o b r conns closes s.0 (outgoing b (Some r) tickets s.1) about in
           cond_both (list_any (λ (l : Link). (l.conn == a.conn) && takes_more l) b.links) (record b { undue = b.undue ++ a ∷ [] }) b (λ (b' : Box). HeldBy [] (record b' { sent = b'.sent + 1 })) (λ may. h) (λ may. h)
 
-  conn_walk : (o : Opening) → Walk o HeldBy
+  pub conn_walk : (o : Opening) → Walk o HeldBy
   conn_walk o = record {
     tasks = λ items b ts h. h;
     drops = λ items b these h. closed (without these) (λ l. refl) b.links h;

@@ -34,3 +34,6 @@ mod TaskRuns
 mod LeaveLemmas
 mod TicketRuns
 mod LeftRuns
+mod MarkRuns
+mod MarkItems
+mod MarkCalls
