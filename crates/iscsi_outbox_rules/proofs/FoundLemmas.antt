@@ -16,7 +16,7 @@ pub found-conn : (conn : ℕ) (links : List Link) (l : Link) → find_link conn 
 found-conn conn links l found = eqb-true l.conn conn (first_itself (λ (m : Link). m.conn == conn) links l found)
 
 -- the one that a change makes of it
-find-map : (g : Link → Link) → ((l : Link) → (g l).conn ≡ l.conn) → (links : List Link) (conn : ℕ) (l : Link) → find_link conn (map g links) ≡ Some l → (m : Link) × (find_link conn links ≡ Some m) × (g m ≡ l)
+pub find-map : (g : Link → Link) → ((l : Link) → (g l).conn ≡ l.conn) → (links : List Link) (conn : ℕ) (l : Link) → find_link conn (map g links) ≡ Some l → (m : Link) × (find_link conn links ≡ Some m) × (g m ≡ l)
 find-map g kept [] conn l found = absurd cc
 find-map g kept (m ∷ links) conn l found =
     elim (m.conn == conn) as (λ v. first_of (cond v (g m ∷ filter (λ (k : Link). k.conn == conn) (map g links)) (filter (λ (k : Link). k.conn == conn) (map g links))) ≡ Some l

@@ -37,3 +37,4 @@ mod LeftRuns
 mod MarkRuns
 mod MarkItems
 mod MarkCalls
+mod SealRuns
