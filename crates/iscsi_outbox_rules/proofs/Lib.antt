@@ -38,3 +38,6 @@ mod MarkRuns
 mod MarkItems
 mod MarkCalls
 mod SealRuns
+mod SealItems
+mod SealCalls
+mod SealTheorem

@@ -6,7 +6,7 @@ use Rattle.std.proofs.lemmas.List.{append-nil}
 use Rattle.iscsi_history.specs.declared.effect.Effect.{Effect}
 use Rattle.iscsi_history.specs.rules.Trace.{first_of}
 use Rattle.iscsi_history.specs.promises.Order.{in_parts}
-use Rattle.iscsi_history.proofs.BoolLemmas.{and_parts, and_first, and_second, or_none, or_second, not_true}
+use Rattle.iscsi_history.proofs.BoolLemmas.{and_first, and_second, or_none, or_second, not_true}
 use Rattle.iscsi_history.proofs.ListLemmas.{first_itself}
 use Rattle.iscsi_outbox_rules.specs.rules.Calls.{Opening, Call, Takes, Puts, Stops, Nexts, Writes, Hears, Joins, Loses, Clears}
 use Rattle.iscsi_outbox_rules.specs.rules.Boxes.{Outgoing, Handed, Link, Box}
@@ -22,7 +22,7 @@ use Rattle.iscsi_outbox_rules.specs.promises.Deeds.{Deed, deeds_of, items_in, it
 use Rattle.iscsi_outbox_rules.proofs.EachLemmas.{EachOf, each-first_of}
 use Rattle.iscsi_outbox_rules.proofs.DeedLemmas.{items_in-more}
 use Rattle.iscsi_outbox_rules.proofs.Chosen.{FromQueue, IsPing, IsNotice, Chosen, chosen_from}
-use Rattle.iscsi_outbox_rules.proofs.Cuts.{Handing, Hand, Idle, next, at_handing}
+use Rattle.iscsi_outbox_rules.proofs.Cuts.{Hand, Idle, next, at_handing}
 use Rattle.iscsi_outbox_rules.proofs.Boxwise.{box_keeps}
 use Rattle.iscsi_outbox_rules.proofs.ConnLemmas.{conns_of, HaveConns, have_conns, conn_boxes}
 use Rattle.iscsi_outbox_rules.proofs.MarkRuns.{is_closing, by_another, closed_by, cut_by, Marked, Keeps, marks_at, keeps_append, keeps_emptied, marks_settle}

@@ -1,5 +1,5 @@
 -- What an item makes of the marks of connections.
-use Rattle.std.proofs.Common.{◌≡◌, ℕ, ◌==◌, ◌||◌, ◌&&◌, not, cond, Bool, true, false, List, [], ◌∷◌, ◌++◌, filter, filter_map, map, Option, Some, None, refl, ap, sym, subst, ◌∙◌}
+use Rattle.std.proofs.Common.{◌≡◌, ℕ, ◌==◌, ◌||◌, ◌&&◌, not, cond, Bool, true, false, List, [], ◌∷◌, ◌++◌, filter, filter_map, Option, Some, None, refl, ap, sym, subst, ◌∙◌}
 use Rattle.std.specs.List.{list_any, flat_map}
 use Rattle.std.proofs.lemmas.Bool.{false≢true, eqb-true}
 use Rattle.std.proofs.lemmas.List.{append_assoc, append-nil}
@@ -14,12 +14,11 @@ use Rattle.iscsi_outbox_rules.specs.rules.Calls.{Opening}
 use Rattle.iscsi_outbox_rules.specs.rules.Boxes.{Link, Box}
 use Rattle.iscsi_outbox_rules.specs.rules.Words.{contains}
 use Rattle.iscsi_outbox_rules.specs.rules.Items.{executing, tickets_left, reply_sent, ticket_enabled, conns_closed, closed_in, newly_closed, phase_enabled, in_phase, leave, enter_tasks, close, send, after_item, after_items}
-use Rattle.iscsi_outbox_rules.specs.promises.Deeds.{Deed}
 use Rattle.iscsi_outbox_rules.specs.promises.Scope.{is_closed_by, closes_in}
 use Rattle.iscsi_outbox_rules.proofs.EachLemmas.{EachOf}
 use Rattle.iscsi_outbox_rules.proofs.ConnLemmas.{conns_of, HaveConns, have_conns, conn_walk}
 use Rattle.iscsi_outbox_rules.proofs.Walks.{items_keep}
-use Rattle.iscsi_outbox_rules.proofs.MarkRuns.{closes_as, by_another, is_closing, closed_by, cut_by, closed_by-more, cut_by-more, Marked, marks_settle, marks_leave, marks_entered, marks_send, marks_as, marks_close_all}
+use Rattle.iscsi_outbox_rules.proofs.MarkRuns.{closes_as, by_another, closed_by, cut_by, closed_by-more, cut_by-more, Marked, marks_settle, marks_leave, marks_entered, marks_send, marks_as, marks_close_all}
 
 -- ---- which connections an item closes
 

@@ -1,23 +1,20 @@
 -- Which connections are closed, and which of them by another one's Logout, against the items that were taken.
-use Rattle.std.proofs.Common.{◌≡◌, ℕ, ◌==◌, ◌||◌, ◌&&◌, ◌+◌, not, cond, Bool, true, false, List, [], ◌∷◌, ◌++◌, map, filter, filter_map, drop, Option, Some, None, refl, ap, sym, subst, ◌∙◌, eq-eqb, ne_eqb}
-use Rattle.std.specs.List.{list_any, flat_map}
+use Rattle.std.proofs.Common.{◌≡◌, ℕ, ◌==◌, ◌||◌, ◌&&◌, ◌+◌, not, cond, Bool, true, false, List, [], ◌∷◌, ◌++◌, map, filter, Option, Some, None, refl, ap, sym, subst, ◌∙◌, eq-eqb, ne_eqb}
+use Rattle.std.specs.List.{list_any}
 use Rattle.std.proofs.lemmas.Bool.{cond_both, false≢true, eqb-true, eqb-false}
 use Rattle.std.proofs.lemmas.List.Folds.{list_any-append}
 use Rattle.iscsi_wire.specs.Fields.{connection_of}
 use Rattle.iscsi_wire.specs.declared.reply.Reply.{Reply}
 use Rattle.iscsi_wire.specs.declared.request.Request.{Request}
 use Rattle.iscsi_history.specs.declared.effect.Effect.{Effect}
-use Rattle.iscsi_history.specs.declared.effect.Effect.TheVariants.{Deliver, Immediate, Wait, Void, Empty, Enter, Enable, Leave, Send, CloseConn, CloseSession, Ignore}
-use Rattle.iscsi_history.specs.rules.Trace.{first_of}
 use Rattle.iscsi_outbox_rules.specs.rules.Calls.{Opening}
 use Rattle.iscsi_outbox_rules.specs.rules.Boxes.{Outgoing, Aim, Answer, Link, Box}
 use Rattle.iscsi_outbox_rules.specs.rules.Words.{contains}
 use Rattle.iscsi_outbox_rules.specs.rules.Queues.{at_link, takes_more, append, enter, without, emptied}
-use Rattle.iscsi_outbox_rules.specs.rules.Due.{is_due, settle_from, settle}
-use Rattle.iscsi_outbox_rules.specs.rules.Items.{executing, tickets_left, reply_sent, conns_closed, closed_in, newly_closed, leave, enter_tasks, close_one, close_all, close, outgoing, answer, send_as, aim, send}
-use Rattle.iscsi_outbox_rules.specs.promises.Scope.{is_closed_by, closes_in}
+use Rattle.iscsi_outbox_rules.specs.rules.Due.{is_due, settle_from}
+use Rattle.iscsi_outbox_rules.specs.rules.Items.{executing, leave, enter_tasks, close_one, close_all, outgoing, answer, send_as, aim, send}
+use Rattle.iscsi_outbox_rules.specs.promises.Scope.{closes_in}
 use Rattle.iscsi_outbox_rules.proofs.EachLemmas.{EachOf, each-map, each-weaken}
-use Rattle.iscsi_outbox_rules.proofs.ConnLemmas.{conns_of}
 
 -- ---- what the items say
 

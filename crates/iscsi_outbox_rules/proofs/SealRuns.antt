@@ -1,5 +1,5 @@
 -- On a connection the answer that closes it is the last that waits or went out.
-use Rattle.std.proofs.Common.{◌≡◌, ℕ, ◌==◌, ◌||◌, ◌&&◌, ◌+◌, not, cond, Bool, true, false, List, [], ◌∷◌, ◌++◌, map, filter, Option, Some, None, refl, ap, sym, subst, ◌∙◌, eq-eqb}
+use Rattle.std.proofs.Common.{◌≡◌, ℕ, ◌==◌, ◌&&◌, ◌+◌, not, cond, Bool, true, false, List, [], ◌∷◌, ◌++◌, map, filter, Option, Some, None, refl, ap, sym, subst, ◌∙◌, eq-eqb}
 use Rattle.std.specs.List.{list_any}
 use Rattle.std.proofs.lemmas.Bool.{cond_both, false≢true, eqb-true}
 use Rattle.std.proofs.lemmas.List.{append_assoc, append-nil}
@@ -7,14 +7,14 @@ use Rattle.iscsi_wire.specs.Fields.{connection_of}
 use Rattle.iscsi_wire.specs.declared.reply.Reply.{Reply}
 use Rattle.iscsi_wire.specs.declared.request.Request.{Request}
 use Rattle.iscsi_history.specs.declared.effect.Effect.{Effect}
-use Rattle.iscsi_history.proofs.BoolLemmas.{and_parts, and_second, or_none, or_first, not_true}
+use Rattle.iscsi_history.proofs.BoolLemmas.{and_second, or_none, or_first, not_true}
 use Rattle.iscsi_outbox_rules.specs.rules.Calls.{Opening}
 use Rattle.iscsi_outbox_rules.specs.rules.Boxes.{Outgoing, Handed, Aim, Answer, Link, Box}
 use Rattle.iscsi_outbox_rules.specs.rules.Words.{contains, is_running}
-use Rattle.iscsi_outbox_rules.specs.rules.Queues.{at_link, takes_more, append, enter, without, emptied, drop_of, drop_on}
-use Rattle.iscsi_outbox_rules.specs.rules.Due.{holds, goes_behind, is_same_aim, is_due, settle_from, settle}
+use Rattle.iscsi_outbox_rules.specs.rules.Queues.{at_link, takes_more, append, enter, without, emptied, drop_on}
+use Rattle.iscsi_outbox_rules.specs.rules.Due.{holds, goes_behind, is_same_aim, is_due, settle_from}
 use Rattle.iscsi_outbox_rules.specs.rules.Items.{leave, enter_tasks, close_one, close_all, close, outgoing, answer, send_as, aim, send}
-use Rattle.iscsi_outbox_rules.proofs.EachLemmas.{EachOf, each-append, each-first, each-second, each-weaken, each-filter}
+use Rattle.iscsi_outbox_rules.proofs.EachLemmas.{EachOf, each-append, each-second, each-weaken, each-filter}
 use Rattle.iscsi_outbox_rules.proofs.SortedLemmas.{SortedBy, sorted-push, sorted-filter, sorted-fewer, each-fewer}
 use Rattle.iscsi_outbox_rules.proofs.FoundLemmas.{find_link, found-conn, find-map}
 use Rattle.iscsi_outbox_rules.proofs.MarkRuns.{is_closing, closed_by, closed_by-more}
