@@ -41,3 +41,4 @@ mod SealRuns
 mod SealItems
 mod SealCalls
 mod SealTheorem
+mod ElsewhereTheorem
