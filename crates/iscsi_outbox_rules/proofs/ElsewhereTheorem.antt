@@ -54,7 +54,7 @@ cut_first (item ∷ items) more c cut = by_test (is_closing c item) (cut_first i
     by_test true later is = is
     by_test false later is = later is
 
-unclosed : (items : List (List Effect)) (c : ℕ) → list_any (closes_in c) items ≡ false → closed_by items c ≡ false
+pub unclosed : (items : List (List Effect)) (c : ℕ) → list_any (closes_in c) items ≡ false → closed_by items c ≡ false
 unclosed [] c none = refl
 unclosed (item ∷ items) c none =
     let parts = or_none (closes_in c item) (list_any (closes_in c) items) none in

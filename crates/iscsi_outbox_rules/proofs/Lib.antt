@@ -42,3 +42,4 @@ mod SealItems
 mod SealCalls
 mod SealTheorem
 mod ElsewhereTheorem
+mod ClosesLemmas
