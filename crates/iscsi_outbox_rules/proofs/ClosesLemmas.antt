@@ -1,5 +1,5 @@
 -- What an answer closes is what its item closes, and no item before it.
-use Rattle.std.proofs.Common.{◌≡◌, ℕ, ◌==◌, ◌&&◌, not, Bool, true, false, List, Option, Some, None, ap, sym, ◌∙◌}
+use Rattle.std.proofs.Common.{◌≡◌, ℕ, ◌==◌, ◌&&◌, not, Bool, true, false, List, Option, Some, None, ap, ◌∙◌}
 use Rattle.std.specs.List.{list_any}
 use Rattle.std.proofs.lemmas.Bool.{false≢true}
 use Rattle.iscsi_wire.specs.declared.reply.Reply.{Reply}
@@ -9,7 +9,7 @@ use Rattle.iscsi_outbox_rules.specs.rules.Calls.{Opening}
 use Rattle.iscsi_outbox_rules.specs.rules.Boxes.{Aim, Box}
 use Rattle.iscsi_outbox_rules.specs.rules.Words.{contains}
 use Rattle.iscsi_outbox_rules.specs.rules.Items.{executing, closed_in, newly_closed, aim}
-use Rattle.iscsi_outbox_rules.specs.promises.Scope.{Sent, closes_in, is_closed_with}
+use Rattle.iscsi_outbox_rules.specs.promises.Scope.{closes_in, is_closed_with}
 use Rattle.iscsi_outbox_rules.proofs.MarkRuns.{closed_by, cut_by}
 use Rattle.iscsi_outbox_rules.proofs.MarkItems.{newly, MarksStand}
 use Rattle.iscsi_outbox_rules.proofs.ElsewhereTheorem.{unclosed}

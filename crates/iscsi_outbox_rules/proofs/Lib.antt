@@ -43,3 +43,4 @@ mod SealCalls
 mod SealTheorem
 mod ElsewhereTheorem
 mod ClosesLemmas
+mod TiedRuns
