@@ -44,3 +44,4 @@ mod SealTheorem
 mod ElsewhereTheorem
 mod ClosesLemmas
 mod TiedRuns
+mod LeftPuts
