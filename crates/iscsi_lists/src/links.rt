@@ -17,12 +17,21 @@ const NOWHERE: u32 = u32::MAX;
 /// All slots stand in one chain of nodes, and so do heads, which are no slots: node 0, the free slots, and for each
 /// list its head and its slots; behind the last list stands one head more. So a slot that goes to the end of a list
 /// stands in front of the next head, and there is no special case.
-#[derive(Drop)]
 pub(crate) struct Links {
     /// Node 0, the slots from 1 on, and the heads of the lists.
     nodes: Vec<Link>,
     room: usize,
     lists: usize,
+}
+
+impl Drop for Links {
+    fn drop(self) {
+        let Links {
+            nodes: _nodes,
+            room: _room,
+            lists: _lists,
+        } = self;
+    }
 }
 
 impl Model for Links {

@@ -12,11 +12,19 @@ use std::marker::Model;
 ///
 /// A slot is a number from 1 on. A value keeps its slot while it moves from list to list, until it is taken out. Lists
 /// are numbered from 0 on. Each call takes the same time however many lists, slots and values there are, but for `clear`.
-#[derive(Drop)]
 pub struct Lists<T: Copy> {
     links: Links,
     /// The value of each slot. The first one is of no slot.
     values: Vec<T>,
+}
+
+impl<T: Copy> Drop for Lists<T> {
+    fn drop(self) {
+        let Lists {
+            links: _links,
+            values: _values,
+        } = self;
+    }
 }
 
 impl<T: Copy> Model for Lists<T> {
