@@ -5,3 +5,4 @@ pub mod ReadLemmas
 pub mod OpenLemmas
 pub mod ListedLemmas
 pub mod ClearLemmas
+pub mod SequenceLemmas

@@ -72,6 +72,14 @@ impl Links {
         self.nodes[self.room + 1].before
     }
 
+    /// How many slots and lists there are at most.
+    #[inline(always)]
+    pub(crate) fn known(&self)
+        ensures { self.now.room + length self.now.lists + 2 ≤ 4294967295 }
+    {
+        let _room = self.room;
+    }
+
     /// Whether no slot is free.
     pub(crate) fn is_full(&self) -> bool
         ensures yes { result ≡ true → self.now.free ≡ [] }

@@ -62,6 +62,16 @@ impl<T: Copy> Lists<T> {
         })
     }
 
+    /// What holds of all lists: each slot stands in one of them or is free, and has a value. It does nothing.
+    #[inline(always)]
+    pub fn known(&self)
+        ensures apart { AreApart (linked_in self.now) }
+        ensures values { length self.now.values ≡ self.now.room + 1 }
+        ensures short { self.now.room + length self.now.lists + 2 ≤ 4294967295 }
+    {
+        self.links.known();
+    }
+
     /// Whether no slot is free.
     pub fn is_full(&self) -> bool
         ensures yes { result ≡ true → self.now.free ≡ [] }

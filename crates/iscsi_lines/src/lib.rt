@@ -1,0 +1,9 @@
+//! Lines of commands that left and owe something, and of the answers that wait for them: which answer is due.
+#![tactic(auto)]
+
+mod item;
+mod lines;
+mod settling;
+
+pub use item::{Item, Owing};
+pub use lines::Lines;
