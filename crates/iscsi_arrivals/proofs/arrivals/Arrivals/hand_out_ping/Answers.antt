@@ -1,0 +1,23 @@
+use Rattle.std.proofs.Common.{rules, not, sym, subst, ◌∙◌}
+use Rattle.std.proofs.lemmas.Bool.{and_parts}
+use Rattle.iscsi_arrivals.specs.Counts.{Counts}
+use Rattle.iscsi_arrivals.specs.Stamps.{handed_out}
+use Rattle.iscsi_arrivals.specs.Standing.{StandsFor}
+use Rattle.iscsi_arrivals.proofs.StandingLemmas.{stands_pinged}
+use Rattle.iscsi_arrivals.proofs.SinceLemmas.{stamp_is}
+use Rattle.iscsi_arrivals.proofs.arrivals.Arrivals.hand_out_ping.Goals as goal
+
+pub returns-clause-answer : goal.returns-clause-answer
+returns-clause-answer c = search rules
+
+pub returns-clause-state : goal.returns-clause-state
+returns-clause-state c = search rules
+
+pub returns-clause-since : goal.returns-clause-since
+returns-clause-since c = λ l st. returns-clause-answer c ∙ stamp_is c.args.self.now l st
+
+pub returns-clause-stands : goal.returns-clause-stands
+returns-clause-stands c = λ l h st pdu takes closes.
+    let s : Counts = c.args.self.now in
+    subst (λ (s : Counts). StandsFor s (handed_out h l)) (sym (returns-clause-state c))
+    (stands_pinged s l st h (sym st.joined ∙ (and_parts s.joined (not s.lost) c.requires.open).0) c.requires.none pdu takes closes)

@@ -1,0 +1,4 @@
+pub mod Counts
+pub mod Stamps
+pub mod Standing
+pub mod Rows

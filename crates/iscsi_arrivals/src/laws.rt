@@ -1,0 +1,20 @@
+//! What stamps come to: laws of the definitions, which no code is needed for.
+
+ghost use Rattle.std.specs.Prelude.{◌≡◌, ℕ, ◌+◌, ◌≤◌, ◌∷◌, ◌++◌, Bool, List, [], true, false, length};
+ghost use Rattle.iscsi_outbox_rules.specs.rules.Boxes.{Handed, Link};
+ghost use Rattle.iscsi_arrivals.specs.Stamps.{IsUpToLast, handed_out, stamp_at};
+
+/// The stamp of a PDU stays, whatever is handed out behind it.
+pub fn stamp_law()
+    ensures { (l : Link) (h : Handed) (place : ℕ) → place ≤ length l.handed → stamp_at (handed_out h l) place ≡ stamp_at l place }
+{}
+
+/// Whether one of some PDUs is still under way is known by the last one of them alone: of none none is, and each of them
+/// that is handed out is the last one from then on.
+pub fn last_law()
+    ensures none { (test : Handed → Bool) → IsUpToLast test [] 0 }
+    ensures passes { (test : Handed → Bool) (handed : List Handed) (h : Handed) → test h ≡ true →
+        IsUpToLast test (handed ++ h ∷ []) (length handed + 1) }
+    ensures fails { (test : Handed → Bool) (handed : List Handed) (h : Handed) (n : ℕ) → test h ≡ false →
+        IsUpToLast test handed n → IsUpToLast test (handed ++ h ∷ []) n }
+{}
