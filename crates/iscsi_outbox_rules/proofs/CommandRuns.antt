@@ -154,7 +154,7 @@ module _ (t c : ℕ) where
 
   -- ---- dropping what is of commands
 
-  dropped_others : (these : ℕ → Bool) (conn : ℕ) (queue : List Outgoing) → these t ≡ false → EachOf (OwnEntry conn) queue → own_waiting (filter (λ out. not (is_of these out)) queue) ≡ own_waiting queue
+  pub dropped_others : (these : ℕ → Bool) (conn : ℕ) (queue : List Outgoing) → these t ≡ false → EachOf (OwnEntry conn) queue → own_waiting (filter (λ out. not (is_of these out)) queue) ≡ own_waiting queue
   dropped_others these conn [] apart h = refl
   dropped_others these conn (x ∷ queue) apart h =
       let rest : own_waiting (filter (λ out. not (is_of these out)) queue) ≡ own_waiting queue = dropped_others these conn queue apart h.1 in

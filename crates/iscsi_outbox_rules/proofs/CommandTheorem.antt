@@ -40,14 +40,14 @@ use Rattle.iscsi_outbox_rules.proofs.TaskWalks.{phased, phased_onward, task_sett
 use Rattle.iscsi_outbox_rules.proofs.CommandRuns.{own_in, own_waiting, handed_of, taken_of, OwnEntry, LinkFits, IsPast, Past, Dropped, Queued, CommandStands, phases, command_walk, at_one, same_else, new_undue, enters, append-conn}
 
 module _ (t c : ℕ) where
-  handed-more : (ds : List Deed) (d : Deed) → handed_of t c (ds ++ d ∷ []) ≡ handed_of t c ds ++ handed_of t c (d ∷ [])
+  pub handed-more : (ds : List Deed) (d : Deed) → handed_of t c (ds ++ d ∷ []) ≡ handed_of t c ds ++ handed_of t c (d ∷ [])
   handed-more ds d =
       let f : ℕ × Handed → Option OwnPdu = λ g. own_of g.1.out.pdu in
       ap (λ gs. filter (is_of_command t) (filter_map f gs)) (handed_in-append ds (d ∷ []))
       ∙ ap (filter (is_of_command t)) (filter_map-append f (handed_in ds) (handed_in (d ∷ [])))
       ∙ filter-append (is_of_command t) (own_handed ds) (own_handed (d ∷ []))
 
-  taken-more : (ds : List Deed) (d : Deed) → taken_of t c (ds ++ d ∷ []) ≡ taken_of t c ds ++ taken_of t c (d ∷ [])
+  pub taken-more : (ds : List Deed) (d : Deed) → taken_of t c (ds ++ d ∷ []) ≡ taken_of t c ds ++ taken_of t c (d ∷ [])
   taken-more ds d =
       ap (filter (is_of_command t)) (filter_map-append (λ (e : Deed). taken_by e.0 e.1) ds (d ∷ []))
       ∙ filter-append (is_of_command t) (own_taken ds) (own_taken (d ∷ []))
@@ -68,7 +68,7 @@ module _ (t c : ℕ) where
       same : taken_of t c (ds ++ d ∷ []) ≡ taken_of t c ds
       same = taken-more ds d ∙ ap (λ xs. taken_of t c ds ++ xs) taken ∙ append-nil (taken_of t c ds)
 
-  none_handed : (d : Deed) → handed_in_deed d ≡ None → handed_of t c (d ∷ []) ≡ []
+  pub none_handed : (d : Deed) → handed_in_deed d ≡ None → handed_of t c (d ∷ []) ≡ []
   none_handed d none = ap (λ x. filter (is_of_command t) (filter_map (λ (g : ℕ × Handed). own_of g.1.out.pdu) (cons_option x []))) none
 
   settled : (o : Opening) (n : ℕ) (ds : List Deed) (b : Box) → CommandStands t c n ds b → CommandStands t c n ds (settle o b)
@@ -76,7 +76,7 @@ module _ (t c : ℕ) where
 
   -- ---- handing out
 
-  own_taken_from : (l : Link) (out : Outgoing) (rest : List Outgoing) → l.queue ≡ out ∷ rest → OwnEntry t c l.conn out → own_waiting t c l.queue ≡ own_in t c out ++ own_waiting t c (taken_from out l).queue
+  pub own_taken_from : (l : Link) (out : Outgoing) (rest : List Outgoing) → l.queue ≡ out ∷ rest → OwnEntry t c l.conn out → own_waiting t c l.queue ≡ own_in t c out ++ own_waiting t c (taken_from out l).queue
   own_taken_from l out rest is e =
       ⊎_elim
       (λ none. cond_both (is_from_queue out) (record l { queue = drop 1 l.queue }) l (λ (m : Link). own_waiting t c l.queue ≡ own_in t c out ++ own_waiting t c m.queue)
@@ -467,10 +467,10 @@ module _ (t c : ℕ) where
   -- ---- all calls
 
   module _ (o : Opening) (all : List (List Effect)) (once : entries t all ≤ 1) (on : EachOf (EntersOn t c) all) where
-    abbrev Both : List Deed → Box → Type 0
+    abbrev pub Both : List Deed → Box → Type 0
     Both ds b = Twins b.links × ((rest : List (List Effect)) → items_in ds ++ rest ≡ all → CommandStands t c (entries t (items_in ds)) ds b)
 
-    both_kept : (ds : List Deed) (b : Box) (call : Call) → Both ds b → Both (ds ++ (call, answered o b call) ∷ []) (after_call o b call)
+    pub both_kept : (ds : List Deed) (b : Box) (call : Call) → Both ds b → Both (ds ++ (call, answered o b call) ∷ []) (after_call o b call)
     both_kept ds b call h = (
       box_keeps o (λ es b'. Unit {0}) (HeldBy Twins twins_kept) (conn_boxes Twins twins_kept o (λ es b'. Unit {0})) ds b call tt h.0,
       (λ rest whole.
@@ -492,7 +492,7 @@ module _ (t c : ℕ) where
     new_empty [] = tt
     new_empty (x ∷ cs) = (refl, new_empty cs)
 
-    both_start : Both [] (opened o)
+    pub both_start : Both [] (opened o)
     both_start = (
       new_twins c o.session.conns o.session.conns (λ e some. some),
       (λ rest whole. record {

@@ -123,7 +123,7 @@ module _ (t : ℕ) where
   leavings-append [] ys = omega arith
   leavings-append (x ∷ xs) ys = let rest : leavings (xs ++ ys) ≡ leavings xs + leavings ys = leavings-append xs ys in omega (arith, rest)
 
-  leavings_flat : (items : List (List Effect)) → leavings items ≡ leaving (flat_map (λ (es : List Effect). es) items)
+  pub leavings_flat : (items : List (List Effect)) → leavings items ≡ leaving (flat_map (λ (es : List Effect). es) items)
   leavings_flat [] = refl
   leavings_flat (item ∷ items) =
       ap (λ n. leaving item + n) (leavings_flat items)

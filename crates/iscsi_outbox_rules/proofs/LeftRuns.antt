@@ -29,17 +29,17 @@ module _ (t c : ℕ) where
   abbrev pub LeftStands : List Deed → ℕ → Box → Type 0
   LeftStands ds n b = CommandStands t c n ds b × Silenced b
 
-  two_empty : (xs ys : List OwnPdu) → xs ++ ys ≡ [] → (xs ≡ []) × (ys ≡ [])
+  pub two_empty : (xs ys : List OwnPdu) → xs ++ ys ≡ [] → (xs ≡ []) × (ys ≡ [])
   two_empty [] ys h = (refl, h)
   two_empty (x ∷ xs) ys h = absurd cc
 
-  fewer : (p : Outgoing → Bool) (queue : List Outgoing) → own_waiting t c queue ≡ [] → own_waiting t c (filter p queue) ≡ []
+  pub fewer : (p : Outgoing → Bool) (queue : List Outgoing) → own_waiting t c queue ≡ [] → own_waiting t c (filter p queue) ≡ []
   fewer p [] h = refl
   fewer p (x ∷ queue) h =
       let k = two_empty (own_in t c x) (own_waiting t c queue) h in
       cond_both (p x) (x ∷ filter p queue) (filter p queue) (λ ys. own_waiting t c ys ≡ []) (λ is. ap (λ ys. ys ++ own_waiting t c (filter p queue)) k.0 ∙ fewer p queue k.1) (λ is. fewer p queue k.1)
 
-  at_conn : (conn : ℕ) (change : Link → Link) (links : List Link) → ((l : Link) → IsSilent l → IsSilent (change l)) → EachOf IsSilent links → EachOf IsSilent (at_link conn change links)
+  pub at_conn : (conn : ℕ) (change : Link → Link) (links : List Link) → ((l : Link) → IsSilent l → IsSilent (change l)) → EachOf IsSilent links → EachOf IsSilent (at_link conn change links)
   at_conn conn change links f h = each-at_link IsSilent IsSilent conn change links (λ l is k. f l k) (λ l isnt k. k) h
 
   pub silent_enters : (b : Box) (conn : ℕ) (out : Outgoing) → own_in t c out ≡ [] → Silenced b → Silenced (enter conn out b)

@@ -45,3 +45,8 @@ mod ElsewhereTheorem
 mod ClosesLemmas
 mod TiedRuns
 mod LeftPuts
+mod TaskFits
+mod TaskLives
+mod SilentCalls
+mod SilentItems
+mod SilentTheorem

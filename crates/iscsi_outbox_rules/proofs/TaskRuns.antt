@@ -37,7 +37,7 @@ pub record HasCome (among : Phase → Bool) (t : ℕ) (b : Box) : Type 0 where
   pub entered : 1 ≤ with_ticket t b.tasks
   pub phase : AreIn among t b.tasks
 
-sent_tasks : (o : Opening) (b : Box) (r : Option Request) (tickets conns closes : List ℕ) (s : ℕ × Reply) → (send o r tickets conns closes (Some s) b).tasks ≡ b.tasks
+pub sent_tasks : (o : Opening) (b : Box) (r : Option Request) (tickets conns closes : List ℕ) (s : ℕ × Reply) → (send o r tickets conns closes (Some s) b).tasks ≡ b.tasks
 sent_tasks o b None tickets conns closes s = refl
 sent_tasks o b (Some r) tickets conns closes s = by_aim (aim o (Some r) s.1)
   where
@@ -48,13 +48,13 @@ sent_tasks o b (Some r) tickets conns closes s = by_aim (aim o (Some r) s.1)
         cond_both (list_any (λ (l : Link). (l.conn == a.conn) && takes_more l) b.links) (record b { undue = b.undue ++ a ∷ [] }) b (λ (b' : Box). b'.tasks ≡ b.tasks) (λ may. refl) (λ may. refl)
 
 -- the box after a put, by what it finds
-abbrev entered_by : Box → OwnPdu → Option ℕ → Box
+abbrev pub entered_by : Box → OwnPdu → Option ℕ → Box
 entered_by b p x = elim x [ Some conn ↦ enter conn (own_outgoing p) b | None ↦ b ]
 
-abbrev put_by : Box → OwnPdu → Option PutRefusal → Box
+abbrev pub put_by : Box → OwnPdu → Option PutRefusal → Box
 put_by b p x = elim x [ Some refusal ↦ b | None ↦ entered_by b p (own_conn b p) ]
 
-put_tasks : (o : Opening) (b : Box) (p : OwnPdu) → (after_call o b (Puts p)).tasks ≡ b.tasks
+pub put_tasks : (o : Opening) (b : Box) (p : OwnPdu) → (after_call o b (Puts p)).tasks ≡ b.tasks
 put_tasks o b p = by_refusal (put_refusal o b p)
   where
     by_conn : (x : Option ℕ) → (entered_by b p x).tasks ≡ b.tasks

@@ -30,7 +30,7 @@ onto_whole : (e : Effect) (parts : List (List Effect)) → flat_map (λ (es : Li
 onto_whole e [] = refl
 onto_whole e (es ∷ rest) = refl
 
-parts_whole : (es : List Effect) → flat_map (λ (p : List Effect). p) (in_parts es) ≡ es
+pub parts_whole : (es : List Effect) → flat_map (λ (p : List Effect). p) (in_parts es) ≡ es
 parts_whole [] = refl
 parts_whole (e ∷ es) =
     elim (is_request e) as (λ v. flat_map (λ (p : List Effect). p) (cond v ([] ∷ onto_first e (in_parts es)) (onto_first e (in_parts es))) ≡ e ∷ es) [
@@ -60,7 +60,7 @@ below_first t s (suc n) less =
       | false ↦ λ is. omega (arith, rest)
     ] refl)
 
-in_range_once : (t s n : ℕ) → count_by (λ k. k == t) (range_with_len s n) ≤ 1
+pub in_range_once : (t s n : ℕ) → count_by (λ k. k == t) (range_with_len s n) ≤ 1
 in_range_once t s zero = omega arith
 in_range_once t s (suc n) =
     subst (λ m. m ≤ 1) (sym (sum_by-cons (λ k. cond (k == t) 1 0) s (range_with_len (s + 1) n)))

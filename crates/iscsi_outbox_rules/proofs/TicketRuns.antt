@@ -99,7 +99,7 @@ of_put : (p : OwnPdu) → OfOwn (own_outgoing p)
 of_put (OfCommand ticket header) = record { none = refl; ticket_is = refl }
 of_put (OfConnection conn header) = record { none = refl; ticket_is = refl }
 
-of_calls : (o : Opening) → Callwise o OfCommands Of
+pub of_calls : (o : Opening) → Callwise o OfCommands Of
 of_calls o = record {
   wise = wise o;
   quiet = λ ds items deed l hands joins loses h. h;
@@ -115,10 +115,10 @@ of_calls o = record {
       ] refl;
 }
 
-abbrev OfStands : List Deed → Box → Type 0
+abbrev pub OfStands : List Deed → Box → Type 0
 OfStands ds b = Stands (OfCommands ds) Of (items_in ds) b
 
-of_starts : (o : Opening) → OfStands [] (opened o)
+pub of_starts : (o : Opening) → OfStands [] (opened o)
 of_starts o = record { sent = refl; links = starts o.session.conns; undue = tt }
   where
     starts : (cs : List (ℕ × ℕ)) → EachOf (OfCommands [] []) (map (λ (c : ℕ × ℕ). new_link c.0) cs)

@@ -6,6 +6,7 @@ ghost use Rattle.iscsi_outbox_rules.specs.promises.Deeds.{FollowsFlow, FollowsSe
 ghost use Rattle.iscsi_outbox_rules.specs.promises.Numbers.{CountStatSns, GoesOnward, ShowsExp};
 ghost use Rattle.iscsi_outbox_rules.specs.promises.Once.{EntersInOrder, GoesInOrder, GoesOnce, SendsWhatWasSent};
 ghost use Rattle.iscsi_outbox_rules.specs.promises.Order.{KeepsCommandOrder, KeepsConnectionOrder};
+ghost use Rattle.iscsi_outbox_rules.specs.promises.Silent.{SilentAfter};
 ghost use Rattle.iscsi_outbox_rules.specs.rules.Calls.{Call, Opening};
 
 /// The numbers that a PDU shows (RFC 7143 section 4.2.2): its StatSN, in sequence on its connection; ExpCmdSN of the moment; and
@@ -36,4 +37,10 @@ pub fn once_law()
 pub fn order_law()
     ensures of_command { (o : Opening) (calls : List Call) → FollowsSession o calls → KeepsCommandOrder (deeds_of o calls) }
     ensures of_connection { (o : Opening) (calls : List Call) → KeepsConnectionOrder (deeds_of o calls) }
+{}
+
+/// If what is taken is what a session gives, nothing of a command goes out after the answer to an abort or a Logout by which it is
+/// over (SAM-5 section 7): no Data-In or R2T, and no SCSI Response.
+pub fn silent_law()
+    ensures silent { (o : Opening) (calls : List Call) → FollowsSession o calls → SilentAfter o (deeds_of o calls) }
 {}
