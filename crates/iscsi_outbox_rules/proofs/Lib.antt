@@ -50,3 +50,8 @@ mod TaskLives
 mod SilentCalls
 mod SilentItems
 mod SilentTheorem
+mod TaskParts
+mod ResponseHomes
+mod ResponseRuns
+mod ResponseCalls
+mod ResponseTheorem

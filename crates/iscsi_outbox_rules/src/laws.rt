@@ -5,7 +5,7 @@ ghost use Rattle.iscsi_outbox_rules.specs.promises.Closed.{NoneLost, NoneUnjoine
 ghost use Rattle.iscsi_outbox_rules.specs.promises.Deeds.{FollowsFlow, FollowsSession, deeds_of};
 ghost use Rattle.iscsi_outbox_rules.specs.promises.Numbers.{CountStatSns, GoesOnward, ShowsExp};
 ghost use Rattle.iscsi_outbox_rules.specs.promises.Once.{EntersInOrder, GoesInOrder, GoesOnce, SendsWhatWasSent};
-ghost use Rattle.iscsi_outbox_rules.specs.promises.Order.{KeepsCommandOrder, KeepsConnectionOrder};
+ghost use Rattle.iscsi_outbox_rules.specs.promises.Order.{KeepsCommandOrder, KeepsConnectionOrder, RespondsLast};
 ghost use Rattle.iscsi_outbox_rules.specs.promises.Silent.{SilentAfter};
 ghost use Rattle.iscsi_outbox_rules.specs.rules.Calls.{Call, Opening};
 
@@ -33,10 +33,12 @@ pub fn once_law()
 {}
 
 /// The target's own PDUs of a connection go out as they were put: those that went out are a beginning of those that were taken. If
-/// what is taken is what a session gives, so do those of each command, its Data-Ins and R2Ts.
+/// what is taken is what a session gives, so do those of each command, its Data-Ins and R2Ts; and as its SCSI Response goes out,
+/// all that were taken went out.
 pub fn order_law()
     ensures of_command { (o : Opening) (calls : List Call) → FollowsSession o calls → KeepsCommandOrder (deeds_of o calls) }
     ensures of_connection { (o : Opening) (calls : List Call) → KeepsConnectionOrder (deeds_of o calls) }
+    ensures response { (o : Opening) (calls : List Call) → FollowsSession o calls → RespondsLast (deeds_of o calls) }
 {}
 
 /// If what is taken is what a session gives, nothing of a command goes out after the answer to an abort or a Logout by which it is

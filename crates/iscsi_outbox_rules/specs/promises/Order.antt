@@ -48,10 +48,13 @@ abbrev pub KeepsConnectionOrder : List Deed → Type 0
 KeepsConnectionOrder ds = (before after : List Deed) (conn : ℕ) → before ++ after ≡ ds
     → (waiting : List OwnPdu) × (filter (is_of_connection conn) (own_handed before) ++ waiting ≡ filter (is_of_connection conn) (own_taken before))
 
+-- as a command's response goes out, none of its own PDUs waits
+abbrev pub RespondsLast : List Deed → Type 0
+RespondsLast ds = (before after : List Deed) (handing : Deed) (c : ℕ) (h : Handed) (ticket : ℕ)
+    → before ++ handing ∷ after ≡ ds → handed_in_deed handing ≡ Some (c, h) → completes (items_in before) h ≡ Some ticket
+    → filter (is_of_command ticket) (own_handed before) ≡ filter (is_of_command ticket) (own_taken before)
+
 pub record OrderHolds (ds : List Deed) : Type 0 where
   pub of_command : KeepsCommandOrder ds
   pub of_connection : KeepsConnectionOrder ds
-  -- as the response goes out, none waits
-  pub response : (before after : List Deed) (handing : Deed) (c : ℕ) (h : Handed) (ticket : ℕ)
-      → before ++ handing ∷ after ≡ ds → handed_in_deed handing ≡ Some (c, h) → completes (items_in before) h ≡ Some ticket
-      → filter (is_of_command ticket) (own_handed before) ≡ filter (is_of_command ticket) (own_taken before)
+  pub response : RespondsLast ds

@@ -1,5 +1,6 @@
 use Rattle.iscsi_outbox_rules.proofs.CommandTheorem.{keeps_command_order}
 use Rattle.iscsi_outbox_rules.proofs.OwnTheorem.{keeps_connection_order}
+use Rattle.iscsi_outbox_rules.proofs.ResponseTheorem.{sends_all_before}
 use Rattle.iscsi_outbox_rules.proofs.laws.order_law.Goals as goal
 
 pub returns-clause-of_command : goal.returns-clause-of_command
@@ -7,3 +8,6 @@ returns-clause-of_command c = keeps_command_order
 
 pub returns-clause-of_connection : goal.returns-clause-of_connection
 returns-clause-of_connection c = keeps_connection_order
+
+pub returns-clause-response : goal.returns-clause-response
+returns-clause-response c = sends_all_before
