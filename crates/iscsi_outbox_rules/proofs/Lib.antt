@@ -55,3 +55,13 @@ mod ResponseHomes
 mod ResponseRuns
 mod ResponseCalls
 mod ResponseTheorem
+mod ScopeConns
+mod ScopeTasks
+mod TaskPhases
+mod ScopeWakes
+mod ScopeBoxes
+mod ScopeRuns
+mod ScopeItems
+mod ScopeCalls
+mod ScopeRunning
+mod ScopeTheorem

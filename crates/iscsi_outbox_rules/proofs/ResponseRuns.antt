@@ -1,5 +1,6 @@
--- What was taken of a command's own PDUs, and didn't go out, waits on its connection, while no abort or Logout takes it out and the
--- connection isn't lost or closed from elsewhere; and none waits behind its response. So it stays through the items of an event.
+-- What was taken of a command's own PDUs, and didn't go out, waits on its connection, while no abort or Logout takes it out
+-- and the connection isn't lost or closed from elsewhere; and none waits behind its response. So it stays through the items
+-- of an event.
 use Rattle.std.proofs.Common.{◌≡◌, ℕ, inl, ◌==◌, ◌+◌, ◌&&◌, not, Bool, true, false, List, [], ◌∷◌, ◌++◌, filter, filter_map, Option, Some, None, refl, ap, sym, ◌∙◌}
 use Rattle.std.specs.List.{list_any}
 use Rattle.std.proofs.lemmas.Bool.{cond_both, false≢true, eqb-false}

@@ -1,4 +1,5 @@
--- How far a command has come, by what was taken: it is live until it leaves, and counts as left where an abort or a Logout took it out.
+-- How far a command has come, by what was taken: it is live until it leaves, and counts as left where an abort or a Logout
+-- took it out.
 use Rattle.std.proofs.Common.{◌≡◌, ℕ, ◌==◌, ◌+◌, ◌≤◌, ◌||◌, ⊎_elim, not, cond, Bool, true, false, List, [], ◌∷◌, ◌++◌, map, filter_map, count_by, Option, Some, None, refl, ap, sym, subst, ◌∙◌, arith}
 use Rattle.std.specs.List.{list_any, cons_option}
 use Rattle.std.proofs.lemmas.Bool.{cond_both, false≢true}

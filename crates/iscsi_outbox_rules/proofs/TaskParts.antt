@@ -1,4 +1,5 @@
--- The items that a log shows are the effects of the items of its history, so that what holds of each of these holds of each of those.
+-- The items that a log shows are the effects of the items of its history, so that what holds of each of these holds of each
+-- of those.
 use Rattle.std.proofs.Common.{◌≡◌, ℕ, zero, suc, ◌+◌, ◌-◌, ◌≤◌, ◌==◌, ◌||◌, cond, Bool, true, false, List, [], ◌∷◌, ◌++◌, map, filter, count_by, Some, None, refl, ap, sym, subst, ◌∙◌, arith, nat_le, nat_lt}
 use Rattle.std.specs.List.{list_any, list_all, flat_map}
 use Rattle.std.proofs.lemmas.Bool.{false≢true}

@@ -2,11 +2,12 @@
 
 ghost use Rattle.std.specs.Prelude.{List};
 ghost use Rattle.iscsi_outbox_rules.specs.promises.Closed.{NoneLost, NoneUnjoined};
-ghost use Rattle.iscsi_outbox_rules.specs.promises.Deeds.{FollowsFlow, FollowsSession, deeds_of};
+ghost use Rattle.iscsi_outbox_rules.specs.promises.Deeds.{FollowsFlow, FollowsKnown, FollowsSession, deeds_of};
 ghost use Rattle.iscsi_outbox_rules.specs.promises.Numbers.{CountStatSns, GoesOnward, ShowsExp};
 ghost use Rattle.iscsi_outbox_rules.specs.promises.Once.{EntersInOrder, GoesInOrder, GoesOnce, SendsWhatWasSent};
 ghost use Rattle.iscsi_outbox_rules.specs.promises.Order.{KeepsCommandOrder, KeepsConnectionOrder, RespondsLast};
 ghost use Rattle.iscsi_outbox_rules.specs.promises.Silent.{SilentAfter};
+ghost use Rattle.iscsi_outbox_rules.specs.promises.Still.{StopsBefore};
 ghost use Rattle.iscsi_outbox_rules.specs.rules.Calls.{Call, Opening};
 
 /// The numbers that a PDU shows (RFC 7143 section 4.2.2): its StatSN, in sequence on its connection; ExpCmdSN of the moment; and
@@ -45,4 +46,11 @@ pub fn order_law()
 /// over (SAM-5 section 7): no Data-In or R2T, and no SCSI Response.
 pub fn silent_law()
     ensures silent { (o : Opening) (calls : List Call) → FollowsSession o calls → SilentAfter o (deeds_of o calls) }
+{}
+
+/// If what is taken is what a session gives, whose requests came on its own connections: as the answer to an abort or a Logout goes
+/// out, no command that is over by it touches the medium any more (SAM-5 section 7). One that was told to its unit before it left was
+/// reported stopped since.
+pub fn still_law()
+    ensures stopped { (o : Opening) (calls : List Call) → FollowsKnown o calls → StopsBefore o (deeds_of o calls) }
 {}

@@ -1,9 +1,10 @@
 -- Calls with what they answered, and what these show. No state is looked at.
-use Rattle.std.specs.Prelude.{◌≡◌, ◌≤◌, ℕ, ◌==◌, ◌&&◌, Bool, false, List, [], ◌∷◌, filter, filter_map, map, Option, Some, None}
-use Rattle.std.specs.List.{list_any, flat_map}
+use Rattle.std.specs.Prelude.{◌≡◌, ◌≤◌, ℕ, ◌==◌, ◌&&◌, Bool, true, false, List, [], ◌∷◌, filter, filter_map, map, Option, Some, None}
+use Rattle.std.specs.List.{list_any, list_all, flat_map}
 use Rattle.iscsi_history.specs.declared.effect.Effect.{Effect}
 use Rattle.iscsi_history.specs.declared.event.Event.{Event}
 use Rattle.iscsi_history.specs.declared.entry.Entry.{Entry}
+use Rattle.iscsi_history.specs.rules.Agenda.{belongs}
 use Rattle.iscsi_history.specs.rules.Run.{run_of}
 use Rattle.iscsi_history.specs.promises.Flow.{FlowsThrough}
 use Rattle.iscsi_history.specs.promises.Order.{in_parts}
@@ -104,3 +105,9 @@ pub record FollowsFlow (o : Opening) (cs : List Call) : Type 0 where
   pub follows : flat_map entry_taken cs ≡ run_of o.session events
   pub flows : FlowsThrough o.session events
   pub window : o.session.window ≤ 1024
+
+-- and each request came on a connection of the session, which refuses those of others
+pub record FollowsKnown (o : Opening) (cs : List Call) : Type 0 where
+  pub events : List Event
+  pub follows : flat_map entry_taken cs ≡ run_of o.session events
+  pub known : list_all (belongs o.session) events ≡ true

@@ -37,13 +37,16 @@ answers_abort o items h = elim (sent_as items h.out) [
   | None ↦ false
 ]
 
+-- a command that was told to its unit by an event before the one in which it left was reported stopped since
+abbrev pub StopsBefore : Opening → List Deed → Type 0
+StopsBefore o ds = (before after : List Deed) (answer : Deed) (c : ℕ) (h : Handed) (ticket : ℕ)
+    → before ++ answer ∷ after ≡ ds → handed_in_deed answer ≡ Some (c, h) → says_over o (items_in before) h.out ticket ≡ true
+    → (earlier since : List Deed) (leaving : Deed) → earlier ++ leaving ∷ since ≡ before → left_in ticket leaving ≡ true
+    → list_any (enabled_in ticket) earlier ≡ true
+    → Contains since (Stops ticket, Stopped true)
+
 pub record StillBefore (o : Opening) (ds : List Deed) : Type 0 where
-  -- a command that was told to its unit by an event before the one in which it left was reported stopped since
-  pub stopped : (before after : List Deed) (answer : Deed) (c : ℕ) (h : Handed) (ticket : ℕ)
-      → before ++ answer ∷ after ≡ ds → handed_in_deed answer ≡ Some (c, h) → says_over o (items_in before) h.out ticket ≡ true
-      → (earlier since : List Deed) (leaving : Deed) → earlier ++ leaving ∷ since ≡ before → left_in ticket leaving ≡ true
-      → list_any (enabled_in ticket) earlier ≡ true
-      → Contains since (Stops ticket, Stopped true)
+  pub stopped : StopsBefore o ds
   -- what was handed out of it on another connection is known to have arrived, or was written where that is enough
   pub through : (before after : List Deed) (answer : Deed) (c : ℕ) (h : Handed) (ticket : ℕ)
       → before ++ answer ∷ after ≡ ds → handed_in_deed answer ≡ Some (c, h)
