@@ -64,4 +64,5 @@ mod ScopeRuns
 mod ScopeItems
 mod ScopeCalls
 mod ScopeRunning
+mod ScopeLeaves
 mod ScopeTheorem

@@ -142,7 +142,8 @@ module _ (t c : ℕ) where
     }
 
     told_grows : (items : List (List Effect)) (item : List Effect) (P : Type 0) (out : Outgoing) → Told o t items P out → Told o t (items ++ item ∷ []) P out
-    told_grows items item P out e = ⊎_elim (λ (s : Says o t items P out). inl (says_grows items item P out s)) (λ none. inr none) e
+    told_grows items item P out e =
+        ⊎_elim (λ (s : Says o t items (P × (contains out.scope t ≡ true)) out). inl (says_grows items item (P × (contains out.scope t ≡ true)) out s)) (λ none. inr none) e
 
     -- ---- a reply is sent
 
@@ -170,18 +171,18 @@ module _ (t c : ℕ) where
         at_place = ap (nth (length (firsts items))) firsts_are ∙ nth-push (firsts items) as_sent
 
         -- one that is about nothing
-        plain : aim o (executing item) s.1 ≡ None → is_over_by o as_sent t ≡ true → P
+        plain : aim o (executing item) s.1 ≡ None → is_over_by o as_sent t ≡ true → ⊥
         plain none over =
             let no : elim (aim o (executing item) s.1) [ Some about ↦ list_any (λ (e : Entered). (e.ticket == t) && is_about about item e) (flat_map entered_in its) | None ↦ false ] ≡ true =
             and_second (list_any (is_taken_out_in t) its) _ over in
-            absurd (false≢true (sym (ap (λ x. elim x [ Some about ↦ list_any (λ (e : Entered). (e.ticket == t) && is_about about item e) (flat_map entered_in its) | None ↦ false ]) none) ∙ no))
+            false≢true (sym (ap (λ x. elim x [ Some about ↦ list_any (λ (e : Entered). (e.ticket == t) && is_about about item e) (flat_map entered_in its) | None ↦ false ]) none) ∙ no)
 
         enters_plain : (b : Box) (r : Option Request) (tickets : List ℕ) → aim o (executing item) s.1 ≡ None → Now (length (firsts items)) b
             → Now (length (firsts its)) (let b' = enter s.0 (outgoing b r tickets s.1) b in record b' { sent = b'.sent + 1 })
         enters_plain b r tickets none h =
             counts (length (firsts items)) (length (firsts its)) (enter s.0 (outgoing b r tickets s.1) b) counted
             (kept_enter cs (Told o t its P) (Scoped o t its) (length (firsts items)) b s.0 (outgoing b r tickets s.1)
-            (inl (record { place = length (firsts items); reply = as_sent; place_is = ap (λ n. Some n) h.sent; nth_is = at_place; over = plain none })) h)
+            (inl (record { place = length (firsts items); reply = as_sent; place_is = ap (λ n. Some n) h.sent; nth_is = at_place; over = λ is. absurd (plain none is) })) h)
 
         sends_some : (b links : Box) (r : Option Request) (tickets closes : List ℕ) → executing item ≡ r → HaveConns cs links.links → (list_any (is_taken_out_in t) its ≡ true → AreIn is_left_phase t b.tasks) → AtHome b.tasks → HaveTasks its b.tasks
             → Now (length (firsts items)) b → Now (length (firsts its)) (send o r tickets (closed_in links item) closes (Some s) b)

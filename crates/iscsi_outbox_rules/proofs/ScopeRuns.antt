@@ -111,9 +111,9 @@ module _ (o : Opening) (t : ℕ) where
     pub nth_is : nth place (firsts items) ≡ Some reply
     pub over : is_over_by o reply t ≡ true → P
 
-  -- a PDU that waits
+  -- a PDU that waits has the command in its scope, and the fact holds
   abbrev pub Told : List (List Effect) → Type 0 → Outgoing → Type 0
-  Told items P out = Says items P out ⊎ (out.sent ≡ None)
+  Told items P out = Says items (P × (contains out.scope t ≡ true)) out ⊎ (out.sent ≡ None)
 
   -- the answer that isn't due has the command in its scope
   abbrev pub Scoped : List (List Effect) → Answer → Type 0
@@ -130,7 +130,8 @@ module _ (o : Opening) (t : ℕ) where
   pub told_weaken : (items : List (List Effect)) (P Q : Type 0) → (list_any (is_taken_out_in t) items ≡ true → P → Q) → (out : Outgoing) → Told items P out → Told items Q out
   told_weaken items P Q f out e =
       ⊎_elim
-      (λ (s : Says items P out). inl (record { place = s.place; reply = s.reply; place_is = s.place_is; nth_is = s.nth_is; over = λ is. f (said_taken items s.place s.reply s.nth_is is) (s.over is) }))
+      (λ (s : Says items (P × (contains out.scope t ≡ true)) out).
+      inl (record { place = s.place; reply = s.reply; place_is = s.place_is; nth_is = s.nth_is; over = λ is. (f (said_taken items s.place s.reply s.nth_is is) (s.over is).0, (s.over is).1) }))
       (λ none. inr none) e
 
   -- the scope of an answer as it is sent
@@ -227,7 +228,7 @@ module _ (o : Opening) (t : ℕ) where
         moves : is_due o b before a ≡ true → Waits ts (enter a.conn a.out (record b { undue = before ++ rest }))
         moves due =
             kept_enter cs (Told items (AreIn is_over_phase t ts)) (Scoped items) n (record b { undue = before ++ rest }) a.conn a.out
-            (inl (record { place = later.0.place; reply = later.0.reply; place_is = later.0.place_is; nth_is = later.0.nth_is; over = ends due }))
+            (inl (record { place = later.0.place; reply = later.0.reply; place_is = later.0.place_is; nth_is = later.0.nth_is; over = λ is. (ends due is, later.0.over is) }))
             (record { queues = h.queues; undue = each-append (Scoped items) before rest (each-first (Scoped items) before (a ∷ rest) h.undue) later.1; conns = h.conns; sent = h.sent })
 
     pub waits_settle : (b : Box) → (list_any (is_taken_out_in t) items ≡ true → AreIn is_left_phase t b.tasks) → Waits b.tasks b → Waits b.tasks (settle o b)
