@@ -44,6 +44,11 @@ mod SealTheorem
 mod ElsewhereTheorem
 mod ClosesLemmas
 mod TiedRuns
+mod TiedCalls
+mod ClosedParts
+mod ClosedItems
+mod PlaceSent
+mod ClosedTheorem
 mod LeftPuts
 mod TaskFits
 mod TaskLives

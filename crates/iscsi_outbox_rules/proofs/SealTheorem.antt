@@ -26,7 +26,7 @@ use Rattle.iscsi_outbox_rules.proofs.SealItems.{Hush, handed_last}
 use Rattle.iscsi_outbox_rules.proofs.SealCalls.{SealStand, seal_kept}
 
 -- a connection on which something goes out is the session's
-known_conn : (o : Opening) (calls : List Call) (before after : List Deed) (handing : Deed) (c : ℕ) (h : Handed)
+pub known_conn : (o : Opening) (calls : List Call) (before after : List Deed) (handing : Deed) (c : ℕ) (h : Handed)
     → before ++ handing ∷ after ≡ deeds_of o calls → handed_in_deed handing ≡ Some (c, h) → list_any (λ k. k == c) (conns_of (opened o).links) ≡ true
 known_conn o calls before after handing c h whole shown =
     let cs : List ℕ = conns_of (opened o).links in

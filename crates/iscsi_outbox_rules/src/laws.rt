@@ -1,7 +1,7 @@
 //! What the rules of an outbox come to, for every list of calls: laws of the definitions, which no code is needed for.
 
 ghost use Rattle.std.specs.Prelude.{List};
-ghost use Rattle.iscsi_outbox_rules.specs.promises.Closed.{NoneLost, NoneUnjoined};
+ghost use Rattle.iscsi_outbox_rules.specs.promises.Closed.{NoneBehind, NoneLost, NoneUnjoined};
 ghost use Rattle.iscsi_outbox_rules.specs.promises.Deeds.{FollowsFlow, FollowsKnown, FollowsSession, deeds_of};
 ghost use Rattle.iscsi_outbox_rules.specs.promises.Numbers.{CountStatSns, GoesOnward, ShowsExp};
 ghost use Rattle.iscsi_outbox_rules.specs.promises.Once.{EntersInOrder, GoesInOrder, GoesOnce, SendsWhatWasSent};
@@ -18,8 +18,10 @@ pub fn numbers_law()
     ensures onward { (o : Opening) (calls : List Call) → FollowsFlow o calls → GoesOnward (deeds_of o calls) }
 {}
 
-/// Nothing goes out on a connection before it joined, nor after it was lost.
+/// Nothing goes out on a connection behind the reply that closes it, be that here or on another one, if what is taken is what a
+/// session gives whose requests come on its connections. Nor does anything before it joined, or after it was lost.
 pub fn closed_law()
+    ensures behind { (o : Opening) (calls : List Call) → FollowsKnown o calls → NoneBehind o (deeds_of o calls) }
     ensures joined { (o : Opening) (calls : List Call) → NoneUnjoined (deeds_of o calls) }
     ensures lost { (o : Opening) (calls : List Call) → NoneLost (deeds_of o calls) }
 {}

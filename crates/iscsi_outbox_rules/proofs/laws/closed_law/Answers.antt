@@ -1,5 +1,9 @@
 use Rattle.iscsi_outbox_rules.proofs.NumberTheorem.{none_unjoined, none_lost}
+use Rattle.iscsi_outbox_rules.proofs.ClosedTheorem.{none_behind}
 use Rattle.iscsi_outbox_rules.proofs.laws.closed_law.Goals as goal
+
+pub returns-clause-behind : goal.returns-clause-behind
+returns-clause-behind c = none_behind
 
 pub returns-clause-joined : goal.returns-clause-joined
 returns-clause-joined c = none_unjoined
