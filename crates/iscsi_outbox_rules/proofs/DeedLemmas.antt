@@ -109,7 +109,7 @@ pub record Last (c : ℕ) (ds : List Deed) : Type 0 where
 on_later : (c : ℕ) (d : Deed) (ds : List Deed) → handed_on c (d ∷ []) ≡ [] → handed_on c (d ∷ ds) ≡ handed_on c ds
 on_later c d ds none = handed_on-append c (d ∷ []) ds ∙ ap (λ hs. hs ++ handed_on c ds) none
 
-on_one : (c : ℕ) (d : Deed) → (handed_on c (d ∷ []) ≡ []) ⊎ ((h : Handed) × (handed_in_deed d ≡ Some (c, h)))
+pub on_one : (c : ℕ) (d : Deed) → (handed_on c (d ∷ []) ≡ []) ⊎ ((h : Handed) × (handed_in_deed d ≡ Some (c, h)))
 on_one c d = by_shown (handed_in_deed d) refl
   where
     by_shown : (x : Option (ℕ × Handed)) → handed_in_deed d ≡ x → (handed_on c (d ∷ []) ≡ []) ⊎ ((h : Handed) × (handed_in_deed d ≡ Some (c, h)))

@@ -49,6 +49,11 @@ mod ClosedParts
 mod ClosedItems
 mod PlaceSent
 mod ClosedTheorem
+mod ArriveDeeds
+mod ArriveNumbers
+mod ArriveWalk
+mod ArrivePlaces
+mod ArriveThrough
 mod LeftPuts
 mod TaskFits
 mod TaskLives
