@@ -54,6 +54,8 @@ mod ArriveNumbers
 mod ArriveWalk
 mod ArrivePlaces
 mod ArriveThrough
+mod FenceRuns
+mod FenceTheorem
 mod LeftPuts
 mod TaskFits
 mod TaskLives

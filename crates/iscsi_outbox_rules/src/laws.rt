@@ -3,6 +3,7 @@
 ghost use Rattle.std.specs.Prelude.{List};
 ghost use Rattle.iscsi_outbox_rules.specs.promises.Closed.{NoneBehind, NoneLost, NoneUnjoined};
 ghost use Rattle.iscsi_outbox_rules.specs.promises.Deeds.{FollowsFlow, FollowsKnown, FollowsSession, deeds_of};
+ghost use Rattle.iscsi_outbox_rules.specs.promises.Fence.{FenceBefore, FenceBehind};
 ghost use Rattle.iscsi_outbox_rules.specs.promises.Numbers.{CountStatSns, GoesOnward, ShowsExp};
 ghost use Rattle.iscsi_outbox_rules.specs.promises.Once.{EntersInOrder, GoesInOrder, GoesOnce, SendsWhatWasSent};
 ghost use Rattle.iscsi_outbox_rules.specs.promises.Order.{KeepsCommandOrder, KeepsConnectionOrder, RespondsLast};
@@ -55,4 +56,12 @@ pub fn silent_law()
 /// reported stopped since.
 pub fn still_law()
     ensures stopped { (o : Opening) (calls : List Call) → FollowsKnown o calls → StopsBefore o (deeds_of o calls) }
+{}
+
+/// If what is taken is what a session gives: as the answer to a function of several tasks goes out, what took a StatSN before it on
+/// another connection isn't under way any more; and what takes one goes out behind it elsewhere only when it is known to have
+/// arrived, where that is looked for, or its own connection was lost (RFC 7143 section 4.2.2.3.4).
+pub fn fence_law()
+    ensures before { (o : Opening) (calls : List Call) → FollowsSession o calls → FenceBefore o (deeds_of o calls) }
+    ensures behind { (o : Opening) (calls : List Call) → FollowsSession o calls → FenceBehind o (deeds_of o calls) }
 {}

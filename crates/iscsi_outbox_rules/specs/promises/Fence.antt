@@ -27,20 +27,26 @@ is_handed place ds = list_any (λ (g : ℕ × Handed). elim (g.1.out.sent) [ Som
 abbrev pub is_closed : List (List Effect) → ℕ → Bool
 is_closed items conn = list_any (closes_in conn) items
 
+-- as it goes out, what took a StatSN before it on another connection isn't under way any more
+abbrev pub FenceBefore : Opening → List Deed → Type 0
+FenceBefore o ds = (earlier since after : List Deed) (handing answer : Deed) (c d : ℕ) (h g : Handed)
+    → earlier ++ handing ∷ (since ++ answer ∷ after) ≡ ds
+    → handed_in_deed answer ≡ Some (c, h) → is_fenced o (items_in (earlier ++ handing ∷ since)) h ≡ true
+    → handed_in_deed handing ≡ Some (d, g) → d ≢ c → g.out.takes ≡ true
+    → is_through o d earlier handing g since ≡ true
+
+-- what takes a StatSN goes out behind it on another connection only when it is known to have arrived, where that is looked for, or
+-- its own connection is lost
+abbrev pub FenceBehind : Opening → List Deed → Type 0
+FenceBehind o ds = (earlier since after : List Deed) (answer handing : Deed) (c d : ℕ) (h g : Handed)
+    → earlier ++ answer ∷ (since ++ handing ∷ after) ≡ ds
+    → handed_in_deed answer ≡ Some (c, h) → is_fenced o (items_in earlier) h ≡ true
+    → handed_in_deed handing ≡ Some (d, g) → d ≢ c → g.out.takes ≡ true → o.acknowledged ≡ true
+    → is_through o c earlier answer h since ≡ true
+
 pub record FenceHolds (o : Opening) (ds : List Deed) : Type 0 where
-  -- as it goes out, what took a StatSN before it on another connection isn't under way any more
-  pub before : (earlier since after : List Deed) (handing answer : Deed) (c d : ℕ) (h g : Handed)
-      → earlier ++ handing ∷ (since ++ answer ∷ after) ≡ ds
-      → handed_in_deed answer ≡ Some (c, h) → is_fenced o (items_in (earlier ++ handing ∷ since)) h ≡ true
-      → handed_in_deed handing ≡ Some (d, g) → d ≢ c → g.out.takes ≡ true
-      → is_through o d earlier handing g since ≡ true
-  -- what takes a StatSN goes out behind it on another connection only when it is known to have arrived, where that is looked
-  -- for, or its own connection is lost
-  pub behind : (earlier since after : List Deed) (answer handing : Deed) (c d : ℕ) (h g : Handed)
-      → earlier ++ answer ∷ (since ++ handing ∷ after) ≡ ds
-      → handed_in_deed answer ≡ Some (c, h) → is_fenced o (items_in earlier) h ≡ true
-      → handed_in_deed handing ≡ Some (d, g) → d ≢ c → g.out.takes ≡ true → o.acknowledged ≡ true
-      → is_through o c earlier answer h since ≡ true
+  pub before : FenceBefore o ds
+  pub behind : FenceBehind o ds
   -- and no other way: of it and what takes a StatSN on another connection, the one that entered its queue first goes first
   pub in_order : (earlier since after : List Deed) (handing later : Deed) (c d : ℕ) (h g : Handed)
       → earlier ++ handing ∷ (since ++ later ∷ after) ≡ ds

@@ -1,0 +1,8 @@
+use Rattle.iscsi_outbox_rules.proofs.FenceTheorem.{fence_before, fence_behind}
+use Rattle.iscsi_outbox_rules.proofs.laws.fence_law.Goals as goal
+
+pub returns-clause-before : goal.returns-clause-before
+returns-clause-before c = fence_before
+
+pub returns-clause-behind : goal.returns-clause-behind
+returns-clause-behind c = fence_behind
