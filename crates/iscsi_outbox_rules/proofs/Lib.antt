@@ -56,6 +56,8 @@ mod ArrivePlaces
 mod ArriveThrough
 mod FenceRuns
 mod FenceTheorem
+mod FenceEntries
+mod FenceOrder
 mod LeftPuts
 mod TaskFits
 mod TaskLives

@@ -3,7 +3,7 @@
 ghost use Rattle.std.specs.Prelude.{List};
 ghost use Rattle.iscsi_outbox_rules.specs.promises.Closed.{NoneBehind, NoneLost, NoneUnjoined};
 ghost use Rattle.iscsi_outbox_rules.specs.promises.Deeds.{FollowsFlow, FollowsKnown, FollowsSession, deeds_of};
-ghost use Rattle.iscsi_outbox_rules.specs.promises.Fence.{FenceBefore, FenceBehind};
+ghost use Rattle.iscsi_outbox_rules.specs.promises.Fence.{FenceBefore, FenceBehind, FenceInOrder};
 ghost use Rattle.iscsi_outbox_rules.specs.promises.Numbers.{CountStatSns, GoesOnward, ShowsExp};
 ghost use Rattle.iscsi_outbox_rules.specs.promises.Once.{EntersInOrder, GoesInOrder, GoesOnce, SendsWhatWasSent};
 ghost use Rattle.iscsi_outbox_rules.specs.promises.Order.{KeepsCommandOrder, KeepsConnectionOrder, RespondsLast};
@@ -60,8 +60,10 @@ pub fn still_law()
 
 /// If what is taken is what a session gives: as the answer to a function of several tasks goes out, what took a StatSN before it on
 /// another connection isn't under way any more; and what takes one goes out behind it elsewhere only when it is known to have
-/// arrived, where that is looked for, or its own connection was lost (RFC 7143 section 4.2.2.3.4).
+/// arrived, where that is looked for, or its own connection was lost (RFC 7143 section 4.2.2.3.4). Of the two the one that entered its
+/// queue first goes first, unless its connection hadn't joined as the other went out.
 pub fn fence_law()
     ensures before { (o : Opening) (calls : List Call) → FollowsSession o calls → FenceBefore o (deeds_of o calls) }
     ensures behind { (o : Opening) (calls : List Call) → FollowsSession o calls → FenceBehind o (deeds_of o calls) }
+    ensures order { (o : Opening) (calls : List Call) → FollowsSession o calls → FenceInOrder o (deeds_of o calls) }
 {}

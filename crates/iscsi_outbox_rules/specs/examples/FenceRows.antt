@@ -53,6 +53,20 @@ pub ping_first : Worked (outbox (of_two 4)) (
 unfolding Rules.bars_as
 ping_first = refl
 
+-- what waits on a connection that hasn't joined holds nothing back: what entered behind it goes first
+pub unjoined_fence : Worked (outbox (of_two 4)) (
+    joins 1 1
+    ∷ arrives 2 (function_now 2 1 0xb1 0 0)
+    ∷ arrives 1 (nop_now 0xc1 1)
+    ∷ replies 1 (Nop 0xc1) 1 1 4
+    ∷ joins 2 1
+    ∷ none_goes 2
+    ∷ acknowledges 1 2
+    ∷ replies 2 (Task 0xb1 0) 1 1 4
+    ∷ [])
+unfolding Rules.bars_as
+unjoined_fence = refl
+
 -- two fences on two connections: the one that entered first goes first
 pub two_fences : Worked (outbox (of_two 4)) (
     joins 1 1

@@ -44,15 +44,19 @@ FenceBehind o ds = (earlier since after : List Deed) (answer handing : Deed) (c 
     → handed_in_deed handing ≡ Some (d, g) → d ≢ c → g.out.takes ≡ true → o.acknowledged ≡ true
     → is_through o c earlier answer h since ≡ true
 
+-- and no other way: of it and what takes a StatSN on another connection, the one that entered its queue first goes first, unless its
+-- connection hadn't joined as the other went out
+abbrev pub FenceInOrder : Opening → List Deed → Type 0
+FenceInOrder o ds = (earlier since after : List Deed) (handing later : Deed) (c d : ℕ) (h g : Handed)
+    → earlier ++ handing ∷ (since ++ later ∷ after) ≡ ds
+    → handed_in_deed handing ≡ Some (c, h) → handed_in_deed later ≡ Some (d, g) → d ≢ c → has_joined earlier d ≡ true → h.out.takes ≡ true → g.out.takes ≡ true
+    → is_fenced o (items_in earlier) h || is_fenced o (items_in (earlier ++ handing ∷ since)) g ≡ true
+    → h.out.time < g.out.time
+
 pub record FenceHolds (o : Opening) (ds : List Deed) : Type 0 where
   pub before : FenceBefore o ds
   pub behind : FenceBehind o ds
-  -- and no other way: of it and what takes a StatSN on another connection, the one that entered its queue first goes first
-  pub in_order : (earlier since after : List Deed) (handing later : Deed) (c d : ℕ) (h g : Handed)
-      → earlier ++ handing ∷ (since ++ later ∷ after) ≡ ds
-      → handed_in_deed handing ≡ Some (c, h) → handed_in_deed later ≡ Some (d, g) → d ≢ c → h.out.takes ≡ true → g.out.takes ≡ true
-      → is_fenced o (items_in earlier) h || is_fenced o (items_in (earlier ++ handing ∷ since)) g ≡ true
-      → h.out.time < g.out.time
+  pub in_order : FenceInOrder o ds
   -- a reply that stands before it in the log, and didn't have to wait, goes out before it, unless its connection hasn't joined, was
   -- closed or lost
   pub first : (earlier after : List Deed) (answer : Deed) (c : ℕ) (h : Handed) (place fenced : ℕ) (s : Sent)

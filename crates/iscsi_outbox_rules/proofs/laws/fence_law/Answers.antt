@@ -1,4 +1,5 @@
 use Rattle.iscsi_outbox_rules.proofs.FenceTheorem.{fence_before, fence_behind}
+use Rattle.iscsi_outbox_rules.proofs.FenceOrder.{fence_in_order}
 use Rattle.iscsi_outbox_rules.proofs.laws.fence_law.Goals as goal
 
 pub returns-clause-before : goal.returns-clause-before
@@ -6,3 +7,6 @@ returns-clause-before c = fence_before
 
 pub returns-clause-behind : goal.returns-clause-behind
 returns-clause-behind c = fence_behind
+
+pub returns-clause-order : goal.returns-clause-order
+returns-clause-order c = fence_in_order
