@@ -121,7 +121,7 @@ next_on c next d g shown =
 
 -- ---- what arrived stays so
 
-or_stays : (x y v w : Bool) → (x ≡ true → v ≡ true) → (y ≡ true → w ≡ true) → (x || y) ≡ true → (v || w) ≡ true
+pub or_stays : (x y v w : Bool) → (x ≡ true → v ≡ true) → (y ≡ true → w ≡ true) → (x || y) ≡ true → (v || w) ≡ true
 or_stays true y v w f g h = or_first v w (f refl)
 or_stays false y v w f g h = or_second v w (g h)
 

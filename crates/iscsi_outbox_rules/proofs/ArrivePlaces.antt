@@ -13,14 +13,14 @@ use Rattle.iscsi_outbox_rules.specs.rules.Boxes.{Pdu, Replies, Owns, Pings, Noti
 use Rattle.iscsi_outbox_rules.specs.rules.Words.{is_open}
 use Rattle.iscsi_outbox_rules.specs.rules.Handing.{takes_handed, next_stat_sn}
 use Rattle.iscsi_outbox_rules.specs.rules.Run.{Silent, Joined, new_link, opened, one_written, arrived_by_stat_sn, arrived_by_ping, link_heard, link_joined, link_lost}
-use Rattle.iscsi_outbox_rules.specs.promises.Deeds.{Deed, handed_in_deed, handed_on}
+use Rattle.iscsi_outbox_rules.specs.promises.Deeds.{Deed, handed_in_deed, handed_on, is_lose_of, was_lost}
 use Rattle.iscsi_outbox_rules.specs.promises.Arrived.{acknowledges, answers, is_write_of, writes_on, shows_arrival, has_arrived, is_acknowledged}
 use Rattle.iscsi_outbox_rules.proofs.FoundLemmas.{EachFound}
 use Rattle.iscsi_outbox_rules.proofs.EachLemmas.{EachOf, each-first_of}
-use Rattle.iscsi_outbox_rules.proofs.DeedLemmas.{handed_on-append, some_on}
+use Rattle.iscsi_outbox_rules.proofs.DeedLemmas.{was_lost-more, handed_on-append, some_on}
 use Rattle.iscsi_outbox_rules.proofs.ArriveDeeds.{split_last, Apart, apart_on, next_after, next_after-more, next_apart, next_on, acknowledged-now, is_answered, arrived-stays, arrives_with, one_more, writes_on-more}
 use Rattle.iscsi_outbox_rules.proofs.ArriveNumbers.{CountFrom, count-push, acknowledged_by, Pointed, pointed, Pinged, pinged}
-use Rattle.iscsi_outbox_rules.proofs.ArriveWalk.{bare, some_handed, IsQuiet, Barewise}
+use Rattle.iscsi_outbox_rules.proofs.ArriveWalk.{bare, some_handed, Barewise}
 
 -- ---- what the deeds show
 
@@ -39,6 +39,8 @@ pub record Places (ds : List Deed) (l : Link) : Type 0 where
   pub below : l.arrived ≤ length l.handed
   pub arrived : ArrivedTo ds l.conn l.arrived
   pub written : l.written ≡ writes_on l.conn ds
+  pub lost : l.lost ≡ was_lost ds l.conn
+  pub empty : l.joined ≡ false → l.handed ≡ []
 
 -- ---- a deed more that hands out nothing there
 
@@ -64,17 +66,27 @@ arrived_more c k ds d few h earlier since deed g whole shown low =
 written_apart : (c : ℕ) (ds : List Deed) (d : Deed) → is_write_of c d.0 ≡ false → writes_on c (ds ++ d ∷ []) ≡ writes_on c ds
 written_apart c ds d isnt = writes_on-more c ds d ∙ ap (λ v. one_more v (length (handed_on c ds)) (writes_on c ds)) isnt
 
+same_lost : (c : ℕ) (ds : List Deed) (d : Deed) → is_lose_of c d.0 ≡ false → was_lost (ds ++ d ∷ []) c ≡ was_lost ds c
+same_lost c ds d isnt = was_lost-more ds d c ∙ ap (λ v. was_lost ds c || v) isnt ∙ or_false (was_lost ds c)
+  where
+    or_false : (v : Bool) → (v || false) ≡ v
+    or_false true = refl
+    or_false false = refl
+
 -- `l'` is `l` but for its marks
-still : (ds : List Deed) (d : Deed) (l l' : Link) → IsQuiet l.conn d → l'.conn ≡ l.conn → l'.first ≡ l.first → l'.handed ≡ l.handed → l'.arrived ≡ l.arrived → l'.written ≡ l.written → Places ds l → Places (ds ++ d ∷ []) l'
-still ds d l l' quiet conn first handed arrived written k = record {
-  handed = handed ∙ k.handed ∙ sym (handed_apart l.conn ds d quiet.apart) ∙ ap (λ c. handed_on c (ds ++ d ∷ [])) (sym conn);
+still : (ds : List Deed) (d : Deed) (l l' : Link) → Apart l.conn d → is_write_of l.conn d.0 ≡ false → l'.conn ≡ l.conn → l'.first ≡ l.first → l'.handed ≡ l.handed → l'.arrived ≡ l.arrived → l'.written ≡ l.written
+    → l'.joined ≡ l.joined → l'.lost ≡ was_lost (ds ++ d ∷ []) l'.conn → Places ds l → Places (ds ++ d ∷ []) l'
+still ds d l l' apart unwritten conn first handed arrived written joined lost k = record {
+  handed = handed ∙ k.handed ∙ sym (handed_apart l.conn ds d apart) ∙ ap (λ c. handed_on c (ds ++ d ∷ [])) (sym conn);
   counts = subst (λ n. CountFrom n l'.handed) (sym first) (subst (CountFrom l.first) (sym handed) k.counts);
   next = subst (λ c. NextIs (ds ++ d ∷ []) c (wire (next_stat_sn l'))) (sym conn)
-      (subst (λ n. NextIs (ds ++ d ∷ []) l.conn (wire n)) (sym same_next) (next_stays l.conn (wire (next_stat_sn l)) ds d quiet.apart k.next));
+      (subst (λ n. NextIs (ds ++ d ∷ []) l.conn (wire n)) (sym same_next) (next_stays l.conn (wire (next_stat_sn l)) ds d apart k.next));
   below = subst (λ n. n ≤ length l'.handed) (sym arrived) (subst (λ hs. l.arrived ≤ length hs) (sym handed) k.below);
   arrived = subst (λ n. ArrivedTo (ds ++ d ∷ []) l'.conn n) (sym arrived)
       (subst (λ c. ArrivedTo (ds ++ d ∷ []) c l.arrived) (sym conn) (arrived_more l.conn l.arrived ds d (subst (λ hs. l.arrived ≤ length hs) k.handed k.below) k.arrived));
-  written = written ∙ k.written ∙ sym (written_apart l.conn ds d quiet.unwritten) ∙ ap (λ c. writes_on c (ds ++ d ∷ [])) (sym conn);
+  written = written ∙ k.written ∙ sym (written_apart l.conn ds d unwritten) ∙ ap (λ c. writes_on c (ds ++ d ∷ [])) (sym conn);
+  lost = lost;
+  empty = λ is. handed ∙ k.empty (sym joined ∙ is);
 }
   where
     same_next : next_stat_sn l' ≡ next_stat_sn l
@@ -112,14 +124,17 @@ next_pushed l h = by_takes h.out.takes (count_by takes_handed (l.handed ++ h ∷
     by_takes true all same = omega (arith, same)
     by_takes false all same = omega (arith, same)
 
-hand : (ds : List Deed) (d : Deed) (l : Link) (h : Handed) → d.0 ≡ Nexts l.conn → handed_in_deed d ≡ Some (l.conn, h) → h.stat_sn ≡ wire (next_stat_sn l) → Places ds l → Places (ds ++ d ∷ []) (record l { handed = l.handed ++ h ∷ [] })
-hand ds d l h call shown sn k = record {
+hand : (ds : List Deed) (d : Deed) (l : Link) (h : Handed) → d.0 ≡ Nexts l.conn → handed_in_deed d ≡ Some (l.conn, h) → h.stat_sn ≡ wire (next_stat_sn l) → l.joined ≡ true → Places ds l
+    → Places (ds ++ d ∷ []) (record l { handed = l.handed ++ h ∷ [] })
+hand ds d l h call shown sn joined k = record {
   handed = ap (λ hs. hs ++ h ∷ []) k.handed ∙ sym (handed_on-append l.conn ds (d ∷ []) ∙ ap (λ hs. handed_on l.conn ds ++ hs) (some_on l.conn d h shown));
   counts = count-push l.first l.handed h k.counts sn;
   next = subst (λ n. NextIs (ds ++ d ∷ []) l.conn (wire n)) (sym (next_pushed l h)) (next_hand l.conn (next_stat_sn l) ds d h shown sn k.next);
   below = omega (arith, k.below, length_push l.handed h);
   arrived = arrived_more l.conn l.arrived ds d (subst (λ hs. l.arrived ≤ length hs) k.handed k.below) k.arrived;
   written = k.written ∙ sym (written_apart l.conn ds d (ap (is_write_of l.conn) call));
+  lost = k.lost ∙ sym (same_lost l.conn ds d (ap (is_lose_of l.conn) call));
+  empty = λ isnt. absurd (false≢true (sym isnt ∙ joined));
 }
 
 -- ---- one is written
@@ -146,6 +161,8 @@ wrote ds l k = by_test (nat_lt l.written (length l.handed)) refl
       below = k.below;
       arrived = arrived_more c l.arrived ds d (subst (λ hs. l.arrived ≤ length hs) k.handed k.below) k.arrived;
       written = is;
+      lost = k.lost ∙ sym (same_lost c ds d refl);
+      empty = k.empty;
     }
 
     by_test : (v : Bool) → nat_lt l.written (length l.handed) ≡ v → Places (ds ++ d ∷ []) (cond v (record l { written = l.written + 1 }) l)
@@ -236,8 +253,10 @@ module _ (ds : List Deed) (l : Link) (exp_stat_sn tag : ℕ) (k : Places ds l) w
         below = all_below l.arrived (arrived_by_stat_sn l exp_stat_sn) (arrived_by_ping l tag) (length l.handed) k.below stat_sn_below ping_below;
         arrived = all;
         written = k.written ∙ sym (written_apart l.conn ds heard refl);
+        lost = k.lost ∙ sym (same_lost l.conn ds heard refl);
+        empty = k.empty;
       })
-      (λ shut. still ds heard l l (record { apart = apart; unwritten = refl }) refl refl refl refl refl k)
+      (λ shut. still ds heard l l apart refl refl refl refl refl refl refl (k.lost ∙ sym (same_lost l.conn ds heard refl)) k)
     where
       old : ArrivedTo (ds ++ heard ∷ []) l.conn l.arrived
       old = arrived_more l.conn l.arrived ds heard (subst (λ hs. l.arrived ≤ length hs) k.handed k.below) k.arrived
@@ -253,9 +272,6 @@ module _ (ds : List Deed) (l : Link) (exp_stat_sn tag : ℕ) (k : Places ds l) w
 
 -- ---- call by call
 
-quiet_loss : (c : ℕ) → IsQuiet c (Loses c, Silent)
-quiet_loss c = record { apart = λ g shown. absurd cc; unwritten = refl }
-
 join : (ds : List Deed) (l : Link) (stat_sn : ℕ) → l.handed ≡ [] → Places ds l → Places (ds ++ (Joins l.conn stat_sn, Joined true) ∷ []) (link_joined stat_sn l)
 join ds l stat_sn empty k = record {
   handed = k.handed ∙ sym (handed_apart l.conn ds d apart);
@@ -264,6 +280,8 @@ join ds l stat_sn empty k = record {
   below = k.below;
   arrived = arrived_more l.conn l.arrived ds d (subst (λ hs. l.arrived ≤ length hs) k.handed k.below) k.arrived;
   written = k.written ∙ sym (written_apart l.conn ds d refl);
+  lost = k.lost ∙ sym (same_lost l.conn ds d refl);
+  empty = λ isnt. empty;
 }
   where
     d : Deed
@@ -285,10 +303,11 @@ join ds l stat_sn empty k = record {
 
 pub places_wise : (o : Opening) → Barewise o Places
 places_wise o = record {
-  quiet = λ ds d l quiet k. still ds d l l quiet refl refl refl refl refl k;
+  quiet = λ ds d l quiet k. still ds d l l quiet.apart quiet.unwritten refl refl refl refl refl refl (k.lost ∙ sym (same_lost l.conn ds d quiet.unlost)) k;
   writes = wrote;
   hears = λ ds l exp_stat_sn tag k. hear ds l exp_stat_sn tag k;
-  loses = λ ds l k. still ds (Loses l.conn, Silent) l (link_lost l) (quiet_loss l.conn) refl refl refl refl refl k;
+  loses = λ ds l k. still ds (Loses l.conn, Silent) l (link_lost l) (λ g shown. absurd cc) refl refl refl refl refl refl refl
+      (sym (was_lost-more ds (Loses l.conn, Silent) l.conn ∙ or_second (was_lost ds l.conn) (l.conn == l.conn) (eq-eqb l.conn l.conn refl))) k;
   joins = join;
   hands = hand;
 }
@@ -308,6 +327,8 @@ places_start o conn l found = each-first_of (λ (m : Link). Places [] (bare m)) 
       below = (let z : 0 ≤ 0 = omega arith in z);
       arrived = λ earlier since deed h whole shown low. absurd (none earlier since deed whole);
       written = refl;
+      lost = refl;
+      empty = λ isnt. refl;
     }
 
     starts : (cs : List (ℕ × ℕ)) → EachOf (λ (m : Link). Places [] (bare m)) (map (λ (x : ℕ × ℕ). new_link x.0) cs)

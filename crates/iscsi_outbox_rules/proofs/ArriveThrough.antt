@@ -1,25 +1,25 @@
 -- What isn't under way on a connection any more is through, as the calls show.
-use Rattle.std.proofs.Common.{◌≡◌, ◌≢◌, ℕ, zero, suc, ◌==◌, ◌&&◌, ◌||◌, ◌<◌, not, cond, Bool, true, false, List, [], ◌∷◌, ◌++◌, length, map, filter, drop, nat_lt, Option, Some, refl, ap, sym, subst, ◌∙◌, arith, eqb-true, lt-ltb}
+use Rattle.std.proofs.Common.{◌≡◌, ◌≢◌, ℕ, zero, suc, ◌==◌, ◌&&◌, ◌||◌, ◌+◌, ◌<◌, not, cond, Bool, true, false, List, [], ◌∷◌, ◌++◌, length, map, filter, drop, nat_lt, Option, Some, refl, ap, sym, subst, ◌∙◌, arith, eqb-true, lt-ltb}
 use Rattle.std.specs.List.{list_any}
-use Rattle.std.proofs.lemmas.Bool.{false≢true}
+use Rattle.std.proofs.lemmas.Bool.{cond_both, false≢true, ltb-true}
 use Rattle.std.proofs.lemmas.List.{append_assoc}
 use Rattle.std.proofs.lemmas.List.Folds.{list_any-append}
 use Rattle.iscsi_history.specs.rules.Trace.{first_of}
-use Rattle.iscsi_history.proofs.BoolLemmas.{and_both, or_none, or_first, or_second}
+use Rattle.iscsi_history.proofs.BoolLemmas.{and_parts, and_both, or_none, or_first, or_second}
 use Rattle.iscsi_outbox_rules.specs.rules.Calls.{Opening, Call, Takes, Puts, Stops, Nexts, Writes, Hears, Joins, Loses, Clears}
 use Rattle.iscsi_outbox_rules.specs.rules.Boxes.{Handed, Link, Box}
 use Rattle.iscsi_outbox_rules.specs.rules.Words.{is_open, looks_for_arrival, unwritten, unarrived, under_way}
 use Rattle.iscsi_outbox_rules.specs.rules.Run.{new_link, opened, after_call, answered}
 use Rattle.iscsi_outbox_rules.specs.promises.Deeds.{Deed, deeds_of, handed_by, handed_in_deed, handed_on, items_in, is_lose_of, was_lost}
-use Rattle.iscsi_outbox_rules.specs.promises.Arrived.{writes_on, has_arrived, is_written, is_through}
-use Rattle.iscsi_outbox_rules.proofs.EachLemmas.{each-first_of}
+use Rattle.iscsi_outbox_rules.specs.promises.Arrived.{is_write_of, writes_on, has_arrived, is_written, is_through}
 use Rattle.iscsi_outbox_rules.proofs.DeedLemmas.{handed_on-append, some_on}
 use Rattle.iscsi_outbox_rules.proofs.FoundLemmas.{find_link, EachFound, found-conn}
 use Rattle.iscsi_outbox_rules.proofs.ConnLemmas.{conns_of}
-use Rattle.iscsi_outbox_rules.proofs.LinkRuns.{LinkShows, link_starts}
+use Rattle.iscsi_outbox_rules.proofs.LinkRuns.{link_starts}
 use Rattle.iscsi_outbox_rules.proofs.NumberTheorem.{BoxShows, box_shows, none_lost}
 use Rattle.iscsi_outbox_rules.proofs.MarkItems.{MarksStand}
 use Rattle.iscsi_outbox_rules.proofs.MarkCalls.{marks_kept, marks_start}
+use Rattle.iscsi_outbox_rules.proofs.ArriveDeeds.{or_stays, arrived-stays, one_more, writes_on-more}
 use Rattle.iscsi_outbox_rules.proofs.ArriveWalk.{bare, bare_keeps}
 use Rattle.iscsi_outbox_rules.proofs.ArrivePlaces.{Places, places_wise, places_start}
 
@@ -91,27 +91,18 @@ kept_out p (suc k) [] ys x is none = omega arith
 kept_out p (suc k) (y ∷ xs) ys x is none = let rest : length xs < k = kept_out p k xs ys x is none in omega (arith, rest)
 
 -- of a PDU that passes a test: where none that passes is under way, it is through
-pub through : (o : Opening) (calls : List Call) (ds rest : List Deed) → ds ++ rest ≡ deeds_of o calls → (b : Box) → ArriveStand o ds b → (d : ℕ) (m : Link) → find_link d b.links ≡ Some m → looks_for_arrival o ≡ o.acknowledged
+pub through_link : (o : Opening) (calls : List Call) (ds rest : List Deed) → ds ++ rest ≡ deeds_of o calls → (d : ℕ) (m : Link) → m.conn ≡ d → Places ds (bare m) → looks_for_arrival o ≡ o.acknowledged
     → (earlier since : List Deed) (handing : Deed) (g : Handed) → earlier ++ handing ∷ since ≡ ds → handed_in_deed handing ≡ Some (d, g) → (p : Handed → Bool) → p g ≡ true → list_any p (under_way o m) ≡ false
     → is_through o d earlier handing g since ≡ true
-through o calls ds rest whole b h d m found looks earlier since handing g split shown p is none = by_open (is_open m) refl none
+through_link o calls ds rest whole d m at places looks earlier since handing g split shown p is none = by_open (is_open m) refl none
   where
-    at : m.conn ≡ d
-    at = found-conn d b.links m found
-
-    shows : LinkShows ds m
-    shows = each-first_of (LinkShows ds) (λ (l : Link). l.conn == d) b.links m found h.shows.links
-
-    places : Places ds (bare m)
-    places = h.places d m found
-
     parts : handed_on d ds ≡ handed_on d earlier ++ g ∷ handed_on d since
     parts =
         ap (handed_on d) (sym split) ∙ handed_on-append d earlier (handing ∷ since)
         ∙ ap (λ hs. handed_on d earlier ++ hs) (handed_on-append d (handing ∷ []) since ∙ ap (λ hs. hs ++ handed_on d since) (some_on d handing g shown))
 
     handed : m.handed ≡ handed_on d earlier ++ g ∷ handed_on d since
-    handed = shows.handed ∙ ap (λ c. handed_on c ds) at ∙ parts
+    handed = places.handed ∙ ap (λ c. handed_on c ds) at ∙ parts
 
     unlost_before : was_lost earlier d ≡ false
     unlost_before = none_lost o calls earlier (since ++ rest) handing d g (sym (append_assoc earlier (handing ∷ since) rest) ∙ ap (λ es. es ++ rest) split ∙ whole) shown
@@ -119,7 +110,7 @@ through o calls ds rest whole b h d m found looks earlier since handing g split 
     lost_since : m.lost ≡ true → was_lost since d ≡ true
     lost_since lost =
         let all : (was_lost earlier d || (is_lose_of d handing.0 || was_lost since d)) ≡ true =
-        sym (list_any-append (λ (e : Deed). is_lose_of d e.0) earlier (handing ∷ since)) ∙ ap (λ es. was_lost es d) split ∙ ap (was_lost ds) (sym at) ∙ sym shows.lost ∙ lost in
+        sym (list_any-append (λ (e : Deed). is_lose_of d e.0) earlier (handing ∷ since)) ∙ ap (λ es. was_lost es d) split ∙ ap (was_lost ds) (sym at) ∙ sym places.lost ∙ lost in
         ap (λ v. v || was_lost since d) (sym (not_lose handing.0 _ d d g shown)) ∙ ap (λ v. v || (is_lose_of d handing.0 || was_lost since d)) (sym unlost_before) ∙ all
 
     nonempty : (xs ys : List Handed) → xs ++ g ∷ ys ≡ [] → ⊥
@@ -127,7 +118,7 @@ through o calls ds rest whole b h d m found looks earlier since handing g split 
     nonempty (x ∷ xs) ys none = absurd cc
 
     closed : (j v : Bool) → m.joined ≡ j → m.lost ≡ v → (j && not v) ≡ false → m.lost ≡ true
-    closed false v joined lost shut = absurd (nonempty (handed_on d earlier) (handed_on d since) (sym handed ∙ shows.empty joined))
+    closed false v joined lost shut = absurd (nonempty (handed_on d earlier) (handed_on d since) (sym handed ∙ places.empty joined))
     closed true true joined lost shut = lost
     closed true false joined lost shut = absurd (false≢true (sym shut))
 
@@ -149,3 +140,31 @@ through o calls ds rest whole b h d m found looks earlier since handing g split 
         or_first (was_lost since d || has_arrived d g since) (not o.acknowledged && is_written d earlier handing since)
         (or_first (was_lost since d) (has_arrived d g since) (lost_since (closed m.joined m.lost refl refl shut)))
     by_open true opens gone = by_looks (looks_for_arrival o) refl gone
+
+pub through : (o : Opening) (calls : List Call) (ds rest : List Deed) → ds ++ rest ≡ deeds_of o calls → (b : Box) → ArriveStand o ds b → (d : ℕ) (m : Link) → find_link d b.links ≡ Some m → looks_for_arrival o ≡ o.acknowledged
+    → (earlier since : List Deed) (handing : Deed) (g : Handed) → earlier ++ handing ∷ since ≡ ds → handed_in_deed handing ≡ Some (d, g) → (p : Handed → Bool) → p g ≡ true → list_any p (under_way o m) ≡ false
+    → is_through o d earlier handing g since ≡ true
+through o calls ds rest whole b h d m found = through_link o calls ds rest whole d m (found-conn d b.links m found) (h.places d m found)
+
+-- ---- what is through stays so
+
+written-stays : (c : ℕ) (earlier since : List Deed) (handing d : Deed) → is_written c earlier handing since ≡ true → is_written c earlier handing (since ++ d ∷ []) ≡ true
+written-stays c earlier since handing d h =
+    let ds : List Deed = earlier ++ handing ∷ since in
+    let n : ℕ = length (handed_on c earlier) in
+    let more : writes_on c (earlier ++ handing ∷ (since ++ d ∷ [])) ≡ one_more (is_write_of c d.0) (length (handed_on c ds)) (writes_on c ds) =
+    ap (writes_on c) (sym (append_assoc earlier (handing ∷ since) (d ∷ []))) ∙ writes_on-more c ds d in
+    let low : n < writes_on c ds = ltb-true n (writes_on c ds) h in
+    lt-ltb n (writes_on c (earlier ++ handing ∷ (since ++ d ∷ [])))
+    (subst (λ m. n < m) (sym more)
+    (cond_both (is_write_of c d.0 && nat_lt (writes_on c ds) (length (handed_on c ds))) (writes_on c ds + 1) (writes_on c ds) (λ m. n < m) (λ is. let k : n < writes_on c ds + 1 = omega (arith, low) in k) (λ is. low)))
+
+pub through-stays : (o : Opening) (c : ℕ) (earlier since : List Deed) (handing d : Deed) (g : Handed) → is_through o c earlier handing g since ≡ true → is_through o c earlier handing g (since ++ d ∷ []) ≡ true
+through-stays o c earlier since handing d g h =
+    or_stays (was_lost since c || has_arrived c g since) (not o.acknowledged && is_written c earlier handing since) (was_lost later c || has_arrived c g later) (not o.acknowledged && is_written c earlier handing later)
+    (or_stays (was_lost since c) (has_arrived c g since) (was_lost later c) (has_arrived c g later)
+    (λ lost. list_any-append (λ (e : Deed). is_lose_of c e.0) since (d ∷ []) ∙ or_first (was_lost since c) (is_lose_of c d.0 || false) lost) (arrived-stays c g since (d ∷ [])))
+    (λ both. let parts = and_parts (not o.acknowledged) (is_written c earlier handing since) both in and_both (not o.acknowledged) (is_written c earlier handing later) parts.0 (written-stays c earlier since handing d parts.1)) h
+  where
+    later : List Deed
+    later = since ++ d ∷ []

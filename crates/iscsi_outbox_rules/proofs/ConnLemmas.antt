@@ -54,7 +54,7 @@ module _ (Q : List Link → Type 0) (closed : (g : Link → Link) → ((l : Link
     closes = λ items b conn h. at_one conn (λ l. record l { closed = true }) (λ l. refl) b.links h;
     cuts = λ items b conn h. at_one conn (λ l. record l { closed = true; cut = true }) (λ l. refl) b.links h;
     drops_on = λ items b conn over h. at_one conn emptied (λ l. refl) b.links h;
-    moves = λ items b before rest a h. at_one a.conn (append (record (a.out) { time = b.time })) (append-conn _) b.links h;
+    moves = λ items b before rest a due h. at_one a.conn (append (record (a.out) { time = b.time })) (append-conn _) b.links h;
     sends = λ items b item conns closes h. sends_one o b (executing item) (tickets_left item) conns closes (first_of (filter_map reply_sent item)) h;
   }
 

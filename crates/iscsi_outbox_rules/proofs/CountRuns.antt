@@ -135,7 +135,7 @@ count_walk o = record {
       found-at_link (Once b.sent b.undue) (Once b.sent undue') conn emptied (λ l. refl) b.links
       (λ l found k. fewer b.sent b.undue undue' l [] (λ p. omega arith) less k)
       (λ l isnt k. fewer b.sent b.undue undue' l l.queue (λ p. omega arith) less k) h;
-  moves = λ items b before rest a h.
+  moves = λ items b before rest a due h.
       entered b.sent b.sent (before ++ a ∷ rest) (before ++ rest) a.conn (record (a.out) { time = b.time }) b.links
       (λ l k p. omega (arith, k p, counted-without (λ (x : Answer). is_at p x.out) before rest a)) h;
   sends = λ items b item conns closes h. sends_one o b (executing item) (tickets_left item) conns closes (first_of (filter_map reply_sent item)) h;

@@ -95,7 +95,7 @@ module _ (S : Type 0) (Now : ℕ → Type 0) (P : S → ℕ → ℕ → Outgoing
     cuts = λ items b conn h. fewer b conn (λ l. record l { closed = true; cut = true }) (λ l. refl) (λ Q l k. k) h;
     drops_on = λ items b conn over h.
         let k : Entries (record b { links = at_link conn emptied b.links }) = fewer b conn emptied (λ l. refl) (λ Q l e. tt) h in record { state = k.state; now = k.now; links = k.links };
-    moves = λ items b before rest a h.
+    moves = λ items b before rest a due h.
         entered (record b { undue = before ++ rest }) a.conn a.out (same (record b { undue = before ++ a ∷ rest }) (record b { undue = before ++ rest }) refl refl h);
     sends = λ items b item conns closes h. sends_one b (executing item) (tickets_left item) conns closes (first_of (filter_map reply_sent item)) h;
   }

@@ -122,7 +122,7 @@ module _ (o : Opening) (all : List (List Effect)) where
       links = each-at_link LinkFenced LinkFenced conn emptied b.links (λ l is e. tt) (λ l is e. e) k.links;
       undue = each-filter AnswerFenced (λ (a : Answer). not (a.conn == conn)) b.undue k.undue;
     };
-    moves = λ items b before rest a h more whole.
+    moves = λ items b before rest a due h more whole.
         let k = h more whole in
         let later = each-second AnswerFenced before (a ∷ rest) k.undue in
         record {

@@ -58,6 +58,8 @@ mod FenceRuns
 mod FenceTheorem
 mod FenceEntries
 mod FenceOrder
+mod DueWays
+mod DueCalls
 mod LeftPuts
 mod TaskFits
 mod TaskLives
@@ -80,3 +82,4 @@ mod ScopeCalls
 mod ScopeRunning
 mod ScopeLeaves
 mod ScopeTheorem
+mod DueTheorem

@@ -202,7 +202,7 @@ module _ (o : Opening) (all : List (List Effect)) where
       lines = found-at_link (InOrder b.sent) (InOrder b.sent) conn emptied (λ l. refl) b.links (λ l found j. fewer b.sent l [] (λ P e. tt) (λ e. tt) j) (λ l isnt j. j) k.lines;
       undue = each-filter (Waits b.sent) (λ (a : Answer). not (a.conn == conn)) b.undue k.undue;
     };
-    moves = λ items b before rest a h more whole.
+    moves = λ items b before rest a due h more whole.
         let k = h more whole in
         let later = each-second (Waits b.sent) before (a ∷ rest) k.undue in
         record {

@@ -121,7 +121,7 @@ module _ (o : Opening) (P : List (List Effect) → Link → Type 0) (E : List (L
       links = each-at_link (P items) (P items) conn emptied b.links (λ l is k. w.empties items l k) (λ l is k. k) h.links;
       undue = each-filter (λ (a : Answer). E items a.conn a.out) (λ (a : Answer). not (a.conn == conn)) b.undue h.undue;
     };
-    moves = λ items b before rest a h.
+    moves = λ items b before rest a due h.
         let all : EachOf (λ (x : Answer). E items x.conn x.out) (before ++ a ∷ rest) = h.undue in
         let later = each-second (λ (x : Answer). E items x.conn x.out) before (a ∷ rest) all in
         let kept : Stands P E items (record b { undue = before ++ rest }) = record {

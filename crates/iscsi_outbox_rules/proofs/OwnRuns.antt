@@ -154,7 +154,7 @@ module _ (c : ℕ) where
         at_one ds b conn emptied (filter (λ (a : Answer). not (a.conn == conn)) b.undue) (λ l. refl) h
         (λ l is found k. inr (refl, each-first_of (IsOver conn) (λ (m : Link). m.conn == c) b.links l found over is)) (λ l f. (tt, f.1))
         (each-filter (λ (a : Answer). own_in a.out ≡ []) (λ (a : Answer). not (a.conn == conn)) b.undue h.undue);
-    moves = λ items b before rest a h.
+    moves = λ items b before rest a due h.
         let later = each-second (λ (x : Answer). own_in x.out ≡ []) before (a ∷ rest) h.undue in
         enters ds (record b { undue = before ++ rest }) a.conn a.out later.0
         (record { waiting = h.waiting; whole = h.whole; queued = h.queued; fits = h.fits; undue = each-append (λ (x : Answer). own_in x.out ≡ []) before rest (each-first (λ (x : Answer). own_in x.out ≡ []) before (a ∷ rest) h.undue) later.1 });

@@ -43,7 +43,7 @@ told_walk o shown max = record {
   closes = λ items b conn h. h;
   cuts = λ items b conn h. h;
   drops_on = λ items b conn over h. h;
-  moves = λ items b before rest a h. h;
+  moves = λ items b before rest a due h. h;
   sends = λ items b item conns closes h. told_send o shown max b (executing item) (tickets_left item) conns closes (first_of (filter_map reply_sent item)) h;
 }
 

@@ -11,7 +11,7 @@ use Rattle.iscsi_outbox_rules.specs.rules.Words.{is_left_phase}
 use Rattle.iscsi_outbox_rules.specs.rules.Run.{opened, after_calls}
 use Rattle.iscsi_outbox_rules.specs.promises.Deeds.{Deed, deeds_of, items_in, handed_in_deed, FollowsSession}
 use Rattle.iscsi_outbox_rules.specs.promises.Scope.{Sent, sent_as, is_taken_out_in}
-use Rattle.iscsi_outbox_rules.specs.promises.Silent.{completed_in, ticket_of_own, SilentAfter}
+use Rattle.iscsi_outbox_rules.specs.promises.Silent.{ticket_of, completed_in, ticket_of_own, SilentAfter}
 use Rattle.iscsi_outbox_rules.proofs.EachLemmas.{EachOf, each-second, each-first_of}
 use Rattle.iscsi_outbox_rules.proofs.DeedLemmas.{items_in-append}
 use Rattle.iscsi_outbox_rules.proofs.Chosen.{FromQueue, IsPing, IsNotice, chosen_from}
@@ -107,8 +107,21 @@ module _ (o : Opening) (cs : List Call) (follows : FollowsSession o cs) (t : ℕ
       silent : own_waiting t home.0 link.queue ≡ []
       silent = each-first_of (IsSilent t home.0) (λ (m : Link). m.conn == d) b.links link n.found (silent_after t home.0 o (items_in (deeds_of o cs)) once home.1 k.first (items_in (later ∷ after)) split left)
 
+-- nothing of a command goes out once it was taken out
+pub none_goes : (o : Opening) (cs : List Call) → FollowsSession o cs → (t : ℕ) (since after : List Deed) (later : Deed) (d : ℕ) (g : Handed) → since ++ later ∷ after ≡ deeds_of o cs → handed_in_deed later ≡ Some (d, g)
+    → list_any (is_taken_out_in t) (items_in since) ≡ true → ticket_of (items_in since) g.out ≡ Some t → ⊥
+none_goes o cs follows t since after later d g whole shown taken of = by_own (ticket_of_own g.out.pdu) refl of
+  where
+    by_sent : (x : Option Sent) → sent_as (items_in since) g.out ≡ x → elim x [ Some s ↦ completed_in s.item | None ↦ None ] ≡ Some t → ⊥
+    by_sent None is e = cc
+    by_sent (Some s) is e = no_response o cs follows t since after later d g whole shown taken s is e
+
+    by_own : (x : Option ℕ) → ticket_of_own g.out.pdu ≡ x → elim x [ Some ticket ↦ Some ticket | None ↦ elim (sent_as (items_in since) g.out) [ Some s ↦ completed_in s.item | None ↦ None ] ] ≡ Some t → ⊥
+    by_own (Some ticket) is e = no_own o cs follows t since after later d g whole shown taken (is ∙ e)
+    by_own None is e = by_sent (sent_as (items_in since) g.out) refl e
+
 pub is_silent_after : (o : Opening) (cs : List Call) → FollowsSession o cs → SilentAfter o (deeds_of o cs)
-is_silent_after o cs follows before between after answer later c d h g t whole shown shown_later over of = by_own (ticket_of_own g.out.pdu) refl of
+is_silent_after o cs follows before between after answer later c d h g t whole shown shown_later over of = none_goes o cs follows t since after later d g whole' shown_later taken of
   where
     since : List Deed
     since = before ++ answer ∷ between
@@ -120,11 +133,3 @@ is_silent_after o cs follows before between after answer later c d h g t whole s
     taken =
         ap (list_any (is_taken_out_in t)) (items_in-append before (answer ∷ between)) ∙ list_any-append (is_taken_out_in t) (items_in before) (items_in (answer ∷ between))
         ∙ ap (λ v. v || list_any (is_taken_out_in t) (items_in (answer ∷ between))) (said_over t o (items_in before) h.out over)
-
-    by_sent : (x : Option Sent) → sent_as (items_in since) g.out ≡ x → elim x [ Some s ↦ completed_in s.item | None ↦ None ] ≡ Some t → ⊥
-    by_sent None is e = cc
-    by_sent (Some s) is e = no_response o cs follows t since after later d g whole' shown_later taken s is e
-
-    by_own : (x : Option ℕ) → ticket_of_own g.out.pdu ≡ x → elim x [ Some ticket ↦ Some ticket | None ↦ elim (sent_as (items_in since) g.out) [ Some s ↦ completed_in s.item | None ↦ None ] ] ≡ Some t → ⊥
-    by_own (Some ticket) is e = no_own o cs follows t since after later d g whole' shown_later taken (is ∙ e)
-    by_own None is e = by_sent (sent_as (items_in since) g.out) refl e

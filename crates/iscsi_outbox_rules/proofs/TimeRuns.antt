@@ -200,7 +200,7 @@ module _ (o : Opening) (all : List (List Effect)) where
         with_links items b (at_link conn emptied b.links) (filter (λ (a : Answer). not (a.conn == conn)) b.undue) k
         (each-at_link (LinkTimed k.times b.sent) (LinkTimed k.times b.sent) conn emptied b.links (λ l is j. (tt, j.1)) (λ l is j. j) k.links)
         (each-filter (Waits o all b.sent) (λ (a : Answer). not (a.conn == conn)) b.undue k.undue);
-    moves = λ items b before rest a h more whole.
+    moves = λ items b before rest a due h more whole.
         let k = h more whole in
         let later = each-second (Waits o all b.sent) before (a ∷ rest) k.undue in
         enters_late items (record b { undue = before ++ rest }) a.conn a.out later.0.0 later.0.1

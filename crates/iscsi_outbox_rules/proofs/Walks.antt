@@ -36,7 +36,7 @@ pub record Walk (o : Opening) (I : List (List Effect) → Box → Type 0) : Type
   pub closes : (items : List (List Effect)) (b : Box) (conn : ℕ) → I items b → I items (record b { links = at_link conn (λ l. record l { closed = true }) b.links })
   pub cuts : (items : List (List Effect)) (b : Box) (conn : ℕ) → I items b → I items (record b { links = at_link conn (λ l. record l { closed = true; cut = true }) b.links })
   pub drops_on : (items : List (List Effect)) (b : Box) (conn : ℕ) → EachOf (IsOver conn) b.links → I items b → I items (drop_on conn b)
-  pub moves : (items : List (List Effect)) (b : Box) (before rest : List Answer) (a : Answer) → I items (record b { undue = before ++ a ∷ rest }) → I items (enter a.conn a.out (record b { undue = before ++ rest }))
+  pub moves : (items : List (List Effect)) (b : Box) (before rest : List Answer) (a : Answer) → is_due o b before a ≡ true → I items (record b { undue = before ++ a ∷ rest }) → I items (enter a.conn a.out (record b { undue = before ++ rest }))
   pub sends : (items : List (List Effect)) (b : Box) (item : List Effect) (conns closes : List ℕ) → I items b
       → I (items ++ item ∷ []) (send o (executing item) (tickets_left item) conns closes (first_of (filter_map reply_sent item)) b)
 
@@ -44,7 +44,7 @@ settles_from : (o : Opening) (I : List (List Effect) → Box → Type 0) (w : Wa
 settles_from o I w items before [] b h = subst (λ u. I items (record b { undue = u })) (append-nil before) h
 settles_from o I w items before (a ∷ rest) b h =
     cond_both (is_due o b before a) (settle_from o before rest (enter a.conn a.out b)) (settle_from o (before ++ a ∷ []) rest b) (I items)
-    (λ due. settles_from o I w items before rest (enter a.conn a.out b) (w.moves items b before rest a h))
+    (λ due. settles_from o I w items before rest (enter a.conn a.out b) (w.moves items b before rest a due h))
     (λ undue. settles_from o I w items (before ++ a ∷ []) rest b (subst (λ u. I items (record b { undue = u })) (sym (append_assoc before (a ∷ []) rest)) h))
 
 pub settles : (o : Opening) (I : List (List Effect) → Box → Type 0) (w : Walk o I) (items : List (List Effect)) (b : Box) → I items b → I items (settle o b)

@@ -8,7 +8,7 @@ ghost use Rattle.iscsi_outbox_rules.specs.promises.Numbers.{CountStatSns, GoesOn
 ghost use Rattle.iscsi_outbox_rules.specs.promises.Once.{EntersInOrder, GoesInOrder, GoesOnce, SendsWhatWasSent};
 ghost use Rattle.iscsi_outbox_rules.specs.promises.Order.{KeepsCommandOrder, KeepsConnectionOrder, RespondsLast};
 ghost use Rattle.iscsi_outbox_rules.specs.promises.Silent.{SilentAfter};
-ghost use Rattle.iscsi_outbox_rules.specs.promises.Still.{StopsBefore};
+ghost use Rattle.iscsi_outbox_rules.specs.promises.Still.{ArrivesBefore, StopsBefore};
 ghost use Rattle.iscsi_outbox_rules.specs.rules.Calls.{Call, Opening};
 
 /// The numbers that a PDU shows (RFC 7143 section 4.2.2): its StatSN, in sequence on its connection; ExpCmdSN of the moment; and
@@ -53,9 +53,11 @@ pub fn silent_law()
 
 /// If what is taken is what a session gives, whose requests came on its own connections: as the answer to an abort or a Logout goes
 /// out, no command that is over by it touches the medium any more (SAM-5 section 7). One that was told to its unit before it left was
-/// reported stopped since.
+/// reported stopped since. And as the answer to an abort goes out, nothing of one is under way on another connection (RFC 7143 section
+/// 4.2.3.3): it is known to have arrived, or was written where that is enough, or its connection was lost.
 pub fn still_law()
     ensures stopped { (o : Opening) (calls : List Call) → FollowsKnown o calls → StopsBefore o (deeds_of o calls) }
+    ensures through { (o : Opening) (calls : List Call) → FollowsKnown o calls → ArrivesBefore o (deeds_of o calls) }
 {}
 
 /// If what is taken is what a session gives: as the answer to a function of several tasks goes out, what took a StatSN before it on

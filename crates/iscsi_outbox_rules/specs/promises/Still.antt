@@ -45,12 +45,15 @@ StopsBefore o ds = (before after : List Deed) (answer : Deed) (c : ℕ) (h : Han
     → list_any (enabled_in ticket) earlier ≡ true
     → Contains since (Stops ticket, Stopped true)
 
+-- what was handed out of it on another connection is known to have arrived, or was written where that is enough
+abbrev pub ArrivesBefore : Opening → List Deed → Type 0
+ArrivesBefore o ds = (before after : List Deed) (answer : Deed) (c : ℕ) (h : Handed) (ticket : ℕ)
+    → before ++ answer ∷ after ≡ ds → handed_in_deed answer ≡ Some (c, h)
+    → answers_abort o (items_in before) h ≡ true → says_over o (items_in before) h.out ticket ≡ true
+    → (earlier since : List Deed) (handing : Deed) (d : ℕ) (g : Handed) → earlier ++ handing ∷ since ≡ before
+    → handed_in_deed handing ≡ Some (d, g) → d ≢ c → ticket_of (items_in earlier) g.out ≡ Some ticket
+    → is_through o d earlier handing g since ≡ true
+
 pub record StillBefore (o : Opening) (ds : List Deed) : Type 0 where
   pub stopped : StopsBefore o ds
-  -- what was handed out of it on another connection is known to have arrived, or was written where that is enough
-  pub through : (before after : List Deed) (answer : Deed) (c : ℕ) (h : Handed) (ticket : ℕ)
-      → before ++ answer ∷ after ≡ ds → handed_in_deed answer ≡ Some (c, h)
-      → answers_abort o (items_in before) h ≡ true → says_over o (items_in before) h.out ticket ≡ true
-      → (earlier since : List Deed) (handing : Deed) (d : ℕ) (g : Handed) → earlier ++ handing ∷ since ≡ before
-      → handed_in_deed handing ≡ Some (d, g) → d ≢ c → ticket_of (items_in earlier) g.out ≡ Some ticket
-      → is_through o d earlier handing g since ≡ true
+  pub through : ArrivesBefore o ds
