@@ -83,3 +83,8 @@ mod ScopeRunning
 mod ScopeLeaves
 mod ScopeTheorem
 mod DueTheorem
+mod DeadlockQueues
+mod DeadlockSettled
+mod DeadlockLogouts
+mod DeadlockGives
+mod DeadlockTheorem

@@ -2,6 +2,7 @@
 
 ghost use Rattle.std.specs.Prelude.{List};
 ghost use Rattle.iscsi_outbox_rules.specs.promises.Closed.{NoneBehind, NoneLost, NoneUnjoined};
+ghost use Rattle.iscsi_outbox_rules.specs.promises.Deadlock.{NoDeadlock};
 ghost use Rattle.iscsi_outbox_rules.specs.promises.Deeds.{FollowsFlow, FollowsKnown, FollowsSession, deeds_of};
 ghost use Rattle.iscsi_outbox_rules.specs.promises.Fence.{FenceBefore, FenceBehind, FenceInOrder};
 ghost use Rattle.iscsi_outbox_rules.specs.promises.Numbers.{CountStatSns, GoesOnward, ShowsExp};
@@ -68,4 +69,11 @@ pub fn fence_law()
     ensures before { (o : Opening) (calls : List Call) → FollowsSession o calls → FenceBefore o (deeds_of o calls) }
     ensures behind { (o : Opening) (calls : List Call) → FollowsSession o calls → FenceBehind o (deeds_of o calls) }
     ensures order { (o : Opening) (calls : List Call) → FollowsSession o calls → FenceInOrder o (deeds_of o calls) }
+{}
+
+/// No deadlock, if what is taken is what a session gives, whose requests came on its own connections: where no command runs that left,
+/// no reset waits for other sessions, all is written, each ping is answered and no connection is to be lost, something goes out as
+/// long as anything waits, though nothing else was acknowledged.
+pub fn deadlock_law()
+    ensures gives { (o : Opening) → NoDeadlock o }
 {}

@@ -7,7 +7,7 @@ use Rattle.iscsi_outbox_rules.specs.rules.Boxes.{Task, Outgoing, Handed, Answer,
 use Rattle.iscsi_outbox_rules.specs.rules.Words.{is_running_phase, is_open, unwritten, unarrived}
 use Rattle.iscsi_outbox_rules.specs.rules.Handing.{is_ping, is_over, chosen}
 use Rattle.iscsi_outbox_rules.specs.rules.Run.{opened, after_calls}
-use Rattle.iscsi_outbox_rules.specs.promises.Deeds.{FollowsSession}
+use Rattle.iscsi_outbox_rules.specs.promises.Deeds.{FollowsKnown}
 
 abbrev pub is_some_handed : List Handed → Bool
 is_some_handed hs = list_any (λ (h : Handed). true) hs
@@ -32,5 +32,5 @@ abbrev pub gives_somewhere : Opening → Box → Bool
 gives_somewhere o b = list_any (λ (l : Link). list_any (λ (out : Outgoing). true) (elim (chosen o b l) [ Some out ↦ out ∷ [] | None ↦ [] ])) b.links
 
 abbrev pub NoDeadlock : Opening → Type 0
-NoDeadlock o = (cs : List Call) → FollowsSession o cs → let b = after_calls o (opened o) cs in
+NoDeadlock o = (cs : List Call) → FollowsKnown o cs → let b = after_calls o (opened o) cs in
     is_quiet b ≡ true → waits_somewhere b ≡ true → gives_somewhere o b ≡ true
