@@ -66,7 +66,6 @@ mod TaskLives
 mod SilentCalls
 mod SilentItems
 mod SilentTheorem
-mod TaskParts
 mod ResponseHomes
 mod ResponseRuns
 mod ResponseCalls

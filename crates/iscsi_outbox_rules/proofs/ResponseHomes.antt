@@ -30,7 +30,7 @@ use Rattle.iscsi_outbox_rules.specs.promises.Silent.{completed_in}
 use Rattle.iscsi_outbox_rules.proofs.EachLemmas.{EachOf}
 use Rattle.iscsi_outbox_rules.proofs.SentLemmas.{items_logged}
 use Rattle.iscsi_outbox_rules.proofs.TicketLemmas.{entered, in_range_once}
-use Rattle.iscsi_outbox_rules.proofs.TaskParts.{HoldsOf, parts_of_log}
+use Rattle.iscsi_outbox_rules.proofs.ClosedParts.{EachAt, EachItem, walk_log}
 
 -- ---- what effects show of commands
 
@@ -158,11 +158,14 @@ module _ (k : ℕ) (F : ℕ → Type 0) where
   stays_form o now t (Executed AtArrival a d) x home = stays_executed o t AtArrival a d x.1.enters home refl
   stays_form o now t (Executed AfterWaiting a d) x home = stays_executed o t AfterWaiting a d x.1.enters home refl
 
-  stay_home : (o : Setting) (t : Trace) (next : ℕ) → HaveForms o next t → Home t → HoldsOf StaysHome stays_nothing o t
+  abbrev Formed : Setting → Trace → List Mark → Type 0
+  Formed o t item = ((now : ℕ) × HasForm o now t item) × StaysHome (effects_of_item o t item)
+
+  stay_home : (o : Setting) (t : Trace) (next : ℕ) → HaveForms o next t → Home t → EachItem (Formed o) t
   stay_home o [] next x home = tt
   stay_home o (item ∷ t) next x home =
       let f : HasForm o x.0 t item = x.1.1.0 in
-      (subst (λ i. StaysHome (effects_of_item o t i)) (sym f.is) (stays_form o x.0 t f.form f.formed (subst (λ i. Home (i ∷ t)) f.is home)), stay_home o t _ x.1.1.1 (home_before item t home))
+      (((x.0, f), subst (λ i. StaysHome (effects_of_item o t i)) (sym f.is) (stays_form o x.0 t f.form f.formed (subst (λ i. Home (i ∷ t)) f.is home))), stay_home o t _ x.1.1.1 (home_before item t home))
 
 -- ---- the connection of a command
 
@@ -200,13 +203,19 @@ module _ (k : ℕ) where
           let rest = go (omega (arith, once, parts)) in
           (rest.0, (λ d there same. ⊎_elim (λ here. absurd (false≢true (sym apart ∙ eq-eqb x.ticket k (ap (λ (e : Command). e.ticket) here ∙ same)))) (λ later. rest.1 d later same) there))
 
+each_at : (P : List Effect → Type 0) (before parts : List (List Effect)) → EachAt (λ ps part. P part) before parts → EachOf P parts
+each_at P before [] h = tt
+each_at P before (part ∷ parts) h = (h.0, each_at P (before ++ part ∷ []) parts h.1)
+
 -- what holds of the connections of its commands in the history holds in the log
 pub logged : (o : Opening) (cs : List Call) (h : List Event) → flat_map entry_taken cs ≡ run_of o.session h → (k : ℕ) (F : ℕ → Type 0)
     → ((d : Command) → In d (entered_so_far (trace_of o.session h)) → d.ticket ≡ k → F (connection_of d.arrival.request)) → EachOf (StaysHome k F) (items_in (deeds_of o cs))
 logged o cs h follows k F home =
     let same : items_in (deeds_of o cs) ≡ flat_map (λ (e : Entry). in_parts e.effects) (run_of o.session h) = items_logged o (opened o) cs ∙ ap (flat_map (λ (e : Entry). in_parts e.effects)) follows in
     subst (EachOf (StaysHome k F)) (sym same)
-    (parts_of_log (StaysHome k F) (stays_nothing k F) o.session h (stay_home k F o.session (trace_of o.session h) (length h) (trace_has_forms o.session h) home))
+    (each_at (StaysHome k F) [] (flat_map (λ (e : Entry). in_parts e.effects) (run_of o.session h))
+    (walk_log o.session (Formed k F o.session) (λ t item x. x.0) (λ parts t. Unit {0}) (λ parts part. StaysHome k F part)
+    (record { none = λ parts t i. (stays_nothing k F, tt); one = λ parts t item x i. (x.1, tt) }) h (stay_home k F o.session (trace_of o.session h) (length h) (trace_has_forms o.session h) home) tt))
 
 -- the connection on which the command with a ticket entered, and on which its response goes out
 pub homes : (o : Opening) (cs : List Call) → FollowsSession o cs → (k : ℕ) → (c : ℕ) × EachOf (StaysHome k (λ e. e ≡ c)) (items_in (deeds_of o cs))
