@@ -7,6 +7,7 @@ mod conns;
 mod event_source;
 mod events;
 mod fault;
+mod fronts;
 mod line;
 mod parse;
 mod reading;

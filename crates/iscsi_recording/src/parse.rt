@@ -6,8 +6,9 @@ ghost use Rattle.std.specs.Int.{w32, from_be_bytes};
 ghost use Rattle.iscsi_recording.specs.Fields.{is_blank, digits_after, is_digit, up_to, decimal_of, hex_of};
 ghost use Rattle.iscsi_recording.specs.DigitValues.{IsValue, HasNonDigit, AreValues, paired};
 ghost use Rattle.iscsi_recording.specs.Grammar.{arrival_of, completion_of, event_of, connection_of, line_of};
-ghost use Rattle.iscsi_recording.specs.Fronts.{LeadsWith, FirstSays};
+ghost use Rattle.iscsi_recording.specs.Fronts.{FirstSays};
 
+use crate::fronts::{cid_first, number_first};
 use crate::line::Line;
 use iscsi_history::Event;
 
@@ -30,7 +31,7 @@ fn cut(bytes: &[u8]) -> (&[u8], &[u8])
     }
 }
 
-fn is_decimal(d: u8) -> bool
+pub fn is_decimal(d: u8) -> bool
     ensures { result ≡ is_digit d }
 {
     (b'0'..=b'9').contains(&d)
@@ -193,116 +194,13 @@ pub fn arrival(bytes: &[u8]) -> Option<Event>
     Some(Event::Arrive { conn, header })
 }
 
-/// How many digits a CID has at most, and a ticket in its common form.
-const CID_DIGITS: usize = 5;
-
+/// How many digits a ticket has at most in its common form.
 const TICKET_DIGITS: usize = 18;
 
 /// How many bytes the shortest line of an arrival has, and the longest of a completion in its common form.
 const SHORTEST_ARRIVAL: usize = 2 + 1 + 1 + 96;
 
 const LONGEST_COMPLETION: usize = 2 + TICKET_DIGITS + 1 + 2;
-
-/// The number 0 at the front of these bytes, where a blank ends it.
-#[inline(always)]
-fn zero_first(bytes: &[u8]) -> Option<(u64, usize)>
-    requires { (1 < length bytes.now) × (slice_index bytes.now 0 ≡ 48) }
-    ensures number { IfSome result (λ r. LeadsWith bytes.now r.0 r.1) }
-    ensures one { IfSome result (λ r. r.1 ≡ 1) }
-{
-    if bytes[1] == b' ' { Some((0, 1)) } else { None }
-}
-
-/// The number at the front of these bytes, where it has at most so many digits and a blank ends it, and how many
-/// digits it has. `None` decides nothing.
-///
-/// There are more bytes than that, so that each is looked at without a test for their end.
-#[inline(always)]
-fn number_first(bytes: &[u8], most: usize) -> Option<(u64, usize)>
-    requires few { (1 ≤ most) × (most ≤ 18) }
-    requires long { most < length bytes.now }
-    ensures number { IfSome result (λ r. LeadsWith bytes.now r.0 r.1) }
-    ensures most { IfSome result (λ r. r.1 ≤ most) }
-{
-    if bytes[0] == b'0' {
-        return zero_first(bytes);
-    }
-    let mut n = 0u64;
-    'digits: for i in 0..most + 1 {
-        let d = bytes[i];
-        if !is_decimal(d) {
-            if d != b' ' || i == 0 {
-                return None;
-            }
-            return Some((n, i));
-        }
-        n = n * 10 + u64::from(d - b'0');
-    }
-    None
-}
-
-/// The number of one digit at the front of these bytes, behind which a blank stands, and that it has one. `None` decides
-/// nothing.
-#[inline(always)]
-fn one_digit_first(bytes: &[u8]) -> Option<(u16, usize)>
-    requires { (1 < length bytes.now) × (slice_index bytes.now 1 ≡ 32) }
-    ensures number { IfSome result (λ r. LeadsWith bytes.now r.0 r.1) }
-    ensures most { IfSome result (λ r. (r.0 < 2 ^ 16) × (r.1 ≤ 5)) }
-{
-    let digit = bytes[0];
-    if !is_decimal(digit) {
-        return None;
-    }
-    Some((u16::from(digit - b'0'), 1))
-}
-
-/// The number of two digits at the front of these bytes, behind which a blank stands, and that it has two. `None`
-/// decides nothing.
-#[inline(always)]
-fn two_digits_first(bytes: &[u8]) -> Option<(u16, usize)>
-    requires { (2 < length bytes.now) × (slice_index bytes.now 2 ≡ 32) }
-    ensures number { IfSome result (λ r. LeadsWith bytes.now r.0 r.1) }
-    ensures most { IfSome result (λ r. (r.0 < 2 ^ 16) × (r.1 ≤ 5)) }
-{
-    let high = bytes[0];
-    let low = bytes[1];
-    if !(b'1'..=b'9').contains(&high) || !is_decimal(low) {
-        return None;
-    }
-    Some((u16::from(high - b'0') * 10 + u16::from(low - b'0'), 2))
-}
-
-/// The CID of up to five digits at the front of these bytes, and how many it has. `None` decides nothing.
-#[inline(always)]
-fn five_digits_first(bytes: &[u8]) -> Option<(u16, usize)>
-    requires { 5 < length bytes.now }
-    ensures number { IfSome result (λ r. LeadsWith bytes.now r.0 r.1) }
-    ensures most { IfSome result (λ r. (r.0 < 2 ^ 16) × (r.1 ≤ 5)) }
-{
-    let found = number_first(bytes, CID_DIGITS)?;
-    let Ok(conn) = u16::try_from(found.0) else {
-        return None;
-    };
-    Some((conn, found.1))
-}
-
-/// The CID at the front of these bytes, and how many digits it has. `None` decides nothing.
-///
-/// It has mostly a digit or two, so a blank is looked for behind these first.
-#[inline(always)]
-fn cid_first(bytes: &[u8]) -> Option<(u16, usize)>
-    requires { 5 < length bytes.now }
-    ensures number { IfSome result (λ r. LeadsWith bytes.now r.0 r.1) }
-    ensures most { IfSome result (λ r. (r.0 < 2 ^ 16) × (r.1 ≤ 5)) }
-{
-    if bytes[1] == b' ' {
-        return one_digit_first(bytes);
-    }
-    if bytes[2] == b' ' {
-        return two_digits_first(bytes);
-    }
-    five_digits_first(bytes)
-}
 
 /// The arrival that the first line of these bytes says, and how many bytes that line has without its end. `None`
 /// decides nothing.

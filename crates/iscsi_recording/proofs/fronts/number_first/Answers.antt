@@ -2,7 +2,7 @@ use Rattle.std.proofs.Common.{◌≡◌, ◌≤◌, ◌-◌, true, get_or, arith
 use Rattle.iscsi_recording.specs.Fields.{is_digit}
 use Rattle.iscsi_recording.proofs.Digits.{digit_small, has_room}
 use Rattle.iscsi_recording.proofs.FrontLemmas.{number_step}
-use Rattle.iscsi_recording.proofs.parse.number_first.Goals as goal
+use Rattle.iscsi_recording.proofs.fronts.number_first.Goals as goal
 
 pub overflow_mul-n : goal.overflow_mul-n
 overflow_mul-n c =
