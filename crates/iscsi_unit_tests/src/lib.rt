@@ -3,11 +3,15 @@
 #![tactic(auto)]
 
 #[cfg(test)]
+mod linked_calls;
+#[cfg(test)]
 mod linked_set;
 #[cfg(test)]
 mod live_commands;
 #[cfg(test)]
 mod logical_unit;
+#[cfg(test)]
+mod plain_scan;
 #[cfg(test)]
 mod reply;
 #[cfg(test)]

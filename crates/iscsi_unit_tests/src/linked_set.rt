@@ -8,12 +8,12 @@ use std::alloc::Global;
 use std::test::Fail;
 
 /// The greatest depth of a set here.
-const DEPTH: u32 = 300;
+pub(crate) const DEPTH: u32 = 300;
 
 /// The same commands, kept in two ways, and the slot that each got.
 #[derive(Drop)]
-struct Both {
-    linked: LinkedTaskSet,
+pub(crate) struct Both {
+    pub(crate) linked: LinkedTaskSet,
     plain: TaskSet,
     /// For each ticket modulo 4,096 the slot of the command that entered last.
     slots: Vec<u16>,
@@ -32,7 +32,7 @@ struct Both {
 }
 
 impl Both {
-    fn open(alloc: Global, depth: u32) -> Result<Both, Fail>
+    pub(crate) fn open(alloc: Global, depth: u32) -> Result<Both, Fail>
         requires { (1 ≤ depth) × (depth ≤ 1024) }
     {
         Ok(Both {
@@ -48,7 +48,7 @@ impl Both {
     }
 
     /// The slot that a command with this ticket got, or that of another one.
-    fn slot_of(&self, ticket: u64) -> u16 {
+    pub(crate) fn slot_of(&self, ticket: u64) -> u16 {
         *self.slots.get((ticket % 4096) as usize).unwrap_or(&7)
     }
 
@@ -91,7 +91,7 @@ impl Both {
 
     /// The command enters, if its ticket may be the newest one. It gets the slot that is next, and both give the same
     /// ticket then.
-    fn enter(&mut self, task: Task) -> bool {
+    pub(crate) fn enter(&mut self, task: Task) -> bool {
         if !is_newest(&self.plain, task.ticket) {
             return false;
         }
@@ -105,7 +105,7 @@ impl Both {
         }
     }
 
-    fn leave(&mut self, ticket: u64, slot: u16) -> bool {
+    pub(crate) fn leave(&mut self, ticket: u64, slot: u16) -> bool {
         let left = self.linked.leave(ticket, slot);
         let agree = left == self.plain.leave(ticket);
         if left.is_some() {
@@ -114,7 +114,7 @@ impl Both {
         agree
     }
 
-    fn leave_enabled(&mut self, ticket: u64, slot: u16) -> bool {
+    pub(crate) fn leave_enabled(&mut self, ticket: u64, slot: u16) -> bool {
         let is_enabled = self.plain.is_enabled(ticket);
         if is_enabled {
             self.plain.leave(ticket);
@@ -128,7 +128,7 @@ impl Both {
 
     /// The covered commands leave, and `left` tells their tickets, the oldest one's first. `is_within` is for the
     /// prover: there is room for the tickets.
-    fn leave_covered(&mut self, cover: &Cover) -> bool {
+    pub(crate) fn leave_covered(&mut self, cover: &Cover) -> bool {
         let is_within = self.linked.len() <= self.linked.depth();
         self.left.clear();
         self.linked.leave_covered(cover, &mut self.left);
@@ -161,7 +161,7 @@ impl Both {
     }
 
     /// Both give the same tickets, until there is none.
-    fn give_all(&mut self) -> bool {
+    pub(crate) fn give_all(&mut self) -> bool {
         for _ in 0..=DEPTH {
             let ticket = self.linked.next_new();
             if ticket != self.plain.next_new() {
@@ -206,7 +206,7 @@ impl Both {
         agree && self.give_all() && self.leave_covered(&Cover::All) && self.linked.len() == 0
     }
 
-    fn agree(&self) -> bool {
+    pub(crate) fn agree(&self) -> bool {
         (self.linked.len(), self.linked.depth()) == (self.plain.len(), self.plain.depth())
     }
 }
@@ -231,168 +231,6 @@ fn are_covered(tickets: &[u64], set: &TaskSet, cover: &Cover) -> bool {
         }
     }
     agree && tickets.len() == covered
-}
-
-/// Calls at random, by a seed.
-#[derive(Drop)]
-struct Calls {
-    both: Both,
-    /// The ticket of the last command that entered.
-    ticket: u64,
-    /// The number of the last command that isn't immediate.
-    number: i64,
-    /// How many in 256 commands are ORDERED, and how many HEAD OF QUEUE.
-    ordered: u64,
-    heads: u64,
-    /// Whether some of the commands have lower numbers than the one that is expected next, immediate or not.
-    strays: bool,
-    seed: u64,
-}
-
-impl Calls {
-    /// The next number, by the method SplitMix64.
-    fn random(&mut self) -> u64 {
-        self.seed = self.seed.wrapping_add(0x9e37_79b9_7f4a_7c15);
-        let mixed = (self.seed ^ (self.seed >> 30)).wrapping_mul(0xbf58_476d_1ce4_e5b9);
-        let mixed = (mixed ^ (mixed >> 27)).wrapping_mul(0x94d0_49bb_1331_11eb);
-        mixed ^ (mixed >> 31)
-    }
-
-    /// A command that may enter.
-    fn task(&mut self) -> Task {
-        let random = self.random();
-        let kind = random % 256;
-        let attr = if kind < self.ordered {
-            Attr::Ordered
-        } else if kind < self.ordered.wrapping_add(self.heads) {
-            Attr::Head
-        } else {
-            Attr::Simple
-        };
-        let immediate = random / 256 % 8 == 0;
-        let stray = if self.strays && random / 2048 % 4 == 0 {
-            (random / 8192 % 16) as i64
-        } else {
-            0
-        };
-        // A command has the number that is expected next, but for strays.
-        let expected = self.number.wrapping_add(1);
-        if !immediate {
-            self.number = expected;
-        }
-        self.ticket = self.ticket.wrapping_add(1 + random / 131_072 % 3);
-        Task {
-            ticket: self.ticket,
-            conn: (random / 524_288 % 3) as u16,
-            itt: (random / 2_097_152 % 65_536) as u32,
-            attr,
-            immediate,
-            pos: expected.wrapping_sub(stray),
-            event: self.ticket,
-        }
-    }
-
-    /// A ticket near the last one, and now and then one that none had.
-    fn any_ticket(&mut self) -> u64 {
-        let random = self.random();
-        let back = if random % 4 == 0 {
-            4096
-        } else {
-            2 * u64::from(DEPTH)
-        };
-        self.ticket.wrapping_sub(random / 4 % back)
-    }
-
-    /// The slot of a ticket, mostly: else any.
-    fn any_slot(&mut self, ticket: u64) -> u16 {
-        let random = self.random();
-        match random % 8 {
-            0 => (random / 8 % 65_536) as u16,
-            1 => (random / 8 % 32) as u16,
-            _ => self.both.slot_of(ticket),
-        }
-    }
-
-    /// What an abort or a logout takes out: mostly the commands below a number, from the next one down.
-    fn cover(&mut self) -> Cover {
-        let random = self.random();
-        let reach = [2, 8, 64, 320][(random / 16 % 4) as usize];
-        match random % 16 {
-            0 => Cover::All,
-            1 | 2 => Cover::Conn((random / 64 % 3) as u16),
-            _ => Cover::Below {
-                pos: self
-                    .number
-                    .wrapping_add(1)
-                    .wrapping_sub((random / 64 % reach) as i64),
-                event: self.ticket.wrapping_sub(random / 65_536 % 4),
-            },
-        }
-    }
-
-    /// One call on both, and whether they answer the same.
-    fn step(&mut self, grows: bool) -> bool {
-        let random = self.random();
-        let share = if grows { 11 } else { 4 };
-        let agree = match random % 16 {
-            0 => {
-                // The deeper the sets are, the seldomer, for they are to fill again.
-                let cover = self.cover();
-                let seldom = u64::from(1 + self.both.linked.depth() / 32);
-                random / 16 % seldom != 0 || self.both.leave_covered(&cover)
-            }
-            1 => {
-                let ticket = self.any_ticket();
-                let slot = self.any_slot(ticket);
-                self.both.leave(ticket, slot)
-            }
-            2 => self.both.give_all(),
-            kind if kind < share => {
-                let task = self.task();
-                self.both.enter(task)
-            }
-            _ => {
-                let ticket = self.any_ticket();
-                let slot = self.any_slot(ticket);
-                self.both.leave_enabled(ticket, slot)
-            }
-        };
-        // Now and then tickets that are new wait for more calls.
-        let gave = random / 256 % 4 == 0 || self.both.give_all();
-        agree && gave && self.both.agree()
-    }
-}
-
-#[test]
-fn linked_sets_answer_as_plain_ones_do(rt: HostRuntime) -> Result<(), Fail> {
-    for depth in [1, 2, 9, DEPTH] {
-        for (ordered, heads) in [(0, 0), (16, 0), (0, 16), (24, 24), (128, 64)] {
-            for strays in [false, true] {
-                let mut calls = Calls {
-                    both: Both::open(rt.alloc(), depth)?,
-                    ticket: 0,
-                    number: 0,
-                    ordered,
-                    heads,
-                    strays,
-                    seed: u64::from(depth),
-                };
-                let mut agree = true;
-                for k in 0..10_000 {
-                    agree &= calls.step(k % 2048 < 1024);
-                }
-                let agree = agree
-                    && calls.both.give_all()
-                    && calls.both.leave_covered(&Cover::All)
-                    && calls.both.give_all();
-                assert!(rt;
-                    agree && calls.both.linked.len() == 0,
-                    "{depth} deep, {ordered} ORDERED, {heads} HEAD OF QUEUE, {strays}"
-                );
-            }
-        }
-    }
-    Ok(())
 }
 
 #[test]
