@@ -47,7 +47,7 @@ fn meet(mine: &AtomicBool, other: &AtomicBool, ticket: u64) -> u8 {
     if mine.swap(true, Ordering::SeqCst) {
         return status_of(ticket);
     }
-    for _ in 0..10_000_000u32 {
+    for _ in 0..1_000_000u32 {
         if other.load(Ordering::SeqCst) {
             return status_of(ticket);
         }
