@@ -63,7 +63,7 @@ went_fenced o calls follows before after answer c h whole shown fenced = ⊎_eli
 -- ---- what passes a fence
 
 -- of the first connection with a CID
-found_all : (p q : Link → Bool) (c : ℕ) (links : List Link) (m : Link) → list_all q (filter p links) ≡ true → find_link c links ≡ Some m → p m ≡ true → q m ≡ true
+pub found_all : (p q : Link → Bool) (c : ℕ) (links : List Link) (m : Link) → list_all q (filter p links) ≡ true → find_link c links ≡ Some m → p m ≡ true → q m ≡ true
 found_all p q c [] m all found is = absurd cc
 found_all p q c (l ∷ links) m all found is =
     elim (l.conn == c) as (λ v. first_of (cond v (l ∷ filter (λ (k : Link). k.conn == c) links) (filter (λ (k : Link). k.conn == c) links)) ≡ Some m → q m ≡ true) [

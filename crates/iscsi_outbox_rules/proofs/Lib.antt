@@ -87,3 +87,7 @@ mod DeadlockSettled
 mod DeadlockLogouts
 mod DeadlockGives
 mod DeadlockTheorem
+mod PlaceTimes
+mod PlaceHere
+mod PlaceCalls
+mod PlaceTheorem

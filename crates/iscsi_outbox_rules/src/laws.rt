@@ -4,7 +4,7 @@ ghost use Rattle.std.specs.Prelude.{List};
 ghost use Rattle.iscsi_outbox_rules.specs.promises.Closed.{NoneBehind, NoneLost, NoneUnjoined};
 ghost use Rattle.iscsi_outbox_rules.specs.promises.Deadlock.{NoDeadlock};
 ghost use Rattle.iscsi_outbox_rules.specs.promises.Deeds.{FollowsFlow, FollowsKnown, FollowsSession, deeds_of};
-ghost use Rattle.iscsi_outbox_rules.specs.promises.Fence.{FenceBefore, FenceBehind, FenceInOrder};
+ghost use Rattle.iscsi_outbox_rules.specs.promises.Fence.{FenceBefore, FenceBehind, FenceFirst, FenceInOrder};
 ghost use Rattle.iscsi_outbox_rules.specs.promises.Numbers.{CountStatSns, GoesOnward, ShowsExp};
 ghost use Rattle.iscsi_outbox_rules.specs.promises.Once.{EntersInOrder, GoesInOrder, GoesOnce, SendsWhatWasSent};
 ghost use Rattle.iscsi_outbox_rules.specs.promises.Order.{KeepsCommandOrder, KeepsConnectionOrder, RespondsLast};
@@ -64,11 +64,13 @@ pub fn still_law()
 /// If what is taken is what a session gives: as the answer to a function of several tasks goes out, what took a StatSN before it on
 /// another connection isn't under way any more; and what takes one goes out behind it elsewhere only when it is known to have
 /// arrived, where that is looked for, or its own connection was lost (RFC 7143 section 4.2.2.3.4). Of the two the one that entered its
-/// queue first goes first, unless its connection hadn't joined as the other went out.
+/// queue first goes first, unless its connection hadn't joined as the other went out. And a reply that was sent before it, and didn't
+/// have to wait, goes out before it, unless its connection hasn't joined, was closed or lost.
 pub fn fence_law()
     ensures before { (o : Opening) (calls : List Call) → FollowsSession o calls → FenceBefore o (deeds_of o calls) }
     ensures behind { (o : Opening) (calls : List Call) → FollowsSession o calls → FenceBehind o (deeds_of o calls) }
     ensures order { (o : Opening) (calls : List Call) → FollowsSession o calls → FenceInOrder o (deeds_of o calls) }
+    ensures first { (o : Opening) (calls : List Call) → FollowsSession o calls → FenceFirst o (deeds_of o calls) }
 {}
 
 /// No deadlock, if what is taken is what a session gives, whose requests came on its own connections: where no command runs that left,

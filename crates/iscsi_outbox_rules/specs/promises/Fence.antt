@@ -53,14 +53,17 @@ FenceInOrder o ds = (earlier since after : List Deed) (handing later : Deed) (c 
     → is_fenced o (items_in earlier) h || is_fenced o (items_in (earlier ++ handing ∷ since)) g ≡ true
     → h.out.time < g.out.time
 
+-- a reply that stands before it in the log, and didn't have to wait, goes out before it, unless its connection hasn't joined, was
+-- closed or lost
+abbrev pub FenceFirst : Opening → List Deed → Type 0
+FenceFirst o ds = (earlier after : List Deed) (answer : Deed) (c : ℕ) (h : Handed) (place fenced : ℕ) (s : Sent)
+    → earlier ++ answer ∷ after ≡ ds
+    → handed_in_deed answer ≡ Some (c, h) → is_fenced o (items_in earlier) h ≡ true → h.out.sent ≡ Some fenced
+    → place < fenced → nth place (sent_by (items_in earlier)) ≡ Some s → aim_of_sent o s ≡ None
+    → is_handed place earlier || not (has_joined earlier s.conn) || was_lost earlier s.conn || is_closed (items_in earlier) s.conn ≡ true
+
 pub record FenceHolds (o : Opening) (ds : List Deed) : Type 0 where
   pub before : FenceBefore o ds
   pub behind : FenceBehind o ds
   pub in_order : FenceInOrder o ds
-  -- a reply that stands before it in the log, and didn't have to wait, goes out before it, unless its connection hasn't joined, was
-  -- closed or lost
-  pub first : (earlier after : List Deed) (answer : Deed) (c : ℕ) (h : Handed) (place fenced : ℕ) (s : Sent)
-      → earlier ++ answer ∷ after ≡ ds
-      → handed_in_deed answer ≡ Some (c, h) → is_fenced o (items_in earlier) h ≡ true → h.out.sent ≡ Some fenced
-      → place < fenced → nth place (sent_by (items_in earlier)) ≡ Some s → aim_of_sent o s ≡ None
-      → is_handed place earlier || not (has_joined earlier s.conn) || was_lost earlier s.conn || is_closed (items_in earlier) s.conn ≡ true
+  pub first : FenceFirst o ds
