@@ -1,11 +1,13 @@
-//! Tests of the public calls of the wire, the window, the task sets and the live commands. They stand here, over their
-//! libraries, since a crate with tests is proved twice.
+//! Tests of the public calls of the wire, the window, the task sets, the live commands and the lists. They stand here, over
+//! their libraries, since a crate with tests is proved twice.
 #![tactic(auto)]
 
 #[cfg(test)]
 mod linked_calls;
 #[cfg(test)]
 mod linked_set;
+#[cfg(test)]
+mod lists;
 #[cfg(test)]
 mod live_commands;
 #[cfg(test)]
