@@ -1,0 +1,3 @@
+pub mod UpLemmas
+pub mod TimedLemmas
+pub mod KeptLemmas

@@ -1,0 +1,3 @@
+pub mod Fences
+pub mod Kept
+pub mod Rows
