@@ -1,10 +1,12 @@
 -- Up to where the last one stands that passes a test.
-use Rattle.std.proofs.Common.{◌≡◌, ℕ, ◌+◌, ◌<◌, ◌≤◌, ◌||◌, ⊎_elim, Bool, true, false, List, [], ◌∷◌, ◌++◌, length, drop, count_by, refl, ap, sym, ◌∙◌, arith, lt-ltb, le-ltb}
+use Rattle.std.proofs.Common.{◌≡◌, ℕ, ◌+◌, ◌<◌, ◌≤◌, ◌||◌, ⊎_elim, ◌&&◌, nat_lt, not, cond, Bool, true, false, List, [], ◌∷◌, ◌++◌, length, drop, count_by, refl, ap, sym, ◌∙◌, arith, lt-ltb, le-ltb}
 use Rattle.std.specs.List.{list_any}
 use Rattle.std.proofs.lemmas.Bool.{cases_lt, or_right}
 use Rattle.std.proofs.lemmas.List.{drop_all, drop-append-le, take-append-le, length_push}
 use Rattle.std.proofs.lemmas.List.Folds.{list_any-append}
 use Rattle.iscsi_outbox_rules.specs.rules.Boxes.{Handed, Link}
+use Rattle.iscsi_outbox_rules.specs.rules.Calls.{Opening}
+use Rattle.iscsi_outbox_rules.specs.rules.Words.{is_open, looks_for_arrival, unwritten, unarrived, under_way}
 use Rattle.iscsi_outbox_rules.specs.rules.Handing.{takes_handed, is_ping}
 use Rattle.iscsi_arrivals.specs.declared.stamp.Stamp.{Stamp}
 use Rattle.iscsi_arrivals.specs.Stamps.{IsUpToLast, handed_out, stat_sn_at, pings_at, stamp_at}
@@ -54,3 +56,34 @@ module _ (test : Handed → Bool) where
       ⊎_elim (λ past. past_all hs h k past ∙ sym (none_from hs k (omega (arith, past))) ∙ up k)
       (λ le. one_more hs h k le ∙ ap (λ (v : Bool). list_any test (drop k hs) || v) isnt ∙ or_false (list_any test (drop k hs)) ∙ up k)
       (cases_lt (length hs) k)
+
+  -- ---- what is under way
+
+  past_last : (hs : List Handed) (place n : ℕ) → IsUpToLast test hs (place + 1) → list_any test (drop n hs) ≡ not (nat_lt place n)
+  past_last hs place n up =
+      ⊎_elim (λ lt. up n ∙ le-ltb n (place + 1) (omega (arith, lt)) ∙ sym (ap not (lt-ltb place n lt)))
+      (λ ge. up n ∙ lt-ltb n (place + 1) (omega (arith, ge)) ∙ sym (ap not (le-ltb place n ge)))
+      (cases_lt place n)
+
+  pub last_unarrived : (l : Link) (place : ℕ) → IsUpToLast test l.handed (place + 1) → list_any test (unarrived l) ≡ not (nat_lt place l.arrived)
+  last_unarrived l place up = past_last l.handed place l.arrived up
+
+  pub last_under_way : (o : Opening) (l : Link) (place : ℕ) → IsUpToLast test l.handed (place + 1)
+      → list_any test (under_way o l) ≡ (is_open l && not (nat_lt place (cond (looks_for_arrival o) l.arrived l.written)))
+  last_under_way o l place up = by_open (is_open l) (looks_for_arrival o)
+    where
+      by_open : (v w : Bool) → list_any test (cond v (cond w (unarrived l) (unwritten l)) []) ≡ (v && not (nat_lt place (cond w l.arrived l.written)))
+      by_open true true = past_last l.handed place l.arrived up
+      by_open true false = past_last l.handed place l.written up
+      by_open false w = refl
+
+  pub none_under_way : (o : Opening) (l : Link) → IsUpToLast test l.handed 0 → list_any test (under_way o l) ≡ false
+  none_under_way o l up = by_open (is_open l) (looks_for_arrival o)
+    where
+      none : (n : ℕ) → list_any test (drop n l.handed) ≡ false
+      none n = up n ∙ le-ltb n 0 (omega arith)
+
+      by_open : (v w : Bool) → list_any test (cond v (cond w (unarrived l) (unwritten l)) []) ≡ false
+      by_open true true = none l.arrived
+      by_open true false = none l.written
+      by_open false w = refl
