@@ -1,3 +1,4 @@
 pub mod UpLemmas
 pub mod TimedLemmas
 pub mod KeptLemmas
+pub mod PassingLemmas

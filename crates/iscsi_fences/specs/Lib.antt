@@ -1,3 +1,4 @@
 pub mod Fences
 pub mod Kept
+pub mod Passing
 pub mod Rows

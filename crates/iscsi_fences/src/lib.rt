@@ -3,5 +3,7 @@
 #![tactic(auto)]
 
 mod fences;
+mod laws;
 
 pub use fences::Fences;
+pub use laws::fence_law;
