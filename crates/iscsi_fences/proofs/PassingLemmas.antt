@@ -1,15 +1,16 @@
 -- The fence by all open connections.
-use Rattle.std.proofs.Common.{◌≡◌, ◌+◌, ◌==◌, ◌&&◌, ◌||◌, not, nat_lt, cond, Bool, true, false, List, [], ◌∷◌, ◌++◌, filter, count_by, refl, ap, sym, ◌∙◌, arith, eq-eqb}
+use Rattle.std.proofs.Common.{◌≡◌, ℕ, ◌+◌, ◌==◌, ◌&&◌, ◌||◌, not, nat_lt, cond, Bool, true, false, List, [], ◌∷◌, ◌++◌, filter, count_by, refl, ap, sym, ◌∙◌, arith, eq-eqb, ⊎_elim, lt-ltb, le-ltb}
 use Rattle.std.specs.List.{list_all, list_any}
-use Rattle.std.proofs.lemmas.Bool.{or_parts}
+use Rattle.std.proofs.lemmas.Bool.{or_parts, or_left, cases_lt}
 use Rattle.std.proofs.lemmas.List.Elements.{filter-append}
 use Rattle.std.proofs.lemmas.List.Folds.{list_any-append}
+use Rattle.std.proofs.lemmas.List.Sums.{sum_by-cons, sum_by-append}
 use Rattle.iscsi_outbox_rules.specs.rules.Calls.{Opening}
 use Rattle.iscsi_outbox_rules.specs.rules.Boxes.{Outgoing, Link, Box}
 use Rattle.iscsi_outbox_rules.specs.rules.Words.{is_open, looks_for_arrival, unarrived, unwritten}
 use Rattle.iscsi_outbox_rules.specs.rules.Handing.{takes_handed, fenced_handed, others, lets_pass, is_clear, passes_fence}
 use Rattle.iscsi_arrivals.proofs.CountLemmas.{any-count, count-append, count-cons, lt_rest}
-use Rattle.iscsi_fences.specs.Passing.{fenced_before, takes_before, any_waits, is_fence_out, is_busy_on, passes_by, open_links, Among}
+use Rattle.iscsi_fences.specs.Passing.{fenced_before, takes_before, any_waits, count_waits, is_fence_out, is_busy_on, passes_by, open_links, Among}
 
 -- ---- tests of all
 
@@ -116,6 +117,44 @@ same_waits test b l a opens none =
     with_itself =
         ap (λ (v : Bool). any_waits test (cond v (l ∷ filter is_open a.after) (filter is_open a.after))) opens
         ∙ ap (λ (v : Bool). v || any_waits test (filter is_open a.after)) none
+
+-- ---- how many wait
+
+or_sum : (a b : ℕ) → (nat_lt 0 a || nat_lt 0 b) ≡ nat_lt 0 (a + b)
+or_sum a b =
+    ⊎_elim (λ some. or_left (nat_lt 0 a) (nat_lt 0 b) (lt-ltb 0 a some) ∙ sym (lt-ltb 0 (a + b) (omega (arith, some))))
+    (λ none. ap (λ (v : Bool). v || nat_lt 0 b) (le-ltb 0 a none) ∙ ap (nat_lt 0) (let same : b ≡ a + b = omega (arith, none) in same))
+    (cases_lt 0 a)
+
+any_counted : (test : Outgoing → Bool) (links : List Link) → any_waits test links ≡ nat_lt 0 (count_waits test links)
+any_counted test [] = refl
+any_counted test (m ∷ links) =
+    let rest : any_waits test links ≡ nat_lt 0 (count_waits test links) = any_counted test links in
+    ap (λ (v : Bool). v || any_waits test links) (any-count test m.queue) ∙ ap (λ (v : Bool). nat_lt 0 (count_by test m.queue) || v) rest
+    ∙ or_sum (count_by test m.queue) (count_waits test links) ∙ ap (nat_lt 0) (sym (sum_by-cons (λ (x : Link). count_by test x.queue) m links))
+
+pub waits_elsewhere : (test : Outgoing → Bool) (b : Box) (l : Link) → Among l b.links → is_open l ≡ true → any_waits test (others b l) ≡ nat_lt (count_by test l.queue) (count_waits test (open_links b))
+waits_elsewhere test b l a opens =
+    ap (any_waits test) (other_links l b a) ∙ any_counted test (filter is_open a.before ++ filter is_open a.after)
+    ∙ lt_rest (count_by test l.queue) (count_waits test (filter is_open a.before ++ filter is_open a.after)) (count_waits test (open_links b)) counted
+  where
+    each : Link → ℕ
+    each m = count_by test m.queue
+
+    counted : count_by test l.queue + count_waits test (filter is_open a.before ++ filter is_open a.after) ≡ count_waits test (open_links b)
+    counted =
+        let opened : open_links b ≡ filter is_open a.before ++ (l ∷ filter is_open a.after) =
+        sym (ap (filter is_open) a.whole) ∙ filter-append is_open a.before (l ∷ a.after)
+        ∙ ap (λ (v : Bool). filter is_open a.before ++ cond v (l ∷ filter is_open a.after) (filter is_open a.after)) opens in
+        let parts : count_waits test (filter is_open a.before ++ filter is_open a.after) ≡ count_waits test (filter is_open a.before) + count_waits test (filter is_open a.after) =
+        sum_by-append each (filter is_open a.before) (filter is_open a.after) in
+        let whole : count_waits test (filter is_open a.before ++ (l ∷ filter is_open a.after)) ≡ count_waits test (filter is_open a.before) + count_waits test (l ∷ filter is_open a.after) =
+        sum_by-append each (filter is_open a.before) (l ∷ filter is_open a.after) in
+        let itself : count_waits test (l ∷ filter is_open a.after) ≡ count_by test l.queue + count_waits test (filter is_open a.after) = sum_by-cons each l (filter is_open a.after) in
+        let same : count_waits test (open_links b) ≡ count_waits test (filter is_open a.before ++ (l ∷ filter is_open a.after)) = ap (count_waits test) opened in
+        omega (arith, parts, whole, itself, same)
+
+-- ---- busy connections
 
 -- nothing is under way on a connection that isn't open
 still : (o : Opening) (links : List Link) → list_any (is_busy_on o) (filter is_open links) ≡ list_any (is_busy_on o) links

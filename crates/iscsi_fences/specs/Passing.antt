@@ -1,5 +1,5 @@
 -- The response fence by what waits and what is under way on all open connections (RFC 7143 section 4.2.2.3).
-use Rattle.std.specs.Prelude.{◌≡◌, ℕ, ◌==◌, ◌&&◌, ◌||◌, not, nat_lt, Bool, false, List, ◌∷◌, ◌++◌, filter}
+use Rattle.std.specs.Prelude.{◌≡◌, ℕ, ◌==◌, ◌&&◌, ◌||◌, not, nat_lt, Bool, false, List, ◌∷◌, ◌++◌, filter, sum_by, count_by}
 use Rattle.std.specs.List.{list_any}
 use Rattle.iscsi_outbox_rules.specs.rules.Calls.{Opening}
 use Rattle.iscsi_outbox_rules.specs.rules.Boxes.{Outgoing, Link, Box}
@@ -15,6 +15,10 @@ takes_before time out = out.takes && nat_lt out.time time
 -- something like this waits on one of these connections
 abbrev pub any_waits : (Outgoing → Bool) → List Link → Bool
 any_waits test links = list_any (λ (m : Link). list_any test m.queue) links
+
+-- how many like this wait on these connections
+abbrev pub count_waits : (Outgoing → Bool) → List Link → ℕ
+count_waits test links = sum_by (λ (m : Link). count_by test m.queue) links
 
 -- a fenced answer went out on one of them, and isn't known to have arrived
 abbrev pub is_fence_out : List Link → Bool
