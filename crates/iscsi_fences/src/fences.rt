@@ -17,7 +17,7 @@ const OTHERS: usize = 1;
 ///
 /// A fenced answer is that to a function of several tasks: it goes out behind all that entered before it, on whatever
 /// connection, and before all that entered behind it. What waits is named by a slot, from 1 on, that it keeps until it
-/// leaves. Each call takes the same time however many wait.
+/// leaves. Each call but `clear` takes the same time however many wait.
 pub struct Fences {
     times: Lists<u64>,
     next: u64,
@@ -93,6 +93,15 @@ impl Fences {
         ensures { self.new ≡ left_by slot self.old }
     {
         self.times.remove(slot);
+    }
+
+    /// Nothing waits any more, and any time may be the next. It takes as many steps as there waited.
+    pub fn clear(&mut self)
+        ensures { self.new ≡ opened self.old.room }
+    {
+        self.times.clear(FENCED);
+        self.times.clear(OTHERS);
+        self.next = 0;
     }
 
     /// Whether what entered at this time isn't behind a fenced answer that waits.
