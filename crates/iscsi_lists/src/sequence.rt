@@ -51,6 +51,14 @@ impl Sequence {
         Ok(Sequence { lists })
     }
 
+    /// How many slots there are at most. It does nothing.
+    #[inline(always)]
+    pub fn known(&self)
+        ensures { self.now.room + 4 ≤ 4294967295 }
+    {
+        self.lists.known();
+    }
+
     /// The slot that came first.
     pub fn first(&self) -> Option<u32>
         ensures { result ≡ first_of self.now.order }
