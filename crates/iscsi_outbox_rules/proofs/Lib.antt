@@ -91,3 +91,4 @@ mod PlaceTimes
 mod PlaceHere
 mod PlaceCalls
 mod PlaceTheorem
+mod PromisesTheorem

@@ -114,13 +114,6 @@ module _ (o : Opening) (all : List (List Effect)) (once : (t : ℕ) → leavings
 
   -- ---- the other calls
 
-  same_marks : (l m : Link) → m.handed ≡ l.handed → m.queue ≡ l.queue → m.lost ≡ l.lost → m.cut ≡ l.cut → is_here o p s l ≡ true → is_here o p s m ≡ true
-  same_marks l m handed queue lost cut h =
-      ap (λ (gs : List Handed). (list_any (λ (g : Handed). is_it o p s g.out) gs || list_any (is_it o p s) m.queue) || (m.lost || m.cut)) handed
-      ∙ ap (λ (xs : List Outgoing). (list_any (λ (g : Handed). is_it o p s g.out) l.handed || list_any (is_it o p s) xs) || (m.lost || m.cut)) queue
-      ∙ ap (λ v. (list_any (λ (g : Handed). is_it o p s g.out) l.handed || list_any (is_it o p s) l.queue) || (v || m.cut)) lost
-      ∙ ap (λ v. (list_any (λ (g : Handed). is_it o p s g.out) l.handed || list_any (is_it o p s) l.queue) || (l.lost || v)) cut ∙ h
-
   settled : (b : Box) → EachFound (Here o p s) b.links → EachFound (Here o p s) (settle o b).links
   settled b h = here_settle o p s [] b.undue b h
 

@@ -8,6 +8,7 @@ ghost use Rattle.iscsi_outbox_rules.specs.promises.Fence.{FenceBefore, FenceBehi
 ghost use Rattle.iscsi_outbox_rules.specs.promises.Numbers.{CountStatSns, GoesOnward, ShowsExp};
 ghost use Rattle.iscsi_outbox_rules.specs.promises.Once.{EntersInOrder, GoesInOrder, GoesOnce, SendsWhatWasSent};
 ghost use Rattle.iscsi_outbox_rules.specs.promises.Order.{KeepsCommandOrder, KeepsConnectionOrder, RespondsLast};
+ghost use Rattle.iscsi_outbox_rules.specs.promises.Promises.{KeepsPromises};
 ghost use Rattle.iscsi_outbox_rules.specs.promises.Silent.{SilentAfter};
 ghost use Rattle.iscsi_outbox_rules.specs.promises.Still.{ArrivesBefore, StopsBefore};
 ghost use Rattle.iscsi_outbox_rules.specs.rules.Calls.{Call, Opening};
@@ -78,4 +79,10 @@ pub fn fence_law()
 /// long as anything waits, though nothing else was acknowledged.
 pub fn deadlock_law()
     ensures gives { (o : Opening) → NoDeadlock o }
+{}
+
+/// All of these in one, but for `deadlock_law`: if what is taken is what a session gives, whose requests came on its own connections,
+/// and whose MaxCmdSN flows.
+pub fn promises_law()
+    ensures promises { (o : Opening) (calls : List Call) → FollowsFlow o calls → FollowsKnown o calls → KeepsPromises o calls }
 {}
