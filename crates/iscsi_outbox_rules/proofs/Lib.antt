@@ -92,3 +92,4 @@ mod PlaceHere
 mod PlaceCalls
 mod PlaceTheorem
 mod PromisesTheorem
+mod WordTheorem

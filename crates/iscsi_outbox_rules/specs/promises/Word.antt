@@ -1,7 +1,7 @@
 -- No lost word: what a connection could give was told since it last gave nothing, so a writer that waits for word misses none.
-use Rattle.std.specs.Prelude.{◌≡◌, ℕ, ◌==◌, ◌&&◌, ◌||◌, not, Bool, true, false, List, [], ◌∷◌, ◌++◌, map}
+use Rattle.std.specs.Prelude.{◌≡◌, ℕ, ◌==◌, ◌&&◌, ◌||◌, not, Bool, true, false, List, [], ◌∷◌, ◌++◌, map, filter}
 use Rattle.iscsi_outbox_rules.specs.rules.Calls.{Opening, Call, Nexts}
-use Rattle.iscsi_outbox_rules.specs.rules.Boxes.{Box}
+use Rattle.iscsi_outbox_rules.specs.rules.Boxes.{Link, Box}
 use Rattle.iscsi_outbox_rules.specs.rules.Words.{contains}
 use Rattle.iscsi_outbox_rules.specs.rules.Handing.{Given, Nothing, given}
 use Rattle.iscsi_outbox_rules.specs.rules.Run.{opened, after_call, after_calls}
@@ -34,3 +34,25 @@ pub record WordHolds (o : Opening) (ts : List Told) : Type 0 where
   -- it is told once, until it gives nothing
   pub once : (before after : List Told) (t : Told) (conn : ℕ) → before ++ t ∷ after ≡ ts
       → is_awake_from o (opened o) conn false before ≡ true → is_asked_in_vain o (box_after o before) conn t.0 ≡ false → contains t.1 conn ≡ false
+
+-- ---- one that tells
+
+-- those that were told, and weren't asked in vain by this call
+abbrev pub stay_awake : Opening → Box → List ℕ → Call → List ℕ
+stay_awake o b awake c = filter (λ conn. not (is_asked_in_vain o b conn c)) awake
+
+-- the connections that could give something now, and weren't told
+abbrev pub to_tell : Opening → Box → List ℕ → List ℕ
+to_tell o b awake = filter (λ conn. not (contains awake conn) && not (gives_nothing (given o b conn))) (map (λ (l : Link). l.conn) b.links)
+
+-- each call with what is told at its end
+abbrev pub tells_from : Opening → Box → List ℕ → List Call → List Told
+tells_from o b awake [] = []
+tells_from o b awake (c ∷ cs) =
+    let after = after_call o b c in
+    let still = stay_awake o b awake c in
+    let now = to_tell o after still in
+    (c, now) ∷ tells_from o after (now ++ still) cs
+
+abbrev pub tells : Opening → List Call → List Told
+tells o cs = tells_from o (opened o) [] cs
