@@ -93,3 +93,4 @@ mod PlaceCalls
 mod PlaceTheorem
 mod PromisesTheorem
 mod WordTheorem
+mod PlaceRoom
