@@ -107,10 +107,14 @@ class Outbox:
 
     # ---- the effects of an event
 
+    def takes_more(self, conn):
+        """It has joined, wasn't lost, and no Logout on another connection closed it."""
+        return conn in self.joined - self.gone - self.cut
+
     def enter(self, conn, entry):
-        """Something enters the queue of a connection, unless that takes nothing more. One that a Logout on itself closes takes
-        the answers that had to wait."""
-        if conn not in self.gone | self.cut and (conn not in self.closed or self.takes_still(entry)):
+        """Something enters the queue of a connection, unless that takes nothing. One that a Logout on itself closes takes the
+        answers that had to wait."""
+        if self.takes_more(conn) and (conn not in self.closed or self.takes_still(entry)):
             self.queue[conn] += (entry._replace(time=self.time),)
         self.time += 1
 
@@ -128,7 +132,8 @@ class Outbox:
 
     def answer(self, answer):
         """The answer to an abort or Logout. It enters when it is due."""
-        self.undue += (answer,)
+        if self.takes_more(answer.conn):
+            self.undue += (answer,)
         self.settle()
 
     def close(self, conn, by_another):

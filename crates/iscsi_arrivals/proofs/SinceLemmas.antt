@@ -24,7 +24,7 @@ module _ (s : Counts) (l : Link) (st : StandsFor s l) where
   usable_is = ap (λ (v : Bool). v && not s.closed) (open_is s l st) ∙ ap (λ (v : Bool). is_open l && not v) st.closed
 
   pub takes_more_is : takes_more_by s ≡ takes_more l
-  takes_more_is = ap (λ (v : Bool). not v && not s.cut) st.lost ∙ ap (λ (v : Bool). not l.lost && not v) st.cut
+  takes_more_is = ap (λ (v : Bool). v && not s.cut) (open_is s l st) ∙ ap (λ (v : Bool). is_open l && not v) st.cut
 
   pub behind_logout_is : is_behind_logout_by s ≡ is_behind_logout l
   behind_logout_is = ap (λ (v : Bool). v || s.ended) st.cut ∙ ap (λ (v : Bool). l.cut || v) st.ended

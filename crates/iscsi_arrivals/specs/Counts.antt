@@ -45,7 +45,7 @@ abbrev pub is_usable_by : Counts → Bool
 is_usable_by s = is_open_by s && not s.closed
 
 abbrev pub takes_more_by : Counts → Bool
-takes_more_by s = not s.lost && not s.cut
+takes_more_by s = is_open_by s && not s.cut
 
 abbrev pub may_join_by : Counts → Bool
 may_join_by s = not s.joined && not s.closed && not s.lost

@@ -5,7 +5,7 @@ use Rattle.iscsi_wire.specs.Replies.{NO_TAG}
 use Rattle.iscsi_outbox_rules.specs.rules.Boxes.{Pdu, Pings, Notices, Handed, Link}
 use Rattle.iscsi_outbox_rules.specs.rules.Handing.{takes_handed}
 use Rattle.iscsi_outbox_rules.specs.rules.Run.{new_link, link_joined, link_heard}
-use Rattle.iscsi_arrivals.specs.Counts.{Counts, new_counts, joined_by, stamp_by, handed_by, tag_of_ping, pinged_by, written_by, number_heard, heard_by, has_arrived_by, is_written_by, is_busy_by}
+use Rattle.iscsi_arrivals.specs.Counts.{Counts, new_counts, takes_more_by, joined_by, stamp_by, handed_by, tag_of_ping, pinged_by, written_by, number_heard, heard_by, has_arrived_by, is_written_by, is_busy_by}
 use Rattle.iscsi_arrivals.specs.Stamps.{handed_out, stat_sn_at, pings_at}
 
 -- ---- numbers
@@ -43,6 +43,13 @@ half_behind = refl
 -- joined with StatSN 1; a PDU takes it, one takes none, and one takes 2
 abbrev joined : Counts
 joined = joined_by 1 new_counts
+
+-- before, nothing enters its queue
+pub takes_nothing : takes_more_by new_counts ≡ false
+takes_nothing = refl
+
+pub takes_more_now : takes_more_by joined ≡ true
+takes_more_now = refl
 
 abbrev after_one : Counts
 after_one = handed_by true false joined

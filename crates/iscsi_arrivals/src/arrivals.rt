@@ -123,12 +123,12 @@ impl Arrivals {
         self.is_open() && !self.closed
     }
 
-    /// Whether something may still enter its queue.
+    /// Whether something may enter its queue: it is open, and no Logout on another connection closed it.
     pub fn takes_more(&self) -> bool
         ensures answer { result ≡ takes_more_by self.now }
         ensures since { (l : Link) → StandsFor self.now l → result ≡ takes_more l }
     {
-        !self.lost && !self.cut
+        self.is_open() && !self.cut
     }
 
     /// The connection joins with this StatSN. False, and nothing changes, where it has joined, is closed or lost.

@@ -212,7 +212,7 @@ module _ (t c : ℕ) where
   none_from true r x h = absurd cc
   none_from false r x h = h
 
-  usable_link : (o : Opening) (b : Box) (conn : ℕ) (x : Option Link) → first_of (filter (λ (l : Link). (l.conn == conn) && is_usable l) b.links) ≡ x → Twins b.links → refusal_on o b conn ≡ None
+  pub usable_link : (o : Opening) (b : Box) (conn : ℕ) (x : Option Link) → first_of (filter (λ (l : Link). (l.conn == conn) && is_usable l) b.links) ≡ x → Twins b.links → refusal_on o b conn ≡ None
       → (l : Link) × (find_link conn b.links ≡ Some l) × (is_usable l ≡ true)
   usable_link o b conn None is twins none = absurd (let no : Some Closed ≡ None = sym (ap (λ x. elim x [ Some l ↦ cond (is_full o l) (Some Full) None | None ↦ Some Closed ]) is) ∙ none in cc)
   usable_link o b conn (Some l) is twins none =
@@ -286,7 +286,7 @@ module _ (t c : ℕ) where
       uncut true is = absurd (false≢true (sym (not_true l.closed parts.1) ∙ fits.1 is))
 
       takes : takes_more l ≡ true
-      takes = ap (λ v. v && not l.cut) unlost ∙ uncut l.cut refl
+      takes = ap (λ v. v && not l.cut) parts.0 ∙ uncut l.cut refl
 
       waits : h.waiting ≡ own_waiting t c l.queue
       waits =

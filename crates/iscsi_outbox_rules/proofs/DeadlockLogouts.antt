@@ -119,7 +119,7 @@ module _ (cs : List ℕ) (items : List (List Effect)) (b : Box) (l : Link) (mark
           let m = each-any (λ (x : Link). find_link x.conn b.links ≡ Some x) (λ (x : Link). (x.conn == a.conn) && takes_more x) b.links k twins in
           let test = and_parts (m.0.conn == a.conn) (takes_more m.0) m.1 in
           let same : m.0 ≡ l = some_link m.0 l (sym m.2 ∙ ap (λ e. find_link e b.links) (eqb-true m.0.conn a.conn test.0 ∙ eqb-true a.conn l.conn at) ∙ found) in
-          let uncut : not l.cut ≡ true = (and_parts (not l.lost) (not l.cut) (ap takes_more (sym same) ∙ test.1)).1 in
+          let uncut : not l.cut ≡ true = (and_parts (l.joined && not l.lost) (not l.cut) (ap takes_more (sym same) ∙ test.1)).1 in
           absurd (false≢true (sym (ap not is) ∙ uncut))
 
   by_handed : list_any (λ (h : Handed). contains h.out.closes l.conn) l.handed ≡ true → Ended b l

@@ -84,6 +84,25 @@ takes_other conn change kept links d apart =
     none : (m : Link) → m.conn ≡ conn → ((m.conn == d) && takes_more m) ≡ false
     none m at = ap (λ v. v && takes_more m) (ne_eqb m.conn d (λ same. eqb-false d conn apart (sym same ∙ at)))
 
+-- a connection that joins takes more
+takes_joined : (conn stat_sn : ℕ) (links : List Link) (d : ℕ) → takes_on links d ≡ true → takes_on (at_link conn (link_joined stat_sn) links) d ≡ true
+takes_joined conn stat_sn [] d some = some
+takes_joined conn stat_sn (l ∷ links) d some = by_first ((l.conn == d) && takes_more l) (takes_joined conn stat_sn links d) refl some
+  where
+    test : Link → Bool
+    test m = (m.conn == d) && takes_more m
+
+    here : test l ≡ true → test (cond (l.conn == conn) (link_joined stat_sn l) l) ≡ true
+    here is =
+        let parts = and_parts (l.conn == d) (takes_more l) is in
+        let opens = and_parts (l.joined && not l.lost) (not l.cut) parts.1 in
+        cond_both (l.conn == conn) (link_joined stat_sn l) l (λ (m : Link). test m ≡ true)
+        (λ at. and_both (l.conn == d) (not l.lost && not l.cut) parts.0 (and_both (not l.lost) (not l.cut) (and_parts l.joined (not l.lost) opens.0).1 opens.1)) (λ apart. is)
+
+    by_first : (v : Bool) → (takes_on links d ≡ true → takes_on (at_link conn (link_joined stat_sn) links) d ≡ true) → test l ≡ v → (v || takes_on links d) ≡ true → takes_on (at_link conn (link_joined stat_sn) (l ∷ links)) d ≡ true
+    by_first true go is either = ap (λ v. v || takes_on (at_link conn (link_joined stat_sn) links) d) (here is)
+    by_first false go is later = or_second (test (cond (l.conn == conn) (link_joined stat_sn l) l)) (takes_on (at_link conn (link_joined stat_sn) links) d) (go later)
+
 -- ---- commands
 
 -- whatever left stays so
@@ -311,7 +330,12 @@ queues_call o b (Hears conn exp_stat_sn tag) h =
     (λ l. cond_both (is_open l) (record l { arrived = max l.arrived (max (arrived_by_stat_sn l exp_stat_sn) (arrived_by_ping l tag)) }) l (λ (m : Link). takes_more m ≡ takes_more l) (λ is. refl) (λ is. refl))
     (λ l k. cond_both (is_open l) (record l { arrived = max l.arrived (max (arrived_by_stat_sn l exp_stat_sn) (arrived_by_ping l tag)) }) l (Timed b.time) (λ is. k) (λ is. k)) h)
 queues_call o b (Joins conn stat_sn) h =
-    cond_both (may_join b conn) (record b { links = at_link conn (link_joined stat_sn) b.links }) b QueuesStand (λ is. queues_at b conn (link_joined stat_sn) (λ l. refl) (λ l. refl) (λ l k. k) h) (λ is. h)
+    cond_both (may_join b conn) (record b { links = at_link conn (link_joined stat_sn) b.links }) b QueuesStand (λ is. record {
+      times = each-at_link (Timed b.time) (Timed b.time) conn (link_joined stat_sn) b.links (λ l at k. k) (λ l isnt k. k) h.times;
+      takers = each-weaken (λ (a : Answer). takes_on b.links a.conn ≡ true) (λ (a : Answer). takes_on (at_link conn (link_joined stat_sn) b.links) a.conn ≡ true) b.undue (λ a k. takes_joined conn stat_sn b.links a.conn k) h.takers;
+      scopes = h.scopes;
+    })
+    (λ is. h)
 queues_call o b (Loses conn) h =
     let k = queues_shut b conn link_lost (λ l. refl) h in
     queues_settle o (drop_on conn (record b { links = at_link conn link_lost b.links; reached = 0 })) (record { times = k.times; takers = k.takers; scopes = k.scopes })

@@ -5,19 +5,24 @@ use Rattle.std.proofs.lemmas.Bool.{false≢true, cases_order, eqb-true, eqb-fals
 use Rattle.std.proofs.lemmas.List.{append_assoc}
 use Rattle.std.proofs.lemmas.List.Folds.{list_any-append}
 use Rattle.iscsi_history.proofs.BoolLemmas.{and_parts, and_both, not_true, or_none}
+use Rattle.iscsi_history.specs.declared.effect.Effect.{Effect}
 use Rattle.iscsi_outbox_rules.specs.rules.Calls.{Opening, Call}
 use Rattle.iscsi_outbox_rules.specs.rules.Boxes.{Outgoing, Handed, Link, Box}
 use Rattle.iscsi_outbox_rules.specs.rules.Words.{is_open, looks_for_arrival, unarrived, under_way}
 use Rattle.iscsi_outbox_rules.specs.rules.Handing.{takes_handed, fenced_handed, lets_pass, is_clear}
 use Rattle.iscsi_outbox_rules.specs.rules.Run.{new_link, opened, after_call, after_calls}
-use Rattle.iscsi_outbox_rules.specs.promises.Deeds.{Deed, deeds_of, handed_in_deed, items_in, is_lose_of, has_joined, was_lost, FollowsSession}
+use Rattle.iscsi_outbox_rules.specs.promises.Deeds.{Deed, deeds_of, handed_in_deed, items_in, is_lose_of, was_lost, FollowsSession}
 use Rattle.iscsi_outbox_rules.specs.promises.Fence.{is_fenced, FenceInOrder}
-use Rattle.iscsi_outbox_rules.proofs.EachLemmas.{EachOf, each-first_of}
+use Rattle.iscsi_outbox_rules.proofs.EachLemmas.{EachOf, each-first_of, each-weaken}
 use Rattle.iscsi_outbox_rules.proofs.Cuts.{Cut, cut, keeps, Handing, handed-next}
 use Rattle.iscsi_outbox_rules.proofs.Chosen.{FromQueue, IsPing, IsNotice, Chosen, chosen_from}
 use Rattle.iscsi_outbox_rules.proofs.FoundLemmas.{found-conn}
 use Rattle.iscsi_outbox_rules.proofs.LinkRuns.{LinkShows, link_starts}
 use Rattle.iscsi_outbox_rules.proofs.NumberTheorem.{BoxShows, box_shows, none_lost}
+use Rattle.iscsi_outbox_rules.proofs.ConnLemmas.{conns_of}
+use Rattle.iscsi_outbox_rules.proofs.MarkRuns.{Marked, closed_by, cut_by}
+use Rattle.iscsi_outbox_rules.proofs.MarkItems.{MarksStand}
+use Rattle.iscsi_outbox_rules.proofs.MarkCalls.{marks_kept, marks_start}
 use Rattle.iscsi_outbox_rules.proofs.FenceEntries.{Entrywise, Entries, entries_kept}
 use Rattle.iscsi_outbox_rules.proofs.FenceTheorem.{LetsAllPass, all_pass, either_way, went_fenced}
 
@@ -96,14 +101,19 @@ queue_behind owner now c d conn h apart at mine (x ∷ queue) owned fenced clear
     passed true w is k = k
     passed false w is k = absurd (false≢true is)
 
--- the connections with this CID, which have joined and weren't lost
-links_behind : (o : Opening) (ds : List Deed) (owner : ℕ → ℕ) (now c d : ℕ) (h : Outgoing) (conn : ℕ) → d ≢ c → conn ≡ c → has_joined ds d ≡ true → was_lost ds d ≡ false → Owned owner now c h → (links : List Link)
-    → list_all (λ k. lets_pass o h k && (not h.fenced || is_clear o h k)) (filter (λ k. is_open k && not (k.conn == conn)) links) ≡ true → EachOf (LinkShows ds) links → EachOf (λ (l : Link). EachOf (Owned owner now l.conn) l.queue) links
+-- where a connection hasn't joined nothing waits
+abbrev Idle : Link → Type 0
+Idle l = l.joined ≡ false → l.queue ≡ []
+
+-- the connections with this CID, which weren't lost
+links_behind : (o : Opening) (ds : List Deed) (owner : ℕ → ℕ) (now c d : ℕ) (h : Outgoing) (conn : ℕ) → d ≢ c → conn ≡ c → was_lost ds d ≡ false → Owned owner now c h → (links : List Link)
+    → list_all (λ k. lets_pass o h k && (not h.fenced || is_clear o h k)) (filter (λ k. is_open k && not (k.conn == conn)) links) ≡ true → EachOf (LinkShows ds) links → EachOf Idle links
+    → EachOf (λ (l : Link). EachOf (Owned owner now l.conn) l.queue) links
     → EachOf (λ (l : Link). EachOf (Behind h d tt now l.conn) l.queue) links
-links_behind o ds owner now c d h conn apart at joined unlost mine [] all shows owned = tt
-links_behind o ds owner now c d h conn apart at joined unlost mine (m ∷ links) all shows owned = (
+links_behind o ds owner now c d h conn apart at unlost mine [] all shows idle owned = tt
+links_behind o ds owner now c d h conn apart at unlost mine (m ∷ links) all shows idle owned = (
   by_conn (m.conn == d) refl,
-  links_behind o ds owner now c d h conn apart at joined unlost mine links (rest (is_open m && not (m.conn == conn)) all) shows.1 owned.1,
+  links_behind o ds owner now c d h conn apart at unlost mine links (rest (is_open m && not (m.conn == conn)) all) shows.1 idle.1 owned.1,
 )
   where
     p : Link → Bool
@@ -124,9 +134,9 @@ links_behind o ds owner now c d h conn apart at joined unlost mine (m ∷ links)
     elsewhere [] isnt = tt
     elsewhere (x ∷ queue) isnt = ((λ on takes either. absurd (isnt on)), elsewhere queue isnt)
 
-    here : m.conn ≡ d → EachOf (Behind h d tt now m.conn) m.queue
-    here is =
-        let opens : is_open m ≡ true = and_both m.joined (not m.lost) (shows.0.joined ∙ ap (has_joined ds) is ∙ joined) (ap (λ v. not v) (shows.0.lost ∙ ap (was_lost ds) is ∙ unlost)) in
+    here : m.conn ≡ d → m.joined ≡ true → EachOf (Behind h d tt now m.conn) m.queue
+    here is joined =
+        let opens : is_open m ≡ true = and_both m.joined (not m.lost) joined (ap (λ v. not v) (shows.0.lost ∙ ap (was_lost ds) is ∙ unlost)) in
         let other : not (m.conn == conn) ≡ true = ap (λ v. not v) (ne_eqb m.conn conn (λ same. apart (sym is ∙ same ∙ at))) in
         let passes : q m ≡ true = first (p m) (and_both (is_open m) (not (m.conn == conn)) opens other) all in
         let parts = and_parts (lets_pass o h m) (not h.fenced || is_clear o h m) passes in
@@ -135,8 +145,12 @@ links_behind o ds owner now c d h conn apart at joined unlost mine (m ∷ links)
         (λ fenced. not_true (list_any (λ (y : Outgoing). y.takes && nat_lt y.time h.time) m.queue)
         (and_parts (not (list_any (λ (y : Outgoing). y.takes && nat_lt y.time h.time) m.queue)) (not (list_any takes_handed (under_way o m))) (either_way h.fenced (is_clear o h m) fenced parts.1)).0)
 
+    by_joined : (v : Bool) → m.joined ≡ v → m.conn ≡ d → EachOf (Behind h d tt now m.conn) m.queue
+    by_joined true joined is = here is joined
+    by_joined false unjoined is = subst (EachOf (Behind h d tt now m.conn)) (sym (idle.0 unjoined)) tt
+
     by_conn : (v : Bool) → (m.conn == d) ≡ v → EachOf (Behind h d tt now m.conn) m.queue
-    by_conn true is = here (eqb-true m.conn d is)
+    by_conn true is = by_joined m.joined refl (eqb-true m.conn d is)
     by_conn false is = elsewhere m.queue (λ same. eqb-false m.conn d is same)
 
 -- ---- the theorem
@@ -169,8 +183,8 @@ module _ (o : Opening) (calls : List Call) (follows : FollowsSession o calls) (e
       (⊎_elim (λ (p : IsPing o b n.link n.out). absurd (false≢true (sym (ap (λ (x : Outgoing). x.takes) p.is) ∙ taking))) (λ (p : IsNotice o b n.link n.out). absurd (false≢true (sym (ap (λ (x : Outgoing). x.takes) p.is) ∙ taking))))
       (chosen_from o b n.link n.out n.chosen_is).source)
 
-  in_order : d ≢ c → has_joined earlier d ≡ true → h.out.takes ≡ true → g.out.takes ≡ true → (is_fenced o (items_in earlier) h || is_fenced o (items_in ds) g) ≡ true → h.out.time < g.out.time
-  in_order apart joined takes takes_later fenced =
+  in_order : d ≢ c → h.out.takes ≡ true → g.out.takes ≡ true → (is_fenced o (items_in earlier) h || is_fenced o (items_in ds) g) ≡ true → h.out.time < g.out.time
+  in_order apart takes takes_later fenced =
       from_queue b₂ d g takes_later n₂ (Behind h.out d tt b₂.time n₂.link.conn) behind₂ (found-conn d b₂.links n₂.link n₂.found) takes_later (fenced_either fenced)
     where
       k₁ : Cut o (opened o) calls earlier handing (since ++ later ∷ after)
@@ -200,6 +214,14 @@ module _ (o : Opening) (calls : List Call) (follows : FollowsSession o calls) (e
       shows₁ : BoxShows earlier b₁
       shows₁ = subst (λ es. BoxShows es b₁) (sym k₁.before_is) (keeps o BoxShows (box_shows o) [] (opened o) k₁.first (link_starts o))
 
+      marks₁ : MarksStand (conns_of (opened o).links) (items_in (deeds_of o k₁.first)) b₁
+      marks₁ = keeps o (λ es b. MarksStand (conns_of (opened o).links) (items_in es) b) (marks_kept o (conns_of (opened o).links)) [] (opened o) k₁.first (marks_start o)
+
+      idle₁ : EachOf Idle b₁.links
+      idle₁ =
+          let items : List (List Effect) = items_in (deeds_of o k₁.first) in
+          each-weaken (Marked (conns_of (opened o).links) (closed_by items) (cut_by items)) Idle b₁.links (λ l m. m.idle) marks₁.marks
+
       owned₁ : OwnedBox o b₁
       owned₁ = keeps o (λ es b. OwnedBox o b) (λ es b call k. entries_kept (ℕ → ℕ) (λ n. Unit {0}) Owned owned_wise o b call k) [] (opened o) k₁.first (owned_start o)
 
@@ -223,7 +245,7 @@ module _ (o : Opening) (calls : List Call) (follows : FollowsSession o calls) (e
       start = record {
         state = tt;
         now = mine.past;
-        links = links_behind o earlier owned₁.state b₁.time c d h.out n₁.link.conn apart at₁ joined unlost mine b₁.links passes shows₁.links owned₁.links;
+        links = links_behind o earlier owned₁.state b₁.time c d h.out n₁.link.conn apart at₁ unlost mine b₁.links passes shows₁.links idle₁ owned₁.links;
       }
 
       later₂ : BehindBox b₂
@@ -233,5 +255,5 @@ module _ (o : Opening) (calls : List Call) (follows : FollowsSession o calls) (e
       behind₂ = each-first_of (λ (l : Link). EachOf (Behind h.out d tt b₂.time l.conn) l.queue) (λ (l : Link). l.conn == d) b₂.links n₂.link n₂.found later₂.links
 
 pub fence_in_order : (o : Opening) (calls : List Call) → FollowsSession o calls → FenceInOrder o (deeds_of o calls)
-fence_in_order o calls follows earlier since after handing later c d h g whole shown shown_later apart joined takes takes_later fenced =
-    in_order o calls follows earlier since after handing later c d h g whole shown shown_later apart joined takes takes_later fenced
+fence_in_order o calls follows earlier since after handing later c d h g whole shown shown_later apart takes takes_later fenced =
+    in_order o calls follows earlier since after handing later c d h g whole shown shown_later apart takes takes_later fenced

@@ -34,6 +34,7 @@ keeps_written = record {
   closed = λ l. cond_both (nat_lt l.written (length l.handed)) (record l { written = l.written + 1 }) l (λ (m : Link). m.closed ≡ l.closed) (λ is. refl) (λ is. refl);
   cut = λ l. cond_both (nat_lt l.written (length l.handed)) (record l { written = l.written + 1 }) l (λ (m : Link). m.cut ≡ l.cut) (λ is. refl) (λ is. refl);
   empty = λ l cut none. cond_both (nat_lt l.written (length l.handed)) (record l { written = l.written + 1 }) l (λ (m : Link). m.queue ≡ []) (λ is. none) (λ is. none);
+  idle = λ l none. cond_both (nat_lt l.written (length l.handed)) (record l { written = l.written + 1 }) l (λ (m : Link). m.joined ≡ false → m.queue ≡ []) (λ is. none) (λ is. none);
 }
 
 keeps_heard : (exp_stat_sn tag : ℕ) → Keeps (link_heard exp_stat_sn tag)
@@ -42,6 +43,7 @@ keeps_heard exp_stat_sn tag = record {
   closed = λ l. cond_both (is_open l) (record l { arrived = max l.arrived (max (arrived_by_stat_sn l exp_stat_sn) (arrived_by_ping l tag)) }) l (λ (m : Link). m.closed ≡ l.closed) (λ is. refl) (λ is. refl);
   cut = λ l. cond_both (is_open l) (record l { arrived = max l.arrived (max (arrived_by_stat_sn l exp_stat_sn) (arrived_by_ping l tag)) }) l (λ (m : Link). m.cut ≡ l.cut) (λ is. refl) (λ is. refl);
   empty = λ l cut none. cond_both (is_open l) (record l { arrived = max l.arrived (max (arrived_by_stat_sn l exp_stat_sn) (arrived_by_ping l tag)) }) l (λ (m : Link). m.queue ≡ []) (λ is. none) (λ is. none);
+  idle = λ l none. cond_both (is_open l) (record l { arrived = max l.arrived (max (arrived_by_stat_sn l exp_stat_sn) (arrived_by_ping l tag)) }) l (λ (m : Link). m.joined ≡ false → m.queue ≡ []) (λ is. none) (λ is. none);
 }
 
 keeps_taken : (out : Outgoing) → Keeps (taken_from out)
@@ -50,6 +52,7 @@ keeps_taken out = record {
   closed = λ l. cond_both (is_from_queue out) (record l { queue = drop 1 l.queue }) l (λ (m : Link). m.closed ≡ l.closed) (λ is. refl) (λ is. refl);
   cut = λ l. cond_both (is_from_queue out) (record l { queue = drop 1 l.queue }) l (λ (m : Link). m.cut ≡ l.cut) (λ is. refl) (λ is. refl);
   empty = λ l cut none. cond_both (is_from_queue out) (record l { queue = drop 1 l.queue }) l (λ (m : Link). m.queue ≡ []) (λ is. ap (drop 1) none) (λ is. none);
+  idle = λ l none. cond_both (is_from_queue out) (record l { queue = drop 1 l.queue }) l (λ (m : Link). m.joined ≡ false → m.queue ≡ []) (λ is idle. ap (drop 1) (none idle)) (λ is. none);
 }
 
 -- ---- a call
@@ -83,7 +86,7 @@ module _ (o : Opening) (cs : List ℕ) where
       (λ (k : Hand o b conn).
       let l : Link = k.handing.link in
       subst (Marks items) (sym k.after_is)
-      (at items l.conn (λ m. record m { handed = m.handed ++ k.handed ∷ [] }) (record { conn = λ m. refl; closed = λ m. refl; cut = λ m. refl; empty = λ m cut none. none }) (at_link l.conn (taken_from k.handed.out) b.links)
+      (at items l.conn (λ m. record m { handed = m.handed ++ k.handed ∷ [] }) (record { conn = λ m. refl; closed = λ m. refl; cut = λ m. refl; empty = λ m cut none. none; idle = λ m none. none }) (at_link l.conn (taken_from k.handed.out) b.links)
       (at items l.conn (taken_from k.handed.out) (keeps_taken k.handed.out) b.links h)))
       (λ (k : Idle o b conn). subst (Marks items) (sym k.after_is) h)
       (next o b conn)
@@ -106,12 +109,12 @@ module _ (o : Opening) (cs : List ℕ) where
   call_marks ds b (Joins conn stat_sn) conns h =
       no_items ds (Joins conn stat_sn, answered o b (Joins conn stat_sn)) (after_call o b (Joins conn stat_sn)) refl
       (cond_both (may_join b conn) (record b { links = at_link conn (link_joined stat_sn) b.links }) b (Marks (items_in ds))
-      (λ is. at (items_in ds) conn (link_joined stat_sn) (record { conn = λ m. refl; closed = λ m. refl; cut = λ m. refl; empty = λ m cut none. none }) b.links h) (λ is. h))
+      (λ is. at (items_in ds) conn (link_joined stat_sn) (record { conn = λ m. refl; closed = λ m. refl; cut = λ m. refl; empty = λ m cut none. none; idle = λ m none is. absurd (false≢true (sym is)) }) b.links h) (λ is. h))
   call_marks ds b (Loses conn) conns h =
       no_items ds (Loses conn, answered o b (Loses conn)) (after_call o b (Loses conn)) refl
       (settled (items_in ds) (drop_on conn (record b { links = at_link conn link_lost b.links; reached = 0 }))
       (at (items_in ds) conn emptied (keeps_emptied cs (closed_by (items_in ds)) (cut_by (items_in ds))) (at_link conn link_lost b.links)
-      (at (items_in ds) conn link_lost (record { conn = λ m. refl; closed = λ m. refl; cut = λ m. refl; empty = λ m cut none. none }) b.links h)))
+      (at (items_in ds) conn link_lost (record { conn = λ m. refl; closed = λ m. refl; cut = λ m. refl; empty = λ m cut none. none; idle = λ m none. none }) b.links h)))
   call_marks ds b (Clears unit) conns h =
       no_items ds (Clears unit, answered o b (Clears unit)) (after_call o b (Clears unit)) refl (settled (items_in ds) (record b { undue = cleared unit b.undue }) h)
 
@@ -128,7 +131,7 @@ marks_start o = record { conns = refl; marks = starts (conns_of (opened o).links
         → EachOf (Marked cs (closed_by []) (cut_by [])) (map (λ (x : ℕ × ℕ). new_link x.0) xs)
     starts cs [] known = tt
     starts cs (x ∷ xs) known = (
-      record { known = known x.0 (ap (λ v. v || list_any (λ k. k == x.0) (conns_of (map (λ (y : ℕ × ℕ). new_link y.0) xs))) (eq-eqb x.0 x.0 refl)); closed = refl; cut = refl; empty = λ is. refl },
+      record { known = known x.0 (ap (λ v. v || list_any (λ k. k == x.0) (conns_of (map (λ (y : ℕ × ℕ). new_link y.0) xs))) (eq-eqb x.0 x.0 refl)); closed = refl; cut = refl; empty = λ is. refl; idle = λ is. refl },
       starts cs xs (λ c later. known c (or_second (x.0 == c) (list_any (λ k. k == c) (conns_of (map (λ (y : ℕ × ℕ). new_link y.0) xs))) later)),
     )
 

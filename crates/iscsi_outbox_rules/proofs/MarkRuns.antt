@@ -77,6 +77,7 @@ pub record Marked (cs : List ℕ) (f g : ℕ → Bool) (l : Link) : Type 0 where
   pub closed : l.closed ≡ f l.conn
   pub cut : l.cut ≡ g l.conn
   pub empty : l.cut ≡ true → l.queue ≡ []
+  pub idle : l.joined ≡ false → l.queue ≡ []
 
 -- what leaves them as they are
 pub record Keeps (change : Link → Link) : Type 0 where
@@ -84,6 +85,7 @@ pub record Keeps (change : Link → Link) : Type 0 where
   pub closed : (l : Link) → (change l).closed ≡ l.closed
   pub cut : (l : Link) → (change l).cut ≡ l.cut
   pub empty : (l : Link) → l.cut ≡ true → l.queue ≡ [] → (change l).queue ≡ []
+  pub idle : (l : Link) → (l.joined ≡ false → l.queue ≡ []) → (change l).joined ≡ false → (change l).queue ≡ []
 
 module _ (cs : List ℕ) (f g : ℕ → Bool) where
   pub kept_marked : (change : Link → Link) → Keeps change → (l : Link) → Marked cs f g l → Marked cs f g (change l)
@@ -92,6 +94,7 @@ module _ (cs : List ℕ) (f g : ℕ → Bool) where
     closed = k.closed l ∙ m.closed ∙ ap f (sym (k.conn l));
     cut = k.cut l ∙ m.cut ∙ ap g (sym (k.conn l));
     empty = λ is. k.empty l (sym (k.cut l) ∙ is) (m.empty (sym (k.cut l) ∙ is));
+    idle = k.idle l m.idle;
   }
 
   pub marks_map : (change : Link → Link) → Keeps change → (links : List Link) → EachOf (Marked cs f g) links → EachOf (Marked cs f g) (map change links)
@@ -105,11 +108,15 @@ module _ (cs : List ℕ) (f g : ℕ → Bool) where
   -- ---- steps
 
   taken : (out : Outgoing) (l : Link) → l.cut ≡ true → takes_more l ≡ true → ⊥
-  taken out l is more = no l.lost (ap (λ v. not l.lost && not v) (sym is) ∙ more)
+  taken out l is more = no (l.joined && not l.lost) (ap (λ v. (l.joined && not l.lost) && not v) (sym is) ∙ more)
     where
-      no : (v : Bool) → (not v && false) ≡ true → ⊥
+      no : (v : Bool) → (v && false) ≡ true → ⊥
       no true e = false≢true e
       no false e = false≢true e
+
+  -- a connection that hasn't joined takes nothing
+  taken_unjoined : (l : Link) → l.joined ≡ false → takes_more l ≡ true → ⊥
+  taken_unjoined l is more = false≢true (ap (λ v. (v && not l.lost) && not l.cut) (sym is) ∙ more)
 
   pub keeps_append : (out : Outgoing) → Keeps (append out)
   keeps_append out = record {
@@ -117,13 +124,20 @@ module _ (cs : List ℕ) (f g : ℕ → Bool) where
     closed = λ l. cond_both (takes_more l) (record l { queue = l.queue ++ out ∷ [] }) l (λ (m : Link). m.closed ≡ l.closed) (λ is. refl) (λ is. refl);
     cut = λ l. cond_both (takes_more l) (record l { queue = l.queue ++ out ∷ [] }) l (λ (m : Link). m.cut ≡ l.cut) (λ is. refl) (λ is. refl);
     empty = λ l cut none. cond_both (takes_more l) (record l { queue = l.queue ++ out ∷ [] }) l (λ (m : Link). m.queue ≡ []) (λ more. absurd (taken out l cut more)) (λ no. none);
+    idle = λ l none. cond_both (takes_more l) (record l { queue = l.queue ++ out ∷ [] }) l (λ (m : Link). m.joined ≡ false → m.queue ≡ []) (λ more is. absurd (taken_unjoined l is more)) (λ no. none);
   }
 
   pub keeps_without : (these : ℕ → Bool) → Keeps (without these)
-  keeps_without these = record { conn = λ l. refl; closed = λ l. refl; cut = λ l. refl; empty = λ l cut none. ap (λ q. (without these (record l { queue = q })).queue) none }
+  keeps_without these = record {
+    conn = λ l. refl;
+    closed = λ l. refl;
+    cut = λ l. refl;
+    empty = λ l cut none. ap (λ q. (without these (record l { queue = q })).queue) none;
+    idle = λ l none is. ap (λ q. (without these (record l { queue = q })).queue) (none is);
+  }
 
   pub keeps_emptied : Keeps emptied
-  keeps_emptied = record { conn = λ l. refl; closed = λ l. refl; cut = λ l. refl; empty = λ l cut none. refl }
+  keeps_emptied = record { conn = λ l. refl; closed = λ l. refl; cut = λ l. refl; empty = λ l cut none. refl; idle = λ l none is. refl }
 
   pub marks_settle : (o : Opening) (before rest : List Answer) (b : Box) → EachOf (Marked cs f g) b.links → EachOf (Marked cs f g) (settle_from o before rest b).links
   marks_settle o before [] b h = h
@@ -161,6 +175,7 @@ closed_link cs f g by conn l m here own = record {
   closed = sym (second (f l.conn) (conn == l.conn) (eq-eqb conn l.conn (sym (eqb-true l.conn conn here))));
   cut = m.cut ∙ sym (none (g l.conn) (conn == l.conn) (l.conn == by) (ap (λ c. c == by) (eqb-true l.conn conn here) ∙ own));
   empty = m.empty;
+  idle = m.idle;
 }
   where
     second : (x y : Bool) → y ≡ true → (x || y) ≡ true
@@ -180,6 +195,7 @@ cut_link cs f g by conn l m here own = record {
   closed = sym (second (f l.conn) (conn == l.conn) same);
   cut = sym (second (g l.conn) ((conn == l.conn) && not (l.conn == by)) (both (conn == l.conn) (l.conn == by) same (ap (λ c. c == by) (eqb-true l.conn conn here) ∙ own)));
   empty = λ is. refl;
+  idle = λ is. refl;
 }
   where
     second : (x y : Bool) → y ≡ true → (x || y) ≡ true
@@ -200,6 +216,7 @@ other_link cs f g by conn l m there = record {
   closed = m.closed ∙ sym (first (f l.conn) (conn == l.conn) isnt);
   cut = m.cut ∙ sym (none (g l.conn) (conn == l.conn) (not (l.conn == by)) isnt);
   empty = m.empty;
+  idle = m.idle;
 }
   where
     isnt : (conn == l.conn) ≡ false
@@ -254,7 +271,7 @@ or_parts false false b n = refl
 pub marks_as : (cs : List ℕ) (f g f' g' : ℕ → Bool) (links : List Link) → ((c : ℕ) → list_any (λ k. k == c) cs ≡ true → f c ≡ f' c) → ((c : ℕ) → list_any (λ k. k == c) cs ≡ true → g c ≡ g' c)
     → EachOf (Marked cs f g) links → EachOf (Marked cs f' g') links
 marks_as cs f g f' g' links closed cut h =
-    each-weaken (Marked cs f g) (Marked cs f' g') links (λ l m. record { known = m.known; closed = m.closed ∙ closed l.conn m.known; cut = m.cut ∙ cut l.conn m.known; empty = m.empty }) h
+    each-weaken (Marked cs f g) (Marked cs f' g') links (λ l m. record { known = m.known; closed = m.closed ∙ closed l.conn m.known; cut = m.cut ∙ cut l.conn m.known; empty = m.empty; idle = m.idle }) h
 
 pub marks_close_all : (cs : List ℕ) (f g : ℕ → Bool) (by : ℕ) (conns : List ℕ) (b : Box) → EachOf (Marked cs f g) b.links
     → EachOf (Marked cs (λ c. f c || contains conns c) (λ c. g c || (contains conns c && not (c == by)))) (close_all by conns b).links

@@ -225,7 +225,7 @@ module _ (c : ℕ) where
       uncut true is = absurd (false≢true (sym (not_true l.closed parts.1) ∙ fits.1 is))
 
       takes : takes_more l ≡ true
-      takes = ap (λ v. v && not l.cut) unlost ∙ uncut l.cut refl
+      takes = ap (λ v. v && not l.cut) parts.0 ∙ uncut l.cut refl
 
       waits : h.waiting ≡ own_waiting c l.queue
       waits =

@@ -1,5 +1,5 @@
 -- A reply that didn't have to wait is there, or was handed out, call by call; and what was sent behind it entered later.
-use Rattle.std.proofs.Common.{◌≡◌, ℕ, zero, suc, ◌+◌, ◌<◌, ◌≤◌, ⊎_elim, ◌==◌, ◌&&◌, ◌||◌, cond, Bool, true, false, List, [], ◌∷◌, ◌++◌, drop, length, max, nat_lt, count_by, Option, Some, None, refl, ap, sym, subst, ◌∙◌, arith, eq-eqb}
+use Rattle.std.proofs.Common.{◌≡◌, ℕ, zero, suc, ◌+◌, ◌<◌, ◌≤◌, ⊎_elim, ◌==◌, ◌&&◌, ◌||◌, not, cond, Bool, true, false, List, [], ◌∷◌, ◌++◌, drop, length, max, nat_lt, count_by, Option, Some, None, refl, ap, sym, subst, ◌∙◌, arith, eq-eqb}
 use Rattle.std.specs.List.{list_any}
 use Rattle.std.proofs.lemmas.Bool.{cond_both, false≢true, eqb-true, eqb-false}
 use Rattle.std.proofs.lemmas.List.{append_assoc, append-nil}
@@ -14,12 +14,12 @@ use Rattle.iscsi_outbox_rules.specs.declared.own_pdu.OwnPdu.{OwnPdu}
 use Rattle.iscsi_outbox_rules.specs.rules.Calls.{Opening, Call, Takes, Puts, Stops, Nexts, Writes, Hears, Joins, Loses, Clears}
 use Rattle.iscsi_outbox_rules.specs.rules.Boxes.{Outgoing, Handed, Link, Box}
 use Rattle.iscsi_outbox_rules.specs.rules.Words.{contains, is_open, is_running}
-use Rattle.iscsi_outbox_rules.specs.rules.Queues.{at_link, enter, drop_on}
+use Rattle.iscsi_outbox_rules.specs.rules.Queues.{at_link, takes_more, enter, drop_on}
 use Rattle.iscsi_outbox_rules.specs.rules.Due.{settle}
 use Rattle.iscsi_outbox_rules.specs.rules.Items.{executing, tickets_left, in_phase}
 use Rattle.iscsi_outbox_rules.specs.rules.Own.{own_conn, own_outgoing, put_refusal}
 use Rattle.iscsi_outbox_rules.specs.rules.Handing.{is_from_queue, taken_from, handed_as, after_given}
-use Rattle.iscsi_outbox_rules.specs.rules.Run.{opened, after_call, answered, phase_stopped, one_written, arrived_by_stat_sn, arrived_by_ping, link_heard, may_join, link_joined, link_lost, cleared}
+use Rattle.iscsi_outbox_rules.specs.rules.Run.{after_call, answered, phase_stopped, one_written, arrived_by_stat_sn, arrived_by_ping, link_heard, may_join, link_joined, link_lost, cleared}
 use Rattle.iscsi_outbox_rules.specs.promises.Deeds.{Deed, items_in, items_of_call}
 use Rattle.iscsi_outbox_rules.specs.promises.Scope.{Sent, nth, aim_of_sent}
 use Rattle.iscsi_outbox_rules.specs.promises.Silent.{completed_in}
@@ -33,7 +33,7 @@ use Rattle.iscsi_outbox_rules.proofs.SilentItems.{Among, firsts_among}
 use Rattle.iscsi_outbox_rules.proofs.Chosen.{FromQueue, IsPing, IsNotice, chosen_from}
 use Rattle.iscsi_outbox_rules.proofs.Cuts.{Handing, Hand, Idle, next}
 use Rattle.iscsi_outbox_rules.proofs.Boxwise.{box_keeps}
-use Rattle.iscsi_outbox_rules.proofs.PlaceTimes.{Times, timely_boxes, timely_start}
+use Rattle.iscsi_outbox_rules.proofs.PlaceTimes.{Times, timely_boxes}
 use Rattle.iscsi_outbox_rules.proofs.PlaceHere.{is_same_ticket, is_it, is_here, Here, here_at, here_enter, here_drop, here_settle, Spares, HereStand, AllSpare, here_items}
 
 -- ---- of lists
@@ -138,8 +138,8 @@ module _ (o : Opening) (all : List (List Effect)) (once : (t : ℕ) → leavings
   gives b conn h n each =
       found-at_link (Between l.conn out) (Here o p s) l.conn (λ m. record m { handed = m.handed ++ g ∷ [] }) (λ m. refl) (at_link l.conn (taken_from out) b.links)
       (λ m found e is.
-      ap (λ v. (v || list_any (is_it o p s) m.queue) || (m.lost || m.cut)) (list_any-append (λ (x : Handed). is_it o p s x.out) m.handed (g ∷ []))
-      ∙ handed_out (list_any (λ (x : Handed). is_it o p s x.out) m.handed) (is_it o p s out) (list_any (is_it o p s) m.queue) (m.lost || m.cut) (e.0 is))
+      ap (λ v. (v || list_any (is_it o p s) m.queue) || not (takes_more m)) (list_any-append (λ (x : Handed). is_it o p s x.out) m.handed (g ∷ []))
+      ∙ handed_out (list_any (λ (x : Handed). is_it o p s x.out) m.handed) (is_it o p s out) (list_any (is_it o p s) m.queue) (not (takes_more m)) (e.0 is))
       (λ m isnt e. e.1 isnt)
       (found-at_link (Here o p s) (Between l.conn out) l.conn (taken_from out) same b.links
       (λ m found e. (takes m found e, λ isnt. absurd (eqb-false (taken_from out m).conn l.conn isnt (same m ∙ found-conn l.conn b.links m found))))
@@ -173,8 +173,8 @@ module _ (o : Opening) (all : List (List Effect)) (once : (t : ℕ) → leavings
             | true ↦ λ from is.
                 let q = waits m found from in
                 let a : Bool = list_any (λ (x : Handed). is_it o p s x.out) m.handed in
-                ap (λ xs. is_it o p s out || ((a || list_any (is_it o p s) (drop 1 xs)) || (m.lost || m.cut))) q.1
-                ∙ taken_out a (is_it o p s out) (list_any (is_it o p s) q.0) (m.lost || m.cut) (ap (λ xs. (a || list_any (is_it o p s) xs) || (m.lost || m.cut)) (sym q.1) ∙ e is)
+                ap (λ xs. is_it o p s out || ((a || list_any (is_it o p s) (drop 1 xs)) || not (takes_more m))) q.1
+                ∙ taken_out a (is_it o p s out) (list_any (is_it o p s) q.0) (not (takes_more m)) (ap (λ xs. (a || list_any (is_it o p s) xs) || not (takes_more m)) (sym q.1) ∙ e is)
             | false ↦ λ from is. or_second (is_it o p s out) (is_here o p s m) (e is)
           ] refl
 
@@ -195,33 +195,46 @@ module _ (o : Opening) (all : List (List Effect)) (once : (t : ℕ) → leavings
         ]
       ]
 
+  shut : (v w : Bool) → not ((v && false) && w) ≡ true
+  shut true w = refl
+  shut false w = refl
+
+  -- its connection has joined
+  abbrev pub HaveJoined : List Link → Type 0
+  HaveJoined links = EachFound (λ (l : Link). l.conn ≡ s.conn → l.joined ≡ true) links
+
+  -- so it doesn't join again
+  still_here : (stat_sn : ℕ) (l : Link) → l.joined ≡ true → is_here o p s l ≡ true → is_here o p s (link_joined stat_sn l) ≡ true
+  still_here stat_sn l joined k =
+      ap (λ v. (list_any (λ (g : Handed). is_it o p s g.out) l.handed || list_any (is_it o p s) l.queue) || not ((v && not l.lost) && not l.cut)) (sym joined) ∙ k
+
   -- what isn't of a session keeps it
-  other_call : (b : Box) (c : Call) → items_of_call c ≡ [] → EachFound (Here o p s) b.links → ((effects : List Effect) (numbers : _) → c ≡ Takes effects numbers → ⊥) → EachFound (Here o p s) (after_call o b c).links
-  other_call b (Takes effects numbers) none h no_event = absurd (no_event effects numbers refl)
-  other_call b (Puts own) none h no_event = puts b own h
-  other_call b (Stops ticket) none h no_event =
+  other_call : (b : Box) (c : Call) → items_of_call c ≡ [] → HaveJoined b.links → EachFound (Here o p s) b.links → ((effects : List Effect) (numbers : _) → c ≡ Takes effects numbers → ⊥) → EachFound (Here o p s) (after_call o b c).links
+  other_call b (Takes effects numbers) none joined h no_event = absurd (no_event effects numbers refl)
+  other_call b (Puts own) none joined h no_event = puts b own h
+  other_call b (Stops ticket) none joined h no_event =
       cond_both (is_running b ticket) (settle o (in_phase phase_stopped (ticket ∷ []) b)) b (λ (x : Box). EachFound (Here o p s) x.links) (λ is. settled (in_phase phase_stopped (ticket ∷ []) b) h) (λ is. h)
-  other_call b (Nexts conn) none h no_event = nexts b conn h
-  other_call b (Writes conn) none h no_event =
+  other_call b (Nexts conn) none joined h no_event = nexts b conn h
+  other_call b (Writes conn) none joined h no_event =
       settled (record b { links = at_link conn one_written b.links })
       (here_at o p s conn one_written b.links (λ l. cond_both (nat_lt l.written (length l.handed)) (record l { written = l.written + 1 }) l (λ (m : Link). m.conn ≡ l.conn) (λ is. refl) (λ is. refl))
       (λ l k. cond_both (nat_lt l.written (length l.handed)) (record l { written = l.written + 1 }) l (λ (m : Link). is_here o p s m ≡ true) (λ is. k) (λ is. k)) h)
-  other_call b (Hears conn exp_stat_sn tag) none h no_event =
+  other_call b (Hears conn exp_stat_sn tag) none joined h no_event =
       settled (record b { links = at_link conn (link_heard exp_stat_sn tag) b.links })
       (here_at o p s conn (link_heard exp_stat_sn tag) b.links
       (λ l. cond_both (is_open l) (record l { arrived = max l.arrived (max (arrived_by_stat_sn l exp_stat_sn) (arrived_by_ping l tag)) }) l (λ (m : Link). m.conn ≡ l.conn) (λ is. refl) (λ is. refl))
       (λ l k. cond_both (is_open l) (record l { arrived = max l.arrived (max (arrived_by_stat_sn l exp_stat_sn) (arrived_by_ping l tag)) }) l (λ (m : Link). is_here o p s m ≡ true) (λ is. k) (λ is. k)) h)
-  other_call b (Joins conn stat_sn) none h no_event =
-      cond_both (may_join b conn) (record b { links = at_link conn (link_joined stat_sn) b.links }) b (λ (x : Box). EachFound (Here o p s) x.links) (λ is. here_at o p s conn (link_joined stat_sn) b.links (λ l. refl) (λ l k. k) h) (λ is. h)
-  other_call b (Loses conn) none h no_event =
-      settled (drop_on conn (record b { links = at_link conn link_lost b.links; reached = 0 })) (here_drop o p s conn link_lost b.links (λ l. refl) (λ l. refl) h)
-  other_call b (Clears unit) none h no_event = settled (record b { undue = cleared unit b.undue }) h
+  other_call b (Joins conn stat_sn) none joined h no_event =
+      cond_both (may_join b conn) (record b { links = at_link conn (link_joined stat_sn) b.links }) b (λ (x : Box). EachFound (Here o p s) x.links) (λ is. found-at_link (Here o p s) (Here o p s) conn (link_joined stat_sn) (λ l. refl) b.links (λ l found k is. still_here stat_sn l (joined conn l found is) (k is)) (λ l isnt k. k) h) (λ is. h)
+  other_call b (Loses conn) none joined h no_event =
+      settled (drop_on conn (record b { links = at_link conn link_lost b.links; reached = 0 })) (here_drop o p s conn link_lost b.links (λ l. refl) (λ l. shut l.joined (not l.cut)) h)
+  other_call b (Clears unit) none joined h no_event = settled (record b { undue = cleared unit b.undue }) h
 
   -- ---- call by call
 
-  here_call : (ds : List Deed) (b : Box) (c : Call) → PlaceStands ds b → (rest : List (List Effect)) → items_in (ds ++ (c, answered o b c) ∷ []) ++ rest ≡ all → p < length (firsts (items_in (ds ++ (c, answered o b c) ∷ [])))
+  here_call : (ds : List Deed) (b : Box) (c : Call) → HaveJoined b.links → PlaceStands ds b → (rest : List (List Effect)) → items_in (ds ++ (c, answered o b c) ∷ []) ++ rest ≡ all → p < length (firsts (items_in (ds ++ (c, answered o b c) ∷ [])))
       → EachFound (Here o p s) (after_call o b c).links
-  here_call ds b c h rest whole low = by_call c refl
+  here_call ds b c joined h rest whole low = by_call c refl
     where
       parts : items_in ds ++ (items_of_call c ++ rest) ≡ all
       parts = sym (append_assoc (items_in ds) (items_of_call c) rest) ∙ ap (λ its. its ++ rest) (sym (items_in-more ds (c, answered o b c))) ∙ whole
@@ -243,20 +256,21 @@ module _ (o : Opening) (all : List (List Effect)) (once : (t : ℕ) → leavings
 
       by_call : (x : Call) → c ≡ x → EachFound (Here o p s) (after_call o b x).links
       by_call (Takes effects numbers) is = event effects numbers is
-      by_call (Puts own) is = other_call b (Puts own) refl (plain (ap items_of_call is)) (λ effects numbers no_event. absurd cc)
-      by_call (Stops ticket) is = other_call b (Stops ticket) refl (plain (ap items_of_call is)) (λ effects numbers no_event. absurd cc)
-      by_call (Nexts conn) is = other_call b (Nexts conn) refl (plain (ap items_of_call is)) (λ effects numbers no_event. absurd cc)
-      by_call (Writes conn) is = other_call b (Writes conn) refl (plain (ap items_of_call is)) (λ effects numbers no_event. absurd cc)
-      by_call (Hears conn exp_stat_sn tag) is = other_call b (Hears conn exp_stat_sn tag) refl (plain (ap items_of_call is)) (λ effects numbers no_event. absurd cc)
-      by_call (Joins conn stat_sn) is = other_call b (Joins conn stat_sn) refl (plain (ap items_of_call is)) (λ effects numbers no_event. absurd cc)
-      by_call (Loses conn) is = other_call b (Loses conn) refl (plain (ap items_of_call is)) (λ effects numbers no_event. absurd cc)
-      by_call (Clears unit) is = other_call b (Clears unit) refl (plain (ap items_of_call is)) (λ effects numbers no_event. absurd cc)
+      by_call (Puts own) is = other_call b (Puts own) refl joined (plain (ap items_of_call is)) (λ effects numbers no_event. absurd cc)
+      by_call (Stops ticket) is = other_call b (Stops ticket) refl joined (plain (ap items_of_call is)) (λ effects numbers no_event. absurd cc)
+      by_call (Nexts conn) is = other_call b (Nexts conn) refl joined (plain (ap items_of_call is)) (λ effects numbers no_event. absurd cc)
+      by_call (Writes conn) is = other_call b (Writes conn) refl joined (plain (ap items_of_call is)) (λ effects numbers no_event. absurd cc)
+      by_call (Hears conn exp_stat_sn tag) is = other_call b (Hears conn exp_stat_sn tag) refl joined (plain (ap items_of_call is)) (λ effects numbers no_event. absurd cc)
+      by_call (Joins conn stat_sn) is = other_call b (Joins conn stat_sn) refl joined (plain (ap items_of_call is)) (λ effects numbers no_event. absurd cc)
+      by_call (Loses conn) is = other_call b (Loses conn) refl joined (plain (ap items_of_call is)) (λ effects numbers no_event. absurd cc)
+      by_call (Clears unit) is = other_call b (Clears unit) refl joined (plain (ap items_of_call is)) (λ effects numbers no_event. absurd cc)
 
-  pub place_kept : (ds : List Deed) (b : Box) (c : Call) → PlaceStands ds b → PlaceStands (ds ++ (c, answered o b c) ∷ []) (after_call o b c)
-  place_kept ds b c h = record {
-    times = box_keeps o (λ (es : List Deed) (x : Box). Unit {0}) (Times o all p s placed at_once) (timely_boxes o all p s placed at_once (λ (es : List Deed) (x : Box). Unit {0})) ds b c tt h.times;
-    here = here_call ds b c h;
-  }
+  pub times_kept : (ds : List Deed) (b : Box) (c : Call) → Times o all p s placed at_once (items_in ds) b → Times o all p s placed at_once (items_in (ds ++ (c, answered o b c) ∷ [])) (after_call o b c)
+  times_kept ds b c h = box_keeps o (λ (es : List Deed) (x : Box). Unit {0}) (Times o all p s placed at_once) (timely_boxes o all p s placed at_once (λ (es : List Deed) (x : Box). Unit {0})) ds b c tt h
 
-  pub place_start : PlaceStands [] (opened o)
-  place_start = record { times = timely_start o all p s placed at_once; here = λ rest whole low. absurd (omega (arith, low)) }
+  pub place_kept : (ds : List Deed) (b : Box) (c : Call) → HaveJoined b.links → PlaceStands ds b → PlaceStands (ds ++ (c, answered o b c) ∷ []) (after_call o b c)
+  place_kept ds b c joined h = record { times = times_kept ds b c h.times; here = here_call ds b c joined h }
+
+  -- before it is sent
+  pub place_begins : (ds : List Deed) (b : Box) → Times o all p s placed at_once (items_in ds) b → length (firsts (items_in ds)) ≤ p → PlaceStands ds b
+  place_begins ds b times few = record { times = times; here = λ rest whole low. absurd (omega (arith, low, few)) }

@@ -1,8 +1,8 @@
 -- A reply that didn't have to wait entered the queue of its connection as it was sent: there it waits, or it was handed out, unless
--- the connection was lost, or closed by another one's Logout. This is what each step within a call keeps.
+-- the connection takes nothing. This is what each step within a call keeps.
 use Rattle.std.proofs.Common.{◌≡◌, ℕ, ◌+◌, ◌<◌, ⊎_elim, ◌==◌, ◌&&◌, ◌||◌, not, cond, Bool, true, false, List, [], ◌∷◌, ◌++◌, filter, filter_map, length, Option, Some, None, refl, ap, sym, subst, ◌∙◌, arith, eq-eqb}
 use Rattle.std.specs.List.{list_any}
-use Rattle.std.proofs.lemmas.Bool.{cond_both, false≢true, eqb-false, cases_eq, cases_lt}
+use Rattle.std.proofs.lemmas.Bool.{cond_both, eqb-false, cases_eq, cases_lt}
 use Rattle.std.proofs.lemmas.List.{append_assoc, append-nil}
 use Rattle.std.proofs.lemmas.List.Folds.{list_any-append}
 use Rattle.iscsi_wire.specs.Fields.{connection_of}
@@ -66,7 +66,7 @@ module _ (o : Opening) (p : ℕ) (s : Sent) where
   is_it x = (is_at p x && x.takes) && is_same_ticket x.ticket (completed_in s.item)
 
   abbrev pub is_here : Link → Bool
-  is_here l = (list_any (λ (g : Handed). is_it g.out) l.handed || list_any is_it l.queue) || (l.lost || l.cut)
+  is_here l = (list_any (λ (g : Handed). is_it g.out) l.handed || list_any is_it l.queue) || not (takes_more l)
 
   abbrev pub Here : Link → Type 0
   Here l = l.conn ≡ s.conn → is_here l ≡ true
@@ -84,22 +84,22 @@ module _ (o : Opening) (p : ℕ) (s : Sent) where
       here_at conn (append out) links (append_conn out)
       (λ l k. cond_both (takes_more l) (record l { queue = l.queue ++ out ∷ [] }) l (λ (m : Link). is_here m ≡ true)
       (λ more.
-      or_stays (list_any (λ (g : Handed). is_it g.out) l.handed || list_any is_it l.queue) (l.lost || l.cut) (list_any (λ (g : Handed). is_it g.out) l.handed || list_any is_it (l.queue ++ out ∷ [])) (l.lost || l.cut)
+      or_stays (list_any (λ (g : Handed). is_it g.out) l.handed || list_any is_it l.queue) (not (takes_more l)) (list_any (λ (g : Handed). is_it g.out) l.handed || list_any is_it (l.queue ++ out ∷ [])) (not (takes_more l))
       (or_stays (list_any (λ (g : Handed). is_it g.out) l.handed) (list_any is_it l.queue) (list_any (λ (g : Handed). is_it g.out) l.handed) (list_any is_it (l.queue ++ out ∷ [])) (λ j. j)
       (λ j. list_any-append is_it l.queue (out ∷ []) ∙ or_first (list_any is_it l.queue) (list_any is_it (out ∷ [])) j)) (λ j. j) k)
       (λ more. k)) h
 
   abbrev Over : ℕ → Link → Type 0
-  Over conn l = Here l × (l.conn ≡ conn → (l.lost || l.cut) ≡ true)
+  Over conn l = Here l × (l.conn ≡ conn → not (takes_more l) ≡ true)
 
   -- what waits on one that was lost or cut is dropped
-  pub here_drop : (conn : ℕ) (change : Link → Link) (links : List Link) → ((l : Link) → (change l).conn ≡ l.conn) → ((l : Link) → ((change l).lost || (change l).cut) ≡ true) → EachFound Here links → EachFound Here (at_link conn emptied (at_link conn change links))
+  pub here_drop : (conn : ℕ) (change : Link → Link) (links : List Link) → ((l : Link) → (change l).conn ≡ l.conn) → ((l : Link) → not (takes_more (change l)) ≡ true) → EachFound Here links → EachFound Here (at_link conn emptied (at_link conn change links))
   here_drop conn change links same over h =
       found-at_link (Over conn) Here conn emptied (λ l. refl) (at_link conn change links)
-      (λ l found k is. or_second (list_any (λ (g : Handed). is_it g.out) l.handed || false) (l.lost || l.cut) (k.1 (found-conn conn (at_link conn change links) l found))) (λ l isnt k. k.0)
+      (λ l found k is. or_second (list_any (λ (g : Handed). is_it g.out) l.handed || false) (not (takes_more l)) (k.1 (found-conn conn (at_link conn change links) l found))) (λ l isnt k. k.0)
       (found-at_link Here (Over conn) conn change same links
       (λ l found k. (
-        (λ is. or_second (list_any (λ (g : Handed). is_it g.out) (change l).handed || list_any is_it (change l).queue) ((change l).lost || (change l).cut) (over l)),
+        (λ is. or_second (list_any (λ (g : Handed). is_it g.out) (change l).handed || list_any is_it (change l).queue) (not (takes_more (change l))) (over l)),
         (λ at. over l),
       ))
       (λ l isnt k. (k, (λ at. absurd (eqb-false l.conn conn isnt at)))) h)
@@ -117,13 +117,17 @@ module _ (o : Opening) (p : ℕ) (s : Sent) where
   here_leave (Some r) tickets b spare h =
       found-map Here Here (without (contains tickets)) (λ l. refl) b.links
       (λ conn l found k is.
-      or_stays (list_any (λ (g : Handed). is_it g.out) l.handed || list_any is_it l.queue) (l.lost || l.cut) (list_any (λ (g : Handed). is_it g.out) l.handed || list_any is_it (filter (λ x. not (is_of (contains tickets) x)) l.queue)) (l.lost || l.cut)
+      or_stays (list_any (λ (g : Handed). is_it g.out) l.handed || list_any is_it l.queue) (not (takes_more l)) (list_any (λ (g : Handed). is_it g.out) l.handed || list_any is_it (filter (λ x. not (is_of (contains tickets) x)) l.queue)) (not (takes_more l))
       (or_stays (list_any (λ (g : Handed). is_it g.out) l.handed) (list_any is_it l.queue) (list_any (λ (g : Handed). is_it g.out) l.handed) (list_any is_it (filter (λ x. not (is_of (contains tickets) x)) l.queue)) (λ j. j)
       (any_kept is_it (λ x. not (is_of (contains tickets) x)) l.queue (λ x it. ap (λ v. not v) (spare r refl x it)))) (λ j. j) (k is)) h
 
   here_tasks : (r : Option Request) (item : List Effect) (b : Box) → EachFound Here b.links → EachFound Here (enter_tasks r item b).links
   here_tasks (Some r) item b h = h
   here_tasks None item b h = h
+
+  shut : (v : Bool) → not (v && false) ≡ true
+  shut true = refl
+  shut false = refl
 
   here_close_all : (by : ℕ) (conns : List ℕ) (b : Box) → EachFound Here b.links → EachFound Here (close_all by conns b).links
   here_close_all by [] b h = h
@@ -132,7 +136,7 @@ module _ (o : Opening) (p : ℕ) (s : Sent) where
       (cond_both (conn == by) (record b { links = at_link conn (λ l. record l { closed = true }) b.links }) (drop_on conn (record b { links = at_link conn (λ l. record l { closed = true; cut = true }) b.links }))
       (λ (b' : Box). EachFound Here b'.links)
       (λ is. here_at conn (λ l. record l { closed = true }) b.links (λ l. refl) (λ l k. k) h)
-      (λ is. here_drop conn (λ l. record l { closed = true; cut = true }) b.links (λ l. refl) (λ l. or_second l.lost true refl) h))
+      (λ is. here_drop conn (λ l. record l { closed = true; cut = true }) b.links (λ l. refl) (λ l. shut (l.joined && not l.lost)) h))
 
   here_close : (r : Option Request) (conns : List ℕ) (b : Box) → EachFound Here b.links → EachFound Here (close r conns b).links
   here_close (Some r) conns b h = here_close_all (connection_of r) conns b h
@@ -168,17 +172,12 @@ module _ (o : Opening) (p : ℕ) (s : Sent) where
       (λ l found k is.
       elim (takes_more l) as (λ v. takes_more l ≡ v → is_here (cond v (record l { queue = l.queue ++ out ∷ [] }) l) ≡ true) [
         | true ↦ λ more.
-            or_first (list_any (λ (g : Handed). is_it g.out) l.handed || list_any is_it (l.queue ++ out ∷ [])) (l.lost || l.cut)
+            or_first (list_any (λ (g : Handed). is_it g.out) l.handed || list_any is_it (l.queue ++ out ∷ [])) (not (takes_more l))
             (or_second (list_any (λ (g : Handed). is_it g.out) l.handed) (list_any is_it (l.queue ++ out ∷ []))
             (list_any-append is_it l.queue (out ∷ []) ∙ or_second (list_any is_it l.queue) (is_it out || false) (or_first (is_it out) false it)))
-        | false ↦ λ none. or_second (list_any (λ (g : Handed). is_it g.out) l.handed || list_any is_it l.queue) (l.lost || l.cut) (gone l.lost l.cut none)
+        | false ↦ λ none. or_second (list_any (λ (g : Handed). is_it g.out) l.handed || list_any is_it l.queue) (not (takes_more l)) (ap (λ v. not v) none)
       ] refl)
       (λ l isnt k is. absurd (eqb-false l.conn s.conn isnt is)) (λ conn l found. tt)
-    where
-      gone : (v w : Bool) → (not v && not w) ≡ false → (v || w) ≡ true
-      gone true w none = refl
-      gone false true none = refl
-      gone false false none = absurd (false≢true (sym none))
 
   module _ (at_once : aim_of_sent o s ≡ None) where
     pub record HereStand (items : List (List Effect)) (b : Box) : Type 0 where

@@ -2,14 +2,15 @@
 use Rattle.std.proofs.Common.{◌≡◌, ℕ, zero, suc, ◌⊎◌, ◌<◌, ◌≤◌, ⊎_elim, ◌==◌, ◌&&◌, ◌||◌, not, cond, Bool, true, false, List, [], ◌∷◌, ◌++◌, map, filter, length, nat_lt, Option, Some, None, refl, ap, sym, subst, ◌∙◌, arith, lt-ltb, ne_eqb}
 use Rattle.std.specs.List.{list_any}
 use Rattle.std.proofs.lemmas.Bool.{false≢true, eqb-true, cases_eq}
+use Rattle.std.proofs.lemmas.List.{append_assoc}
 use Rattle.iscsi_history.specs.declared.effect.Effect.{Effect}
 use Rattle.iscsi_history.proofs.BoolLemmas.{and_parts, and_first, and_both, not_true, or_first, or_second}
 use Rattle.iscsi_outbox_rules.specs.rules.Calls.{Opening, Call, Takes, Puts, Stops, Nexts, Writes, Hears, Joins, Loses, Clears}
 use Rattle.iscsi_outbox_rules.specs.rules.Boxes.{Outgoing, Handed, Link, Box}
 use Rattle.iscsi_outbox_rules.specs.rules.Words.{is_open, under_way}
 use Rattle.iscsi_outbox_rules.specs.rules.Handing.{lets_pass, is_clear, takes_handed}
-use Rattle.iscsi_outbox_rules.specs.rules.Run.{opened, after_call, answered, may_join}
-use Rattle.iscsi_outbox_rules.specs.promises.Deeds.{Deed, FollowsSession, deeds_of, handed_in_deed, handed_in, handed_on, items_in, is_join_of, has_joined, was_lost}
+use Rattle.iscsi_outbox_rules.specs.rules.Run.{opened, after_call, after_calls, answered, may_join}
+use Rattle.iscsi_outbox_rules.specs.promises.Deeds.{Deed, FollowsSession, deeds_from, deeds_of, handed_in_deed, handed_in, handed_on, items_in, is_join_of, has_joined, was_lost}
 use Rattle.iscsi_outbox_rules.specs.promises.Scope.{Sent, nth, sent_by, aim_of_sent, closes_in}
 use Rattle.iscsi_outbox_rules.specs.promises.Fence.{is_fenced, is_handed, is_closed, FenceFirst}
 use Rattle.iscsi_outbox_rules.proofs.EachLemmas.{EachOf, each-any, each-first_of}
@@ -19,7 +20,7 @@ use Rattle.iscsi_outbox_rules.proofs.DeedLemmas.{has_joined-more, items_in-appen
 use Rattle.iscsi_outbox_rules.proofs.ConnLemmas.{conns_of}
 use Rattle.iscsi_outbox_rules.proofs.CountRuns.{is_at, some_link}
 use Rattle.iscsi_outbox_rules.proofs.Chosen.{Chosen, FromQueue, IsPing, IsNotice, chosen_from}
-use Rattle.iscsi_outbox_rules.proofs.Cuts.{Handing, at_handing}
+use Rattle.iscsi_outbox_rules.proofs.Cuts.{Cut, cut, keeps, Handing, handed-next}
 use Rattle.iscsi_outbox_rules.proofs.LinkRuns.{LinkShows}
 use Rattle.iscsi_outbox_rules.proofs.LeaveLemmas.{leaves_once}
 use Rattle.iscsi_outbox_rules.proofs.SentLemmas.{one_reply_before, sent_by-firsts}
@@ -28,9 +29,9 @@ use Rattle.iscsi_outbox_rules.proofs.MarkCalls.{cut_closed}
 use Rattle.iscsi_outbox_rules.proofs.ElsewhereTheorem.{unclosed}
 use Rattle.iscsi_outbox_rules.proofs.ArriveThrough.{ArriveStand, arrive_kept, arrive_start, find_known}
 use Rattle.iscsi_outbox_rules.proofs.FenceTheorem.{went_fenced, found_all, either_way, all_pass}
-use Rattle.iscsi_outbox_rules.proofs.PlaceTimes.{InTime, Timely, TimelyStand}
+use Rattle.iscsi_outbox_rules.proofs.PlaceTimes.{InTime, Timely, TimelyStand, Times, timely_start}
 use Rattle.iscsi_outbox_rules.proofs.PlaceHere.{is_it, is_here}
-use Rattle.iscsi_outbox_rules.proofs.PlaceCalls.{PlaceStands, place_kept, place_start}
+use Rattle.iscsi_outbox_rules.proofs.PlaceCalls.{PlaceStands, times_kept, place_kept, place_begins}
 
 -- ---- of lists
 
@@ -38,6 +39,11 @@ nth_low : {A : Type 0} (n : ℕ) (xs : List A) (x : A) → nth n xs ≡ Some x �
 nth_low n [] x is = absurd cc
 nth_low zero (y ∷ xs) x is = omega arith
 nth_low (suc n) (y ∷ xs) x is = let rest : n < length xs = nth_low n xs x is in omega (arith, rest)
+
+nth_none : {A : Type 0} (n : ℕ) (xs : List A) → nth n xs ≡ None → length xs ≤ n
+nth_none n [] none = omega arith
+nth_none zero (x ∷ xs) none = absurd cc
+nth_none (suc n) (x ∷ xs) none = let rest : length xs ≤ n = nth_none n xs none in omega (arith, rest)
 
 -- what was handed out on a connection was handed out
 on_handed : (p q : Handed → Bool) (c : ℕ) (gs : List (ℕ × Handed)) → ((g : Handed) → p g ≡ true → q g ≡ true) → list_any p (map (λ (g : ℕ × Handed). g.1) (filter (λ (g : ℕ × Handed). g.0 == c) gs)) ≡ true → list_any (λ (g : ℕ × Handed). q g.1) gs ≡ true
@@ -93,11 +99,28 @@ join_kept o c ds b call h = record { arrive = arrive_kept o ds b call h.arrive; 
 join_start : (o : Opening) (c : ℕ) → JoinStand o c [] (opened o)
 join_start o c = record { arrive = arrive_start o; known = λ is. absurd (false≢true is) }
 
+-- ---- deeds in two parts
+
+record Parted (o : Opening) (b : Box) (cs : List Call) (ds es : List Deed) : Type 0 where
+  first : List Call
+  second : List Call
+  first_is : ds ≡ deeds_from o b first
+  second_is : es ≡ deeds_from o (after_calls o b first) second
+
+part : (o : Opening) (b : Box) (cs : List Call) (ds es : List Deed) → ds ++ es ≡ deeds_from o b cs → Parted o b cs ds es
+part o b cs [] es whole = record { first = []; second = cs; first_is = refl; second_is = whole }
+part o b [] (d ∷ ds) es whole = absurd cc
+part o b (c ∷ cs) (d ∷ ds) es whole =
+    let head : d ≡ (c, answered o b c) = cc in
+    let k : Parted o (after_call o b c) cs ds es = part o (after_call o b c) cs ds es cc in
+    record { first = c ∷ k.first; second = k.second; first_is = ap (λ x. x ∷ ds) head ∙ ap (λ xs. (c, answered o b c) ∷ xs) k.first_is; second_is = k.second_is }
+
 -- ---- the theorem
 
-module _ (o : Opening) (calls : List Call) (follows : FollowsSession o calls) (earlier after : List Deed) (answer : Deed) (c : ℕ) (h : Handed) (place behind : ℕ) (s : Sent) (whole : earlier ++ answer ∷ after ≡ deeds_of o calls)
+-- `first` are the deeds before it was sent
+module _ (o : Opening) (calls : List Call) (follows : FollowsSession o calls) (first since earlier after : List Deed) (split : first ++ since ≡ earlier) (answer : Deed) (c : ℕ) (h : Handed) (place behind : ℕ) (s : Sent) (whole : earlier ++ answer ∷ after ≡ deeds_of o calls)
     (shown : handed_in_deed answer ≡ Some (c, h)) (fenced : is_fenced o (items_in earlier) h ≡ true) (sent : h.out.sent ≡ Some behind) (less : place < behind)
-    (nth_is : nth place (sent_by (items_in earlier)) ≡ Some s) (at_once : aim_of_sent o s ≡ None) where
+    (nth_is : nth place (sent_by (items_in earlier)) ≡ Some s) (unsent : nth place (sent_by (items_in first)) ≡ None) (at_once : aim_of_sent o s ≡ None) where
   abbrev items : List (List Effect)
   items = items_in earlier
 
@@ -119,18 +142,60 @@ module _ (o : Opening) (calls : List Call) (follows : FollowsSession o calls) (e
   abbrev It : Outgoing → Bool
   It x = is_it o place s x
 
+  -- before it is sent
+  record Early (ds : List Deed) (b : Box) : Type 0 where
+    joins : JoinStand o s.conn ds b
+    times : Times o all place s in_all at_once (items_in ds) b
+
+  early_kept : (ds : List Deed) (b : Box) (call : Call) → Early ds b → Early (ds ++ (call, answered o b call) ∷ []) (after_call o b call)
+  early_kept ds b call k = record { joins = join_kept o s.conn ds b call k.joins; times = times_kept o all (λ t. leaves_once t o calls follows) place s in_all at_once ds b call k.times }
+
+  early_start : Early [] (opened o)
+  early_start = record { joins = join_start o s.conn; times = timely_start o all place s in_all at_once }
+
   record Both (ds : List Deed) (b : Box) : Type 0 where
     joins : JoinStand o s.conn ds b
+    joined : has_joined ds s.conn ≡ true
     places : PlaceStands o all (λ t. leaves_once t o calls follows) place s in_all at_once ds b
 
   both_kept : (ds : List Deed) (b : Box) (call : Call) → Both ds b → Both (ds ++ (call, answered o b call) ∷ []) (after_call o b call)
-  both_kept ds b call k = record { joins = join_kept o s.conn ds b call k.joins; places = place_kept o all (λ t. leaves_once t o calls follows) place s in_all at_once ds b call k.places }
+  both_kept ds b call k = record {
+    joins = join_kept o s.conn ds b call k.joins;
+    joined = has_joined-more ds (call, answered o b call) s.conn ∙ or_first (has_joined ds s.conn) (is_join_of s.conn (call, answered o b call)) k.joined;
+    places = place_kept o all (λ t. leaves_once t o calls follows) place s in_all at_once ds b call
+        (λ conn l found at. (each-first_of (LinkShows ds) (λ (m : Link). m.conn == conn) b.links l found k.joins.arrive.shows.links).joined ∙ ap (has_joined ds) at ∙ k.joined) k.places;
+  }
 
-  both_start : Both [] (opened o)
-  both_start = record { joins = join_start o s.conn; places = place_start o all (λ t. leaves_once t o calls follows) place s in_all at_once }
+  module _ (joined_first : has_joined first s.conn ≡ true) where
+    whole_first : first ++ (since ++ answer ∷ after) ≡ deeds_of o calls
+    whole_first = sym (append_assoc first since (answer ∷ after)) ∙ ap (λ ds. ds ++ answer ∷ after) split ∙ whole
 
-  abbrev moment : (b : Box) × Both earlier b × Handing o b c h
-  moment = let m = at_handing o calls Both both_kept both_start earlier after answer c h whole shown in (m.0, m.1, m.2)
+    moment : (b : Box) × Both earlier b × Handing o b c h
+    moment = (b₂, both₂, (handed-next o b₂ k₂.call c h (ap handed_in_deed (sym k₂.deed_is) ∙ shown)).1)
+      where
+        k₁ : Parted o (opened o) calls first (since ++ answer ∷ after)
+        k₁ = part o (opened o) calls first (since ++ answer ∷ after) whole_first
+
+        b₁ : Box
+        b₁ = after_calls o (opened o) k₁.first
+
+        few : length (firsts (items_in first)) ≤ place
+        few = nth_none place (firsts (items_in first)) (ap (nth place) (sym (sent_by-firsts (items_in first) (one_reply_before o calls first (since ++ answer ∷ after) whole_first follows))) ∙ unsent)
+
+        early₁ : Early first b₁
+        early₁ = subst (λ ds. Early ds b₁) (sym k₁.first_is) (keeps o Early early_kept [] (opened o) k₁.first early_start)
+
+        both₁ : Both first b₁
+        both₁ = record { joins = early₁.joins; joined = joined_first; places = place_begins o all (λ t. leaves_once t o calls follows) place s in_all at_once first b₁ early₁.times few }
+
+        k₂ : Cut o b₁ k₁.second since answer after
+        k₂ = cut o b₁ k₁.second since answer after k₁.second_is
+
+        b₂ : Box
+        b₂ = after_calls o b₁ k₂.first
+
+        both₂ : Both earlier b₂
+        both₂ = subst (λ ds. Both ds b₂) (ap (λ ds. first ++ ds) (sym k₂.before_is) ∙ split) (keeps o Both both_kept first b₁ k₂.first both₁)
 
   module _ (b : Box) (stands : Both earlier b) (n : Handing o b c h) where
     times : TimelyStand o all place s in_all at_once items b
@@ -215,28 +280,26 @@ module _ (o : Opening) (calls : List Call) (follows : FollowsSession o calls) (e
     -- ---- where it is
 
     abbrev Goal : Type 0
-    Goal = (((is_handed place earlier || not (has_joined earlier s.conn)) || was_lost earlier s.conn) || is_closed items s.conn) ≡ true
+    Goal = (((is_handed place earlier || not (has_joined first s.conn)) || was_lost earlier s.conn) || is_closed items s.conn) ≡ true
 
     goal_handed : is_handed place earlier ≡ true → Goal
-    goal_handed is = or_first ((is_handed place earlier || not (has_joined earlier s.conn)) || was_lost earlier s.conn) (is_closed items s.conn) (or_first (is_handed place earlier || not (has_joined earlier s.conn)) (was_lost earlier s.conn) (or_first (is_handed place earlier) (not (has_joined earlier s.conn)) is))
-
-    goal_unjoined : has_joined earlier s.conn ≡ false → Goal
-    goal_unjoined is =
-        or_first ((is_handed place earlier || not (has_joined earlier s.conn)) || was_lost earlier s.conn) (is_closed items s.conn)
-        (or_first (is_handed place earlier || not (has_joined earlier s.conn)) (was_lost earlier s.conn) (or_second (is_handed place earlier) (not (has_joined earlier s.conn)) (ap (λ v. not v) is)))
+    goal_handed is = or_first ((is_handed place earlier || not (has_joined first s.conn)) || was_lost earlier s.conn) (is_closed items s.conn) (or_first (is_handed place earlier || not (has_joined first s.conn)) (was_lost earlier s.conn) (or_first (is_handed place earlier) (not (has_joined first s.conn)) is))
 
     goal_lost : was_lost earlier s.conn ≡ true → Goal
-    goal_lost is = or_first ((is_handed place earlier || not (has_joined earlier s.conn)) || was_lost earlier s.conn) (is_closed items s.conn) (or_second (is_handed place earlier || not (has_joined earlier s.conn)) (was_lost earlier s.conn) is)
+    goal_lost is = or_first ((is_handed place earlier || not (has_joined first s.conn)) || was_lost earlier s.conn) (is_closed items s.conn) (or_second (is_handed place earlier || not (has_joined first s.conn)) (was_lost earlier s.conn) is)
 
     goal_closed : is_closed items s.conn ≡ true → Goal
-    goal_closed is = or_second ((is_handed place earlier || not (has_joined earlier s.conn)) || was_lost earlier s.conn) (is_closed items s.conn) is
+    goal_closed is = or_second ((is_handed place earlier || not (has_joined first s.conn)) || was_lost earlier s.conn) (is_closed items s.conn) is
 
-    module _ (joined : has_joined earlier s.conn ≡ true) (m : Link) (found : find_link s.conn b.links ≡ Some m) where
+    module _ (m : Link) (found : find_link s.conn b.links ≡ Some m) where
       at : m.conn ≡ s.conn
       at = found-conn s.conn b.links m found
 
       shows : LinkShows earlier m
       shows = each-first_of (LinkShows earlier) (λ (l : Link). l.conn == s.conn) b.links m found stands.joins.arrive.shows.links
+
+      joined_here : m.joined ≡ true
+      joined_here = shows.joined ∙ ap (has_joined earlier) at ∙ stands.joined
 
       mark : Marked (conns_of (opened o).links) (closed_by items) (cut_by items) m
       mark = each-first_of (Marked (conns_of (opened o).links) (closed_by items) (cut_by items)) (λ (l : Link). l.conn == s.conn) b.links m found stands.joins.arrive.marks.marks
@@ -260,7 +323,7 @@ module _ (o : Opening) (calls : List Call) (follows : FollowsSession o calls) (e
               (λ same.
               let alike : m ≡ n.link = some_link m n.link (sym found ∙ ap (λ k. find_link k b.links) same ∙ n.found) in
               not_behind (ap (list_any It) (sym (ap (λ (x : Link). x.queue) alike ∙ queued.queue_is)) ∙ some))
-              (λ apart. not_elsewhere m found (and_both m.joined (not m.lost) (shows.joined ∙ ap (has_joined earlier) at ∙ joined) (ap (λ v. not v) opens)) apart some) is)
+              (λ apart. not_elsewhere m found (and_both m.joined (not m.lost) joined_here (ap (λ v. not v) opens)) apart some) is)
 
           by_lost : (v : Bool) → m.lost ≡ v → Goal
           by_lost true is = lost_here is
@@ -277,9 +340,9 @@ module _ (o : Opening) (calls : List Call) (follows : FollowsSession o calls) (e
           by_any false e = absurd (false≢true (sym (unclosed items s.conn e) ∙ closed))
 
       here : is_here o place s m ≡ true → Goal
-      here is = by_handed (list_any (λ (g : Handed). It g.out) m.handed) refl (list_any It m.queue) refl m.lost refl m.cut refl is
+      here is = by_handed (list_any (λ (g : Handed). It g.out) m.handed) refl (list_any It m.queue) refl m.lost refl m.cut refl (ap (λ v. (list_any (λ (g : Handed). It g.out) m.handed || list_any It m.queue) || not ((v && not m.lost) && not m.cut)) (sym joined_here) ∙ is)
         where
-          by_handed : (u : Bool) → list_any (λ (g : Handed). It g.out) m.handed ≡ u → (v : Bool) → list_any It m.queue ≡ v → (w : Bool) → m.lost ≡ w → (x : Bool) → m.cut ≡ x → ((u || v) || (w || x)) ≡ true → Goal
+          by_handed : (u : Bool) → list_any (λ (g : Handed). It g.out) m.handed ≡ u → (v : Bool) → list_any It m.queue ≡ v → (w : Bool) → m.lost ≡ w → (x : Bool) → m.cut ≡ x → ((u || v) || not (not w && not x)) ≡ true → Goal
           by_handed true e v f w g x i k = handed_here e
           by_handed false e true f w g x i k = waits_here f
           by_handed false e false f true g x i k = lost_here g
@@ -287,15 +350,21 @@ module _ (o : Opening) (calls : List Call) (follows : FollowsSession o calls) (e
           by_handed false e false f false g false i k = absurd (false≢true k)
 
     goes_first : Goal
-    goes_first = by_joined (has_joined earlier s.conn) refl
-      where
-        by_joined : (v : Bool) → has_joined earlier s.conn ≡ v → Goal
-        by_joined false is = goal_unjoined is
-        by_joined true is =
-            let link = find_known s.conn b.links (ap (list_any (λ k. k == s.conn)) stands.joins.arrive.marks.conns ∙ stands.joins.known is) in
-            here is link.0 link.1 (stands.places.here rest parts (nth_low place (firsts items) s in_items) s.conn link.0 link.1 (found-conn s.conn b.links link.0 link.1))
+    goes_first =
+        let link = find_known s.conn b.links (ap (list_any (λ k. k == s.conn)) stands.joins.arrive.marks.conns ∙ stands.joins.known stands.joined) in
+        here link.0 link.1 (stands.places.here rest parts (nth_low place (firsts items) s in_items) s.conn link.0 link.1 (found-conn s.conn b.links link.0 link.1))
 
 pub fence_first : (o : Opening) (calls : List Call) → FollowsSession o calls → FenceFirst o (deeds_of o calls)
-fence_first o calls follows earlier after answer c h place behind s whole shown fenced sent less nth_is at_once =
-    let m = moment o calls follows earlier after answer c h place behind s whole shown fenced sent less nth_is at_once in
-    goes_first o calls follows earlier after answer c h place behind s whole shown fenced sent less nth_is at_once m.0 m.1 m.2
+fence_first o calls follows earlier since after answer c h place behind s whole shown fenced sent less unsent nth_is at_once = by_joined (has_joined earlier s.conn) refl
+  where
+    all : List Deed
+    all = earlier ++ since
+
+    goal : Bool → Type 0
+    goal v = (((is_handed place all || not v) || was_lost all s.conn) || is_closed (items_in all) s.conn) ≡ true
+
+    by_joined : (v : Bool) → has_joined earlier s.conn ≡ v → goal v
+    by_joined false is = or_first ((is_handed place all || true) || was_lost all s.conn) (is_closed (items_in all) s.conn) (or_first (is_handed place all || true) (was_lost all s.conn) (or_second (is_handed place all) true refl))
+    by_joined true is =
+        let m = moment o calls follows earlier since all after refl answer c h place behind s whole shown fenced sent less nth_is unsent at_once is in
+        subst goal is (goes_first o calls follows earlier since all after refl answer c h place behind s whole shown fenced sent less nth_is unsent at_once m.0 m.1 m.2)

@@ -5,7 +5,7 @@ use Rattle.std.proofs.lemmas.Bool.{cond_both, false≢true, eqb-true, eqb-false}
 use Rattle.std.proofs.lemmas.List.{append_assoc, append-nil}
 use Rattle.std.proofs.lemmas.List.Concat.{flat_map-append}
 use Rattle.iscsi_history.proofs.ListLemmas.{first_itself}
-use Rattle.iscsi_history.proofs.BoolLemmas.{and_parts}
+use Rattle.iscsi_history.proofs.BoolLemmas.{and_first, and_parts}
 use Rattle.iscsi_outbox_rules.specs.declared.own_pdu.PutRefusal.TheVariants.{Unfit, Gone as GoneRefusal}
 use Rattle.iscsi_outbox_rules.specs.declared.own_pdu.OwnPdu.{OwnPdu}
 use Rattle.iscsi_outbox_rules.specs.declared.own_pdu.OwnPdu.TheVariants.{OfCommand, OfConnection}
@@ -22,15 +22,15 @@ use Rattle.iscsi_outbox_rules.specs.rules.Run.{Silent, Put, after_call, answered
 use Rattle.iscsi_outbox_rules.specs.promises.Deeds.{Deed, items_of_call, handed_in_deed}
 use Rattle.iscsi_outbox_rules.specs.promises.Order.{own_of, is_of_command}
 use Rattle.iscsi_outbox_rules.specs.promises.Scope.{is_taken_out_in}
-use Rattle.iscsi_outbox_rules.proofs.EachLemmas.{EachOf, each-append, each-at_link, each-filter, each-first_of, each-drop_one}
+use Rattle.iscsi_outbox_rules.proofs.EachLemmas.{EachOf, each-append, each-at_link, each-filter, each-first_of, each-drop_one, each-weaken}
 use Rattle.iscsi_outbox_rules.proofs.FoundLemmas.{find_link, found-conn}
 use Rattle.iscsi_outbox_rules.proofs.Chosen.{FromQueue, IsPing, IsNotice, chosen_from}
 use Rattle.iscsi_outbox_rules.proofs.Cuts.{Hand, Idle, next}
 use Rattle.iscsi_outbox_rules.proofs.ConnLemmas.{Twins}
 use Rattle.iscsi_outbox_rules.proofs.CommandRuns.{own_in, own_waiting, handed_of, taken_of, OwnEntry}
-use Rattle.iscsi_outbox_rules.proofs.CommandTheorem.{handed-more, taken-more, none_handed, own_taken_from}
+use Rattle.iscsi_outbox_rules.proofs.CommandTheorem.{handed-more, taken-more, none_handed, own_taken_from, usable_link}
 use Rattle.iscsi_outbox_rules.proofs.TaskRuns.{entered_by, put_by}
-use Rattle.iscsi_outbox_rules.proofs.ResponseRuns.{Behind, NoneDue, Flows, FlowsIn, flows_emptied, flows_enter, flows_settle, flows_lost, event_flows}
+use Rattle.iscsi_outbox_rules.proofs.ResponseRuns.{Behind, is_kept, kept, NoneDue, Flows, FlowsIn, flows_emptied, flows_enter, flows_settle, flows_lost, event_flows}
 
 each-both : {A : Type 0} (P Q : A → Type 0) (xs : List A) → EachOf P xs → EachOf Q xs → EachOf (λ (x : A). P x × Q x) xs
 each-both P Q [] h k = tt
@@ -62,10 +62,15 @@ module _ (t c : ℕ) where
   behind-own [] out none = ((λ place sent ticket. refl), tt)
   behind-own (x ∷ queue) out none = ((λ place sent ticket. absurd (none.0 place sent ticket)), behind-own queue out none.1)
 
-  own_enters : (handed taken : List OwnPdu) (b : Box) (p : OwnPdu) → own_in t c (own_outgoing p) ≡ p ∷ [] → (own_outgoing p).ticket ≡ Some t → EachOf (λ (l : Link). Unanswered l.queue) b.links → FlowsIn t c handed taken b
+  -- where it is the command's connection, it has joined
+  abbrev Joined : Link → Type 0
+  Joined l = l.conn ≡ c → l.joined ≡ true
+
+  own_enters : (handed taken : List OwnPdu) (b : Box) (p : OwnPdu) → own_in t c (own_outgoing p) ≡ p ∷ [] → (own_outgoing p).ticket ≡ Some t → EachOf (λ (l : Link). Unanswered l.queue) b.links → EachOf Joined b.links → FlowsIn t c handed taken b
       → FlowsIn t c handed (taken ++ p ∷ []) (enter c (own_outgoing p) b)
-  own_enters handed taken b p own ticket none h = record {
-    links = each-at_link Before After c (append out) b.links here there (each-both (Flows t c handed taken) (λ (l : Link). Unanswered l.queue) b.links h.links none);
+  own_enters handed taken b p own ticket none joined h = record {
+    links = each-at_link Before After c (append out) b.links here there
+        (each-both (Flows t c handed taken) (λ (l : Link). Unanswered l.queue × Joined l) b.links h.links (each-both (λ (l : Link). Unanswered l.queue) Joined b.links none joined));
     undue = h.undue;
   }
     where
@@ -73,7 +78,7 @@ module _ (t c : ℕ) where
       out = record (own_outgoing p) { time = b.time }
 
       Before : Link → Type 0
-      Before l = Flows t c handed taken l × Unanswered l.queue
+      Before l = Flows t c handed taken l × (Unanswered l.queue × Joined l)
 
       After : Link → Type 0
       After l = Flows t c handed (taken ++ p ∷ []) l
@@ -84,12 +89,12 @@ module _ (t c : ℕ) where
           (λ more. record {
             whole = λ at still.
                 ap (λ ys. handed ++ ys) (flat_map-append (own_in t c) l.queue (out ∷ []) ∙ ap (λ xs. own_waiting t c l.queue ++ (xs ++ [])) own)
-                ∙ sym (append_assoc handed (own_waiting t c l.queue) (p ∷ [])) ∙ ap (λ xs. xs ++ p ∷ []) (k.0.whole is more);
-            gone = λ no. absurd (false≢true (sym no ∙ more));
+                ∙ sym (append_assoc handed (own_waiting t c l.queue) (p ∷ [])) ∙ ap (λ xs. xs ++ p ∷ []) (k.0.whole is still);
+            gone = λ no. absurd (false≢true (sym no ∙ kept l more));
             entries = each-append (OwnEntry t c l.conn) l.queue (out ∷ []) k.0.entries (inr (is, ticket, refl), tt);
-            behind = behind-own l.queue out k.1;
+            behind = behind-own l.queue out k.1.0;
           })
-          (λ no. record { whole = λ at still. absurd (false≢true (sym no ∙ still)); gone = k.0.gone; entries = k.0.entries; behind = k.0.behind })
+          (λ no. record { whole = λ at still. absurd (false≢true (sym no ∙ (ap (λ v. (v && not l.lost) && not l.cut) (k.1.1 is) ∙ still))); gone = k.0.gone; entries = k.0.entries; behind = k.0.behind })
 
       there : (l : Link) → (l.conn == c) ≡ false → Before l → After l
       there l isnt k = record { whole = λ at still. absurd (eqb-false l.conn c isnt at); gone = k.0.gone; entries = k.0.entries; behind = k.0.behind }
@@ -116,10 +121,13 @@ module _ (t c : ℕ) where
     pub homes : EachOf (λ (x : Task). x.ticket ≡ t → x.conn ≡ c) b.tasks
     pub unanswered : (x : Task) → live_task b t ≡ Some x → EachOf (λ (l : Link). Unanswered l.queue) b.links
 
-  put_own : (o : Opening) (ds : List Deed) (b : Box) (header : List ℕ) (x : Option PutRefusal) → put_refusal o b (OfCommand t header) ≡ x → AtHome b → FlowsNow ds b
+  some_link : (l m : Link) → Some l ≡ Some m → l ≡ m
+  some_link l m h = cc
+
+  put_own : (o : Opening) (ds : List Deed) (b : Box) (header : List ℕ) (x : Option PutRefusal) → put_refusal o b (OfCommand t header) ≡ x → AtHome b → Twins b.links → FlowsNow ds b
       → FlowsNow (ds ++ (Puts (OfCommand t header), Put x) ∷ []) (put_by b (OfCommand t header) x)
-  put_own o ds b header (Some refusal) is home h = quiet ds (Puts (OfCommand t header), Put (Some refusal)) b refl refl h
-  put_own o ds b header None is home h = by_task (live_task b t) refl
+  put_own o ds b header (Some refusal) is home twins h = quiet ds (Puts (OfCommand t header), Put (Some refusal)) b refl refl h
+  put_own o ds b header None is home twins h = by_task (live_task b t) refl
     where
       p : OwnPdu
       p = OfCommand t header
@@ -143,18 +151,24 @@ module _ (t c : ℕ) where
           let at : x.conn ≡ c = each-first_of (λ (y : Task). y.ticket ≡ t → y.conn ≡ c) q b.tasks x found home.homes (eqb-true x.ticket t (and_parts (x.ticket == t) (is_live_phase x.phase) (first_itself q b.tasks x found)).0) in
           let conn : own_conn b p ≡ Some c = ap conn_of found ∙ ap (λ k. Some k) at in
           let own : own_in t c (own_outgoing p) ≡ p ∷ [] = ap (λ v. cond v (p ∷ []) []) itself in
+          let usable = usable_link t c o b c _ refl twins (sym (ap (by_conn o b) conn) ∙ refused) in
+          let joined : EachOf Joined b.links =
+          each-weaken (λ (m : Link). find_link m.conn b.links ≡ Some m) Joined b.links
+          (λ m found_m at_m.
+          ap (λ (l : Link). l.joined) (some_link m usable.0 (sym found_m ∙ ap (λ e. find_link e b.links) at_m ∙ usable.1))
+          ∙ and_first usable.0.joined (not usable.0.lost) (and_first (is_open usable.0) (not usable.0.closed) usable.2)) twins in
           subst (λ y. FlowsNow (ds ++ d ∷ []) (entered_by b p y)) (sym conn)
           (shown ds d (enter c (own_outgoing p) b) [] (p ∷ []) refl (ap (λ v. cond v (p ∷ []) []) itself)
           (subst (λ hs. FlowsIn t c hs (taken_of t c ds ++ p ∷ []) (enter c (own_outgoing p) b)) (sym (append-nil (handed_of t c ds)))
-          (own_enters (handed_of t c ds) (taken_of t c ds) b p own refl (home.unanswered x found) h)))
+          (own_enters (handed_of t c ds) (taken_of t c ds) b p own refl (home.unanswered x found) joined h)))
 
-  put_command : (o : Opening) (ds : List Deed) (b : Box) (ticket : ℕ) (header : List ℕ) → AtHome b → FlowsNow ds b
+  put_command : (o : Opening) (ds : List Deed) (b : Box) (ticket : ℕ) (header : List ℕ) → AtHome b → Twins b.links → FlowsNow ds b
       → FlowsNow (ds ++ (Puts (OfCommand ticket header), Put (put_refusal o b (OfCommand ticket header))) ∷ []) (after_call o b (Puts (OfCommand ticket header)))
-  put_command o ds b ticket header home h =
+  put_command o ds b ticket header home twins h =
       elim (ticket == t) as (λ v. (ticket == t) ≡ v → FlowsNow (ds ++ (Puts (OfCommand ticket header), Put (put_refusal o b (OfCommand ticket header))) ∷ []) (after_call o b (Puts (OfCommand ticket header)))) [
         | true ↦ λ is.
             subst (λ k. FlowsNow (ds ++ (Puts (OfCommand k header), Put (put_refusal o b (OfCommand k header))) ∷ []) (after_call o b (Puts (OfCommand k header)))) (sym (eqb-true ticket t is))
-            (put_own o ds b header (put_refusal o b (OfCommand t header)) refl home h)
+            (put_own o ds b header (put_refusal o b (OfCommand t header)) refl home twins h)
         | false ↦ λ isnt.
             put_other ds b (OfCommand ticket header) (put_refusal o b (OfCommand ticket header)) (ap (λ v. cond v (OfCommand ticket header ∷ []) []) isnt)
             (λ y. elim y as (λ z. taken_of t c ((Puts (OfCommand ticket header), Put z) ∷ []) ≡ []) [ Some refusal ↦ refl | None ↦ ap (λ v. cond v (OfCommand ticket header ∷ []) []) isnt ]) h
@@ -165,9 +179,6 @@ module _ (t c : ℕ) where
   behind-drop : (queue : List Outgoing) → Behind t c queue → Behind t c (drop 1 queue)
   behind-drop [] h = tt
   behind-drop (x ∷ queue) h = h.1
-
-  some_link : (l m : Link) → Some l ≡ Some m → l ≡ m
-  some_link l m h = cc
 
   flows_hand : (o : Opening) (ds : List Deed) (b : Box) (conn : ℕ) (d : Deed) (k : Hand o b conn) → handed_in_deed d ≡ Some (conn, k.handed) → taken_of t c (d ∷ []) ≡ [] → Twins b.links → FlowsNow ds b
       → FlowsNow (ds ++ d ∷ []) (after_given o b k.handing.link k.handed)
@@ -217,7 +228,7 @@ module _ (t c : ℕ) where
           (chosen_from o b l out k.handing.chosen_is).source
 
       -- the rest of its queue
-      rest : (queue : List Outgoing) → own_waiting t c l.queue ≡ own_in t c out ++ own_waiting t c queue → l.conn ≡ c → takes_more l ≡ true → (handed_of t c ds ++ own_in t c out) ++ own_waiting t c queue ≡ taken_of t c ds
+      rest : (queue : List Outgoing) → own_waiting t c l.queue ≡ own_in t c out ++ own_waiting t c queue → l.conn ≡ c → is_kept l ≡ true → (handed_of t c ds ++ own_in t c out) ++ own_waiting t c queue ≡ taken_of t c ds
       rest queue parts at still = append_assoc (handed_of t c ds) (own_in t c out) (own_waiting t c queue) ∙ ap (λ ys. handed_of t c ds ++ ys) (sym parts) ∙ stands.whole at still
 
       taken : After (taken_from out l)
@@ -274,7 +285,7 @@ module _ (t c : ℕ) where
       → FlowsNow (ds ++ (call, answered o b call) ∷ []) (after_call o b call)
   flows_call o ds b (Takes effects numbers) twins apart home h =
       quiet ds (Takes effects numbers, Silent) (after_call o b (Takes effects numbers)) refl refl (event_flows t c (handed_of t c ds) (taken_of t c ds) o b effects numbers apart h)
-  flows_call o ds b (Puts (OfCommand ticket header)) twins apart home h = put_command o ds b ticket header home h
+  flows_call o ds b (Puts (OfCommand ticket header)) twins apart home h = put_command o ds b ticket header home twins h
   flows_call o ds b (Puts (OfConnection e header)) twins apart home h =
       put_other ds b (OfConnection e header) (put_refusal o b (OfConnection e header)) refl (λ y. elim y as (λ z. taken_of t c ((Puts (OfConnection e header), Put z) ∷ []) ≡ []) [ Some refusal ↦ refl | None ↦ refl ]) h
   flows_call o ds b (Stops ticket) twins apart home h =

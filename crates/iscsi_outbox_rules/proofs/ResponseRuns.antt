@@ -11,7 +11,7 @@ use Rattle.iscsi_history.specs.declared.effect.Effect.{Effect}
 use Rattle.iscsi_history.specs.declared.effect.Numbers.{Numbers}
 use Rattle.iscsi_history.specs.rules.Trace.{first_of}
 use Rattle.iscsi_history.specs.promises.Order.{in_parts}
-use Rattle.iscsi_history.proofs.BoolLemmas.{and_second}
+use Rattle.iscsi_history.proofs.BoolLemmas.{and_both, and_parts, and_second}
 use Rattle.iscsi_outbox_rules.specs.declared.own_pdu.OwnPdu.{OwnPdu}
 use Rattle.iscsi_outbox_rules.specs.rules.Calls.{Opening}
 use Rattle.iscsi_outbox_rules.specs.rules.Boxes.{Outgoing, Aim, Answer, Link, Box}
@@ -25,6 +25,13 @@ use Rattle.iscsi_outbox_rules.proofs.EachLemmas.{EachOf, each-append, each-at_li
 use Rattle.iscsi_outbox_rules.proofs.CommandRuns.{own_in, own_waiting, OwnEntry, dropped_others, waiting-push}
 use Rattle.iscsi_outbox_rules.proofs.LeftRuns.{fewer}
 use Rattle.iscsi_outbox_rules.proofs.TaskLives.{taken_by}
+
+-- neither lost nor closed from elsewhere
+abbrev pub is_kept : Link → Bool
+is_kept l = not l.lost && not l.cut
+
+pub kept : (l : Link) → takes_more l ≡ true → is_kept l ≡ true
+kept l more = let parts = and_parts (l.joined && not l.lost) (not l.cut) more in and_both (not l.lost) (not l.cut) (and_second l.joined (not l.lost) parts.0) parts.1
 
 module _ (t c : ℕ) where
   -- behind a reply of the command none of its own PDUs waits
@@ -47,8 +54,8 @@ module _ (t c : ℕ) where
   -- these own PDUs of the command went out, and these were taken
   module _ (handed taken : List OwnPdu) where
     pub record Flows (l : Link) : Type 0 where
-      pub whole : l.conn ≡ c → takes_more l ≡ true → handed ++ own_waiting t c l.queue ≡ taken
-      pub gone : takes_more l ≡ false → l.queue ≡ []
+      pub whole : l.conn ≡ c → is_kept l ≡ true → handed ++ own_waiting t c l.queue ≡ taken
+      pub gone : is_kept l ≡ false → l.queue ≡ []
       pub entries : EachOf (OwnEntry t c l.conn) l.queue
       pub behind : Behind l.queue
 
@@ -63,7 +70,7 @@ module _ (t c : ℕ) where
         cond_both (takes_more l) (record l { queue = l.queue ++ out ∷ [] }) l Flows
         (λ more. record {
           whole = λ at still. ap (λ ys. handed ++ ys) (waiting-push t c l.queue out none) ∙ h.whole at still;
-          gone = λ no. absurd (false≢true (sym no ∙ more));
+          gone = λ no. absurd (false≢true (sym no ∙ kept l more));
           entries = each-append (OwnEntry t c l.conn) l.queue (out ∷ []) h.entries (inl none, tt);
           behind = behind-push l.queue out none h.behind;
         }) (λ no. h)

@@ -10,7 +10,6 @@ use Rattle.iscsi_history.proofs.ListLemmas.{first_itself}
 use Rattle.iscsi_outbox_rules.specs.rules.Calls.{Opening, Call}
 use Rattle.iscsi_outbox_rules.specs.rules.Boxes.{Pdu, Task, Outgoing, Handed, Link, Box}
 use Rattle.iscsi_outbox_rules.specs.rules.Words.{is_live_phase}
-use Rattle.iscsi_outbox_rules.specs.rules.Queues.{takes_more}
 use Rattle.iscsi_outbox_rules.specs.rules.Own.{live_task}
 use Rattle.iscsi_outbox_rules.specs.rules.Run.{new_link, opened, after_call, after_calls, answered}
 use Rattle.iscsi_outbox_rules.specs.promises.Deeds.{Deed, deeds_of, items_in, items_of_call, handed_in_deed, FollowsSession}
@@ -37,7 +36,7 @@ use Rattle.iscsi_outbox_rules.proofs.TaskFits.{Fits, fits-first, fits-second, fi
 use Rattle.iscsi_outbox_rules.proofs.TaskLives.{Lives, moved, lives_call, lives_start}
 use Rattle.iscsi_outbox_rules.proofs.SilentItems.{some_sent, Among, firsts_among, Uncompleted, completed_leaves, none_completes}
 use Rattle.iscsi_outbox_rules.proofs.ResponseHomes.{StaysHome, homes}
-use Rattle.iscsi_outbox_rules.proofs.ResponseRuns.{Behind, Flows}
+use Rattle.iscsi_outbox_rules.proofs.ResponseRuns.{Behind, is_kept, Flows}
 use Rattle.iscsi_outbox_rules.proofs.ResponseCalls.{FlowsNow, Unanswered, AtHome, flows_call}
 
 -- ---- through all calls
@@ -231,7 +230,7 @@ module _ (o : Opening) (cs : List Call) (follows : FollowsSession o cs) (before 
       queued : FromQueue o b link out → handed_of t home.0 before ≡ taken_of t home.0 before
       queued q =
           sym (ap (λ ys. handed_of t home.0 before ++ ys) (ap (own_waiting t home.0) q.queue_is ∙ ap (λ ys. ys ++ own_waiting t home.0 q.rest) reply ∙ none) ∙ append-nil (handed_of t home.0 before))
-          ∙ flows.whole (found-conn conn b.links link n.found ∙ at_home) (still (takes_more link) refl)
+          ∙ flows.whole (found-conn conn b.links link n.found ∙ at_home) (still (is_kept link) refl)
         where
           -- the response itself is no own PDU, and none waits behind it
           reply : own_in t home.0 out ≡ []
@@ -240,7 +239,7 @@ module _ (o : Opening) (cs : List Call) (follows : FollowsSession o cs) (before 
           none : own_waiting t home.0 q.rest ≡ []
           none = (subst (Behind t home.0) q.queue_is flows.behind).0 itself.place sent ticket
 
-          still : (v : Bool) → takes_more link ≡ v → takes_more link ≡ true
+          still : (v : Bool) → is_kept link ≡ v → is_kept link ≡ true
           still true is = is
           still false is = absurd (let no : out ∷ q.rest ≡ [] = sym q.queue_is ∙ flows.gone is in cc)
 

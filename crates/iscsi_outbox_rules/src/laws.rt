@@ -66,8 +66,8 @@ pub fn still_law()
 /// If what is taken is what a session gives: as the answer to a function of several tasks goes out, what took a StatSN before it on
 /// another connection isn't under way any more; and what takes one goes out behind it elsewhere only when it is known to have
 /// arrived, where that is looked for, or its own connection was lost (RFC 7143 section 4.2.2.3.4). Of the two the one that entered its
-/// queue first goes first, unless its connection hadn't joined as the other went out. And a reply that was sent before it, and didn't
-/// have to wait, goes out before it, unless its connection hasn't joined, was closed or lost.
+/// queue first goes first. And a reply that was sent before it, and didn't have to wait, goes out before it, unless its connection
+/// hadn't joined as it was sent, was closed or lost.
 pub fn fence_law()
     ensures before { (o : Opening) (calls : List Call) → FollowsSession o calls → FenceBefore o (deeds_of o calls) }
     ensures behind { (o : Opening) (calls : List Call) → FollowsSession o calls → FenceBehind o (deeds_of o calls) }

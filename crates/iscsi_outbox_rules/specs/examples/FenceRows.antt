@@ -53,16 +53,21 @@ pub ping_first : Worked (outbox (of_two 4)) (
 unfolding Rules.bars_as
 ping_first = refl
 
--- what waits on a connection that hasn't joined holds nothing back: what entered behind it goes first
+-- what is sent on a connection that hasn't joined goes nowhere, and holds nothing back: not as the connection joins either
 pub unjoined_fence : Worked (outbox (of_two 4)) (
     joins 1 1
     ∷ arrives 2 (function_now 2 1 0xb1 0 0)
-    ∷ arrives 1 (nop_now 0xc1 1)
-    ∷ replies 1 (Nop 0xc1) 1 1 4
+    ∷ arrives 2 (nop_now 0xc1 2)
+    ∷ arrives 1 (nop_now 0xc2 1)
+    ∷ arrives 1 (nop_now 0xc3 1)
+    ∷ replies 1 (Nop 0xc2) 1 1 4
     ∷ joins 2 1
     ∷ none_goes 2
-    ∷ acknowledges 1 2
-    ∷ replies 2 (Task 0xb1 0) 1 1 4
+    ∷ replies 1 (Nop 0xc3) 2 1 4
+    ∷ arrives 2 (function_now 2 1 0xb2 0 0)
+    ∷ none_goes 2
+    ∷ acknowledges 1 3
+    ∷ replies 2 (Task 0xb2 0) 1 1 4
     ∷ [])
 unfolding Rules.bars_as
 unjoined_fence = refl

@@ -44,23 +44,22 @@ FenceBehind o ds = (earlier since after : List Deed) (answer handing : Deed) (c 
     → handed_in_deed handing ≡ Some (d, g) → d ≢ c → g.out.takes ≡ true → o.acknowledged ≡ true
     → is_through o c earlier answer h since ≡ true
 
--- and no other way: of it and what takes a StatSN on another connection, the one that entered its queue first goes first, unless its
--- connection hadn't joined as the other went out
+-- and no other way: of it and what takes a StatSN on another connection, the one that entered its queue first goes first
 abbrev pub FenceInOrder : Opening → List Deed → Type 0
 FenceInOrder o ds = (earlier since after : List Deed) (handing later : Deed) (c d : ℕ) (h g : Handed)
     → earlier ++ handing ∷ (since ++ later ∷ after) ≡ ds
-    → handed_in_deed handing ≡ Some (c, h) → handed_in_deed later ≡ Some (d, g) → d ≢ c → has_joined earlier d ≡ true → h.out.takes ≡ true → g.out.takes ≡ true
+    → handed_in_deed handing ≡ Some (c, h) → handed_in_deed later ≡ Some (d, g) → d ≢ c → h.out.takes ≡ true → g.out.takes ≡ true
     → is_fenced o (items_in earlier) h || is_fenced o (items_in (earlier ++ handing ∷ since)) g ≡ true
     → h.out.time < g.out.time
 
--- a reply that stands before it in the log, and didn't have to wait, goes out before it, unless its connection hasn't joined, was
--- closed or lost
+-- a reply that stands before it in the log, and didn't have to wait, goes out before it, unless its connection hadn't joined as it
+-- was sent, was closed or lost. `earlier` are the deeds before it was sent, or some of them
 abbrev pub FenceFirst : Opening → List Deed → Type 0
-FenceFirst o ds = (earlier after : List Deed) (answer : Deed) (c : ℕ) (h : Handed) (place fenced : ℕ) (s : Sent)
-    → earlier ++ answer ∷ after ≡ ds
-    → handed_in_deed answer ≡ Some (c, h) → is_fenced o (items_in earlier) h ≡ true → h.out.sent ≡ Some fenced
-    → place < fenced → nth place (sent_by (items_in earlier)) ≡ Some s → aim_of_sent o s ≡ None
-    → is_handed place earlier || not (has_joined earlier s.conn) || was_lost earlier s.conn || is_closed (items_in earlier) s.conn ≡ true
+FenceFirst o ds = (earlier since after : List Deed) (answer : Deed) (c : ℕ) (h : Handed) (place fenced : ℕ) (s : Sent)
+    → let all = earlier ++ since in all ++ answer ∷ after ≡ ds
+    → handed_in_deed answer ≡ Some (c, h) → is_fenced o (items_in all) h ≡ true → h.out.sent ≡ Some fenced
+    → place < fenced → nth place (sent_by (items_in earlier)) ≡ None → nth place (sent_by (items_in all)) ≡ Some s → aim_of_sent o s ≡ None
+    → is_handed place all || not (has_joined earlier s.conn) || was_lost all s.conn || is_closed (items_in all) s.conn ≡ true
 
 pub record FenceHolds (o : Opening) (ds : List Deed) : Type 0 where
   pub before : FenceBefore o ds

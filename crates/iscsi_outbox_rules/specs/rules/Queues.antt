@@ -1,15 +1,15 @@
 -- What enters a queue, and what is taken out of one.
 use Rattle.std.specs.Prelude.{ℕ, ◌+◌, ◌==◌, ◌&&◌, not, Bool, List, [], ◌∷◌, ◌++◌, map, filter, if◌then◌else◌}
 use Rattle.iscsi_outbox_rules.specs.rules.Boxes.{Outgoing, Answer, Link, Box}
-use Rattle.iscsi_outbox_rules.specs.rules.Words.{is_of}
+use Rattle.iscsi_outbox_rules.specs.rules.Words.{is_of, is_open}
 
 abbrev pub at_link : ℕ → (Link → Link) → List Link → List Link
 at_link conn change links = map (λ (l : Link). if l.conn == conn then change l else l) links
 
--- a connection that another one's Logout closed, or that was lost, takes nothing more; one that a Logout on itself closes still
--- takes the answers that had to wait
+-- a connection takes nothing before it joined, nor once it was lost or another one's Logout closed it; one that a Logout on itself
+-- closes still takes the answers that had to wait
 abbrev pub takes_more : Link → Bool
-takes_more l = not l.lost && not l.cut
+takes_more l = is_open l && not l.cut
 
 abbrev pub append : Outgoing → Link → Link
 append out l = if takes_more l then record l { queue = l.queue ++ out ∷ [] } else l
