@@ -1,13 +1,14 @@
 -- Worked lists: room, and the window that is shown.
-use Rattle.std.specs.Prelude.{◌≡◌, ℕ, List, [], ◌∷◌, ◌++◌, map, refl, true, false}
-use Rattle.std.specs.List.{range_with_len}
+use Rattle.std.specs.Prelude.{◌≡◌, ℕ, ◌+◌, ◌*◌, nat_le, List, [], ◌∷◌, ◌++◌, map, refl, true, false}
+use Rattle.std.specs.List.{range_with_len, flat_map}
 use Rattle.iscsi_wire.specs.declared.reply.Reply.TheVariants.{Nop}
 use Rattle.iscsi_tasks.specs.Rules as Rules
 use Rattle.iscsi_history.specs.declared.event.Event.TheVariants.{Arrive}
-use Rattle.iscsi_history.specs.examples.Rows.{nop, nop_now, setting, of_two}
+use Rattle.iscsi_history.specs.examples.Rows.{nop, nop_now, immediate_command, setting, of_two}
 use Rattle.iscsi_outbox_rules.specs.rules.Calls.{Joins}
 use Rattle.iscsi_outbox_rules.specs.rules.Boxes.{Notices}
 use Rattle.iscsi_outbox_rules.specs.rules.Words.{may_take}
+use Rattle.iscsi_outbox_rules.specs.promises.Room.{Step, Happens as Comes, all_are, is_read_with_room, after_steps, begun, places, tasks_kept}
 use Rattle.iscsi_outbox_rules.specs.examples.Rows.{outbox, Move, Happens, Calls, Row, Worked, box_after, arrives, joins, is_lost, goes, replies, none_goes}
 
 -- so many NOP-Outs from this number on, and none of their answers is handed out
@@ -67,3 +68,22 @@ room_left = refl
 pub no_room_left : may_take (outbox (setting 1 1)) (box_after (outbox (setting 1 1)) (Calls (Joins 1 1) ∷ immediate_nops 26)) ≡ false
 unfolding Rules.bars_as
 no_room_left = refl
+
+-- eight immediate commands on each of so many connections, from this one on
+abbrev commands_on : ℕ → ℕ → List Step
+commands_on conn count = flat_map (λ c. map (λ n. Comes (Arrive c (immediate_command (16 * c + n)))) (range_with_len 0 8)) (range_with_len conn count)
+
+-- on its own connection a session has eight live at the most; with five that it doesn't have forty would be live, which are more than
+-- a window of 1 and a connection have places for
+pub strangers_live : nat_le (tasks_kept (outbox (setting 1 1)) (after_steps (outbox (setting 1 1)) (begun (outbox (setting 1 1))) (commands_on 2 5)).box) (places (outbox (setting 1 1))) ≡ false
+unfolding Rules.bars_as
+strangers_live = refl
+
+-- so a session refuses what comes on them, and they aren't read
+pub strangers_unread : all_are (is_read_with_room (outbox (setting 1 1))) (outbox (setting 1 1)) (begun (outbox (setting 1 1))) (commands_on 2 5) ≡ false
+unfolding Rules.bars_as
+strangers_unread = refl
+
+pub own_read : all_are (is_read_with_room (outbox (setting 1 1))) (outbox (setting 1 1)) (begun (outbox (setting 1 1))) (commands_on 1 1) ≡ true
+unfolding Rules.bars_as
+own_read = refl

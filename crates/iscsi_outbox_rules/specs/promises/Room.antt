@@ -6,6 +6,7 @@ use Rattle.iscsi_wire.specs.Serial.{lift}
 use Rattle.iscsi_wire.specs.Fields.{connection_of, is_immediate, cmd_sn, request_of, opcode}
 use Rattle.iscsi_history.specs.declared.event.Event.{Event}
 use Rattle.iscsi_history.specs.declared.event.Event.TheVariants.{Arrive, Done}
+use Rattle.iscsi_history.specs.rules.Settings.{is_known}
 use Rattle.iscsi_history.specs.rules.Trace.{Trace, Command, live}
 use Rattle.iscsi_history.specs.rules.Execution.{exp_of}
 use Rattle.iscsi_history.specs.rules.Run.{entry_of, after_event}
@@ -48,9 +49,10 @@ begun o = record { event = 0; trace = []; box = opened o }
 abbrev pub is_parting : Both → Request → Bool
 is_parting s r = is_immediate r && opcode r == 0x06 && list_any (λ (l : Link). l.conn == connection_of r && l.lost) s.box.links
 
--- an arrival is taken where there is room, or tells that a connection was lost
+-- an arrival comes on a connection of the session, which refuses those of others, and is taken where there is room, or tells that a
+-- connection was lost
 abbrev pub is_read_with_room : Opening → Both → Step → Bool
-is_read_with_room o s (Happens (Arrive conn header)) = may_take o s.box || is_parting s (request_of conn header)
+is_read_with_room o s (Happens (Arrive conn header)) = is_known conn o.session.conns && (may_take o s.box || is_parting s (request_of conn header))
 is_read_with_room o s (Happens (Done ticket status)) = true
 is_read_with_room o s (Other c) = is_other c
 
