@@ -94,3 +94,8 @@ mod PlaceTheorem
 mod PromisesTheorem
 mod WordTheorem
 mod PlaceRoom
+mod RoomFair
+mod RoomSteps
+mod RoomMarks
+mod RoomLimits
+mod RoomTurns
