@@ -99,3 +99,6 @@ mod RoomSteps
 mod RoomMarks
 mod RoomLimits
 mod RoomTurns
+mod RoomStored
+mod RoomBound
+mod RoomReplies

@@ -88,7 +88,7 @@ module _ (o : Setting) where
       by_mark ClosesSession z = tt
       by_mark (Ignores why) z = k
 
-  all_waiting : (t : Trace) → KnownIn t → EachOf IsKnown (waiting t)
+  pub all_waiting : (t : Trace) → KnownIn t → EachOf IsKnown (waiting t)
   all_waiting [] h = tt
   all_waiting (item ∷ t) h = waits_known item (waiting t) h.0 (all_waiting t h.1)
 
