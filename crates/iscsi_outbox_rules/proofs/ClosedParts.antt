@@ -182,7 +182,7 @@ event_led o now t (Done ticket status) = elim (command_of t ticket) as (λ y. Ar
 -- ---- the parts of an event
 
 -- of each of these items, after t, its effects
-abbrev effects_each : Setting → Trace → List (List Mark) → List (List Effect)
+abbrev pub effects_each : Setting → Trace → List (List Mark) → List (List Effect)
 effects_each o t [] = []
 effects_each o t (item ∷ items) = effects_of_item o t item ∷ effects_each o (item ∷ t) items
 
@@ -225,7 +225,7 @@ EachItem F [] = Unit {0}
 EachItem F (item ∷ t) = F t item × EachItem F t
 
 -- of each of these items after a trace
-abbrev EachOn : (Trace → List Mark → Type 0) → Trace → List (List Mark) → Type 0
+abbrev pub EachOn : (Trace → List Mark → Type 0) → Trace → List (List Mark) → Type 0
 EachOn F t [] = Unit {0}
 EachOn F t (item ∷ items) = F t item × EachOn F (item ∷ t) items
 
@@ -240,9 +240,9 @@ earlier F o now t (e ∷ h) x = (parted F t (items_of o now t e) (earlier F o (n
 -- ---- the parts of an event
 
 -- an event's parts are its items' effects, with an empty part before those of a request
-record Parts (o : Setting) (t : Trace) (items : List (List Mark)) : Type 0 where
-  lead : Bool
-  are : in_parts (effects_of o t items) ≡ cond lead ([] ∷ effects_each o t items) (effects_each o t items)
+pub record Parts (o : Setting) (t : Trace) (items : List (List Mark)) : Type 0 where
+  pub lead : Bool
+  pub are : in_parts (effects_of o t items) ≡ cond lead ([] ∷ effects_each o t items) (effects_each o t items)
 
 module _ (o : Setting) (F : Trace → List Mark → Type 0) (formed : (t : Trace) (item : List Mark) → F t item → (now : ℕ) × HasForm o now t item) where
   fresh : (t : Trace) (items : List (List Mark)) → list_all begins items ≡ true → EachOn F t items → in_parts (effects_of o t items) ≡ [] ∷ effects_each o t items
@@ -254,7 +254,7 @@ module _ (o : Setting) (F : Trace → List Mark → Type 0) (formed : (t : Trace
       asked : (now : ℕ) × HasForm o now t item → begins item ≡ true → Asked (effects_of_item o t item)
       asked f is = subst (λ ms. Asked (effects_of_item o t ms)) (sym f.1.is) (asked_form o t f.1.form (sym (ap begins f.1.is) ∙ is))
 
-  event_parts : (now : ℕ) (t : Trace) (e : Event) → EachOn F t (items_of o now t e) → Parts o t (items_of o now t e)
+  pub event_parts : (now : ℕ) (t : Trace) (e : Event) → EachOn F t (items_of o now t e) → Parts o t (items_of o now t e)
   event_parts now t e x =
       let led : AreLed (items_of o now t e) = event_led o now t e in
       subst (Parts o t) (sym led.are) (of_led led.first led.rest led.begin (subst (EachOn F t) led.are x))

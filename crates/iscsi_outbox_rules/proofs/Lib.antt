@@ -102,3 +102,5 @@ mod RoomTurns
 mod RoomStored
 mod RoomBound
 mod RoomReplies
+mod RoomSends
+mod RoomTheorem

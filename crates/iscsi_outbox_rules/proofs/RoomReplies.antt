@@ -41,7 +41,7 @@ conns_map change same c (l ∷ links) =
 one_map : (change : Link → Link) → ((l : Link) → (change l).conn ≡ l.conn) → (links : List Link) → AreOne links → AreOne (map change links)
 one_map change same links h c = omega (arith, conns_map change same c links, h c)
 
-one_at : (conn : ℕ) (change : Link → Link) → ((l : Link) → (change l).conn ≡ l.conn) → (links : List Link) → AreOne links → AreOne (at_link conn change links)
+pub one_at : (conn : ℕ) (change : Link → Link) → ((l : Link) → (change l).conn ≡ l.conn) → (links : List Link) → AreOne links → AreOne (at_link conn change links)
 one_at conn change same links h =
     one_map (λ (l : Link). cond (l.conn == conn) (change l) l) (λ l. cond_both (l.conn == conn) (change l) l (λ (m : Link). m.conn ≡ l.conn) (λ is. same l) (λ is. refl)) links h
 
@@ -49,7 +49,7 @@ fewer_map : (change : Link → Link) → ((l : Link) → replies_in (change l) �
 fewer_map change fewer [] = omega arith
 fewer_map change fewer (l ∷ links) = omega (arith, sum_by-cons replies_in (change l) (map change links), sum_by-cons replies_in l links, fewer l, fewer_map change fewer links)
 
-fewer_at : (conn : ℕ) (change : Link → Link) → ((l : Link) → replies_in (change l) ≤ replies_in l) → (links : List Link) → replies_on (at_link conn change links) ≤ replies_on links
+pub fewer_at : (conn : ℕ) (change : Link → Link) → ((l : Link) → replies_in (change l) ≤ replies_in l) → (links : List Link) → replies_on (at_link conn change links) ≤ replies_on links
 fewer_at conn change fewer links =
     fewer_map (λ (l : Link). cond (l.conn == conn) (change l) l) (λ l. cond_both (l.conn == conn) (change l) l (λ (m : Link). replies_in m ≤ replies_in l) (λ is. fewer l) (λ is. omega arith)) links
 
@@ -72,7 +72,7 @@ more_at false conn change P more (l ∷ links) h =
       | false ↦ λ is. omega (arith, rest, sum_by-cons replies_in l (at_link conn change links), sum_by-cons replies_in l links)
     ] refl
 
-any_link : (links : List Link) → EachOf (λ (l : Link). Unit {0}) links
+pub any_link : (links : List Link) → EachOf (λ (l : Link). Unit {0}) links
 any_link [] = tt
 any_link (l ∷ links) = (tt, any_link links)
 
@@ -88,7 +88,7 @@ append_lost : (out : Outgoing) (l : Link) → (append out l).lost ≡ l.lost
 append_lost out l = cond_both (takes_more l) (record l { queue = l.queue ++ out ∷ [] }) l (λ (m : Link). m.lost ≡ l.lost) (λ is. refl) (λ is. refl)
 
 -- what enters is one more at the most
-entered_one : (conn : ℕ) (out : Outgoing) (links : List Link) → AreOne links → replies_on (at_link conn (append out) links) ≤ replies_on links + one (is_reply out.pdu)
+pub entered_one : (conn : ℕ) (out : Outgoing) (links : List Link) → AreOne links → replies_on (at_link conn (append out) links) ≤ replies_on links + one (is_reply out.pdu)
 entered_one conn out links alone =
     by_reply (is_reply out.pdu) (more_at (is_reply out.pdu) conn (append out) (λ (l : Link). Unit {0}) (λ l any is. appended out l) links (any_link links))
   where

@@ -215,7 +215,7 @@ module _ (o : Setting) where
             | false ↦ numbered_known t a known h
           ]
 
-  event_known : (now : ℕ) (t : Trace) (e : Event) → belongs o e ≡ true → KnownIn t → KnownIn (after_event o now t e)
+  pub event_known : (now : ℕ) (t : Trace) (e : Event) → belongs o e ≡ true → KnownIn t → KnownIn (after_event o now t e)
   event_known now t (Arrive conn header) known h = arrival_known t (arrival_of o now t (request_of conn header)) known h
   event_known now t (Done ticket status) known h =
       elim (command_of t ticket) as (λ y. KnownIn (after_items (completion status y) t)) [ Some c ↦ ((tt, (tt, tt)), h) | None ↦ ((tt, tt), h) ]

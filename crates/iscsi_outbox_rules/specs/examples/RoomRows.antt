@@ -5,9 +5,9 @@ use Rattle.iscsi_wire.specs.declared.reply.Reply.TheVariants.{Nop}
 use Rattle.iscsi_tasks.specs.Rules as Rules
 use Rattle.iscsi_history.specs.declared.event.Event.TheVariants.{Arrive}
 use Rattle.iscsi_history.specs.examples.Rows.{nop, nop_now, immediate_command, setting, of_two}
-use Rattle.iscsi_outbox_rules.specs.rules.Calls.{Joins}
+use Rattle.iscsi_outbox_rules.specs.rules.Calls.{Opening, Joins}
 use Rattle.iscsi_outbox_rules.specs.rules.Boxes.{Notices}
-use Rattle.iscsi_outbox_rules.specs.rules.Words.{may_take}
+use Rattle.iscsi_outbox_rules.specs.rules.Words.{may_take, replies_waiting}
 use Rattle.iscsi_outbox_rules.specs.promises.Room.{Step, Happens as Comes, all_are, is_read_with_room, after_steps, begun, places, tasks_kept}
 use Rattle.iscsi_outbox_rules.specs.examples.Rows.{outbox, Move, Happens, Calls, Row, Worked, box_after, arrives, joins, is_lost, goes, replies, none_goes}
 
@@ -87,3 +87,26 @@ strangers_unread = refl
 pub own_read : all_are (is_read_with_room (outbox (setting 1 1))) (outbox (setting 1 1)) (begun (outbox (setting 1 1))) (commands_on 1 1) ≡ true
 unfolding Rules.bars_as
 own_read = refl
+
+-- ---- a CID that stands twice
+
+-- a session of a window of 27 whose one CID stands twice, which no session is opened with
+abbrev twice : Opening
+twice = outbox (record (setting 1 27) { conns = (1, 1) ∷ (1, 1) ∷ [] })
+
+-- of 27 numbered NOP-Outs the first one comes last, behind fifty immediate ones, so that all of the 27 are answered at once
+abbrev last_first : List Step
+last_first =
+    map (λ n. Comes (Arrive 1 (nop 0xc1 n))) (range_with_len 2 26)
+    ++ map (λ n. Comes (Arrive 1 (nop_now 0xc1 1))) (range_with_len 0 50)
+    ++ Comes (Arrive 1 (nop 0xc1 1))
+    ∷ []
+
+pub twice_read : all_are (is_read_with_room twice) twice (begun twice) last_first ≡ true
+unfolding Rules.bars_as
+twice_read = refl
+
+-- each answer waits twice, and there are no places for so many
+pub twice_waiting : nat_le (replies_waiting (after_steps twice (begun twice) last_first).box) (places twice) ≡ false
+unfolding Rules.bars_as
+twice_waiting = refl

@@ -6,7 +6,7 @@ use Rattle.iscsi_wire.specs.Serial.{lift}
 use Rattle.iscsi_wire.specs.Fields.{connection_of, is_immediate, cmd_sn, request_of, opcode}
 use Rattle.iscsi_history.specs.declared.event.Event.{Event}
 use Rattle.iscsi_history.specs.declared.event.Event.TheVariants.{Arrive, Done}
-use Rattle.iscsi_history.specs.rules.Settings.{is_known}
+use Rattle.iscsi_history.specs.rules.Settings.{is_known, are_distinct}
 use Rattle.iscsi_history.specs.rules.Trace.{Trace, Command, live}
 use Rattle.iscsi_history.specs.rules.Execution.{exp_of}
 use Rattle.iscsi_history.specs.rules.Run.{entry_of, after_event}
@@ -79,8 +79,12 @@ places o = 3 * most_at_once o
 abbrev pub tasks_kept : Opening → Box → ℕ
 tasks_kept o b = count_by (λ (t : Task). is_live_phase t.phase) b.tasks + owing o b
 
+-- no more replies wait than there are places for, where no CID stands twice, as a session's options have it
+abbrev pub RepliesFit : Opening → List Step → Type 0
+RepliesFit o steps = are_distinct o.session.conns ≡ true → all_are (is_read_with_room o) o (begun o) steps ≡ true → replies_waiting (after_steps o (begun o) steps).box ≤ places o
+
 pub record RoomHolds (o : Opening) (steps : List Step) : Type 0 where
-  pub replies : all_are (is_read_with_room o) o (begun o) steps ≡ true → replies_waiting (after_steps o (begun o) steps).box ≤ places o
+  pub replies : RepliesFit o steps
   pub tasks : all_are (is_read_with_room o) o (begun o) steps ≡ true → tasks_kept o (after_steps o (begun o) steps).box ≤ places o
   -- whatever was shown has room: an initiator that keeps to it isn't held back by its numbered requests
   pub shown : all_are (is_within_shown o) o (begun o) steps ≡ true →

@@ -1,0 +1,5 @@
+use Rattle.iscsi_outbox_rules.proofs.RoomTheorem.{replies_fit}
+use Rattle.iscsi_outbox_rules.proofs.laws.room_law.Goals as goal
+
+pub returns : goal.returns
+returns c = record { replies = replies_fit }
