@@ -2,7 +2,7 @@
 -- other call.
 use Rattle.std.proofs.Common.{◌≡◌, ℕ, ◌+◌, ◌≤◌, ◌==◌, ◌&&◌, ◌||◌, not, cond, Bool, true, false, List, [], ◌∷◌, ◌++◌, map, filter_map, count_by, Option, Some, None, refl, ap, sym, ◌∙◌, arith}
 use Rattle.std.specs.List.{list_any, sum_by}
-use Rattle.std.proofs.lemmas.Bool.{cond_both, false≢true, eqb-true}
+use Rattle.std.proofs.lemmas.Bool.{and_left, and_right, cond_both, false≢true, eqb-true, not_from_true}
 use Rattle.std.proofs.lemmas.List.Sums.{sum_by-cons, sum_by-append}
 use Rattle.iscsi_wire.specs.declared.reply.Reply.{Reply}
 use Rattle.iscsi_wire.specs.declared.request.Request.{Request}
@@ -12,7 +12,7 @@ use Rattle.iscsi_history.proofs.ListLemmas.{fewer_counted, count_by-push}
 use Rattle.iscsi_history.proofs.CountLemmas.{one, count-cons}
 use Rattle.iscsi_outbox_rules.specs.rules.Calls.{Opening}
 use Rattle.iscsi_outbox_rules.specs.rules.Boxes.{Outgoing, Aim, Answer, Link, Box}
-use Rattle.iscsi_outbox_rules.specs.rules.Words.{is_reply, replies_waiting}
+use Rattle.iscsi_outbox_rules.specs.rules.Words.{is_open, is_reply, replies_waiting}
 use Rattle.iscsi_outbox_rules.specs.rules.Queues.{at_link, takes_more, append, enter, without, emptied}
 use Rattle.iscsi_outbox_rules.specs.rules.Items.{executing, tickets_left, reply_sent, outgoing, answer, send_as, aim, send}
 use Rattle.iscsi_outbox_rules.proofs.EachLemmas.{EachOf, each-map, each-at_link}
@@ -119,7 +119,7 @@ module _ (o : Opening) (k : ℕ) (quiet : ℕ → Bool) where
       each-at_link Quiet Quiet conn change links (λ l is q there. lost l ∙ q (ap quiet (sym (same l)) ∙ there)) (λ l isnt q. q) h
 
   untaking : (l : Link) → Quiet l → quiet l.conn ≡ true → takes_more l ≡ false
-  untaking l q there = ap (λ v. not v && not l.cut) (q there)
+  untaking l q there = and_left (is_open l) (not l.cut) (and_right l.joined (not l.lost) (not_from_true l.lost (q there)))
 
   entered_quiet : (conn : ℕ) (out : Outgoing) (links : List Link) → EachOf Quiet links → quiet conn ≡ true → replies_on (at_link conn (append out) links) ≤ replies_on links + 0
   entered_quiet conn out links h there =

@@ -89,10 +89,12 @@ pub fn word_law()
     ensures word { (o : Opening) (calls : List Call) → WordHolds o (tells o calls) }
 {}
 
-/// All of these in one, but for `deadlock_law` and `word_law`: if what is taken is what a session gives, whose requests came on its own connections,
-/// and whose MaxCmdSN flows.
+/// All of these in one, but for `deadlock_law` and `word_law`: if what is taken is what a session gives, whose requests came on
+/// its own connections, and whose MaxCmdSN flows.
 pub fn promises_law()
     ensures promises { (o : Opening) (calls : List Call) → FollowsFlow o calls → FollowsKnown o calls → KeepsPromises o calls }
+{}
+
 /// Room, where requests are read only while `may_take` has it, but for the Logouts that tell of lost connections, and come on the
 /// session's connections, no CID of which stands twice: no more replies wait than there are places for.
 pub fn room_law()

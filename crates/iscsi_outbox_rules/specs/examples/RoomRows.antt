@@ -8,7 +8,7 @@ use Rattle.iscsi_history.specs.examples.Rows.{nop, nop_now, immediate_command, s
 use Rattle.iscsi_outbox_rules.specs.rules.Calls.{Opening, Joins}
 use Rattle.iscsi_outbox_rules.specs.rules.Boxes.{Notices}
 use Rattle.iscsi_outbox_rules.specs.rules.Words.{may_take, replies_waiting}
-use Rattle.iscsi_outbox_rules.specs.promises.Room.{Step, Happens as Comes, all_are, is_read_with_room, after_steps, begun, places, tasks_kept}
+use Rattle.iscsi_outbox_rules.specs.promises.Room.{Step, Happens as Comes, Other, all_are, is_read_with_room, after_steps, begun, places, tasks_kept}
 use Rattle.iscsi_outbox_rules.specs.examples.Rows.{outbox, Move, Happens, Calls, Row, Worked, box_after, arrives, joins, is_lost, goes, replies, none_goes}
 
 -- so many NOP-Outs from this number on, and none of their answers is handed out
@@ -97,7 +97,8 @@ twice = outbox (record (setting 1 27) { conns = (1, 1) ∷ (1, 1) ∷ [] })
 -- of 27 numbered NOP-Outs the first one comes last, behind fifty immediate ones, so that all of the 27 are answered at once
 abbrev last_first : List Step
 last_first =
-    map (λ n. Comes (Arrive 1 (nop 0xc1 n))) (range_with_len 2 26)
+    Other (Joins 1 1)
+    ∷ map (λ n. Comes (Arrive 1 (nop 0xc1 n))) (range_with_len 2 26)
     ++ map (λ n. Comes (Arrive 1 (nop_now 0xc1 1))) (range_with_len 0 50)
     ++ Comes (Arrive 1 (nop 0xc1 1))
     ∷ []
