@@ -104,3 +104,7 @@ mod RoomBound
 mod RoomReplies
 mod RoomSends
 mod RoomTheorem
+mod RoomTasks
+mod RoomLives
+mod RoomOwing
+mod RoomEnters

@@ -49,7 +49,7 @@ held_stored t a h = by_test (is_delivered t a.number || is_emptied t a.number) h
     by_test false found = refl
 
 -- an item adds no more than what it admits
-stored_item : (item : List Mark) (t : Trace) → count_by any (stored (item ∷ t)) ≤ count_by any (stored t) + count_by any (filter_map admits_request item)
+pub stored_item : (item : List Mark) (t : Trace) → count_by any (stored (item ∷ t)) ≤ count_by any (stored t) + count_by any (filter_map admits_request item)
 stored_item item t =
     let p : Arrival → Bool = any in
     let old : List Arrival = shown admits_request t in
@@ -66,7 +66,7 @@ stored_item item t =
     )
 
 -- a request that is delivered is held no more
-stored_turn : (a : Arrival) (ms : List Mark) (t : Trace) → filter_map admits_request ms ≡ [] → held t a.number ≡ Some a → count_by any (stored ((Delivers a ∷ ms) ∷ t)) + 1 ≤ count_by any (stored t)
+pub stored_turn : (a : Arrival) (ms : List Mark) (t : Trace) → filter_map admits_request ms ≡ [] → held t a.number ≡ Some a → count_by any (stored ((Delivers a ∷ ms) ∷ t)) + 1 ≤ count_by any (stored t)
 stored_turn a ms t none here =
     let p : Arrival → Bool = any in
     let t' : Trace = (Delivers a ∷ ms) ∷ t in
@@ -110,11 +110,11 @@ abbrev pub aborted_by : Form → ℕ
 aborted_by (Executed start a d) = count_by any d.leaving
 aborted_by _ = 0
 
-admits_done : (a : Arrival) (d : Deeds) → filter_map admits_request (marks_done a d) ≡ []
+pub admits_done : (a : Arrival) (d : Deeds) → filter_map admits_request (marks_done a d) ≡ []
 admits_done a d = replies_seen admits_request (λ n. refl) (λ c. refl) (λ b. refl) (λ c. refl) (λ conn. refl) refl a d ∙ unseen admits_request (Sends (connection_of a.request)) d.reply (λ reply. refl)
 
 -- a function that has waited waits no more
-waited : (a : Arrival) (ws : List Arrival) → list_any (λ b. b.event == a.event) ws ≡ true → count_by any (filter (λ b. not (b.event == a.event)) ws) + 1 ≤ count_by any ws
+pub waited : (a : Arrival) (ws : List Arrival) → list_any (λ b. b.event == a.event) ws ≡ true → count_by any (filter (λ b. not (b.event == a.event)) ws) + 1 ≤ count_by any ws
 waited a [] h = absurd (false≢true h)
 waited a (w ∷ ws) h =
     let all : count_by any (w ∷ ws) ≡ 1 + count_by any ws = count-cons any w ws in
@@ -124,7 +124,7 @@ waited a (w ∷ ws) h =
     ] h
 
 -- a request that executes is answered, or its command enters
-done_once : (o : Setting) (t : Trace) (a : Arrival) (d : Deeds) → Each (EntersAs o t a d) d.entering → length (to_list d.reply) + count_by any (to_list d.entering) ≤ 1
+pub done_once : (o : Setting) (t : Trace) (a : Arrival) (d : Deeds) → Each (EntersAs o t a d) d.entering → length (to_list d.reply) + count_by any (to_list d.entering) ≤ 1
 done_once o t a d x = by_entering d.entering d.reply refl x
   where
     by_entering : (e : Option Command) (r : Option Reply) → d.reply ≡ r → Each (EntersAs o t a d) e → length (to_list r) + count_by any (to_list e) ≤ 1
