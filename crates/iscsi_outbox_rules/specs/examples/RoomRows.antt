@@ -7,8 +7,8 @@ use Rattle.iscsi_history.specs.declared.event.Event.TheVariants.{Arrive}
 use Rattle.iscsi_history.specs.examples.Rows.{nop, nop_now, immediate_command, setting, of_two}
 use Rattle.iscsi_outbox_rules.specs.rules.Calls.{Opening, Joins}
 use Rattle.iscsi_outbox_rules.specs.rules.Boxes.{Notices}
-use Rattle.iscsi_outbox_rules.specs.rules.Words.{may_take, replies_waiting}
-use Rattle.iscsi_outbox_rules.specs.promises.Room.{Step, Happens as Comes, Other, all_are, is_read_with_room, after_steps, begun, places, tasks_kept}
+use Rattle.iscsi_outbox_rules.specs.rules.Words.{may_take, replies_waiting, numbered_waiting, numbered_room}
+use Rattle.iscsi_outbox_rules.specs.promises.Room.{Step, Happens as Comes, Other, all_are, is_read_with_room, is_within_shown, after_steps, begun, places, tasks_kept}
 use Rattle.iscsi_outbox_rules.specs.examples.Rows.{outbox, Move, Happens, Calls, Row, Worked, box_after, arrives, joins, is_lost, goes, replies, none_goes}
 
 -- so many NOP-Outs from this number on, and none of their answers is handed out
@@ -111,3 +111,18 @@ twice_read = refl
 pub twice_waiting : nat_le (replies_waiting (after_steps twice (begun twice) last_first).box) (places twice) ≡ false
 unfolding Rules.bars_as
 twice_waiting = refl
+
+-- a session of a window of 37 whose one CID stands thrice: each of 37 answers waits thrice, which is more than the numbered room
+abbrev thrice : Opening
+thrice = outbox (record (setting 1 37) { conns = (1, 1) ∷ (1, 1) ∷ (1, 1) ∷ [] })
+
+abbrev as_shown : List Step
+as_shown = map (λ n. Comes (Arrive 1 (nop 0xc1 n))) (range_with_len 1 37)
+
+pub thrice_within : all_are (is_within_shown thrice) thrice (begun thrice) as_shown ≡ true
+unfolding Rules.bars_as
+thrice_within = refl
+
+pub thrice_waiting : nat_le (numbered_waiting (after_steps thrice (begun thrice) as_shown).box) (numbered_room thrice) ≡ false
+unfolding Rules.bars_as
+thrice_waiting = refl
