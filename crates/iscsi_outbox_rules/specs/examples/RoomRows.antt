@@ -117,7 +117,7 @@ abbrev thrice : Opening
 thrice = outbox (record (setting 1 37) { conns = (1, 1) ∷ (1, 1) ∷ (1, 1) ∷ [] })
 
 abbrev as_shown : List Step
-as_shown = map (λ n. Comes (Arrive 1 (nop 0xc1 n))) (range_with_len 1 37)
+as_shown = Other (Joins 1 1) ∷ map (λ n. Comes (Arrive 1 (nop 0xc1 n))) (range_with_len 1 37)
 
 pub thrice_within : all_are (is_within_shown thrice) thrice (begun thrice) as_shown ≡ true
 unfolding Rules.bars_as
