@@ -1,0 +1,16 @@
+//! Tests of what the body of an outbox is to stand on: that each call succeeds once. They stand here, over their libraries,
+//! since a crate with tests is proved twice.
+#![tactic(auto)]
+
+#[cfg(test)]
+mod fences;
+#[cfg(test)]
+mod lines;
+#[cfg(test)]
+mod queues;
+#[cfg(test)]
+mod ready;
+#[cfg(test)]
+mod sequence;
+#[cfg(test)]
+mod tickets;
