@@ -108,3 +108,5 @@ mod RoomTasks
 mod RoomLives
 mod RoomOwing
 mod RoomEnters
+mod RoomWeights
+mod RoomTaken

@@ -81,7 +81,7 @@ none_executing : (cs : List Command) → executing (map (λ (c : Command). Enabl
 none_executing [] = refl
 none_executing (c ∷ cs) = refl
 
-entered_form : (o : Setting) (t : Trace) (form : Form) → tickets_entered (executing (effects_of_item o t (marks_of_form form))) (effects_of_item o t (marks_of_form form)) ≡ tickets_of (filter_map enters (marks_of_form form))
+pub entered_form : (o : Setting) (t : Trace) (form : Form) → tickets_entered (executing (effects_of_item o t (marks_of_form form))) (effects_of_item o t (marks_of_form form)) ≡ tickets_of (filter_map enters (marks_of_form form))
 entered_form o t (Ignored why) = refl
 entered_form o t (Rejected a) = refl
 entered_form o t (Received a) = ap (λ r. tickets_entered r (effects_of_item o t (marks_of_form (Received a)))) (none_executing (newly_enabled o t (marks_of_form (Received a))))
