@@ -110,3 +110,6 @@ mod RoomOwing
 mod RoomEnters
 mod RoomWeights
 mod RoomTaken
+mod RoomCalls
+mod RoomKept
+mod RoomKeeps

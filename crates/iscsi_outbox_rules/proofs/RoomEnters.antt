@@ -1,6 +1,6 @@
 -- The commands that enter in an event, with what waits and what is held after it, are no more than what waited and was held before, and
 -- one more where a request came.
-use Rattle.std.proofs.Common.{◌≡◌, ℕ, zero, suc, ◌+◌, ◌-◌, ◌≤◌, ◌==◌, ◌&&◌, ◌||◌, not, cond, Bool, true, false, List, [], ◌∷◌, ◌++◌, filter, filter_map, count_by, Option, Some, None, refl, ap, sym, ◌∙◌, subst, arith, nat_le, nat_lt}
+use Rattle.std.proofs.Common.{◌≡◌, ℕ, zero, suc, ◌+◌, ◌-◌, ◌≤◌, ◌==◌, ◌&&◌, ◌||◌, not, cond, Bool, true, false, List, [], ◌∷◌, ◌++◌, map, filter, filter_map, count_by, length, Option, Some, None, refl, ap, sym, ◌∙◌, subst, arith, nat_le, nat_lt}
 use Rattle.iscsi_wire.specs.declared.reply.Reply.{Reply}
 use Rattle.iscsi_wire.specs.declared.reply.Reply.TheVariants.{Task, Reject}
 use Rattle.iscsi_wire.specs.Fields.{connection_of, header_of, is_immediate, opcode, itt, request_of}
@@ -12,9 +12,10 @@ use Rattle.iscsi_history.specs.declared.kind.Kind.{Kind}
 use Rattle.iscsi_history.specs.declared.kind.Kind.TheVariants.{PassedOver, Unknown, Executes as ExecutesKind}
 use Rattle.iscsi_history.specs.rules.Settings.{Setting}
 use Rattle.iscsi_history.specs.rules.Trace.{Arrival, Command, Mark, Admits, Executes, Waits, Ignores, Trace, after_items, is_received, held, waiting, live, was_free, is_closed}
-use Rattle.iscsi_history.specs.rules.Execution.{exp_of, max_of, rejected, ignored, completion, reply_on}
-use Rattle.iscsi_history.specs.rules.Management.{may_wait, refusal_of_function, MOST_WAITING, waiting_on}
-use Rattle.iscsi_history.specs.rules.Items.{execution, waiting_item, immediate_item, function_item, item_of, is_waiting, functions, functions_at, turn_at, at_number, agenda}
+use Rattle.iscsi_history.specs.rules.Execution.{exp_of, max_of, marks_of, verdict_of, rejected, ignored, completion, reply_on}
+use Rattle.iscsi_history.specs.rules.Management.{management_marks, may_wait, refusal_of_function, MOST_WAITING, waiting_on}
+use Rattle.iscsi_history.specs.rules.Logout.{logout_marks}
+use Rattle.iscsi_history.specs.rules.Items.{marks_after, execution, waiting_item, immediate_item, function_item, item_of, is_waiting, functions, functions_at, turn_at, at_number, agenda}
 use Rattle.iscsi_history.specs.rules.Agenda.{with_turns, numbered, kind_of, arrival_as, arrival_open, arrival, arrival_of, command_of, items_of}
 use Rattle.iscsi_history.proofs.CountLemmas.{count-cons}
 use Rattle.iscsi_history.proofs.ElementLemmas.{in-filter, first-in}
@@ -28,6 +29,9 @@ use Rattle.iscsi_history.specs.rules.Trace.{enters}
 use Rattle.iscsi_history.proofs.ListLemmas.{fewer_counted, count_by-push}
 use Rattle.iscsi_history.proofs.TouchLemmas.{enters_form}
 use Rattle.iscsi_outbox_rules.proofs.RoomSteps.{shrinks_done}
+use Rattle.iscsi_outbox_rules.proofs.RoomSends.{mark_reply, done_replies, answers, logout_answers}
+use Rattle.iscsi_history.proofs.NumberingLemmas.{to_list}
+use Rattle.std.proofs.lemmas.List.{length-map}
 
 -- what waits, and what is held
 abbrev pub pending : Trace → ℕ
@@ -218,3 +222,29 @@ module _ (o : Setting) where
   pub event_enters : (now : ℕ) (t : Trace) (e : Event) → Entering 1 t (items_of o now t e)
   event_enters now t (Arrive conn header) = arrival_enters t (arrival_of o now t (request_of conn header))
   event_enters now t (Done ticket status) = entering_more 0 1 t _ (omega arith) (done_enters now t ticket status)
+
+  -- a Logout is answered, so that no command enters
+  pub parting_enters : (t : Trace) (a : Arrival) → is_immediate a.request ≡ true → opcode a.request ≡ 0x06 → Entering 0 t (arrival o t a)
+  parting_enters t a now is =
+      elim (is_closed (connection_of a.request) t) as (λ b. Entering 0 t (cond b (ignored Closed) (arrival_open o t a))) [
+        | true ↦ ignored_enters t Closed
+        | false ↦ subst (λ n. Entering 0 t (arrival_as o t a (cond (n == 0x05 || n == 0x10) PassedOver (cond (n == 0x00 || n == 0x01 || n == 0x02 || n == 0x04 || n == 0x06) ExecutesKind Unknown)))) (sym is)
+            (subst (λ b. Entering 0 t (cond b (with_turns o t (immediate_item o t a)) (numbered o t a))) (sym now)
+            (subst (λ n. Entering 0 t (with_turns o t (cond (n == 0x02 && may_wait a.request) (elim (refusal_of_function o a.request) [ Some reply ↦ execution o t (Executes a) a | None ↦ waiting_item o t a ]) (execution o t (Executes a) a)))) (sym is) (by_does (does_after o t AtArrival a))))
+      ]
+    where
+      logout : 1 ≤ answers (marks_after o ((Executes a ∷ []) ∷ t) a)
+      logout = subst (λ n. 1 ≤ answers (cond (n == 0x02) (management_marks o ((Executes a ∷ []) ∷ t) a) (cond (n == 0x06) (logout_marks o ((Executes a ∷ []) ∷ t) a) (marks_of ((Executes a ∷ []) ∷ t) a (verdict_of o ((Executes a ∷ []) ∷ t) a.request))))) (sym is) (logout_answers o ((Executes a ∷ []) ∷ t) a)
+
+      answered_form : (d : Deeds) → 1 ≤ length (to_list d.reply) → IsFormed o a.event t (Executed AtArrival a d) → pending ((Executes a ∷ marks_done a d) ∷ t) + enters_in (Executes a ∷ marks_done a d) ≤ pending t + 0
+      answered_form d some x =
+          let ws : List Arrival = filter (λ b. not (b.event == a.event)) (waiting t) in
+          omega (arith, some, stored_item (Executes a ∷ marks_done a d) t, ap (count_by any) (admits_done a d), shrinks_done a d any ws, fewer_counted any (λ b. not (b.event == a.event)) (waiting t), ap (count_by any) (enters_form (Executed AtArrival a d)), done_once o t a d x.1.enters)
+
+      by_does : Does o t AtArrival a (marks_after o ((Executes a ∷ []) ∷ t) a) → Entering 0 t (with_turns o t (execution o t (Executes a) a))
+      by_does d =
+          let f : HasForm o a.event t (execution o t (Executes a) a) = executed_form a.event t AtArrival a _ refl d in
+          let replies : filter_map mark_reply (execution o t (Executes a) a) ≡ map (λ reply. (connection_of a.request, reply)) (to_list d.deeds.reply) = ap (filter_map mark_reply) d.is ∙ done_replies a d.deeds in
+          let some : 1 ≤ length (to_list d.deeds.reply) = omega (arith, logout, ap length replies, length-map {B = ℕ × Reply} (to_list d.deeds.reply) (λ reply. (connection_of a.request, reply))) in
+          turns_enters a.event 0 t (execution o t (Executes a) a) f
+          (subst (λ xs. pending ((Executes a ∷ xs) ∷ t) + enters_in (Executes a ∷ xs) ≤ pending t + 0) (sym d.is) (answered_form d.deeds some (refl, d.done)))

@@ -37,7 +37,7 @@ use Rattle.iscsi_outbox_rules.proofs.RoomStored.{any, at_once, taken_by, sent_by
 
 -- ---- the replies of an item
 
-abbrev mark_reply : Mark → Option (ℕ × Reply)
+abbrev pub mark_reply : Mark → Option (ℕ × Reply)
 mark_reply (Sends conn reply) = Some (conn, reply)
 mark_reply _ = None
 
@@ -60,7 +60,7 @@ marks_reply o t (ClosesConn conn ∷ ms) cs = marks_reply o t ms cs
 marks_reply o t (ClosesSession ∷ ms) cs = marks_reply o t ms cs
 marks_reply o t (Ignores why ∷ ms) cs = marks_reply o t ms cs
 
-done_replies : (a : Arrival) (d : Deeds) → filter_map mark_reply (marks_done a d) ≡ map (λ reply. (connection_of a.request, reply)) (to_list d.reply)
+pub done_replies : (a : Arrival) (d : Deeds) → filter_map mark_reply (marks_done a d) ≡ map (λ reply. (connection_of a.request, reply)) (to_list d.reply)
 done_replies a d = replies_seen mark_reply (λ n. refl) (λ c. refl) (λ b. refl) (λ c. refl) (λ conn. refl) refl a d ∙ by_reply d.reply
   where
     by_reply : (x : Option Reply) → filter_map mark_reply (if_some (Sends (connection_of a.request)) x) ≡ map (λ reply. (connection_of a.request, reply)) (to_list x)
@@ -69,13 +69,13 @@ done_replies a d = replies_seen mark_reply (λ n. refl) (λ c. refl) (λ b. refl
 
 -- ---- Logouts answer
 
-abbrev answers : List Mark → ℕ
+abbrev pub answers : List Mark → ℕ
 answers ms = length (filter_map mark_reply ms)
 
 answers-append : (xs ys : List Mark) → answers (xs ++ ys) ≡ answers xs + answers ys
 answers-append xs ys = ap length (filter_map-append mark_reply xs ys) ∙ length-append (filter_map mark_reply xs) (filter_map mark_reply ys)
 
-logout_answers : (o : Setting) (t : Trace) (a : Arrival) → 1 ≤ answers (logout_marks o t a)
+pub logout_answers : (o : Setting) (t : Trace) (a : Arrival) → 1 ≤ answers (logout_marks o t a)
 logout_answers o t a = by_tests (itt a.request == NO_TAG) (function a.request == 0) (function a.request == 1) (is_open o t (cid a.request)) (function a.request == 2)
   where
     ends : 1 ≤ answers (end_session o t a)

@@ -61,7 +61,7 @@ entered_alike r (CloseConn conn ∷ es) = entered_alike r es
 entered_alike r (CloseSession ∷ es) = entered_alike r es
 entered_alike r (Ignore why ∷ es) = entered_alike r es
 
-all_counted : (cs : List Command) → length cs ≡ count_by any cs
+pub all_counted : (cs : List Command) → length cs ≡ count_by any cs
 all_counted [] = refl
 all_counted (c ∷ cs) = omega (arith, count-cons any c cs, all_counted cs)
 

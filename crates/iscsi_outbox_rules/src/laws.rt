@@ -9,7 +9,7 @@ ghost use Rattle.iscsi_outbox_rules.specs.promises.Numbers.{CountStatSns, GoesOn
 ghost use Rattle.iscsi_outbox_rules.specs.promises.Once.{EntersInOrder, GoesInOrder, GoesOnce, SendsWhatWasSent};
 ghost use Rattle.iscsi_outbox_rules.specs.promises.Order.{KeepsCommandOrder, KeepsConnectionOrder, RespondsLast};
 ghost use Rattle.iscsi_outbox_rules.specs.promises.Promises.{KeepsPromises};
-ghost use Rattle.iscsi_outbox_rules.specs.promises.Room.{RepliesFit, Step};
+ghost use Rattle.iscsi_outbox_rules.specs.promises.Room.{RepliesFit, Step, TasksFit};
 ghost use Rattle.iscsi_outbox_rules.specs.promises.Silent.{SilentAfter};
 ghost use Rattle.iscsi_outbox_rules.specs.promises.Still.{ArrivesBefore, StopsBefore};
 ghost use Rattle.iscsi_outbox_rules.specs.promises.Word.{WordHolds, tells};
@@ -96,7 +96,9 @@ pub fn promises_law()
 {}
 
 /// Room, where requests are read only while `may_take` has it, but for the Logouts that tell of lost connections, and come on the
-/// session's connections, no CID of which stands twice: no more replies wait than there are places for.
+/// session's connections: no more replies wait than there are places for, where no CID stands twice; and no more commands are live
+/// or owe.
 pub fn room_law()
     ensures replies { (o : Opening) (steps : List Step) → RepliesFit o steps }
+    ensures tasks { (o : Opening) (steps : List Step) → TasksFit o steps }
 {}

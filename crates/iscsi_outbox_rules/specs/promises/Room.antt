@@ -83,9 +83,13 @@ tasks_kept o b = count_by (λ (t : Task). is_live_phase t.phase) b.tasks + owing
 abbrev pub RepliesFit : Opening → List Step → Type 0
 RepliesFit o steps = are_distinct o.session.conns ≡ true → all_are (is_read_with_room o) o (begun o) steps ≡ true → replies_waiting (after_steps o (begun o) steps).box ≤ places o
 
+-- nor are more commands live or owe
+abbrev pub TasksFit : Opening → List Step → Type 0
+TasksFit o steps = all_are (is_read_with_room o) o (begun o) steps ≡ true → tasks_kept o (after_steps o (begun o) steps).box ≤ places o
+
 pub record RoomHolds (o : Opening) (steps : List Step) : Type 0 where
   pub replies : RepliesFit o steps
-  pub tasks : all_are (is_read_with_room o) o (begun o) steps ≡ true → tasks_kept o (after_steps o (begun o) steps).box ≤ places o
+  pub tasks : TasksFit o steps
   -- whatever was shown has room: an initiator that keeps to it isn't held back by its numbered requests. No CID stands twice here either
   pub shown : are_distinct o.session.conns ≡ true → all_are (is_within_shown o) o (begun o) steps ≡ true →
       let s = after_steps o (begun o) steps in
