@@ -13,6 +13,19 @@ WORDS = ["--headless=new", "--no-sandbox", "--disable-gpu", "--disable-dev-shm-u
          "--hide-scrollbars"]
 KEYS = {"ArrowLeft": "\ue012", "ArrowRight": "\ue014", "Enter": "\ue007"}
 STARTED = re.compile(r"was started successfully on port (\d+)")
+TRIES = 5
+
+
+def started():
+    """A driver, and its port. Another program may have taken the port that it picked as it binds it: so it has some tries."""
+    for _ in range(TRIES):
+        driver = subprocess.Popen(["chromedriver", "--port=0"], stdout=subprocess.PIPE, text=True)
+        found = next(filter(None, map(STARTED.search, driver.stdout)), None)
+        if found:
+            return driver, found[1]
+        driver.wait()
+        driver.stdout.close()
+    raise AssertionError("chromedriver doesn't start")
 
 
 class Browser:
@@ -20,12 +33,8 @@ class Browser:
 
     def __init__(self):
         self.profile = tempfile.TemporaryDirectory(ignore_cleanup_errors=True)
-        self.driver = subprocess.Popen(["chromedriver", "--port=0"], stdout=subprocess.PIPE, text=True)
-        self.root = None
-        found = next(filter(None, map(STARTED.search, self.driver.stdout)), None)
-        if not found:
-            raise AssertionError("chromedriver doesn't start")
-        self.root = f"http://127.0.0.1:{found[1]}/session"
+        self.driver, port = started()
+        self.root = f"http://127.0.0.1:{port}/session"
         options = {"args": [*WORDS, f"--user-data-dir={self.profile.name}"]}
         made = self.ask("", {"capabilities": {"alwaysMatch": {"goog:chromeOptions": options}}})
         self.root += "/" + made["sessionId"]
