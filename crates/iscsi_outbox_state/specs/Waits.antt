@@ -1,7 +1,6 @@
 -- What waits on the connections of a session, in order, and what becomes of it. Connections go by their places, from 0 on.
-use Rattle.std.specs.Prelude.{ℕ, ◌+◌, ◌==◌, ◌&&◌, not, nat_lt, Bool, true, false, List, [], ◌∷◌, ◌++◌, length, map, drop, filter, count_by, sum_by, replicate, Option, Some, None, slice_index_or, slice_set, if◌then◌else◌}
+use Rattle.std.specs.Prelude.{ℕ, ◌+◌, ◌==◌, ◌&&◌, not, nat_lt, Bool, true, false, List, [], ◌∷◌, ◌++◌, map, drop, filter, count_by, sum_by, replicate, Option, Some, None, slice_index_or, slice_set, if◌then◌else◌}
 use Rattle.std.specs.List.{list_any}
-use Rattle.iscsi_outbox_state.specs.declared.waiting.Content.{Content}
 use Rattle.iscsi_outbox_state.specs.declared.waiting.Content.TheVariants.{Reply as IsReply, Own as IsOwn}
 use Rattle.iscsi_outbox_state.specs.declared.waiting.Front.{Front}
 use Rattle.iscsi_outbox_state.specs.declared.waiting.Waiting.{Waiting}

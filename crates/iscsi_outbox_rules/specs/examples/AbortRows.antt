@@ -1,15 +1,16 @@
 -- Worked lists: the answer to an abort, held until the work has stopped.
-use Rattle.std.specs.Prelude.{[], ◌∷◌, refl, None}
+use Rattle.std.specs.Prelude.{List, [], ◌∷◌, refl, None}
 use Rattle.iscsi_wire.specs.declared.reply.Reply.TheVariants.{Scsi, Task, Nop}
 use Rattle.iscsi_tasks.specs.Rules as Rules
 use Rattle.iscsi_history.specs.examples.Rows.{command, command_to, nop_now, function_now, setting, of_two}
 use Rattle.iscsi_outbox_rules.specs.declared.own_pdu.PutRefusal.TheVariants.{Gone}
 use Rattle.iscsi_outbox_rules.specs.rules.Calls.{Stops}
 use Rattle.iscsi_outbox_rules.specs.rules.Boxes.{Owns, Pings}
-use Rattle.iscsi_outbox_rules.specs.examples.Rows.{outbox, Calls, WasStill, Worked, arrives, completes, joins, stops, is_written, answers_ping, goes, replies, none_goes, data_of, puts, is_refused}
+use Rattle.iscsi_outbox_rules.specs.examples.Rows.{outbox, Calls, WasStill, Worked, arrives, completes, joins, stops, is_written, answers_ping, goes, replies, none_goes, data_of, puts, is_refused, Row}
 
 -- an abort of a command that was started is answered when its unit has stopped, and no data of it is taken meanwhile
-pub abort_held : Worked (outbox (setting 1 4)) (
+abbrev pub abort_held_rows : List Row
+abort_held_rows =
     joins 1 1
     ∷ arrives 1 (command 0xa1 1)
     ∷ arrives 1 (function_now 1 2 0xb1 0xa1 1)
@@ -19,12 +20,15 @@ pub abort_held : Worked (outbox (setting 1 4)) (
     ∷ (Calls (Stops 1), WasStill)
     ∷ replies 1 (Task 0xb1 0) 1 2 5
     ∷ none_goes 1
-    ∷ [])
+    ∷ []
+
+pub abort_held : Worked (outbox (setting 1 4)) abort_held_rows
 unfolding Rules.bars_as
 abort_held = refl
 
 -- other replies don't wait for it
-pub others_go_on : Worked (outbox (setting 1 4)) (
+abbrev pub others_go_on_rows : List Row
+others_go_on_rows =
     joins 1 1
     ∷ arrives 1 (command 0xa1 1)
     ∷ arrives 1 (function_now 1 2 0xb1 0xa1 1)
@@ -32,12 +36,15 @@ pub others_go_on : Worked (outbox (setting 1 4)) (
     ∷ replies 1 (Nop 0xc1) 1 2 5
     ∷ stops 1
     ∷ replies 1 (Task 0xb1 0) 2 2 5
-    ∷ [])
+    ∷ []
+
+pub others_go_on : Worked (outbox (setting 1 4)) others_go_on_rows
 unfolding Rules.bars_as
 others_go_on = refl
 
 -- a second abort finds no task: its answer waits, too
-pub second_abort : Worked (outbox (setting 1 4)) (
+abbrev pub second_abort_rows : List Row
+second_abort_rows =
     joins 1 1
     ∷ arrives 1 (command 0xa1 1)
     ∷ arrives 1 (function_now 1 2 0xb1 0xa1 1)
@@ -47,12 +54,15 @@ pub second_abort : Worked (outbox (setting 1 4)) (
     ∷ replies 1 (Task 0xb1 0) 1 2 5
     ∷ replies 1 (Task 0xb2 1) 2 2 5
     ∷ none_goes 1
-    ∷ [])
+    ∷ []
+
+pub second_abort : Worked (outbox (setting 1 4)) second_abort_rows
 unfolding Rules.bars_as
 second_abort = refl
 
 -- a reset after an abort waits for what the abort took out; an abort of another tag, and a query, don't
-pub reset_after_abort : Worked (outbox (setting 1 4)) (
+abbrev pub reset_after_abort_rows : List Row
+reset_after_abort_rows =
     joins 1 1
     ∷ arrives 1 (command 0xa1 1)
     ∷ arrives 1 (command 0xa2 2)
@@ -66,13 +76,16 @@ pub reset_after_abort : Worked (outbox (setting 1 4)) (
     ∷ replies 1 (Task 0xb1 0) 2 3 6
     ∷ replies 1 (Task 0xb2 0) 3 3 6
     ∷ none_goes 1
-    ∷ [])
+    ∷ []
+
+pub reset_after_abort : Worked (outbox (setting 1 4)) reset_after_abort_rows
 unfolding Rules.bars_as
 reset_after_abort = refl
 
 -- what was never started is waited for by nobody: a dormant command, and one that a function takes out in the event that
 -- enables it
-pub never_started : Worked (outbox (setting 1 4)) (
+abbrev pub never_started_rows : List Row
+never_started_rows =
     joins 1 1
     ∷ arrives 1 (command 0xa1 1)
     ∷ arrives 1 (command_to 0 2 0xa2 2)
@@ -84,12 +97,15 @@ pub never_started : Worked (outbox (setting 1 4)) (
     ∷ none_goes 1
     ∷ arrives 1 (command 0xa3 3)
     ∷ replies 1 (Task 0xb2 0) 3 4 7
-    ∷ [])
+    ∷ []
+
+pub never_started : Worked (outbox (setting 1 4)) never_started_rows
 unfolding Rules.bars_as
 never_started = refl
 
 -- data before the response, data of an aborted command dropped
-pub data_of_commands : Worked (outbox (setting 1 4)) (
+abbrev pub data_of_commands_rows : List Row
+data_of_commands_rows =
     joins 1 1
     ∷ arrives 1 (command 0xa1 1)
     ∷ arrives 1 (command 0xa2 2)
@@ -105,12 +121,15 @@ pub data_of_commands : Worked (outbox (setting 1 4)) (
     ∷ none_goes 1
     ∷ stops 1
     ∷ replies 1 (Task 0xb1 0) 2 3 6
-    ∷ [])
+    ∷ []
+
+pub data_of_commands : Worked (outbox (setting 1 4)) data_of_commands_rows
 unfolding Rules.bars_as
 data_of_commands = refl
 
 -- an abort on another connection waits until data that was handed out is known to have arrived, and a ping asks for that
-pub data_under_way : Worked (outbox (of_two 4)) (
+abbrev pub data_under_way_rows : List Row
+data_under_way_rows =
     joins 1 1
     ∷ joins 2 1
     ∷ arrives 1 (command 0xa1 1)
@@ -125,12 +144,15 @@ pub data_under_way : Worked (outbox (of_two 4)) (
     ∷ answers_ping 1 1 0x8000_0000
     ∷ replies 2 (Task 0xb1 0) 1 2 5
     ∷ none_goes 1
-    ∷ [])
+    ∷ []
+
+pub data_under_way : Worked (outbox (of_two 4)) data_under_way_rows
 unfolding Rules.bars_as
 data_under_way = refl
 
 -- on its own connection it goes behind the data
-pub behind_data : Worked (outbox (of_two 4)) (
+abbrev pub behind_data_rows : List Row
+behind_data_rows =
     joins 1 1
     ∷ joins 2 1
     ∷ arrives 1 (command 0xa1 1)
@@ -141,6 +163,8 @@ pub behind_data : Worked (outbox (of_two 4)) (
     ∷ goes 1 (Pings 0x8000_0000) 1 2 5
     ∷ replies 1 (Task 0xb1 0) 1 2 5
     ∷ none_goes 1
-    ∷ [])
+    ∷ []
+
+pub behind_data : Worked (outbox (of_two 4)) behind_data_rows
 unfolding Rules.bars_as
 behind_data = refl

@@ -1,13 +1,14 @@
 -- Worked lists: the response fence, and pings.
-use Rattle.std.specs.Prelude.{[], ◌∷◌, refl, false}
+use Rattle.std.specs.Prelude.{List, [], ◌∷◌, refl, false}
 use Rattle.iscsi_wire.specs.declared.reply.Reply.TheVariants.{Task, Nop}
 use Rattle.iscsi_tasks.specs.Rules as Rules
 use Rattle.iscsi_history.specs.examples.Rows.{nop_now, function_now, of_two}
 use Rattle.iscsi_outbox_rules.specs.rules.Boxes.{Owns, Pings}
-use Rattle.iscsi_outbox_rules.specs.examples.Rows.{outbox, Worked, arrives, joins, is_lost, is_written, acknowledges, answers_ping, goes, replies, none_goes, message, puts}
+use Rattle.iscsi_outbox_rules.specs.examples.Rows.{outbox, Worked, arrives, joins, is_lost, is_written, acknowledges, answers_ping, goes, replies, none_goes, message, puts, Row}
 
 -- what entered before on another connection goes first, and is known to have arrived; what entered behind goes behind
-pub fence : Worked (outbox (of_two 4)) (
+abbrev pub fence_rows : List Row
+fence_rows =
     joins 1 1
     ∷ joins 2 1
     ∷ arrives 1 (nop_now 0xc1 1)
@@ -30,12 +31,15 @@ pub fence : Worked (outbox (of_two 4)) (
     ∷ none_goes 1
     ∷ acknowledges 2 2
     ∷ replies 1 (Nop 0xc2) 2 1 4
-    ∷ [])
+    ∷ []
+
+pub fence : Worked (outbox (of_two 4)) fence_rows
 unfolding Rules.bars_as
 fence = refl
 
 -- a ping goes before what waits behind the fence; its answer tells that all before it arrived, whatever its ExpStatSN is
-pub ping_first : Worked (outbox (of_two 4)) (
+abbrev pub ping_first_rows : List Row
+ping_first_rows =
     joins 1 1
     ∷ joins 2 1
     ∷ puts (message 1)
@@ -49,12 +53,15 @@ pub ping_first : Worked (outbox (of_two 4)) (
     ∷ none_goes 2
     ∷ answers_ping 1 1 0x8000_0000
     ∷ replies 2 (Task 0xb1 0) 1 1 4
-    ∷ [])
+    ∷ []
+
+pub ping_first : Worked (outbox (of_two 4)) ping_first_rows
 unfolding Rules.bars_as
 ping_first = refl
 
 -- what is sent on a connection that hasn't joined goes nowhere, and holds nothing back: not as the connection joins either
-pub unjoined_fence : Worked (outbox (of_two 4)) (
+abbrev pub unjoined_fence_rows : List Row
+unjoined_fence_rows =
     joins 1 1
     ∷ arrives 2 (function_now 2 1 0xb1 0 0)
     ∷ arrives 2 (nop_now 0xc1 2)
@@ -68,12 +75,15 @@ pub unjoined_fence : Worked (outbox (of_two 4)) (
     ∷ none_goes 2
     ∷ acknowledges 1 3
     ∷ replies 2 (Task 0xb2 0) 1 1 4
-    ∷ [])
+    ∷ []
+
+pub unjoined_fence : Worked (outbox (of_two 4)) unjoined_fence_rows
 unfolding Rules.bars_as
 unjoined_fence = refl
 
 -- two fences on two connections: the one that entered first goes first
-pub two_fences : Worked (outbox (of_two 4)) (
+abbrev pub two_fences_rows : List Row
+two_fences_rows =
     joins 1 1
     ∷ joins 2 1
     ∷ arrives 2 (function_now 2 1 0xb1 0 0)
@@ -83,24 +93,30 @@ pub two_fences : Worked (outbox (of_two 4)) (
     ∷ none_goes 1
     ∷ acknowledges 2 2
     ∷ replies 1 (Task 0xb2 0) 1 1 4
-    ∷ [])
+    ∷ []
+
+pub two_fences : Worked (outbox (of_two 4)) two_fences_rows
 unfolding Rules.bars_as
 two_fences = refl
 
 -- with one open connection nothing waits, and there are no pings
-pub one_connection : Worked (outbox (of_two 4)) (
+abbrev pub one_connection_rows : List Row
+one_connection_rows =
     joins 1 1
     ∷ arrives 1 (nop_now 0xc1 1)
     ∷ arrives 1 (function_now 2 1 0xb1 0 0)
     ∷ replies 1 (Nop 0xc1) 1 1 4
     ∷ replies 1 (Task 0xb1 0) 2 1 4
     ∷ none_goes 1
-    ∷ [])
+    ∷ []
+
+pub one_connection : Worked (outbox (of_two 4)) one_connection_rows
 unfolding Rules.bars_as
 one_connection = refl
 
 -- what a lost connection handed out is waited for no more
-pub lost_before_fence : Worked (outbox (of_two 4)) (
+abbrev pub lost_before_fence_rows : List Row
+lost_before_fence_rows =
     joins 1 1
     ∷ joins 2 1
     ∷ arrives 1 (nop_now 0xc1 1)
@@ -111,12 +127,15 @@ pub lost_before_fence : Worked (outbox (of_two 4)) (
     ∷ is_lost 1
     ∷ replies 2 (Task 0xb1 0) 1 1 4
     ∷ none_goes 1
-    ∷ [])
+    ∷ []
+
+pub lost_before_fence : Worked (outbox (of_two 4)) lost_before_fence_rows
 unfolding Rules.bars_as
 lost_before_fence = refl
 
 -- an ExpStatSN that wasn't handed out yet says nothing
-pub not_handed_out_yet : Worked (outbox (of_two 4)) (
+abbrev pub not_handed_out_yet_rows : List Row
+not_handed_out_yet_rows =
     joins 1 1
     ∷ joins 2 1
     ∷ arrives 1 (nop_now 0xc1 1)
@@ -126,12 +145,15 @@ pub not_handed_out_yet : Worked (outbox (of_two 4)) (
     ∷ none_goes 2
     ∷ acknowledges 1 2
     ∷ replies 2 (Task 0xb1 0) 1 1 4
-    ∷ [])
+    ∷ []
+
+pub not_handed_out_yet : Worked (outbox (of_two 4)) not_handed_out_yet_rows
 unfolding Rules.bars_as
 not_handed_out_yet = refl
 
 -- where that was chosen, written is enough, and there are no pings
-pub written_is_enough : Worked (record (outbox (of_two 4)) { acknowledged = false }) (
+abbrev pub written_is_enough_rows : List Row
+written_is_enough_rows =
     joins 1 1
     ∷ joins 2 1
     ∷ arrives 1 (nop_now 0xc1 1)
@@ -143,6 +165,8 @@ pub written_is_enough : Worked (record (outbox (of_two 4)) { acknowledged = fals
     ∷ is_written 1
     ∷ replies 2 (Task 0xb1 0) 1 1 4
     ∷ replies 1 (Nop 0xc2) 2 1 4
-    ∷ [])
+    ∷ []
+
+pub written_is_enough : Worked (record (outbox (of_two 4)) { acknowledged = false }) written_is_enough_rows
 unfolding Rules.bars_as
 written_is_enough = refl

@@ -17,19 +17,23 @@ nops conn count from = map (λ n. arrives conn (nop 0xc1 n)) (range_with_len fro
 
 -- a window of 1 and a connection have a numbered room of 14: with fifteen replies to numbered requests the window is shut
 -- where it is shown, though the session has it open; with thirteen it is open
-pub window_shown : Worked (outbox (setting 1 1)) (
+abbrev pub window_shown_rows : List Row
+window_shown_rows =
     joins 1 1
     ∷ nops 1 16 1 ++ (
     replies 1 (Nop 0xc1) 1 17 16
     ∷ replies 1 (Nop 0xc1) 2 17 16
     ∷ replies 1 (Nop 0xc1) 3 17 17
     ∷ replies 1 (Nop 0xc1) 4 17 17
-    ∷ []))
+    ∷ [])
+
+pub window_shown : Worked (outbox (setting 1 1)) window_shown_rows
 unfolding Rules.bars_as
 window_shown = refl
 
 -- the window opens as a connection is lost, with what waited there: a NOP-In says so
-pub window_opens : Worked (outbox (of_two 1)) (
+abbrev pub window_opens_rows : List Row
+window_opens_rows =
     joins 1 1
     ∷ joins 2 1
     ∷ nops 2 26 1 ++ (
@@ -39,12 +43,15 @@ pub window_opens : Worked (outbox (of_two 1)) (
     ∷ is_lost 2
     ∷ goes 1 Notices 2 27 27
     ∷ none_goes 1
-    ∷ []))
+    ∷ [])
+
+pub window_opens : Worked (outbox (of_two 1)) window_opens_rows
 unfolding Rules.bars_as
 window_opens = refl
 
 -- what a lost connection showed may not have been read: it is shown again
-pub shown_again : Worked (outbox (of_two 1)) (
+abbrev pub shown_again_rows : List Row
+shown_again_rows =
     joins 1 1
     ∷ joins 2 1
     ∷ arrives 2 (nop 0xc1 1)
@@ -53,7 +60,9 @@ pub shown_again : Worked (outbox (of_two 1)) (
     ∷ is_lost 2
     ∷ goes 1 Notices 1 2 2
     ∷ none_goes 1
-    ∷ [])
+    ∷ []
+
+pub shown_again : Worked (outbox (of_two 1)) shown_again_rows
 unfolding Rules.bars_as
 shown_again = refl
 

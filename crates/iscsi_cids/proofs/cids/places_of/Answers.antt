@@ -1,0 +1,17 @@
+use Rattle.std.proofs.Common.{◌≡◌, length, arith}
+use Rattle.iscsi_cids.proofs.PlaceLemmas.{told_more}
+use Rattle.iscsi_cids.proofs.cids.places_of.Goals as goal
+
+pub loop-place-init : goal.loop-place-init
+loop-place-init c = rw c.new-places.ensures.items (record {
+  placed = λ k d before. absurd (omega (arith, before));
+  meant = λ cid d some. absurd (omega (arith, some));
+})
+
+pub loop-place-preserved : goal.loop-place-preserved
+loop-place-preserved c = told_more c.loop-place.places.items c.put.new.places.items c.args.cids.now c.loop-place.place _ c.loop-place.invariant c.requires.distinct c.loop-place-test.true c.requires.few (λ other. c.in_ok-put.ensures other)
+
+pub returns : goal.returns
+returns c =
+    let last : length c.args.cids.now ≡ c.loop-place.place = omega (arith, c.loop-place-test.false, c.loop-place.auto.place-end) in
+    rw last c.loop-place.invariant

@@ -1,0 +1,2 @@
+pub mod Cids
+pub mod Rows

@@ -1,0 +1,2 @@
+pub mod TrackedLemmas
+pub mod StateLemmas
