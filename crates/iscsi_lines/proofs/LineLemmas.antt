@@ -1,18 +1,20 @@
 -- All lines, where one of them changes.
-use Rattle.std.proofs.Common.{◌≡◌, ◌≢◌, ◌⊎◌, ℕ, zero, suc, ◌+◌, ◌<◌, ◌≤◌, ◌==◌, ◌||◌, ◌&&◌, not, Bool, true, false, List, [], ◌∷◌, ◌++◌, length, map, get_or, set, Some, refl, ap, sym, subst, ◌∙◌, arith, ⊎_elim, append_assoc}
+use Rattle.std.proofs.Common.{◌≡◌, ◌≢◌, ◌⊎◌, ℕ, ◌+◌, ◌<◌, ◌≤◌, ◌==◌, ◌||◌, ◌&&◌, not, Bool, true, false, List, [], ◌∷◌, ◌++◌, length, map, get_or, set, Some, refl, ap, sym, subst, ◌∙◌, arith, ⊎_elim, append_assoc}
 use Rattle.std.proofs.lemmas.Bool.{cases_eq, false≢true, and_parts, and_from, not-true}
 use Rattle.std.proofs.lemmas.List.{get_or-set_same, get_or-set_other, length-set, length-map, length_push}
 use Rattle.iscsi_slots.specs.Slots.{times}
 use Rattle.iscsi_slots.proofs.SlotLemmas.{times_append}
-use Rattle.iscsi_lists.specs.Lists.{Listed, AreApart, counted, linked_in, times_in, without, with_last, last_of}
-use Rattle.iscsi_lists.proofs.WithoutLemmas.{length_without, without_none, without_append, times_same}
+use Rattle.iscsi_lists.specs.Lists.{Listed, AreApart, linked_in, times_in, without, with_last, last_of}
+use Rattle.iscsi_lists.proofs.PlaceLemmas.{times_any, only_there, in_once}
+use Rattle.iscsi_lists.proofs.SequenceLemmas.{last_there, nth_map}
+use Rattle.iscsi_lists.proofs.WithoutLemmas.{length_without, without_none, without_append}
 use Rattle.iscsi_lines.specs.declared.item.Owing.{Owing}
 use Rattle.iscsi_lines.specs.declared.item.Item.{Item}
 use Rattle.iscsi_lines.specs.declared.item.Item.TheVariants.{Command, Answer}
 use Rattle.iscsi_lines.specs.Lines.{BLANK, owes, items_of, Pushes, Keeps, Loses}
 use Rattle.iscsi_lines.specs.Settling.{AllAre, may_stand, is_ahead, IsLine, IsLineAt, AreLines, IsLess, conn_at, items_at, slots_at, Moves}
 use Rattle.iscsi_lines.proofs.ItemLemmas.{items_append, items_fresh, all_append, all_set, all_without}
-use Rattle.iscsi_lines.proofs.MoveLemmas.{nth_without, times_any, only_there, in_once, stands_in}
+use Rattle.iscsi_lines.proofs.MoveLemmas.{stands_in}
 use Rattle.iscsi_lines.proofs.SettleLemmas.{items_by}
 
 -- ---- a line is settled again: t is after a change of s in it, and u after that
@@ -56,11 +58,6 @@ module _ (conns : List ℕ) (s t u : Listed Item) (line : ℕ) (low : line < len
     }
 
 -- ---- a slot is pushed
-
-last_there : (s : ℕ) (slots : List ℕ) → last_of slots ≡ Some s → 1 ≤ times s slots
-last_there s [] e = absurd (cc)
-last_there s (x ∷ []) e = let same : x ≡ s = cc in let a = times_same s x [] same in omega (arith, a)
-last_there s (x ∷ (y ∷ slots)) e = let rest = last_there s (y ∷ slots) e in omega (arith, rest)
 
 module _ (s t : Listed Item) (list slot : ℕ) (x : Item) (is : t ≡ record s { free = without slot s.free; lists = with_last list slot s.lists; values = set s.values slot x })
     (fresh : times_in slot s.lists ≡ 0) (within : list < length s.lists) where
@@ -137,7 +134,7 @@ module _ (s : Listed Item) (list slot : ℕ) (there : 1 ≤ times slot (slots_at
 
   module _ (t : Listed Item) (is : t ≡ record s { free = s.free ++ slot ∷ []; lists = map (without slot) s.lists }) where
     pub removed_slots : (k : ℕ) → slots_at t k ≡ without slot (slots_at s k)
-    removed_slots k = ap (λ (u : Listed Item). slots_at u k) is ∙ nth_without slot k s.lists
+    removed_slots k = ap (λ (u : Listed Item). slots_at u k) is ∙ nth_map slot k s.lists
 
     pub removed_values : t.values ≡ s.values
     removed_values = ap (λ (u : Listed Item). u.values) is
@@ -321,7 +318,3 @@ module _ (conns : List ℕ) (s : Listed Item) (are : AreLines conns s) (line m :
               free = ap length (moves.same.free ∙ ap (λ (w : Listed Item). w.free) is);
               count = count;
             }
-
-pub counted_long : (n k : ℕ) → length (counted n k) ≡ k
-counted_long n zero = refl
-counted_long n (suc k) = ap suc (counted_long (suc n) k)

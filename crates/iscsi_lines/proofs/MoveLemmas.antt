@@ -1,42 +1,18 @@
 -- The lists of slots, where one goes behind another list, or is taken out.
-use Rattle.std.proofs.Common.{◌≡◌, ◌≢◌, ℕ, zero, suc, ◌+◌, ◌<◌, ◌≤◌, List, [], ◌∷◌, ◌++◌, length, map, get_or, refl, ap, sym, ◌∙◌, arith, ⊎_elim}
+use Rattle.std.proofs.Common.{◌≡◌, ◌≢◌, ℕ, zero, suc, ◌<◌, ◌≤◌, List, [], ◌∷◌, ◌++◌, length, map, get_or, refl, ap, sym, ◌∙◌, arith, ⊎_elim}
 use Rattle.std.proofs.lemmas.Bool.{cases_lt}
 use Rattle.std.proofs.lemmas.List.{get_or-set_same, get_or-set_other, length-map}
 use Rattle.iscsi_slots.specs.Slots.{times}
-use Rattle.iscsi_lists.specs.Lists.{Linked, AreApart, times_in, total, without, with_last}
+use Rattle.iscsi_lists.specs.Lists.{times_in, total, without, with_last}
+use Rattle.iscsi_lists.proofs.PlaceLemmas.{times_any, only_there}
+use Rattle.iscsi_lists.proofs.SequenceLemmas.{nth_map}
 use Rattle.iscsi_lists.proofs.WithoutLemmas.{times_same, without_same, without_none}
-
-pub nth_without : (s k : ℕ) (lists : List (List ℕ)) → get_or (map (without s) lists) k [] ≡ without s (get_or lists k [])
-nth_without s zero [] = refl
-nth_without s (suc k) [] = refl
-nth_without s zero (xs ∷ lists) = refl
-nth_without s (suc k) (xs ∷ lists) = nth_without s k lists
-
-pub times_any : (s k : ℕ) (lists : List (List ℕ)) → times s (get_or lists k []) ≤ times_in s lists
-times_any s zero [] = omega arith
-times_any s (suc k) [] = omega arith
-times_any s zero (xs ∷ lists) = omega arith
-times_any s (suc k) (xs ∷ lists) = let rest = times_any s k lists in omega (arith, rest)
 
 pub length_any : (k : ℕ) (lists : List (List ℕ)) → length (get_or lists k []) ≤ total lists
 length_any zero [] = omega arith
 length_any (suc k) [] = omega arith
 length_any zero (xs ∷ lists) = omega arith
 length_any (suc k) (xs ∷ lists) = let rest = length_any k lists in omega (arith, rest)
-
--- a slot that stands in one list stands in no other one
-pub only_there : (s i k : ℕ) (lists : List (List ℕ)) → 1 ≤ times s (get_or lists i []) → times_in s lists ≤ 1 → k ≢ i → times s (get_or lists k []) ≡ 0
-only_there s zero k [] there once other = absurd (omega (arith, there))
-only_there s (suc i) k [] there once other = absurd (omega (arith, there))
-only_there s zero zero (xs ∷ lists) there once other = absurd (other refl)
-only_there s zero (suc k) (xs ∷ lists) there once other = let a = times_any s k lists in omega (arith, a, there, once)
-only_there s (suc i) zero (xs ∷ lists) there once other = let a = times_any s i lists in omega (arith, a, there, once)
-only_there s (suc i) (suc k) (xs ∷ lists) there once other = only_there s i k lists there (omega (arith, once)) (λ e. other (ap suc e))
-
-pub in_once : {v : Linked} → AreApart v → (s : ℕ) → 1 ≤ times_in s v.lists → times_in s v.lists ≡ 1
-in_once {v = v} apart s there =
-    let some : 1 ≤ times s v.free + times_in s v.lists = omega (arith, there) in
-    let one = apart.once s (apart.some s some) (apart.within s some) in omega (arith, one, there)
 
 -- the list that a slot stands in
 pub record StandsIn (s : ℕ) (lists : List (List ℕ)) : Type 0 where
@@ -67,14 +43,14 @@ module _ (lists : List (List ℕ)) (s from to : ℕ) (rest : List ℕ) (at : get
   pub moved_onto : to < length lists → get_or (with_last to s (map (without s) lists)) to [] ≡ get_or lists to [] ++ s ∷ []
   moved_onto l =
       get_or-set_same (map (without s) lists) to (get_or (map (without s) lists) to [] ++ s ∷ []) [] (let a = length-map lists (without s) in omega (arith, a, l))
-      ∙ ap (λ xs. xs ++ s ∷ []) (nth_without s to lists ∙ without_none s (get_or lists to []) (none_else to (λ e. apart (sym e))))
+      ∙ ap (λ xs. xs ++ s ∷ []) (nth_map s to lists ∙ without_none s (get_or lists to []) (none_else to (λ e. apart (sym e))))
 
   pub moved_left : get_or (with_last to s (map (without s) lists)) from [] ≡ rest
   moved_left =
       get_or-set_other (map (without s) lists) to from (get_or (map (without s) lists) to [] ++ s ∷ []) [] apart
-      ∙ nth_without s from lists ∙ ap (without s) at ∙ without_same s s rest refl ∙ without_none s rest none_behind_it
+      ∙ nth_map s from lists ∙ ap (without s) at ∙ without_same s s rest refl ∙ without_none s rest none_behind_it
 
   pub moved_others : (k : ℕ) → k ≢ from → k ≢ to → get_or (with_last to s (map (without s) lists)) k [] ≡ get_or lists k []
   moved_others k other past =
       get_or-set_other (map (without s) lists) to k (get_or (map (without s) lists) to [] ++ s ∷ []) [] past
-      ∙ nth_without s k lists ∙ without_none s (get_or lists k []) (none_else k other)
+      ∙ nth_map s k lists ∙ without_none s (get_or lists k []) (none_else k other)

@@ -4,6 +4,7 @@ use Rattle.std.proofs.lemmas.Bool.{false≢true, and_parts, not-true, or_cases, 
 use Rattle.std.proofs.lemmas.List.{length-map, length-set}
 use Rattle.iscsi_slots.specs.Slots.{times}
 use Rattle.iscsi_lists.specs.Lists.{Listed, AreApart, linked_in, times_in, without, with_last, first_of}
+use Rattle.iscsi_lists.proofs.PlaceLemmas.{times_any, in_once}
 use Rattle.iscsi_lists.proofs.WithoutLemmas.{append_one, times_same}
 use Rattle.iscsi_lines.specs.declared.item.Owing.{Owing}
 use Rattle.iscsi_lines.specs.declared.item.Item.{Item}
@@ -11,7 +12,7 @@ use Rattle.iscsi_lines.specs.declared.item.Item.TheVariants.{Command}
 use Rattle.iscsi_lines.specs.Lines.{BLANK, owes, items_of}
 use Rattle.iscsi_lines.specs.Settling.{AllAre, may_stand, is_ahead, is_none, comes_ahead, settles, IsLine, items_at, slots_at, ComesNext, IsSettling}
 use Rattle.iscsi_lines.proofs.ItemLemmas.{items_append, all_append}
-use Rattle.iscsi_lines.proofs.MoveLemmas.{times_any, in_once, moved_onto, moved_left, moved_others}
+use Rattle.iscsi_lines.proofs.MoveLemmas.{moved_onto, moved_left, moved_others}
 
 pub record Begun (s : ℕ) (xs : List ℕ) : Type 0 where
   pub rest : List ℕ

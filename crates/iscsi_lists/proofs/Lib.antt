@@ -1,3 +1,4 @@
+pub mod PlaceLemmas
 pub mod LinkLemmas
 pub mod WithoutLemmas
 pub mod KeptLemmas

@@ -6,6 +6,7 @@ use Rattle.iscsi_slots.specs.Slots.{times}
 use Rattle.iscsi_lists.specs.declared.link.Link.{Link}
 use Rattle.iscsi_lists.specs.Lists.{Linked, linked, AreApart, times_in, total, counted}
 use Rattle.iscsi_lists.specs.Linking.{BLANK, NO_LIST, node_at, before_of, first_links, view_of, behind, flat, Follows, AreLinked, AreListed, AreInside, AreKept, IsLinked}
+use Rattle.iscsi_lists.proofs.PlaceLemmas.{counted_long, replicate_long}
 use Rattle.iscsi_lists.proofs.WithoutLemmas.{times_same, times_other}
 use Rattle.iscsi_lists.proofs.KeptLemmas.{linked_again, view_is}
 
@@ -101,14 +102,6 @@ total_none : (k : ℕ) → total (replicate k []) ≡ 0
 total_none zero = refl
 total_none (suc k) = let a = total_none k in omega (arith, a)
 
-length_counted : (n k : ℕ) → length (counted n k) ≡ k
-length_counted n zero = refl
-length_counted n (suc k) = ap suc (length_counted (suc n) k)
-
-length_none : (k : ℕ) → length (replicate {A = List ℕ} k []) ≡ k
-length_none zero = refl
-length_none (suc k) = ap suc (length_none k)
-
 listed_none : (nodes : List Link) (i k : ℕ) → AreListed nodes i (replicate k [])
 listed_none nodes i zero = tt
 listed_none nodes i (suc k) = ((λ s some. absurd (omega (arith, some))), listed_none nodes (suc i) k)
@@ -124,7 +117,7 @@ module _ (n room : ℕ) where
       once = λ s low high. let a = times_counted_in s 1 room low (omega (arith, high)) in let b = times_in_none s n in omega (arith, a, b);
       some = λ s there. ⊎_elim (λ below. let a = times_counted_low s 1 room below in let b = times_in_none s n in absurd (omega (arith, a, b, there))) (λ above. above) (cases_lt s 1);
       within = λ s there. ⊎_elim (λ below. omega (arith, below)) (λ above. let a = times_counted_high s 1 room (omega (arith, above)) in let b = times_in_none s n in absurd (omega (arith, a, b, there))) (cases_lt s (room + 1));
-      all = let a = length_counted 1 room in let b = total_none n in omega (arith, a, b);
+      all = let a = counted_long 1 room in let b = total_none n in omega (arith, a, b);
     };
     listed = listed_none (all_links (room + n + 1)) 0 n;
     freed = λ s there. ⊎_elim
@@ -132,7 +125,7 @@ module _ (n room : ℕ) where
         (λ above. let a = times_counted_high s 1 room (omega (arith, above)) in absurd (omega (arith, a, there)))
         (cases_lt s (room + 1));
     inside = inside_all (room + n + 1);
-    long = let a = all_long (room + n + 1) in let b = length_none n in omega (arith, a, b);
+    long = let a = all_long (room + n + 1) in let b = replicate_long n in omega (arith, a, b);
   }
 
   module _ (nodes : List Link) (is : nodes ≡ all_links (room + n + 1)) where
@@ -140,10 +133,10 @@ module _ (n room : ℕ) where
     kept_nodes = subst (λ ns. AreKept ns opened) (sym is) kept_opened
 
     pub opened_links : room + n + 2 ≤ 4294967295 → IsLinked nodes n room
-    opened_links short = linked_again kept_nodes n room (length_none n) refl short
+    opened_links short = linked_again kept_nodes n room (replicate_long n) refl short
 
     pub opened_view : view_of nodes n room ≡ opened
-    opened_view = view_is kept_nodes n room (length_none n) refl
+    opened_view = view_is kept_nodes n room (replicate_long n) refl
 
     pub opened_apart : AreApart (view_of nodes n room)
     opened_apart = subst AreApart (sym opened_view) kept_nodes.apart

@@ -2,10 +2,12 @@
 use Rattle.std.proofs.Common.{◌≡◌, ◌≢◌, ℕ, zero, suc, ◌+◌, ◌<◌, ◌≤◌, List, [], ◌∷◌, length, map, get_or, replicate, Some, None, refl, ap, sym, subst, ◌∙◌, arith, ⊎_elim}
 use Rattle.std.proofs.lemmas.Bool.{cases_eq}
 use Rattle.iscsi_slots.specs.Slots.{times}
-use Rattle.iscsi_lists.specs.Lists.{Listed, AreApart, counted, first_of, linked_in, times_in, without, with_last}
+use Rattle.iscsi_lists.specs.Lists.{Listed, AreApart, first_of, linked_in, times_in, without, with_last}
+use Rattle.iscsi_lists.proofs.ClearLemmas.{none_first}
+use Rattle.iscsi_lists.proofs.PlaceLemmas.{times_any, only_there, once_in}
 use Rattle.iscsi_lists.proofs.WithoutLemmas.{length_without, times_same, without_none, without_same}
 use Rattle.iscsi_queues.specs.Queues.{AreHeld, Empties, IsEmptying, Loses, Pops, Queued, Releases, behind_first, group_at, queued, slots_at, value_at}
-use Rattle.iscsi_queues.proofs.QueueLemmas.{group_read, moved_free, moved_long, moved_other, moved_room, once_in, same_count, times_any}
+use Rattle.iscsi_queues.proofs.QueueLemmas.{group_read, moved_free, moved_long, moved_other, moved_room, same_count}
 
 pub pops_some : (old new : Queued) (slots : List ℕ) (slot value : ℕ) → first_of slots ≡ Some slot → value ≡ value_at old slot → Loses old new slot → Pops old new slots (Some value)
 pops_some old new [] slot value first at lost = absurd (cc)
@@ -31,17 +33,13 @@ pub none_behind : (slots : List ℕ) → first_of slots ≡ None → slots ≡ b
 none_behind [] none = refl
 none_behind (x ∷ slots) none = absurd (cc)
 
-none_first : (slots : List ℕ) → first_of slots ≡ None → slots ≡ []
-none_first [] none = refl
-none_first (x ∷ slots) none = absurd (cc)
-
 -- the first one of a list
 module _ (s : Listed ℕ) (known : AreApart (linked_in s)) (k slot : ℕ) (first : first_of (slots_at s k) ≡ Some slot) where
   pub stands : 1 ≤ times_in slot s.lists
   stands = let a = first_there slot (slots_at s k) first in let b = times_any slot k s.lists in omega (arith, a, b)
 
   pub rest_is : without slot (slots_at s k) ≡ behind_first (slots_at s k)
-  rest_is = first_gone slot (slots_at s k) first (let a = times_any slot k s.lists in let b = once_in s known slot in omega (arith, a, b))
+  rest_is = first_gone slot (slots_at s k) first (let a = times_any slot k s.lists in let b = once_in known slot in omega (arith, a, b))
 
 -- the first one of a group
 module _ (s o : Listed ℕ) (are : AreHeld s o) (known : AreApart (linked_in o)) (group list slot : ℕ) (at : list ≡ suc group) (first : first_of (slots_at o list) ≡ Some slot) where
@@ -56,15 +54,6 @@ module _ (s o : Listed ℕ) (are : AreHeld s o) (known : AreApart (linked_in o))
 
 -- ---- a list is emptied
 
--- a slot that stands in one list stands in no other one
-only_there : (s i k : ℕ) (lists : List (List ℕ)) → 1 ≤ times s (get_or lists i []) → times_in s lists ≤ 1 → k ≢ i → times s (get_or lists k []) ≡ 0
-only_there s zero k [] there once other = absurd (omega (arith, there))
-only_there s (suc i) k [] there once other = absurd (omega (arith, there))
-only_there s zero zero (xs ∷ lists) there once other = absurd (other refl)
-only_there s zero (suc k) (xs ∷ lists) there once other = let a = times_any s k lists in omega (arith, a, there, once)
-only_there s (suc i) zero (xs ∷ lists) there once other = let a = times_any s i lists in omega (arith, a, there, once)
-only_there s (suc i) (suc k) (xs ∷ lists) there once other = only_there s i k lists there (omega (arith, once)) (λ e. other (ap suc e))
-
 pub emptying_begins : (o : Listed ℕ) (list : ℕ) → IsEmptying o o list
 emptying_begins o list = record { others = λ k a b. refl; free = refl; room = refl; lists = refl }
 
@@ -74,7 +63,7 @@ module _ (old now next : Listed ℕ) (list slot : ℕ) (inside : 1 ≤ list) (fi
   emptying p = record {
     others = λ k a b.
         moved_other now next 0 slot is k b
-        ∙ without_none slot (slots_at now k) (only_there slot list k now.lists (first_there slot (slots_at now list) first) (once_in now known slot) a)
+        ∙ without_none slot (slots_at now k) (only_there slot list k now.lists (first_there slot (slots_at now list) first) (once_in known slot) a)
         ∙ p.others k a b;
     free = moved_free now next 0 slot is ∙ p.free;
     room = moved_room now next 0 slot is ∙ p.room;
@@ -121,14 +110,6 @@ module _ (s o p : Listed ℕ) (are : AreHeld s o) (group list : ℕ) (at : list 
 pub behind_with : (slot : ℕ) (lists : List (List ℕ)) → behind_first (with_last 0 slot lists) ≡ behind_first lists
 behind_with slot [] = refl
 behind_with slot (xs ∷ lists) = refl
-
-pub counted_long : (n k : ℕ) → length (counted n k) ≡ k
-counted_long n zero = refl
-counted_long n (suc k) = ap suc (counted_long (suc n) k)
-
-pub replicate_long : (n : ℕ) → length (replicate {A = List ℕ} n []) ≡ n
-replicate_long zero = refl
-replicate_long (suc n) = ap suc (replicate_long n)
 
 pub behind_replicate : (groups : ℕ) → behind_first (replicate {A = List ℕ} (groups + 1) []) ≡ replicate groups []
 behind_replicate groups = let e : groups + 1 ≡ suc groups = omega arith in ap (λ n. behind_first (replicate {A = List ℕ} n [])) e

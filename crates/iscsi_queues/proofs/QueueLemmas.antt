@@ -5,6 +5,7 @@ use Rattle.std.proofs.lemmas.List.{get_or-set_same, get_or-set_other, length-set
 use Rattle.iscsi_slots.specs.Slots.{times}
 use Rattle.iscsi_slots.proofs.SlotLemmas.{times_append}
 use Rattle.iscsi_lists.specs.Lists.{Listed, AreApart, linked_in, times_in, without, with_last, last_of}
+use Rattle.iscsi_lists.proofs.PlaceLemmas.{once_in}
 use Rattle.iscsi_lists.proofs.WithoutLemmas.{times_same, times_other, times_without, times_without_other, times_in_with, times_in_other, without_none}
 use Rattle.iscsi_lists.proofs.SequenceLemmas.{last_there, nth_map, fewer_free}
 use Rattle.iscsi_queues.specs.Queues.{AreHeld, AreQueued, Joins, Loses, Pushes, behind_first, queued, slots_at}
@@ -30,21 +31,6 @@ behind_within k (xs ∷ lists) l = omega (arith, l)
 times_behind : (s : ℕ) (lists : List (List ℕ)) → times_in s (behind_first lists) ≤ times_in s lists
 times_behind s [] = omega arith
 times_behind s (xs ∷ lists) = omega arith
-
-pub times_any : (s k : ℕ) (lists : List (List ℕ)) → times s (get_or lists k []) ≤ times_in s lists
-times_any s zero [] = omega arith
-times_any s (suc k) [] = omega arith
-times_any s zero (xs ∷ lists) = omega arith
-times_any s (suc k) (xs ∷ lists) = let rest = times_any s k lists in omega (arith, rest)
-
--- a slot stands in one of the lists at most, and there once
-pub once_in : (s : Listed ℕ) → AreApart (linked_in s) → (slot : ℕ) → times_in slot s.lists ≤ 1
-once_in s known slot = ⊎_elim
-    (λ there.
-    let some : 1 ≤ times slot s.free + times_in slot s.lists = omega (arith, there) in
-    let one = known.once slot (known.some slot some) (known.within slot some) in omega (arith, one))
-    (λ none. omega (arith, none))
-    (cases_lt 0 (times_in slot s.lists))
 
 -- ---- a slot goes to the end of a list, from any of them
 
@@ -94,7 +80,7 @@ module _ (s o : Listed ℕ) (are : AreHeld s o) where
   are_queued known long known_o = record {
     apart = known;
     values = long;
-    once = λ slot. let a = times_behind slot o.lists in let b = once_in o known_o slot in omega (arith, a, b);
+    once = λ slot. let a = times_behind slot o.lists in let b = once_in known_o slot in omega (arith, a, b);
     waits = λ group slot there. are.waits group slot (subst (λ xs. 1 ≤ times slot xs) (group_read group o.lists) there);
   }
 

@@ -1,7 +1,7 @@
 use Rattle.std.proofs.Common.{ap, length, ◌∙◌}
 use Rattle.iscsi_lists.specs.Lists.{Listed}
+use Rattle.iscsi_lists.proofs.PlaceLemmas.{counted_long}
 use Rattle.iscsi_lines.specs.declared.item.Item.{Item}
-use Rattle.iscsi_lines.proofs.LineLemmas.{counted_long}
 use Rattle.iscsi_lines.proofs.lines.Lines.with_room.Goals as goal
 
 pub returns-clause-free : goal.returns-clause-free

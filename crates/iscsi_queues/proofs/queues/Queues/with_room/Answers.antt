@@ -1,8 +1,9 @@
 use Rattle.std.proofs.Common.{◌∙◌, ◌+◌, ap, length, arith}
 use Rattle.iscsi_lists.specs.Lists.{Listed}
+use Rattle.iscsi_lists.proofs.PlaceLemmas.{counted_long, replicate_long}
 use Rattle.iscsi_lists.proofs.SequenceLemmas.{fewer_free}
 use Rattle.iscsi_queues.specs.Queues.{behind_first}
-use Rattle.iscsi_queues.proofs.PopLemmas.{behind_replicate, behind_with, counted_long, opened_held, replicate_long}
+use Rattle.iscsi_queues.proofs.PopLemmas.{behind_replicate, behind_with, opened_held}
 use Rattle.iscsi_queues.proofs.queues.Queues.with_room.Goals as goal
 
 pub loop-init : goal.loop-init
