@@ -1,0 +1,49 @@
+use Rattle.std.proofs.Common.{◌≡◌, ◌<◌, ◌≤◌, length, ap, sym, subst, ◌∙◌, arith}
+use Rattle.std.specs.Vec.{vec_len}
+use Rattle.iscsi_waiting.specs.Counting.{HasOne, without_one}
+use Rattle.iscsi_outbox_state.specs.declared.waiting.Waiting.{Waiting}
+use Rattle.iscsi_waiting.specs.Kept.{BLANK, kept_at}
+use Rattle.iscsi_waiting.specs.declared.slots.Kept.{Kept}
+use Rattle.iscsi_waiting.proofs.EnterLemmas.{conns_long, counted_here}
+use Rattle.iscsi_waiting.proofs.MarkLemmas.{told_in}
+use Rattle.iscsi_waiting.proofs.OutLemmas.{all_has, conn_has, left_kept}
+use Rattle.iscsi_waiting.proofs.slots.Slots.take_out.Goals as goal
+
+pub index-requires : goal.index-requires
+index-requires c =
+    let s = c.args.self.now in
+    let at = told_in c.args.slot s.waiting.lists c.requires.waits c.list_of-conn.result c.list_of-conn.ensures in
+    let l = at.0 in let long = conns_long s.waiting s.owned s.fence s.counts.items s.all s.time c.requires.kept in let ok = s.counts.ok.0 in omega (arith, l, long, ok)
+
+pub index_mut-requires : goal.index_mut-requires
+index_mut-requires c =
+    let s = c.args.self.now in
+    let at = told_in c.args.slot s.waiting.lists c.requires.waits c.list_of-conn.result c.list_of-conn.ensures in
+    let l = at.0 in let long = conns_long s.waiting s.owned s.fence s.counts.items s.all s.time c.requires.kept in let ok = s.counts.ok.0 in omega (arith, l, long, ok)
+
+pub without-requires : goal.without-requires
+without-requires c =
+    let s = c.args.self.now in let conn = c.list_of-conn.result in
+    let at = told_in c.args.slot s.waiting.lists c.requires.waits conn c.list_of-conn.ensures in
+    subst (λ (k : Kept). HasOne k.item c.index.result.now) (sym (c.remove.ensures.value BLANK))
+    (conn_has s.waiting s.owned s.fence s.counts.items s.all s.time c.requires.kept c.known.ensures.apart conn c.args.slot at.0 at.1 c.index.result.now
+    (counted_here s.waiting s.owned s.fence s.counts.items s.all s.time c.requires.kept conn at.0 c.index.result.now c.index.ensures))
+
+pub without-self-requires : goal.without-self-requires
+without-self-requires c =
+    let s = c.args.self.now in let conn = c.list_of-conn.result in
+    let at = told_in c.args.slot s.waiting.lists c.requires.waits conn c.list_of-conn.ensures in
+    subst (λ (k : Kept). HasOne k.item s.all) (sym (c.remove.ensures.value BLANK))
+    (all_has s.waiting s.owned s.fence s.counts.items s.all s.time c.requires.kept c.known.ensures.apart conn c.args.slot at.0 at.1)
+
+pub returns-clause-kept : goal.returns-clause-kept
+returns-clause-kept c =
+    let s = c.args.self.now in let conn = c.list_of-conn.result in
+    let at = told_in c.args.slot s.waiting.lists c.requires.waits conn c.list_of-conn.ensures in
+    let item = ap (λ (k : Kept). k.item) (c.remove.ensures.value BLANK) in
+    left_kept s.waiting s.owned s.fence s.counts.items s.all s.time c.requires.kept c.known.ensures.apart conn c.args.slot at.0 at.1
+    c.remove.new.self c.remove.ensures.state c.move_to_back.new.self c.move_to_back-2.new.self c.move_to_back.ensures.state c.move_to_back-2.ensures.state
+    c.without.result c.without-self.result
+    (c.without.ensures ∙ ap (λ (w : Waiting). without_one w c.index.result.now) item
+    ∙ ap (without_one (kept_at s.waiting c.args.slot).item) (counted_here s.waiting s.owned s.fence s.counts.items s.all s.time c.requires.kept conn at.0 c.index.result.now c.index.ensures))
+    (c.without-self.ensures ∙ ap (λ (w : Waiting). without_one w s.all) item)

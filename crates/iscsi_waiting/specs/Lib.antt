@@ -1,0 +1,5 @@
+pub mod Known
+pub mod Marks
+pub mod Counting
+pub mod Kept
+pub mod Rows
