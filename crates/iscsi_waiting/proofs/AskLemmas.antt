@@ -1,13 +1,12 @@
 -- What waits, as callers ask.
-use Rattle.std.proofs.Common.{◌≡◌, ◌≢◌, ℕ, zero, suc, ◌+◌, ◌-◌, ◌<◌, ◌≤◌, ◌&&◌, ◌||◌, cond, Bool, true, false, List, [], ◌∷◌, length, map, get_or, nat_lt, Option, Some, None, refl, ap, sym, subst, ◌∙◌, arith, ⊎_elim, lt-ltb, le-ltb}
+use Rattle.std.proofs.Common.{◌≡◌, ℕ, ◌-◌, ◌<◌, ◌≤◌, ◌&&◌, Bool, true, false, List, [], ◌∷◌, length, map, get_or, nat_lt, Some, None, refl, ap, sym, subst, ◌∙◌, arith, ⊎_elim, lt-ltb, le-ltb}
 use Rattle.std.specs.List.{AllByRecursion, list_any}
-use Rattle.std.proofs.lemmas.Bool.{and_from, and_left, and_right, cases_Bool, cases_eq, cases_lt, or_from, or_left, or_right, true≢false}
-use Rattle.std.proofs.lemmas.List.{length-map}
+use Rattle.std.proofs.lemmas.Bool.{and_from, and_left, and_right, cases_Bool, cases_eq, cases_lt, or_from, or_left, or_right}
 use Rattle.iscsi_slots.specs.Slots.{times}
 use Rattle.iscsi_lists.specs.Lists.{Listed, AreApart, first_of, linked_in, times_in, total}
 use Rattle.iscsi_lists.proofs.WithoutLemmas.{times_same, times_other}
 use Rattle.iscsi_outbox_state.specs.declared.waiting.Front.{Front}
-use Rattle.iscsi_outbox_state.specs.Waits.{Entry, Waits, any_in, count_in, entry, front_of, is_any, is_fenced_before, is_taking_before}
+use Rattle.iscsi_outbox_state.specs.Waits.{Entry, any_in, count_in, front_of, is_any, is_fenced_before, is_taking_before}
 use Rattle.iscsi_waiting.specs.Kept.{AreKept, BLANK, IsBehind, IsBehindNone, entry_at, kept_at, kind_in, moments_of, queue_of, queues_of, waits_of}
 use Rattle.iscsi_waiting.specs.Known.{AreWaiting, Ascend, IsFit}
 use Rattle.iscsi_waiting.specs.Marks.{slots_at}

@@ -1,15 +1,15 @@
 -- How many of each kind wait, as one comes and as one goes.
-use Rattle.std.proofs.Common.{◌≡◌, ◌≢◌, ℕ, zero, suc, ◌+◌, ◌-◌, ◌<◌, ◌≤◌, ◌^◌, cond, Bool, true, false, not, List, [], ◌∷◌, ◌++◌, length, map, get_or, set, count_by, sum_by, refl, ap, sym, subst, ◌∙◌, arith, ⊎_elim}
+use Rattle.std.proofs.Common.{◌≡◌, ℕ, ◌+◌, ◌-◌, ◌<◌, ◌≤◌, ◌^◌, cond, Bool, not, List, [], ◌∷◌, ◌++◌, length, map, get_or, set, count_by, refl, ap, sym, subst, ◌∙◌, arith, ⊎_elim}
 use Rattle.std.proofs.lemmas.Bool.{cases_eq}
 use Rattle.std.proofs.lemmas.List.{get_or-map, length-map, map-set}
 use Rattle.std.proofs.lemmas.List.Sums.{count_by-le-length, get_or-le-sum_by, sum_by-cons, sum_by-set, sum_by_push}
 use Rattle.iscsi_slots.specs.Slots.{times}
-use Rattle.iscsi_lists.specs.Lists.{times_in, total, without}
+use Rattle.iscsi_lists.specs.Lists.{total, without}
 use Rattle.iscsi_lists.proofs.WithoutLemmas.{times_same, times_other, without_none, without_same, without_other}
 use Rattle.iscsi_outbox_state.specs.declared.waiting.Content.TheVariants.{Reply, Own}
 use Rattle.iscsi_outbox_state.specs.declared.waiting.Waiting.{Waiting}
 use Rattle.iscsi_outbox_state.specs.Waits.{Entry, entry, is_any, is_fenced, is_numbered, is_own, is_reply, is_taking}
-use Rattle.iscsi_waiting.specs.Counting.{HasOne, HasPlace, counts, counts_in, counts_of, is_own_item, nothing_counted, one_if, total_by, with_one, without_one}
+use Rattle.iscsi_waiting.specs.Counting.{HasOne, HasPlace, counts, counts_in, counts_of, is_own_item, total_by, with_one, without_one}
 use Rattle.iscsi_waiting.specs.declared.counts.Counts.{Counts}
 use Rattle.iscsi_waiting.proofs.ShownLemmas.{shown}
 

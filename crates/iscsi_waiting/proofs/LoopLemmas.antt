@@ -1,12 +1,12 @@
 -- What waits, as all that is of a command is dropped or released, slot by slot.
-use Rattle.std.proofs.Common.{◌≡◌, ◌≢◌, ℕ, zero, suc, ◌+◌, ◌-◌, ◌<◌, ◌≤◌, ◌==◌, cond, not, Bool, true, false, List, [], ◌∷◌, length, map, filter, drop, get_or, set, is_some, Option, Some, None, unwrap_or, refl, ap, sym, subst, ◌∙◌, arith, ⊎_elim, eq-eqb}
-use Rattle.std.proofs.lemmas.Bool.{cases_eq, eqb-true, false_from_ne_true, false≢true, true≢false}
+use Rattle.std.proofs.Common.{◌≡◌, ◌≢◌, ℕ, ◌-◌, ◌<◌, ◌≤◌, ◌==◌, cond, not, Bool, true, false, List, [], ◌∷◌, length, map, filter, drop, get_or, Option, Some, None, unwrap_or, refl, ap, sym, subst, ◌∙◌, arith, ⊎_elim, eq-eqb}
+use Rattle.std.proofs.lemmas.Bool.{cases_eq, eqb-true, false_from_ne_true, false≢true}
 use Rattle.std.proofs.lemmas.List.{get_or-set_same, get_or-set_other, length-set, set-set}
 use Rattle.iscsi_slots.specs.Slots.{times}
 use Rattle.iscsi_lists.specs.Lists.{Listed, first_of, times_in, without, with_last}
 use Rattle.iscsi_lists.proofs.WithoutLemmas.{length_without, times_same, without_same, without_other}
-use Rattle.iscsi_outbox_state.specs.Waits.{Entry, Waits, dropped_of, dropped_on, entry, first_item, is_of, of_none, popped, queue_at, released, released_of}
-use Rattle.iscsi_waiting.specs.Kept.{AreKept, BLANK, Leaves, LetsGo, entry_at, kept_at, let_go, place_in, queues_of, waits_of}
+use Rattle.iscsi_outbox_state.specs.Waits.{Entry, Waits, dropped_of, dropped_on, entry, is_of, of_none, popped, queue_at, released, released_of}
+use Rattle.iscsi_waiting.specs.Kept.{AreKept, BLANK, Leaves, LetsGo, entry_at, kept_at, let_go, place_in, waits_of}
 use Rattle.iscsi_waiting.specs.Marks.{slots_at}
 use Rattle.iscsi_waiting.specs.declared.slots.Kept.{Kept}
 use Rattle.iscsi_waiting.specs.declared.slots.Slots.{Slots}
@@ -171,20 +171,3 @@ module _ (v w : Waits) (conn : ℕ) (is : w ≡ popped conn v) where
 
   pub on_more : dropped_on conn w ≡ dropped_on conn v
   on_more = ap (dropped_on conn) is ∙ ap (λ (qs : List (List Entry)). record v { queues = qs }) (set-set v.queues conn (drop 1 (queue_at v conn)) [])
-
-  pub on_shorter : conn < length v.queues → is_some (first_item (queue_at v conn)) ≡ true → length (queue_at w conn) < length (queue_at v conn)
-  on_shorter l some =
-      let a = ap (λ (u : Waits). length (queue_at u conn)) is in
-      let b = ap (λ (q : List Entry). length q) (get_or-set_same v.queues conn (drop 1 (queue_at v conn)) [] l) in
-      let c = one_fewer (queue_at v conn) some in omega (arith, a, b, c)
-    where
-      one_fewer : (q : List Entry) → is_some (first_item q) ≡ true → length (drop 1 q) < length q
-      one_fewer [] some = absurd (false≢true some)
-      one_fewer (e ∷ q) some = omega arith
-
-  pub on_done : is_some (first_item (queue_at v conn)) ≡ false → w ≡ dropped_on conn v
-  on_done none = is ∙ ap (λ (q : List Entry). record v { queues = set v.queues conn (drop 1 q) }) (nothing (queue_at v conn) none)
-    where
-      nothing : (q : List Entry) → is_some (first_item q) ≡ false → q ≡ []
-      nothing [] none = refl
-      nothing (e ∷ q) none = absurd (true≢false none)

@@ -1,17 +1,17 @@
 -- What waits, as a slot leaves and as one is of no command any more.
-use Rattle.std.proofs.Common.{◌≡◌, ◌≢◌, ℕ, zero, suc, ◌+◌, ◌-◌, ◌<◌, ◌≤◌, List, [], ◌∷◌, ◌++◌, length, map, drop, get_or, set, Option, Some, None, IfSome, refl, ap, sym, subst, ◌∙◌, arith, ⊎_elim}
+use Rattle.std.proofs.Common.{◌≡◌, ◌≢◌, ℕ, ◌-◌, ◌<◌, ◌≤◌, List, [], ◌∷◌, ◌++◌, length, map, drop, get_or, set, Some, None, refl, ap, sym, subst, ◌∙◌, arith, ⊎_elim}
 use Rattle.std.proofs.lemmas.Bool.{cases_eq}
-use Rattle.std.proofs.lemmas.List.{get_or-set_same, get_or-set_other, length-map, set-get_or}
+use Rattle.std.proofs.lemmas.List.{get_or-set_same, get_or-set_other, set-get_or}
 use Rattle.iscsi_slots.specs.Slots.{times}
 use Rattle.iscsi_lists.specs.Lists.{Listed, AreApart, first_of, linked_in, times_in, without, with_last}
 use Rattle.iscsi_lists.proofs.SequenceLemmas.{nth_map}
-use Rattle.iscsi_lists.proofs.WithoutLemmas.{times_in_other, times_in_without, without_none}
+use Rattle.iscsi_lists.proofs.WithoutLemmas.{times_in_other, times_in_without}
 use Rattle.iscsi_outbox_state.specs.declared.waiting.Waiting.{Waiting}
-use Rattle.iscsi_outbox_state.specs.Waits.{Entry, Waits, entry, first_item, is_own, is_reply, of_none, popped}
+use Rattle.iscsi_outbox_state.specs.Waits.{Entry, entry, first_item, is_own, is_reply, of_none, popped}
 use Rattle.iscsi_waiting.specs.Counting.{HasOne, counts_in, counts_of, without_one}
-use Rattle.iscsi_waiting.specs.Kept.{AreKept, BLANK, IsKept, Leaves, LetsGo, entry_at, kept_at, kind_in, let_go, moments_of, place_in, queue_of, queues_of, waits_of}
+use Rattle.iscsi_waiting.specs.Kept.{BLANK, IsKept, Leaves, entry_at, kept_at, kind_in, let_go, moments_of, place_in, queue_of, queues_of, waits_of}
 use Rattle.iscsi_waiting.specs.Known.{Ascend, IsFit}
-use Rattle.iscsi_waiting.specs.Marks.{AreMarked, slots_at, value_at}
+use Rattle.iscsi_waiting.specs.Marks.{slots_at}
 use Rattle.iscsi_waiting.specs.declared.counts.Counts.{Counts}
 use Rattle.iscsi_waiting.specs.declared.slots.Kept.{Kept}
 use Rattle.iscsi_waiting.specs.declared.slots.Slots.{Slots}

@@ -1,5 +1,5 @@
 -- How what waits stands in lists over shared slots. For private contracts alone.
-use Rattle.std.specs.Prelude.{◌≡◌, ℕ, ◌-◌, ◌<◌, ◌≤◌, Bool, false, List, [], length, map, slice_set, unwrap_or, Some, None, if◌then◌else◌}
+use Rattle.std.specs.Prelude.{◌≡◌, ℕ, ◌-◌, ◌<◌, ◌≤◌, false, List, [], length, map, slice_set, unwrap_or, None, if◌then◌else◌}
 use Rattle.iscsi_lists.specs.Lists.{Listed, times_in, with_last, without}
 use Rattle.iscsi_outbox_rules.specs.declared.own_pdu.OwnPdu.TheVariants.{OfConnection}
 use Rattle.iscsi_outbox_state.specs.declared.waiting.Content.TheVariants.{Own}

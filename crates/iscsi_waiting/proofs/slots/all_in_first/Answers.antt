@@ -1,5 +1,4 @@
-use Rattle.std.proofs.Common.{◌≡◌, ◌+◌, ◌≤◌, ap, length, ◌∙◌, arith}
-use Rattle.std.proofs.lemmas.List.{get_or-set_other}
+use Rattle.std.proofs.Common.{ap, length, ◌∙◌, arith}
 use Rattle.iscsi_lists.specs.Lists.{Listed}
 use Rattle.iscsi_lists.proofs.SequenceLemmas.{fewer_free}
 use Rattle.iscsi_waiting.specs.Marks.{slots_at}

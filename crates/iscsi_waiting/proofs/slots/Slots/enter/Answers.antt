@@ -1,9 +1,7 @@
-use Rattle.std.proofs.Common.{◌≡◌, ◌+◌, ◌<◌, ◌≤◌, ℕ, length, map, refl, ap, ◌∙◌, arith}
-use Rattle.iscsi_lists.specs.Lists.{Listed, with_last, without}
+use Rattle.std.proofs.Common.{ℕ, length, map, refl, ap, ◌∙◌, arith}
+use Rattle.iscsi_lists.specs.Lists.{with_last, without}
 use Rattle.iscsi_waiting.specs.Counting.{with_one}
-use Rattle.iscsi_waiting.specs.Kept.{BLANK, kind_in, kind_of, place_in, place_of, waits_of}
-use Rattle.iscsi_waiting.specs.declared.counts.Counts.{Counts}
-use Rattle.iscsi_waiting.specs.declared.slots.Slots.{Slots}
+use Rattle.iscsi_waiting.specs.Kept.{BLANK, kind_in, place_in}
 use Rattle.iscsi_waiting.proofs.EnterLemmas.{all_has_place, conn_has_place, counted_here, entered_kept, entered_state, free_high, free_low, kind_small, place_within}
 use Rattle.iscsi_waiting.proofs.MarkLemmas.{all_in}
 use Rattle.iscsi_waiting.proofs.slots.Slots.enter.Goals as goal

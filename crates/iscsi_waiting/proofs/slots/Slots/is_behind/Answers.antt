@@ -1,8 +1,6 @@
-use Rattle.std.proofs.Common.{◌≡◌, ◌<◌, ◌≤◌, Some, ap, sym, ◌∙◌, arith}
+use Rattle.std.proofs.Common.{ap, sym, ◌∙◌, arith}
 use Rattle.std.proofs.lemmas.Bool.{ltb-true, ltb-false}
-use Rattle.iscsi_lists.specs.Lists.{first_of}
 use Rattle.iscsi_waiting.specs.Kept.{BLANK}
-use Rattle.iscsi_waiting.specs.Marks.{slots_at}
 use Rattle.iscsi_waiting.specs.declared.slots.Kept.{Kept}
 use Rattle.iscsi_waiting.proofs.AskLemmas.{behind_empty, behind_none, behind_some}
 use Rattle.iscsi_waiting.proofs.slots.Slots.is_behind.Goals as goal

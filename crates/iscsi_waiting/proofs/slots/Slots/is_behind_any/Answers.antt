@@ -7,4 +7,4 @@ returns-then-is_behind c =
 
 pub returns-else-is_behind : goal.returns-else-is_behind
 returns-else-is_behind c =
-    behind_second c.args.self.now c.args.time c.requires c.is_behind-2.result (c.is_behind.ensures.no c.if-is_behind.false) c.is_behind-2.ensures.yes c.is_behind-2.ensures.no
+    behind_second c.args.self.now c.args.time c.requires c.is_behind-else-is_behind.result (c.is_behind.ensures.no c.if-is_behind.false) c.is_behind-else-is_behind.ensures.yes c.is_behind-else-is_behind.ensures.no

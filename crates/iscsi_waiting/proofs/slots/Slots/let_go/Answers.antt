@@ -1,6 +1,4 @@
-use Rattle.std.proofs.Common.{◌≡◌, ◌+◌, ◌<◌, ◌≤◌, length, ap, arith}
-use Rattle.iscsi_slots.specs.Slots.{times}
-use Rattle.iscsi_lists.specs.Lists.{times_in}
+use Rattle.std.proofs.Common.{ap, arith}
 use Rattle.iscsi_waiting.specs.Kept.{BLANK, let_go}
 use Rattle.iscsi_waiting.proofs.OutLemmas.{let_kept}
 use Rattle.iscsi_waiting.proofs.slots.Slots.let_go.Goals as goal

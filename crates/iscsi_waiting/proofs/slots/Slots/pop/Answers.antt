@@ -1,5 +1,5 @@
-use Rattle.std.proofs.Common.{ap, sym, Some, ◌∙◌}
-use Rattle.iscsi_waiting.proofs.OutLemmas.{first_waits, popped_item, popped_state, unpopped_item, unpopped_state}
+use Rattle.std.proofs.Common.{sym}
+use Rattle.iscsi_waiting.proofs.OutLemmas.{first_waits, popped_state}
 use Rattle.iscsi_waiting.proofs.slots.Slots.pop.Goals as goal
 
 pub take_out-requires-clause-waits : goal.take_out-requires-clause-waits

@@ -1,5 +1,4 @@
-use Rattle.std.proofs.Common.{◌≡◌, ◌<◌, ◌≤◌, length, ap, sym, subst, ◌∙◌, arith}
-use Rattle.std.specs.Vec.{vec_len}
+use Rattle.std.proofs.Common.{ap, sym, subst, ◌∙◌, arith}
 use Rattle.iscsi_waiting.specs.Counting.{HasOne, without_one}
 use Rattle.iscsi_outbox_state.specs.declared.waiting.Waiting.{Waiting}
 use Rattle.iscsi_waiting.specs.Kept.{BLANK, kept_at}
