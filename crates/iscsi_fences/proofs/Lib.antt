@@ -1,4 +1,1 @@
-pub mod UpLemmas
-pub mod TimedLemmas
-pub mod KeptLemmas
 pub mod PassingLemmas

@@ -1,4 +1,2 @@
-pub mod Fences
-pub mod Kept
 pub mod Passing
 pub mod Rows

@@ -1,9 +1,7 @@
-//! The response fence among PDUs that wait (RFC 7143 section 4.2.2.3): which entered before which, on all connections of a
-//! session.
+//! The response fence (RFC 7143 section 4.2.2.3) by what waits and what is under way on all connections of a session: a law of the
+//! definitions, which no code is needed for.
 #![tactic(auto)]
 
-mod fences;
 mod laws;
 
-pub use fences::Fences;
 pub use laws::fence_law;

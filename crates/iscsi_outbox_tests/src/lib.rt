@@ -3,11 +3,7 @@
 #![tactic(auto)]
 
 #[cfg(test)]
-mod fences;
-#[cfg(test)]
 mod lines;
-#[cfg(test)]
-mod queues;
 #[cfg(test)]
 mod ready;
 #[cfg(test)]

@@ -6,6 +6,7 @@ use Rattle.std.proofs.lemmas.List.{get_or-set_same, get_or-set_other, get_or-map
 use Rattle.iscsi_slots.specs.Slots.{times}
 use Rattle.iscsi_slots.proofs.SlotLemmas.{times_append}
 use Rattle.iscsi_lists.specs.Lists.{AreApart, Listed, counted, last_of, linked_in, listed, times_in, with_last, without}
+use Rattle.iscsi_lists.proofs.PlaceLemmas.{counted_long, once_in, replicate_long, times_any}
 use Rattle.iscsi_lists.proofs.SequenceLemmas.{fewer_free, last_there, nth_map}
 use Rattle.iscsi_lists.proofs.WithoutLemmas.{times_in_other, times_in_with, times_in_without, times_other, times_same, times_without, times_without_other}
 use Rattle.iscsi_arrivals.specs.declared.stamp.Stamp.{Stamp}
@@ -48,12 +49,6 @@ behind_times : (s : ℕ) (lists : List (List ℕ)) → times_in s (behind_first 
 behind_times s [] = omega arith
 behind_times s (xs ∷ lists) = omega arith
 
-times_any : (s k : ℕ) (lists : List (List ℕ)) → times s (get_or lists k []) ≤ times_in s lists
-times_any s zero [] = omega arith
-times_any s (suc k) [] = omega arith
-times_any s zero (xs ∷ lists) = omega arith
-times_any s (suc k) (xs ∷ lists) = let rest = times_any s k lists in omega (arith, rest)
-
 times_less : (s p : ℕ) (xs : List ℕ) → times p (without s xs) ≤ times p xs
 times_less s p xs = ⊎_elim
     (λ same. let a = ap (λ n. times n (without s xs)) same in let b = times_without s xs in omega (arith, a, b))
@@ -74,12 +69,6 @@ module _ (tickets : Known) (kept : Listed Command) (are : AreTracked tickets kep
 
   pub high : (place : ℕ) → 1 ≤ times_in place kept.lists → place ≤ kept.room
   high place there = apart.within place (let a = there in omega (arith, a))
-
-  once : (place : ℕ) → times_in place kept.lists ≤ 1
-  once place = ⊎_elim
-      (λ there. let one = apart.once place (low place there) (high place there) in omega (arith, one))
-      (λ none. omega (arith, none))
-      (cases_lt 0 (times_in place kept.lists))
 
   pub has_there : (place : ℕ) → has_place place (tracked_of tickets kept) ≡ true → 1 ≤ times_in place kept.lists
   has_there place has = place_there kept place entries are.each (sym (any_place kept place entries are.each) ∙ has)
@@ -139,7 +128,7 @@ module _ (tickets : Known) (kept : Listed Command) (are : AreTracked tickets kep
           (λ some. absurd (off_trail is (some_list (here e.1).place (behind_first kept.lists) some)))
           (λ none. omega (arith, none))
           (cases_lt 0 (times_in (here e.1).place (behind_first kept.lists)));
-      once = let a = behind_times (here e.1).place kept.lists in let b = once (here e.1).place in omega (arith, a, b);
+      once = let a = behind_times (here e.1).place kept.lists in let b = once_in apart (here e.1).place in omega (arith, a, b);
     }
       where
         on_trail : is_out (here e.1) ≡ true → ((i : ℕ) × (i < length kept.lists) × (1 ≤ times e.1 (get_or kept.lists i []))) → times (here e.1).place (get_or (behind_first kept.lists) (here e.1).conn []) ≡ 1
@@ -150,7 +139,7 @@ module _ (tickets : Known) (kept : Listed Command) (are : AreTracked tickets kep
             let b = ap (λ n. times e.1 (get_or (behind_first kept.lists) n [])) conn in
             let c = ap (times e.1) (behind_read i kept.lists) in
             let d = times_any e.1 (suc i) kept.lists in
-            let f = once e.1 in
+            let f = once_in apart e.1 in
             omega (arith, a, b, c, d, f, there)
 
         off_trail : is_out (here e.1) ≡ false → ((i : ℕ) × (i < length (behind_first kept.lists)) × (1 ≤ times (here e.1).place (get_or (behind_first kept.lists) i []))) → ⊥
@@ -553,10 +542,6 @@ module _ (tickets : Known) (kept : Listed Command) (are : AreTracked tickets kep
 
 -- ---- none yet
 
-counted_long : (n k : ℕ) → length (counted n k) ≡ k
-counted_long n zero = refl
-counted_long n (suc k) = ap suc (counted_long (suc n) k)
-
 none_in : (s n : ℕ) → times_in s (replicate {A = List ℕ} n []) ≡ 0
 none_in s zero = refl
 none_in s (suc n) = let rest = none_in s n in omega (arith, rest)
@@ -566,10 +551,6 @@ none_at zero zero = refl
 none_at zero (suc k) = refl
 none_at (suc n) zero = refl
 none_at (suc n) (suc k) = none_at n k
-
-replicate_long : (n : ℕ) → length (replicate {A = List ℕ} n []) ≡ n
-replicate_long zero = refl
-replicate_long (suc n) = ap suc (replicate_long n)
 
 module _ (conns room : ℕ) where
   abbrev pub no_tickets : Known
