@@ -9,12 +9,8 @@ use Rattle.iscsi_arrivals.specs.Counts.{Counts, has_arrived_by, is_behind_logout
 use Rattle.iscsi_outbox_state.specs.declared.waiting.Front.{Front}
 use Rattle.iscsi_outbox_state.specs.Waits.{Waits, opened as no_waits, is_fenced, is_fenced_before, is_reply, is_taking, is_taking_before, queue_at, any_in as any_waits, count_in as count_waits, is_numbered as is_numbered_entry}
 use Rattle.iscsi_outbox_state.specs.Lane.{Lane, any_in as any_stands, count_in as count_stands, goes_out_on, is_left, is_numbered as is_numbered_answer, is_under_way_on}
+use Rattle.iscsi_outbox_steps.specs.declared.sent.Sent.{Sent}
 use Rattle.iscsi_tracked.specs.Tracked.{Tracked, opened as no_commands}
-
--- a PDU that was handed out: in which place its connection stands, and its stamp
-pub record Sent : Type 0 where
-  pub conn : ℕ
-  pub stamp : Stamp
 
 -- what it is opened with
 pub record Limits : Type 0 where

@@ -26,12 +26,12 @@ use Rattle.iscsi_outbox_state.specs.declared.lane.Undue.{Undue}
 use Rattle.iscsi_outbox_state.specs.declared.waiting.Content.TheVariants.{Reply as IsReply, Own as IsOwn}
 use Rattle.iscsi_outbox_state.specs.declared.waiting.Waiting.{Waiting}
 use Rattle.iscsi_outbox_state.specs.Waits.{Waits, count_in as count_waits, dropped_of, dropped_on, entered, is_any, is_own, popped, queue_at, released_of}
-use Rattle.iscsi_outbox_state.specs.Lane.{arrived as arrived_in, awaited, cleared, count_in as count_stands, dropped_on as dropped_answers, first_due, has_left, is_left, stopped as stopped_in, without_due}
+use Rattle.iscsi_outbox_state.specs.Lane.{any_in as any_stands, arrived as arrived_in, awaited, cleared, count_in as count_stands, dropped_on as dropped_answers, first_due, has_left, is_command, is_left, is_of_logout, stopped as stopped_in, without_due}
 use Rattle.iscsi_tracked.specs.declared.command.Command.{Command}
 use Rattle.iscsi_tracked.specs.declared.command.Entering.{Entering}
 use Rattle.iscsi_tracked.specs.declared.command.Phase.{Phase}
 use Rattle.iscsi_tracked.specs.declared.command.Phase.TheVariants.{Dormant, Fresh, Started, Running, Gone}
-use Rattle.iscsi_tracked.specs.Tracked.{arrived as arrived_at, entered as entered_command, find_place, find_ticket, first_out, handed_out, in_phase, is_out, next_place, removed, trail_at}
+use Rattle.iscsi_tracked.specs.Tracked.{arrived as arrived_at, entered as entered_command, find_place, find_ticket, first_out, handed_out, has_place, in_phase, is_out, next_place, removed, trail_at}
 use Rattle.iscsi_outbox_steps.specs.declared.given.Given.{Given}
 use Rattle.iscsi_outbox_steps.specs.declared.given.Given.TheVariants.{Hands, Nothing, IsOver}
 use Rattle.iscsi_outbox_steps.specs.declared.given.Handed.{Handed}
@@ -58,11 +58,14 @@ enter conn item s = record s { waits = if takes_more_by (link_at s conn) && has_
 
 -- ---- what becomes due
 
+abbrev pub is_of_unit : Aim → Bool
+is_of_unit aim = elim aim [ Unit unit ↦ true | Tag tag ↦ false | Conn conn ↦ false | Session ↦ false | ClosesNothing ↦ false ]
+
 abbrev pub answer_item : Undue → Waiting
 answer_item a = record {
   content = IsReply a.reply;
   takes = true;
-  fenced = elim (a.aim) [ Unit unit ↦ true | Tag tag ↦ false | Conn conn ↦ false | Session ↦ false | ClosesNothing ↦ false ];
+  fenced = is_of_unit a.aim;
   numbered = a.numbered;
   ends = a.ends;
   command = None;
@@ -90,12 +93,12 @@ is_started c = elim (c.phase) [ Started ↦ true | Dormant ↦ false | Fresh ↦
 abbrev pub live_command : State → ℕ → Option Command
 live_command s ticket = elim (find_ticket ticket s.tracked) [ Some c ↦ (if is_live c then Some c else None) | None ↦ None ]
 
--- it is taken out: what waits of it is dropped, and it is kept as long as it owes something
+-- it is taken out: what waits of it is dropped, and it is kept as long as it owes something. No live command stands in the lane
 abbrev pub taken_out : Command → State → State
 taken_out c s =
     let running = is_started c in
     let s' = record s { waits = dropped_of c.place s.waits } in
-    if running || is_out c then record s' {
+    if (running || is_out c) && not (any_stands (is_command c.place) s.lane) then record s' {
       lane = has_left (record { command = c.place; conn = c.conn; unit = c.unit; tag = c.tag; running = running; under_way = is_out c }) s.lane;
       tracked = in_phase (if running then Running else Gone) c.place s.tracked;
     } else record s' { tracked = removed c.place s.tracked }
@@ -234,7 +237,7 @@ reply_item numbered reply = record { content = IsReply reply; takes = true; fenc
 -- `closes`: it closes the connection that it goes out on
 abbrev pub send_on : ℕ → Option Request → List Effect → Bool → Bool → Reply → State → State
 send_on conn (Some r) item numbered closes reply s = elim (aim_of r item reply s) [
-  | Some aim ↦ await conn (record { reply = reply; conn = conn; aim = aim; numbered = numbered; ends = closes; uncleared = s.limits.shared && is_reset r }) s
+  | Some aim ↦ await conn (record { reply = reply; conn = conn; aim = aim; numbered = numbered; ends = closes && is_of_logout aim; uncleared = s.limits.shared && is_reset r && is_of_unit aim }) s
   | None ↦ enter conn (reply_item numbered reply) s
 ]
 send_on conn None item numbered closes reply s = enter conn (reply_item numbered reply) s
@@ -407,7 +410,7 @@ abbrev pub shows : State → State
 shows s = record s { shown = max_shown s; reached = max_shown s }
 
 abbrev pub of_command : Option ℕ → Stamp → State → State
-of_command (Some place) stamp s = record s { tracked = handed_out place stamp s.tracked }
+of_command (Some place) stamp s = if has_place place s.tracked then record s { tracked = handed_out place stamp s.tracked } else s
 of_command None stamp s = s
 
 abbrev pub of_fence : ℕ → Bool → Stamp → State → State

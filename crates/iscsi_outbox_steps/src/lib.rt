@@ -2,5 +2,7 @@
 #![tactic(auto)]
 
 mod given;
+mod sent;
 
 pub use given::{Given, Handed, Pdu};
+pub use sent::Sent;
