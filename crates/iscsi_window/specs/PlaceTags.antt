@@ -26,4 +26,4 @@ pub record ArePlacesFound (counts bounds tags words : List ℕ) (turned received
 abbrev pub IsFirstBetween : (Option (Option Request) → Bool) → List (Option (Option Request)) → ℕ → ℕ → Option ℕ → Type 0
 IsFirstBetween p places from end found = MatchOption found
     ((j : ℕ) → from ≤ j → j < end → p (slice_index_or places j None) ≡ false)
-    (λ k. (k < end) × (p (slice_index_or places k None) ≡ true) × ((j : ℕ) → from ≤ j → j < k → p (slice_index_or places j None) ≡ false))
+    (λ k. (k < end) × (p (slice_index_or places k None) ≡ true) × ((j : ℕ) → from ≤ j → j < k → p (slice_index_or places j None) ≡ false) × (from ≤ k))
