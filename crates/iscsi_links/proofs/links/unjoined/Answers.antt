@@ -1,0 +1,19 @@
+use Rattle.std.proofs.Common.{◌∙◌, ◌++◌, ◌∷◌, [], ap, length, arith}
+use Rattle.std.proofs.lemmas.List.{replicate-append-replicate, length-replicate}
+use Rattle.iscsi_arrivals.specs.Counts.{Counts, new_counts}
+use Rattle.iscsi_links.proofs.links.unjoined.Goals as goal
+
+pub loop-preserved : goal.loop-preserved
+loop-preserved c = record {
+  items =
+      c.push_reserved.ensures.items ∙ ap (λ (x : Counts). c.loop.list.items ++ x ∷ []) c.new.ensures.state
+      ∙ ap (λ xs. xs ++ new_counts ∷ []) c.loop.invariant.items ∙ replicate-append-replicate c.loop.counter 1 new_counts;
+  capacity = omega (arith, c.loop.invariant.capacity, c.push_reserved.ensures.capacity);
+  within = omega (arith, c.loop-test.true);
+}
+
+pub push_reserved-requires : goal.push_reserved-requires
+push_reserved-requires c =
+    let long = ap length c.loop.invariant.items ∙ length-replicate c.loop.counter new_counts in
+    let len = c.loop.list.ok.0 in let room = c.loop.invariant.capacity in let more = c.loop-test.true in
+    omega (arith, long, len, room, more)
