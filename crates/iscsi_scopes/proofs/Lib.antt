@@ -1,0 +1,2 @@
+pub mod ScopeLemmas
+pub mod KeyLemmas

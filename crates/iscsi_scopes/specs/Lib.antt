@@ -1,0 +1,3 @@
+pub mod SlotLines
+pub mod Scopes
+pub mod Rows
