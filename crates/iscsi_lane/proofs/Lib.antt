@@ -1,3 +1,4 @@
 pub mod StandLemmas
 pub mod LaneLemmas
 pub mod OpeningLemmas
+pub mod DueLemmas

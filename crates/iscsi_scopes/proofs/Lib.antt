@@ -1,2 +1,3 @@
 pub mod ScopeLemmas
 pub mod KeyLemmas
+pub mod FacetLemmas

@@ -75,3 +75,15 @@ pub record AreKeyed (keys : Tagged) (v : Lined) : Type 0 where
   pub all : total keys.tags + length (outside_at v) ≡ keys.room
   pub count : v.count ≡ keys.room
   pub room : v.slots.room ≡ keys.room
+
+-- ---- what holds of all lines by key
+
+-- each key is above a number
+abbrev pub AllKeysAbove : ℕ → List Keyed → Type 0
+AllKeysAbove n [] = Unit {0}
+AllKeysAbove n (k ∷ ks) = (n < k.key) × AllKeysAbove n ks
+
+-- keys go up, so no two are the same
+abbrev pub AreKeysAscending : List Keyed → Type 0
+AreKeysAscending [] = Unit {0}
+AreKeysAscending (k ∷ ks) = AllKeysAbove k.key ks × AreKeysAscending ks

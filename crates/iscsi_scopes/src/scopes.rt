@@ -4,7 +4,7 @@ ghost use Rattle.std.specs.Prelude.{◌≡◌, ◌+◌, ◌*◌, ◌≤◌, [], 
 ghost use Rattle.iscsi_slots.specs.Slots.{times};
 ghost use Rattle.iscsi_lines.specs.Lines.{due_in, owes};
 ghost use Rattle.iscsi_lines.specs.Settling.{IsLess, may_stand};
-ghost use Rattle.iscsi_scopes.specs.Scopes.{entered, item_of, left, scoped, slots_of, times_over};
+ghost use Rattle.iscsi_scopes.specs.Scopes.{AreKeysAscending, entered, item_of, left, scoped, slots_of, times_over};
 
 use crate::slot_lines::SlotLines;
 use iscsi_lines::{Item, Owing};
@@ -54,6 +54,15 @@ impl Scopes {
             keys: Tags::with_room(alloc, room)?,
             lines: SlotLines::with_room(alloc, room, room)?,
         })
+    }
+
+    /// What holds of all lines by key: keys go up. It does nothing.
+    #[inline(always)]
+    pub fn known(&self)
+        ensures { AreKeysAscending self.now.lines }
+    {
+        self.keys.known();
+        let _lines = &self.lines;
     }
 
     /// Puts a slot, which stands in no line, behind all that stands in the line of a key.
