@@ -2,3 +2,5 @@ pub mod StandLemmas
 pub mod LaneLemmas
 pub mod OpeningLemmas
 pub mod DueLemmas
+pub mod MirrorLemmas
+pub mod StepLemmas

@@ -8,6 +8,7 @@ use Rattle.iscsi_outbox_state.specs.declared.lane.Aim.{Aim}
 use Rattle.iscsi_outbox_state.specs.declared.lane.Standing.{Standing}
 use Rattle.iscsi_outbox_state.specs.declared.lane.Standing.TheVariants.{Left as IsLeft, Undue as IsUndue}
 use Rattle.iscsi_outbox_state.specs.Lane.{aims_at, is_same_aim}
+use Rattle.iscsi_scopes.specs.Scopes.{Scoped, slots_of}
 use Rattle.iscsi_lane.specs.Standings.{at}
 
 -- what stands there, as an item of a line
@@ -31,3 +32,8 @@ blocks conn i = is_answer i || holds_item conn i
 abbrev pub AreItems : List Standing → List Item → List ℕ → Type 0
 AreItems xs items [] = Unit {0}
 AreItems xs items (s ∷ slots) = (slice_index_or items s BLANK ≡ as_item (at xs s)) × AreItems xs items slots
+
+-- lines by key follow the lane: that of each key has, in the order of the log, what stands in the line of its aim
+pub record Mirrors (aim : ℕ → Aim) (scopes : Scoped) (xs : List Standing) (order : List ℕ) : Type 0 where
+  pub lines : (key : ℕ) → slots_of key scopes.lines ≡ line_of (aim key) xs order
+  pub items : (key : ℕ) → AreItems xs scopes.items (line_of (aim key) xs order)
