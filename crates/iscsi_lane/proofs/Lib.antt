@@ -4,3 +4,4 @@ pub mod OpeningLemmas
 pub mod DueLemmas
 pub mod MirrorLemmas
 pub mod StepLemmas
+pub mod ToldLemmas

@@ -17,13 +17,13 @@ use Rattle.iscsi_lane.specs.Scoping.{AreItems, Mirrors, as_item, line_of, stands
 -- ---- the line of an aim
 
 module _ (aim : Aim) (xs : List Standing) where
-  line_first : (s : ℕ) (slots : List ℕ) → stands_in aim (at xs s) ≡ true → line_of aim xs (s ∷ slots) ≡ s ∷ line_of aim xs slots
+  pub line_first : (s : ℕ) (slots : List ℕ) → stands_in aim (at xs s) ≡ true → line_of aim xs (s ∷ slots) ≡ s ∷ line_of aim xs slots
   line_first s slots on = ap (λ b. cond b (s ∷ line_of aim xs slots) (line_of aim xs slots)) on
 
   line_later : (s : ℕ) (slots : List ℕ) → stands_in aim (at xs s) ≡ false → line_of aim xs (s ∷ slots) ≡ line_of aim xs slots
   line_later s slots off = ap (λ b. cond b (s ∷ line_of aim xs slots) (line_of aim xs slots)) off
 
-  line_append : (slots more : List ℕ) → line_of aim xs (slots ++ more) ≡ line_of aim xs slots ++ line_of aim xs more
+  pub line_append : (slots more : List ℕ) → line_of aim xs (slots ++ more) ≡ line_of aim xs slots ++ line_of aim xs more
   line_append [] more = refl
   line_append (s ∷ slots) more = ⊎_elim
       (λ on. line_first s (slots ++ more) on ∙ ap (λ r. s ∷ r) (line_append slots more) ∙ sym (ap (λ r. r ++ line_of aim xs more) (line_first s slots on)))

@@ -1,13 +1,14 @@
 -- Which of what stands in the lane stands in the line of an aim; so which answer is due is told by its line. For private
 -- contracts alone.
-use Rattle.std.specs.Prelude.{◌≡◌, ℕ, ◌||◌, Bool, List, [], ◌∷◌, filter, slice_index_or}
+use Rattle.std.specs.Prelude.{◌≡◌, ℕ, ◌==◌, ◌||◌, ◌&&◌, not, Bool, true, false, List, [], ◌∷◌, filter, Option, Some, None, slice_index_or}
 use Rattle.iscsi_lines.specs.declared.item.Item.{Item}
 use Rattle.iscsi_lines.specs.declared.item.Item.TheVariants.{Command, Answer}
-use Rattle.iscsi_lines.specs.Lines.{BLANK, holds_back as holds_item, is_answer}
+use Rattle.iscsi_lines.specs.Lines.{BLANK, due_in, holds_back as holds_item, is_answer}
 use Rattle.iscsi_outbox_state.specs.declared.lane.Aim.{Aim}
+use Rattle.iscsi_outbox_state.specs.declared.lane.Aim.TheVariants.{Tag, Unit as AtUnit}
 use Rattle.iscsi_outbox_state.specs.declared.lane.Standing.{Standing}
 use Rattle.iscsi_outbox_state.specs.declared.lane.Standing.TheVariants.{Left as IsLeft, Undue as IsUndue}
-use Rattle.iscsi_outbox_state.specs.Lane.{aims_at, is_same_aim}
+use Rattle.iscsi_outbox_state.specs.Lane.{aims_at, is_of_logout, is_same_aim}
 use Rattle.iscsi_scopes.specs.Scopes.{Scoped, slots_of}
 use Rattle.iscsi_lane.specs.Standings.{at}
 
@@ -37,3 +38,31 @@ AreItems xs items (s ∷ slots) = (slice_index_or items s BLANK ≡ as_item (at 
 pub record Mirrors (aim : ℕ → Aim) (scopes : Scoped) (xs : List Standing) (order : List ℕ) : Type 0 where
   pub lines : (key : ℕ) → slots_of key scopes.lines ≡ line_of (aim key) xs order
   pub items : (key : ℕ) → AreItems xs scopes.items (line_of (aim key) xs order)
+
+-- ---- which answers the lines tell to be due
+
+-- the answer of an aim that its line tells to be due
+abbrev pub due_of : Scoped → Scoped → Aim → Option ℕ
+due_of units tags (AtUnit unit) = due_in units.items (slots_of unit units.lines)
+due_of units tags (Tag tag) = due_in tags.items (slots_of tag tags.lines)
+due_of units tags _ = None
+
+abbrev pub is_it : ℕ → Option ℕ → Bool
+is_it s None = false
+is_it s (Some x) = x == s
+
+abbrev pub told_of : Scoped → Scoped → ℕ → Standing → Bool
+told_of units tags s (IsLeft c) = false
+told_of units tags s (IsUndue a) = not a.uncleared && is_it s (due_of units tags a.aim)
+
+abbrev pub told : Scoped → Scoped → List Standing → ℕ → Bool
+told units tags xs s = told_of units tags s (at xs s)
+
+-- no answer is that of a Logout
+abbrev pub IsAbort : Standing → Type 0
+IsAbort (IsLeft c) = Unit {0}
+IsAbort (IsUndue a) = (is_of_logout a.aim ≡ false) × (a.ends ≡ false)
+
+abbrev pub AreAborts : List Standing → List ℕ → Type 0
+AreAborts xs [] = Unit {0}
+AreAborts xs (s ∷ slots) = IsAbort (at xs s) × AreAborts xs slots
