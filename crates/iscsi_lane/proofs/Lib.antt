@@ -5,3 +5,4 @@ pub mod DueLemmas
 pub mod MirrorLemmas
 pub mod StepLemmas
 pub mod ToldLemmas
+pub mod TurnLemmas
