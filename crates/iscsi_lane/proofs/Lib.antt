@@ -6,3 +6,4 @@ pub mod MirrorLemmas
 pub mod StepLemmas
 pub mod ToldLemmas
 pub mod TurnLemmas
+pub mod OrderLemmas

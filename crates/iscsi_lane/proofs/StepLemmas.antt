@@ -1,8 +1,8 @@
 -- Which answer of a line is due, as one comes, owes less, or goes: one that is due stays so.
-use Rattle.std.proofs.Common.{◌≡◌, ◌≢◌, ℕ, ◌+◌, ◌<◌, ◌≤◌, ◌==◌, ◌||◌, cond, Bool, true, false, List, [], ◌∷◌, ◌++◌, length, filter, get_or, set, take, drop, Option, Some, None, refl, ap, sym, subst, ◌∙◌, arith, ⊎_elim, append_assoc, eq-eqb, ne_eqb}
+use Rattle.std.proofs.Common.{◌≡◌, ◌≢◌, ℕ, ◌<◌, ◌≤◌, ◌==◌, ◌||◌, cond, Bool, true, false, List, [], ◌∷◌, ◌++◌, length, filter, get_or, set, Option, Some, None, refl, ap, sym, ◌∙◌, arith, ⊎_elim, eq-eqb, ne_eqb}
 use Rattle.std.specs.List.{insert, list_any}
 use Rattle.std.proofs.lemmas.Bool.{cases_Bool, cases_eq, false≢true, or_from, or_parts}
-use Rattle.std.proofs.lemmas.List.{append-nil, get_or-set_same, get_or-set_other}
+use Rattle.std.proofs.lemmas.List.{get_or-set_same, get_or-set_other}
 use Rattle.iscsi_slots.specs.Slots.{times}
 use Rattle.iscsi_slots.proofs.SlotLemmas.{times_append}
 use Rattle.iscsi_lists.specs.Lists.{without}
@@ -140,7 +140,7 @@ module _ (items : List Item) (line : List ℕ) (x s : ℕ) (once : times x line 
 
 -- ---- one more of those that are due, in the order of the log
 
-abbrev or_it : (ℕ → Bool) → ℕ → ℕ → Bool
+abbrev pub or_it : (ℕ → Bool) → ℕ → ℕ → Bool
 or_it told s t = told t || t == s
 
 or_none : (b : Bool) → (b || false) ≡ b
@@ -168,7 +168,7 @@ module _ (told : ℕ → Bool) (s : ℕ) where
   not_told : (back : List ℕ) → told s ≡ false → filter told (s ∷ back) ≡ filter told back
   not_told back off = ap (λ b. cond b (s ∷ filter told back) (filter told back)) off
 
-  filter_both : (test : ℕ → Bool) (xs ys : List ℕ) → filter test (xs ++ ys) ≡ filter test xs ++ filter test ys
+  pub filter_both : (test : ℕ → Bool) (xs ys : List ℕ) → filter test (xs ++ ys) ≡ filter test xs ++ filter test ys
   filter_both test [] ys = refl
   filter_both test (x ∷ xs) ys = elim (test x) as (λ b. cond b (x ∷ filter test (xs ++ ys)) (filter test (xs ++ ys)) ≡ cond b (x ∷ filter test xs) (filter test xs) ++ filter test ys) [
     | true ↦ ap (λ r. x ∷ r) (filter_both test xs ys)

@@ -1,10 +1,9 @@
 -- Which answers the lines tell to be due, as one comes, owes less, or goes.
-use Rattle.std.proofs.Common.{◌≡◌, ◌≢◌, ℕ, ◌+◌, ◌<◌, ◌≤◌, ◌==◌, ◌||◌, ◌&&◌, not, cond, Bool, true, false, List, [], ◌∷◌, ◌++◌, length, filter, get_or, set, Option, Some, None, refl, ap, sym, subst, ◌∙◌, arith, ⊎_elim, eq-eqb, ne_eqb}
+use Rattle.std.proofs.Common.{◌≡◌, ◌≢◌, ℕ, ◌<◌, ◌≤◌, ◌&&◌, not, cond, Bool, true, false, List, [], ◌∷◌, ◌++◌, length, filter, get_or, set, Option, Some, None, refl, ap, sym, ◌∙◌, arith, ⊎_elim, eq-eqb}
 use Rattle.std.proofs.lemmas.Bool.{cases_Bool, cases_eq, eqb-true, false≢true, false_from_ne_true, true≢false}
 use Rattle.std.proofs.lemmas.List.{append-nil, get_or-set_same, get_or-set_other}
 use Rattle.iscsi_slots.specs.Slots.{times}
-use Rattle.iscsi_lists.specs.Lists.{without}
-use Rattle.iscsi_lists.proofs.WithoutLemmas.{times_same, without_none}
+use Rattle.iscsi_lists.proofs.WithoutLemmas.{times_same}
 use Rattle.iscsi_lines.specs.declared.item.Item.{Item}
 use Rattle.iscsi_lines.specs.Lines.{BLANK, due_in, is_answer}
 use Rattle.iscsi_outbox_state.specs.declared.lane.Aim.{Aim}
@@ -14,7 +13,7 @@ use Rattle.iscsi_outbox_state.specs.declared.lane.Standing.TheVariants.{Left as 
 use Rattle.iscsi_scopes.specs.Scopes.{AreKeysAscending, Scoped, entered, left, scoped, slots_of}
 use Rattle.iscsi_scopes.proofs.FacetLemmas.{entered_here, entered_other, left_here, left_other}
 use Rattle.iscsi_lane.specs.Standings.{NOBODY, at}
-use Rattle.iscsi_lane.specs.Scoping.{Mirrors, as_item, blocks, due_of, is_it, line_of, stands_in, told, told_of}
+use Rattle.iscsi_lane.specs.Scoping.{Mirrors, blocks, due_of, is_it, told, told_of}
 use Rattle.iscsi_lane.proofs.MirrorLemmas.{line_few}
 use Rattle.iscsi_lane.proofs.StepLemmas.{due_before, due_command, due_fresh, due_gone, due_less, due_stays}
 

@@ -1,3 +1,4 @@
 pub mod Standings
 pub mod Scoping
+pub mod Times
 pub mod Rows

@@ -1,6 +1,6 @@
 -- Which of what stands in the lane stands in the line of an aim; so which answer is due is told by its line. For private
 -- contracts alone.
-use Rattle.std.specs.Prelude.{◌≡◌, ℕ, ◌==◌, ◌||◌, ◌&&◌, not, Bool, true, false, List, [], ◌∷◌, filter, Option, Some, None, slice_index_or}
+use Rattle.std.specs.Prelude.{◌≡◌, ℕ, ◌==◌, ◌||◌, ◌&&◌, not, Bool, false, List, [], ◌∷◌, filter, Option, Some, None, slice_index_or}
 use Rattle.iscsi_lines.specs.declared.item.Item.{Item}
 use Rattle.iscsi_lines.specs.declared.item.Item.TheVariants.{Command, Answer}
 use Rattle.iscsi_lines.specs.Lines.{BLANK, due_in, holds_back as holds_item, is_answer}

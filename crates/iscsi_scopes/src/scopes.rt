@@ -1,6 +1,6 @@
 //! Lines by key.
 
-ghost use Rattle.std.specs.Prelude.{◌≡◌, ◌+◌, ◌*◌, ◌≤◌, [], true, slice_set, IfOk};
+ghost use Rattle.std.specs.Prelude.{◌≡◌, ◌+◌, ◌*◌, ◌≤◌, [], true, length, slice_set, IfOk};
 ghost use Rattle.iscsi_slots.specs.Slots.{times};
 ghost use Rattle.iscsi_lines.specs.Lines.{due_in, owes};
 ghost use Rattle.iscsi_lines.specs.Settling.{IsLess, may_stand};
@@ -56,13 +56,14 @@ impl Scopes {
         })
     }
 
-    /// What holds of all lines by key: keys go up. It does nothing.
+    /// What holds of all lines by key: keys go up, and each slot has an item. It does nothing.
     #[inline(always)]
     pub fn known(&self)
-        ensures { AreKeysAscending self.now.lines }
+        ensures ascending { AreKeysAscending self.now.lines }
+        ensures items { length self.now.items ≡ self.now.room + 1 }
     {
         self.keys.known();
-        let _lines = &self.lines;
+        self.lines.known();
     }
 
     /// Puts a slot, which stands in no line, behind all that stands in the line of a key.
