@@ -7,3 +7,4 @@ pub mod StepLemmas
 pub mod ToldLemmas
 pub mod TurnLemmas
 pub mod OrderLemmas
+pub mod AfterLemmas

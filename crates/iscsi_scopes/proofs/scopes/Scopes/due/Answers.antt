@@ -1,7 +1,8 @@
 use Rattle.std.proofs.Common.{ap, sym, ◌∙◌}
 use Rattle.iscsi_lines.specs.Lines.{due_in}
 use Rattle.iscsi_scopes.specs.Scopes.{Scoped, slots_of}
-use Rattle.iscsi_scopes.proofs.KeyLemmas.{found_inside, slots_none, slots_some}
+use Rattle.iscsi_scopes.proofs.KeyLemmas.{slots_none, slots_some}
+use Rattle.iscsi_scopes.proofs.KeyCalls.{found_inside}
 use Rattle.iscsi_scopes.proofs.scopes.Scopes.due.Goals as goal
 
 pub returns-in_err-line : goal.returns-in_err-line

@@ -3,7 +3,7 @@ use Rattle.iscsi_slots.specs.Slots.{times}
 use Rattle.iscsi_lines.specs.declared.item.Item.TheVariants.{Command}
 use Rattle.iscsi_lines.specs.Settling.{IsLess}
 use Rattle.iscsi_scopes.specs.Scopes.{Scoped, item_of, scoped, shown, slots_of}
-use Rattle.iscsi_scopes.proofs.KeyLemmas.{is_some_from, line_inside, line_there, owe_keyed, owe_shown, some_line}
+use Rattle.iscsi_scopes.proofs.KeyCalls.{is_some_from, line_inside, line_there, owe_keyed, owe_shown, some_line}
 use Rattle.iscsi_scopes.proofs.scopes.Scopes.owe.Goals as goal
 
 pub unwrap-line-requires : goal.unwrap-line-requires

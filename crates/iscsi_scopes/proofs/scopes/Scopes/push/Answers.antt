@@ -1,6 +1,6 @@
 use Rattle.std.proofs.Common.{◌≡◌, ◌≤◌, set, ap, sym, subst, ◌∙◌, arith}
 use Rattle.iscsi_scopes.specs.Scopes.{Scoped, entered, scoped, shown, times_over}
-use Rattle.iscsi_scopes.proofs.KeyLemmas.{none_in, push_keyed, push_shown, room_for}
+use Rattle.iscsi_scopes.proofs.KeyCalls.{none_in, push_keyed, push_shown, room_for}
 use Rattle.iscsi_scopes.proofs.scopes.Scopes.push.Goals as goal
 
 pub enter-line-requires : goal.enter-line-requires

@@ -1,7 +1,7 @@
 use Rattle.std.proofs.Common.{◌≤◌, ap, sym, subst, ◌∙◌}
 use Rattle.iscsi_slots.specs.Slots.{times}
 use Rattle.iscsi_scopes.specs.Scopes.{Scoped, left, scoped, slots_of}
-use Rattle.iscsi_scopes.proofs.KeyLemmas.{is_some_from, line_inside, line_there, out_keyed, out_shown, some_line}
+use Rattle.iscsi_scopes.proofs.KeyCalls.{is_some_from, line_inside, line_there, out_keyed, out_shown, some_line}
 use Rattle.iscsi_scopes.proofs.scopes.Scopes.take_out.Goals as goal
 
 pub unwrap-line-requires : goal.unwrap-line-requires

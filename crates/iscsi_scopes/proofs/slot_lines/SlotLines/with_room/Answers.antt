@@ -1,5 +1,5 @@
 use Rattle.std.proofs.Common.{◌+◌, refl}
-use Rattle.iscsi_scopes.proofs.ScopeLemmas.{opening_begins, opening_goes_on}
+use Rattle.iscsi_scopes.proofs.ScopeOpening.{opening_begins, opening_goes_on}
 use Rattle.iscsi_scopes.proofs.slot_lines.SlotLines.with_room.Goals as goal
 
 pub loop-init : goal.loop-init

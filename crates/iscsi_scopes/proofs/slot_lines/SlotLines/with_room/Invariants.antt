@@ -1,4 +1,4 @@
-use Rattle.iscsi_scopes.proofs.ScopeLemmas.{IsOpening}
+use Rattle.iscsi_scopes.proofs.ScopeOpening.{IsOpening}
 use Rattle.iscsi_scopes.proofs.slot_lines.SlotLines.with_room.Given as goal
 
 -- so many slots went outside
