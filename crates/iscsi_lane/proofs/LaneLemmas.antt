@@ -7,7 +7,9 @@ use Rattle.std.proofs.lemmas.List.{get_or-set_same, get_or-set_other, length-set
 use Rattle.iscsi_slots.specs.Slots.{times}
 use Rattle.iscsi_lists.specs.Lists.{Listed, AreApart as AreSlotsApart, first_of, linked_in, times_in, without, with_last}
 use Rattle.iscsi_lists.proofs.WithoutLemmas.{without_none, times_same}
-use Rattle.iscsi_lines.proofs.MoveLemmas.{length_any, nth_without, only_there, stands_in, times_any}
+use Rattle.iscsi_lists.proofs.PlaceLemmas.{only_there, times_any}
+use Rattle.iscsi_lists.proofs.SequenceLemmas.{nth_map}
+use Rattle.iscsi_lines.proofs.MoveLemmas.{length_any, stands_in}
 use Rattle.iscsi_outbox_state.specs.declared.lane.Left.{Left}
 use Rattle.iscsi_outbox_state.specs.declared.lane.Undue.{Undue}
 use Rattle.iscsi_outbox_state.specs.declared.lane.Standing.{Standing}
@@ -25,13 +27,13 @@ module _ (s t : Listed Standing) (list slot : ℕ) (is : t ≡ record s { lists 
   pub moved_other : (k : ℕ) → k ≢ list → slots_at t k ≡ without slot (slots_at s k)
   moved_other k other =
       ap (λ (u : Listed Standing). slots_at u k) is
-      ∙ get_or-set_other others_left list k (get_or others_left list [] ++ slot ∷ []) [] other ∙ nth_without slot k s.lists
+      ∙ get_or-set_other others_left list k (get_or others_left list [] ++ slot ∷ []) [] other ∙ nth_map slot k s.lists
 
   pub moved_here : list < length s.lists → slots_at t list ≡ without slot (slots_at s list) ++ slot ∷ []
   moved_here l =
       ap (λ (u : Listed Standing). slots_at u list) is
       ∙ get_or-set_same others_left list (get_or others_left list [] ++ slot ∷ []) [] (let a = length-map s.lists (without slot) in omega (arith, a, l))
-      ∙ ap (λ q. q ++ slot ∷ []) (nth_without slot list s.lists)
+      ∙ ap (λ q. q ++ slot ∷ []) (nth_map slot list s.lists)
 
   pub moved_long : length t.lists ≡ length s.lists
   moved_long = ap (λ (u : Listed Standing). length u.lists) is ∙ length-set others_left list (get_or others_left list [] ++ slot ∷ []) ∙ length-map s.lists (without slot)

@@ -12,7 +12,9 @@ use Rattle.iscsi_lines.specs.declared.item.Item.TheVariants.{Command}
 use Rattle.iscsi_lines.specs.Lines.{BLANK, items_of, line_at, owes}
 use Rattle.iscsi_lines.specs.Settling.{AllAre, may_stand, is_ahead, IsLine, IsLineAt, IsLess, conn_at, items_at, slots_at, Moves}
 use Rattle.iscsi_lines.proofs.ItemLemmas.{items_append, items_fresh, all_append, all_set, all_without}
-use Rattle.iscsi_lines.proofs.MoveLemmas.{nth_without, times_any, only_there, stands_in}
+use Rattle.iscsi_lists.proofs.PlaceLemmas.{only_there, times_any}
+use Rattle.iscsi_lists.proofs.SequenceLemmas.{nth_map}
+use Rattle.iscsi_lines.proofs.MoveLemmas.{stands_in}
 use Rattle.iscsi_lines.proofs.SettleLemmas.{items_by}
 use Rattle.iscsi_lines.proofs.LineLemmas.{whole_at, all_less}
 use Rattle.iscsi_scopes.specs.SlotLines.{AreInLines, AreScoped, Enters, Leaves, Lessens, lined, outside_at}
@@ -71,13 +73,13 @@ module _ (s t : Listed Item) (list slot : ℕ) (is : t ≡ record s { lists = wi
   pub moved_other : (k : ℕ) → k ≢ list → slots_at t k ≡ without slot (slots_at s k)
   moved_other k other =
       ap (λ (u : Listed Item). slots_at u k) is
-      ∙ get_or-set_other others_left list k (get_or others_left list [] ++ slot ∷ []) [] other ∙ nth_without slot k s.lists
+      ∙ get_or-set_other others_left list k (get_or others_left list [] ++ slot ∷ []) [] other ∙ nth_map slot k s.lists
 
   pub moved_here : list < length s.lists → slots_at t list ≡ without slot (slots_at s list) ++ slot ∷ []
   moved_here l =
       ap (λ (u : Listed Item). slots_at u list) is
       ∙ get_or-set_same others_left list (get_or others_left list [] ++ slot ∷ []) [] (let a = length-map s.lists (without slot) in omega (arith, a, l))
-      ∙ ap (λ q. q ++ slot ∷ []) (nth_without slot list s.lists)
+      ∙ ap (λ q. q ++ slot ∷ []) (nth_map slot list s.lists)
 
   pub moved_long : length t.lists ≡ length s.lists
   moved_long = ap (λ (u : Listed Item). length u.lists) is ∙ length-set others_left list (get_or others_left list [] ++ slot ∷ []) ∙ length-map s.lists (without slot)

@@ -1,6 +1,7 @@
 -- Lines in which nothing stands yet.
 use Rattle.std.proofs.Common.{◌≡◌, ℕ, zero, suc, ◌+◌, ◌<◌, ◌≤◌, List, [], ◌∷◌, ◌++◌, length, get_or, set, refl, ap, sym, subst, ◌∙◌, arith, replicate, Some}
 use Rattle.std.proofs.lemmas.List.{get_or-set_same, get_or-set_other, length-set, length_push}
+use Rattle.iscsi_lists.proofs.PlaceLemmas.{counted_long, replicate_long}
 use Rattle.iscsi_lists.specs.Lists.{Listed, AreApart, counted, last_of, linked_in, times_in, without, with_last}
 use Rattle.iscsi_lists.proofs.SequenceLemmas.{fewer_free}
 use Rattle.iscsi_lines.specs.declared.item.Item.{Item}
@@ -48,14 +49,6 @@ opened_empty s conns room o = record {
   empty = λ k l. ap (λ q. q ++ slots_at s (length conns + k)) (o.empty k (omega (arith, l))) ∙ o.empty (length conns + k) (omega (arith, l));
   outside = o.outside;
 }
-
-counted_long : (n k : ℕ) → length (counted n k) ≡ k
-counted_long n zero = refl
-counted_long n (suc k) = ap suc (counted_long (suc n) k)
-
-replicate_long : (n : ℕ) → length (replicate {A = List ℕ} n []) ≡ n
-replicate_long zero = refl
-replicate_long (suc n) = ap suc (replicate_long n)
 
 pub opening_begins : (s : Listed Item) (lines room count : ℕ) → count ≡ lines + lines + 1 → s ≡ record { free = counted 1 room; lists = replicate count []; room = room; values = replicate (room + 1) (Answer 0) } → IsOpening s lines room 0
 opening_begins s lines room count many is = record {
