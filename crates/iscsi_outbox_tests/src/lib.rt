@@ -3,10 +3,18 @@
 #![tactic(auto)]
 
 #[cfg(test)]
+mod lane;
+#[cfg(test)]
 mod lines;
+#[cfg(test)]
+mod links;
 #[cfg(test)]
 mod ready;
 #[cfg(test)]
 mod sequence;
 #[cfg(test)]
 mod tickets;
+#[cfg(test)]
+mod tracked;
+#[cfg(test)]
+mod waits;
