@@ -99,6 +99,14 @@ impl Tracked {
         Some(*self.kept.at(place))
     }
 
+    /// Whether a command has this place.
+    pub fn has(&self, place: u32) -> bool
+        ensures { result ≡ has_place place self.now }
+    {
+        self.kept.known();
+        self.kept.holds(place)
+    }
+
     /// The command in this place.
     pub fn at(&self, place: u32) -> Command
         requires { has_place place self.now ≡ true }

@@ -168,6 +168,15 @@ impl Slots {
         }
     }
 
+    /// Time passes.
+    pub(crate) fn pass_time(&mut self)
+        requires { self.old.time < 2 ^ 64 - 1 }
+        ensures state { self.new ≡ record self.old { time = self.old.time + 1 } }
+        ensures kept { AreKept self.old → AreKept self.new }
+    {
+        self.time += 1;
+    }
+
     /// Whether something waits that stands in this list of `fence`, and entered before this time.
     pub(crate) fn is_behind(&self, kind: usize, time: u64) -> bool
         requires kept { AreKept self.now }

@@ -119,6 +119,21 @@ impl Waits {
         self.slots.pop(conn)
     }
 
+    /// When the next PDU enters.
+    pub fn time(&self) -> u64
+        ensures { result ≡ self.now.time }
+    {
+        self.slots.time
+    }
+
+    /// A PDU enters nowhere, and time passes.
+    pub fn skip(&mut self)
+        requires { self.old.time < 2 ^ 64 - 1 }
+        ensures { self.new ≡ record self.old { time = self.old.time + 1 } }
+    {
+        self.slots.pass_time();
+    }
+
     /// All that waits on a connection is dropped.
     pub fn drop_on(&mut self, conn: usize)
         requires { conn < length self.old.queues }
