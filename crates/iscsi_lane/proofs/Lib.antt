@@ -8,3 +8,4 @@ pub mod ToldLemmas
 pub mod TurnLemmas
 pub mod OrderLemmas
 pub mod AfterLemmas
+pub mod StampLemmas

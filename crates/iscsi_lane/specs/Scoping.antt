@@ -1,16 +1,22 @@
 -- Which of what stands in the lane stands in the line of an aim; so which answer is due is told by its line. For private
 -- contracts alone.
 use Rattle.std.specs.Prelude.{◌≡◌, ℕ, ◌==◌, ◌||◌, ◌&&◌, not, Bool, false, List, [], ◌∷◌, filter, Option, Some, None, slice_index_or}
+use Rattle.iscsi_lines.specs.declared.item.Owing.{Owing}
 use Rattle.iscsi_lines.specs.declared.item.Item.{Item}
 use Rattle.iscsi_lines.specs.declared.item.Item.TheVariants.{Command, Answer}
 use Rattle.iscsi_lines.specs.Lines.{BLANK, due_in, holds_back as holds_item, is_answer}
 use Rattle.iscsi_outbox_state.specs.declared.lane.Aim.{Aim}
 use Rattle.iscsi_outbox_state.specs.declared.lane.Aim.TheVariants.{Tag, Unit as AtUnit}
+use Rattle.iscsi_outbox_state.specs.declared.lane.Left.{Left}
 use Rattle.iscsi_outbox_state.specs.declared.lane.Standing.{Standing}
 use Rattle.iscsi_outbox_state.specs.declared.lane.Standing.TheVariants.{Left as IsLeft, Undue as IsUndue}
 use Rattle.iscsi_outbox_state.specs.Lane.{aims_at, is_of_logout, is_same_aim}
 use Rattle.iscsi_scopes.specs.Scopes.{Scoped, slots_of}
 use Rattle.iscsi_lane.specs.Standings.{at}
+
+-- what a command owes
+abbrev pub owing_of : Left → Owing
+owing_of c = record { conn = c.conn; running = c.running; under_way = c.under_way }
 
 -- what stands there, as an item of a line
 abbrev pub as_item : Standing → Item

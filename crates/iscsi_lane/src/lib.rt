@@ -4,5 +4,6 @@
 mod due;
 mod lane;
 mod settling;
+mod stamps;
 
 pub use lane::Lane;

@@ -3,10 +3,16 @@
 ghost use Rattle.std.specs.Prelude.{◌≡◌, ◌≤◌, false, true, if◌then◌else◌, length, map, slice_set};
 ghost use Rattle.iscsi_lists.specs.Lists.{times_in, with_last, without};
 ghost use Rattle.iscsi_outbox_state.specs.Lane.{owes};
+ghost use Rattle.iscsi_slots.specs.Slots.{times};
+ghost use Rattle.iscsi_lines.specs.Settling.{IsLess};
+ghost use Rattle.iscsi_scopes.specs.Scopes.{item_of, left, scoped, slots_of};
 ghost use Rattle.iscsi_lane.specs.Standings.{AreStanding, Found};
+ghost use Rattle.iscsi_lane.specs.Scoping.{as_item, owing_of};
 
+use iscsi_lines::Owing;
 use iscsi_lists::Lists;
 use iscsi_outbox_state::{Left, Standing};
+use iscsi_scopes::Scopes;
 
 /// The list of the places of commands that don't stand in the lane.
 pub(crate) const AWAY: usize = 0;
@@ -62,4 +68,26 @@ pub(crate) fn lessen(log: &mut Lists<Standing>, left: Left) -> usize
     }
     log.move_to_back(left.command, AWAY);
     1
+}
+
+/// A command of the line of a key owes less there, or leaves it.
+pub(crate) fn follow(scopes: &mut Scopes, key: u32, command: Left)
+    requires there { 1 ≤ times command.command (slots_of key scopes.old.lines) }
+    requires less { IsLess (item_of scopes.old command.command) (owing_of command) }
+    ensures kept { owes command ≡ true → scopes.new ≡ scoped scopes.old.lines
+        (slice_set scopes.old.items command.command (as_item (Standing.Left command))) scopes.old.room }
+    ensures gone { owes command ≡ false → scopes.new ≡
+        scoped (left key command.command scopes.old.lines) scopes.old.items scopes.old.room }
+{
+    let slot = command.command;
+    if command.running || command.under_way {
+        let owing = Owing {
+            conn: command.conn,
+            running: command.running,
+            under_way: command.under_way,
+        };
+        scopes.owe(key, slot, owing);
+    } else {
+        scopes.take_out(key, slot);
+    }
 }

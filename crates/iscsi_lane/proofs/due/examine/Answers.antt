@@ -1,12 +1,12 @@
-use Rattle.std.proofs.Common.{◌≡◌, ◌∙◌, ◌+◌, ◌<◌, ◌≤◌, ℕ, List, Some, None, true, false, not, ap, sym, subst, length, filter, get_or, arith, refl}
+use Rattle.std.proofs.Common.{◌≡◌, ◌∙◌, ◌<◌, ◌≤◌, ℕ, List, true, not, ap, sym, subst, length, get_or, arith}
 use Rattle.std.proofs.lemmas.Bool.{false≢true}
 use Rattle.iscsi_slots.specs.Places.{AreAscending}
 use Rattle.iscsi_slots.specs.Slots.{times}
 use Rattle.iscsi_slots.proofs.SlotLemmas.{times_at}
 use Rattle.iscsi_lane.specs.Standings.{NOBODY, at, slots_at}
-use Rattle.iscsi_lane.specs.Times.{InOrder, has, is_cleared, time_of}
+use Rattle.iscsi_lane.specs.Times.{has, is_cleared, time_of}
 use Rattle.iscsi_lane.proofs.AfterLemmas.{due_there}
-use Rattle.iscsi_lane.proofs.OrderLemmas.{adds_none, comes, filter_few, none_cleared, none_due, not_yet, room_for, stays, up_filter}
+use Rattle.iscsi_lane.proofs.OrderLemmas.{comes, filter_few, not_yet, room_for, stays, up_filter}
 use Rattle.iscsi_lane.proofs.due.examine.Goals as goal
 
 pub at-requires : goal.at-requires
