@@ -9,3 +9,4 @@ pub mod TurnLemmas
 pub mod OrderLemmas
 pub mod AfterLemmas
 pub mod StampLemmas
+pub mod FollowLemmas

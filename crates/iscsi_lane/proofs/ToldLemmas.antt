@@ -26,7 +26,7 @@ is_same s None on = absurd (false≢true on)
 is_same s (Some x) on = ap Some (eqb-true x s on)
 
 -- the item of a slot of a line
-item_at : (xs : List Standing) (items : List Item) (s : ℕ) (slots : List ℕ) → 1 ≤ times s slots → AreItems xs items slots → get_or items s BLANK ≡ as_item (at xs s)
+pub item_at : (xs : List Standing) (items : List Item) (s : ℕ) (slots : List ℕ) → 1 ≤ times s slots → AreItems xs items slots → get_or items s BLANK ≡ as_item (at xs s)
 item_at xs items s [] there are = absurd (omega (arith, there))
 item_at xs items s (y ∷ ys) there are = ⊎_elim
     (λ (same : y ≡ s). subst (λ k. get_or items k BLANK ≡ as_item (at xs k)) same are.0)

@@ -134,7 +134,7 @@ same_told units tags units' tags' t same (IsLeft c) = refl
 same_told units tags units' tags' t same (IsUndue a) = ap (λ b. not a.uncleared && b) (same_by_aim units tags units' tags' t same a.aim)
 
 module _ (units tags units' tags' : Scoped) (xs : List Standing) (order : List ℕ) (s : ℕ) (x : Standing) (l : s < length xs) (none : times s order ≡ 0) (same : (t : ℕ) → t ≢ s → TellSame units tags units' tags' t) where
-  told_beside : (t : ℕ) → 1 ≤ times t order → told units' tags' (set xs s x) t ≡ told units tags xs t
+  pub told_beside : (t : ℕ) → 1 ≤ times t order → told units' tags' (set xs s x) t ≡ told units tags xs t
   told_beside t there =
       let other : t ≢ s = λ e. (let a = ap (λ k. times k order) e in omega (arith, a, there, none)) in
       ap (told_of units' tags' t) (get_or-set_other xs s t x NOBODY other) ∙ same_told units tags units' tags' t (same t other) (at xs t)

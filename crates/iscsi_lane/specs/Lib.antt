@@ -1,4 +1,5 @@
 pub mod Standings
 pub mod Scoping
 pub mod Times
+pub mod Following
 pub mod Rows

@@ -1,0 +1,24 @@
+-- How lines by key, numbers and the answers that are due follow the lane. For private contracts alone.
+use Rattle.std.specs.Prelude.{◌≡◌, ℕ, ◌+◌, List, filter, length}
+use Rattle.iscsi_lists.specs.Lists.{Listed}
+use Rattle.iscsi_outbox_state.specs.declared.lane.Aim.TheVariants.{Tag, Unit as AtUnit}
+use Rattle.iscsi_outbox_state.specs.declared.lane.Standing.{Standing}
+use Rattle.iscsi_scopes.specs.Scopes.{Scoped}
+use Rattle.iscsi_lane.specs.Standings.{slots_at}
+use Rattle.iscsi_lane.specs.Scoping.{AreAborts, Mirrors, told}
+use Rattle.iscsi_lane.specs.Times.{AllUnder, IsUp}
+
+pub record Follows (units tags : Scoped) (xs : List Standing) (order ts due : List ℕ) (next : ℕ) : Type 0 where
+  pub of_units : Mirrors AtUnit units xs order
+  pub of_tags : Mirrors Tag tags xs order
+  pub aborts : AreAborts xs order
+  pub up : IsUp ts order
+  pub under : AllUnder ts next order
+  pub is_due : due ≡ filter (told units tags xs) order
+
+-- and what has room for all slots
+pub record FollowsLane (log : Listed Standing) (units tags : Scoped) (ts due : List ℕ) (next : ℕ) : Type 0 where
+  pub follows : Follows units tags log.values (slots_at log 2) ts due next
+  pub long : length ts ≡ log.room + 1
+  pub units_room : units.room ≡ log.room
+  pub tags_room : tags.room ≡ log.room
