@@ -28,7 +28,7 @@ use Rattle.iscsi_lane.proofs.OrderLemmas.{filter_few, filter_none, has_filter, h
 use Rattle.iscsi_lane.proofs.AfterLemmas.{due_stands, told_then}
 use Rattle.iscsi_lane.proofs.StampLemmas.{under_comes, under_goes, up_comes, up_goes}
 
-or_none : (b : Bool) → (b || false) ≡ b
+pub or_none : (b : Bool) → (b || false) ≡ b
 or_none true = refl
 or_none false = refl
 
@@ -36,11 +36,11 @@ or_same : (b : Bool) → (b || b) ≡ b
 or_same true = refl
 or_same false = refl
 
-and_none : (b : Bool) → (b && false) ≡ false
+pub and_none : (b : Bool) → (b && false) ≡ false
 and_none true = refl
 and_none false = refl
 
-is_same : (t : ℕ) (o : Option ℕ) → is_it t o ≡ true → o ≡ Some t
+pub is_same : (t : ℕ) (o : Option ℕ) → is_it t o ≡ true → o ≡ Some t
 is_same t None on = absurd (false≢true on)
 is_same t (Some x) on = ap Some (eqb-true x t on)
 
@@ -54,7 +54,7 @@ aborts_push : (xs : List Standing) (s : ℕ) (slots : List ℕ) → AreAborts xs
 aborts_push xs s [] all it = (it, tt)
 aborts_push xs s (y ∷ ys) all it = (all.0, aborts_push xs s ys all.1 it)
 
-aborts_set : (xs : List Standing) (s : ℕ) (x : Standing) (slots : List ℕ) → s < length xs → IsAbort x → AreAborts xs slots → AreAborts (set xs s x) slots
+pub aborts_set : (xs : List Standing) (s : ℕ) (x : Standing) (slots : List ℕ) → s < length xs → IsAbort x → AreAborts xs slots → AreAborts (set xs s x) slots
 aborts_set xs s x [] l it all = tt
 aborts_set xs s x (y ∷ ys) l it all = (
   ⊎_elim
@@ -64,14 +64,14 @@ aborts_set xs s x (y ∷ ys) l it all = (
   aborts_set xs s x ys l it all.1,
 )
 
-aborts_without : (xs : List Standing) (s : ℕ) (slots : List ℕ) → AreAborts xs slots → AreAborts xs (without s slots)
+pub aborts_without : (xs : List Standing) (s : ℕ) (slots : List ℕ) → AreAborts xs slots → AreAborts xs (without s slots)
 aborts_without xs s [] all = tt
 aborts_without xs s (y ∷ ys) all = ⊎_elim
     (λ same. subst (AreAborts xs) (sym (without_same s y ys same)) (aborts_without xs s ys all.1))
     (λ other. subst (AreAborts xs) (sym (without_other s y ys other)) (all.0, aborts_without xs s ys all.1))
     (cases_eq y s)
 
-abort_at : (xs : List Standing) (t : ℕ) (slots : List ℕ) → 1 ≤ times t slots → AreAborts xs slots → IsAbort (at xs t)
+pub abort_at : (xs : List Standing) (t : ℕ) (slots : List ℕ) → 1 ≤ times t slots → AreAborts xs slots → IsAbort (at xs t)
 abort_at xs t [] there all = absurd (omega (arith, there))
 abort_at xs t (y ∷ ys) there all = ⊎_elim
     (λ (same : y ≡ t). subst (λ k. IsAbort (at xs k)) same all.0)
@@ -80,7 +80,7 @@ abort_at xs t (y ∷ ys) there all = ⊎_elim
 
 -- ---- those that are due
 
-has_is : (test : ℕ → Bool) (order due : List ℕ) → due ≡ filter test order → (t : ℕ) → 1 ≤ times t order → has due t ≡ test t
+pub has_is : (test : ℕ → Bool) (order due : List ℕ) → due ≡ filter test order → (t : ℕ) → 1 ≤ times t order → has due t ≡ test t
 has_is test order due e t there = ap (λ d. has d t) e ∙ has_filter test order t there
 
 has_not : (test : ℕ → Bool) (order due : List ℕ) → due ≡ filter test order → (t : ℕ) → times t order ≡ 0 → has due t ≡ false
@@ -95,7 +95,7 @@ in_order_push test order due e s none =
     ∙ ap (λ b. filter (has due) order ++ cond b (s ∷ []) []) (sym (has_not test order due e s none))
     ∙ sym (filter_both (has due) s (has due) order (s ∷ []))
 
-filter_without : (test : ℕ → Bool) (s : ℕ) (slots : List ℕ) → filter test (without s slots) ≡ without s (filter test slots)
+pub filter_without : (test : ℕ → Bool) (s : ℕ) (slots : List ℕ) → filter test (without s slots) ≡ without s (filter test slots)
 filter_without test s [] = refl
 filter_without test s (y ∷ ys) =
     let rest = filter_without test s ys in
@@ -113,10 +113,10 @@ filter_without test s (y ∷ ys) =
     (cases_eq y s)
 
 -- what isn't due is none of them
-due_without : (test : ℕ → Bool) (order due : List ℕ) → due ≡ filter test order → (s : ℕ) → test s ≡ false → due ≡ filter test (without s order)
+pub due_without : (test : ℕ → Bool) (order due : List ℕ) → due ≡ filter test order → (s : ℕ) → test s ≡ false → due ≡ filter test (without s order)
 due_without test order due e s off = e ∙ sym (filter_without test s order ∙ without_none s (filter test order) (filter_none s test order off))
 
-in_more : (t s : ℕ) (slots : List ℕ) → 1 ≤ times t (without s slots) → 1 ≤ times t slots
+pub in_more : (t s : ℕ) (slots : List ℕ) → 1 ≤ times t (without s slots) → 1 ≤ times t slots
 in_more t s slots there = ⊎_elim
     (λ (same : t ≡ s). let a = ap (λ k. times k (without s slots)) same in let b = times_without s slots in absurd (omega (arith, a, b, there)))
     (λ other. let a = times_without_other s t slots other in omega (arith, a, there))
@@ -132,7 +132,7 @@ module _ (units tags : Scoped) (t key : ℕ) where
   unit_same Session on = absurd (false≢true on)
   unit_same Nothing on = absurd (false≢true on)
 
-  unit_gain : (x : Standing) → stands_in (AtUnit key) x ≡ true → (is_cleared x && is_it t (due_at units key)) ≡ told_of units tags t x
+  pub unit_gain : (x : Standing) → stands_in (AtUnit key) x ≡ true → (is_cleared x && is_it t (due_at units key)) ≡ told_of units tags t x
   unit_gain (IsLeft c) on = refl
   unit_gain (IsUndue a) on = ap (λ b. not a.uncleared && b) (unit_same a.aim on)
 
@@ -151,7 +151,7 @@ module _ (units tags : Scoped) (t key : ℕ) where
   tag_same Session on = absurd (false≢true on)
   tag_same Nothing on = absurd (false≢true on)
 
-  tag_gain : (x : Standing) → stands_in (Tag key) x ≡ true → (is_cleared x && is_it t (due_at tags key)) ≡ told_of units tags t x
+  pub tag_gain : (x : Standing) → stands_in (Tag key) x ≡ true → (is_cleared x && is_it t (due_at tags key)) ≡ told_of units tags t x
   tag_gain (IsLeft c) on = refl
   tag_gain (IsUndue a) on = ap (λ b. not a.uncleared && b) (tag_same a.aim on)
 

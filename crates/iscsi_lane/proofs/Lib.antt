@@ -10,3 +10,4 @@ pub mod OrderLemmas
 pub mod AfterLemmas
 pub mod StampLemmas
 pub mod FollowLemmas
+pub mod LessLemmas
