@@ -165,9 +165,9 @@ module _ (units tags : Scoped) (t key : ℕ) where
 
 -- ---- one comes
 
-module _ (units tags : Scoped) (xs : List Standing) (order ts due : List ℕ) (next : ℕ) (f : Follows units tags xs order ts due next)
-    (up_u : AreKeysAscending units.lines) (up_t : AreKeysAscending tags.lines) (s n : ℕ) (ts' : List ℕ) (long : s < length ts') (l : s < length xs)
-    (none : times s order ≡ 0) (in_u : s < length units.items) (in_t : s < length tags.items) (up' : IsUp ts' order) (under' : AllUnder ts' n order) where
+module _ (units tags : Scoped) (xs : List Standing) (order due : List ℕ) (f : Follows units tags xs order due)
+    (up_u : AreKeysAscending units.lines) (up_t : AreKeysAscending tags.lines) (s : ℕ) (l : s < length xs)
+    (none : times s order ≡ 0) (in_u : s < length units.items) (in_t : s < length tags.items) where
   -- a command, in two lines
 
   module _ (c : Left) where
@@ -183,13 +183,11 @@ module _ (units tags : Scoped) (xs : List Standing) (order ts due : List ℕ) (n
       ap (is_it t) (command_comes Tag tags xs order f.of_tags up_t c.tag s (as_item (IsLeft c)) none in_t refl key),
     )
 
-    pub left_comes : Follows units_left tags_left (set xs s (IsLeft c)) (order ++ s ∷ []) (set ts' s n) due (n + 1)
+    pub left_comes : Follows units_left tags_left (set xs s (IsLeft c)) (order ++ s ∷ []) due
     left_comes = record {
       of_units = comes_in AtUnit units xs order f.of_units s (IsLeft c) l none c.unit (λ k. refl) up_u in_u;
       of_tags = comes_in Tag tags xs order f.of_tags s (IsLeft c) l none c.tag (λ k. refl) up_t in_t;
       aborts = aborts_push (set xs s (IsLeft c)) s order (aborts_fresh xs s (IsLeft c) order none f.aborts) (subst IsAbort (sym (get_or-set_same xs s (IsLeft c) NOBODY l)) tt);
-      up = up_comes ts' s n long order none under' up';
-      under = under_comes ts' s n long order none under';
       is_due = f.is_due ∙ sym (told_left units tags units_left tags_left xs order s (IsLeft c) l none left_same refl);
     }
 
@@ -211,7 +209,7 @@ module _ (units tags : Scoped) (xs : List Standing) (order ts due : List ℕ) (n
     unit_tells : (t : ℕ) → t ≢ s → TellSame units tags units_with tags t
     unit_tells t other k = (answer_comes AtUnit units xs order f.of_units up_u key s (as_item (IsUndue a)) none in_u t k other, refl)
 
-    unit_line : Mirrors AtUnit units_with with_unit (order ++ s ∷ [])
+    pub unit_line : Mirrors AtUnit units_with with_unit (order ++ s ∷ [])
     unit_line = comes_in AtUnit units xs order f.of_units s (IsUndue a) l none key unit_here up_u in_u
 
     unit_at : at with_unit s ≡ IsUndue a
@@ -232,13 +230,11 @@ module _ (units tags : Scoped) (xs : List Standing) (order ts due : List ℕ) (n
         (has_is (told units tags xs) order due f.is_due t before ∙ sym (told_beside units tags units_with tags xs order s (IsUndue a) l none unit_tells t before)))
         (cases_eq t s)
 
-    pub unit_comes : (due' : List ℕ) → due' ≡ filter (λ t. has due t || gains units_with key with_unit t) (order ++ s ∷ []) → Follows units_with tags with_unit (order ++ s ∷ []) (set ts' s n) due' (n + 1)
+    pub unit_comes : (due' : List ℕ) → due' ≡ filter (λ t. has due t || gains units_with key with_unit t) (order ++ s ∷ []) → Follows units_with tags with_unit (order ++ s ∷ []) due'
     unit_comes due' e = record {
       of_units = unit_line;
       of_tags = comes_beside Tag tags xs order f.of_tags s (IsUndue a) l none unit_beside;
       aborts = aborts_push with_unit s order (aborts_fresh xs s (IsUndue a) order none f.aborts) (subst IsAbort (sym unit_at) (ap is_of_logout of_it, stays));
-      up = up_comes ts' s n long order none under' up';
-      under = under_comes ts' s n long order none under';
       is_due = e ∙ same_filter (λ t. has due t || gains units_with key with_unit t) (told units_with tags with_unit) (order ++ s ∷ []) unit_each;
     }
 
@@ -260,7 +256,7 @@ module _ (units tags : Scoped) (xs : List Standing) (order ts due : List ℕ) (n
     tag_tells : (t : ℕ) → t ≢ s → TellSame units tags units tags_with t
     tag_tells t other k = (refl, answer_comes Tag tags xs order f.of_tags up_t key s (as_item (IsUndue a)) none in_t t k other)
 
-    tag_line : Mirrors Tag tags_with with_tag (order ++ s ∷ [])
+    pub tag_line : Mirrors Tag tags_with with_tag (order ++ s ∷ [])
     tag_line = comes_in Tag tags xs order f.of_tags s (IsUndue a) l none key tag_here up_t in_t
 
     tag_at : at with_tag s ≡ IsUndue a
@@ -281,13 +277,11 @@ module _ (units tags : Scoped) (xs : List Standing) (order ts due : List ℕ) (n
         (has_is (told units tags xs) order due f.is_due t before ∙ sym (told_beside units tags units tags_with xs order s (IsUndue a) l none tag_tells t before)))
         (cases_eq t s)
 
-    pub tag_comes : (due' : List ℕ) → due' ≡ filter (λ t. has due t || gains tags_with key with_tag t) (order ++ s ∷ []) → Follows units tags_with with_tag (order ++ s ∷ []) (set ts' s n) due' (n + 1)
+    pub tag_comes : (due' : List ℕ) → due' ≡ filter (λ t. has due t || gains tags_with key with_tag t) (order ++ s ∷ []) → Follows units tags_with with_tag (order ++ s ∷ []) due'
     tag_comes due' e = record {
       of_tags = tag_line;
       of_units = comes_beside AtUnit units xs order f.of_units s (IsUndue a) l none tag_beside;
       aborts = aborts_push with_tag s order (aborts_fresh xs s (IsUndue a) order none f.aborts) (subst IsAbort (sym tag_at) (ap is_of_logout of_it, stays));
-      up = up_comes ts' s n long order none under' up';
-      under = under_comes ts' s n long order none under';
       is_due = e ∙ same_filter (λ t. has due t || gains tags_with key with_tag t) (told units tags_with with_tag) (order ++ s ∷ []) tag_each;
     }
 

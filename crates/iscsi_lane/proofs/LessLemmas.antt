@@ -59,7 +59,7 @@ two_looks order due due1 due2 test g1 g2 new is e1 e2 all =
     e2 ∙ same_filter (λ t. has due1 t || g2 t) new order (λ t there.
     ap (λ b. b || g2 t) (has_is (λ k. has due k || g1 k) order due1 e1 t there ∙ ap (λ b. b || g1 t) (is t there)) ∙ sym (all t there))
 
-module _ (units tags : Scoped) (xs : List Standing) (order ts due : List ℕ) (next : ℕ) (f : Follows units tags xs order ts due next)
+module _ (units tags : Scoped) (xs : List Standing) (order due : List ℕ) (f : Follows units tags xs order due)
     (up_u : AreKeysAscending units.lines) (up_t : AreKeysAscending tags.lines) (s : ℕ) (once : (t : ℕ) → times t order ≤ 1) where
   -- ---- a command
 
@@ -139,13 +139,11 @@ module _ (units tags : Scoped) (xs : List Standing) (order ts due : List ℕ) (n
           (cases_eq t s)
 
       pub less_follows : (due1 due2 : List ℕ) → due1 ≡ filter (λ t. has due t || gains units_less c.unit with_less t) order
-          → due2 ≡ filter (λ t. has due1 t || gains tags_less c.tag with_less t) order → Follows units_less tags_less with_less order ts due2 next
+          → due2 ≡ filter (λ t. has due1 t || gains tags_less c.tag with_less t) order → Follows units_less tags_less with_less order due2
       less_follows due1 due2 e1 e2 = record {
         of_units = less_units;
         of_tags = less_tags;
         aborts = less_aborts;
-        up = f.up;
-        under = f.under;
         is_due = two_looks order due due1 due2 (told units tags xs) (λ t. gains units_less c.unit with_less t) (λ t. gains tags_less c.tag with_less t) (told units_less tags_less with_less)
             (λ t in_it. has_is (told units tags xs) order due f.is_due t in_it) e1 e2 less_each;
       }
@@ -184,13 +182,11 @@ module _ (units tags : Scoped) (xs : List Standing) (order ts due : List ℕ) (n
         xs xs (without s order) gone_units gone_tags refl (abort_at xs t (without s order) in_it (aborts_without xs s order f.aborts))
 
     pub gone_follows : (due1 due2 : List ℕ) → due1 ≡ filter (λ t. has due t || gains units_gone c.unit xs t) (without s order)
-        → due2 ≡ filter (λ t. has due1 t || gains tags_gone c.tag xs t) (without s order) → Follows units_gone tags_gone xs (without s order) ts due2 next
+        → due2 ≡ filter (λ t. has due1 t || gains tags_gone c.tag xs t) (without s order) → Follows units_gone tags_gone xs (without s order) due2
     gone_follows due1 due2 e1 e2 = record {
       of_units = gone_units;
       of_tags = gone_tags;
       aborts = aborts_without xs s order f.aborts;
-      up = up_goes ts s order f.up;
-      under = under_goes ts s next order f.under;
       is_due = two_looks (without s order) due due1 due2 (told units tags xs) (λ t. gains units_gone c.unit xs t) (λ t. gains tags_gone c.tag xs t) (told units_gone tags_gone xs)
           (λ t in_it. has_is (told units tags xs) (without s order) due gone_due t in_it) e1 e2 gone_each;
     }
@@ -241,13 +237,11 @@ module _ (units tags : Scoped) (xs : List Standing) (order ts due : List ℕ) (n
         (λ k away. refl)
         xs xs (without s order) unit_left_line unit_other_line refl (abort_at xs t (without s order) in_it (aborts_without xs s order f.aborts)))
 
-      pub unit_taken : (due' : List ℕ) → due' ≡ filter (λ t. has rest t || gains units_taken key xs t) (without s order) → Follows units_taken tags xs (without s order) ts due' next
+      pub unit_taken : (due' : List ℕ) → due' ≡ filter (λ t. has rest t || gains units_taken key xs t) (without s order) → Follows units_taken tags xs (without s order) due'
       unit_taken due' e = record {
         of_units = unit_left_line;
         of_tags = unit_other_line;
         aborts = aborts_without xs s order f.aborts;
-        up = up_goes ts s order f.up;
-        under = under_goes ts s next order f.under;
         is_due = e ∙ same_filter (λ t. has rest t || gains units_taken key xs t) (told units_taken tags xs) (without s order) unit_then;
       }
 
@@ -282,13 +276,11 @@ module _ (units tags : Scoped) (xs : List Standing) (order ts due : List ℕ) (n
         (λ k away. gone_beside Tag tags xs order f.of_tags up_t key s k away)
         xs xs (without s order) tag_other_line tag_left_line refl (abort_at xs t (without s order) in_it (aborts_without xs s order f.aborts)))
 
-      pub tag_taken : (due' : List ℕ) → due' ≡ filter (λ t. has rest t || gains tags_taken key xs t) (without s order) → Follows units tags_taken xs (without s order) ts due' next
+      pub tag_taken : (due' : List ℕ) → due' ≡ filter (λ t. has rest t || gains tags_taken key xs t) (without s order) → Follows units tags_taken xs (without s order) due'
       tag_taken due' e = record {
         of_tags = tag_left_line;
         of_units = tag_other_line;
         aborts = aborts_without xs s order f.aborts;
-        up = up_goes ts s order f.up;
-        under = under_goes ts s next order f.under;
         is_due = e ∙ same_filter (λ t. has rest t || gains tags_taken key xs t) (told units tags_taken xs) (without s order) tag_then;
       }
 

@@ -11,3 +11,4 @@ pub mod AfterLemmas
 pub mod StampLemmas
 pub mod FollowLemmas
 pub mod LessLemmas
+pub mod JoinLemmas

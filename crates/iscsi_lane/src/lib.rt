@@ -2,6 +2,7 @@
 #![tactic(auto)]
 
 mod due;
+mod following;
 mod lane;
 mod settling;
 mod stamps;
