@@ -104,10 +104,10 @@ module _ (units tags : Scoped) (xs : List Standing) (order due : List ℕ) (f : 
       abbrev with_less : List Standing
       with_less = set xs s (IsLeft d)
 
-      less_units : Mirrors AtUnit units_less with_less order
+      pub less_units : Mirrors AtUnit units_less with_less order
       less_units = owes_less AtUnit units xs order f.of_units s (IsLeft d) l in_u (λ k. ap (λ u. u == k) same_unit ∙ sym (ap (stands_in (AtUnit k)) is))
 
-      less_tags : Mirrors Tag tags_less with_less order
+      pub less_tags : Mirrors Tag tags_less with_less order
       less_tags = owes_less Tag tags xs order f.of_tags s (IsLeft d) l in_t (λ k. ap (λ u. u == k) same_tag ∙ sym (ap (stands_in (Tag k)) is))
 
       less_aborts : AreAborts with_less order
@@ -156,16 +156,16 @@ module _ (units tags : Scoped) (xs : List Standing) (order due : List ℕ) (f : 
     abbrev tags_gone : Scoped
     tags_gone = scoped (left c.tag s tags.lines) tags.items tags.room
 
-    gone_units : Mirrors AtUnit units_gone xs (without s order)
+    pub gone_units : Mirrors AtUnit units_gone xs (without s order)
     gone_units = goes_out AtUnit units xs order f.of_units s c.unit (λ k. ap (stands_in (AtUnit k)) is) up_u
 
-    gone_tags : Mirrors Tag tags_gone xs (without s order)
+    pub gone_tags : Mirrors Tag tags_gone xs (without s order)
     gone_tags = goes_out Tag tags xs order f.of_tags s c.tag (λ k. ap (stands_in (Tag k)) is) up_t
 
     not_gone : (t : ℕ) → 1 ≤ times t (without s order) → t ≢ s
     not_gone t in_it same = let a = ap (λ k. times k (without s order)) same in let b = times_without s order in omega (arith, a, b, in_it)
 
-    gone_due : due ≡ filter (told units tags xs) (without s order)
+    pub gone_due : due ≡ filter (told units tags xs) (without s order)
     gone_due = due_without (told units tags xs) order due f.is_due s not_told
 
     pub gone_in_order : InOrder due (without s order)

@@ -12,3 +12,4 @@ pub mod StampLemmas
 pub mod FollowLemmas
 pub mod LessLemmas
 pub mod JoinLemmas
+pub mod OweLemmas
