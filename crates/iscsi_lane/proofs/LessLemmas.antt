@@ -211,10 +211,10 @@ module _ (units tags : Scoped) (xs : List Standing) (order due : List ℕ) (f : 
       abbrev units_taken : Scoped
       units_taken = scoped (left key s units.lines) units.items units.room
 
-      unit_left_line : Mirrors AtUnit units_taken xs (without s order)
+      pub unit_left_line : Mirrors AtUnit units_taken xs (without s order)
       unit_left_line = goes_out AtUnit units xs order f.of_units s key (λ k. ap (stands_in (AtUnit k)) is ∙ ap (is_same_aim (AtUnit k)) of_it) up_u
 
-      unit_other_line : Mirrors Tag tags xs (without s order)
+      pub unit_other_line : Mirrors Tag tags xs (without s order)
       unit_other_line = goes_beside Tag tags xs order f.of_tags s (λ k. ap (stands_in (Tag k)) is ∙ ap (is_same_aim (Tag k)) of_it)
 
       pub in_line_of_unit : 1 ≤ times s order → 1 ≤ times s (slots_of key units.lines)
@@ -250,10 +250,10 @@ module _ (units tags : Scoped) (xs : List Standing) (order due : List ℕ) (f : 
       abbrev tags_taken : Scoped
       tags_taken = scoped (left key s tags.lines) tags.items tags.room
 
-      tag_left_line : Mirrors Tag tags_taken xs (without s order)
+      pub tag_left_line : Mirrors Tag tags_taken xs (without s order)
       tag_left_line = goes_out Tag tags xs order f.of_tags s key (λ k. ap (stands_in (Tag k)) is ∙ ap (is_same_aim (Tag k)) of_it) up_t
 
-      tag_other_line : Mirrors AtUnit units xs (without s order)
+      pub tag_other_line : Mirrors AtUnit units xs (without s order)
       tag_other_line = goes_beside AtUnit units xs order f.of_units s (λ k. ap (stands_in (AtUnit k)) is ∙ ap (is_same_aim (AtUnit k)) of_it)
 
       pub in_line_of_tag : 1 ≤ times s order → 1 ≤ times s (slots_of key tags.lines)

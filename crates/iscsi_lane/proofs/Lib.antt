@@ -13,3 +13,4 @@ pub mod FollowLemmas
 pub mod LessLemmas
 pub mod JoinLemmas
 pub mod OweLemmas
+pub mod TakeLemmas

@@ -1,9 +1,9 @@
 //! How the lines by key, and the answers that are due, follow the log.
 
-ghost use Rattle.std.specs.Prelude.{◌≡◌, ◌+◌, ◌≤◌, ◌++◌, ◌∷◌, [], false, true, length, map, slice_set, vec_capacity};
+ghost use Rattle.std.specs.Prelude.{◌≡◌, ◌+◌, ◌≤◌, ◌++◌, ◌∷◌, [], false, true, Some, length, map, slice_set, vec_capacity};
 ghost use Rattle.iscsi_lines.specs.Settling.{IsLess};
 ghost use Rattle.iscsi_outbox_state.specs.Lane.{owes};
-ghost use Rattle.iscsi_lists.specs.Lists.{times_in, with_last, without};
+ghost use Rattle.iscsi_lists.specs.Lists.{first_of, times_in, with_last, without};
 ghost use Rattle.iscsi_slots.specs.Slots.{times};
 ghost use Rattle.iscsi_lane.specs.Following.{FollowsLog};
 ghost use Rattle.iscsi_lane.specs.Scoping.{IsAbort, as_item, owing_of};
@@ -11,7 +11,7 @@ ghost use Rattle.iscsi_lane.specs.Standings.{at, slots_at};
 ghost use Rattle.iscsi_lane.specs.Times.{IsUp};
 
 use crate::due::examine;
-use crate::settling::{LOG, follow, lessen};
+use crate::settling::{FREE, LOG, follow, lessen};
 use iscsi_lines::Item;
 use iscsi_lists::Lists;
 use iscsi_outbox_state::{Aim, Left, Standing, Undue};
@@ -99,4 +99,44 @@ pub(crate) fn owe_less(
     examine(log, units, unit, stamps, due);
     examine(log, tags, left.tag, stamps, due);
     gone
+}
+
+/// The first of those that are due goes, with its slot. What was behind it in its line may be due then.
+pub(crate) fn take(
+    log: &mut Lists<Standing>,
+    units: &mut Scopes,
+    tags: &mut Scopes,
+    stamps: &[u64],
+    due: &mut Vec<u32>,
+    slot: u32,
+    answer: Undue,
+)
+    requires follows { FollowsLog log.old units.old tags.old due.old.items (vec_capacity due.old) }
+    requires lists { length log.old.lists ≡ 3 }
+    requires first { first_of due.old.items ≡ Some slot }
+    requires is { at log.old.values slot ≡ Standing.Undue answer }
+    requires abort { IsAbort (Standing.Undue answer) }
+    requires up { IsUp stamps.now (slots_at log.old 2) }
+    requires long { length stamps.now ≡ log.old.room + 1 }
+    ensures log { log.new ≡ record log.old { lists = with_last 1 slot (map (without slot) log.old.lists) } }
+    ensures follows { FollowsLog log.new units.new tags.new due.new.items (vec_capacity due.new) }
+{
+    log.known();
+    units.known();
+    tags.known();
+    due.remove(0);
+    log.move_to_back(slot, FREE);
+    log.known();
+    match answer.aim {
+        Aim::Unit(unit) => {
+            let key = u32::from(unit);
+            units.take_out(key, slot);
+            examine(log, units, key, stamps, due);
+        }
+        Aim::Tag(tag) => {
+            tags.take_out(tag, slot);
+            examine(log, tags, tag, stamps, due);
+        }
+        Aim::Conn(_) | Aim::Session | Aim::Nothing => {}
+    }
 }
