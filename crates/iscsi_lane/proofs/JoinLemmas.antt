@@ -6,9 +6,10 @@ use Rattle.iscsi_lists.specs.Lists.{Listed, with_last, without}
 use Rattle.iscsi_lists.proofs.WithoutLemmas.{without_none}
 use Rattle.iscsi_outbox_state.specs.declared.lane.Aim.{Aim}
 use Rattle.iscsi_outbox_state.specs.declared.lane.Aim.TheVariants.{Tag, Unit as AtUnit}
+use Rattle.iscsi_outbox_state.specs.declared.lane.Left.{Left}
 use Rattle.iscsi_outbox_state.specs.declared.lane.Undue.{Undue}
 use Rattle.iscsi_outbox_state.specs.declared.lane.Standing.{Standing}
-use Rattle.iscsi_outbox_state.specs.declared.lane.Standing.TheVariants.{Undue as IsUndue}
+use Rattle.iscsi_outbox_state.specs.declared.lane.Standing.TheVariants.{Left as IsLeft, Undue as IsUndue}
 use Rattle.iscsi_scopes.specs.Scopes.{AreKeysAscending, Scoped, entered, scoped, slots_of, times_over}
 use Rattle.iscsi_lane.specs.Standings.{slots_at}
 use Rattle.iscsi_lane.specs.Scoping.{Mirrors, as_item, told}
@@ -16,7 +17,7 @@ use Rattle.iscsi_lane.specs.Times.{InOrder, gains, has}
 use Rattle.iscsi_lane.specs.Following.{Follows, FollowsLog}
 use Rattle.iscsi_lane.proofs.LaneLemmas.{moved_here, moved_room, moved_values}
 use Rattle.iscsi_lane.proofs.MirrorLemmas.{line_few, no_line}
-use Rattle.iscsi_lane.proofs.FollowLemmas.{in_order_push, tag_comes, tag_line, unit_comes, unit_line}
+use Rattle.iscsi_lane.proofs.FollowLemmas.{in_order_push, left_comes, tag_comes, tag_line, unit_comes, unit_line}
 
 -- what stands in a line stands in the log
 pub stands_there : (aim : ℕ → Aim) (scopes : Scoped) (xs : List Standing) (order : List ℕ) → Mirrors aim scopes xs order → (key s : ℕ) → 1 ≤ times s (slots_of key scopes.lines) → 1 ≤ times s order
@@ -113,3 +114,17 @@ module _ (log p t : Listed Standing) (units tags : Scoped) (due : List ℕ) (cap
       due_room = let a = t_room in let b = f.due_room in omega (arith, a, b, more);
     }
 
+  -- a command comes
+  module _ (c : Left) (is_x : x ≡ IsLeft c) (units' tags' : Scoped) (is_u : units' ≡ scoped (entered c.unit slot units.lines) (set units.items slot (as_item (IsLeft c))) units.room) (is_g : tags' ≡ scoped (entered c.tag slot tags.lines) (set tags.items slot (as_item (IsLeft c))) tags.room) where
+    pub left_joins : FollowsLog t units' tags' due capacity
+    left_joins = record {
+      follows =
+          subst (λ u. Follows u tags' t.values (slots_at t 2) due) (sym is_u)
+          (subst (λ g. Follows (scoped (entered c.unit slot units.lines) (set units.items slot (as_item (IsLeft c))) units.room) g t.values (slots_at t 2) due) (sym is_g)
+          (subst (λ v. Follows (scoped (entered c.unit slot units.lines) (set units.items slot (as_item (IsLeft c))) units.room) (scoped (entered c.tag slot tags.lines) (set tags.items slot (as_item (IsLeft c))) tags.room) v (slots_at t 2) due) (sym (t_values ∙ ap (set log.values slot) is_x))
+          (subst (λ o. Follows (scoped (entered c.unit slot units.lines) (set units.items slot (as_item (IsLeft c))) units.room) (scoped (entered c.tag slot tags.lines) (set tags.items slot (as_item (IsLeft c))) tags.room) (set log.values slot (IsLeft c)) o due) (sym t_order)
+          (left_comes units tags log.values (slots_at log 2) due f.follows up_u up_t slot inside none in_u in_t c))));
+      units_room = ap (λ (u : Scoped). u.room) is_u ∙ f.units_room ∙ sym t_room;
+      tags_room = ap (λ (u : Scoped). u.room) is_g ∙ f.tags_room ∙ sym t_room;
+      due_room = let a = t_room in let b = f.due_room in omega (arith, a, b);
+    }

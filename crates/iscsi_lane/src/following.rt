@@ -5,17 +5,44 @@ ghost use Rattle.iscsi_lines.specs.Settling.{IsLess};
 ghost use Rattle.iscsi_outbox_state.specs.Lane.{owes};
 ghost use Rattle.iscsi_lists.specs.Lists.{first_of, times_in, with_last, without};
 ghost use Rattle.iscsi_slots.specs.Slots.{times};
+ghost use Rattle.iscsi_scopes.specs.Scopes.{entered, scoped};
 ghost use Rattle.iscsi_lane.specs.Following.{FollowsLog};
-ghost use Rattle.iscsi_lane.specs.Scoping.{IsAbort, as_item, owing_of};
+ghost use Rattle.iscsi_lane.specs.Scoping.{IsAbort, Mirrors, as_item, owing_of};
 ghost use Rattle.iscsi_lane.specs.Standings.{at, slots_at};
 ghost use Rattle.iscsi_lane.specs.Times.{IsUp};
 
 use crate::due::examine;
 use crate::settling::{FREE, LOG, follow, lessen};
-use iscsi_lines::Item;
+use iscsi_lines::{Item, Owing};
 use iscsi_lists::Lists;
 use iscsi_outbox_state::{Aim, Left, Standing, Undue};
 use iscsi_scopes::Scopes;
+
+/// A command comes to its two lines, before it comes to the log.
+pub(crate) fn enter(log: &Lists<Standing>, units: &mut Scopes, tags: &mut Scopes, left: Left)
+    requires of_units { Mirrors Aim.Unit units.old log.now.values (slots_at log.now 2) }
+    requires of_tags { Mirrors Aim.Tag tags.old log.now.values (slots_at log.now 2) }
+    requires units_room { units.old.room ≡ log.now.room }
+    requires tags_room { tags.old.room ≡ log.now.room }
+    requires owes { owes left ≡ true }
+    requires some { 1 ≤ left.command }
+    requires within { left.command ≤ log.now.room }
+    requires none { times left.command (slots_at log.now 2) ≡ 0 }
+    ensures units { units.new ≡ scoped (entered left.unit left.command units.old.lines)
+        (slice_set units.old.items left.command (as_item (Standing.Left left))) units.old.room }
+    ensures tags { tags.new ≡ scoped (entered left.tag left.command tags.old.lines)
+        (slice_set tags.old.items left.command (as_item (Standing.Left left))) tags.old.room }
+{
+    units.known();
+    tags.known();
+    let item = Item::Command(Owing {
+        conn: left.conn,
+        running: left.running,
+        under_way: left.under_way,
+    });
+    units.push(u32::from(left.unit), left.command, item);
+    tags.push(left.tag, left.command, item);
+}
 
 /// An answer comes to a slot behind all that stands there, and into its line.
 pub(crate) fn join(

@@ -1,6 +1,7 @@
 //! When each slot came to stand in the lane: numbers that go up along the log.
 
-ghost use Rattle.std.specs.Prelude.{◌≡◌, ◌+◌, ◌<◌, ◌≤◌, ◌^◌, ◌-◌, length};
+ghost use Rattle.std.specs.Prelude.{◌≡◌, ◌+◌, ◌<◌, ◌≤◌, ◌^◌, ◌-◌, ◌++◌, ◌∷◌, [], length};
+ghost use Rattle.iscsi_slots.specs.Slots.{times};
 ghost use Rattle.iscsi_lane.specs.Standings.{slots_at};
 ghost use Rattle.iscsi_lane.specs.Times.{AllUnder, IsUp};
 
@@ -8,9 +9,26 @@ use crate::settling::LOG;
 use iscsi_lists::Lists;
 use iscsi_outbox_state::Standing;
 
+/// Numbers a slot that comes behind all that stands there. It answers the number of what comes next.
+pub(crate) fn stamp(log: &Lists<Standing>, stamps: &mut Vec<u64>, next: u64, slot: u32) -> u64
+    requires lists { length log.now.lists ≡ 3 }
+    requires up { IsUp stamps.old.items (slots_at log.now 2) }
+    requires under { AllUnder stamps.old.items next (slots_at log.now 2) }
+    requires long { length stamps.old.items ≡ log.now.room + 1 }
+    requires within { slot ≤ log.now.room }
+    requires none { times slot (slots_at log.now 2) ≡ 0 }
+    ensures up { IsUp stamps.new.items (slots_at log.now 2 ++ slot ∷ []) }
+    ensures under { AllUnder stamps.new.items result (slots_at log.now 2 ++ slot ∷ []) }
+    ensures long { length stamps.new.items ≡ log.now.room + 1 }
+{
+    let time = next_stamp(log, stamps, next);
+    stamps[slot as usize] = time;
+    time + 1
+}
+
 /// The number of what comes next. Where numbers are used up, all that stands there is numbered anew: it takes as many
 /// steps, once in 2^64 that came.
-pub(crate) fn next_stamp(log: &Lists<Standing>, stamps: &mut Vec<u64>, next: u64) -> u64
+fn next_stamp(log: &Lists<Standing>, stamps: &mut Vec<u64>, next: u64) -> u64
     requires lists { length log.now.lists ≡ 3 }
     requires up { IsUp stamps.old.items (slots_at log.now 2) }
     requires under { AllUnder stamps.old.items next (slots_at log.now 2) }
