@@ -1,32 +1,28 @@
 -- Lines by key, numbers and the answers that are due follow the lane, as one comes, owes less, or goes.
-use Rattle.std.proofs.Common.{◌≡◌, ◌≢◌, ℕ, ◌+◌, ◌<◌, ◌≤◌, ◌==◌, ◌||◌, ◌&&◌, not, cond, Bool, true, false, List, [], ◌∷◌, ◌++◌, length, filter, get_or, set, Option, Some, None, refl, ap, sym, subst, ◌∙◌, arith, ⊎_elim, eq-eqb, ne_eqb}
-use Rattle.std.proofs.lemmas.Bool.{cases_Bool, cases_eq, eqb-true, false≢true, or_from, or_parts}
+use Rattle.std.proofs.Common.{◌≡◌, ◌≢◌, ℕ, ◌<◌, ◌≤◌, ◌==◌, ◌||◌, ◌&&◌, not, cond, Bool, true, false, List, [], ◌∷◌, ◌++◌, length, filter, set, Option, Some, None, refl, ap, sym, subst, ◌∙◌, arith, ⊎_elim, eq-eqb}
+use Rattle.std.proofs.lemmas.Bool.{cases_Bool, cases_eq, eqb-true, false≢true}
 use Rattle.std.proofs.lemmas.List.{append-nil, get_or-set_same, get_or-set_other}
 use Rattle.iscsi_slots.specs.Slots.{times}
 use Rattle.iscsi_slots.proofs.SlotLemmas.{times_append}
 use Rattle.iscsi_lists.specs.Lists.{without}
-use Rattle.iscsi_lists.proofs.WithoutLemmas.{none_behind, not_first, times_other, times_same, times_without, times_without_other, without_none, without_other, without_same}
-use Rattle.iscsi_lines.specs.declared.item.Item.{Item}
-use Rattle.iscsi_lines.specs.Lines.{BLANK}
+use Rattle.iscsi_lists.proofs.WithoutLemmas.{none_behind, not_first, times_other, times_without, times_without_other, without_none, without_other, without_same}
 use Rattle.iscsi_outbox_state.specs.declared.lane.Aim.{Aim}
 use Rattle.iscsi_outbox_state.specs.declared.lane.Aim.TheVariants.{Tag, Unit as AtUnit, Conn, Session, Nothing}
 use Rattle.iscsi_outbox_state.specs.declared.lane.Left.{Left}
 use Rattle.iscsi_outbox_state.specs.declared.lane.Undue.{Undue}
 use Rattle.iscsi_outbox_state.specs.declared.lane.Standing.{Standing}
 use Rattle.iscsi_outbox_state.specs.declared.lane.Standing.TheVariants.{Left as IsLeft, Undue as IsUndue}
-use Rattle.iscsi_outbox_state.specs.Lane.{is_of_logout, is_same_aim, not_running, not_under_way}
-use Rattle.iscsi_scopes.specs.Scopes.{AreKeysAscending, Scoped, entered, left, scoped, slots_of}
+use Rattle.iscsi_outbox_state.specs.Lane.{is_of_logout, is_same_aim}
+use Rattle.iscsi_scopes.specs.Scopes.{AreKeysAscending, Scoped, entered, scoped}
 use Rattle.iscsi_lane.specs.Standings.{NOBODY, at}
-use Rattle.iscsi_lane.specs.Scoping.{AreAborts, IsAbort, Mirrors, as_item, blocks, due_of, is_it, stands_in, told, told_of}
-use Rattle.iscsi_lane.specs.Times.{AllUnder, InOrder, IsUp, gains, has, is_cleared}
+use Rattle.iscsi_lane.specs.Scoping.{AreAborts, IsAbort, Mirrors, as_item, due_of, is_it, stands_in, told, told_of}
+use Rattle.iscsi_lane.specs.Times.{InOrder, gains, has, is_cleared}
 use Rattle.iscsi_lane.specs.Following.{Follows}
-use Rattle.iscsi_lane.proofs.MirrorLemmas.{comes_beside, comes_in, goes_beside, goes_out, line_has, none_in_line, owes_less}
-use Rattle.iscsi_lane.proofs.ToldLemmas.{item_at}
+use Rattle.iscsi_lane.proofs.MirrorLemmas.{comes_beside, comes_in}
 use Rattle.iscsi_lane.proofs.StepLemmas.{filter_both}
-use Rattle.iscsi_lane.proofs.TurnLemmas.{TellSame, answer_comes, command_comes, due_at, gone_beside, gone_stays, less_beside, less_stays, same_filter, told_beside, told_left}
+use Rattle.iscsi_lane.proofs.TurnLemmas.{TellSame, answer_comes, command_comes, due_at, same_filter, told_beside, told_left}
 use Rattle.iscsi_lane.proofs.OrderLemmas.{filter_few, filter_none, has_filter, has_none}
-use Rattle.iscsi_lane.proofs.AfterLemmas.{due_stands, told_then}
-use Rattle.iscsi_lane.proofs.StampLemmas.{under_comes, under_goes, up_comes, up_goes}
+use Rattle.iscsi_lane.proofs.AfterLemmas.{due_stands}
 
 pub or_none : (b : Bool) → (b || false) ≡ b
 or_none true = refl
@@ -284,4 +280,3 @@ module _ (units tags : Scoped) (xs : List Standing) (order due : List ℕ) (f : 
       aborts = aborts_push with_tag s order (aborts_fresh xs s (IsUndue a) order none f.aborts) (subst IsAbort (sym tag_at) (ap is_of_logout of_it, stays));
       is_due = e ∙ same_filter (λ t. has due t || gains tags_with key with_tag t) (told units tags_with with_tag) (order ++ s ∷ []) tag_each;
     }
-

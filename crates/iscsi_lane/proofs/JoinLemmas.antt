@@ -1,6 +1,5 @@
 -- An answer comes to the lane, as the call has it.
-use Rattle.std.proofs.Common.{◌≡◌, ◌≢◌, ℕ, ◌+◌, ◌<◌, ◌≤◌, ◌||◌, false, List, [], ◌∷◌, ◌++◌, length, map, filter, get_or, set, refl, ap, sym, subst, ◌∙◌, arith}
-use Rattle.std.proofs.lemmas.List.{get_or-set_same, length-map}
+use Rattle.std.proofs.Common.{◌≡◌, ℕ, ◌+◌, ◌<◌, ◌≤◌, ◌||◌, false, List, [], ◌∷◌, ◌++◌, length, map, filter, set, ap, sym, subst, ◌∙◌, arith}
 use Rattle.iscsi_slots.specs.Slots.{times}
 use Rattle.iscsi_lists.specs.Lists.{Listed, with_last, without}
 use Rattle.iscsi_lists.proofs.WithoutLemmas.{without_none}

@@ -1,33 +1,28 @@
 -- Lines by key and the answers that are due follow the lane, as a command owes less or goes, and as an answer is taken.
-use Rattle.std.proofs.Common.{◌≡◌, ◌≢◌, ℕ, ◌+◌, ◌<◌, ◌≤◌, ◌==◌, ◌||◌, ◌&&◌, not, cond, Bool, true, false, List, [], ◌∷◌, ◌++◌, length, filter, get_or, set, Option, Some, None, refl, ap, sym, subst, ◌∙◌, arith, ⊎_elim, eq-eqb, ne_eqb}
-use Rattle.std.proofs.lemmas.Bool.{cases_Bool, cases_eq, eqb-true, false≢true, or_from, or_parts}
-use Rattle.std.proofs.lemmas.List.{append-nil, get_or-set_same, get_or-set_other}
+use Rattle.std.proofs.Common.{◌≡◌, ◌≢◌, ℕ, ◌<◌, ◌≤◌, ◌==◌, ◌||◌, ◌&&◌, not, Bool, true, false, List, ◌∷◌, length, filter, get_or, set, refl, ap, sym, subst, ◌∙◌, arith, ⊎_elim, eq-eqb, ne_eqb}
+use Rattle.std.proofs.lemmas.Bool.{cases_eq, false≢true, or_from, or_parts}
+use Rattle.std.proofs.lemmas.List.{get_or-set_same, get_or-set_other}
 use Rattle.iscsi_slots.specs.Slots.{times}
-use Rattle.iscsi_slots.proofs.SlotLemmas.{times_append}
 use Rattle.iscsi_lists.specs.Lists.{without}
-use Rattle.iscsi_lists.proofs.WithoutLemmas.{none_behind, not_first, times_other, times_same, times_without, times_without_other, without_none, without_other, without_same}
-use Rattle.iscsi_lines.specs.declared.item.Item.{Item}
+use Rattle.iscsi_lists.proofs.WithoutLemmas.{times_same, times_without, without_none, without_same}
 use Rattle.iscsi_lines.specs.Lines.{BLANK}
-use Rattle.iscsi_outbox_state.specs.declared.lane.Aim.{Aim}
-use Rattle.iscsi_outbox_state.specs.declared.lane.Aim.TheVariants.{Tag, Unit as AtUnit, Conn, Session, Nothing}
+use Rattle.iscsi_outbox_state.specs.declared.lane.Aim.TheVariants.{Tag, Unit as AtUnit}
 use Rattle.iscsi_outbox_state.specs.declared.lane.Left.{Left}
 use Rattle.iscsi_outbox_state.specs.declared.lane.Undue.{Undue}
 use Rattle.iscsi_outbox_state.specs.declared.lane.Standing.{Standing}
 use Rattle.iscsi_outbox_state.specs.declared.lane.Standing.TheVariants.{Left as IsLeft, Undue as IsUndue}
-use Rattle.iscsi_outbox_state.specs.Lane.{is_of_logout, is_same_aim, not_running, not_under_way}
-use Rattle.iscsi_scopes.specs.Scopes.{AreKeysAscending, Scoped, entered, left, scoped, slots_of}
+use Rattle.iscsi_outbox_state.specs.Lane.{is_same_aim, not_running, not_under_way}
+use Rattle.iscsi_scopes.specs.Scopes.{AreKeysAscending, Scoped, left, scoped, slots_of}
 use Rattle.iscsi_lane.specs.Standings.{NOBODY, at}
-use Rattle.iscsi_lane.specs.Scoping.{AreAborts, IsAbort, Mirrors, as_item, blocks, due_of, is_it, line_of, stands_in, told, told_of}
-use Rattle.iscsi_lane.specs.Times.{AllUnder, InOrder, IsUp, gains, has, is_cleared}
+use Rattle.iscsi_lane.specs.Scoping.{AreAborts, Mirrors, as_item, blocks, is_it, line_of, stands_in, told, told_of}
+use Rattle.iscsi_lane.specs.Times.{InOrder, gains, has, is_cleared}
 use Rattle.iscsi_lane.specs.Following.{Follows}
-use Rattle.iscsi_lane.proofs.MirrorLemmas.{comes_beside, comes_in, goes_beside, goes_out, its_line, line_has, none_in_line, owes_less}
+use Rattle.iscsi_lane.proofs.MirrorLemmas.{goes_beside, goes_out, its_line, line_has, none_in_line, owes_less}
 use Rattle.iscsi_lane.proofs.ToldLemmas.{item_at}
-use Rattle.iscsi_lane.proofs.StepLemmas.{filter_both}
-use Rattle.iscsi_lane.proofs.TurnLemmas.{TellSame, answer_comes, command_comes, due_at, gone_beside, gone_stays, less_beside, less_stays, same_filter, told_beside, told_left}
-use Rattle.iscsi_lane.proofs.OrderLemmas.{filter_few, filter_none, has_filter, has_none}
-use Rattle.iscsi_lane.proofs.FollowLemmas.{abort_at, aborts_set, aborts_without, and_none, due_without, filter_without, has_is, in_more, in_order_of, is_same, or_none, tag_gain, unit_gain}
+use Rattle.iscsi_lane.proofs.TurnLemmas.{due_at, gone_beside, gone_stays, less_beside, less_stays, same_filter}
+use Rattle.iscsi_lane.proofs.OrderLemmas.{filter_few}
+use Rattle.iscsi_lane.proofs.FollowLemmas.{abort_at, aborts_set, aborts_without, due_without, filter_without, has_is, in_order_of, is_same, or_none, tag_gain, unit_gain}
 use Rattle.iscsi_lane.proofs.AfterLemmas.{due_stands, told_then}
-use Rattle.iscsi_lane.proofs.StampLemmas.{under_comes, under_goes, up_comes, up_goes}
 
 -- a command that owes less holds back no more than before
 pub less_running : (c : Left) (conn : ℕ) → blocks conn (as_item (IsLeft c)) ≡ false → blocks conn (as_item (IsLeft (not_running c))) ≡ false
@@ -231,11 +226,11 @@ module _ (units tags : Scoped) (xs : List Standing) (order due : List ℕ) (f : 
           ap (λ b. b || gains units_taken key xs t) (has_is (told units tags xs) (without s order) rest rest_is t in_it)
           ∙ extra_last (told units tags xs t) (gains units_taken key xs t) (gains tags 0 xs t) (unit_nothing t)
           ∙ sym (told_then units tags units_taken tags key 0 t
-        (λ k due. gone_stays AtUnit units xs order f.of_units up_u key s t (once t) (no_more t in_it) k due)
-        (λ k due. due)
-        (λ k away. gone_beside AtUnit units xs order f.of_units up_u key s k away)
-        (λ k away. refl)
-        xs xs (without s order) unit_left_line unit_other_line refl (abort_at xs t (without s order) in_it (aborts_without xs s order f.aborts)))
+          (λ k due. gone_stays AtUnit units xs order f.of_units up_u key s t (once t) (no_more t in_it) k due)
+          (λ k due. due)
+          (λ k away. gone_beside AtUnit units xs order f.of_units up_u key s k away)
+          (λ k away. refl)
+          xs xs (without s order) unit_left_line unit_other_line refl (abort_at xs t (without s order) in_it (aborts_without xs s order f.aborts)))
 
       pub unit_taken : (due' : List ℕ) → due' ≡ filter (λ t. has rest t || gains units_taken key xs t) (without s order) → Follows units_taken tags xs (without s order) due'
       unit_taken due' e = record {
@@ -270,11 +265,11 @@ module _ (units tags : Scoped) (xs : List Standing) (order due : List ℕ) (f : 
           ap (λ b. b || gains tags_taken key xs t) (has_is (told units tags xs) (without s order) rest rest_is t in_it)
           ∙ extra_first (told units tags xs t) (gains units 0 xs t) (gains tags_taken key xs t) (tag_nothing t)
           ∙ sym (told_then units tags units tags_taken 0 key t
-        (λ k due. due)
-        (λ k due. gone_stays Tag tags xs order f.of_tags up_t key s t (once t) (no_more t in_it) k due)
-        (λ k away. refl)
-        (λ k away. gone_beside Tag tags xs order f.of_tags up_t key s k away)
-        xs xs (without s order) tag_other_line tag_left_line refl (abort_at xs t (without s order) in_it (aborts_without xs s order f.aborts)))
+          (λ k due. due)
+          (λ k due. gone_stays Tag tags xs order f.of_tags up_t key s t (once t) (no_more t in_it) k due)
+          (λ k away. refl)
+          (λ k away. gone_beside Tag tags xs order f.of_tags up_t key s k away)
+          xs xs (without s order) tag_other_line tag_left_line refl (abort_at xs t (without s order) in_it (aborts_without xs s order f.aborts)))
 
       pub tag_taken : (due' : List ℕ) → due' ≡ filter (λ t. has rest t || gains tags_taken key xs t) (without s order) → Follows units tags_taken xs (without s order) due'
       tag_taken due' e = record {
@@ -283,4 +278,3 @@ module _ (units tags : Scoped) (xs : List Standing) (order due : List ℕ) (f : 
         aborts = aborts_without xs s order f.aborts;
         is_due = e ∙ same_filter (λ t. has rest t || gains tags_taken key xs t) (told units tags_taken xs) (without s order) tag_then;
       }
-

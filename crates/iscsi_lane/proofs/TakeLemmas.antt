@@ -1,5 +1,5 @@
 -- The first answer that is due is taken, as the call has it.
-use Rattle.std.proofs.Common.{◌≡◌, ◌≢◌, ℕ, ◌+◌, ◌<◌, ◌≤◌, ◌||◌, List, [], ◌∷◌, ◌++◌, length, map, filter, Option, Some, None, refl, ap, sym, subst, ◌∙◌, arith}
+use Rattle.std.proofs.Common.{◌≡◌, ℕ, ◌<◌, ◌≤◌, ◌||◌, List, [], ◌∷◌, length, map, filter, Some, refl, ap, sym, subst, ◌∙◌, arith}
 use Rattle.std.specs.List.{remove}
 use Rattle.iscsi_slots.specs.Slots.{times}
 use Rattle.iscsi_lists.specs.Lists.{AreApart, Listed, first_of, linked_in, times_in, with_last, without}
@@ -11,7 +11,7 @@ use Rattle.iscsi_outbox_state.specs.declared.lane.Standing.{Standing}
 use Rattle.iscsi_outbox_state.specs.declared.lane.Standing.TheVariants.{Undue as IsUndue}
 use Rattle.iscsi_scopes.specs.Scopes.{AreKeysAscending, Scoped, left, scoped, slots_of}
 use Rattle.iscsi_lane.specs.Standings.{at, slots_at}
-use Rattle.iscsi_lane.specs.Scoping.{Mirrors, told}
+use Rattle.iscsi_lane.specs.Scoping.{told}
 use Rattle.iscsi_lane.specs.Times.{InOrder, IsUp, gains, has}
 use Rattle.iscsi_lane.specs.Following.{Follows, FollowsLog}
 use Rattle.iscsi_lane.proofs.LaneLemmas.{moved_other, moved_room, moved_values}
@@ -108,4 +108,3 @@ module _ (log : Listed Standing) (units tags : Scoped) (due : List ℕ) (capacit
           tags_room = ap (λ (u : Scoped). u.room) is_s ∙ f.tags_room ∙ sym t_room;
           due_room = let a = t_room in let b = f.due_room in omega (arith, a, b, more);
         }
-

@@ -1,12 +1,11 @@
 -- How lines by key, and the answers that are due, follow the lane; and when each slot came there. For private contracts alone.
-use Rattle.std.specs.Prelude.{◌≡◌, ℕ, ◌+◌, ◌≤◌, List, filter, length}
+use Rattle.std.specs.Prelude.{◌≡◌, ℕ, ◌≤◌, List, filter}
 use Rattle.iscsi_lists.specs.Lists.{Listed}
 use Rattle.iscsi_outbox_state.specs.declared.lane.Aim.TheVariants.{Tag, Unit as AtUnit}
 use Rattle.iscsi_outbox_state.specs.declared.lane.Standing.{Standing}
 use Rattle.iscsi_scopes.specs.Scopes.{Scoped}
-use Rattle.iscsi_lane.specs.Standings.{IsLane, slots_at}
+use Rattle.iscsi_lane.specs.Standings.{slots_at}
 use Rattle.iscsi_lane.specs.Scoping.{AreAborts, Mirrors, told}
-use Rattle.iscsi_lane.specs.Times.{AllUnder, IsUp}
 
 pub record Follows (units tags : Scoped) (xs : List Standing) (order due : List ℕ) : Type 0 where
   pub of_units : Mirrors AtUnit units xs order

@@ -1,7 +1,6 @@
 use Rattle.std.proofs.Common.{◌∙◌, refl, ap, sym, subst}
 use Rattle.iscsi_outbox_state.specs.declared.lane.Aim.TheVariants.{Unit as AtUnit}
 use Rattle.iscsi_outbox_state.specs.declared.lane.Standing.TheVariants.{Undue as IsUndue}
-use Rattle.iscsi_outbox_state.specs.Lane.{is_of_logout}
 use Rattle.iscsi_lane.specs.Times.{IsUp}
 use Rattle.iscsi_lane.proofs.JoinLemmas.{join_order, no_tag, no_unit, t_order, tag_joins, tag_stands, unit_joins, unit_stands}
 use Rattle.iscsi_lane.proofs.StampLemmas.{once_at, within_at}

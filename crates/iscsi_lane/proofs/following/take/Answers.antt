@@ -1,7 +1,7 @@
 use Rattle.std.proofs.Common.{◌∙◌, ap, sym, arith}
 use Rattle.iscsi_outbox_state.specs.declared.lane.Aim.TheVariants.{Unit as AtUnit}
-use Rattle.iscsi_lane.proofs.TakeLemmas.{first_in, some_due, t_room, tag_goes, tag_left_there, tag_line_there, taken_order, taken_up, unit_goes, unit_left_there, unit_line_there}
-use Rattle.iscsi_lane.proofs.StampLemmas.{few_at, once_at, within_at}
+use Rattle.iscsi_lane.proofs.TakeLemmas.{first_in, tag_goes, tag_left_there, tag_line_there, taken_order, taken_up, unit_goes, unit_left_there, unit_line_there}
+use Rattle.iscsi_lane.proofs.StampLemmas.{once_at, within_at}
 use Rattle.iscsi_lane.proofs.following.take.Goals as goal
 
 pub move_to_back-requires-clause-slot : goal.move_to_back-requires-clause-slot

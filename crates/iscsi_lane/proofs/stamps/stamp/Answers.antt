@@ -1,4 +1,4 @@
-use Rattle.std.proofs.Common.{◌≡◌, ◌<◌, length, arith}
+use Rattle.std.proofs.Common.{arith}
 use Rattle.iscsi_lane.specs.Standings.{slots_at}
 use Rattle.iscsi_lane.proofs.StampLemmas.{under_comes, up_comes}
 use Rattle.iscsi_lane.proofs.stamps.stamp.Goals as goal
