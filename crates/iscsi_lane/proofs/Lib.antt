@@ -14,3 +14,4 @@ pub mod LessLemmas
 pub mod JoinLemmas
 pub mod OweLemmas
 pub mod TakeLemmas
+pub mod ResultLemmas

@@ -104,7 +104,7 @@ module _ (units tags : Scoped) (xs : List Standing) (order : List ℕ) (of_units
       ap (λ b. not b && is_it s (due_of units tags a.aim)) cleared ∙ by_aim a.aim a refl abort.0 abort.1 cleared s front back at_it is)
       (cases_Bool a.uncleared)
 
-  all_told : (front back : List ℕ) → order ≡ front ++ back → AreAborts xs back → AllTold xs (told units tags xs) front back
+  pub all_told : (front back : List ℕ) → order ≡ front ++ back → AreAborts xs back → AllTold xs (told units tags xs) front back
   all_told front [] at_it aborts = tt
   all_told front (s ∷ back) at_it aborts = (
     tells s front back (at xs s) at_it refl aborts.0,
