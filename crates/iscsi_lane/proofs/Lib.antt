@@ -15,3 +15,4 @@ pub mod JoinLemmas
 pub mod OweLemmas
 pub mod TakeLemmas
 pub mod ResultLemmas
+pub mod GoingLemmas
