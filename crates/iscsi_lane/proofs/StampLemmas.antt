@@ -6,7 +6,8 @@ use Rattle.iscsi_slots.specs.Slots.{times}
 use Rattle.iscsi_slots.proofs.SlotLemmas.{times_append}
 use Rattle.iscsi_lists.specs.Lists.{AreApart, Listed, first_of, linked_in, times_in, without}
 use Rattle.iscsi_lists.proofs.WithoutLemmas.{append_one, none_behind, not_first, times_same, without_other, without_same}
-use Rattle.iscsi_lines.proofs.MoveLemmas.{length_any, times_any}
+use Rattle.iscsi_lists.proofs.PlaceLemmas.{times_any}
+use Rattle.iscsi_lines.proofs.MoveLemmas.{length_any}
 use Rattle.iscsi_outbox_state.specs.declared.lane.Standing.{Standing}
 use Rattle.iscsi_lane.specs.Standings.{slots_at}
 use Rattle.iscsi_lane.specs.Times.{AllAfter, AllUnder, IsUp, time_of}

@@ -4,7 +4,7 @@ use Rattle.std.specs.List.{remove}
 use Rattle.iscsi_slots.specs.Slots.{times}
 use Rattle.iscsi_lists.specs.Lists.{AreApart, Listed, first_of, linked_in, times_in, with_last, without}
 use Rattle.iscsi_lists.proofs.WithoutLemmas.{times_same}
-use Rattle.iscsi_lines.proofs.MoveLemmas.{times_any}
+use Rattle.iscsi_lists.proofs.PlaceLemmas.{times_any}
 use Rattle.iscsi_outbox_state.specs.declared.lane.Aim.TheVariants.{Tag, Unit as AtUnit}
 use Rattle.iscsi_outbox_state.specs.declared.lane.Undue.{Undue}
 use Rattle.iscsi_outbox_state.specs.declared.lane.Standing.{Standing}
