@@ -15,8 +15,8 @@ use Rattle.iscsi_outbox_state.specs.declared.lane.Undue.{Undue}
 use Rattle.iscsi_outbox_state.specs.declared.lane.Standing.{Standing}
 use Rattle.iscsi_outbox_state.specs.declared.lane.Standing.TheVariants.{Left as IsLeft, Undue as IsUndue}
 use Rattle.iscsi_outbox_state.specs.Lane.{count_in, is_command, is_left, is_numbered, lessened, owes, with_items}
-use Rattle.iscsi_lane.specs.Standings.{AllBehind, AreKnown, AreStanding, Found, IsLane, NOBODY, StandAt, StandsAt, at, is_undue, items_in, lane_of, slots_at, standings, tally}
-use Rattle.iscsi_lane.proofs.StandLemmas.{any_here, are_apart, behind_without, lessened_gone, lessened_kept, lessened_none, none_here, none_past, not_behind, one_if, stand_append, stand_fresh, stand_set, stand_without, standings_append, standings_fresh, standings_long, stands_at, tally_append, tally_few, tally_gone, tally_is, tally_set}
+use Rattle.iscsi_lane.specs.Standings.{AllBehind, AreSound, AreStanding, Found, IsLane, NOBODY, StandAt, StandsAt, at, is_undue, items_in, lane_of, left_in, slots_at, standings, tally}
+use Rattle.iscsi_lane.proofs.StandLemmas.{any_here, are_apart, behind_without, left_at, left_none, lessened_gone, lessened_kept, lessened_none, none_here, none_past, not_behind, one_if, stand_append, stand_fresh, stand_set, stand_without, standings_append, standings_fresh, standings_long, stands_at, tally_append, tally_few, tally_gone, tally_is, tally_set}
 
 -- ---- a slot goes from list to list
 
@@ -120,7 +120,7 @@ module _ (log : Listed Standing) (commands : ℕ) (are : AreStanding log command
 
 -- ---- one comes
 
-module _ (log : Listed Standing) (commands answers owing waiting numbered : ℕ) (lane : IsLane log commands answers owing waiting numbered) (known : AreSlotsApart (linked_in log)) (long : length log.values ≡ log.room + 1)
+module _ (log : Listed Standing) (conns commands answers owing waiting numbered : ℕ) (lane : IsLane log commands answers owing waiting numbered) (known : AreSlotsApart (linked_in log)) (long : length log.values ≡ log.room + 1)
     (slot : ℕ) (x : Standing) (p t : Listed Standing) (is_p : p ≡ record log { lists = with_last 2 slot (map (without slot) log.lists) }) (is_t : t ≡ record p { values = set p.values slot x })
     (low : slot ≤ log.room) (none : times slot (slots_at log 2) ≡ 0) (stands : StandsAt commands slot x) where
   t_slots : (k : ℕ) → slots_at t k ≡ slots_at p k
@@ -142,8 +142,8 @@ module _ (log : Listed Standing) (commands answers owing waiting numbered : ℕ)
       ∙ ap (λ q. q ++ at (set log.values slot x) slot ∷ []) (standings_fresh log.values slot x (slots_at log 2) none)
       ∙ ap (λ i. items_in log ++ i ∷ []) (get_or-set_same log.values slot x NOBODY (omega (arith, low, long)))
 
-  pub come_view : lane_of t commands answers ≡ with_items (lane_of log commands answers) (items_in log ++ x ∷ [])
-  come_view = ap (with_items (lane_of log commands answers)) come_items
+  pub come_view : lane_of t conns commands answers ≡ with_items (lane_of log conns commands answers) (items_in log ++ x ∷ [])
+  come_view = ap (with_items (lane_of log conns commands answers)) come_items
 
   come_tally : (test : Standing → Bool) → tally test (items_in t) ≡ tally test (items_in log) + one_if (test x)
   come_tally test = let a = ap (tally test) come_items in let b = tally_append test (items_in log) (x ∷ []) in omega (arith, a, b)
@@ -169,11 +169,11 @@ module _ (log : Listed Standing) (commands answers owing waiting numbered : ℕ)
 
 -- ---- a command owes less, or goes
 
-module _ (log : Listed Standing) (commands answers owing waiting numbered : ℕ) (lane : IsLane log commands answers owing waiting numbered) (known : AreSlotsApart (linked_in log)) (long : length log.values ≡ log.room + 1)
+module _ (log : Listed Standing) (conns commands answers owing waiting numbered : ℕ) (lane : IsLane log commands answers owing waiting numbered) (known : AreSlotsApart (linked_in log)) (long : length log.values ≡ log.room + 1)
     (change : Left → Left) (command : ℕ) where
   -- there is no such command
-  pub none_view : list_any (is_command command) (items_in log) ≡ false → lane_of log commands answers ≡ lessened change command (lane_of log commands answers)
-  none_view none = ap (with_items (lane_of log commands answers)) (sym (lessened_none change commands log.values command (slots_at log 2) lane.standing.stand none))
+  pub none_view : list_any (is_command command) (items_in log) ≡ false → lane_of log conns commands answers ≡ lessened change command (lane_of log conns commands answers)
+  none_view none = ap (with_items (lane_of log conns commands answers)) (sym (lessened_none change commands log.values command (slots_at log 2) lane.standing.stand none))
 
   module _ (c : Left) (found : Found log command (Some c)) where
     inside : command < length log.values
@@ -186,8 +186,8 @@ module _ (log : Listed Standing) (commands answers owing waiting numbered : ℕ)
       kept_items : items_in t ≡ standings (set log.values command (IsLeft (change c))) (slots_at log 2)
       kept_items = ap items_in is
 
-      pub kept_view : lane_of t commands answers ≡ lessened change command (lane_of log commands answers)
-      kept_view = ap (with_items (lane_of log commands answers))
+      pub kept_view : lane_of t conns commands answers ≡ lessened change command (lane_of log conns commands answers)
+      kept_view = ap (with_items (lane_of log conns commands answers))
           (kept_items ∙ sym (lessened_kept change commands log.values command c found.1.0 found.1.1.0 on inside (slots_at log 2) lane.standing.stand))
 
       kept_tally : (test : Standing → Bool) → test (IsLeft (change c)) ≡ test (IsLeft c) → tally test (items_in t) ≡ tally test (items_in log)
@@ -213,8 +213,8 @@ module _ (log : Listed Standing) (commands answers owing waiting numbered : ℕ)
       gone_items : items_in t ≡ standings log.values (without command (slots_at log 2))
       gone_items = ap (λ v. standings v (slots_at t 2)) (moved_values log t 0 command is) ∙ ap (standings log.values) (moved_other log t 0 command is 2 (λ e. omega (arith, e)))
 
-      pub gone_view : lane_of t commands answers ≡ lessened change command (lane_of log commands answers)
-      gone_view = ap (with_items (lane_of log commands answers))
+      pub gone_view : lane_of t conns commands answers ≡ lessened change command (lane_of log conns commands answers)
+      gone_view = ap (with_items (lane_of log conns commands answers))
           (gone_items ∙ sym (lessened_gone change commands log.values command c found.1.0 found.1.1.0 off (slots_at log 2) lane.standing.stand))
 
       gone_tally : (test : Standing → Bool) → tally test (items_in t) + one_if (test (IsLeft c)) ≡ tally test (items_in log)
@@ -269,7 +269,7 @@ module _ (log : Listed Standing) (commands answers owing waiting numbered : ℕ)
           (λ off. let a = (gone off).0 in gone_lane t off (gone_is off) o (omega (arith, a, eo)))
           (cases_Bool (owes (change c)))
 
-      pub less_view : lane_of t commands answers ≡ lessened change command (lane_of log commands answers)
+      pub less_view : lane_of t conns commands answers ≡ lessened change command (lane_of log conns commands answers)
       less_view = ⊎_elim
           (λ on. kept_view t on same_place (kept_is on))
           (λ off. gone_view t off (gone_is off))
@@ -281,6 +281,10 @@ found_is log commands command are None found = sym found
 found_is log commands command are (Some c) found =
     let st = subst (StandsAt commands command) found.1.0 (stands_at commands log.values command (slots_at log 2) found.0 are.stand) in
     sym (any_here commands log.values command (slots_at log 2) found.0 st.1.0 are.stand)
+
+pub found_left_in : (log : Listed Standing) (commands command : ℕ) → AreStanding log commands → (o : Option Left) → Found log command o → o ≡ left_in command (items_in log)
+found_left_in log commands command are None found = sym (left_none command (items_in log) found)
+found_left_in log commands command are (Some c) found = sym (left_at commands log.values command c (slots_at log 2) found.0 found.1.0 found.1.1.0 are.stand)
 
 -- ---- the first free slot
 
@@ -294,27 +298,28 @@ some_first (x ∷ xs) some = refl
 
 -- ---- what callers know
 
-module _ (log : Listed Standing) (commands answers owing waiting numbered : ℕ) (lane : IsLane log commands answers owing waiting numbered) where
-  pub counted_left : owing ≡ count_in is_left (lane_of log commands answers)
+module _ (log : Listed Standing) (conns commands answers owing waiting numbered : ℕ) (lane : IsLane log commands answers owing waiting numbered) where
+  pub counted_left : owing ≡ count_in is_left (lane_of log conns commands answers)
   counted_left = lane.left ∙ tally_is is_left (items_in log)
 
-  pub counted_undue : waiting ≡ count_in is_undue (lane_of log commands answers)
+  pub counted_undue : waiting ≡ count_in is_undue (lane_of log conns commands answers)
   counted_undue = lane.undue ∙ tally_is is_undue (items_in log)
 
-  pub counted_numbered : numbered ≡ count_in is_numbered (lane_of log commands answers)
+  pub counted_numbered : numbered ≡ count_in is_numbered (lane_of log conns commands answers)
   counted_numbered = lane.of_numbered ∙ tally_is is_numbered (items_in log)
 
   module _ (known : AreSlotsApart (linked_in log)) where
-    pub are_known : log.room + length log.lists + 2 ≤ 4294967295 → AreKnown (lane_of log commands answers)
-    are_known short = record {
+    pub are_sound : log.room + length log.lists + 2 ≤ 4294967295 → AreSound (lane_of log conns commands answers)
+    are_sound short = record {
       apart = are_apart commands log.values (slots_at log 2)
           (λ s there. at_some log commands lane.standing known 2 s there) (λ s. at_once log commands lane.standing known 2 s) lane.standing.stand;
       few = let a = counted_undue in let b = lane.rest in omega (arith, a, b);
+      long = let a = standings_long log.values (slots_at log 2) in let b = length_any 2 log.lists in let c = known.all in let d = lane.slots in omega (arith, a, b, c, d);
       short = let a = lane.slots in let b = lane.standing.lists in omega (arith, a, b, short);
     }
 
     -- a slot is free where fewer answers wait than may
-    pub some_free : count_in is_undue (lane_of log commands answers) < answers → slots_at log 1 ≢ []
+    pub some_free : count_in is_undue (lane_of log conns commands answers) < answers → slots_at log 1 ≢ []
     some_free fewer none = let a = counted_undue in let b = lane.rest in let d = ap length none in omega (arith, a, b, d, fewer)
 
     few : (test : Standing → Bool) → tally test (items_in log) ≤ log.room

@@ -16,3 +16,7 @@ pub mod OweLemmas
 pub mod TakeLemmas
 pub mod ResultLemmas
 pub mod GoingLemmas
+pub mod WalkLemmas
+pub mod CountLemmas
+pub mod DropLemmas
+pub mod CountedLemmas

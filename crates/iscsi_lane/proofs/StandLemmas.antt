@@ -1,5 +1,5 @@
 -- What stands in the lane, by slots, where one comes, owes less, or goes.
-use Rattle.std.proofs.Common.{◌≡◌, ◌≢◌, ℕ, suc, ◌+◌, ◌<◌, ◌≤◌, ◌||◌, cond, Bool, true, false, List, [], ◌∷◌, ◌++◌, length, map, filter, set, refl, ap, sym, subst, ◌∙◌, arith, ⊎_elim, eq-eqb, ne_eqb}
+use Rattle.std.proofs.Common.{◌≡◌, ◌≢◌, ℕ, suc, ◌+◌, ◌<◌, ◌≤◌, ◌||◌, cond, Bool, true, false, List, [], ◌∷◌, ◌++◌, length, map, filter, set, Some, None, refl, ap, sym, subst, ◌∙◌, arith, ⊎_elim, eq-eqb, ne_eqb}
 use Rattle.std.specs.List.{count_by, list_any}
 use Rattle.std.proofs.lemmas.Bool.{cases_eq, cases_lt, cases_Bool, or_parts, or_left, or_right}
 use Rattle.std.proofs.lemmas.List.{get_or-set_same, get_or-set_other}
@@ -11,7 +11,7 @@ use Rattle.iscsi_outbox_state.specs.declared.lane.Left.{Left}
 use Rattle.iscsi_outbox_state.specs.declared.lane.Standing.{Standing}
 use Rattle.iscsi_outbox_state.specs.declared.lane.Standing.TheVariants.{Left as IsLeft, Undue as IsUndue}
 use Rattle.iscsi_outbox_state.specs.Lane.{is_command, is_left, owes, still_owes, with_left}
-use Rattle.iscsi_lane.specs.Standings.{AllBehind, AreApart, NOBODY, StandAt, StandsAt, at, is_undue, standings, tally}
+use Rattle.iscsi_lane.specs.Standings.{AllBehind, AreApart, NOBODY, StandAt, StandsAt, at, is_undue, left_in, standings, tally}
 
 -- ---- one slot has another standing
 
@@ -116,6 +116,26 @@ none_past n xs s [] past stand = refl
 none_past n xs s (y ∷ ys) past stand =
     ap (λ b. b || list_any (is_command s) (standings xs ys)) (past_here n s y (at xs y) stand.0 past)
     ∙ none_past n xs s ys past stand.1
+
+left_skips : (s : ℕ) (x : Standing) (rest : List Standing) → is_command s x ≡ false → left_in s (x ∷ rest) ≡ left_in s rest
+left_skips s (IsLeft c) rest off = ap (λ b. cond b (Some c) (left_in s rest)) off
+left_skips s (IsUndue a) rest off = refl
+
+pub left_none : (s : ℕ) (xs : List Standing) → list_any (is_command s) xs ≡ false → left_in s xs ≡ None
+left_none s [] none = refl
+left_none s (x ∷ xs) none = let parts = or_parts (is_command s x) (list_any (is_command s) xs) none in left_skips s x xs parts.0 ∙ left_none s xs parts.1
+
+pub left_at : (n : ℕ) (xs : List Standing) (s : ℕ) (c : Left) (slots : List ℕ) → 1 ≤ times s slots → at xs s ≡ IsLeft c → c.command ≡ s → StandAt n xs slots → left_in s (standings xs slots) ≡ Some c
+left_at n xs s c [] there is own stand = absurd (omega (arith, there))
+left_at n xs s c (y ∷ ys) there is own stand = ⊎_elim
+    (λ (same : y ≡ s).
+    ap (λ x. left_in s (x ∷ standings xs ys)) (ap (at xs) same ∙ is)
+    ∙ ap (λ b. cond b (Some c) (left_in s (standings xs ys))) (eq-eqb c.command s own))
+    (λ other.
+    let a = times_other s y ys other in
+    left_skips s (at xs y) (standings xs ys) (not_here n s y (at xs y) stand.0 other)
+    ∙ left_at n xs s c ys (omega (arith, a, there)) is own stand.1)
+    (cases_eq y s)
 
 -- ---- a command owes less
 

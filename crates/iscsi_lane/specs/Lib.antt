@@ -3,3 +3,5 @@ pub mod Scoping
 pub mod Times
 pub mod Following
 pub mod Rows
+pub mod Walking
+pub mod Counting

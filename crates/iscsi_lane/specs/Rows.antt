@@ -1,13 +1,13 @@
 -- Worked lanes, computed.
-use Rattle.std.specs.Prelude.{◌≡◌, ℕ, Bool, true, false, [], Some, None, refl}
+use Rattle.std.specs.Prelude.{◌≡◌, ℕ, Bool, true, false, Some, None, refl}
 use Rattle.iscsi_wire.specs.declared.reply.Reply.TheVariants.{Task as TaskReply, Logout}
 use Rattle.iscsi_outbox_state.specs.declared.lane.Aim.TheVariants.{Tag, Unit as AtUnit, Conn}
 use Rattle.iscsi_outbox_state.specs.declared.lane.Left.{Left}
 use Rattle.iscsi_outbox_state.specs.declared.lane.Undue.{Undue}
-use Rattle.iscsi_outbox_state.specs.Lane.{Lane, any_in, arrived, awaited, cleared, count_in, dropped_on, first_due, has_left, is_command, is_left, is_numbered, stopped, without_due}
+use Rattle.iscsi_outbox_state.specs.Lane.{Lane, any_in, arrived, awaited, cleared, count_in, dropped_on, first_due, has_left, is_command, is_left, is_numbered, opened, stopped, without_due}
 
 abbrev pub empty : Lane
-empty = record { items = []; commands = 4; answers = 3 }
+empty = opened 2 4 3
 
 -- a command of unit 5 and tag 9, on this connection
 abbrev pub command : ℕ → ℕ → Bool → Bool → Left

@@ -1,5 +1,5 @@
 -- How what stands in the lane has slots; and what holds of all lanes.
-use Rattle.std.specs.Prelude.{◌≡◌, ℕ, ◌+◌, ◌<◌, ◌≤◌, not, Bool, true, false, cond, List, [], ◌∷◌, length, map, Option, Some, None, slice_index_or}
+use Rattle.std.specs.Prelude.{◌≡◌, ℕ, ◌+◌, ◌*◌, ◌==◌, ◌<◌, ◌≤◌, not, Bool, true, false, cond, List, [], ◌∷◌, length, map, Option, Some, None, slice_index_or, if◌then◌else◌}
 use Rattle.std.specs.List.{list_any}
 use Rattle.iscsi_slots.specs.Slots.{times}
 use Rattle.iscsi_lists.specs.Lists.{Listed}
@@ -22,13 +22,38 @@ AreApart commands [] = Unit {0}
 AreApart commands (IsLeft c ∷ rest) = (list_any (is_command c.command) rest ≡ false) × (MayStand commands (IsLeft c) × AreApart commands rest)
 AreApart commands (IsUndue a ∷ rest) = AreApart commands rest
 
+-- the connection that a command is of, or an answer goes out on
+abbrev pub conn_of : Standing → ℕ
+conn_of (IsLeft c) = c.conn
+conn_of (IsUndue a) = a.conn
+
+-- is one of the session's
+abbrev pub AreWithin : ℕ → List Standing → Type 0
+AreWithin conns [] = Unit {0}
+AreWithin conns (x ∷ xs) = (conn_of x < conns) × AreWithin conns xs
+
 -- what holds of all lanes
 pub record AreKnown (v : Lane) : Type 0 where
   pub apart : AreApart v.commands v.items
   pub few : count_in is_undue v ≤ v.answers
-  pub short : v.commands + v.answers + 5 ≤ 4294967295
+  pub within : AreWithin v.conns v.items
+  pub conns : v.conns ≤ 65536
+  pub short : 3 * (v.commands + v.answers) + 5 ≤ 4294967295
+
+-- the command at a place
+abbrev pub left_in : ℕ → List Standing → Option Left
+left_in place [] = None
+left_in place (IsLeft c ∷ rest) = if c.command == place then Some c else left_in place rest
+left_in place (IsUndue a ∷ rest) = left_in place rest
 
 -- ---- slots. For private contracts alone
+
+-- what holds of all that stands there
+pub record AreSound (v : Lane) : Type 0 where
+  pub apart : AreApart v.commands v.items
+  pub few : count_in is_undue v ≤ v.answers
+  pub long : length v.items ≤ v.commands + v.answers
+  pub short : v.commands + v.answers + 5 ≤ 4294967295
 
 abbrev pub NOBODY : Standing
 NOBODY = IsLeft (record { command = 0; conn = 0; unit = 0; tag = 0; running = false; under_way = false })
@@ -46,8 +71,8 @@ slots_at log list = slice_index_or log.lists list []
 abbrev pub items_in : Listed Standing → List Standing
 items_in log = standings log.values (slots_at log 2)
 
-abbrev pub lane_of : Listed Standing → ℕ → ℕ → Lane
-lane_of log commands answers = record { items = items_in log; commands = commands; answers = answers }
+abbrev pub lane_of : Listed Standing → ℕ → ℕ → ℕ → Lane
+lane_of log conns commands answers = record { items = items_in log; conns = conns; commands = commands; answers = answers }
 
 -- a command stands in the slot of its place, an answer behind the places of all commands
 abbrev pub StandsAt : ℕ → ℕ → Standing → Type 0

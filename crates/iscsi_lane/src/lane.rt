@@ -1,99 +1,75 @@
 //! The lane.
 
-ghost use Rattle.std.specs.Prelude.{◌≡◌, ◌+◌, ◌<◌, ◌≤◌, [], not, false, true, IfOk};
-ghost use Rattle.iscsi_outbox_state.specs.Lane.{any_in, arrived, awaited, count_in, has_left, is_command, is_left, is_numbered, owes, stopped};
+ghost use Rattle.std.specs.Prelude.{◌≡◌, ◌+◌, ◌*◌, ◌<◌, ◌≤◌, false, true, nat_lt, length, slice_index_or, slice_set, IfOk};
+ghost use Rattle.iscsi_outbox_state.specs.Lane.{any_in, arrived, awaited, cleared, count_in, dropped_on, first_due, goes_out_on, has_left, is_command, is_left, is_numbered, is_under_way_on, opened, owes, stopped, without_due};
 ghost use Rattle.iscsi_lane.specs.Standings.{AreKnown, is_undue};
 
-use crate::settling::{AWAY, FREE, LOG, find, lessen, one_if};
-use iscsi_lists::Lists;
-use iscsi_outbox_state::{Left, Standing, Undue};
+use crate::settling::one_if;
+use crate::standings::Standings;
+use iscsi_outbox_state::{Left, Undue};
 use std::alloc::{AllocError, Global};
 use std::marker::Model;
 
-/// Any command: what a slot has that was never used.
-const NOBODY: Standing = Standing::Left(Left {
-    command: 0,
-    conn: 0,
-    unit: 0,
-    tag: 0,
-    running: false,
-    under_way: false,
-});
-
 /// The commands that left and owe something, and the answers that wait for them, in the order of the log.
 ///
-/// A command stands in the slot of its place, and answers in those behind the places of all commands. Each call takes
-/// the same time however many stand there.
+/// Each call takes the same time however many stand there, but for three. `take_due` walks over the log where an answer
+/// waits, and looks at what stands before each. `drop_on` walks over it for each answer that it drops, and `clear` once.
 pub struct Lane {
-    log: Lists<Standing>,
-    commands: usize,
-    answers: usize,
-    /// How many commands stand there, how many answers, and how many of these answer a numbered request.
-    owing: usize,
-    waiting: usize,
-    numbered: usize,
+    standings: Standings,
+    /// Of each connection, how many commands have something under way on it, and how many answers go out on it.
+    under_way: Vec<usize>,
+    going_out: Vec<usize>,
 }
 
 impl Drop for Lane {
     fn drop(self) {
         let Lane {
-            log: _log,
-            commands: _commands,
-            answers: _answers,
-            owing: _owing,
-            waiting: _waiting,
-            numbered: _numbered,
+            standings: _standings,
+            under_way: _under_way,
+            going_out: _going_out,
         } = self;
     }
 }
 
 impl Model for Lane {
     ghost use Rattle.iscsi_outbox_state.specs.Lane.{Lane as Kept};
-    ghost use Rattle.iscsi_lane.specs.Standings.{IsLane, lane_of};
+    ghost use Rattle.iscsi_lane.specs.Counting.{IsCounted};
 
     ghost Value = { Kept };
 
-    ghost view = { λ s. lane_of s.log s.commands s.answers };
+    ghost view = { λ s. s.standings };
 
-    ghost invariant = { λ s. IsLane s.log s.commands s.answers s.owing s.waiting s.numbered };
+    ghost invariant = { λ s. IsCounted s.standings s.under_way.items s.going_out.items };
 }
 
 impl Lane {
-    /// Nothing stands there. Commands have the places from 1 up to a number, and so many answers may wait. It takes all
-    /// its memory here.
-    pub fn with_room(alloc: Global, commands: usize, answers: usize) -> Result<Lane, AllocError>
-        requires { commands + answers + 5 ≤ 4294967295 }
-        ensures items { IfOk result (λ s. s.items ≡ []) }
-        ensures commands { IfOk result (λ s. s.commands ≡ commands) }
-        ensures answers { IfOk result (λ s. s.answers ≡ answers) }
+    /// Nothing stands there. Connections have the places from 0 up to a number, and commands those from 1 up to one. So
+    /// many answers may wait. It takes all its memory here.
+    pub fn with_room(
+        alloc: Global,
+        conns: usize,
+        commands: usize,
+        answers: usize,
+    ) -> Result<Lane, AllocError>
+        requires conns { conns ≤ 65536 }
+        requires places { 3 * (commands + answers) + 5 ≤ 4294967295 }
+        ensures { IfOk result (λ s. s ≡ opened conns commands answers) }
     {
-        let mut log = Lists::with_room(alloc, 3, commands + answers, NOBODY)?;
-        for _ in 0..answers {
-            log.known();
-            log.push_back(FREE, NOBODY);
-        }
-        for _ in 0..commands {
-            log.known();
-            log.push_back(AWAY, NOBODY);
-        }
         Ok(Lane {
-            log,
-            commands,
-            answers,
-            owing: 0,
-            waiting: 0,
-            numbered: 0,
+            standings: Standings::with_room(alloc, conns, commands, answers)?,
+            under_way: vec![in alloc; 0; conns]?,
+            going_out: vec![in alloc; 0; conns]?,
         })
     }
 
     /// What holds of all lanes: each command owes something, and has a place that no other one has; no more answers wait
-    /// than may. It does nothing.
+    /// than may; and each connection is one of the session's. It does nothing.
     #[inline(always)]
     pub fn known(&self)
         ensures { AreKnown self.now }
     {
-        self.log.known();
-        let _commands = self.commands;
+        self.standings.known();
+        let _under_way = &self.under_way;
     }
 
     /// A command left its task set by an abort or a Logout, and owes something.
@@ -101,88 +77,125 @@ impl Lane {
         requires owes { owes left ≡ true }
         requires some { 1 ≤ left.command }
         requires within { left.command ≤ self.old.commands }
+        requires conn { left.conn < self.old.conns }
         requires none { any_in (is_command left.command) self.old ≡ false }
         ensures { self.new ≡ has_left left self.old }
     {
-        self.log.known();
-        self.log.move_to_back(left.command, LOG);
-        self.log.set(left.command, Standing::Left(left));
-        self.owing += 1;
+        self.standings.known();
+        self.standings.leave(left);
+        self.under_way[usize::from(left.conn)] += one_if(left.under_way);
     }
 
     /// An answer waits, behind all that stands there.
     pub fn wait(&mut self, answer: Undue)
-        requires { count_in is_undue self.old < self.old.answers }
+        requires room { count_in is_undue self.old < self.old.answers }
+        requires conn { answer.conn < self.old.conns }
         ensures { self.new ≡ awaited answer self.old }
     {
-        self.log.known();
-        let slot = self.log.first(FREE).unwrap();
-        self.log.move_to_back(slot, LOG);
-        self.log.set(slot, Standing::Undue(answer));
-        self.waiting += 1;
-        self.numbered += one_if(answer.numbered);
+        self.standings.known();
+        self.standings.wait(answer);
+        self.going_out[usize::from(answer.conn)] += 1;
     }
 
     /// The unit of a command doesn't touch the medium for it any more. Nothing changes where it doesn't stand there.
     pub fn stop(&mut self, command: u32)
         ensures { self.new ≡ stopped command self.old }
     {
-        self.log.known();
-        let Some(left) = find(&self.log, self.commands, command) else {
-            return;
-        };
-        self.owing -= lessen(
-            &mut self.log,
-            Left {
-                running: false,
-                ..left
-            },
-        );
+        self.standings.stop(command);
     }
 
     /// Nothing of a command is under way any more. Nothing changes where it doesn't stand there.
     pub fn arrive(&mut self, command: u32)
         ensures { self.new ≡ arrived command self.old }
     {
-        self.log.known();
-        let Some(left) = find(&self.log, self.commands, command) else {
-            return;
-        };
-        self.owing -= lessen(
-            &mut self.log,
-            Left {
-                under_way: false,
-                ..left
-            },
-        );
+        self.standings.known();
+        if let Some(left) = self.standings.arrive(command) {
+            self.under_way[usize::from(left.conn)] -= one_if(left.under_way);
+        }
+    }
+
+    /// The answer that is due first goes, if one is due.
+    pub fn take_due(&mut self) -> Option<Undue>
+        ensures answer { result ≡ first_due self.old }
+        ensures state { self.new ≡ without_due self.old }
+    {
+        let answer = self.standings.take_due()?;
+        self.going_out[usize::from(answer.conn)] -= 1;
+        Some(answer)
+    }
+
+    /// The answers that would go out on a connection are dropped.
+    pub fn drop_on(&mut self, conn: u16)
+        ensures { self.new ≡ dropped_on conn self.old }
+    {
+        self.standings.drop_on(conn);
+        forget(&mut self.going_out, usize::from(conn));
+    }
+
+    /// The oldest answer that waits for other sessions, about this unit, waits for them no more.
+    pub fn clear(&mut self, unit: u16)
+        ensures { self.new ≡ cleared unit self.old }
+    {
+        self.standings.clear(unit);
     }
 
     /// Whether a command stands there.
-    pub fn owing_of(&self, command: u32) -> bool
+    pub fn has(&self, command: u32) -> bool
         ensures { result ≡ any_in (is_command command) self.now }
     {
-        self.log.known();
-        find(&self.log, self.commands, command).is_some()
+        self.standings.has(command)
+    }
+
+    /// Whether a command has something under way on a connection.
+    pub fn under_way_on(&self, conn: u16) -> bool
+        ensures { result ≡ nat_lt 0 (count_in (is_under_way_on conn) self.now) }
+    {
+        is_some_at(&self.under_way, conn)
+    }
+
+    /// Whether an answer waits that goes out on a connection.
+    pub fn waits_on(&self, conn: u16) -> bool
+        ensures { result ≡ any_in (goes_out_on conn) self.now }
+    {
+        is_some_at(&self.going_out, conn)
     }
 
     /// How many commands stand there.
     pub fn owing(&self) -> usize
         ensures { result ≡ count_in is_left self.now }
     {
-        self.owing
+        self.standings.owing()
     }
 
     /// How many answers wait.
     pub fn answers_waiting(&self) -> usize
         ensures { result ≡ count_in is_undue self.now }
     {
-        self.waiting
+        self.standings.answers_waiting()
     }
 
     /// How many answers to numbered requests wait.
     pub fn numbered(&self) -> usize
         ensures { result ≡ count_in is_numbered self.now }
     {
-        self.numbered
+        self.standings.numbered()
+    }
+}
+
+/// Whether there is any of a connection, by the counts of all.
+fn is_some_at(counts: &[usize], conn: u16) -> bool
+    ensures { result ≡ nat_lt 0 (slice_index_or counts.now conn 0) }
+{
+    let conn = usize::from(conn);
+    conn < counts.len() && 0 < counts[conn]
+}
+
+/// Sets the count of a connection to 0, if it is one of those that are counted.
+fn forget(counts: &mut Vec<usize>, conn: usize)
+    ensures here { conn < length counts.old.items → counts.new.items ≡ slice_set counts.old.items conn 0 }
+    ensures past { length counts.old.items ≤ conn → counts.new.items ≡ counts.old.items }
+{
+    if conn < counts.len() {
+        counts[conn] = 0;
     }
 }

@@ -6,5 +6,7 @@ mod following;
 mod lane;
 mod settling;
 mod stamps;
+mod standings;
+mod walking;
 
 pub use lane::Lane;

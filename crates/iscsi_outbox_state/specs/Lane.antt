@@ -11,8 +11,13 @@ use Rattle.iscsi_outbox_state.specs.declared.lane.Standing.TheVariants.{Left as 
 
 pub record Lane : Type 0 where
   pub items : List Standing
+  pub conns : ℕ  -- connections have the places from 0 up to this
   pub commands : ℕ  -- commands have the places from 1 up to this
   pub answers : ℕ  -- so many answers may wait
+
+-- nothing stands there
+abbrev pub opened : ℕ → ℕ → ℕ → Lane
+opened conns commands answers = record { items = []; conns = conns; commands = commands; answers = answers }
 
 abbrev pub with_items : Lane → List Standing → Lane
 with_items v items = record v { items = items }

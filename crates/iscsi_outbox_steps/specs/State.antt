@@ -8,7 +8,7 @@ use Rattle.iscsi_arrivals.specs.declared.stamp.Stamp.{Stamp}
 use Rattle.iscsi_arrivals.specs.Counts.{Counts, has_arrived_by, is_behind_logout_by, is_busy_by, is_open_by, is_usable_by, new_counts}
 use Rattle.iscsi_outbox_state.specs.declared.waiting.Front.{Front}
 use Rattle.iscsi_outbox_state.specs.Waits.{Waits, opened as no_waits, is_fenced, is_fenced_before, is_reply, is_taking, is_taking_before, queue_at, any_in as any_waits, count_in as count_waits, is_numbered as is_numbered_entry}
-use Rattle.iscsi_outbox_state.specs.Lane.{Lane, any_in as any_stands, count_in as count_stands, goes_out_on, is_left, is_numbered as is_numbered_answer, is_under_way_on}
+use Rattle.iscsi_outbox_state.specs.Lane.{Lane, opened as no_answers, any_in as any_stands, count_in as count_stands, goes_out_on, is_left, is_numbered as is_numbered_answer, is_under_way_on}
 use Rattle.iscsi_outbox_steps.specs.declared.sent.Sent.{Sent}
 use Rattle.iscsi_tracked.specs.Tracked.{Tracked, opened as no_commands}
 
@@ -73,7 +73,7 @@ opened o first =
       limits = o;
       links = map (λ (cid : ℕ). new_counts) o.cids;
       waits = no_waits (length o.cids) (places o) (waiting_room o);
-      lane = record { items = []; commands = places o; answers = places o };
+      lane = no_answers (length o.cids) (places o) (places o);
       tracked = no_commands (length o.cids) (places o);
       fence = None;
       exp = first;

@@ -1,56 +1,30 @@
-use Rattle.std.proofs.Common.{◌∙◌, ◌-◌, ◌≤◌, ap, sym, subst, arith}
-use Rattle.iscsi_lists.specs.Lists.{times_in}
-use Rattle.iscsi_outbox_state.specs.Lane.{not_under_way, arrived}
-use Rattle.iscsi_lane.proofs.LaneLemmas.{at_within, in_at, less_lane, less_owing, less_view, none_view}
+use Rattle.std.proofs.Common.{◌-◌, set, sym, subst, arith}
+use Rattle.iscsi_lane.specs.Counting.{IsCounted}
+use Rattle.iscsi_lane.proofs.CountedLemmas.{arrived_counted, arrived_some, its_conn, none_arrived}
 use Rattle.iscsi_lane.proofs.lane.Lane.arrive.Goals as goal
 
-pub returns-in_default : goal.returns-in_default
-returns-in_default c =
+pub index_mut-requires : goal.index_mut-requires
+index_mut-requires c =
     let i = c.self.inside in
-    let lane = c.self.invariant in
-    let known = c.known.ensures.apart in
-    sym c.self.view_is ∙ none_view i.log i.commands i.answers i.owing i.waiting i.numbered lane known c.known.ensures.values not_under_way c.args.command c.in_default.ensures
-    ∙ ap (arrived c.args.command) c.self.view_is
+    let a = its_conn i.standings i.under_way.items i.going_out.items c.self.invariant c.args.command c.known.ensures.apart c.in-Some.left (sym c.in-Some.ensures.command)
+    c.from.result c.one_if.result 0 c.from.ensures c.one_if.ensures in
+    let b = c.self.invariant.of_under_way.long in let d = i.under_way.ok.0 in omega (arith, a, b, d)
 
-pub lessen-requires-clause-there : goal.lessen-requires-clause-there
-lessen-requires-clause-there c =
+pub overflow_sub-index_mut : goal.overflow_sub-index_mut
+overflow_sub-index_mut c =
     let i = c.self.inside in
-    let lane = c.self.invariant in
-    let known = c.known.ensures.apart in
-    let found = c.in-Some.ensures in
-    subst (λ k. 1 ≤ times_in k i.log.lists) (sym found.1.1.0) (in_at i.log i.commands lane.standing known 2 c.args.command found.0)
-
-pub lessen-requires-clause-within : goal.lessen-requires-clause-within
-lessen-requires-clause-within c =
-    let i = c.self.inside in
-    let lane = c.self.invariant in
-    let known = c.known.ensures.apart in
-    let found = c.in-Some.ensures in
-    let e = found.1.1.0 in let a = at_within i.log i.commands lane.standing known 2 c.args.command found.0 in omega (arith, a, e)
-
-pub overflow_sub-self : goal.overflow_sub-self
-overflow_sub-self c =
-    let i = c.self.inside in
-    let lane = c.self.invariant in
-    let known = c.known.ensures.apart in
-    less_owing i.log i.commands i.answers i.owing i.waiting i.numbered lane known c.known.ensures.values not_under_way c.args.command c.in-Some.left c.in-Some.ensures
-    c.lessen.new.log c.lessen.result c.in-Some.ensures.1.1.0 c.lessen.ensures.kept c.lessen.ensures.gone
+    arrived_some i.standings i.under_way.items i.going_out.items c.self.invariant c.args.command c.known.ensures.apart c.in-Some.left (sym c.in-Some.ensures.command)
+    c.from.result c.one_if.result c.index_mut.result.now c.from.ensures c.one_if.ensures c.index_mut.ensures.value
 
 pub invariant_of-self : goal.invariant_of-self
 invariant_of-self c =
     let i = c.self.inside in
-    let lane = c.self.invariant in
-    let known = c.known.ensures.apart in
-    let few = less_owing i.log i.commands i.answers i.owing i.waiting i.numbered lane known c.known.ensures.values not_under_way c.args.command c.in-Some.left c.in-Some.ensures
-    c.lessen.new.log c.lessen.result c.in-Some.ensures.1.1.0 c.lessen.ensures.kept c.lessen.ensures.gone in
-    less_lane i.log i.commands i.answers i.owing i.waiting i.numbered lane known c.known.ensures.values not_under_way c.args.command c.in-Some.left c.in-Some.ensures
-    c.lessen.new.log c.lessen.result c.in-Some.ensures.1.1.0 c.lessen.ensures.kept c.lessen.ensures.gone (i.owing - c.lessen.result) (omega (arith, few))
+    subst (λ v. IsCounted v (set i.under_way.items c.from.result (c.index_mut.result.now - c.one_if.result)) i.going_out.items) (sym c.arrive.ensures.state)
+    (arrived_counted i.standings i.under_way.items i.going_out.items c.self.invariant c.args.command c.known.ensures.apart c.in-Some.left (sym c.in-Some.ensures.command)
+    c.from.result c.one_if.result c.index_mut.result.now c.from.ensures c.one_if.ensures c.index_mut.ensures.value)
 
-pub returns : goal.returns
-returns c =
+pub invariant_of-self-in_default : goal.invariant_of-self-in_default
+invariant_of-self-in_default c =
     let i = c.self.inside in
-    let lane = c.self.invariant in
-    let known = c.known.ensures.apart in
-    less_view i.log i.commands i.answers i.owing i.waiting i.numbered lane known c.known.ensures.values not_under_way c.args.command c.in-Some.left c.in-Some.ensures
-    c.lessen.new.log c.lessen.result c.in-Some.ensures.1.1.0 c.lessen.ensures.kept c.lessen.ensures.gone
-    ∙ ap (arrived c.args.command) c.self.view_is
+    subst (λ v. IsCounted v i.under_way.items i.going_out.items) (sym c.arrive.ensures.state)
+    (none_arrived i.standings i.under_way.items i.going_out.items c.self.invariant c.args.command (sym c.in_default.ensures.command))

@@ -1,56 +1,20 @@
-use Rattle.std.proofs.Common.{◌≡◌, ◌∙◌, ◌+◌, ◌≤◌, ◌++◌, ◌∷◌, [], false, refl, ap, length, sym, subst, arith}
-use Rattle.iscsi_lists.proofs.WithoutLemmas.{without_none}
-use Rattle.iscsi_outbox_state.specs.declared.lane.Standing.TheVariants.{Left as IsLeft}
-use Rattle.iscsi_outbox_state.specs.Lane.{Lane, any_in, is_command, with_items}
-use Rattle.iscsi_lane.specs.Standings.{slots_at}
-use Rattle.iscsi_lane.proofs.StandLemmas.{not_behind}
-use Rattle.iscsi_lane.proofs.LaneLemmas.{come_lane, come_view, few_owing, in_lists, not_there}
+use Rattle.std.proofs.Common.{◌<◌, ◌+◌, set, sym, subst, arith}
+use Rattle.iscsi_outbox_state.specs.Lane.{Lane}
+use Rattle.iscsi_lane.specs.Counting.{IsCounted}
+use Rattle.iscsi_lane.proofs.StandLemmas.{one_at_most}
+use Rattle.iscsi_lane.proofs.CountedLemmas.{left_counted, under_way_few}
 use Rattle.iscsi_lane.proofs.lane.Lane.leave.Goals as goal
 
-pub move_to_back-requires-clause-slot : goal.move_to_back-requires-clause-slot
-move_to_back-requires-clause-slot c =
+pub overflow_add-index_mut : goal.overflow_add-index_mut
+overflow_add-index_mut c =
     let i = c.self.inside in
-    let lane = c.self.invariant in
-    let known = c.known.ensures.apart in
-    let within = subst (λ (v : Lane). c.args.left.command ≤ v.commands) (sym c.self.view_is) c.requires.within in
-    in_lists i.log i.commands lane.standing known c.args.left.command c.requires.some (let a = lane.standing.most in omega (arith, a, within))
-
-pub set-requires : goal.set-requires
-set-requires c =
-    let i = c.self.inside in
-    let lane = c.self.invariant in
-    let known = c.known.ensures.apart in
-    let within = subst (λ (v : Lane). c.args.left.command ≤ v.commands) (sym c.self.view_is) c.requires.within in
-    let a = lane.standing.most in let b = ap (λ u. u.room) c.move_to_back.ensures.state in omega (arith, a, b, within)
-
-pub overflow_add-self : goal.overflow_add-self
-overflow_add-self c =
-    let i = c.self.inside in
-    let lane = c.self.invariant in
-    let known = c.known.ensures.apart in
-    let a = few_owing i.log i.commands i.answers i.owing i.waiting i.numbered lane known in let b = c.known.ensures.short in omega (arith, a, b)
+    let own = subst (λ (v : Lane). c.args.left.conn < v.conns) (sym c.self.view_is) c.requires.conn in
+    let a = under_way_few i.standings i.under_way.items i.going_out.items c.self.invariant c.from.result c.index_mut.result.now (let e = c.from.ensures in omega (arith, e, own)) c.index_mut.ensures.value in
+    let b = c.known.ensures.long in let d = c.known.ensures.short in let e = one_at_most c.args.left.under_way in let f = c.one_if.ensures in omega (arith, a, b, d, e, f)
 
 pub invariant_of-self : goal.invariant_of-self
 invariant_of-self c =
     let i = c.self.inside in
-    let lane = c.self.invariant in
-    let known = c.known.ensures.apart in
-    let slot = c.args.left.command in
-    let within = subst (λ (v : Lane). slot ≤ v.commands) (sym c.self.view_is) c.requires.within in
-    let none = subst (λ (v : Lane). any_in (is_command slot) v ≡ false) (sym c.self.view_is) c.requires.none in
-    let gone = without_none slot (slots_at i.log 1) (not_behind i.commands slot (slots_at i.log 1) within lane.standing.behind) in
-    come_lane i.log i.commands i.answers i.owing i.waiting i.numbered lane known c.known.ensures.values slot (IsLeft c.args.left) c.move_to_back.new.self c.set.new.self
-    c.move_to_back.ensures.state c.set.ensures (let a = lane.standing.most in omega (arith, a, within)) (not_there i.log i.commands lane.standing known slot within none) (refl, (within, c.requires.owes))
-    (i.owing + 1) i.waiting i.numbered refl (omega arith) (omega arith) (let a = ap length gone in let b = lane.rest in omega (arith, a, b))
-
-pub returns : goal.returns
-returns c =
-    let i = c.self.inside in
-    let lane = c.self.invariant in
-    let known = c.known.ensures.apart in
-    let slot = c.args.left.command in
-    let within = subst (λ (v : Lane). slot ≤ v.commands) (sym c.self.view_is) c.requires.within in
-    let none = subst (λ (v : Lane). any_in (is_command slot) v ≡ false) (sym c.self.view_is) c.requires.none in
-    come_view i.log i.commands i.answers i.owing i.waiting i.numbered lane known c.known.ensures.values slot (IsLeft c.args.left) c.move_to_back.new.self c.set.new.self
-    c.move_to_back.ensures.state c.set.ensures (let a = lane.standing.most in omega (arith, a, within)) (not_there i.log i.commands lane.standing known slot within none) (refl, (within, c.requires.owes))
-    ∙ ap (λ (v : Lane). with_items v (v.items ++ IsLeft c.args.left ∷ [])) c.self.view_is
+    let own = subst (λ (v : Lane). c.args.left.conn < v.conns) (sym c.self.view_is) c.requires.conn in
+    subst (λ v. IsCounted v (set i.under_way.items c.from.result (c.index_mut.result.now + c.one_if.result)) i.going_out.items) (sym c.leave.ensures)
+    (left_counted i.standings i.under_way.items i.going_out.items c.self.invariant c.args.left c.from.result c.one_if.result c.index_mut.result.now c.from.ensures c.one_if.ensures own c.index_mut.ensures.value)

@@ -1,82 +1,19 @@
-use Rattle.std.proofs.Common.{◌∙◌, ◌+◌, ◌<◌, ◌++◌, ◌∷◌, [], refl, ap, sym, subst, arith}
-use Rattle.std.specs.Option.{is_some}
-use Rattle.iscsi_lists.proofs.WithoutLemmas.{length_without}
-use Rattle.iscsi_outbox_state.specs.declared.lane.Standing.TheVariants.{Undue as IsUndue}
-use Rattle.iscsi_outbox_state.specs.Lane.{Lane, count_in, with_items}
-use Rattle.iscsi_lane.specs.Standings.{is_undue, slots_at}
-use Rattle.iscsi_lane.proofs.StandLemmas.{is_behind, one_at_most}
-use Rattle.iscsi_lane.proofs.LaneLemmas.{at_once, at_within, come_lane, come_view, few_numbered, few_waiting, first_there, in_at, only_at, some_first, some_free}
+use Rattle.std.proofs.Common.{◌<◌, ◌+◌, set, sym, subst, arith}
+use Rattle.iscsi_outbox_state.specs.Lane.{Lane}
+use Rattle.iscsi_lane.specs.Counting.{IsCounted}
+use Rattle.iscsi_lane.proofs.CountedLemmas.{answer_counted, going_out_few}
 use Rattle.iscsi_lane.proofs.lane.Lane.wait.Goals as goal
 
-pub unwrap-slot-requires : goal.unwrap-slot-requires
-unwrap-slot-requires c =
+pub overflow_add-index_mut : goal.overflow_add-index_mut
+overflow_add-index_mut c =
     let i = c.self.inside in
-    let lane = c.self.invariant in
-    let known = c.known.ensures.apart in
-    let fewer = subst (λ (v : Lane). count_in is_undue v < v.answers) (sym c.self.view_is) c.requires in
-    ap is_some c.first.ensures.slot ∙ some_first (slots_at i.log 1) (some_free i.log i.commands i.answers i.owing i.waiting i.numbered lane known fewer)
-
-pub move_to_back-requires-clause-slot : goal.move_to_back-requires-clause-slot
-move_to_back-requires-clause-slot c =
-    let i = c.self.inside in
-    let lane = c.self.invariant in
-    let known = c.known.ensures.apart in
-    let slot = c.unwrap-slot.result in
-    in_at i.log i.commands lane.standing known 1 slot (first_there slot (slots_at i.log 1) (sym c.first.ensures.slot ∙ c.unwrap-slot.ensures))
-
-pub set-requires : goal.set-requires
-set-requires c =
-    let i = c.self.inside in
-    let lane = c.self.invariant in
-    let known = c.known.ensures.apart in
-    let slot = c.unwrap-slot.result in
-    let there = first_there slot (slots_at i.log 1) (sym c.first.ensures.slot ∙ c.unwrap-slot.ensures) in
-    let within = at_within i.log i.commands lane.standing known 1 slot there in
-    let none = only_at i.log i.commands lane.standing known 1 slot 2 there (λ e. omega (arith, e)) in
-    let behind = is_behind i.commands slot (slots_at i.log 1) there lane.standing.behind in
-    let b = ap (λ u. u.room) c.move_to_back.ensures.state in omega (arith, b, within)
-
-pub overflow_add-self : goal.overflow_add-self
-overflow_add-self c =
-    let i = c.self.inside in
-    let lane = c.self.invariant in
-    let known = c.known.ensures.apart in
-    let a = few_waiting i.log i.commands i.answers i.owing i.waiting i.numbered lane known in let b = c.known.ensures.short in omega (arith, a, b)
-
-pub overflow_add-self-2 : goal.overflow_add-self-2
-overflow_add-self-2 c =
-    let i = c.self.inside in
-    let lane = c.self.invariant in
-    let known = c.known.ensures.apart in
-    let a = few_numbered i.log i.commands i.answers i.owing i.waiting i.numbered lane known in
-    let b = one_at_most c.args.answer.numbered in let d = c.one_if.ensures in let e = c.known.ensures.short in omega (arith, a, b, d, e)
+    let own = subst (λ (v : Lane). c.args.answer.conn < v.conns) (sym c.self.view_is) c.requires.conn in
+    let a = going_out_few i.standings i.under_way.items i.going_out.items c.self.invariant c.from.result c.index_mut.result.now (let e = c.from.ensures in omega (arith, e, own)) c.index_mut.ensures.value in
+    let b = c.known.ensures.long in let d = c.known.ensures.short in omega (arith, a, b, d)
 
 pub invariant_of-self : goal.invariant_of-self
 invariant_of-self c =
     let i = c.self.inside in
-    let lane = c.self.invariant in
-    let known = c.known.ensures.apart in
-    let slot = c.unwrap-slot.result in
-    let there = first_there slot (slots_at i.log 1) (sym c.first.ensures.slot ∙ c.unwrap-slot.ensures) in
-    let within = at_within i.log i.commands lane.standing known 1 slot there in
-    let none = only_at i.log i.commands lane.standing known 1 slot 2 there (λ e. omega (arith, e)) in
-    let behind = is_behind i.commands slot (slots_at i.log 1) there lane.standing.behind in
-    let fewer = length_without slot (slots_at i.log 1) in
-    let once = at_once i.log i.commands lane.standing known 1 slot in
-    come_lane i.log i.commands i.answers i.owing i.waiting i.numbered lane known c.known.ensures.values slot (IsUndue c.args.answer) c.move_to_back.new.self c.set.new.self
-    c.move_to_back.ensures.state c.set.ensures within none behind
-    i.owing (i.waiting + 1) (i.numbered + c.one_if.result) (omega arith) refl (ap (λ n. i.numbered + n) c.one_if.ensures) (let b = lane.rest in omega (arith, fewer, once, there, b))
-
-pub returns : goal.returns
-returns c =
-    let i = c.self.inside in
-    let lane = c.self.invariant in
-    let known = c.known.ensures.apart in
-    let slot = c.unwrap-slot.result in
-    let there = first_there slot (slots_at i.log 1) (sym c.first.ensures.slot ∙ c.unwrap-slot.ensures) in
-    let within = at_within i.log i.commands lane.standing known 1 slot there in
-    let none = only_at i.log i.commands lane.standing known 1 slot 2 there (λ e. omega (arith, e)) in
-    let behind = is_behind i.commands slot (slots_at i.log 1) there lane.standing.behind in
-    come_view i.log i.commands i.answers i.owing i.waiting i.numbered lane known c.known.ensures.values slot (IsUndue c.args.answer) c.move_to_back.new.self c.set.new.self
-    c.move_to_back.ensures.state c.set.ensures within none behind
-    ∙ ap (λ (v : Lane). with_items v (v.items ++ IsUndue c.args.answer ∷ [])) c.self.view_is
+    let own = subst (λ (v : Lane). c.args.answer.conn < v.conns) (sym c.self.view_is) c.requires.conn in
+    subst (λ v. IsCounted v i.under_way.items (set i.going_out.items c.from.result (c.index_mut.result.now + 1))) (sym c.wait.ensures)
+    (answer_counted i.standings i.under_way.items i.going_out.items c.self.invariant c.args.answer c.from.result c.index_mut.result.now c.from.ensures own c.index_mut.ensures.value)

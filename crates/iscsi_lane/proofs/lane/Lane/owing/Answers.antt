@@ -1,9 +1,0 @@
-use Rattle.std.proofs.Common.{ap, ◌∙◌}
-use Rattle.iscsi_outbox_state.specs.Lane.{count_in, is_left}
-use Rattle.iscsi_lane.proofs.LaneLemmas.{counted_left}
-use Rattle.iscsi_lane.proofs.lane.Lane.owing.Goals as goal
-
-pub returns : goal.returns
-returns c =
-    let i = c.self.inside in
-    counted_left i.log i.commands i.answers i.owing i.waiting i.numbered c.self.invariant ∙ ap (count_in is_left) c.self.view_is

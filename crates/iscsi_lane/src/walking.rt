@@ -1,0 +1,154 @@
+//! What a walk over the log finds: the answer that is due first, and the first of some answers.
+
+ghost use Rattle.std.specs.Prelude.{◌≡◌, ◌≤◌, ◌&&◌, ◌==◌, not, length};
+ghost use Rattle.iscsi_slots.specs.Slots.{times};
+ghost use Rattle.iscsi_outbox_state.specs.Lane.{aims_at as does_aim_at, holds_back as does_hold_back, is_due as is_due_behind, is_of_logout as is_of_a_logout, is_same_aim as is_one_aim};
+ghost use Rattle.iscsi_lane.specs.Standings.{slots_at, standings};
+ghost use Rattle.iscsi_lane.specs.Walking.{IsFirst, IsFirstDue, before_slot, wants};
+
+use crate::settling::LOG;
+use iscsi_lists::Lists;
+use iscsi_outbox_state::{Aim, Left, Standing, Undue};
+
+/// Which answers a walk looks for.
+#[derive(Clone, Copy)]
+pub(crate) enum Wanted {
+    /// Those that go out on a connection.
+    GoingOut(u16),
+    /// Those about a unit that wait for other sessions.
+    Uncleared(u16),
+}
+
+/// The answer that is due first, and its slot. It looks at each answer, and at what stands before it.
+pub(crate) fn first_due(log: &Lists<Standing>) -> Option<(u32, Undue)>
+    requires { length log.now.lists ≡ 3 }
+    ensures { IsFirstDue log.now result }
+{
+    log.known();
+    let mut at = log.first(LOG);
+    while let Some(slot) = at {
+        if let Standing::Undue(answer) = *log.at(slot) {
+            if is_due(log, slot, answer) {
+                return Some((slot, answer));
+            }
+        }
+        at = log.next(slot);
+    }
+    None
+}
+
+/// The first of some answers, and its slot.
+pub(crate) fn first_wanted(log: &Lists<Standing>, wanted: Wanted) -> Option<(u32, Undue)>
+    requires { length log.now.lists ≡ 3 }
+    ensures { IsFirst (wants wanted) log.now result }
+{
+    log.known();
+    let mut at = log.first(LOG);
+    while let Some(slot) = at {
+        if let Standing::Undue(answer) = *log.at(slot) {
+            if is_wanted(wanted, answer) {
+                return Some((slot, answer));
+            }
+        }
+        at = log.next(slot);
+    }
+    None
+}
+
+/// Whether an answer is wanted.
+fn is_wanted(wanted: Wanted, answer: Undue) -> bool
+    ensures { result ≡ wants wanted (Standing.Undue answer) }
+{
+    match wanted {
+        Wanted::GoingOut(conn) => answer.conn == conn,
+        Wanted::Uncleared(unit) => answer.uncleared && is_about(answer.aim, unit),
+    }
+}
+
+/// Whether an aim is a unit.
+fn is_about(aim: Aim, unit: u16) -> bool
+    ensures { result ≡ is_one_aim (Aim.Unit unit) aim }
+{
+    match aim {
+        Aim::Unit(u) => u == unit,
+        Aim::Tag(_) | Aim::Conn(_) | Aim::Session | Aim::Nothing => false,
+    }
+}
+
+/// Whether the answer in a slot is due, by all that stands before it.
+fn is_due(log: &Lists<Standing>, slot: u32, answer: Undue) -> bool
+    requires lists { length log.now.lists ≡ 3 }
+    requires there { 1 ≤ times slot (slots_at log.now 2) }
+    ensures { result ≡ is_due_behind (standings log.now.values (before_slot slot (slots_at log.now 2))) answer }
+{
+    if answer.uncleared {
+        return false;
+    }
+    log.known();
+    let mut at = log.first(LOG);
+    while let Some(before) = at {
+        if before == slot {
+            return true;
+        }
+        if holds_back(answer, *log.at(before)) {
+            return false;
+        }
+        at = log.next(before);
+    }
+    true
+}
+
+/// Whether what stands before an answer holds it back.
+fn holds_back(answer: Undue, before: Standing) -> bool
+    ensures { result ≡ does_hold_back answer before }
+{
+    match before {
+        Standing::Left(left) => {
+            aims_at(answer.aim, left) && (left.running || is_out_elsewhere(answer, left))
+        }
+        Standing::Undue(other) => {
+            is_same_aim(answer.aim, other.aim) || (answer.ends && other.conn == answer.conn)
+        }
+    }
+}
+
+/// Whether an abort waits for what a command has under way on another connection.
+fn is_out_elsewhere(answer: Undue, left: Left) -> bool
+    ensures { result ≡ (not (is_of_a_logout answer.aim) && (left.under_way && not (left.conn == answer.conn))) }
+{
+    !is_of_logout(answer.aim) && (left.under_way && left.conn != answer.conn)
+}
+
+/// Whether an abort or Logout aims at a command.
+fn aims_at(aim: Aim, left: Left) -> bool
+    ensures { result ≡ does_aim_at aim left }
+{
+    match aim {
+        Aim::Tag(tag) => left.tag == tag,
+        Aim::Unit(unit) => left.unit == unit,
+        Aim::Conn(conn) => left.conn == conn,
+        Aim::Session => true,
+        Aim::Nothing => false,
+    }
+}
+
+/// Whether an aim is that of a Logout.
+fn is_of_logout(aim: Aim) -> bool
+    ensures { result ≡ is_of_a_logout aim }
+{
+    match aim {
+        Aim::Tag(_) | Aim::Unit(_) => false,
+        Aim::Conn(_) | Aim::Session | Aim::Nothing => true,
+    }
+}
+
+/// Whether answers of two aims go out in their order.
+fn is_same_aim(aim: Aim, other: Aim) -> bool
+    ensures { result ≡ is_one_aim aim other }
+{
+    match (aim, other) {
+        (Aim::Tag(tag), Aim::Tag(t)) => t == tag,
+        (Aim::Unit(unit), Aim::Unit(u)) => u == unit,
+        _ => false,
+    }
+}
