@@ -1,0 +1,2 @@
+mod PairLemmas
+mod Opened

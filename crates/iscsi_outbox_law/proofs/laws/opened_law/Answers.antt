@@ -1,0 +1,5 @@
+use Rattle.iscsi_outbox_law.proofs.Opened.{stands_opened}
+use Rattle.iscsi_outbox_law.proofs.laws.opened_law.Goals as goal
+
+pub returns : goal.returns
+returns c = record { opened = stands_opened }

@@ -1,0 +1,9 @@
+pub mod Pairs
+pub mod Said
+pub mod Links
+pub mod Commands
+pub mod Lanes
+pub mod Fences
+pub mod Stands
+pub mod Sound
+pub mod Room

@@ -1,0 +1,6 @@
+//! The steps of an outbox answer as its rules do: laws of the definitions, which no code is needed for.
+#![tactic(auto)]
+
+mod laws;
+
+pub use laws::opened_law;
