@@ -11,6 +11,7 @@ use Rattle.iscsi_history.specs.declared.effect.Effect.TheVariants.{Enter, CloseC
 use Rattle.iscsi_history.specs.declared.effect.Numbers.{Numbers}
 use Rattle.iscsi_history.specs.rules.Trace.{first_of}
 use Rattle.iscsi_history.specs.rules.Execution.{unit_named}
+use Rattle.iscsi_history.specs.promises.Closes.{is_session_close}
 use Rattle.iscsi_history.specs.promises.Order.{in_parts}
 use Rattle.iscsi_outbox_rules.specs.declared.own_pdu.OwnPdu.{OwnPdu}
 use Rattle.iscsi_outbox_rules.specs.declared.own_pdu.OwnPdu.TheVariants.{OfCommand, OfConnection}
@@ -207,11 +208,12 @@ close None conns s = s
 
 -- ---- replies
 
--- what a Logout aims at, by the connections that its item closes
+-- what a Logout aims at, by the connections that its item closes. That of the last connection closes the session behind it
 abbrev pub aim_of_logout : List Effect → State → Aim
 aim_of_logout [] s = ClosesNothing
 aim_of_logout (CloseSession ∷ effects) s = Session
-aim_of_logout (CloseConn cid ∷ effects) s = elim (place_of s cid) [ Some conn ↦ Conn conn | None ↦ ClosesNothing ]
+aim_of_logout (CloseConn cid ∷ effects) s =
+    if list_any is_session_close effects then Session else elim (place_of s cid) [ Some conn ↦ Conn conn | None ↦ ClosesNothing ]
 aim_of_logout (effect ∷ effects) s = aim_of_logout effects s
 
 -- what a reply is about, if it is the answer to an abort or Logout that has to wait
