@@ -7,3 +7,4 @@ pub mod Fences
 pub mod Stands
 pub mod Sound
 pub mod Room
+pub mod Rows

@@ -1,0 +1,30 @@
+-- Worked lists that the rules and the steps answer alike.
+use Rattle.std.specs.Prelude.{List, [], ◌∷◌, refl}
+use Rattle.iscsi_wire.specs.declared.reply.Reply.TheVariants.{Logout}
+use Rattle.iscsi_tasks.specs.Rules as Rules
+use Rattle.iscsi_history.specs.examples.Rows.{command, logout_now, of_two}
+use Rattle.iscsi_outbox_rules.specs.examples.Rows.{Row, Worked, arrives, joins, none_goes, outbox, replies, stops}
+use Rattle.iscsi_outbox_steps.specs.Rows.{Worked as WorkedBySteps}
+
+-- the Logout of the last connection closes the session, and waits for the commands of those that were closed before
+abbrev pub last_closes_rows : List Row
+last_closes_rows =
+    joins 1 1
+    ∷ joins 2 1
+    ∷ arrives 2 (command 0xa1 1)
+    ∷ arrives 2 (logout_now 1 0xd1 2 2)
+    ∷ none_goes 2
+    ∷ arrives 1 (logout_now 1 0xd2 2 1)
+    ∷ none_goes 1
+    ∷ stops 1
+    ∷ replies 1 (Logout 0xd2 0) 1 2 5
+    ∷ replies 2 (Logout 0xd1 0) 1 2 5
+    ∷ []
+
+pub last_closes : Worked (outbox (of_two 4)) last_closes_rows
+unfolding Rules.bars_as
+last_closes = refl
+
+pub last_closes_by_steps : WorkedBySteps (outbox (of_two 4)) last_closes_rows
+unfolding Rules.bars_as
+last_closes_by_steps = refl
