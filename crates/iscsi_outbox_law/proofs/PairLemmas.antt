@@ -28,6 +28,22 @@ module _ {A : Type 0} where
   each-both P Q [] h k = tt
   each-both P Q (x ∷ xs) h k = ((h.0, k.0), each-both P Q xs h.1 k.1)
 
+  pub each-at : (P : A → Type 0) (xs : List A) (n : ℕ) (d : A) → n < length xs → EachOf P xs → P (get_or xs n d)
+  each-at P [] n d lt h = absurd (omega (arith, lt))
+  each-at P (x ∷ xs) zero d lt h = h.0
+  each-at P (x ∷ xs) (suc n) d lt h = each-at P xs n d (omega (arith, lt)) h.1
+
+  pub each-set : (P : A → Type 0) (xs : List A) (n : ℕ) (y : A) → P y → EachOf P xs → EachOf P (set xs n y)
+  each-set P [] n y k h = tt
+  each-set P (x ∷ xs) zero y k h = (k, h.1)
+  each-set P (x ∷ xs) (suc n) y k h = (h.0, each-set P xs n y k h.1)
+
+  -- one of them is another one that passes as it does
+  pub any-set : (p : A → Bool) (xs : List A) (n : ℕ) (y d : A) → p y ≡ p (get_or xs n d) → list_any p (set xs n y) ≡ list_any p xs
+  any-set p [] n y d same = refl
+  any-set p (x ∷ xs) zero y d same = ap (λ (v : Bool). v || list_any p xs) same
+  any-set p (x ∷ xs) (suc n) y d same = ap (λ (v : Bool). p x || v) (any-set p xs n y d same)
+
 pub each-map : {A B : Type 0} (P : A → Type 0) (Q : B → Type 0) (g : A → B) (xs : List A) → ((x : A) → P x → Q (g x)) → EachOf P xs → EachOf Q (map g xs)
 each-map P Q g [] f h = tt
 each-map P Q g (x ∷ xs) f h = (f x h.0, each-map P Q g xs f h.1)

@@ -1,5 +1,5 @@
 -- What holds of each box of the rules, where what is taken is what a session gives; and what a session gives in an item.
-use Rattle.std.specs.Prelude.{◌≡◌, ◌<◌, ◌≤◌, ℕ, ◌==◌, ◌&&◌, Bool, true, false, List, filter_map, length, Option, Some, None, count_by}
+use Rattle.std.specs.Prelude.{◌≡◌, ◌<◌, ◌≤◌, ℕ, ◌==◌, ◌&&◌, Bool, true, false, List, [], filter_map, length, Option, Some, None, count_by}
 use Rattle.std.specs.List.{list_any}
 use Rattle.iscsi_wire.specs.declared.request.Request.{Request}
 use Rattle.iscsi_wire.specs.declared.reply.Reply.{Reply}
@@ -10,7 +10,7 @@ use Rattle.iscsi_history.specs.rules.Settings.{is_known}
 use Rattle.iscsi_history.specs.rules.Trace.{first_of}
 use Rattle.iscsi_outbox_rules.specs.rules.Calls.{Opening}
 use Rattle.iscsi_outbox_rules.specs.rules.Boxes.{Phase, Fresh, Task, Outgoing, Handed, Answer, Link, Box, AtConns}
-use Rattle.iscsi_outbox_rules.specs.rules.Words.{contains, is_left, is_live_phase}
+use Rattle.iscsi_outbox_rules.specs.rules.Words.{contains, is_left, is_live_phase, is_open}
 use Rattle.iscsi_outbox_rules.specs.rules.Queues.{takes_more}
 use Rattle.iscsi_outbox_rules.specs.rules.Due.{settle}
 use Rattle.iscsi_outbox_rules.specs.rules.Own.{is_own}
@@ -32,6 +32,9 @@ pub record IsLinkSound (o : Opening) (tasks : List Task) (l : Link) : Type 0 whe
   pub handed : EachOf (λ (h : Handed). HasHome tasks l.conn h.out) l.handed
   pub fenced : EachOf IsFenceFit l.queue
   pub own : count_by (λ (out : Outgoing). is_own out.pdu) l.queue ≤ o.own
+  pub times : InOrder (λ (x y : Outgoing). x.time < y.time) l.queue
+  -- nothing waits where nothing may go out
+  pub idle : is_open l ≡ false → l.queue ≡ []
 
 -- the commands that it holds for over have left, and its connection takes it
 pub record IsAnswerSound (b : Box) (a : Answer) : Type 0 where

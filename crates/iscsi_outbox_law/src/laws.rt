@@ -1,11 +1,29 @@
 //! What the steps have in common with the rules, for every list of calls: laws of the definitions, which no code is needed for.
 
+ghost use Rattle.std.specs.Prelude.{◌≡◌, ℕ, true};
+ghost use Rattle.iscsi_history.specs.rules.Settings.{are_distinct};
+ghost use Rattle.iscsi_outbox_law.specs.Said.{said};
 ghost use Rattle.iscsi_outbox_law.specs.Stands.{Stands};
-ghost use Rattle.iscsi_outbox_rules.specs.rules.Calls.{Opening};
-ghost use Rattle.iscsi_outbox_rules.specs.rules.Run.{opened};
-ghost use Rattle.iscsi_outbox_steps.specs.Run.{begun};
+ghost use Rattle.iscsi_outbox_rules.specs.rules.Boxes.{Box};
+ghost use Rattle.iscsi_outbox_rules.specs.rules.Calls.{Joins, Opening};
+ghost use Rattle.iscsi_outbox_rules.specs.rules.Run.{after_call as after_call_by_rules, answered as answered_by_rules, opened};
+ghost use Rattle.iscsi_outbox_rules.specs.rules.Words.{max_shown as max_shown_by_rules, may_take as may_take_by_rules};
+ghost use Rattle.iscsi_outbox_steps.specs.Run.{after_call, answered, begun};
+ghost use Rattle.iscsi_outbox_steps.specs.State.{State, max_shown, may_take};
 
 /// What the steps begin with stands for the box that the rules begin with.
 pub fn opened_law()
     ensures opened { (o : Opening) → Stands o (begun o) (opened o) }
+{}
+
+/// Whether a connection may join, and the state after it joined.
+pub fn joins_law()
+    ensures answer { (o : Opening) (s : State) (b : Box) → Stands o s b → are_distinct o.session.conns ≡ true → (cid n : ℕ) → answered s (Joins cid n) ≡ said (answered_by_rules o b (Joins cid n)) }
+    ensures stands { (o : Opening) (s : State) (b : Box) → Stands o s b → are_distinct o.session.conns ≡ true → (cid n : ℕ) → Stands o (after_call s (Joins cid n)) (after_call_by_rules o b (Joins cid n)) }
+{}
+
+/// Whether a request more may be taken, and the MaxCmdSN that is shown.
+pub fn room_law()
+    ensures may { (o : Opening) (s : State) (b : Box) → Stands o s b → may_take s ≡ may_take_by_rules o b }
+    ensures shown { (o : Opening) (s : State) (b : Box) → Stands o s b → max_shown s ≡ max_shown_by_rules o b }
 {}

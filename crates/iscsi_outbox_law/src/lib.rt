@@ -3,4 +3,4 @@
 
 mod laws;
 
-pub use laws::opened_law;
+pub use laws::{joins_law, opened_law, room_law};
