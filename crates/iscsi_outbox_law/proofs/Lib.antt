@@ -6,3 +6,8 @@ mod CountChanges
 mod Standing
 mod Joins
 mod Waiting
+mod Fencing
+mod Members
+mod Homes
+mod LeftOut
+mod Asking

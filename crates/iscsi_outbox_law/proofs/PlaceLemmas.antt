@@ -1,7 +1,7 @@
 -- A connection by its place.
 use Rattle.std.proofs.Common.{◌≡◌, ℕ, zero, suc, ◌+◌, ◌<◌, ◌==◌, ◌&&◌, ◌||◌, not, nat_lt, cond, Bool, true, false, List, [], ◌∷◌, length, map, filter, get_or, set, position, Some, None, refl, ap, sym, subst, ◌∙◌, arith, ne_eqb, lt-ltb, le-ltb, ⊎_elim}
 use Rattle.std.specs.List.{list_any, position_or_len}
-use Rattle.std.proofs.lemmas.Bool.{cases_lt, eq-eqb, eqb-true, eqb-false, or_parts, false≢true}
+use Rattle.std.proofs.lemmas.Bool.{cases_eq, cases_lt, eq-eqb, eqb-true, eqb-false, or_parts, false≢true}
 use Rattle.std.proofs.lemmas.List.{get_or-map, length-map}
 use Rattle.std.proofs.lemmas.List.Quantifiers.{position-Some}
 use Rattle.iscsi_history.specs.rules.Settings.{are_distinct, is_known}
@@ -74,7 +74,7 @@ place_nowhere cids links cid same none = ap (list_any (λ k. k == cid)) same ∙
 
 -- ---- what is done there
 
-none_here : (links : List Link) (cid p : ℕ) → list_any (λ k. k == cid) (conns_of links) ≡ false → p < length links → (link_in links p).conn ≡ cid → ⊥
+pub none_here : (links : List Link) (cid p : ℕ) → list_any (λ k. k == cid) (conns_of links) ≡ false → p < length links → (link_in links p).conn ≡ cid → ⊥
 none_here [] cid p none lt is = omega arith
 none_here (l ∷ links) cid zero none lt is = eqb-false l.conn cid (or_parts (l.conn == cid) (list_any (λ k. k == cid) (conns_of links)) none).0 is
 none_here (l ∷ links) cid (suc p) none lt is = none_here links cid p (or_parts (l.conn == cid) (list_any (λ k. k == cid) (conns_of links)) none).1 (omega (arith, lt)) is
@@ -86,7 +86,7 @@ at_none f (l ∷ links) cid none =
     ap (λ (v : Bool). cond v (f l) l ∷ at_link cid f links) parts.0 ∙ ap (λ ls. l ∷ ls) (at_none f links cid parts.1)
 
 -- the first one has another CID than one behind it
-other_first : (l : Link) (links : List Link) (cid p : ℕ) → AreApart (conns_of (l ∷ links)) → p < length links → (link_in links p).conn ≡ cid → (l.conn == cid) ≡ false
+pub other_first : (l : Link) (links : List Link) (cid p : ℕ) → AreApart (conns_of (l ∷ links)) → p < length links → (link_in links p).conn ≡ cid → (l.conn == cid) ≡ false
 other_first l links cid p apart lt is = ne_eqb l.conn cid (λ same. none_here links l.conn p apart.0 lt (is ∙ sym same))
 
 none_behind : (l : Link) (links : List Link) (cid : ℕ) → AreApart (conns_of (l ∷ links)) → l.conn ≡ cid → list_any (λ k. k == cid) (conns_of links) ≡ false
@@ -108,7 +108,7 @@ any_none test (l ∷ links) cid none =
 pub any_nowhere : (test : Link → Bool) (links : List Link) (cid : ℕ) → list_any (λ k. k == cid) (conns_of links) ≡ false → list_any (λ (l : Link). (l.conn == cid) && test l) links ≡ false
 any_nowhere = any_none
 
-or_no : (v : Bool) → (v || false) ≡ v
+pub or_no : (v : Bool) → (v || false) ≡ v
 or_no true = refl
 or_no false = refl
 
@@ -134,3 +134,32 @@ found_at (l ∷ links) cid zero apart lt is =
 found_at (l ∷ links) cid (suc p) apart lt is =
     ap (λ (v : Bool). first_of (cond v (l ∷ filter (λ (m : Link). m.conn == cid) links) (filter (λ (m : Link). m.conn == cid) links))) (other_first l links cid p apart (omega (arith, lt)) is)
     ∙ found_at links cid p apart.1 (omega (arith, lt)) is
+
+-- no two places have one CID
+pub one_place : (links : List Link) (n p : ℕ) → AreApart (conns_of links) → n < length links → p < length links → (link_in links n).conn ≡ (link_in links p).conn → n ≡ p
+one_place [] n p apart lt lt' same = absurd (omega (arith, lt))
+one_place (l ∷ links) zero zero apart lt lt' same = refl
+one_place (l ∷ links) zero (suc p) apart lt lt' same = absurd (none_here links l.conn p apart.0 (omega (arith, lt')) (sym same))
+one_place (l ∷ links) (suc n) zero apart lt lt' same = absurd (none_here links l.conn n apart.0 (omega (arith, lt)) same)
+one_place (l ∷ links) (suc n) (suc p) apart lt lt' same = ap suc (one_place links n p apart.1 (omega (arith, lt)) (omega (arith, lt')) same)
+
+pub same_conn : (links : List Link) (n p : ℕ) → AreApart (conns_of links) → n < length links → p < length links → ((link_in links n).conn == (link_in links p).conn) ≡ (n == p)
+same_conn links n p apart lt lt' =
+    ⊎_elim
+    (λ same. eq-eqb (link_in links n).conn (link_in links p).conn (ap (λ k. (link_in links k).conn) same) ∙ sym (eq-eqb n p same))
+    (λ other. ne_eqb (link_in links n).conn (link_in links p).conn (λ same. other (one_place links n p apart lt lt' same)) ∙ sym (ne_eqb n p other))
+    (cases_eq n p)
+
+pub none_of_any : (test : Link → Bool) (links : List Link) → ((n : ℕ) → n < length links → test (link_in links n) ≡ false) → list_any test links ≡ false
+none_of_any test [] none = refl
+none_of_any test (l ∷ links) none =
+    ap (λ (v : Bool). v || list_any test links) (none 0 (omega arith)) ∙ none_of_any test links (λ n lt. none (suc n) (omega (arith, lt)))
+
+-- one place alone can pass
+pub only_at : (test : Link → Bool) (links : List Link) (k : ℕ) → k < length links → ((n : ℕ) → n < length links → (n ≡ k → ⊥) → test (link_in links n) ≡ false) → list_any test links ≡ test (link_in links k)
+only_at test [] k lt none = absurd (omega (arith, lt))
+only_at test (l ∷ links) zero lt none =
+    ap (λ (v : Bool). test l || v) (none_of_any test links (λ n within. none (suc n) (omega (arith, within)) (λ same. omega (arith, same)))) ∙ or_no (test l)
+only_at test (l ∷ links) (suc k) lt none =
+    ap (λ (v : Bool). v || list_any test links) (none 0 (omega arith) (λ same. omega (arith, same)))
+    ∙ only_at test links k (omega (arith, lt)) (λ n within other. none (suc n) (omega (arith, within)) (λ same. other (omega (arith, same))))
