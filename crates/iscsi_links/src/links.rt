@@ -66,6 +66,13 @@ impl Links {
         self.list.len()
     }
 
+    /// Whether what was written is under way until it is known to have arrived.
+    pub fn looks(&self) -> bool
+        ensures { result ≡ self.now.looks }
+    {
+        self.looks
+    }
+
     /// One of them.
     pub fn at(&self, place: usize) -> Arrivals
         requires { place < length self.now.links }

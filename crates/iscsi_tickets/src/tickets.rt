@@ -67,6 +67,13 @@ impl Tickets {
         let _room = self.room;
     }
 
+    /// The ticket that entered last; 0: none has.
+    pub fn last(&self) -> u64
+        ensures { result ≡ self.now.last }
+    {
+        self.last
+    }
+
     /// How many there are.
     pub fn len(&self) -> usize
         ensures { result ≡ length self.now.entries }

@@ -74,6 +74,13 @@ impl Tracked {
         self.tickets.is_full()
     }
 
+    /// The ticket of the command that entered last; 0: none has.
+    pub fn last(&self) -> u64
+        ensures { result ≡ self.now.last }
+    {
+        self.tickets.last()
+    }
+
     /// A command enters: the place that it has from now on, the one that was freed last. Tickets go up.
     pub fn enter(&mut self, command: Entering) -> u32
         requires room { length self.old.commands < self.old.room }

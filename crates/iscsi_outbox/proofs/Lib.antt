@@ -1,0 +1,9 @@
+pub mod KnownLemmas
+pub mod TrailLemmas
+pub mod ChoiceLemmas
+pub mod CloseLemmas
+pub mod SettleLemmas
+pub mod SendLemmas
+pub mod WalkLemmas
+pub mod ItemLemmas
+pub mod OpenLemmas

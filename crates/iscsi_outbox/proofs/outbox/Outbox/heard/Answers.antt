@@ -1,0 +1,14 @@
+use Rattle.std.proofs.Common.{◌≡◌, ℕ, Option, Some, None, refl, sym, ap, ◌∙◌}
+use Rattle.iscsi_arrivals.specs.Counts.{heard_by}
+use Rattle.iscsi_outbox_steps.specs.State.{State, place_of, with_link}
+use Rattle.iscsi_outbox_steps.specs.Steps.{settle, trail}
+use Rattle.iscsi_outbox.proofs.SendLemmas.{place_is}
+use Rattle.iscsi_outbox.proofs.outbox.Outbox.heard.Goals as goal
+
+pub returns-in-Some : goal.returns-in-Some
+returns-in-Some c =
+    let now = c.args.self.now in
+    let at : place_of now c.args.cid ≡ Some c.in-Some.conn = place_is now c.self.inside.cids.cids c.args.cid c.args.cid (Some c.in-Some.conn) (ap (λ (s : State). s.limits.cids) c.self.view_is) refl (sym c.place.ensures ∙ c.in-Some.is) in
+    c.settle.ensures
+    ∙ ap settle (c.trail.ensures ∙ ap (λ s. trail c.in-Some.conn s) c.hear_on.ensures)
+    ∙ sym (ap (λ (o : Option ℕ). elim o as (λ (q : Option ℕ). State) [ Some conn ↦ settle (trail conn (with_link conn (heard_by c.args.exp_stat_sn c.args.transfer_tag) now)) | None ↦ now ]) at)

@@ -1,0 +1,8 @@
+use Rattle.std.proofs.Common.{◌≡◌, true, sym, subst, ◌∙◌}
+use Rattle.iscsi_outbox_steps.specs.State.{State}
+use Rattle.iscsi_tracked.specs.Tracked.{has_place}
+use Rattle.iscsi_outbox.proofs.KnownLemmas.{ticket_has}
+use Rattle.iscsi_outbox.proofs.outbox.Outbox.stopped.Goals as goal
+
+pub stop-requires : goal.stop-requires
+stop-requires c = subst (λ (s : State). has_place c.in-Some.command.place s.tracked ≡ true) c.self.view_is (ticket_has c.self.inside.tracked c.args.ticket c.in-Some.command (sym c.find.ensures ∙ c.in-Some.is))

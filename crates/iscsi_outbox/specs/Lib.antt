@@ -1,0 +1,4 @@
+pub mod Kept
+pub mod Choices
+pub mod Walks
+pub mod Options
