@@ -7,3 +7,4 @@ pub mod SendLemmas
 pub mod WalkLemmas
 pub mod ItemLemmas
 pub mod OpenLemmas
+pub mod WordLemmas

@@ -2,3 +2,5 @@ pub mod Kept
 pub mod Choices
 pub mod Walks
 pub mod Options
+pub mod Headers
+pub mod Words

@@ -1,8 +1,9 @@
 //! The outbox.
 
-ghost use Rattle.std.specs.Prelude.{◌≡◌, ◌+◌, ◌-◌, ◌<◌, ◌^◌, true, IfOk, IfSome};
+ghost use Rattle.std.specs.Prelude.{◌≡◌, ◌+◌, ◌-◌, ◌<◌, ◌≤◌, ◌^◌, length, true, IfOk, IfSome};
 ghost use Rattle.iscsi_wire.specs.Serial.{number_of_first};
-ghost use Rattle.iscsi_outbox_steps.specs.State.{opened};
+ghost use Rattle.iscsi_outbox_steps.specs.State.{opened, place_of};
+ghost use Rattle.iscsi_outbox.specs.Words.{cid_at};
 ghost use Rattle.iscsi_outbox.specs.Options.{RefusesAs, is_valid, lane_of, limits_of, links_of, refusal_of, tracked_of, waits_of};
 ghost use Rattle.iscsi_outbox_steps.specs.Steps.{joined, may_join};
 
@@ -113,6 +114,29 @@ impl Outbox {
             return Err(OutboxFault::BadOptions);
         }
         make(alloc, options).ok_or(OutboxFault::NoMemory)
+    }
+
+    /// How many connections the session has: 64 at the most.
+    pub fn conns(&self) -> usize
+        ensures count { result ≡ length self.now.limits.cids }
+        ensures few { result ≤ 64 }
+    {
+        self.cids.len()
+    }
+
+    /// The CID of a connection, by its place.
+    pub(crate) fn cid(&self, conn: usize) -> u16
+        requires { conn < length self.now.limits.cids }
+        ensures { result ≡ cid_at self.now conn }
+    {
+        self.cids.cid(conn)
+    }
+
+    /// The place of the connection with this CID.
+    pub(crate) fn place(&self, cid: u16) -> Option<usize>
+        ensures { result ≡ place_of self.now cid }
+    {
+        self.cids.place(cid)
     }
 
     /// A connection is in its Full Feature Phase, and its next StatSN is this. False, and nothing changes, where it isn't the

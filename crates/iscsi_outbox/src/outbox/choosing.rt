@@ -3,6 +3,7 @@
 ghost use Rattle.std.specs.Prelude.{◌≡◌, ◌<◌, ℕ, Bool, length, option_map};
 ghost use Rattle.iscsi_outbox_steps.specs.State.{is_asked_for, is_fence_elsewhere, is_fence_here, is_fence_out, is_over, link_at, passes, wants_notice, wants_ping};
 ghost use Rattle.iscsi_outbox_steps.specs.Steps.{chosen};
+ghost use Rattle.iscsi_outbox.specs.Words.{gives};
 ghost use Rattle.iscsi_outbox.specs.Choices.{choice_of, holds_of, is_clear, lets_pass};
 
 use crate::lifted::lifted;
@@ -39,6 +40,14 @@ impl Outbox {
             Some(front) if self.passes(conn, front) => Some(Choice::Waiting),
             _ => None,
         }
+    }
+
+    /// Whether a connection gives something, if it is asked: a PDU, or that it is to be closed.
+    pub(crate) fn gives(&self, conn: usize) -> bool
+        requires { conn < length self.now.limits.cids }
+        ensures { result ≡ gives conn self.now }
+    {
+        self.chosen(conn).is_some() || self.is_over(conn)
     }
 
     /// Whether nothing goes out any more on a connection that a Logout closed.
