@@ -1,7 +1,8 @@
 -- How many stand there of each connection, as one comes, owes less, or goes.
-use Rattle.std.proofs.Common.{◌≡◌, ◌≢◌, ℕ, ◌+◌, ◌-◌, ◌<◌, ◌≤◌, ◌==◌, ◌&&◌, ◌||◌, not, cond, Bool, true, false, List, [], ◌∷◌, ◌++◌, length, map, filter, set, get_or, Some, None, refl, ap, sym, subst, ◌∙◌, arith, ⊎_elim, eq-eqb, ne_eqb}
+use Rattle.std.proofs.Common.{◌≡◌, ◌≢◌, ℕ, ◌+◌, ◌-◌, ◌<◌, ◌≤◌, ◌==◌, ◌&&◌, ◌||◌, not, cond, Bool, true, false, List, [], ◌∷◌, ◌++◌, length, map, filter, set, get_or, Option, Some, None, refl, ap, sym, subst, ◌∙◌, arith, ⊎_elim, eq-eqb, ne_eqb}
 use Rattle.std.specs.Prelude.{nat_lt}
 use Rattle.std.specs.List.{list_any}
+use Rattle.std.specs.Option.{is_some}
 use Rattle.std.proofs.lemmas.Bool.{and_right, cases_Bool, cases_eq, cases_lt, eqb-true, false≢true, lt-ltb, or_parts, or_right, true≢false}
 use Rattle.std.proofs.lemmas.List.{append-nil, append_assoc, get_or_past, get_or-set_same, get_or-set_other, length-set}
 use Rattle.iscsi_outbox_state.specs.declared.lane.Left.{Left}
@@ -206,6 +207,10 @@ none_left place (IsLeft c ∷ xs) none = ⊎_elim
     (cases_Bool (c.command == place))
 none_left place (IsUndue a ∷ xs) none = none_left place xs none
 
+pub is_no_command : (o : Option Left) → is_some o ≡ false → o ≡ None
+is_no_command None none = refl
+is_no_command (Some c) none = absurd (true≢false none)
+
 some_left_same : (c d : Left) → Some c ≡ Some d → c ≡ d
 some_left_same c d e = cc
 
@@ -237,7 +242,23 @@ arrives n place k (IsUndue a ∷ xs) c apart is = let rest = arrives n place k x
 pub arrives_none : (place k : ℕ) (xs : List Standing) → left_in place xs ≡ None → tally (is_under_way_on k) (map (with_left not_under_way place) xs) ≡ tally (is_under_way_on k) xs
 arrives_none place k xs none = ap (tally (is_under_way_on k)) (none_changed not_under_way place xs (none_left place xs none))
 
+-- each owes something
+pub all_owe : (n : ℕ) (xs : List Standing) → AreApart n xs → filter still_owes xs ≡ xs
+all_owe n [] apart = refl
+all_owe n (IsLeft c ∷ xs) apart = ap (λ b. cond b (IsLeft c ∷ filter still_owes xs) (filter still_owes xs)) apart.1.0.1.1 ∙ ap (λ r. IsLeft c ∷ r) (all_owe n xs apart.1.1)
+all_owe n (IsUndue a ∷ xs) apart = ap (λ r. IsUndue a ∷ r) (all_owe n xs apart)
+
+-- so where there is no such command, nothing changes
+pub none_less : (change : Left → Left) (n place : ℕ) (xs : List Standing) → AreApart n xs → left_in place xs ≡ None → filter still_owes (map (with_left change place) xs) ≡ xs
+none_less change n place xs apart none = ap (filter still_owes) (none_changed change place xs (none_left place xs none)) ∙ all_owe n xs apart
+
 -- ---- the first answer that is due goes
+
+-- a command that comes behind all makes none due
+pub left_none_due : (before xs : List Standing) (c : Left) → due_behind before (xs ++ IsLeft c ∷ []) ≡ due_behind before xs
+left_none_due before [] c = refl
+left_none_due before (IsLeft d ∷ xs) c = left_none_due (before ++ IsLeft d ∷ []) xs c
+left_none_due before (IsUndue a ∷ xs) c = ap (λ r. cond (is_due before a) (Some a) r) (left_none_due (before ++ IsUndue a ∷ []) xs c)
 
 some_answer_same : (a b : Undue) → Some a ≡ Some b → a ≡ b
 some_answer_same a b e = cc

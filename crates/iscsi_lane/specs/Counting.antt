@@ -1,7 +1,7 @@
 -- How many stand there of each connection. For private contracts alone.
-use Rattle.std.specs.Prelude.{◌≡◌, ℕ, ◌+◌, ◌*◌, ◌<◌, ◌≤◌, Bool, List, length, slice_index_or}
+use Rattle.std.specs.Prelude.{◌≡◌, ℕ, ◌+◌, ◌*◌, ◌<◌, ◌≤◌, Bool, true, List, length, None, slice_index_or}
 use Rattle.iscsi_outbox_state.specs.declared.lane.Standing.{Standing}
-use Rattle.iscsi_outbox_state.specs.Lane.{Lane, goes_out_on, is_under_way_on}
+use Rattle.iscsi_outbox_state.specs.Lane.{Lane, first_due, goes_out_on, is_under_way_on}
 use Rattle.iscsi_lane.specs.Standings.{AreWithin, tally}
 
 -- how many pass the test of each connection
@@ -15,3 +15,8 @@ pub record IsCounted (v : Lane) (under_way going_out : List ℕ) : Type 0 where
   pub of_going_out : AreCounts goes_out_on v.items v.conns going_out
   pub conns : v.conns ≤ 65536
   pub short : 3 * (v.commands + v.answers) + 5 ≤ 4294967295
+
+-- the counts, and that none is due where this is known
+pub record IsKept (v : Lane) (under_way going_out : List ℕ) (settled : Bool) : Type 0 where
+  pub counted : IsCounted v under_way going_out
+  pub none_due : settled ≡ true → first_due v ≡ None

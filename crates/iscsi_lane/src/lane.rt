@@ -12,13 +12,17 @@ use std::marker::Model;
 
 /// The commands that left and owe something, and the answers that wait for them, in the order of the log.
 ///
-/// Each call takes the same time however many stand there, but for three. `take_due` walks over the log where an answer
-/// waits, and looks at what stands before each. `drop_on` walks over it for each answer that it drops, and `clear` once.
+/// Each call takes the same time however many stand there, but for three. `take_due` walks over the log, and looks at what
+/// stands before each answer; but not where no answer waits, nor where it told that none is due and since then no answer
+/// came, went or was cleared, and no command that stands there owes less. `drop_on` walks over the log for each answer that it
+/// drops, and `clear` once.
 pub struct Lane {
     standings: Standings,
     /// Of each connection, how many commands have something under way on it, and how many answers go out on it.
     under_way: Vec<usize>,
     going_out: Vec<usize>,
+    /// None is due: it was looked for, and since then nothing changed by which one would be.
+    settled: bool,
 }
 
 impl Drop for Lane {
@@ -27,19 +31,20 @@ impl Drop for Lane {
             standings: _standings,
             under_way: _under_way,
             going_out: _going_out,
+            settled: _settled,
         } = self;
     }
 }
 
 impl Model for Lane {
     ghost use Rattle.iscsi_outbox_state.specs.Lane.{Lane as Kept};
-    ghost use Rattle.iscsi_lane.specs.Counting.{IsCounted};
+    ghost use Rattle.iscsi_lane.specs.Counting.{IsKept};
 
     ghost Value = { Kept };
 
     ghost view = { λ s. s.standings };
 
-    ghost invariant = { λ s. IsCounted s.standings s.under_way.items s.going_out.items };
+    ghost invariant = { λ s. IsKept s.standings s.under_way.items s.going_out.items s.settled };
 }
 
 impl Lane {
@@ -59,6 +64,7 @@ impl Lane {
             standings: Standings::with_room(alloc, conns, commands, answers)?,
             under_way: vec![in alloc; 0; conns]?,
             going_out: vec![in alloc; 0; conns]?,
+            settled: false,
         })
     }
 
@@ -94,6 +100,7 @@ impl Lane {
     {
         self.standings.known();
         self.standings.wait(answer);
+        self.settled = false;
         self.going_out[usize::from(answer.conn)] += 1;
     }
 
@@ -101,7 +108,11 @@ impl Lane {
     pub fn stop(&mut self, command: u32)
         ensures { self.new ≡ stopped command self.old }
     {
-        self.standings.stop(command);
+        self.standings.known();
+        if self.standings.stop(command).is_none() {
+            return;
+        }
+        self.settled = false;
     }
 
     /// Nothing of a command is under way any more. Nothing changes where it doesn't stand there.
@@ -111,6 +122,7 @@ impl Lane {
         self.standings.known();
         if let Some(left) = self.standings.arrive(command) {
             self.under_way[usize::from(left.conn)] -= one_if(left.under_way);
+            self.settled = false;
         }
     }
 
@@ -119,7 +131,13 @@ impl Lane {
         ensures answer { result ≡ first_due self.old }
         ensures state { self.new ≡ without_due self.old }
     {
-        let answer = self.standings.take_due()?;
+        if self.settled {
+            return None;
+        }
+        let Some(answer) = self.standings.take_due() else {
+            self.settled = true;
+            return None;
+        };
         self.going_out[usize::from(answer.conn)] -= 1;
         Some(answer)
     }
@@ -129,6 +147,7 @@ impl Lane {
         ensures { self.new ≡ dropped_on conn self.old }
     {
         self.standings.drop_on(conn);
+        self.settled = false;
         forget(&mut self.going_out, usize::from(conn));
     }
 
@@ -137,6 +156,7 @@ impl Lane {
         ensures { self.new ≡ cleared unit self.old }
     {
         self.standings.clear(unit);
+        self.settled = false;
     }
 
     /// Whether a command stands there.

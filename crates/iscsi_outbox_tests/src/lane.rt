@@ -7,32 +7,28 @@ use iscsi_tags::Tags;
 use iscsi_wire::Reply;
 use std::test::Fail;
 
-/// A command that left, in place 1, on connection 1.
-fn command(running: bool, under_way: bool) -> Left {
-    Left {
-        command: 1,
-        conn: 1,
-        unit: 5,
-        tag: 9,
-        running,
-        under_way,
-    }
-}
+/// A command that left, and owes all that one can.
+const LEFT: Left = Left {
+    command: 1,
+    conn: 1,
+    unit: 5,
+    tag: 9,
+    running: true,
+    under_way: true,
+};
 
-/// The answer to a LOGICAL UNIT RESET of unit 5, on connection 0.
-fn reset(uncleared: bool) -> Undue {
-    Undue {
-        reply: Reply::Task {
-            itt: 2,
-            response: 0,
-        },
-        conn: 0,
-        aim: Aim::Unit(5),
-        numbered: true,
-        ends: false,
-        uncleared,
-    }
-}
+/// The answer to a LOGICAL UNIT RESET of its unit, on another connection.
+const RESET: Undue = Undue {
+    reply: Reply::Task {
+        itt: 2,
+        response: 0,
+    },
+    conn: 0,
+    aim: Aim::Unit(5),
+    numbered: true,
+    ends: false,
+    uncleared: false,
+};
 
 #[test]
 fn nothing_stands_in_the_lane_at_first(rt: HostRuntime) -> Result<(), Fail> {
@@ -48,8 +44,8 @@ fn nothing_stands_in_the_lane_at_first(rt: HostRuntime) -> Result<(), Fail> {
 #[test]
 fn an_answer_waits_until_a_command_stopped_and_arrived(rt: HostRuntime) -> Result<(), Fail> {
     let mut lane = Lane::with_room(rt.alloc(), 2, 2, 2)?;
-    lane.leave(command(true, true));
-    lane.wait(reset(false));
+    lane.leave(LEFT);
+    lane.wait(RESET);
     assert_eq!(rt;
         (lane.has(1), lane.under_way_on(1), lane.waits_on(0)),
         (true, true, true)
@@ -59,7 +55,7 @@ fn an_answer_waits_until_a_command_stopped_and_arrived(rt: HostRuntime) -> Resul
     assert_eq!(rt; lane.take_due(), None);
     lane.arrive(1);
     assert_eq!(rt; (lane.has(1), lane.under_way_on(1)), (false, false));
-    assert_eq!(rt; lane.take_due(), Some(reset(false)));
+    assert_eq!(rt; lane.take_due(), Some(RESET));
     assert_eq!(rt; lane.waits_on(0), false);
     Ok(())
 }
@@ -67,10 +63,14 @@ fn an_answer_waits_until_a_command_stopped_and_arrived(rt: HostRuntime) -> Resul
 #[test]
 fn an_answer_waits_until_it_is_cleared_or_dropped(rt: HostRuntime) -> Result<(), Fail> {
     let mut lane = Lane::with_room(rt.alloc(), 2, 2, 2)?;
-    lane.wait(reset(true));
-    lane.wait(reset(true));
+    let uncleared = Undue {
+        uncleared: true,
+        ..RESET
+    };
+    lane.wait(uncleared);
+    lane.wait(uncleared);
     lane.clear(5);
-    assert_eq!(rt; lane.take_due(), Some(reset(false)));
+    assert_eq!(rt; lane.take_due(), Some(RESET));
     assert_eq!(rt; (lane.take_due(), lane.answers_waiting()), (None, 1));
     lane.drop_on(0);
     assert_eq!(rt; (lane.waits_on(0), lane.answers_waiting()), (false, 0));

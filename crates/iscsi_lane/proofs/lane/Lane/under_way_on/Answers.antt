@@ -8,5 +8,5 @@ pub returns : goal.returns
 returns c =
     let i = c.self.inside in
     c.is_some_at.ensures ∙ ap (λ counts. nat_lt 0 (get_or counts c.args.conn 0)) c.deref.ensures.value
-    ∙ some_under_way i.standings i.under_way.items i.going_out.items c.self.invariant c.args.conn
+    ∙ some_under_way i.standings i.under_way.items i.going_out.items c.self.invariant.counted c.args.conn
     ∙ ap (λ (v : Lane). nat_lt 0 (count_in (is_under_way_on c.args.conn) v)) c.self.view_is
