@@ -20,3 +20,4 @@ pub mod WalkLemmas
 pub mod CountLemmas
 pub mod DropLemmas
 pub mod CountedLemmas
+pub mod EmptyLemmas

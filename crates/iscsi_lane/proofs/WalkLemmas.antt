@@ -90,6 +90,9 @@ module _ (order : List ℕ) (Holds : List ℕ → List ℕ → Type 0) where
     pub alone : times s is.front ≡ 0
     alone = alone_in s is.front p.rest (subst (λ q. times s q ≤ 1) p.parts (once s))
 
+    pub once_ahead : times s (s ∷ p.rest) ≤ 1
+    once_ahead = let a = ap (times s) p.parts in let b = times_append s is.front (s ∷ p.rest) in let o = once s in omega (arith, a, b, o)
+
     pub here : Holds is.front (s ∷ p.rest)
     here = subst (λ b. Holds is.front b) p.here is.holds
 

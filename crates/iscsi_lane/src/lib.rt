@@ -2,6 +2,7 @@
 #![tactic(auto)]
 
 mod due;
+mod emptying;
 mod following;
 mod lane;
 mod settling;
