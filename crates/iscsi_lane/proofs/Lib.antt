@@ -21,3 +21,4 @@ pub mod CountLemmas
 pub mod DropLemmas
 pub mod CountedLemmas
 pub mod EmptyLemmas
+pub mod LiningLemmas

@@ -5,3 +5,4 @@ pub mod Following
 pub mod Rows
 pub mod Walking
 pub mod Counting
+pub mod Lining

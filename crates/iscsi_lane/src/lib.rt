@@ -5,6 +5,7 @@ mod due;
 mod emptying;
 mod following;
 mod lane;
+mod lines;
 mod settling;
 mod stamps;
 mod standings;
