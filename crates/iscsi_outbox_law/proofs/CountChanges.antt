@@ -1,10 +1,10 @@
 -- What counts stand for, after a connection joined, is closed, cut or lost, or after something was written.
-use Rattle.std.proofs.Common.{◌≡◌, ℕ, ◌+◌, inl, nat_lt, cond, Bool, true, false, [], length, take, count_by, refl, ap, sym, subst, ◌∙◌, arith, ltb-true}
+use Rattle.std.proofs.Common.{◌≡◌, ℕ, ◌+◌, inl, nat_lt, cond, Bool, true, false, List, [], length, take, count_by, refl, ap, sym, subst, ◌∙◌, arith, ltb-true}
 use Rattle.std.proofs.lemmas.Bool.{true≢false}
 use Rattle.iscsi_wire.specs.Serial.{number_of_first}
 use Rattle.iscsi_arrivals.specs.Counts.{Counts, written_by}
 use Rattle.iscsi_arrivals.specs.Standing.{StandsFor}
-use Rattle.iscsi_outbox_rules.specs.rules.Boxes.{Link}
+use Rattle.iscsi_outbox_rules.specs.rules.Boxes.{Outgoing, Link}
 use Rattle.iscsi_outbox_rules.specs.rules.Handing.{takes_handed, is_ping}
 use Rattle.iscsi_outbox_rules.specs.rules.Run.{link_joined, link_lost, one_written}
 
@@ -61,6 +61,30 @@ module _ (s : Counts) (l : Link) (st : StandsFor s l) where
     closed = st.closed;
     cut = st.cut;
     lost = refl;
+    next = st.next;
+    handed = st.handed;
+    written = st.written;
+    taken = st.taken;
+    ended = st.ended;
+    pings = st.pings;
+    last_ping = st.last_ping;
+    acknowledged = st.acknowledged;
+    answered = st.answered;
+    ends = st.ends;
+    one_ping = st.one_ping;
+    within = st.within;
+    few_written = st.few_written;
+    unjoined = st.unjoined;
+    first = st.first;
+  }
+
+  -- what waits doesn't count
+  pub stands_queue : (queue : List Outgoing) → StandsFor s (record l { queue = queue })
+  stands_queue queue = record {
+    joined = st.joined;
+    closed = st.closed;
+    cut = st.cut;
+    lost = st.lost;
     next = st.next;
     handed = st.handed;
     written = st.written;

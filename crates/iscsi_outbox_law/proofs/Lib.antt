@@ -11,3 +11,4 @@ mod Members
 mod Homes
 mod LeftOut
 mod Asking
+mod Giving

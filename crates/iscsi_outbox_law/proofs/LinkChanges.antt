@@ -134,6 +134,22 @@ stands_moved under o s b p c m h within mv queue st = record {
   fence = fence_moved b.links p m within mv s.limits.looks s.fence h.fence;
 }
 
+-- what waits there changes, too
+pub stands_set : (under : ℕ → Bool) (o : Opening) (s : State) (b : Box) (p : ℕ) (c : Counts) (q : List Entry) (m : Link) → StandsWith under o s b → p < length b.links → Moves (link_in b.links p) m → IsQueue s.tracked q m → StandsFor c m
+    → StandsWith under o (record s { links = set s.links p c; waits = record s.waits { queues = set s.waits.queues p q } }) (record b { links = set b.links p m })
+stands_set under o s b p c q m h within mv queue st = record {
+  sizes = record { limits = h.sizes.limits; waits = h.sizes.waits; answers = h.sizes.answers; commands = h.sizes.commands; trails = h.sizes.trails };
+  numbers = record { time = h.numbers.time; exp = h.numbers.exp; max = h.numbers.max; shown = h.numbers.shown; reached = h.numbers.reached };
+  links = links_set b.links p m within mv s.limits.cids s.links c st h.links;
+  queues = queues_set b.links p m within mv s.tracked s.waits.queues q queue h.queues;
+  commands = commands_moved b.links p m within mv under s.limits.cids b.tasks s.tracked h.commands;
+  placed = h.placed;
+  trails = h.trails;
+  left = h.left;
+  answers = h.answers;
+  fence = fence_moved b.links p m within mv s.limits.looks s.fence h.fence;
+}
+
 -- the same commands are taken to be under way
 pub stands_under : (under more : ℕ → Bool) (o : Opening) (s : State) (b : Box) → ((t : ℕ) → under t ≡ more t) → StandsWith under o s b → StandsWith more o s b
 stands_under under more o s b same h = subst (λ (test : ℕ → Bool). StandsWith test o s b) (λ i t. same t i) h

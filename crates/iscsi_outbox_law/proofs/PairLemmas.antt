@@ -1,5 +1,5 @@
 -- Lists that go together, place by place.
-use Rattle.std.proofs.Common.{◌≡◌, ℕ, zero, suc, ◌+◌, ◌<◌, ◌||◌, cond, Bool, true, false, List, [], ◌∷◌, ◌++◌, length, map, filter, count_by, get_or, set, refl, ap, sym, subst, ◌∙◌, arith}
+use Rattle.std.proofs.Common.{◌≡◌, ℕ, zero, suc, ◌+◌, ◌<◌, ◌||◌, cond, Bool, true, false, List, [], ◌∷◌, ◌++◌, length, map, filter, count_by, get_or, set, refl, ap, sym, subst, ◌∙◌, arith, drop}
 use Rattle.std.specs.List.{list_any}
 use Rattle.std.proofs.lemmas.Bool.{cond_both}
 use Rattle.std.proofs.lemmas.List.Sums.{sum_by-cons}
@@ -109,6 +109,13 @@ module _ {A B : Type 0} where
   pairs-set R (v ∷ xs) (w ∷ ys) (suc n) x y r h = (h.0, pairs-set R xs ys n x y r h.1)
   pairs-set R [] (w ∷ ys) n x y r h = absurd h
   pairs-set R (v ∷ xs) [] n x y r h = absurd h
+
+-- but for the first of each
+pub pairs-drop : {A B : Type 0} (R : A → B → Type 0) (xs : List A) (ys : List B) → PairsOf R xs ys → PairsOf R (drop 1 xs) (drop 1 ys)
+pairs-drop R [] [] h = tt
+pairs-drop R (x ∷ xs) (y ∷ ys) h = h.1
+pairs-drop R [] (y ∷ ys) h = absurd h
+pairs-drop R (x ∷ xs) [] h = absurd h
 
 -- as each stands for what it is made of
 pub pairs-maps : {A B C : Type 0} (R : B → C → Type 0) (f : A → B) (g : A → C) (xs : List A) → ((x : A) → R (f x) (g x)) → PairsOf R (map f xs) (map g xs)
