@@ -12,3 +12,5 @@ mod Homes
 mod LeftOut
 mod Asking
 mod Giving
+mod TrackedLemmas
+mod TrackedChanges
