@@ -14,3 +14,5 @@ mod Asking
 mod Giving
 mod TrackedLemmas
 mod TrackedChanges
+mod HandedLemmas
+mod Nexts

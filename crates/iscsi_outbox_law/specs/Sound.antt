@@ -10,7 +10,7 @@ use Rattle.iscsi_history.specs.rules.Settings.{is_known}
 use Rattle.iscsi_history.specs.rules.Trace.{first_of}
 use Rattle.iscsi_outbox_rules.specs.rules.Calls.{Opening}
 use Rattle.iscsi_outbox_rules.specs.rules.Boxes.{Phase, Fresh, Task, Outgoing, Handed, Answer, Link, Box, AtConns}
-use Rattle.iscsi_outbox_rules.specs.rules.Words.{contains, is_left, is_live_phase, is_open}
+use Rattle.iscsi_outbox_rules.specs.rules.Words.{contains, is_left, is_left_phase, is_live_phase, is_of, is_open}
 use Rattle.iscsi_outbox_rules.specs.rules.Queues.{takes_more}
 use Rattle.iscsi_outbox_rules.specs.rules.Due.{settle}
 use Rattle.iscsi_outbox_rules.specs.rules.Own.{is_own}
@@ -27,9 +27,14 @@ HasHome tasks conn out = elim (out.ticket) [ Some k ↦ list_any (λ (t : Task).
 abbrev pub IsFenceFit : Outgoing → Type 0
 IsFenceFit out = out.fenced ≡ true → out.takes ≡ true
 
+-- it is of no command that left
+abbrev pub IsAlive : List Task → Outgoing → Type 0
+IsAlive tasks out = is_of (λ k. list_any (λ (t : Task). t.ticket == k && is_left_phase t.phase) tasks) out ≡ false
+
 pub record IsLinkSound (o : Opening) (tasks : List Task) (l : Link) : Type 0 where
   pub queued : EachOf (HasHome tasks l.conn) l.queue
   pub handed : EachOf (λ (h : Handed). HasHome tasks l.conn h.out) l.handed
+  pub alive : EachOf (IsAlive tasks) l.queue
   pub fenced : EachOf IsFenceFit l.queue
   pub own : count_by (λ (out : Outgoing). is_own out.pdu) l.queue ≤ o.own
   pub times : InOrder (λ (x y : Outgoing). x.time < y.time) l.queue
