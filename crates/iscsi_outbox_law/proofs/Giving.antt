@@ -42,7 +42,7 @@ use Rattle.iscsi_outbox_law.proofs.Asking.{notice_is, over_is, ping_is}
 -- ---- what is chosen
 
 -- what waits first in both
-pub record WaitsFirst (s : State) (l : Link) (p : ℕ) (item : Waiting) (out : Outgoing) : Type 0 where
+pub record WaitsFirst (o : Opening) (s : State) (b : Box) (l : Link) (p : ℕ) (item : Waiting) (out : Outgoing) : Type 0 where
   pub entry : Entry
   pub entries : List Entry
   pub rest : List Outgoing
@@ -50,17 +50,18 @@ pub record WaitsFirst (s : State) (l : Link) (p : ℕ) (item : Waiting) (out : O
   pub out_first : l.queue ≡ out ∷ rest
   pub is : IsEntry s.tracked l.conn entry out
   pub item_is : entry.item ≡ item
+  pub passes : passes_fence o b l out ≡ true
 
-abbrev pub SameOut : State → Box → Link → ℕ → Out → Outgoing → Type 0
-SameOut s b l p (Waited item) out = WaitsFirst s l p item out
-SameOut s b l p (Pinged tag) out = (tag ≡ tag_of_ping (count_pings l)) × (ping b l ≡ out)
-SameOut s b l p Noticed out = nop_in b Notices ≡ out
+abbrev pub SameOut : Opening → State → Box → Link → ℕ → Out → Outgoing → Type 0
+SameOut o s b l p (Waited item) out = WaitsFirst o s b l p item out
+SameOut o s b l p (Pinged tag) out = (tag ≡ tag_of_ping (count_pings l)) × (ping b l ≡ out) × (wants_ping o b l ≡ true)
+SameOut o s b l p Noticed out = nop_in b Notices ≡ out
 
-abbrev pub SameChosen : State → Box → Link → ℕ → Option Out → Option Outgoing → Type 0
-SameChosen s b l p None None = Unit {0}
-SameChosen s b l p (Some x) (Some out) = SameOut s b l p x out
-SameChosen s b l p None (Some out) = ⊥
-SameChosen s b l p (Some x) None = ⊥
+abbrev pub SameChosen : Opening → State → Box → Link → ℕ → Option Out → Option Outgoing → Type 0
+SameChosen o s b l p None None = Unit {0}
+SameChosen o s b l p (Some x) (Some out) = SameOut o s b l p x out
+SameChosen o s b l p None (Some out) = ⊥
+SameChosen o s b l p (Some x) None = ⊥
 
 module _ (o : Opening) (s : State) (b : Box) (h : Stands o s b) (sound : IsSound o b) (distinct : are_distinct o.session.conns ≡ true) (p : ℕ) (within : p < length b.links) where
   abbrev l : Link
@@ -70,41 +71,41 @@ module _ (o : Opening) (s : State) (b : Box) (h : Stands o s b) (sound : IsSound
   st = counts_at (is_under_way o b.links) o s b h p within
 
   Chosen : Option Out → Option Outgoing → Type 0
-  Chosen = SameChosen s b (link_in b.links p) p
+  Chosen = SameChosen o s b (link_in b.links p) p
 
   from_queues : is_open l ≡ true → (queue : List Entry) (outs : List Outgoing) → queue_at s.waits p ≡ queue → l.queue ≡ outs → PairsOf (IsEntry s.tracked l.conn) queue outs
-      → SameChosen s b l p
+      → SameChosen o s b l p
       (elim queue as (λ (q : List Entry). Option Out) [
         | [] ↦ cond (wants_notice_steps p s) (Some Noticed) None
         | e ∷ es ↦ cond (passes p (record { time = e.time; takes = e.item.takes; fenced = e.item.fenced }) s) (Some (Waited e.item)) None
       ])
       (first_waiting o b l outs)
   from_queues opens [] [] is are k =
-      subst (λ v. SameChosen s b l p (cond v (Some Noticed) None) (cond (wants_notice o b l) (Some (nop_in b Notices)) None)) (sym (notice_is o s b h sound distinct p within opens)) (by_test (wants_notice o b l))
+      subst (λ v. SameChosen o s b l p (cond v (Some Noticed) None) (cond (wants_notice o b l) (Some (nop_in b Notices)) None)) (sym (notice_is o s b h sound distinct p within opens)) (by_test (wants_notice o b l))
     where
-      by_test : (v : Bool) → SameChosen s b (link_in b.links p) p (cond v (Some Noticed) None) (cond v (Some (nop_in b Notices)) None)
+      by_test : (v : Bool) → SameChosen o s b (link_in b.links p) p (cond v (Some Noticed) None) (cond v (Some (nop_in b Notices)) None)
       by_test true = refl
       by_test false = tt
   from_queues opens (e ∷ es) (out ∷ outs) is are k =
-      subst (λ v. SameChosen s b l p (cond v (Some (Waited e.item)) None) (cond (passes_fence o b l out) (Some out) None)) (sym (passes_is o s b h sound distinct p within opens e out outs are k.0)) (by_test (passes_fence o b l out))
+      subst (λ v. SameChosen o s b l p (cond v (Some (Waited e.item)) None) (cond (passes_fence o b l out) (Some out) None)) (sym (passes_is o s b h sound distinct p within opens e out outs are k.0)) (by_test (passes_fence o b l out) refl)
     where
-      by_test : (v : Bool) → SameChosen s b (link_in b.links p) p (cond v (Some (Waited e.item)) None) (cond v (Some out) None)
-      by_test true = record { entry = e; entries = es; rest = outs; first = is; out_first = are; is = k.0; item_is = refl }
-      by_test false = tt
+      by_test : (v : Bool) → passes_fence o b (link_in b.links p) out ≡ v → SameChosen o s b (link_in b.links p) p (cond v (Some (Waited e.item)) None) (cond v (Some out) None)
+      by_test true it = record { entry = e; entries = es; rest = outs; first = is; out_first = are; is = k.0; item_is = refl; passes = it }
+      by_test false it = tt
   from_queues opens [] (out ∷ outs) is are k = absurd k
   from_queues opens (e ∷ es) [] is are k = absurd k
 
-  chosen_open : is_open l ≡ true → SameChosen s b l p (cond (wants_ping_steps p s) (Some (Pinged (tag_of_ping (link_at s p).pings))) (from_queue p s)) (cond (wants_ping o b l) (Some (ping b l)) (first_waiting o b l l.queue))
+  chosen_open : is_open l ≡ true → SameChosen o s b l p (cond (wants_ping_steps p s) (Some (Pinged (tag_of_ping (link_at s p).pings))) (from_queue p s)) (cond (wants_ping o b l) (Some (ping b l)) (first_waiting o b l l.queue))
   chosen_open opens =
-      subst (λ v. SameChosen s b l p (cond v (Some (Pinged (tag_of_ping (link_at s p).pings))) (from_queue p s)) (cond (wants_ping o b l) (Some (ping b l)) (first_waiting o b l l.queue))) (sym (ping_is o s b h sound distinct p within opens)) (by_test (wants_ping o b l))
+      subst (λ v. SameChosen o s b l p (cond v (Some (Pinged (tag_of_ping (link_at s p).pings))) (from_queue p s)) (cond (wants_ping o b l) (Some (ping b l)) (first_waiting o b l l.queue))) (sym (ping_is o s b h sound distinct p within opens)) (by_test (wants_ping o b l) refl)
     where
-      by_test : (v : Bool) → SameChosen s b (link_in b.links p) p (cond v (Some (Pinged (tag_of_ping (link_at s p).pings))) (from_queue p s)) (cond v (Some (ping b (link_in b.links p))) (first_waiting o b (link_in b.links p) (link_in b.links p).queue))
-      by_test true = (ap tag_of_ping st.pings, refl)
-      by_test false = from_queues opens (queue_at s.waits p) (link_in b.links p).queue refl refl (pairs-at (IsQueue s.tracked) s.waits.queues b.links p [] (new_link 0) within h.queues)
+      by_test : (v : Bool) → wants_ping o b (link_in b.links p) ≡ v → SameChosen o s b (link_in b.links p) p (cond v (Some (Pinged (tag_of_ping (link_at s p).pings))) (from_queue p s)) (cond v (Some (ping b (link_in b.links p))) (first_waiting o b (link_in b.links p) (link_in b.links p).queue))
+      by_test true it = (ap tag_of_ping st.pings, refl, it)
+      by_test false it = from_queues opens (queue_at s.waits p) (link_in b.links p).queue refl refl (pairs-at (IsQueue s.tracked) s.waits.queues b.links p [] (new_link 0) within h.queues)
 
-  pub chosen_is : length l.handed < 2 ^ 63 → SameChosen s b l p (chosen p s) (chosen_by_rules o b l)
+  pub chosen_is : length l.handed < 2 ^ 63 → SameChosen o s b l p (chosen p s) (chosen_by_rules o b l)
   chosen_is few =
-      subst (λ v. SameChosen s b l p (cond v (cond (wants_ping_steps p s) (Some (Pinged (tag_of_ping (link_at s p).pings))) (from_queue p s)) None) (chosen_by_rules o b l))
+      subst (λ v. SameChosen o s b l p (cond v (cond (wants_ping_steps p s) (Some (Pinged (tag_of_ping (link_at s p).pings))) (from_queue p s)) None) (chosen_by_rules o b l))
       (sym (ap (λ (v : Bool). is_open_by (link_at s p) && v) (ap (λ n. nat_lt n (2 ^ 63)) st.handed ∙ lt-ltb (length l.handed) (2 ^ 63) few) ∙ and_yes (is_open_by (link_at s p)) ∙ open_is (link_at s p) l st))
       (by_open (is_open l) refl)
     where
@@ -113,21 +114,21 @@ module _ (o : Opening) (s : State) (b : Box) (h : Stands o s b) (sound : IsSound
       and_yes false = refl
 
       by_open : (v : Bool) → is_open (link_in b.links p) ≡ v
-          → SameChosen s b (link_in b.links p) p (cond v (cond (wants_ping_steps p s) (Some (Pinged (tag_of_ping (link_at s p).pings))) (from_queue p s)) None)
+          → SameChosen o s b (link_in b.links p) p (cond v (cond (wants_ping_steps p s) (Some (Pinged (tag_of_ping (link_at s p).pings))) (from_queue p s)) None)
           (cond v (cond (wants_ping o b (link_in b.links p)) (Some (ping b (link_in b.links p))) (first_waiting o b (link_in b.links p) (link_in b.links p).queue)) None)
       by_open true is = chosen_open is
       by_open false is = tt
 
   -- ---- what is left without it
 
-  queued_pdu : (c : Content) (out : Outgoing) → pdu_of c ≡ out.pdu → is_from_queue out ≡ true
+  pub queued_pdu : (c : Content) (out : Outgoing) → pdu_of c ≡ out.pdu → is_from_queue out ≡ true
   queued_pdu (IsReply reply) out is = ap (λ (x : RulesPdu). elim x as (λ (y : RulesPdu). Bool) [ Replies r ↦ true | Owns q ↦ true | Pings tag ↦ false | Notices ↦ false ]) (sym is)
   queued_pdu (IsOwn own) out is = ap (λ (x : RulesPdu). elim x as (λ (y : RulesPdu). Bool) [ Replies r ↦ true | Owns q ↦ true | Pings tag ↦ false | Notices ↦ false ]) (sym is)
 
   moves : (queue : List Outgoing) → Moves l (record l { queue = queue })
   moves queue = record { conn = refl; handed = refl; stamps = λ place lt. refl; fence = λ none. none }
 
-  popped_stands : Stands o (record s { waits = record s.waits { queues = set s.waits.queues p (drop 1 (queue_at s.waits p)) } }) (record b { links = set b.links p (record l { queue = drop 1 l.queue }) })
+  pub popped_stands : Stands o (record s { waits = record s.waits { queues = set s.waits.queues p (drop 1 (queue_at s.waits p)) } }) (record b { links = set b.links p (record l { queue = drop 1 l.queue }) })
   popped_stands =
       let m : Link = record l { queue = drop 1 l.queue } in
       stands_under (is_under_way o b.links) (is_under_way o (set b.links p m)) o _ _ (λ t. sym (any-set (has_under_way o (λ k. k == t)) b.links p m (new_link 0) refl))
@@ -136,14 +137,14 @@ module _ (o : Opening) (s : State) (b : Box) (h : Stands o s b) (sound : IsSound
       (pairs-drop (IsEntry s.tracked l.conn) (queue_at s.waits p) l.queue (pairs-at (IsQueue s.tracked) s.waits.queues b.links p [] (new_link 0) within h.queues))
       (stands_queue (link_at s p) l st (drop 1 l.queue))))
 
-  taken_at : (out : Outgoing) → at_link l.conn (taken_from out) b.links ≡ set b.links p (taken_from out l)
+  pub taken_at : (out : Outgoing) → at_link l.conn (taken_from out) b.links ≡ set b.links p (taken_from out l)
   taken_at out = at_place (taken_from out) b.links l.conn p (apart o s b h sound distinct) within refl
 
   without_none : (out : Outgoing) → is_from_queue out ≡ false → Stands o s (without_chosen b l out)
   without_none out isnt =
       subst (λ ls. Stands o s (record b { links = ls })) (sym (taken_at out ∙ ap (λ (v : Bool). set b.links p (cond v (record l { queue = drop 1 l.queue }) l)) isnt ∙ set-get_or b.links p (new_link 0))) h
 
-  pub without_stands : (x : Out) (out : Outgoing) → SameOut s b l p x out → Stands o (without p x s) (without_chosen b l out)
+  pub without_stands : (x : Out) (out : Outgoing) → SameOut o s b l p x out → Stands o (without p x s) (without_chosen b l out)
   without_stands (Waited item) out w =
       subst (λ ls. Stands o (without p (Waited item) s) (record b { links = ls }))
       (sym (taken_at out ∙ ap (λ (v : Bool). set b.links p (cond v (record l { queue = drop 1 l.queue }) l)) (queued_pdu (w.entry.item.content) out w.is.pdu))) popped_stands
@@ -156,7 +157,7 @@ module _ (o : Opening) (s : State) (b : Box) (h : Stands o s b) (sound : IsSound
   content_said (IsReply reply) item is = ap (λ (x : Content). elim x as (λ (y : Content). Pdu) [ IsReply r ↦ Rattle.iscsi_outbox_steps.specs.declared.given.Pdu.TheVariants.Reply r | IsOwn own ↦ Rattle.iscsi_outbox_steps.specs.declared.given.Pdu.TheVariants.Own own ]) is
   content_said (IsOwn own) item is = ap (λ (x : Content). elim x as (λ (y : Content). Pdu) [ IsReply r ↦ Rattle.iscsi_outbox_steps.specs.declared.given.Pdu.TheVariants.Reply r | IsOwn q ↦ Rattle.iscsi_outbox_steps.specs.declared.given.Pdu.TheVariants.Own q ]) is
 
-  same_pdu : (x : Out) (out : Outgoing) → SameOut s b l p x out → pdu_of_out x ≡ pdu_said out.pdu
+  same_pdu : (x : Out) (out : Outgoing) → SameOut o s b l p x out → pdu_of_out x ≡ pdu_said out.pdu
   same_pdu (Waited item) out w = content_said (item.content) item refl ∙ ap (λ (i : Waiting). pdu_said (pdu_of i.content)) (sym w.item_is) ∙ ap pdu_said w.is.pdu
   same_pdu (Pinged tag) out k = ap (λ n. pdu_said (Pings n)) k.0 ∙ ap (λ (y : Outgoing). pdu_said y.pdu) k.1
   same_pdu Noticed out k = ap (λ (y : Outgoing). pdu_said y.pdu) k
@@ -164,7 +165,7 @@ module _ (o : Opening) (s : State) (b : Box) (h : Stands o s b) (sound : IsSound
   made : Pdu → ℕ → ℕ → ℕ → Handed
   made pdu stat_sn exp max = record { pdu = pdu; stat_sn = stat_sn; exp = exp; max = max }
 
-  pub handed_is : (x : Out) (out : Outgoing) → SameOut s b l p x out → numbered p x s ≡ handed_said (handed_as o b l out)
+  pub handed_is : (x : Out) (out : Outgoing) → SameOut o s b l p x out → numbered p x s ≡ handed_said (handed_as o b l out)
   unfolding made
   handed_is x out k =
       ap (λ (pdu : Pdu). made pdu (wire (link_at s p).next) s.exp (wire (max_shown_steps (without p x s)))) (same_pdu x out k)
@@ -189,7 +190,7 @@ module _ (o : Opening) (s : State) (b : Box) (h : Stands o s b) (sound : IsSound
       by_over true = refl
       by_over false = refl
 
-      by_chosen : (x : Option Out) (y : Option Outgoing) → SameChosen s b (link_in b.links p) p x y
+      by_chosen : (x : Option Out) (y : Option Outgoing) → SameChosen o s b (link_in b.links p) p x y
           → (elim x as (λ (z : Option Out). Given) [ Some out ↦ Hands (numbered p out s) | None ↦ cond (is_over_steps p s) IsOver Nothing ])
           ≡ given_said (elim y as (λ (z : Option Outgoing). RulesGiven) [ Some out ↦ RulesHands (handed_as o b (link_in b.links p) out) | None ↦ cond (is_over b (link_in b.links p)) RulesIsOver RulesNothing ])
       by_chosen None None k = ap (λ (v : Bool). cond v IsOver Nothing) over_anyway ∙ by_over (is_over b (link_in b.links p))

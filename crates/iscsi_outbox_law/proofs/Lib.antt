@@ -16,3 +16,5 @@ mod TrackedLemmas
 mod TrackedChanges
 mod HandedLemmas
 mod Nexts
+mod NextStands
+mod NextAfter

@@ -31,11 +31,15 @@ FitFrom o b (c ∷ cs) = FitsCall o b c × FitFrom o (after_call o b c) cs
 abbrev pub HasRoom : Opening → List Call → Type 0
 HasRoom o calls = FitFrom o (opened o) calls
 
+-- fewer PDUs than that were handed out on each connection
+abbrev pub AreFew : Box → Type 0
+AreFew b = EachOf (λ (l : Link). length l.handed < 2 ^ 63) b.links
+
 -- numbers that a word of 64 bits has
 pub record AreShort (b : Box) : Type 0 where
   pub time : b.time < 2 ^ 64 - 1
   pub max : b.max < 2 ^ 63
-  pub handed : EachOf (λ (l : Link). length l.handed < 2 ^ 63) b.links
+  pub handed : AreFew b
 
 abbrev pub ShortFrom : Opening → Box → List Call → Type 0
 ShortFrom o b [] = Unit {0}

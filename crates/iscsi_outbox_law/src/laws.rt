@@ -2,10 +2,12 @@
 
 ghost use Rattle.std.specs.Prelude.{◌≡◌, ℕ, true};
 ghost use Rattle.iscsi_history.specs.rules.Settings.{are_distinct};
+ghost use Rattle.iscsi_outbox_law.specs.Room.{AreFew};
 ghost use Rattle.iscsi_outbox_law.specs.Said.{said};
+ghost use Rattle.iscsi_outbox_law.specs.Sound.{IsSound};
 ghost use Rattle.iscsi_outbox_law.specs.Stands.{Stands};
 ghost use Rattle.iscsi_outbox_rules.specs.rules.Boxes.{Box};
-ghost use Rattle.iscsi_outbox_rules.specs.rules.Calls.{Joins, Opening};
+ghost use Rattle.iscsi_outbox_rules.specs.rules.Calls.{Joins, Nexts, Opening};
 ghost use Rattle.iscsi_outbox_rules.specs.rules.Run.{after_call as after_call_by_rules, answered as answered_by_rules, opened};
 ghost use Rattle.iscsi_outbox_rules.specs.rules.Words.{max_shown as max_shown_by_rules, may_take as may_take_by_rules};
 ghost use Rattle.iscsi_outbox_steps.specs.Run.{after_call, answered, begun};
@@ -26,4 +28,10 @@ pub fn joins_law()
 pub fn room_law()
     ensures may { (o : Opening) (s : State) (b : Box) → Stands o s b → may_take s ≡ may_take_by_rules o b }
     ensures shown { (o : Opening) (s : State) (b : Box) → Stands o s b → max_shown s ≡ max_shown_by_rules o b }
+{}
+
+/// The next PDU of a connection, and the state after it was handed out.
+pub fn nexts_law()
+    ensures answer { (o : Opening) (s : State) (b : Box) → Stands o s b → IsSound o b → are_distinct o.session.conns ≡ true → AreFew b → (cid : ℕ) → answered s (Nexts cid) ≡ said (answered_by_rules o b (Nexts cid)) }
+    ensures stands { (o : Opening) (s : State) (b : Box) → Stands o s b → IsSound o b → are_distinct o.session.conns ≡ true → AreFew b → (cid : ℕ) → Stands o (after_call s (Nexts cid)) (after_call_by_rules o b (Nexts cid)) }
 {}
