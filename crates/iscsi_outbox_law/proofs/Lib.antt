@@ -18,3 +18,4 @@ mod HandedLemmas
 mod Nexts
 mod NextStands
 mod NextAfter
+mod Entering
