@@ -89,7 +89,7 @@ module _ (o : Opening) (s : State) (b : Box) (h : Stands o s b) (sound : IsSound
       counted_elsewhere o s b h sound distinct p within opens (λ (out : Outgoing). out.takes) is_taking (λ cid e x k. k.takes) in
       let second : Bool = nat_lt (link_at s p).acknowledged (link_at s p).next && nat_lt (count_by is_fenced (queue_at s.waits p)) (count_waits is_fenced s.waits) in
       let third : Bool = is_fence_here p s && nat_lt (count_by is_taking (queue_at s.waits p)) (count_waits is_taking s.waits) in
-      ap (λ (v : Bool). (v || second) || third) (sym (any-count (is_under_way_on p) s.lane.items) ∙ left_out o s b h sound (apart o s b h sound distinct) p within)
+      ap (λ (v : Bool). (v || second) || third) (sym (any-count (is_under_way_on p) s.lane.items) ∙ left_out o s b h sound.homes (apart o s b h sound distinct) p within)
       ∙ ap (λ (v : Bool). (has_under_way o (is_left b) l || (v && nat_lt (count_by is_fenced (queue_at s.waits p)) (count_waits is_fenced s.waits))) || third) (unarrived_is (link_at s p) l st)
       ∙ ap (λ (v : Bool). (has_under_way o (is_left b) l || (list_any takes_handed (unarrived l) && v)) || third) fenced_elsewhere
       ∙ ap (λ (v : Bool). (has_under_way o (is_left b) l || (list_any takes_handed (unarrived l) && any_waits (λ (out : Outgoing). out.fenced) (others b l))) || (v && nat_lt (count_by is_taking (queue_at s.waits p)) (count_waits is_taking s.waits)))

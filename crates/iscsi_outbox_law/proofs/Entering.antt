@@ -1,29 +1,25 @@
 -- A PDU enters the queue of a connection in both.
-use Rattle.std.proofs.Common.{◌≡◌, ℕ, ◌+◌, ◌-◌, ◌<◌, ◌≤◌, ◌==◌, ◌&&◌, ◌||◌, ◌^◌, not, cond, nat_lt, Bool, true, false, List, [], ◌∷◌, ◌++◌, length, get_or, set, Option, Some, None, refl, ap, sym, subst, ◌∙◌, arith}
+use Rattle.std.proofs.Common.{◌≡◌, ℕ, ◌+◌, ◌==◌, ◌&&◌, cond, Bool, true, false, List, [], ◌∷◌, ◌++◌, set, refl, ap, sym, subst, ◌∙◌}
 use Rattle.std.specs.List.{list_any}
-use Rattle.std.proofs.lemmas.Bool.{and_parts}
 use Rattle.std.proofs.lemmas.List.{set-get_or}
-use Rattle.iscsi_history.specs.rules.Settings.{are_distinct}
-use Rattle.iscsi_arrivals.specs.Counts.{Counts, new_counts, takes_more_by}
-use Rattle.iscsi_arrivals.specs.Standing.{StandsFor}
+use Rattle.iscsi_arrivals.specs.Counts.{new_counts, takes_more_by}
 use Rattle.iscsi_arrivals.proofs.SinceLemmas.{takes_more_is}
 use Rattle.iscsi_outbox_rules.specs.rules.Calls.{Opening}
 use Rattle.iscsi_outbox_rules.specs.rules.Boxes.{Outgoing, Link, Box}
 use Rattle.iscsi_outbox_rules.specs.rules.Words.{contains, has_under_way}
-use Rattle.iscsi_outbox_rules.specs.rules.Queues.{append, at_link, enter as enter_box, takes_more}
+use Rattle.iscsi_outbox_rules.specs.rules.Queues.{append, enter as enter_box, takes_more}
 use Rattle.iscsi_outbox_rules.specs.rules.Run.{new_link}
 use Rattle.iscsi_outbox_state.specs.declared.waiting.Waiting.{Waiting}
-use Rattle.iscsi_outbox_state.specs.Waits.{Entry, Waits, entered, entry, queue_at}
+use Rattle.iscsi_outbox_state.specs.Waits.{Entry, entered, entry, queue_at}
 use Rattle.iscsi_outbox_steps.specs.State.{State, link_at}
 use Rattle.iscsi_outbox_steps.specs.Steps.{enter, has_room, has_time, later}
 use Rattle.iscsi_tracked.specs.Tracked.{Tracked}
-use Rattle.iscsi_outbox_law.specs.Pairs.{PairsOf}
 use Rattle.iscsi_outbox_law.specs.Links.{IsEntry, IsQueue, pdu_of, place_of_command}
 use Rattle.iscsi_outbox_law.specs.Commands.{is_under_way, link_in}
 use Rattle.iscsi_outbox_law.specs.Stands.{Stands, StandsWith}
 use Rattle.iscsi_outbox_law.proofs.PairLemmas.{any-set, pairs-append, pairs-at}
 use Rattle.iscsi_outbox_law.proofs.PlaceLemmas.{AreApart, IsPlace, at_none, at_place, conns_of}
-use Rattle.iscsi_outbox_law.proofs.Standing.{counts_at, links_apart}
+use Rattle.iscsi_outbox_law.proofs.Standing.{counts_at}
 use Rattle.iscsi_outbox_law.proofs.LinkChanges.{Moves, stands_set, stands_under}
 use Rattle.iscsi_outbox_law.proofs.CountChanges.{stands_queue}
 

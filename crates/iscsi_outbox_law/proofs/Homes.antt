@@ -6,9 +6,9 @@ use Rattle.iscsi_outbox_rules.specs.rules.Calls.{Opening}
 use Rattle.iscsi_outbox_rules.specs.rules.Boxes.{Task, Outgoing, Handed, Link, Box}
 use Rattle.iscsi_outbox_rules.specs.rules.Words.{has_under_way, is_of, is_open, looks_for_arrival, unarrived, under_way, unwritten}
 use Rattle.iscsi_outbox_rules.specs.rules.Run.{new_link}
-use Rattle.iscsi_outbox_law.specs.Pairs.{InOrder}
+use Rattle.iscsi_outbox_law.specs.Pairs.{EachOf, InOrder}
 use Rattle.iscsi_outbox_law.specs.Commands.{is_under_way, link_in}
-use Rattle.iscsi_outbox_law.specs.Sound.{HasHome, IsLinkSound, IsSound}
+use Rattle.iscsi_outbox_law.specs.Sound.{HasHome, HaveHomes}
 use Rattle.iscsi_outbox_law.proofs.PairLemmas.{each-at}
 use Rattle.iscsi_outbox_law.proofs.Members.{In, any_found, each-in}
 use Rattle.iscsi_outbox_law.proofs.PlaceLemmas.{AreApart, IsPlace, conns_of, one_place, only_at}
@@ -49,23 +49,23 @@ home_of tasks t conn out order at home is = by_ticket (out.ticket) home is
     by_ticket (Some n) k it = one_home tasks t conn order at (subst (λ m. list_any (λ (y : Task). y.ticket == m && y.conn == conn) tasks ≡ true) (eqb-true n t.ticket it) k)
 
 -- something of a command was handed out on its own connection
-pub handed_home : (o : Opening) (tasks : List Task) (t : Task) (l : Link) → InOrder (λ (x y : Task). x.ticket < y.ticket) tasks → In t tasks → IsLinkSound o tasks l
+pub handed_home : (o : Opening) (tasks : List Task) (t : Task) (l : Link) → InOrder (λ (x y : Task). x.ticket < y.ticket) tasks → In t tasks → EachOf (λ (h : Handed). HasHome tasks l.conn h.out) l.handed
     → has_under_way o (λ k. k == t.ticket) l ≡ true → t.conn ≡ l.conn
-handed_home o tasks t l order at sound some =
+handed_home o tasks t l order at homes some =
     let test : Handed → Bool = λ h. is_of (λ k. k == t.ticket) h.out in
     let whole : list_any test l.handed ≡ true = by_any (list_any test l.handed) refl in
     let k : (h : Handed) × In h l.handed × (test h ≡ true) = any_found test l.handed whole in
-    home_of tasks t l.conn k.0.out order at (each-in (λ (h : Handed). HasHome tasks l.conn h.out) l.handed k.0 k.1 sound.handed) k.2
+    home_of tasks t l.conn k.0.out order at (each-in (λ (h : Handed). HasHome tasks l.conn h.out) l.handed k.0 k.1 homes) k.2
   where
     by_any : (v : Bool) → list_any (λ (h : Handed). is_of (λ k. k == t.ticket) h.out) l.handed ≡ v → list_any (λ (h : Handed). is_of (λ k. k == t.ticket) h.out) l.handed ≡ true
     by_any true is = is
     by_any false is = absurd (false≢true (sym (none_under o (λ (h : Handed). is_of (λ k. k == t.ticket) h.out) l is) ∙ some))
 
 -- so it is under way just where it is under way there
-pub under_here : (o : Opening) (b : Box) (t : Task) (p : ℕ) → IsSound o b → AreApart (conns_of b.links) → In t b.tasks → IsPlace b.links t.conn p
+pub under_here : (o : Opening) (b : Box) (t : Task) (p : ℕ) → HaveHomes b → AreApart (conns_of b.links) → In t b.tasks → IsPlace b.links t.conn p
     → is_under_way o b.links t.ticket ≡ has_under_way o (λ k. k == t.ticket) (link_in b.links p)
-under_here o b t p sound apart at place =
+under_here o b t p homes apart at place =
     only_at (has_under_way o (λ k. k == t.ticket)) b.links p place.within
     (λ n lt other. false_from_ne_true (has_under_way o (λ k. k == t.ticket) (link_in b.links n)) (λ some.
     other (one_place b.links n p apart lt place.within
-    (sym (handed_home o b.tasks t (link_in b.links n) sound.ascending at (each-at (IsLinkSound o b.tasks) b.links n (new_link 0) lt sound.links) some) ∙ sym place.is))))
+    (sym (handed_home o b.tasks t (link_in b.links n) homes.ascending at (each-at (λ (l : Link). EachOf (λ (h : Handed). HasHome b.tasks l.conn h.out) l.handed) b.links n (new_link 0) lt homes.handed) some) ∙ sym place.is))))

@@ -15,9 +15,10 @@ use Rattle.iscsi_tracked.specs.declared.command.Command.{Command}
 use Rattle.iscsi_tracked.specs.Tracked.{Tracked, find_place, is_at, is_out}
 use Rattle.iscsi_outbox_steps.specs.State.{State}
 use Rattle.iscsi_outbox_steps.specs.Steps.{is_live}
+use Rattle.iscsi_outbox_law.specs.Pairs.{EachOf}
 use Rattle.iscsi_outbox_law.specs.Commands.{ArePlaced, IsCommand, IsOut, is_kept, is_under_way, link_in}
 use Rattle.iscsi_outbox_law.specs.Lanes.{AreLeft, left_at, left_of}
-use Rattle.iscsi_outbox_law.specs.Sound.{IsLinkSound, IsSound}
+use Rattle.iscsi_outbox_law.specs.Sound.{HasHome, HaveHomes}
 use Rattle.iscsi_outbox_law.specs.Stands.{Stands}
 use Rattle.iscsi_outbox_law.proofs.PairLemmas.{each-at}
 use Rattle.iscsi_outbox_law.proofs.Members.{In, any_found, any_from, any_more, filter_in, find_in, in_filter, in_find, index_any, order-weaken, pair_for, pair_of, same_tests}
@@ -127,7 +128,7 @@ pub out_under : (under : ℕ → Bool) (ticket : ℕ) (l : Link) (x : Option Sta
 out_under under ticket l None h = sym h
 out_under under ticket l (Some stamp) h = sym h.0
 
-module _ (o : Opening) (s : State) (b : Box) (h : Stands o s b) (sound : IsSound o b) (apart : AreApart (conns_of b.links)) where
+module _ (o : Opening) (s : State) (b : Box) (h : Stands o s b) (homes : HaveHomes b) (apart : AreApart (conns_of b.links)) where
   Kept : Command → Task → Type 0
   Kept = IsCommand (is_under_way o b.links) s.limits.cids b.links
 
@@ -139,7 +140,7 @@ module _ (o : Opening) (s : State) (b : Box) (h : Stands o s b) (sound : IsSound
 
   -- what is under way of a command is so on its connection
   pub out_there : (c : Command) (t : Task) → In t b.tasks → IsCommand (is_under_way o b.links) s.limits.cids b.links c t → is_out c ≡ has_under_way o (λ k. k == t.ticket) (link_in b.links c.conn)
-  out_there c t at k = out_is c t k ∙ ap (is_under_way o b.links) k.ticket ∙ under_here o b t c.conn sound apart at (place_of_task c t k)
+  out_there c t at k = out_is c t k ∙ ap (is_under_way o b.links) k.ticket ∙ under_here o b t c.conn homes apart at (place_of_task c t k)
 
   pub task_of : (c : Command) → In c s.tracked.commands → (t : Task) × In t b.tasks × (is_kept (is_under_way o b.links) t ≡ true) × IsCommand (is_under_way o b.links) s.limits.cids b.links c t
   task_of c at =
@@ -190,7 +191,7 @@ module _ (o : Opening) (s : State) (b : Box) (h : Stands o s b) (sound : IsSound
             (ap (λ (z : Option ℕ). elim z as (λ (w : Option ℕ). Bool) [ Some m ↦ m == k.0.ticket | None ↦ false ]) is ∙ eq-eqb n k.0.ticket (sym same)) in
             let under : is_under_way o b.links k.0.ticket ≡ true = index_any (has_under_way o (λ m. m == k.0.ticket)) b.links p (new_link 0) within here in
             let x = command_of k.0 k.1 (left_kept k.0.phase (is_under_way o b.links k.0.ticket) parts.1 under) in
-            let home : k.0.conn ≡ (link_in b.links p).conn = handed_home o b.tasks k.0 (link_in b.links p) sound.ascending k.1 (each-at (IsLinkSound o b.tasks) b.links p (new_link 0) within sound.links) here in
+            let home : k.0.conn ≡ (link_in b.links p).conn = handed_home o b.tasks k.0 (link_in b.links p) homes.ascending k.1 (each-at (λ (l : Link). EachOf (λ (x : Handed). HasHome b.tasks l.conn x.out) l.handed) b.links p (new_link 0) within homes.handed) here in
             let place : IsPlace b.links k.0.conn x.0.conn = place_of_task x.0 k.0 x.2 in
             let at : x.0.conn ≡ p = one_place b.links x.0.conn p apart place.within within (place.is ∙ home) in
             let out : is_out x.0 ≡ true = out_is x.0 k.0 x.2 ∙ ap (is_under_way o b.links) x.2.ticket ∙ under in

@@ -19,3 +19,4 @@ mod Nexts
 mod NextStands
 mod NextAfter
 mod Entering
+mod Dues

@@ -96,7 +96,7 @@ module _ (o : Opening) (s : State) (b : Box) (h : Stands o s b) (sound : IsSound
       let f = in_filter (is_kept (is_under_way o b.links)) b.tasks k.0 k.1 in
       let at : IsPlace b.links k.0.conn c.conn = place_found s.limits.cids b.links k.0.conn c.conn h.links.conns k.2.conn in
       let same : k.0.conn ≡ l.conn =
-      one_home b.tasks k.0 l.conn sound.ascending f.0 (subst (λ n. list_any (λ (t : Task). t.ticket == n && t.conn == l.conn) b.tasks ≡ true) k.2.ticket (home_task out c.ticket home is)) in
+      one_home b.tasks k.0 l.conn sound.homes.ascending f.0 (subst (λ n. list_any (λ (t : Task). t.ticket == n && t.conn == l.conn) b.tasks ≡ true) k.2.ticket (home_task out c.ticket home is)) in
       one_place b.links c.conn p (apart o s b h sound distinct) at.within within (at.is ∙ same)
 
   sl : IsLinkSound o b.tasks (link_in b.links p)

@@ -33,7 +33,6 @@ IsAlive tasks out = is_of (λ k. list_any (λ (t : Task). t.ticket == k && is_le
 
 pub record IsLinkSound (o : Opening) (tasks : List Task) (l : Link) : Type 0 where
   pub queued : EachOf (HasHome tasks l.conn) l.queue
-  pub handed : EachOf (λ (h : Handed). HasHome tasks l.conn h.out) l.handed
   pub alive : EachOf (IsAlive tasks) l.queue
   pub fenced : EachOf IsFenceFit l.queue
   pub own : count_by (λ (out : Outgoing). is_own out.pdu) l.queue ≤ o.own
@@ -46,9 +45,14 @@ pub record IsAnswerSound (b : Box) (a : Answer) : Type 0 where
   pub scope : (k : ℕ) → contains a.out.scope k ≡ true → is_left b k ≡ true
   pub taken : list_any (λ (l : Link). l.conn == a.conn && takes_more l) b.links ≡ true
 
+-- what was handed out is of commands that entered on its connection, each with a ticket of its own
+pub record HaveHomes (b : Box) : Type 0 where
+  pub ascending : InOrder (λ (t u : Task). t.ticket < u.ticket) b.tasks
+  pub handed : EachOf (λ (l : Link). EachOf (λ (h : Handed). HasHome b.tasks l.conn h.out) l.handed) b.links
+
 -- between the calls, and between the items of an event
 pub record IsSound (o : Opening) (b : Box) : Type 0 where
-  pub ascending : InOrder (λ (t u : Task). t.ticket < u.ticket) b.tasks
+  pub homes : HaveHomes b
   pub known : EachOf (λ (t : Task). is_known t.conn o.session.conns ≡ true) b.tasks
   pub links : EachOf (IsLinkSound o b.tasks) b.links
   pub undue : EachOf (IsAnswerSound b) b.undue
