@@ -20,3 +20,5 @@ mod NextStands
 mod NextAfter
 mod Entering
 mod Dues
+mod Rooms
+mod Settling

@@ -89,7 +89,7 @@ at_none f (l ∷ links) cid none =
 pub other_first : (l : Link) (links : List Link) (cid p : ℕ) → AreApart (conns_of (l ∷ links)) → p < length links → (link_in links p).conn ≡ cid → (l.conn == cid) ≡ false
 other_first l links cid p apart lt is = ne_eqb l.conn cid (λ same. none_here links l.conn p apart.0 lt (is ∙ sym same))
 
-none_behind : (l : Link) (links : List Link) (cid : ℕ) → AreApart (conns_of (l ∷ links)) → l.conn ≡ cid → list_any (λ k. k == cid) (conns_of links) ≡ false
+pub none_behind : (l : Link) (links : List Link) (cid : ℕ) → AreApart (conns_of (l ∷ links)) → l.conn ≡ cid → list_any (λ k. k == cid) (conns_of links) ≡ false
 none_behind l links cid apart is = subst (λ c. list_any (λ k. k == c) (conns_of links) ≡ false) is apart.0
 
 pub at_place : (f : Link → Link) (links : List Link) (cid p : ℕ) → AreApart (conns_of links) → p < length links → (link_in links p).conn ≡ cid → at_link cid f links ≡ set links p (f (link_in links p))
