@@ -22,3 +22,5 @@ mod Entering
 mod Dues
 mod Rooms
 mod Settling
+mod Calm
+mod Clears
