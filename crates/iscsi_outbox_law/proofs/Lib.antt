@@ -24,3 +24,5 @@ mod Rooms
 mod Settling
 mod Calm
 mod Clears
+mod Puts
+mod PutStands

@@ -65,7 +65,7 @@ left_unnamed tasks out t alive at left =
     sym (ap (λ (x : Option ℕ). elim x as (λ (y : Option ℕ). Bool) [ Some n ↦ list_any (λ (z : Task). z.ticket == n && is_left_phase z.phase) tasks | None ↦ false ]) named) ∙ alive in
     true≢false (sym some ∙ it))
 
-live_kept : (under : ℕ → Bool) (t : Task) → is_live_phase t.phase ≡ true → is_kept under t ≡ true
+pub live_kept : (under : ℕ → Bool) (t : Task) → is_live_phase t.phase ≡ true → is_kept under t ≡ true
 live_kept under t live = ap (λ (v : Bool). v || (is_running_phase t.phase || (is_left_phase t.phase && under t.ticket))) live
 
 pub found_ticket : (v : Tracked) (c : Command) (k : ℕ) → ArePlaced v → In c v.commands → c.ticket ≡ k → find_ticket k v ≡ Some c

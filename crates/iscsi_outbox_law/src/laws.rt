@@ -1,13 +1,14 @@
 //! What the steps have in common with the rules, for every list of calls: laws of the definitions, which no code is needed for.
 
-ghost use Rattle.std.specs.Prelude.{◌≡◌, ℕ, true};
+ghost use Rattle.std.specs.Prelude.{◌≡◌, ◌<◌, ◌-◌, ◌^◌, ℕ, true};
 ghost use Rattle.iscsi_history.specs.rules.Settings.{are_distinct};
-ghost use Rattle.iscsi_outbox_law.specs.Room.{AreFew};
+ghost use Rattle.iscsi_outbox_law.specs.Room.{AreFew, Fits};
 ghost use Rattle.iscsi_outbox_law.specs.Said.{said};
 ghost use Rattle.iscsi_outbox_law.specs.Sound.{IsSound};
 ghost use Rattle.iscsi_outbox_law.specs.Stands.{Stands};
+ghost use Rattle.iscsi_outbox_rules.specs.declared.own_pdu.OwnPdu.{OwnPdu};
 ghost use Rattle.iscsi_outbox_rules.specs.rules.Boxes.{Box};
-ghost use Rattle.iscsi_outbox_rules.specs.rules.Calls.{Joins, Nexts, Opening};
+ghost use Rattle.iscsi_outbox_rules.specs.rules.Calls.{Clears, Joins, Nexts, Opening, Puts};
 ghost use Rattle.iscsi_outbox_rules.specs.rules.Run.{after_call as after_call_by_rules, answered as answered_by_rules, opened};
 ghost use Rattle.iscsi_outbox_rules.specs.rules.Words.{max_shown as max_shown_by_rules, may_take as may_take_by_rules};
 ghost use Rattle.iscsi_outbox_steps.specs.Run.{after_call, answered, begun};
@@ -34,4 +35,16 @@ pub fn room_law()
 pub fn nexts_law()
     ensures answer { (o : Opening) (s : State) (b : Box) → Stands o s b → IsSound o b → are_distinct o.session.conns ≡ true → AreFew b → (cid : ℕ) → answered s (Nexts cid) ≡ said (answered_by_rules o b (Nexts cid)) }
     ensures stands { (o : Opening) (s : State) (b : Box) → Stands o s b → IsSound o b → are_distinct o.session.conns ≡ true → AreFew b → (cid : ℕ) → Stands o (after_call s (Nexts cid)) (after_call_by_rules o b (Nexts cid)) }
+{}
+
+/// Whether a PDU of the target's own is taken, and the state after it.
+pub fn puts_law()
+    ensures answer { (o : Opening) (s : State) (b : Box) → Stands o s b → IsSound o b → are_distinct o.session.conns ≡ true → (p : OwnPdu) → answered s (Puts p) ≡ said (answered_by_rules o b (Puts p)) }
+    ensures stands { (o : Opening) (s : State) (b : Box) → Stands o s b → IsSound o b → are_distinct o.session.conns ≡ true → (p : OwnPdu) → Fits o b → b.time < 2 ^ 64 - 1 → Stands o (after_call s (Puts p)) (after_call_by_rules o b (Puts p)) }
+{}
+
+/// Other sessions are through with a unit: what is due by it enters in both. The rules take it in one pass, the steps take the first
+/// one again and again.
+pub fn clears_law()
+    ensures stands { (o : Opening) (s : State) (b : Box) → Stands o s b → IsSound o b → are_distinct o.session.conns ≡ true → Fits o b → (unit : ℕ) → (after_call_by_rules o b (Clears unit)).time < 2 ^ 64 - 1 → Stands o (after_call s (Clears unit)) (after_call_by_rules o b (Clears unit)) }
 {}

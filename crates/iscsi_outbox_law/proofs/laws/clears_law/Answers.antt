@@ -1,0 +1,5 @@
+use Rattle.iscsi_outbox_law.proofs.Clears.{clears_stands}
+use Rattle.iscsi_outbox_law.proofs.laws.clears_law.Goals as goal
+
+pub returns : goal.returns
+returns c = record { stands = clears_stands }
