@@ -26,3 +26,4 @@ mod Calm
 mod Clears
 mod Puts
 mod PutStands
+mod TrackedEnds
