@@ -27,3 +27,4 @@ mod Clears
 mod Puts
 mod PutStands
 mod TrackedEnds
+mod Lessening
