@@ -27,12 +27,12 @@ pub record KeepsAims (change : Left → Left) : Type 0 where
 abbrev pub lessen : (Left → Left) → ℕ → List Standing → List Standing
 lessen change place items = filter still_owes (map (with_left change place) items)
 
-count_in_same : {A : Type 0} (p q : A → Bool) (xs : List A) → ((x : A) → In x xs → p x ≡ q x) → count_by p xs ≡ count_by q xs
+pub count_in_same : {A : Type 0} (p q : A → Bool) (xs : List A) → ((x : A) → In x xs → p x ≡ q x) → count_by p xs ≡ count_by q xs
 count_in_same p q [] same = refl
 count_in_same p q (x ∷ xs) same =
     count-cons p x xs ∙ ap (λ (v : Bool). cond v 1 0 + count_by p xs) (same x (inl refl)) ∙ ap (λ n. cond (q x) 1 0 + n) (count_in_same p q xs (λ y at. same y (inr at))) ∙ sym (count-cons q x xs)
 
-count_filter : {A : Type 0} (p : A → Bool) (xs : List A) → count_by p xs ≡ length (filter p xs)
+pub count_filter : {A : Type 0} (p : A → Bool) (xs : List A) → count_by p xs ≡ length (filter p xs)
 count_filter p [] = refl
 count_filter p (x ∷ xs) =
     let rest = count_filter p xs in
@@ -41,7 +41,7 @@ count_filter p (x ∷ xs) =
       | false ↦ (let z : 0 + count_by p xs ≡ length (filter p xs) = omega (arith, rest) in z)
     ]
 
-count_none : {A : Type 0} (xs : List A) → count_by (λ (x : A). false) xs ≡ 0
+pub count_none : {A : Type 0} (xs : List A) → count_by (λ (x : A). false) xs ≡ 0
 count_none [] = refl
 count_none (x ∷ xs) = count-cons (λ y. false) x xs ∙ (let rest = count_none xs in let z : 0 + count_by (λ y. false) xs ≡ 0 = omega (arith, rest) in z)
 
@@ -62,7 +62,7 @@ module _ (change : Left → Left) (keeps : KeepsAims change) (place : ℕ) where
   ]
 
   -- those of one command, lessened
-  lessen_commands : (n : ℕ) (items : List Standing) → filter (is_command n) (lessen change place items) ≡ lessen change place (filter (is_command n) items)
+  pub lessen_commands : (n : ℕ) (items : List Standing) → filter (is_command n) (lessen change place items) ≡ lessen change place (filter (is_command n) items)
   lessen_commands n [] = refl
   lessen_commands n (x ∷ items) =
       let rest = lessen_commands n items in
@@ -82,11 +82,10 @@ module _ (change : Left → Left) (keeps : KeepsAims change) (place : ℕ) where
       ] refl
 
   -- those that are dropped
-  dropped : Standing → Bool
+  abbrev pub dropped : Standing → Bool
   dropped x = is_left x && not (still_owes (with_left change place x))
 
-  lessen_counted : (items : List Standing) → count_by is_left (lessen change place items) + count_by dropped items ≡ count_by is_left items
-  unfolding dropped
+  pub lessen_counted : (items : List Standing) → count_by is_left (lessen change place items) + count_by dropped items ≡ count_by is_left items
   lessen_counted [] = refl
   lessen_counted (x ∷ items) =
       let rest = lessen_counted items in
@@ -113,7 +112,7 @@ module _ (change : Left → Left) (keeps : KeepsAims change) (place : ℕ) where
 
   -- ---- answers
 
-  aimed_lessened : (aim : Aim) (n : ℕ) (items : List Standing) → ((x : Standing) → In x items → is_command n x ≡ true → still_owes (with_left change place x) ≡ true)
+  pub aimed_lessened : (aim : Aim) (n : ℕ) (items : List Standing) → ((x : Standing) → In x items → is_command n x ≡ true → still_owes (with_left change place x) ≡ true)
       → list_any (is_aimed_at aim n) (lessen change place items) ≡ list_any (is_aimed_at aim n) items
   aimed_lessened aim n [] owing = refl
   aimed_lessened aim n (x ∷ items) owing =

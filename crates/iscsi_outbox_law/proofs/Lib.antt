@@ -28,3 +28,4 @@ mod Puts
 mod PutStands
 mod TrackedEnds
 mod Lessening
+mod LeftEnds
