@@ -22,6 +22,16 @@ none_under o test l none = by_tests (is_open l) (looks_for_arrival o)
     by_tests true false = any_drop test l.written l.handed none
     by_tests false w = refl
 
+-- no two commands have one ticket
+pub one_task : (ts : List Task) (x y : Task) → InOrder (λ (u w : Task). u.ticket < w.ticket) ts → In x ts → In y ts → x.ticket ≡ y.ticket → x ≡ y
+one_task [] x y h i j same = absurd i
+one_task (z ∷ ts) x y h i j same =
+    ⊎_elim
+    (λ first. ⊎_elim (λ second. first ∙ sym second) (λ later. absurd (let lt : z.ticket < y.ticket = each-in (λ (w : Task). z.ticket < w.ticket) ts y later h.0 in omega (arith, lt, same, ap (λ (w : Task). w.ticket) first))) j)
+    (λ later. ⊎_elim
+    (λ second. absurd (let lt : z.ticket < x.ticket = each-in (λ (w : Task). z.ticket < w.ticket) ts x later h.0 in omega (arith, lt, same, ap (λ (w : Task). w.ticket) second)))
+    (λ behind. one_task ts x y h.1 later behind same) j) i
+
 -- a ticket is that of one command alone
 pub one_home : (tasks : List Task) (t : Task) (conn : ℕ) → InOrder (λ (x y : Task). x.ticket < y.ticket) tasks → In t tasks
     → list_any (λ (x : Task). x.ticket == t.ticket && x.conn == conn) tasks ≡ true → t.conn ≡ conn
@@ -30,15 +40,6 @@ one_home tasks t conn order at some =
     let parts = and_parts (k.0.ticket == t.ticket) (k.0.conn == conn) k.2 in
     let same : k.0 ≡ t = one_task tasks k.0 t order k.1 at (eqb-true k.0.ticket t.ticket parts.0) in
     sym (ap (λ (x : Task). x.conn) same) ∙ eqb-true k.0.conn conn parts.1
-  where
-    one_task : (ts : List Task) (x y : Task) → InOrder (λ (u w : Task). u.ticket < w.ticket) ts → In x ts → In y ts → x.ticket ≡ y.ticket → x ≡ y
-    one_task [] x y h i j same = absurd i
-    one_task (z ∷ ts) x y h i j same =
-        ⊎_elim
-        (λ first. ⊎_elim (λ second. first ∙ sym second) (λ later. absurd (let lt : z.ticket < y.ticket = each-in (λ (w : Task). z.ticket < w.ticket) ts y later h.0 in omega (arith, lt, same, ap (λ (w : Task). w.ticket) first))) j)
-        (λ later. ⊎_elim
-        (λ second. absurd (let lt : z.ticket < x.ticket = each-in (λ (w : Task). z.ticket < w.ticket) ts x later h.0 in omega (arith, lt, same, ap (λ (w : Task). w.ticket) second)))
-        (λ behind. one_task ts x y h.1 later behind same) j) i
 
 home_of : (tasks : List Task) (t : Task) (conn : ℕ) (out : Outgoing) → InOrder (λ (x y : Task). x.ticket < y.ticket) tasks → In t tasks → HasHome tasks conn out → is_of (λ k. k == t.ticket) out ≡ true → t.conn ≡ conn
 home_of tasks t conn out order at home is = by_ticket (out.ticket) home is

@@ -1,7 +1,9 @@
 -- A command that left owes less, or nothing more: the commands that are kept and the lane go together still.
-use Rattle.std.proofs.Common.{◌≡◌, ℕ, ◌+◌, ◌==◌, ◌&&◌, ⊎_elim, not, cond, Bool, true, false, List, [], ◌∷◌, length, filter, count_by, Option, Some, None, refl, ap, sym, ◌∙◌, arith, eq-eqb, ne_eqb}
+use Rattle.std.proofs.Common.{◌≡◌, ℕ, ◌+◌, ◌==◌, ◌&&◌, inl, inr, ⊎_elim, not, cond, Bool, true, false, List, [], ◌∷◌, length, filter, count_by, Option, Some, None, refl, ap, sym, subst, ◌∙◌, arith, eq-eqb, ne_eqb}
 use Rattle.std.specs.List.{list_any}
-use Rattle.std.proofs.lemmas.Bool.{cases_eq, eqb-true}
+use Rattle.std.proofs.lemmas.Bool.{cases_eq, eqb-false, eqb-true}
+use Rattle.iscsi_outbox_rules.specs.rules.Boxes.{Answer}
+use Rattle.iscsi_outbox_rules.specs.rules.Words.{contains}
 use Rattle.iscsi_outbox_state.specs.declared.lane.Left.{Left}
 use Rattle.iscsi_outbox_state.specs.declared.lane.Undue.{Undue}
 use Rattle.iscsi_outbox_state.specs.declared.lane.Standing.{Standing}
@@ -9,12 +11,15 @@ use Rattle.iscsi_outbox_state.specs.declared.lane.Standing.TheVariants.{Left as 
 use Rattle.iscsi_outbox_state.specs.Lane.{is_command, owes, still_owes, with_left}
 use Rattle.iscsi_outbox_steps.specs.Steps.{is_live}
 use Rattle.iscsi_tracked.specs.declared.command.Command.{Command}
-use Rattle.iscsi_tracked.specs.Tracked.{Tracked, find_place, is_at}
+use Rattle.iscsi_tracked.specs.Tracked.{Tracked, find_place, is_at, with_command}
+use Rattle.iscsi_outbox_law.specs.Pairs.{EachOf}
 use Rattle.iscsi_outbox_law.specs.Commands.{ArePlaced}
-use Rattle.iscsi_outbox_law.specs.Lanes.{AreLeft, is_aimed_at, is_gone, left_at, left_of}
+use Rattle.iscsi_outbox_law.specs.Lanes.{AreAnswers, AreLeft, IsInScope, is_aimed_at, is_gone, left_at, left_of}
 use Rattle.iscsi_outbox_law.proofs.Members.{In, find_in}
 use Rattle.iscsi_outbox_law.proofs.LeftOut.{found_there}
-use Rattle.iscsi_outbox_law.proofs.Lessening.{IsMine, KeepsAims, aimed_lessened, all_mine, count_filter, count_in_same, count_none, dropped, lessen, lessen_commands, lessen_counted}
+use Rattle.iscsi_outbox_law.proofs.TrackedLemmas.{KeepsPlace, at_place, each_map_in, same_place, same_ticket}
+use Rattle.iscsi_outbox_law.proofs.TrackedEnds.{others}
+use Rattle.iscsi_outbox_law.proofs.Lessening.{IsMine, KeepsAims, aimed_lessened, all_mine, answers_lessened, count_filter, count_in_same, count_none, dropped, lessen, lessen_commands, lessen_counted}
 
 module _ (v : Tracked) (items : List Standing) (left : AreLeft v items) (placed : ArePlaced v) (owing : (d : Command) → In d v.commands → is_live d ≡ false → owes (left_of d) ≡ true) (c : Command) (kept : In c v.commands) (dead : is_live c ≡ false) (change : Left → Left) (keeps : KeepsAims change) where
   found : find_place c.place v ≡ Some c
@@ -121,3 +126,33 @@ module _ (v : Tracked) (items : List Standing) (left : AreLeft v items) (placed 
               let f : find_place c.place v ≡ Some c = found in
               let both : d ≡ c = cc in
               ap (λ (y : Command). owes (change (left_of y))) both ∙ some place
+
+  -- it owes something still, and keeps its ticket and its place
+  pub answers_stay : (cids : List ℕ) (v' : Tracked) (f : Command → Command) → KeepsPlace f → ((d : Command) → In d v.commands → is_live (at_place f c.place d) ≡ is_live d) → v'.commands ≡ with_command f c.place v.commands → owes (change (left_of c)) ≡ true
+      → (answers : List Answer) → AreAnswers cids v [] items answers → AreAnswers cids v' [] (lessen change c.place items) answers
+  answers_stay cids v' f fits lives commands some answers h =
+      answers_lessened change keeps c.place cids v v' (IsMine v)
+      (λ a answer before good k. subst (EachOf (IsInScope (lessen change c.place before) a answer)) (sym commands)
+      (each_map_in (IsInScope before a answer) (IsInScope (lessen change c.place before) a answer) (at_place f c.place) v.commands
+      (λ d at j live.
+      ap (contains answer.out.scope) (same_ticket f fits c.place d) ∙ j (sym (lives d at) ∙ live) ∙ sym (aims_kept d at (λ e. some) a before good)
+      ∙ sym (ap (λ n. list_any (is_aimed_at a.aim n) (lessen change c.place before)) (same_place f fits c.place d))) k))
+      [] items answers (λ x never. absurd never) mine h
+
+  each_other_in : (P Q : Command → Type 0) (cs : List Command) → ((d : Command) → In d cs → (d.place ≡ c.place → ⊥) → P d → Q d) → EachOf P cs → EachOf Q (others c.place cs)
+  each_other_in P Q [] f h = tt
+  each_other_in P Q (d ∷ cs) f h =
+      let rest : EachOf Q (others c.place cs) = each_other_in P Q cs (λ e at. f e (inr at)) h.1 in
+      elim (is_at c.place d) as (λ w. is_at c.place d ≡ w → EachOf Q (cond (not w) (d ∷ others c.place cs) (others c.place cs))) [
+        | true ↦ λ here. rest
+        | false ↦ λ there. (f d (inl refl) (eqb-false d.place c.place there) h.0, rest)
+      ] refl
+
+  -- it owes nothing more, and isn't kept
+  pub answers_go : (cids : List ℕ) (v' : Tracked) → v'.commands ≡ others c.place v.commands → (answers : List Answer) → AreAnswers cids v [] items answers → AreAnswers cids v' [] (lessen change c.place items) answers
+  answers_go cids v' commands answers h =
+      answers_lessened change keeps c.place cids v v' (IsMine v)
+      (λ a answer before good k. subst (EachOf (IsInScope (lessen change c.place before) a answer)) (sym commands)
+      (each_other_in (IsInScope before a answer) (IsInScope (lessen change c.place before) a answer) v.commands
+      (λ d at apart j live. j live ∙ sym (aims_kept d at (λ same. absurd (apart same)) a before good)) k))
+      [] items answers (λ x never. absurd never) mine h
