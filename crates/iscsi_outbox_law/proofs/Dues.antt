@@ -137,7 +137,7 @@ held_apart a (IsLeft c) = or_no (aims_at a.aim c && (c.running || (not (is_of_lo
     or_no false = refl
 held_apart a (IsUndue x) = refl
 
-running_as : (c : Command) (t : Task) → phase_of c.phase ≡ t.phase → is_running_command c ≡ is_running_phase t.phase
+pub running_as : (c : Command) (t : Task) → phase_of c.phase ≡ t.phase → is_running_command c ≡ is_running_phase t.phase
 running_as c t same = by_phase (c.phase) ∙ ap is_running_phase same
   where
     by_phase : (p : KeptPhase) → (elim p as (λ (q : KeptPhase). Bool) [ KeptRunning ↦ true | KeptDormant ↦ false | KeptFresh ↦ false | KeptStarted ↦ false | KeptGone ↦ false ]) ≡ is_running_phase (phase_of p)

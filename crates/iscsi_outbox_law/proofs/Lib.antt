@@ -29,3 +29,4 @@ mod PutStands
 mod TrackedEnds
 mod Lessening
 mod LeftEnds
+mod Stopping
