@@ -30,3 +30,4 @@ mod TrackedEnds
 mod Lessening
 mod LeftEnds
 mod Stopping
+mod StopsOut

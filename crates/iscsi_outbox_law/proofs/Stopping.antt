@@ -40,7 +40,7 @@ use Rattle.iscsi_outbox_law.proofs.LeftEnds.{answers_go, answers_stay, goes_left
 
 -- ---- lists
 
-filter_turn : {A : Type 0} (p : A → Bool) (g : A → A) (xs : List A) → ((x : A) → In x xs → p (g x) ≡ p x) → filter p (map g xs) ≡ map g (filter p xs)
+pub filter_turn : {A : Type 0} (p : A → Bool) (g : A → A) (xs : List A) → ((x : A) → In x xs → p (g x) ≡ p x) → filter p (map g xs) ≡ map g (filter p xs)
 filter_turn p g [] same = refl
 filter_turn p g (x ∷ xs) same =
     let rest = filter_turn p g xs (λ y at. same y (inr at)) in
@@ -48,7 +48,7 @@ filter_turn p g (x ∷ xs) same =
     ∙ elim (p x) as (λ v. cond v (g x ∷ filter p (map g xs)) (filter p (map g xs)) ≡ map g (cond v (x ∷ filter p xs) (filter p xs))) [ true ↦ ap (λ ys. g x ∷ ys) rest | false ↦ rest ]
 
 -- all but those that pass q stay as they are, and those pass no more
-filter_drop : {A : Type 0} (p q : A → Bool) (g : A → A) (xs : List A) → ((x : A) → In x xs → q x ≡ false → g x ≡ x) → ((x : A) → In x xs → q x ≡ true → p (g x) ≡ false) → filter p (map g xs) ≡ filter (λ x. not (q x)) (filter p xs)
+pub filter_drop : {A : Type 0} (p q : A → Bool) (g : A → A) (xs : List A) → ((x : A) → In x xs → q x ≡ false → g x ≡ x) → ((x : A) → In x xs → q x ≡ true → p (g x) ≡ false) → filter p (map g xs) ≡ filter (λ x. not (q x)) (filter p xs)
 filter_drop p q g [] same none = refl
 filter_drop p q g (x ∷ xs) same none =
     let rest = filter_drop p q g xs (λ y at. same y (inr at)) (λ y at. none y (inr at)) in
@@ -68,13 +68,13 @@ filter_drop p q g (x ∷ xs) same none =
     ] refl
 
 module _ {A B : Type 0} where
-  pairs_turn_both : (R S : A → B → Type 0) (f : A → A) (g : B → B) (xs : List A) (ys : List B) → ((x : A) (y : B) → In x xs → In y ys → R x y → S (f x) (g y)) → PairsOf R xs ys → PairsOf S (map f xs) (map g ys)
+  pub pairs_turn_both : (R S : A → B → Type 0) (f : A → A) (g : B → B) (xs : List A) (ys : List B) → ((x : A) (y : B) → In x xs → In y ys → R x y → S (f x) (g y)) → PairsOf R xs ys → PairsOf S (map f xs) (map g ys)
   pairs_turn_both R S f g [] [] k h = tt
   pairs_turn_both R S f g (x ∷ xs) (y ∷ ys) k h = (k x y (inl refl) (inl refl) h.0, pairs_turn_both R S f g xs ys (λ v w at for. k v w (inr at) (inr for)) h.1)
   pairs_turn_both R S f g [] (y ∷ ys) k h = absurd h
   pairs_turn_both R S f g (x ∷ xs) [] k h = absurd h
 
-  pairs_filter_in : (R : A → B → Type 0) (p : A → Bool) (q : B → Bool) (xs : List A) (ys : List B) → ((x : A) (y : B) → In x xs → In y ys → R x y → p x ≡ q y) → PairsOf R xs ys → PairsOf R (filter p xs) (filter q ys)
+  pub pairs_filter_in : (R : A → B → Type 0) (p : A → Bool) (q : B → Bool) (xs : List A) (ys : List B) → ((x : A) (y : B) → In x xs → In y ys → R x y → p x ≡ q y) → PairsOf R xs ys → PairsOf R (filter p xs) (filter q ys)
   pairs_filter_in R p q [] [] f h = tt
   pairs_filter_in R p q (x ∷ xs) (y ∷ ys) f h =
       let rest : PairsOf R (filter p xs) (filter q ys) = pairs_filter_in R p q xs ys (λ v w at for. f v w (inr at) (inr for)) h.1 in

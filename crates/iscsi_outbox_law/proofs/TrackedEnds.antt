@@ -65,7 +65,7 @@ none_find place (c ∷ cs) =
     ] refl
 
 -- all of them, where none is in that place
-all_others : (place : ℕ) (cs : List Command) → EachOf (λ (c : Command). c.place ≡ place → ⊥) cs → others place cs ≡ cs
+pub all_others : (place : ℕ) (cs : List Command) → EachOf (λ (c : Command). c.place ≡ place → ⊥) cs → others place cs ≡ cs
 all_others place [] h = refl
 all_others place (c ∷ cs) h = ap (λ (v : Bool). cond (not v) (c ∷ others place cs) (others place cs)) (ne_eqb c.place place h.0) ∙ ap (λ xs. c ∷ xs) (all_others place cs h.1)
 
