@@ -31,3 +31,4 @@ mod Lessening
 mod LeftEnds
 mod Stopping
 mod StopsOut
+mod StopsGone
