@@ -155,7 +155,7 @@ running_dead Completed is = absurd (false≢true is)
 running_dead Running is = refl
 running_dead Gone is = absurd (false≢true is)
 
-running_kept : (p : Phase) (u : Bool) → is_running_phase p ≡ true → (is_live_phase p || (is_running_phase p || (is_left_phase p && u))) ≡ true
+pub running_kept : (p : Phase) (u : Bool) → is_running_phase p ≡ true → (is_live_phase p || (is_running_phase p || (is_left_phase p && u))) ≡ true
 running_kept Dormant u is = absurd (false≢true is)
 running_kept Fresh u is = absurd (false≢true is)
 running_kept Started u is = absurd (false≢true is)

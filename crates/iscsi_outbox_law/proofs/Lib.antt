@@ -32,3 +32,4 @@ mod LeftEnds
 mod Stopping
 mod StopsOut
 mod StopsGone
+mod Stops

@@ -1,42 +1,28 @@
 -- A command that ran is stopped: what stands for the commands then.
-use Rattle.std.proofs.Common.{◌≡◌, ℕ, ◌+◌, ◌<◌, ◌≤◌, ◌==◌, ◌&&◌, ◌||◌, ◌⊎◌, inl, inr, ⊎_elim, not, cond, Bool, true, false, List, [], ◌∷◌, ◌++◌, length, map, filter, count_by, Option, Some, None, refl, ap, sym, subst, ◌∙◌, arith, eq-eqb, ne_eqb}
-use Rattle.std.specs.List.{find, list_any}
-use Rattle.std.proofs.lemmas.Bool.{cases_eq, eqb-false, eqb-true, false≢true, true≢false}
-use Rattle.std.proofs.lemmas.List.{length-map}
-use Rattle.iscsi_arrivals.proofs.CountLemmas.{count-cons}
+use Rattle.std.proofs.Common.{◌≡◌, ◌&&◌, ◌||◌, inl, inr, not, cond, Bool, true, false, List, [], ◌∷◌, map, filter, refl, ap, sym, subst, ◌∙◌}
+use Rattle.std.proofs.lemmas.Bool.{false≢true, true≢false}
 use Rattle.iscsi_outbox_rules.specs.rules.Calls.{Opening}
-use Rattle.iscsi_outbox_rules.specs.rules.Boxes.{Phase, Dormant, Fresh, Started, Completed, Running, Gone, Task, Link, Box}
-use Rattle.iscsi_outbox_rules.specs.rules.Words.{contains, is_left_phase, is_live_phase, is_running_phase}
-use Rattle.iscsi_outbox_rules.specs.rules.Items.{in_phase as tasks_in_phase}
-use Rattle.iscsi_outbox_rules.specs.rules.Run.{phase_stopped}
+use Rattle.iscsi_outbox_rules.specs.rules.Boxes.{Phase, Dormant, Fresh, Started, Completed, Running, Gone, Task, Box}
+use Rattle.iscsi_outbox_rules.specs.rules.Words.{is_left_phase, is_live_phase, is_running_phase}
 use Rattle.iscsi_outbox_state.specs.declared.lane.Left.{Left}
 use Rattle.iscsi_outbox_state.specs.declared.lane.Aim.{Aim}
 use Rattle.iscsi_outbox_state.specs.declared.lane.Aim.TheVariants.{Tag, Unit as OfUnit, Conn, Session, Nothing}
-use Rattle.iscsi_outbox_state.specs.Lane.{aims_at, not_running, owes, stopped as stopped_in}
+use Rattle.iscsi_outbox_state.specs.Lane.{aims_at, not_running, owes}
 use Rattle.iscsi_outbox_steps.specs.State.{State}
-use Rattle.iscsi_outbox_steps.specs.Steps.{is_live, is_running, stopped_command}
+use Rattle.iscsi_outbox_steps.specs.Steps.{is_live}
 use Rattle.iscsi_tracked.specs.declared.command.Command.{Command}
 use Rattle.iscsi_tracked.specs.declared.command.Phase.{Phase as KeptPhase}
 use Rattle.iscsi_tracked.specs.declared.command.Phase.TheVariants.{Dormant as KeptDormant, Fresh as KeptFresh, Started as KeptStarted, Running as KeptRunning, Gone as KeptGone}
-use Rattle.iscsi_tracked.specs.Tracked.{Tracked, find_place, in_phase, is_at, is_out, removed, to_phase, with_command}
-use Rattle.iscsi_outbox_law.specs.Pairs.{PairsOf, EachOf}
-use Rattle.iscsi_outbox_law.specs.Links.{live_place}
-use Rattle.iscsi_outbox_law.specs.Commands.{AreCommands, IsCommand, is_kept, is_under_way, link_in, phase_of}
-use Rattle.iscsi_outbox_law.specs.Lanes.{is_gone, left_at, left_of}
-use Rattle.iscsi_outbox_law.specs.Sound.{IsSound}
-use Rattle.iscsi_outbox_law.specs.Stands.{Stands, StandsWith}
-use Rattle.iscsi_outbox_law.proofs.Members.{In, filter_in, find_in, in_filter, in_find, pair_of}
-use Rattle.iscsi_outbox_law.proofs.PlaceLemmas.{AreApart, conns_of}
+use Rattle.iscsi_tracked.specs.Tracked.{is_out}
+use Rattle.iscsi_outbox_law.specs.Pairs.{PairsOf}
+use Rattle.iscsi_outbox_law.specs.Commands.{IsCommand, is_kept, is_under_way, link_in}
+use Rattle.iscsi_outbox_law.specs.Lanes.{left_of}
+use Rattle.iscsi_outbox_law.specs.Stands.{Stands}
+use Rattle.iscsi_outbox_law.proofs.Members.{In, in_filter, pair_of}
 use Rattle.iscsi_outbox_law.proofs.Waiting.{live_as}
-use Rattle.iscsi_outbox_law.proofs.Homes.{one_task}
-use Rattle.iscsi_outbox_law.proofs.LeftOut.{found_there, out_under}
-use Rattle.iscsi_outbox_law.proofs.HandedLemmas.{answers_weaken, queues_weaken}
-use Rattle.iscsi_outbox_law.proofs.TrackedLemmas.{at_place, found_changed, ticket_changed}
-use Rattle.iscsi_outbox_law.proofs.TrackedChanges.{keeps_phase, placed_phase, trails_phase}
-use Rattle.iscsi_outbox_law.proofs.TrackedEnds.{none_find, other_find, others, placed_removed, trails_removed}
+use Rattle.iscsi_outbox_law.proofs.LeftOut.{out_under}
 use Rattle.iscsi_outbox_law.proofs.Dues.{running_as}
-use Rattle.iscsi_outbox_law.proofs.Lessening.{KeepsAims, count_in_same, lessen}
-use Rattle.iscsi_outbox_law.proofs.LeftEnds.{answers_go, answers_stay, goes_left, stays_left}
+use Rattle.iscsi_outbox_law.proofs.Lessening.{KeepsAims}
 
 -- ---- lists
 

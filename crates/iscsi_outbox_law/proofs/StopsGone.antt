@@ -1,7 +1,7 @@
 -- A command that ran is stopped, of which nothing is under way: it isn't kept any more.
-use Rattle.std.proofs.Common.{◌≡◌, ◌≢◌, ℕ, ◌+◌, ◌<◌, ◌≤◌, ◌==◌, ◌&&◌, ◌||◌, ◌⊎◌, inl, inr, ⊎_elim, not, cond, Bool, true, false, List, [], ◌∷◌, ◌++◌, length, map, filter, count_by, Option, Some, None, refl, ap, sym, subst, ◌∙◌, arith, eq-eqb, ne_eqb}
-use Rattle.std.specs.List.{find, list_any}
-use Rattle.std.proofs.lemmas.Bool.{cases_eq, eqb-false, eqb-true, false≢true, true≢false}
+use Rattle.std.proofs.Common.{◌≡◌, ◌≢◌, ℕ, ◌+◌, ◌==◌, inl, inr, ⊎_elim, not, cond, Bool, true, false, List, [], ◌∷◌, map, filter, count_by, Option, Some, None, refl, ap, sym, subst, ◌∙◌, arith, eq-eqb, ne_eqb}
+use Rattle.std.specs.List.{find}
+use Rattle.std.proofs.lemmas.Bool.{cases_eq, eqb-false, eqb-true, true≢false}
 use Rattle.std.proofs.lemmas.List.{length-map}
 use Rattle.iscsi_lists.specs.Lists.{without}
 use Rattle.iscsi_arrivals.proofs.CountLemmas.{count-cons}
@@ -13,8 +13,8 @@ use Rattle.iscsi_outbox_state.specs.Lane.{not_running, stopped as stopped_in}
 use Rattle.iscsi_outbox_steps.specs.State.{State}
 use Rattle.iscsi_outbox_steps.specs.Steps.{is_live, is_running}
 use Rattle.iscsi_tracked.specs.declared.command.Command.{Command}
-use Rattle.iscsi_tracked.specs.Tracked.{Tracked, find_place, find_ticket, has_place, is_at, is_out, removed}
-use Rattle.iscsi_outbox_law.specs.Pairs.{PairsOf, EachOf, InOrder}
+use Rattle.iscsi_tracked.specs.Tracked.{Tracked, find_ticket, is_at, is_out, removed}
+use Rattle.iscsi_outbox_law.specs.Pairs.{PairsOf, InOrder}
 use Rattle.iscsi_outbox_law.specs.Links.{live_place}
 use Rattle.iscsi_outbox_law.specs.Commands.{AreCommands, IsCommand, is_kept, is_under_way}
 use Rattle.iscsi_outbox_law.specs.Lanes.{is_gone}

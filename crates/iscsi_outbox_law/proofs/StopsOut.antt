@@ -1,15 +1,14 @@
 -- A command that ran is stopped, of which something is under way still.
-use Rattle.std.proofs.Common.{◌≡◌, ℕ, ◌+◌, ◌<◌, ◌≤◌, ◌==◌, ◌&&◌, ◌||◌, ◌⊎◌, inl, inr, ⊎_elim, not, cond, Bool, true, false, List, [], ◌∷◌, ◌++◌, length, map, filter, count_by, Option, Some, None, refl, ap, sym, subst, ◌∙◌, arith, eq-eqb, ne_eqb}
-use Rattle.std.specs.List.{find, list_any}
-use Rattle.std.proofs.lemmas.Bool.{cases_eq, eqb-false, eqb-true, false≢true, true≢false}
+use Rattle.std.proofs.Common.{◌≡◌, ℕ, ◌+◌, ◌==◌, ◌&&◌, ◌||◌, inl, inr, ⊎_elim, cond, Bool, true, false, List, [], ◌∷◌, map, filter, count_by, Option, Some, None, refl, ap, sym, subst, ◌∙◌, eq-eqb, ne_eqb}
+use Rattle.std.specs.List.{find}
+use Rattle.std.proofs.lemmas.Bool.{cases_eq, eqb-false, eqb-true}
 use Rattle.iscsi_arrivals.proofs.CountLemmas.{count-cons}
-use Rattle.iscsi_history.specs.rules.Settings.{are_distinct}
 use Rattle.iscsi_outbox_rules.specs.rules.Calls.{Opening}
-use Rattle.iscsi_outbox_rules.specs.rules.Boxes.{Phase, Dormant, Fresh, Started, Completed, Running, Gone, Task, Link, Box}
+use Rattle.iscsi_outbox_rules.specs.rules.Boxes.{Phase, Running, Task, Box}
 use Rattle.iscsi_outbox_rules.specs.rules.Words.{contains, is_left_phase, is_live_phase, is_running_phase}
 use Rattle.iscsi_outbox_rules.specs.rules.Items.{in_phase as tasks_in_phase}
 use Rattle.iscsi_outbox_rules.specs.rules.Run.{phase_stopped}
-use Rattle.iscsi_outbox_state.specs.Lane.{not_running, owes, stopped as stopped_in}
+use Rattle.iscsi_outbox_state.specs.Lane.{not_running, stopped as stopped_in}
 use Rattle.iscsi_outbox_steps.specs.State.{State}
 use Rattle.iscsi_outbox_steps.specs.Steps.{is_live, is_running}
 use Rattle.iscsi_tracked.specs.declared.command.Command.{Command}
@@ -19,7 +18,7 @@ use Rattle.iscsi_tracked.specs.Tracked.{Tracked, find_place, find_ticket, in_pha
 use Rattle.iscsi_outbox_law.specs.Pairs.{PairsOf}
 use Rattle.iscsi_outbox_law.specs.Links.{live_place}
 use Rattle.iscsi_outbox_law.specs.Commands.{AreCommands, IsCommand, is_kept, is_under_way, link_in, phase_of}
-use Rattle.iscsi_outbox_law.specs.Lanes.{is_gone, left_at, left_of}
+use Rattle.iscsi_outbox_law.specs.Lanes.{is_gone, left_at}
 use Rattle.iscsi_outbox_law.specs.Sound.{HaveHomes}
 use Rattle.iscsi_outbox_law.specs.Stands.{Stands}
 use Rattle.iscsi_outbox_law.proofs.Members.{In, find_in, in_filter, pair_of}

@@ -8,7 +8,7 @@ ghost use Rattle.iscsi_outbox_law.specs.Sound.{IsSound};
 ghost use Rattle.iscsi_outbox_law.specs.Stands.{Stands};
 ghost use Rattle.iscsi_outbox_rules.specs.declared.own_pdu.OwnPdu.{OwnPdu};
 ghost use Rattle.iscsi_outbox_rules.specs.rules.Boxes.{Box};
-ghost use Rattle.iscsi_outbox_rules.specs.rules.Calls.{Clears, Joins, Nexts, Opening, Puts};
+ghost use Rattle.iscsi_outbox_rules.specs.rules.Calls.{Clears, Joins, Nexts, Opening, Puts, Stops};
 ghost use Rattle.iscsi_outbox_rules.specs.rules.Run.{after_call as after_call_by_rules, answered as answered_by_rules, opened};
 ghost use Rattle.iscsi_outbox_rules.specs.rules.Words.{max_shown as max_shown_by_rules, may_take as may_take_by_rules};
 ghost use Rattle.iscsi_outbox_steps.specs.Run.{after_call, answered, begun};
@@ -47,4 +47,10 @@ pub fn puts_law()
 /// one again and again.
 pub fn clears_law()
     ensures stands { (o : Opening) (s : State) (b : Box) → Stands o s b → IsSound o b → are_distinct o.session.conns ≡ true → Fits o b → (unit : ℕ) → (after_call_by_rules o b (Clears unit)).time < 2 ^ 64 - 1 → Stands o (after_call s (Clears unit)) (after_call_by_rules o b (Clears unit)) }
+{}
+
+/// Whether a command was running as its unit stopped, and the state after it.
+pub fn stops_law()
+    ensures answer { (o : Opening) (s : State) (b : Box) → Stands o s b → IsSound o b → are_distinct o.session.conns ≡ true → (ticket : ℕ) → answered s (Stops ticket) ≡ said (answered_by_rules o b (Stops ticket)) }
+    ensures stands { (o : Opening) (s : State) (b : Box) → Stands o s b → IsSound o b → are_distinct o.session.conns ≡ true → (ticket : ℕ) → Fits o b → (after_call_by_rules o b (Stops ticket)).time < 2 ^ 64 - 1 → Stands o (after_call s (Stops ticket)) (after_call_by_rules o b (Stops ticket)) }
 {}

@@ -3,4 +3,4 @@
 
 mod laws;
 
-pub use laws::{clears_law, joins_law, nexts_law, opened_law, puts_law, room_law};
+pub use laws::{clears_law, joins_law, nexts_law, opened_law, puts_law, room_law, stops_law};
