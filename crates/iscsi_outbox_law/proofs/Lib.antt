@@ -33,3 +33,4 @@ mod Stopping
 mod StopsOut
 mod StopsGone
 mod Stops
+mod Arriving
