@@ -1,14 +1,14 @@
 -- Something is written on a connection, or known to have arrived: what stands before its trail is walked, by what was under way
 -- before.
-use Rattle.std.proofs.Common.{◌≡◌, ℕ, ◌+◌, ◌-◌, ◌<◌, ◌≤◌, cond, max, nat_lt, Bool, true, false, List, [], length, drop, Option, Some, None, refl, ap, sym, subst, ◌∙◌, arith}
+use Rattle.std.proofs.Common.{◌≡◌, ℕ, ◌+◌, ◌-◌, cond, max, nat_lt, true, false, length, drop, refl, ap, sym, subst, ◌∙◌, arith}
 use Rattle.std.specs.List.{list_any}
 use Rattle.std.proofs.lemmas.List.{drop-drop}
 use Rattle.iscsi_history.specs.rules.Settings.{are_distinct}
-use Rattle.iscsi_arrivals.specs.Counts.{Counts, heard_by, written_by}
+use Rattle.iscsi_arrivals.specs.Counts.{heard_by, written_by}
 use Rattle.iscsi_arrivals.proofs.HeardLemmas.{stands_heard}
 use Rattle.iscsi_outbox_rules.specs.rules.Calls.{Opening}
 use Rattle.iscsi_outbox_rules.specs.rules.Boxes.{Link, Box}
-use Rattle.iscsi_outbox_rules.specs.rules.Words.{is_open, unarrived}
+use Rattle.iscsi_outbox_rules.specs.rules.Words.{is_open}
 use Rattle.iscsi_outbox_rules.specs.rules.Queues.{at_link}
 use Rattle.iscsi_outbox_rules.specs.rules.Handing.{fenced_handed}
 use Rattle.iscsi_outbox_rules.specs.rules.Run.{arrived_by_ping, arrived_by_stat_sn, link_heard, one_written}

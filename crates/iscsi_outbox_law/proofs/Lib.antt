@@ -34,3 +34,4 @@ mod StopsOut
 mod StopsGone
 mod Stops
 mod Arriving
+mod Dropping
