@@ -26,7 +26,7 @@ FitsCall o b _ = Unit {0}
 
 abbrev pub FitFrom : Opening → Box → List Call → Type 0
 FitFrom o b [] = Unit {0}
-FitFrom o b (c ∷ cs) = FitsCall o b c × FitFrom o (after_call o b c) cs
+FitFrom o b (c ∷ cs) = FitsCall o b c × Fits o (after_call o b c) × FitFrom o (after_call o b c) cs
 
 abbrev pub HasRoom : Opening → List Call → Type 0
 HasRoom o calls = FitFrom o (opened o) calls
