@@ -98,6 +98,7 @@ pub record IsItemSound (o : Opening) (b : Box) (item : List Effect) : Type 0 whe
   pub entered : EachOf (λ (e : ℕ × ℕ). EachOf (λ (t : Task). t.ticket < e.0) b.tasks × (e.1 < o.session.units)) (entries_of item)
   pub ascending : InOrder (λ (d e : ℕ × ℕ). d.0 < e.0) (entries_of item)
   pub known : (r : Request) → executing item ≡ Some r → is_known (connection_of r) o.session.conns ≡ true
+  pub replies : (conn : ℕ) (reply : Reply) → first_of (filter_map reply_sent item) ≡ Some (conn, reply) → is_known conn o.session.conns ≡ true
   pub one_close : length (filter_map conn_closed item) ≤ 1
   pub closing : (conn : ℕ) (reply : Reply) → first_of (filter_map reply_sent item) ≡ Some (conn, reply) → list_any is_close item ≡ true
       → (r : Request) × (executing item ≡ Some r) × IsLogout o r reply
