@@ -35,3 +35,5 @@ mod StopsGone
 mod Stops
 mod Arriving
 mod Dropping
+mod SoundSettled
+mod SoundLists

@@ -63,7 +63,7 @@ module _ (o : Opening) where
       (λ due. settles_from before rest (enter a.conn a.out b) (none_stays b (enter a.conn a.out b) (enters_undue b a.conn a.out) [] before h))
       (λ undue. settles_from (before ++ a ∷ []) rest b (none_push b [] before a h undue))
 
-  settles : (b : Box) → Settled (settle o b)
+  pub settles : (b : Box) → Settled (settle o b)
   settles b = settles_from [] b.undue b tt
 
   -- ---- an event
@@ -183,7 +183,7 @@ module _ (o : Opening) where
         ]
       ]
 
-  settled_call : (b : Box) (call : Call) → Settled b → Settled (after_call o b call)
+  pub settled_call : (b : Box) (call : Call) → Settled b → Settled (after_call o b call)
   settled_call b (Takes effects numbers) h = settled_event b effects numbers h
   settled_call b (Puts p) h = settled_put b p h
   settled_call b (Stops ticket) h = cond_both (is_running b ticket) (settle o (in_phase phase_stopped (ticket ∷ []) b)) b Settled (λ is. settles (in_phase phase_stopped (ticket ∷ []) b)) (λ is. h)

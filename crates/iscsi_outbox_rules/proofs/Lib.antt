@@ -1,15 +1,15 @@
-mod EachLemmas
-mod Cuts
-mod Walks
+pub mod EachLemmas
+pub mod Cuts
+pub mod Walks
 mod FirstLemmas
 mod Linkwise
-mod DeedLemmas
+pub mod DeedLemmas
 mod Chosen
 mod Callwise
 mod LinkRuns
 mod ExpLemmas
 mod NumberTheorem
-mod SentLemmas
+pub mod SentLemmas
 mod PlaceRuns
 mod FoundLemmas
 mod Boxwise
@@ -45,7 +45,7 @@ mod ElsewhereTheorem
 mod ClosesLemmas
 mod TiedRuns
 mod TiedCalls
-mod ClosedParts
+pub mod ClosedParts
 mod ClosedItems
 mod PlaceSent
 mod ClosedTheorem
@@ -70,7 +70,7 @@ mod ResponseHomes
 mod ResponseRuns
 mod ResponseCalls
 mod ResponseTheorem
-mod ScopeConns
+pub mod ScopeConns
 mod ScopeTasks
 mod TaskPhases
 mod ScopeWakes
@@ -83,7 +83,7 @@ mod ScopeLeaves
 mod ScopeTheorem
 mod DueTheorem
 mod DeadlockQueues
-mod DeadlockSettled
+pub mod DeadlockSettled
 mod DeadlockLogouts
 mod DeadlockGives
 mod DeadlockTheorem
@@ -102,10 +102,10 @@ mod RoomTurns
 mod RoomStored
 mod RoomBound
 mod RoomReplies
-mod RoomSends
+pub mod RoomSends
 mod RoomTheorem
-mod RoomTasks
-mod RoomLives
+pub mod RoomTasks
+pub mod RoomLives
 mod RoomOwing
 mod RoomEnters
 mod RoomWeights
