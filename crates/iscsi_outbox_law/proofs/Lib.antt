@@ -37,3 +37,4 @@ mod Arriving
 mod Dropping
 mod SoundSettled
 mod SoundLists
+mod SoundFirm
