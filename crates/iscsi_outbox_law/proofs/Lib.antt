@@ -38,3 +38,4 @@ mod Dropping
 mod SoundSettled
 mod SoundLists
 mod SoundFirm
+mod SoundMoves

@@ -4,7 +4,7 @@ pub mod Walks
 mod FirstLemmas
 mod Linkwise
 pub mod DeedLemmas
-mod Chosen
+pub mod Chosen
 mod Callwise
 mod LinkRuns
 mod ExpLemmas
@@ -27,7 +27,7 @@ mod MomentTheorem
 mod OwnRuns
 mod OwnTheorem
 mod TicketLemmas
-mod TaskWalks
+pub mod TaskWalks
 mod CommandRuns
 mod CommandTheorem
 mod TaskRuns
@@ -62,7 +62,7 @@ mod DueWays
 mod DueCalls
 mod LeftPuts
 mod TaskFits
-mod TaskLives
+pub mod TaskLives
 mod SilentCalls
 mod SilentItems
 mod SilentTheorem
