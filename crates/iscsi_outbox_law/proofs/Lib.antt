@@ -39,3 +39,4 @@ mod SoundSettled
 mod SoundLists
 mod SoundFirm
 mod SoundMoves
+mod SoundTurns
