@@ -40,3 +40,4 @@ mod SoundLists
 mod SoundFirm
 mod SoundMoves
 mod SoundTurns
+mod SoundTaking
