@@ -41,3 +41,4 @@ mod SoundFirm
 mod SoundMoves
 mod SoundTurns
 mod SoundTaking
+mod SoundCalls
