@@ -130,7 +130,7 @@ completion_sound o t ticket status x = by_command (command_of t ticket) refl
         let all : Clear o t = clear_of o t x in
         (sound_completed o t c (Scsi (itt c.arrival.request) status (sense_of_status status)) (all.lives c (in-filter test (live t) c (first-in (filter test (live t)) c is)).0), x)
 
-event_sound : (o : Setting) (event : ℕ) (t : Trace) (e : Event) → belongs o e ≡ true → Sounds o t → Sounds o (after_event o event t e)
+pub event_sound : (o : Setting) (event : ℕ) (t : Trace) (e : Event) → belongs o e ≡ true → Sounds o t → Sounds o (after_event o event t e)
 event_sound o event t (Arrive conn header) known x = arrival_sound o t (arrival_of o event t (request_of conn header)) known x
 event_sound o event t (Done ticket status) known x = completion_sound o t ticket status x
 

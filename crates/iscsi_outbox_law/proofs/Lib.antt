@@ -42,3 +42,4 @@ mod SoundMoves
 mod SoundTurns
 mod SoundTaking
 mod SoundCalls
+mod SoundParting

@@ -29,7 +29,7 @@ use Rattle.iscsi_outbox_rules.proofs.ClosedParts.{enables, EachAt, EachItem, Par
 -- ---- what the effects of an item show of its marks
 
 -- a reply, and the connection on which it goes out
-abbrev send_of : Mark → Option (ℕ × Reply)
+abbrev pub send_of : Mark → Option (ℕ × Reply)
 send_of (Sends conn reply) = Some (conn, reply)
 send_of _ = None
 
@@ -52,10 +52,10 @@ sent_marks o t (ClosesConn conn ∷ ms) cs = sent_marks o t ms cs
 sent_marks o t (ClosesSession ∷ ms) cs = sent_marks o t ms cs
 sent_marks o t (Ignores why ∷ ms) cs = sent_marks o t ms cs
 
-sent_item : (o : Setting) (t : Trace) (item : List Mark) → filter_map reply_sent (effects_of_item o t item) ≡ filter_map send_of item
+pub sent_item : (o : Setting) (t : Trace) (item : List Mark) → filter_map reply_sent (effects_of_item o t item) ≡ filter_map send_of item
 sent_item o t item = sent_marks o t item (newly_enabled o t item)
 
-some_pair : (x y : ℕ × Reply) → Some x ≡ Some y → x ≡ y
+pub some_pair : (x y : ℕ × Reply) → Some x ≡ Some y → x ≡ y
 some_pair x y h = cc
 
 -- something is done where a reply goes out

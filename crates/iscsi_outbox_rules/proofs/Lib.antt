@@ -46,7 +46,7 @@ mod ClosesLemmas
 mod TiedRuns
 mod TiedCalls
 pub mod ClosedParts
-mod ClosedItems
+pub mod ClosedItems
 mod PlaceSent
 mod ClosedTheorem
 mod ArriveDeeds

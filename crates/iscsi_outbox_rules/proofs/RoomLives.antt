@@ -37,7 +37,7 @@ tickets_of cs = map (λ (c : Command). c.ticket) cs
 
 -- ---- what the effects of an item say of its marks
 
-left_marks : (o : Setting) (t : Trace) (k : ℕ) (ms : List Mark) (cs : List Command)
+pub left_marks : (o : Setting) (t : Trace) (k : ℕ) (ms : List Mark) (cs : List Command)
     → contains (tickets_left (flat_map (effects_of_mark o t) ms ++ map (λ (c : Command). Enable c.ticket c.unit) cs)) k ≡ list_any (leaves_ticket k) ms
 left_marks o t k [] cs = none cs
   where
@@ -93,7 +93,7 @@ entered_form o t (Executed AfterWaiting a d) = entered_marks o t (marks_of_form 
 
 -- ---- what left had entered
 
-none_counted : (k : ℕ) (cs : List Command) → is_among k cs ≡ false → count_by (λ (c : Command). c.ticket == k) cs ≤ 0
+pub none_counted : (k : ℕ) (cs : List Command) → is_among k cs ≡ false → count_by (λ (c : Command). c.ticket == k) cs ≤ 0
 none_counted k [] h = omega arith
 none_counted k (c ∷ cs) h =
     let parts = or_none (c.ticket == k) (is_among k cs) h in
@@ -152,11 +152,11 @@ live_tickets_item o now next t item forms f =
 -- ---- an event
 
 module _ (o : Opening) where
-  forms_below : (items : List (List Mark)) (t : Trace) (next : ℕ) → HaveForms o.session next (after_items items t) → (m : ℕ) × HaveForms o.session m t
+  pub forms_below : (items : List (List Mark)) (t : Trace) (next : ℕ) → HaveForms o.session next (after_items items t) → (m : ℕ) × HaveForms o.session m t
   forms_below [] t next h = (next, h)
   forms_below (item ∷ items) t next h = let k = forms_below items (item ∷ t) next h in (_, k.1.1.1.1)
 
-  first_form : (items : List (List Mark)) (item : List Mark) (t : Trace) (next : ℕ) → HaveForms o.session next (after_items items (item ∷ t)) → (now : ℕ) × HasForm o.session now t item
+  pub first_form : (items : List (List Mark)) (item : List Mark) (t : Trace) (next : ℕ) → HaveForms o.session next (after_items items (item ∷ t)) → (now : ℕ) × HasForm o.session now t item
   first_form items item t next h = let k = forms_below items (item ∷ t) next h in (k.1.0, k.1.1.1.0)
 
   -- the same commands are live in both
