@@ -43,3 +43,5 @@ mod SoundTurns
 mod SoundTaking
 mod SoundCalls
 mod SoundParting
+mod SoundForms
+mod SoundItems

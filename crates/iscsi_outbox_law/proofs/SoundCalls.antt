@@ -43,7 +43,7 @@ first_found p xs x found = in_filter p xs x (first_in (filter p xs) found)
     first_in [] is = absurd cc
     first_in (y ∷ ys) is = let same : x ≡ y = cc in inl same
 
-each_member : {A : Type 0} (P : A → Type 0) (xs : List A) → ((x : A) → In x xs → P x) → EachOf P xs
+pub each_member : {A : Type 0} (P : A → Type 0) (xs : List A) → ((x : A) → In x xs → P x) → EachOf P xs
 each_member P [] f = tt
 each_member P (x ∷ xs) f = (f x (inl refl), each_member P xs (λ y at. f y (inr at)))
 
