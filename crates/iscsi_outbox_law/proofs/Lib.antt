@@ -45,3 +45,4 @@ mod SoundCalls
 mod SoundParting
 mod SoundForms
 mod SoundItems
+mod SoundRuns
