@@ -1,10 +1,8 @@
 -- Each call keeps what holds of a box.
-use Rattle.std.proofs.Common.{◌≡◌, ◌<◌, ◌≤◌, ℕ, ◌+◌, ◌==◌, ◌&&◌, ◌||◌, inl, inr, ⊎_elim, not, cond, nat_le, Bool, true, false, List, [], ◌∷◌, map, filter, Option, Some, None, refl, ap, sym, subst, ◌∙◌, arith, eq-eqb}
+use Rattle.std.proofs.Common.{◌≡◌, ◌≤◌, ℕ, ◌+◌, ◌==◌, ◌&&◌, inl, inr, ⊎_elim, not, cond, nat_le, Bool, true, false, List, [], ◌∷◌, map, filter, Option, Some, None, refl, ap, sym, subst, ◌∙◌, arith, eq-eqb}
 use Rattle.std.specs.List.{list_any}
 use Rattle.std.proofs.lemmas.Bool.{and_parts, cond_both, eqb-true, false≢true, or_left, or_right}
 use Rattle.std.proofs.lemmas.Bool.Decides.{nat_tests}
-use Rattle.iscsi_history.specs.declared.effect.Effect.{Effect}
-use Rattle.iscsi_history.specs.declared.effect.Numbers.{Numbers}
 use Rattle.iscsi_history.specs.rules.Settings.{are_distinct}
 use Rattle.iscsi_history.specs.rules.Trace.{first_of}
 use Rattle.iscsi_history.specs.promises.Order.{in_parts}
@@ -13,23 +11,22 @@ use Rattle.iscsi_outbox_rules.specs.declared.own_pdu.OwnPdu.TheVariants.{OfComma
 use Rattle.iscsi_outbox_rules.specs.declared.own_pdu.PutRefusal.{PutRefusal}
 use Rattle.iscsi_outbox_rules.specs.declared.own_pdu.PutRefusal.TheVariants.{Unfit, Gone as GoneRefusal, Closed, Full}
 use Rattle.iscsi_outbox_rules.specs.rules.Calls.{Opening, Call, Takes, Puts, Stops, Nexts, Writes, Hears, Joins, Loses, Clears}
-use Rattle.iscsi_outbox_rules.specs.rules.Boxes.{Phase, Dormant, Fresh, Started, Completed, Running, Gone, Task, Outgoing, Handed, Answer, Link, Box}
-use Rattle.iscsi_outbox_rules.specs.rules.Words.{is_left_phase, is_live_phase, is_running, is_usable, contains}
+use Rattle.iscsi_outbox_rules.specs.rules.Boxes.{Phase, Dormant, Fresh, Started, Completed, Running, Gone, Task, Outgoing, Handed, Link, Box}
+use Rattle.iscsi_outbox_rules.specs.rules.Words.{is_live_phase, is_running, is_usable, contains}
 use Rattle.iscsi_outbox_rules.specs.rules.Queues.{at_link, takes_more, enter, drop_on}
 use Rattle.iscsi_outbox_rules.specs.rules.Due.{settle}
-use Rattle.iscsi_outbox_rules.specs.rules.Items.{in_phase, phase_told, after_items, after_event}
+use Rattle.iscsi_outbox_rules.specs.rules.Items.{in_phase, phase_told, after_items}
 use Rattle.iscsi_outbox_rules.specs.rules.Own.{is_fit, is_full, live_task, own_conn, own_outgoing, refusal_on, put_refusal}
-use Rattle.iscsi_outbox_rules.specs.rules.Handing.{ping, nop_in, handed_as, after_given}
 use Rattle.iscsi_outbox_rules.specs.rules.Run.{after_call, opened, new_link, phase_stopped, one_written, link_heard, may_join, link_joined, link_lost, cleared}
 use Rattle.iscsi_outbox_rules.proofs.Chosen.{FromQueue, IsPing, IsNotice, Chosen, chosen_from}
 use Rattle.iscsi_outbox_rules.proofs.Cuts.{Hand, Idle, next}
 use Rattle.iscsi_outbox_rules.proofs.RoomTasks.{settled_tasks}
 use Rattle.iscsi_outbox_law.specs.Pairs.{EachOf}
 use Rattle.iscsi_outbox_law.specs.Sound.{HasHome, NoneIsFresh, is_fresh_phase}
-use Rattle.iscsi_outbox_law.proofs.PairLemmas.{each-map, each-new, each-weaken}
+use Rattle.iscsi_outbox_law.proofs.PairLemmas.{each-map, each-new}
 use Rattle.iscsi_outbox_law.proofs.Members.{In, any_from, each-in, in_filter}
 use Rattle.iscsi_outbox_law.proofs.PlaceLemmas.{AreApart, conns_of, distinct_apart}
-use Rattle.iscsi_outbox_law.proofs.SoundFirm.{has_home, left_in, own_queued, IsEntryFirm, IsLinkFirm, Firm, IsFirm}
+use Rattle.iscsi_outbox_law.proofs.SoundFirm.{has_home, left_in, own_queued, IsEntryFirm, IsLinkFirm, IsFirm}
 use Rattle.iscsi_outbox_law.proofs.SoundMoves.{MayEnter, entered, firm_settled, firm_written, firm_heard, firm_joined, firm_lost, firm_given, firm_cleared}
 use Rattle.iscsi_outbox_law.proofs.SoundTurns.{live_stays, stopped_left, told_left}
 use Rattle.iscsi_outbox_law.proofs.SoundTaking.{firm_phases, firm_phased}

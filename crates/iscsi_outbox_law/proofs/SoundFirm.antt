@@ -1,7 +1,7 @@
 -- What holds of a box through each step of an item and of a call: more than a sound box has, so that each step keeps it.
-use Rattle.std.proofs.Common.{◌≡◌, ◌<◌, ◌≤◌, ℕ, ◌+◌, ◌==◌, ◌&&◌, ◌||◌, not, cond, Bool, true, false, List, [], ◌∷◌, map, filter, count_by, Option, Some, None, refl, ap, sym, subst, ◌∙◌, arith, ne_eqb}
+use Rattle.std.proofs.Common.{◌≡◌, ◌<◌, ◌≤◌, ℕ, ◌==◌, ◌&&◌, not, cond, Bool, true, false, List, [], ◌∷◌, map, filter, count_by, Option, Some, None, refl, ap, sym, subst, ◌∙◌, arith}
 use Rattle.std.specs.List.{list_any}
-use Rattle.std.proofs.lemmas.Bool.{and_from, and_parts, cond_both, eqb-true, eq-eqb, eqb-false, false≢true, false_from_ne_true, or_parts}
+use Rattle.std.proofs.lemmas.Bool.{and_from, and_parts, cond_both, eqb-true, false≢true, false_from_ne_true}
 use Rattle.iscsi_history.specs.rules.Settings.{is_known}
 use Rattle.iscsi_history.proofs.ListLemmas.{fewer_counted}
 use Rattle.iscsi_outbox_rules.specs.rules.Calls.{Opening}
@@ -11,7 +11,7 @@ use Rattle.iscsi_outbox_rules.specs.rules.Due.{settle}
 use Rattle.iscsi_outbox_rules.specs.rules.Own.{is_own}
 use Rattle.iscsi_outbox_rules.specs.rules.Queues.{at_link, takes_more, without}
 use Rattle.iscsi_outbox_law.specs.Pairs.{EachOf, InOrder}
-use Rattle.iscsi_outbox_law.specs.Sound.{HasHome, IsAlive, IsFenceFit, IsLinkSound, IsAnswerSound, HaveHomes, IsSound}
+use Rattle.iscsi_outbox_law.specs.Sound.{HasHome, IsAlive, IsFenceFit, IsLinkSound, IsAnswerSound, IsSound}
 use Rattle.iscsi_outbox_law.proofs.PairLemmas.{each-map, each-weaken}
 use Rattle.iscsi_outbox_law.proofs.PlaceLemmas.{conns_of}
 use Rattle.iscsi_outbox_law.proofs.SoundLists.{any_mapped, each_passing}

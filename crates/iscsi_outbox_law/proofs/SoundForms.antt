@@ -1,44 +1,35 @@
 -- What a session gives in an item, where the commands of the box are those of the session.
-use Rattle.std.proofs.Common.{◌≡◌, ◌<◌, ◌≤◌, ℕ, zero, suc, ◌+◌, ◌==◌, ◌&&◌, ◌||◌, inl, inr, ⊎_elim, not, cond, nat_le, Bool, true, false, List, [], ◌∷◌, ◌++◌, map, filter, filter_map, length, count_by, Option, Some, None, refl, ap, sym, subst, ◌∙◌, arith, eq-eqb}
-use Rattle.std.specs.List.{list_any, flat_map, cons_option, range_with_len}
-use Rattle.std.proofs.lemmas.Bool.{and_from, cond_both, eqb-true, false≢true, or_left, or_right}
-use Rattle.std.proofs.lemmas.List.{append_assoc, append-nil, map-append}
+use Rattle.std.proofs.Common.{◌≡◌, ◌≤◌, ℕ, ◌==◌, ◌&&◌, ◌||◌, ⊎_elim, cond, Bool, true, false, List, [], ◌∷◌, ◌++◌, map, filter, filter_map, length, count_by, Option, Some, None, refl, ap, sym, subst, ◌∙◌, arith, eq-eqb}
+use Rattle.std.specs.List.{list_any, flat_map, cons_option}
+use Rattle.std.proofs.lemmas.Bool.{and_from, false≢true, or_left, or_right}
+use Rattle.std.proofs.lemmas.List.{append_assoc}
 use Rattle.std.proofs.lemmas.List.Elements.{filter_map-append}
-use Rattle.iscsi_wire.specs.declared.reply.Reply.{Reply}
-use Rattle.iscsi_wire.specs.declared.reply.Reply.TheVariants.{Scsi, Task as TaskReply, Logout, Nop, Reject}
 use Rattle.iscsi_wire.specs.declared.request.Request.{Request}
-use Rattle.iscsi_wire.specs.Fields.{connection_of, opcode, function, rtt}
+use Rattle.iscsi_wire.specs.Fields.{connection_of}
 use Rattle.iscsi_history.specs.declared.effect.Effect.{Effect}
-use Rattle.iscsi_history.specs.declared.effect.Effect.TheVariants.{Deliver, Immediate, Wait, Void, Empty, Enter, Enable, Leave, Send, CloseConn, CloseSession, Ignore}
-use Rattle.iscsi_history.specs.rules.Settings.{Setting, is_known}
-use Rattle.iscsi_history.specs.rules.Trace.{Arrival, Command, Mark, Admits, Delivers, Executes, Voids, Empties, Waits, Leaves, Enters, Sends, ClosesConn, ClosesSession, Ignores, Trace, first_of, enters, entered, has, leaves_ticket, live, is_among, is_closed}
-use Rattle.iscsi_history.specs.rules.Execution.{unit_named}
-use Rattle.iscsi_history.specs.rules.Logout.{is_open}
+use Rattle.iscsi_history.specs.declared.effect.Effect.TheVariants.{Enable}
+use Rattle.iscsi_history.specs.rules.Settings.{Setting}
+use Rattle.iscsi_history.specs.rules.Trace.{Arrival, Command, Mark, Admits, Delivers, Executes, Voids, Empties, Waits, Leaves, Enters, Sends, ClosesConn, ClosesSession, Ignores, Trace, enters, entered, live, is_among}
 use Rattle.iscsi_history.specs.rules.Run.{effects_of_mark, newly_enabled, effects_of_item}
 use Rattle.iscsi_history.specs.promises.Replies.{executed_in}
 use Rattle.iscsi_history.proofs.AbortMarks.{none_viewed}
-use Rattle.iscsi_history.proofs.CloseLemmas.{is_at, Sound}
-use Rattle.iscsi_history.proofs.ElementLemmas.{In as InList, in-filter}
-use Rattle.iscsi_history.proofs.Forms.{Start, AtTurn, AtArrival, AfterWaiting, start_mark, Deeds, if_some, marks_done, Form, Ignored, Rejected, Received, Postponed, Completed, Executed, marks_of_form, Each, EntersAs, IsFormed, HasForm, HaveForms}
-use Rattle.iscsi_history.proofs.LifeLemmas.{among-mine, mine-none_counted, tickets_count}
+use Rattle.iscsi_history.proofs.CloseLemmas.{is_at}
+use Rattle.iscsi_history.proofs.ElementLemmas.{In as InList}
+use Rattle.iscsi_history.proofs.Forms.{Start, AtTurn, AtArrival, AfterWaiting, start_mark, Deeds, if_some, marks_done, Form, Ignored, Rejected, Received, Postponed, Completed, Executed, marks_of_form, IsFormed}
+use Rattle.iscsi_history.proofs.LifeLemmas.{among-mine, mine-none_counted}
 use Rattle.iscsi_history.proofs.NumberingLemmas.{to_list, unseen, passed}
-use Rattle.iscsi_history.proofs.TouchLemmas.{leaving_in, entering_in, enters_form, leaves_form, leaving_few, EntersNext, entering_next}
-use Rattle.iscsi_outbox_rules.specs.rules.Calls.{Opening}
-use Rattle.iscsi_outbox_rules.specs.rules.Boxes.{Task, Aim, AtTag, AtUnit, AtConns, Box}
+use Rattle.iscsi_history.proofs.TouchLemmas.{leaving_in, leaving_few}
+use Rattle.iscsi_outbox_rules.specs.rules.Boxes.{Task, Box}
 use Rattle.iscsi_outbox_rules.specs.rules.Words.{contains, is_live_phase}
-use Rattle.iscsi_outbox_rules.specs.rules.Items.{executing, tickets_left, ticket_enabled, reply_sent, task_entered, phase_taken_out, phase_completed, phase_enabled, aim_of, after_item}
-use Rattle.iscsi_outbox_rules.proofs.ClosedItems.{send_of, sent_item, some_pair}
-use Rattle.iscsi_outbox_rules.proofs.RoomLives.{tickets_of, entered_form, left_marks, none_counted, live_tickets_item}
-use Rattle.iscsi_outbox_rules.proofs.RoomTasks.{live_tickets, live_after_item, ticket_entered, tickets_entered}
-use Rattle.iscsi_outbox_rules.proofs.TaskLives.{item_tasks, entered_tasks, left_tasks}
-use Rattle.iscsi_outbox_law.specs.Pairs.{EachOf, InOrder}
-use Rattle.iscsi_outbox_law.specs.Sound.{entries_of, entry_of, is_live_in, conn_closed, is_close, IsLogout, IsItemSound}
-use Rattle.iscsi_outbox_law.proofs.Members.{In, any_found, any_from, in_filter}
+use Rattle.iscsi_outbox_rules.specs.rules.Items.{executing}
+use Rattle.iscsi_outbox_rules.proofs.RoomLives.{tickets_of, none_counted}
+use Rattle.iscsi_outbox_rules.proofs.RoomTasks.{live_tickets}
+use Rattle.iscsi_outbox_law.specs.Sound.{entry_of, conn_closed, is_close}
+use Rattle.iscsi_outbox_law.proofs.Members.{any_found, any_from, in_filter}
 use Rattle.iscsi_outbox_law.proofs.SoundFirm.{has_home}
 use Rattle.iscsi_outbox_law.proofs.SoundLists.{any_unmapped}
-use Rattle.iscsi_outbox_law.proofs.SoundParting.{closes_any, IsParting}
-use Rattle.iscsi_outbox_law.proofs.SoundTaking.{IsItemFirm}
-use Rattle.iscsi_outbox_law.proofs.SoundTurns.{IsTurn, phased, turn_phased, taken_out_left, completed_left, enabled_left}
+use Rattle.iscsi_outbox_law.proofs.SoundParting.{closes_any}
+use Rattle.iscsi_outbox_law.proofs.SoundTurns.{IsTurn}
 
 -- ---- the commands of both
 

@@ -1,5 +1,5 @@
 -- Each item that a session gives fits the box in which it is taken.
-use Rattle.std.proofs.Common.{◌≡◌, ◌<◌, ◌≤◌, ℕ, zero, suc, ◌+◌, ◌==◌, ◌&&◌, inl, inr, not, cond, nat_le, Bool, true, false, List, [], ◌∷◌, ◌++◌, map, filter, filter_map, length, Option, Some, None, refl, ap, sym, subst, ◌∙◌, arith, eq-eqb, ◌||◌}
+use Rattle.std.proofs.Common.{◌≡◌, ◌<◌, ◌≤◌, ℕ, zero, suc, ◌+◌, ◌==◌, ◌&&◌, not, cond, nat_le, Bool, true, false, List, [], ◌∷◌, ◌++◌, map, filter, filter_map, length, Option, Some, None, refl, ap, sym, subst, ◌∙◌, arith, eq-eqb, ◌||◌}
 use Rattle.std.specs.List.{list_any, range_with_len}
 use Rattle.std.proofs.lemmas.Bool.{and_parts, false≢true}
 use Rattle.std.proofs.lemmas.List.{append-nil, map-append}
@@ -25,9 +25,9 @@ use Rattle.iscsi_outbox_rules.specs.rules.Calls.{Opening}
 use Rattle.iscsi_outbox_rules.specs.rules.Boxes.{Task, Aim, AtTag, AtUnit, AtConns, Box}
 use Rattle.iscsi_outbox_rules.specs.rules.Words.{contains}
 use Rattle.iscsi_outbox_rules.specs.rules.Items.{executing, ticket_left, tickets_left, ticket_enabled, reply_sent, task_entered, phase_taken_out, phase_completed, phase_enabled, aim_of, after_item}
-use Rattle.iscsi_outbox_rules.proofs.ClosedItems.{send_of, sent_item}
+use Rattle.iscsi_outbox_rules.proofs.ClosedItems.{sent_item}
 use Rattle.iscsi_outbox_rules.proofs.RoomLives.{tickets_of, entered_form, left_marks, live_tickets_item}
-use Rattle.iscsi_outbox_rules.proofs.RoomTasks.{live_tickets, live_after_item, ticket_entered, tickets_entered}
+use Rattle.iscsi_outbox_rules.proofs.RoomTasks.{live_after_item, ticket_entered, tickets_entered}
 use Rattle.iscsi_outbox_rules.proofs.TaskLives.{item_tasks, entered_tasks, left_tasks}
 use Rattle.iscsi_outbox_law.specs.Pairs.{EachOf, InOrder}
 use Rattle.iscsi_outbox_law.specs.Sound.{entries_of, entry_of, is_live_in, conn_closed, is_close, IsLogout, IsItemSound}
@@ -38,7 +38,7 @@ use Rattle.iscsi_outbox_law.proofs.SoundFirm.{has_home}
 use Rattle.iscsi_outbox_law.proofs.SoundForms.{Follows, home_of_task, home_of_command, homes_turn, none_enabled, seen_marks, entry_shown, entry_seen, entries_shown, closing_shown, closing_seen, closes_shown, executing_as, Executing, executing_form, few_closes, live_command, among_tickets, live_task, homes_any, home_there}
 use Rattle.iscsi_outbox_law.proofs.SoundParting.{closes_any, IsParting}
 use Rattle.iscsi_outbox_law.proofs.SoundTaking.{IsItemFirm}
-use Rattle.iscsi_outbox_law.proofs.SoundTurns.{IsTurn, phased, turn_phased, taken_out_left, completed_left, enabled_left}
+use Rattle.iscsi_outbox_law.proofs.SoundTurns.{phased, turn_phased, taken_out_left, completed_left, enabled_left}
 
 -- ---- tickets go up
 
@@ -101,6 +101,11 @@ module _ (o : Opening) (t : Trace) (ts : List Task) where
   none_at_all [] = refl
   none_at_all (c ∷ cs) = refl
 
+  -- a command that enters came with the request that executes
+  came : (a : Arrival) (d : Deeds) (y : Option Command) → Each (EntersAs o.session t a d) y → Each (λ (c : Command). c.arrival ≡ a) y
+  came a d None k = tt
+  came a d (Some c) k = ap (λ (z : Command). z.arrival) k.next
+
   entering_homes : (now : ℕ) (form : Form) → IsFormed o.session now t form → Entering form
   entering_homes now (Ignored why) x = none_enters (Ignored why) refl refl
   entering_homes now (Rejected a) x = none_enters (Rejected a) refl refl
@@ -108,20 +113,8 @@ module _ (o : Opening) (t : Trace) (ts : List Task) where
   entering_homes now (Postponed a) x = none_enters (Postponed a) refl refl
   entering_homes now (Completed c status) x = none_enters (Completed c status) refl refl
   entering_homes now (Executed AtTurn a d) x = some_enters (Executed AtTurn a d) a d.entering refl refl (came a d d.entering x.1.enters)
-    where
-      came : (b : Arrival) (e : Deeds) (y : Option Command) → Each (EntersAs o.session t b e) y → Each (λ (c : Command). c.arrival ≡ b) y
-      came b e None k = tt
-      came b e (Some c) k = ap (λ (z : Command). z.arrival) k.next
   entering_homes now (Executed AtArrival a d) x = some_enters (Executed AtArrival a d) a d.entering refl refl (came a d d.entering x.1.enters)
-    where
-      came : (b : Arrival) (e : Deeds) (y : Option Command) → Each (EntersAs o.session t b e) y → Each (λ (c : Command). c.arrival ≡ b) y
-      came b e None k = tt
-      came b e (Some c) k = ap (λ (z : Command). z.arrival) k.next
   entering_homes now (Executed AfterWaiting a d) x = some_enters (Executed AfterWaiting a d) a d.entering refl refl (came a d d.entering x.1.enters)
-    where
-      came : (b : Arrival) (e : Deeds) (y : Option Command) → Each (EntersAs o.session t b e) y → Each (λ (c : Command). c.arrival ≡ b) y
-      came b e None k = tt
-      came b e (Some c) k = ap (λ (z : Command). z.arrival) k.next
 
 left_homes : (r : Option Request) (tickets : List ℕ) (ts : List Task) → map home_of_task (left_tasks r tickets ts) ≡ map home_of_task ts
 left_homes (Some r) tickets ts = homes_turn (phased phase_taken_out tickets) (turn_phased phase_taken_out tickets taken_out_left) ts

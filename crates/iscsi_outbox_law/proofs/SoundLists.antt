@@ -1,5 +1,5 @@
 -- Lists: what some element passes, and in which order elements stand.
-use Rattle.std.proofs.Common.{◌≡◌, ⊎_elim, cond, Bool, true, false, List, [], ◌∷◌, ◌++◌, map, filter, refl, subst}
+use Rattle.std.proofs.Common.{◌≡◌, ⊎_elim, cond, Bool, true, false, List, [], ◌∷◌, ◌++◌, map, filter, refl}
 use Rattle.std.specs.List.{list_any}
 use Rattle.std.proofs.lemmas.Bool.{or_cases, or_left, or_right}
 use Rattle.iscsi_outbox_law.specs.Pairs.{EachOf, InOrder}

@@ -1,23 +1,19 @@
 -- The moves that a box makes: each keeps what holds of it.
-use Rattle.std.proofs.Common.{◌≡◌, ◌<◌, ◌≤◌, ℕ, ◌+◌, ◌==◌, ◌&&◌, inl, inr, ⊎_elim, not, cond, Bool, true, false, List, [], ◌∷◌, ◌++◌, map, filter, drop, count_by, Option, Some, None, refl, ap, sym, subst, ◌∙◌, arith, nat_lt, length}
-use Rattle.std.specs.List.{list_any}
+use Rattle.std.proofs.Common.{◌≡◌, ◌<◌, ◌≤◌, ℕ, ◌+◌, ◌==◌, ◌&&◌, not, cond, Bool, true, false, List, [], ◌∷◌, ◌++◌, map, filter, drop, count_by, Option, Some, None, refl, ap, sym, subst, ◌∙◌, arith, nat_lt, length}
 use Rattle.std.proofs.lemmas.Bool.{and_parts, cond_both, eqb-true, false≢true}
 use Rattle.std.proofs.lemmas.List.{append_assoc, append-nil}
 use Rattle.std.proofs.lemmas.List.Sums.{sum_by-append, sum_by-cons}
-use Rattle.iscsi_history.specs.rules.Trace.{first_of}
 use Rattle.iscsi_outbox_rules.specs.rules.Calls.{Opening}
 use Rattle.iscsi_outbox_rules.specs.rules.Boxes.{Task, Outgoing, Handed, Answer, Link, Box}
 use Rattle.iscsi_outbox_rules.specs.rules.Words.{is_open}
 use Rattle.iscsi_outbox_rules.specs.rules.Own.{is_own}
 use Rattle.iscsi_outbox_rules.specs.rules.Queues.{at_link, takes_more, append, enter, emptied, drop_on}
 use Rattle.iscsi_outbox_rules.specs.rules.Due.{is_due, settle_from, settle}
-use Rattle.iscsi_outbox_rules.specs.rules.Handing.{is_from_queue, taken_from, after_given, handed_as}
+use Rattle.iscsi_outbox_rules.specs.rules.Handing.{is_from_queue, taken_from, after_given}
 use Rattle.iscsi_outbox_rules.specs.rules.Run.{one_written, link_heard, link_joined, link_lost, cleared, waits_for_clear}
-use Rattle.iscsi_outbox_rules.proofs.Chosen.{FromQueue, IsPing, IsNotice, Chosen}
 use Rattle.iscsi_outbox_law.specs.Pairs.{EachOf, InOrder}
 use Rattle.iscsi_outbox_law.specs.Sound.{HasHome, IsAlive, IsFenceFit}
 use Rattle.iscsi_outbox_law.proofs.PairLemmas.{each-append, each-both, each-map, each-weaken}
-use Rattle.iscsi_outbox_law.proofs.PlaceLemmas.{conns_of}
 use Rattle.iscsi_outbox_law.proofs.TrackedLemmas.{order_push}
 use Rattle.iscsi_outbox_law.proofs.SoundFirm.{has_home, left_in, own_queued, IsEntryFirm, IsLinkFirm, IsAnswerFirm, Firm, IsFirm, conns_map, still_taken, taken_elsewhere, at_conn, at_same, at_twice}
 

@@ -1,17 +1,14 @@
 -- For every list of calls that follows a session each box is sound, between the calls and between the items of an event, and each
 -- item is one that a session gives.
-use Rattle.std.proofs.Common.{◌≡◌, ℕ, ◌+◌, ◌==◌, ◌&&◌, cond, Bool, true, false, List, [], ◌∷◌, ◌++◌, map, filter, filter_map, length, Option, Some, None, refl, ap, sym, subst, ◌∙◌, arith, ⊎_elim, not}
+use Rattle.std.proofs.Common.{◌≡◌, ℕ, ◌+◌, cond, Bool, true, false, List, [], ◌∷◌, ◌++◌, map, filter, filter_map, Some, None, refl, ap, sym, subst, ◌∙◌, arith, ⊎_elim}
 use Rattle.std.specs.List.{list_all, flat_map}
-use Rattle.std.proofs.lemmas.Bool.{and_parts, cond_both, false≢true}
-use Rattle.std.proofs.lemmas.List.{append-nil}
-use Rattle.iscsi_wire.specs.declared.reply.Reply.{Reply}
-use Rattle.iscsi_wire.specs.declared.request.Request.{Request}
+use Rattle.std.proofs.lemmas.Bool.{and_parts, cond_both}
 use Rattle.iscsi_history.specs.declared.effect.Effect.{Effect}
 use Rattle.iscsi_history.specs.declared.effect.Numbers.{Numbers}
 use Rattle.iscsi_history.specs.declared.entry.Entry.{Entry}
 use Rattle.iscsi_history.specs.declared.event.Event.{Event}
 use Rattle.iscsi_history.specs.rules.Settings.{are_distinct}
-use Rattle.iscsi_history.specs.rules.Trace.{Mark, Trace, after_items as after_marks, live, entered, first_of}
+use Rattle.iscsi_history.specs.rules.Trace.{Mark, Trace, after_items as after_marks, first_of}
 use Rattle.iscsi_history.specs.rules.Agenda.{belongs, items_of}
 use Rattle.iscsi_history.specs.rules.Run.{after_event as after_session_event, effects_of, effects_of_item, entries_from, entry_of}
 use Rattle.iscsi_history.specs.promises.Order.{in_parts}
@@ -31,7 +28,7 @@ use Rattle.iscsi_outbox_rules.specs.promises.Deeds.{entry_taken, FollowsKnown}
 use Rattle.iscsi_outbox_rules.proofs.ClosedParts.{Parts, effects_each, event_parts}
 use Rattle.iscsi_outbox_rules.proofs.Cuts.{Hand, Idle, next}
 use Rattle.iscsi_outbox_rules.proofs.DeadlockSettled.{Settled, settles, settled_call}
-use Rattle.iscsi_outbox_rules.proofs.RoomLives.{tickets_of, forms_below, first_form}
+use Rattle.iscsi_outbox_rules.proofs.RoomLives.{forms_below, first_form}
 use Rattle.iscsi_outbox_rules.proofs.RoomSends.{Formed}
 use Rattle.iscsi_outbox_rules.proofs.RoomSends.{event_going as event_sends}
 use Rattle.iscsi_outbox_rules.proofs.RoomTasks.{live_tickets, live_same, same_told, settled_tasks, live_after_item}
@@ -41,7 +38,7 @@ use Rattle.iscsi_outbox_law.specs.Sound.{IsSound, IsItemSound, NoneIsFresh}
 use Rattle.iscsi_outbox_law.proofs.SoundSettled.{stays_settled}
 use Rattle.iscsi_outbox_law.proofs.SoundFirm.{IsFirm, sound_of}
 use Rattle.iscsi_outbox_law.proofs.SoundCalls.{TakesNone, firm_call, firm_opened, firm_told, stale_call}
-use Rattle.iscsi_outbox_law.proofs.SoundForms.{Follows, home_of_task, home_of_command, homes_turn}
+use Rattle.iscsi_outbox_law.proofs.SoundForms.{Follows, home_of_task, homes_turn}
 use Rattle.iscsi_outbox_law.proofs.SoundItems.{follows_item, item_sound, item_firm}
 use Rattle.iscsi_outbox_law.proofs.SoundParting.{IsParting, event_parting}
 use Rattle.iscsi_outbox_law.proofs.SoundTaking.{IsItemFirm, firm_item}
@@ -243,9 +240,9 @@ module _ (o : Opening) where
       subst (λ (es : List Effect). Gives b (in_parts es) (after_session_event o.session now t e)) same (event_gives now t e b forms sounds parts.0 k) in (
         (sound_there b t k, stale),
         (
-            given.0,
-            calls_sound cs (after_event o b effects numbers) (now + 1) (after_session_event o.session now t e) events distinct (event_going o.session now t e forms) (event_sound o.session now t e parts.0 sounds) parts.1 rest
-                (stale_call o b (Takes effects numbers) stale) (told b effects numbers (after_session_event o.session now t e) k.settled given.1),
+          given.0,
+          calls_sound cs (after_event o b effects numbers) (now + 1) (after_session_event o.session now t e) events distinct (event_going o.session now t e forms) (event_sound o.session now t e parts.0 sounds) parts.1 rest
+              (stale_call o b (Takes effects numbers) stale) (told b effects numbers (after_session_event o.session now t e) k.settled given.1),
         ),
       )
   calls_sound (Puts p ∷ cs) b now t events distinct forms sounds known follows stale k = ((sound_there b t k, stale), (tt, calls_sound cs (after_call o b (Puts p)) now t events distinct forms sounds known follows (stale_call o b (Puts p) stale) (after_other b (Puts p) t distinct tt k)))

@@ -1,10 +1,10 @@
 -- Settling a box in which no answer is due changes nothing.
-use Rattle.std.proofs.Common.{◌≡◌, cond, Bool, true, false, List, [], ◌∷◌, ◌++◌, refl, ap, sym, ◌∙◌}
+use Rattle.std.proofs.Common.{◌≡◌, cond, Bool, List, [], ◌∷◌, ◌++◌, ap, sym, ◌∙◌}
 use Rattle.std.proofs.lemmas.List.{append_assoc, append-nil}
 use Rattle.iscsi_outbox_rules.specs.rules.Calls.{Opening}
 use Rattle.iscsi_outbox_rules.specs.rules.Boxes.{Answer, Box}
 use Rattle.iscsi_outbox_rules.specs.rules.Queues.{enter}
-use Rattle.iscsi_outbox_rules.specs.rules.Due.{is_due, settle_from, settle}
+use Rattle.iscsi_outbox_rules.specs.rules.Due.{settle_from, settle}
 use Rattle.iscsi_outbox_rules.proofs.DeadlockSettled.{NoneDue, Settled}
 
 stays_from : (o : Opening) (b : Box) (before rest : List Answer) → NoneDue o b before rest → settle_from o before rest b ≡ record b { undue = before ++ rest }

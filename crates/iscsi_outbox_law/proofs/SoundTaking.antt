@@ -1,5 +1,5 @@
 -- An item that is taken keeps what holds of a box.
-use Rattle.std.proofs.Common.{◌≡◌, ◌<◌, ◌≤◌, ℕ, ◌+◌, ◌==◌, ◌&&◌, cond, Bool, true, false, List, [], ◌∷◌, ◌++◌, map, filter, filter_map, Option, Some, None, refl, ap, sym, subst, ◌∙◌, arith, ⊎_elim, ◌||◌}
+use Rattle.std.proofs.Common.{◌≡◌, ◌<◌, ◌≤◌, ℕ, ◌+◌, ◌==◌, ◌&&◌, cond, Bool, true, false, List, [], ◌∷◌, ◌++◌, map, filter, filter_map, Option, Some, None, refl, sym, subst, ◌∙◌, arith, ⊎_elim, ◌||◌}
 use Rattle.std.specs.List.{list_any}
 use Rattle.std.proofs.lemmas.Bool.{and_from, cond_both, false≢true, or_cases, or_left, or_right, false_from_ne_true}
 use Rattle.iscsi_wire.specs.declared.reply.Reply.{Reply}
@@ -9,17 +9,16 @@ use Rattle.iscsi_history.specs.declared.effect.Effect.{Effect}
 use Rattle.iscsi_history.specs.rules.Settings.{is_known}
 use Rattle.iscsi_history.specs.rules.Trace.{first_of}
 use Rattle.iscsi_outbox_rules.specs.rules.Calls.{Opening}
-use Rattle.iscsi_outbox_rules.specs.rules.Boxes.{Phase, Task, Outgoing, Aim, Answer, Link, Box}
-use Rattle.iscsi_outbox_rules.specs.rules.Words.{contains, is_left_phase, is_live_phase}
-use Rattle.iscsi_outbox_rules.specs.rules.Own.{is_own}
-use Rattle.iscsi_outbox_rules.specs.rules.Queues.{at_link, takes_more, enter, drop_on}
+use Rattle.iscsi_outbox_rules.specs.rules.Boxes.{Phase, Task, Aim, Answer, Link, Box}
+use Rattle.iscsi_outbox_rules.specs.rules.Words.{contains, is_left_phase}
+use Rattle.iscsi_outbox_rules.specs.rules.Queues.{at_link, takes_more, drop_on}
 use Rattle.iscsi_outbox_rules.specs.rules.Due.{settle}
-use Rattle.iscsi_outbox_rules.specs.rules.Items.{executing, tickets_left, ticket_enabled, reply_sent, closed_in, newly_closed, phase_taken_out, phase_completed, phase_enabled, in_phase, leave, task_entered, enter_tasks, close_one, close_all, close, outgoing, answer, await, send_as, aim, send, is_aimed_at, scope_of, after_item}
+use Rattle.iscsi_outbox_rules.specs.rules.Items.{executing, tickets_left, ticket_enabled, reply_sent, closed_in, newly_closed, phase_taken_out, phase_completed, phase_enabled, in_phase, leave, task_entered, enter_tasks, close_one, close_all, close, outgoing, answer, send_as, aim, send, is_aimed_at, after_item}
 use Rattle.iscsi_outbox_law.specs.Pairs.{EachOf, InOrder}
 use Rattle.iscsi_outbox_law.specs.Sound.{entries_of, is_live_in}
 use Rattle.iscsi_outbox_law.proofs.PairLemmas.{each-append, each-map, each-weaken}
-use Rattle.iscsi_outbox_law.proofs.SoundFirm.{has_home, left_in, own_queued, IsLinkFirm, IsAnswerFirm, AreTasksFirm, Firm, IsFirm, Onto, turned, dropped}
-use Rattle.iscsi_outbox_law.proofs.SoundMoves.{MayEnter, entered, firm_closed, firm_cut, firm_settled}
+use Rattle.iscsi_outbox_law.proofs.SoundFirm.{has_home, left_in, own_queued, IsLinkFirm, IsAnswerFirm, IsFirm, turned, dropped}
+use Rattle.iscsi_outbox_law.proofs.SoundMoves.{entered, firm_closed, firm_cut, firm_settled}
 use Rattle.iscsi_outbox_law.proofs.SoundTurns.{IsTurn, phased, turn_phased, unleft_phased, taken_out_left, completed_left, enabled_left, onto_turn, unleft_turn, firm_turn, left_out, live_stays, firm_entering, onto_entering, unleft_entering}
 
 -- what an item has to be like for this

@@ -1,5 +1,5 @@
 -- Commands that turn to other phases, leave and enter.
-use Rattle.std.proofs.Common.{◌≡◌, ◌<◌, ℕ, ◌==◌, ◌&&◌, ◌||◌, ⊎_elim, arith, cond, Bool, true, false, List, [], ◌∷◌, ◌++◌, map, filter, filter_map, Some, None, refl, ap, sym, subst, ◌∙◌}
+use Rattle.std.proofs.Common.{◌≡◌, ◌<◌, ℕ, ◌==◌, ◌&&◌, ⊎_elim, arith, cond, true, false, List, [], ◌∷◌, ◌++◌, map, filter_map, refl, ap, sym, subst, ◌∙◌}
 use Rattle.std.specs.List.{list_any}
 use Rattle.std.proofs.lemmas.Bool.{and_from, and_parts, cond_both, eqb-true, false≢true, false_from_ne_true, or_left, or_cases}
 use Rattle.std.proofs.lemmas.List.Folds.{list_any-append}

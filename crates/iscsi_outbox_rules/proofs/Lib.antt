@@ -1,15 +1,15 @@
-pub mod EachLemmas
+mod EachLemmas
 pub mod Cuts
-pub mod Walks
+mod Walks
 mod FirstLemmas
 mod Linkwise
-pub mod DeedLemmas
+mod DeedLemmas
 pub mod Chosen
 mod Callwise
 mod LinkRuns
 mod ExpLemmas
 mod NumberTheorem
-pub mod SentLemmas
+mod SentLemmas
 mod PlaceRuns
 mod FoundLemmas
 mod Boxwise
@@ -27,7 +27,7 @@ mod MomentTheorem
 mod OwnRuns
 mod OwnTheorem
 mod TicketLemmas
-pub mod TaskWalks
+mod TaskWalks
 mod CommandRuns
 mod CommandTheorem
 mod TaskRuns
@@ -70,7 +70,7 @@ mod ResponseHomes
 mod ResponseRuns
 mod ResponseCalls
 mod ResponseTheorem
-pub mod ScopeConns
+mod ScopeConns
 mod ScopeTasks
 mod TaskPhases
 mod ScopeWakes
