@@ -22,3 +22,4 @@ pub mod DropLemmas
 pub mod CountedLemmas
 pub mod EmptyLemmas
 pub mod LiningLemmas
+pub mod TellLemmas

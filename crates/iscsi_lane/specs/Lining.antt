@@ -1,11 +1,12 @@
 -- Lines that follow the log, or are empty. For private contracts alone.
-use Rattle.std.specs.Prelude.{◌≡◌, ℕ, ◌+◌, ◌≤◌, false, true, List, [], length, map, slice_set, vec_capacity}
+use Rattle.std.specs.Prelude.{◌≡◌, ℕ, ◌+◌, ◌≤◌, false, true, List, [], length, map, Option, Some, None, slice_set, vec_capacity}
 use Rattle.iscsi_lists.specs.Lists.{Listed, with_last, without}
 use Rattle.iscsi_outbox_state.specs.declared.lane.Aim.TheVariants.{Tag, Unit as AtUnit}
+use Rattle.iscsi_outbox_state.specs.declared.lane.Undue.{Undue}
 use Rattle.iscsi_outbox_state.specs.declared.lane.Standing.{Standing}
 use Rattle.iscsi_scopes.specs.Scopes.{Scoped}
 use Rattle.iscsi_lane.specs.declared.lines.Lines.{Lines}
-use Rattle.iscsi_lane.specs.Standings.{slots_at}
+use Rattle.iscsi_lane.specs.Standings.{IsLane, slots_at}
 use Rattle.iscsi_lane.specs.Scoping.{Mirrors}
 use Rattle.iscsi_lane.specs.Times.{AllUnder, IsUp}
 use Rattle.iscsi_lane.specs.Following.{FollowsLog}
@@ -40,3 +41,13 @@ pub record IsNew (l : Lines) (room : ℕ) : Type 0 where
 abbrev pub Enters : Lines → Listed Standing → ℕ → Standing → Type 0
 Enters l log slot x = (p t : Listed Standing) → p ≡ record log { lists = with_last 2 slot (map (without slot) log.lists) }
     → t ≡ record p { values = slice_set p.values slot x } → IsLined l t
+
+-- the answer that was taken is gone
+abbrev pub without_taken : Option (ℕ × Undue) → Listed Standing → Listed Standing
+without_taken None log = log
+without_taken (Some taken) log = record log { lists = with_last 1 taken.0 (map (without taken.0) log.lists) }
+
+-- the lane, and its lines
+pub record IsLanes (l : Lines) (log : Listed Standing) (commands answers owing waiting numbered : ℕ) : Type 0 where
+  pub lane : IsLane log commands answers owing waiting numbered
+  pub lined : IsLined l log

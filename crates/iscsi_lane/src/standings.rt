@@ -1,11 +1,12 @@
 //! What stands in the lane, in slots.
 
-ghost use Rattle.std.specs.Prelude.{◌≡◌, ◌+◌, ◌<◌, ◌≤◌, false, true, length, IfOk};
+ghost use Rattle.std.specs.Prelude.{◌≡◌, ◌+◌, ◌*◌, ◌<◌, ◌≤◌, false, true, length, IfOk};
 ghost use Rattle.iscsi_outbox_state.specs.Lane.{any_in, arrived, awaited, cleared, count_in, dropped_on, first_due, has_left, is_command, is_left, is_numbered, opened, owes, stopped, without_due};
 ghost use Rattle.iscsi_lane.specs.Standings.{AreSound, is_undue, left_in};
 
-use crate::settling::{AWAY, FREE, LOG, find, lessen, one_if};
-use crate::walking::{Wanted, first_due as first_due_in, first_wanted};
+use crate::lines::Lines;
+use crate::settling::{AWAY, FREE, LOG, find, one_if};
+use crate::walking::{Wanted, first_wanted};
 use iscsi_lists::Lists;
 use iscsi_outbox_state::{Left, Standing, Undue};
 use std::alloc::{AllocError, Global};
@@ -23,10 +24,10 @@ const NOBODY: Standing = Standing::Left(Left {
 
 /// The commands that left and owe something, and the answers that wait for them, in the order of the log.
 ///
-/// A command stands in the slot of its place, and answers in those behind the places of all commands. Each call takes
-/// the same time however many stand there.
+/// A command stands in the slot of its place, and answers in those behind the places of all commands.
 pub(crate) struct Standings {
     log: Lists<Standing>,
+    lines: Lines,
     conns: usize,
     commands: usize,
     answers: usize,
@@ -40,6 +41,7 @@ impl Drop for Standings {
     fn drop(self) {
         let Standings {
             log: _log,
+            lines: _lines,
             conns: _conns,
             commands: _commands,
             answers: _answers,
@@ -52,13 +54,14 @@ impl Drop for Standings {
 
 impl Model for Standings {
     ghost use Rattle.iscsi_outbox_state.specs.Lane.{Lane as Kept};
-    ghost use Rattle.iscsi_lane.specs.Standings.{IsLane, lane_of};
+    ghost use Rattle.iscsi_lane.specs.Lining.{IsLanes};
+    ghost use Rattle.iscsi_lane.specs.Standings.{lane_of};
 
     ghost Value = { Kept };
 
     ghost view = { λ s. lane_of s.log s.conns s.commands s.answers };
 
-    ghost invariant = { λ s. IsLane s.log s.commands s.answers s.owing s.waiting s.numbered };
+    ghost invariant = { λ s. IsLanes s.lines s.log s.commands s.answers s.owing s.waiting s.numbered };
 }
 
 impl Standings {
@@ -70,7 +73,7 @@ impl Standings {
         commands: usize,
         answers: usize,
     ) -> Result<Standings, AllocError>
-        requires { commands + answers + 5 ≤ 4294967295 }
+        requires { 3 * (commands + answers) + 5 ≤ 4294967295 }
         ensures { IfOk result (λ s. s ≡ opened conns commands answers) }
     {
         let mut log = Lists::with_room(alloc, 3, commands + answers, NOBODY)?;
@@ -84,6 +87,7 @@ impl Standings {
         }
         Ok(Standings {
             log,
+            lines: Lines::with_room(alloc, commands + answers)?,
             conns,
             commands,
             answers,
@@ -112,6 +116,7 @@ impl Standings {
         ensures { self.new ≡ has_left left self.old }
     {
         self.log.known();
+        self.lines.enter(&self.log, left);
         self.log.move_to_back(left.command, LOG);
         self.log.set(left.command, Standing::Left(left));
         self.owing += 1;
@@ -124,8 +129,7 @@ impl Standings {
     {
         self.log.known();
         let slot = self.log.first(FREE).unwrap();
-        self.log.move_to_back(slot, LOG);
-        self.log.set(slot, Standing::Undue(answer));
+        self.lines.join(&mut self.log, slot, answer);
         self.waiting += 1;
         self.numbered += one_if(answer.numbered);
     }
@@ -137,8 +141,9 @@ impl Standings {
     {
         self.log.known();
         let left = find(&self.log, self.commands, command)?;
-        self.owing -= lessen(
+        self.owing -= self.lines.owe_less(
             &mut self.log,
+            left,
             Left {
                 running: false,
                 ..left
@@ -154,8 +159,9 @@ impl Standings {
     {
         self.log.known();
         let left = find(&self.log, self.commands, command)?;
-        self.owing -= lessen(
+        self.owing -= self.lines.owe_less(
             &mut self.log,
+            left,
             Left {
                 under_way: false,
                 ..left
@@ -164,7 +170,7 @@ impl Standings {
         Some(left)
     }
 
-    /// The answer that is due first goes. Where answers wait, it walks over the log.
+    /// The answer that is due first goes. Where answers wait, the lines tell it, or a walk over the log does.
     pub(crate) fn take_due(&mut self) -> Option<Undue>
         ensures answer { result ≡ first_due self.old }
         ensures state { self.new ≡ without_due self.old }
@@ -173,8 +179,7 @@ impl Standings {
             return None;
         }
         self.log.known();
-        let (slot, answer) = first_due_in(&self.log)?;
-        self.log.move_to_back(slot, FREE);
+        let (_slot, answer) = self.lines.take(&mut self.log)?;
         self.waiting -= 1;
         self.numbered -= one_if(answer.numbered);
         Some(answer)
@@ -197,6 +202,7 @@ impl Standings {
         let Some((slot, answer)) = first_wanted(&self.log, Wanted::GoingOut(conn)) else {
             return false;
         };
+        self.lines.give_up(&self.log);
         self.log.move_to_back(slot, FREE);
         self.waiting -= 1;
         self.numbered -= one_if(answer.numbered);
@@ -211,6 +217,7 @@ impl Standings {
         let Some((slot, answer)) = first_wanted(&self.log, Wanted::Uncleared(unit)) else {
             return;
         };
+        self.lines.give_up(&self.log);
         self.log.set(
             slot,
             Standing::Undue(Undue {

@@ -133,7 +133,7 @@ fn aims_at(aim: Aim, left: Left) -> bool
 }
 
 /// Whether an aim is that of a Logout.
-fn is_of_logout(aim: Aim) -> bool
+pub(crate) fn is_of_logout(aim: Aim) -> bool
     ensures { result ≡ is_of_a_logout aim }
 {
     match aim {

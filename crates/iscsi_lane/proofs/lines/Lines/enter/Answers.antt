@@ -8,8 +8,8 @@ use Rattle.iscsi_lane.proofs.lines.Lines.enter.Goals as goal
 pub returns : goal.returns
 returns c p t is_p is_t =
     let log = c.args.log.now in
-    let now = c.args.self.now in
-    let f = c.requires.lined.following c.if-not-self.false in
+    let now = c.resume.new.self in
+    let f = c.resume.ensures.following c.if-not-self.false in
     let order = t_order log p t now.units now.tags now.due.items _ f c.known.ensures.values c.requires.lists c.known-2.ensures.ascending c.known-3.ensures.ascending c.known-2.ensures.items c.known-3.ensures.items
     c.args.left.command (IsLeft c.args.left) is_p is_t c.requires.within c.requires.none in
     let room = t_room log p t now.units now.tags now.due.items _ f c.known.ensures.values c.requires.lists c.known-2.ensures.ascending c.known-3.ensures.ascending c.known-2.ensures.items c.known-3.ensures.items

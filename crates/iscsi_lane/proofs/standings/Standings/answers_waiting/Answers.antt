@@ -7,4 +7,4 @@ use Rattle.iscsi_lane.proofs.standings.Standings.answers_waiting.Goals as goal
 pub returns : goal.returns
 returns c =
     let i = c.self.inside in
-    counted_undue i.log i.conns i.commands i.answers i.owing i.waiting i.numbered c.self.invariant ∙ ap (count_in is_undue) c.self.view_is
+    counted_undue i.log i.conns i.commands i.answers i.owing i.waiting i.numbered c.self.invariant.lane ∙ ap (count_in is_undue) c.self.view_is

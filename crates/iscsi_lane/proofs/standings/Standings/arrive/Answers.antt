@@ -1,9 +1,9 @@
 use Rattle.std.proofs.Common.{◌∙◌, ◌-◌, ◌≤◌, Some, ap, sym, subst, arith}
-use Rattle.iscsi_lists.specs.Lists.{times_in}
+use Rattle.iscsi_slots.specs.Slots.{times}
 use Rattle.iscsi_outbox_state.specs.Lane.{Lane, not_under_way, arrived}
-use Rattle.iscsi_lane.specs.Standings.{items_in, left_in}
+use Rattle.iscsi_lane.specs.Standings.{items_in, left_in, slots_at}
 use Rattle.iscsi_lane.proofs.StandLemmas.{left_none}
-use Rattle.iscsi_lane.proofs.LaneLemmas.{at_within, found_left_in, in_at, less_lane, less_owing, less_view, none_view}
+use Rattle.iscsi_lane.proofs.LaneLemmas.{found_left_in, less_lane, less_owing, less_view, none_view}
 use Rattle.iscsi_lane.proofs.standings.Standings.arrive.Goals as goal
 
 pub returns-in_err-left-clause-command : goal.returns-in_err-left-clause-command
@@ -14,55 +14,50 @@ returns-in_err-left-clause-command c =
 pub returns-in_err-left-clause-state : goal.returns-in_err-left-clause-state
 returns-in_err-left-clause-state c =
     let i = c.self.inside in
-    let lane = c.self.invariant in
+    let lane = c.self.invariant.lane in
     let known = c.known.ensures.apart in
     sym c.self.view_is ∙ none_view i.log i.conns i.commands i.answers i.owing i.waiting i.numbered lane known c.known.ensures.values not_under_way c.args.command c.in_err-left.ensures
     ∙ ap (arrived c.args.command) c.self.view_is
 
-pub lessen-requires-clause-there : goal.lessen-requires-clause-there
-lessen-requires-clause-there c =
+pub owe_less-requires-clause-there : goal.owe_less-requires-clause-there
+owe_less-requires-clause-there c =
     let i = c.self.inside in
-    let lane = c.self.invariant in
+    let lane = c.self.invariant.lane in
     let known = c.known.ensures.apart in
     let found = c.in_ok-left.ensures in
-    subst (λ k. 1 ≤ times_in k i.log.lists) (sym found.1.1.0) (in_at i.log i.commands lane.standing known 2 c.args.command found.0)
-
-pub lessen-requires-clause-within : goal.lessen-requires-clause-within
-lessen-requires-clause-within c =
-    let i = c.self.inside in
-    let lane = c.self.invariant in
-    let known = c.known.ensures.apart in
-    let found = c.in_ok-left.ensures in
-    let e = found.1.1.0 in let a = at_within i.log i.commands lane.standing known 2 c.args.command found.0 in omega (arith, a, e)
+    subst (λ k. 1 ≤ times k (slots_at i.log 2)) (sym found.1.1.0) found.0
 
 pub overflow_sub-self : goal.overflow_sub-self
 overflow_sub-self c =
     let i = c.self.inside in
-    let lane = c.self.invariant in
+    let lane = c.self.invariant.lane in
     let known = c.known.ensures.apart in
     less_owing i.log i.conns i.commands i.answers i.owing i.waiting i.numbered lane known c.known.ensures.values not_under_way c.args.command c.in_ok-left.left c.in_ok-left.ensures
-    c.lessen.new.log c.lessen.result c.in_ok-left.ensures.1.1.0 c.lessen.ensures.kept c.lessen.ensures.gone
+    c.owe_less.new.log c.owe_less.result c.in_ok-left.ensures.1.1.0 c.owe_less.ensures.kept c.owe_less.ensures.gone
 
 pub invariant_of-self : goal.invariant_of-self
 invariant_of-self c =
     let i = c.self.inside in
-    let lane = c.self.invariant in
+    let lane = c.self.invariant.lane in
     let known = c.known.ensures.apart in
     let few = less_owing i.log i.conns i.commands i.answers i.owing i.waiting i.numbered lane known c.known.ensures.values not_under_way c.args.command c.in_ok-left.left c.in_ok-left.ensures
-    c.lessen.new.log c.lessen.result c.in_ok-left.ensures.1.1.0 c.lessen.ensures.kept c.lessen.ensures.gone in
-    less_lane i.log i.conns i.commands i.answers i.owing i.waiting i.numbered lane known c.known.ensures.values not_under_way c.args.command c.in_ok-left.left c.in_ok-left.ensures
-    c.lessen.new.log c.lessen.result c.in_ok-left.ensures.1.1.0 c.lessen.ensures.kept c.lessen.ensures.gone (i.owing - c.lessen.result) (omega (arith, few))
+    c.owe_less.new.log c.owe_less.result c.in_ok-left.ensures.1.1.0 c.owe_less.ensures.kept c.owe_less.ensures.gone in
+    record {
+      lane = less_lane i.log i.conns i.commands i.answers i.owing i.waiting i.numbered lane known c.known.ensures.values not_under_way c.args.command c.in_ok-left.left c.in_ok-left.ensures
+          c.owe_less.new.log c.owe_less.result c.in_ok-left.ensures.1.1.0 c.owe_less.ensures.kept c.owe_less.ensures.gone (i.owing - c.owe_less.result) (omega (arith, few));
+      lined = c.owe_less.ensures.lined;
+    }
 
 pub returns-clause-command : goal.returns-clause-command
 returns-clause-command c =
     let i = c.self.inside in
-    found_left_in i.log i.commands c.args.command c.self.invariant.standing (Some c.in_ok-left.left) c.in_ok-left.ensures ∙ ap (λ (v : Lane). left_in c.args.command v.items) c.self.view_is
+    found_left_in i.log i.commands c.args.command c.self.invariant.lane.standing (Some c.in_ok-left.left) c.in_ok-left.ensures ∙ ap (λ (v : Lane). left_in c.args.command v.items) c.self.view_is
 
 pub returns-clause-state : goal.returns-clause-state
 returns-clause-state c =
     let i = c.self.inside in
-    let lane = c.self.invariant in
+    let lane = c.self.invariant.lane in
     let known = c.known.ensures.apart in
     less_view i.log i.conns i.commands i.answers i.owing i.waiting i.numbered lane known c.known.ensures.values not_under_way c.args.command c.in_ok-left.left c.in_ok-left.ensures
-    c.lessen.new.log c.lessen.result c.in_ok-left.ensures.1.1.0 c.lessen.ensures.kept c.lessen.ensures.gone
+    c.owe_less.new.log c.owe_less.result c.in_ok-left.ensures.1.1.0 c.owe_less.ensures.kept c.owe_less.ensures.gone
     ∙ ap (arrived c.args.command) c.self.view_is

@@ -3,6 +3,7 @@ use Rattle.iscsi_outbox_state.specs.Lane.{cleared, with_items}
 use Rattle.iscsi_lane.specs.Standings.{items_in, lane_of, slots_at}
 use Rattle.iscsi_lane.proofs.StampLemmas.{once_at}
 use Rattle.iscsi_lane.proofs.DropLemmas.{cleared_lane, cleared_view, none_to_clear, stands}
+use Rattle.iscsi_lane.proofs.LiningLemmas.{off_still}
 use Rattle.iscsi_lane.proofs.standings.Standings.clear.Goals as goal
 
 pub returns-in_default : goal.returns-in_default
@@ -15,15 +16,18 @@ pub invariant_of-self : goal.invariant_of-self
 invariant_of-self c =
     let i = c.self.inside in
     let found = c.in-Some.ensures in
-    cleared_lane i.log i.conns i.commands i.answers i.owing i.waiting i.numbered c.self.invariant c.known.ensures.apart c.known.ensures.values c.in-Some.slot c.in-Some.answer
-    (stands (slots_at i.log 2) found.front c.in-Some.slot found.back found.parts) found.is c.set.new.self c.set.ensures
+    record {
+      lane = cleared_lane i.log i.conns i.commands i.answers i.owing i.waiting i.numbered c.self.invariant.lane c.known.ensures.apart c.known.ensures.values c.in-Some.slot c.in-Some.answer
+          (stands (slots_at i.log 2) found.front c.in-Some.slot found.back found.parts) found.is c.set.new.self c.set.ensures;
+      lined = off_still c.give_up.new.self i.log c.set.new.self c.give_up.ensures.lined c.give_up.ensures.off (ap (λ u. u.room) c.set.ensures);
+    }
 
 pub returns : goal.returns
 returns c =
     let i = c.self.inside in
     let found = c.in-Some.ensures in
     ap (with_items (lane_of i.log i.conns i.commands i.answers))
-    (cleared_view i.log i.conns i.commands i.answers i.owing i.waiting i.numbered c.self.invariant c.known.ensures.apart c.known.ensures.values c.in-Some.slot c.in-Some.answer
+    (cleared_view i.log i.conns i.commands i.answers i.owing i.waiting i.numbered c.self.invariant.lane c.known.ensures.apart c.known.ensures.values c.in-Some.slot c.in-Some.answer
     (stands (slots_at i.log 2) found.front c.in-Some.slot found.back found.parts) found.is c.set.new.self c.set.ensures c.args.unit found.front found.back found.parts
     (once_at i.log c.known.ensures.apart 2 c.in-Some.slot) found.on found.none)
     ∙ ap (cleared c.args.unit) c.self.view_is

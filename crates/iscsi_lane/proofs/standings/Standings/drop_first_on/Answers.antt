@@ -6,6 +6,8 @@ use Rattle.iscsi_lane.proofs.StampLemmas.{once_at}
 use Rattle.iscsi_lane.proofs.GoingLemmas.{some_numbered, some_waiting, taken_items, taken_lane}
 use Rattle.iscsi_lane.proofs.WalkLemmas.{without_it}
 use Rattle.iscsi_lane.proofs.DropLemmas.{fewer, none_to_drop, others_same, stands}
+use Rattle.iscsi_lane.proofs.LaneLemmas.{moved_room}
+use Rattle.iscsi_lane.proofs.LiningLemmas.{off_still}
 use Rattle.iscsi_lane.proofs.standings.Standings.drop_first_on.Goals as goal
 
 pub returns-in_default-clause-none : goal.returns-in_default-clause-none
@@ -24,14 +26,14 @@ pub overflow_sub-self : goal.overflow_sub-self
 overflow_sub-self c =
     let i = c.self.inside in
     let found = c.in-Some.ensures in
-    some_waiting i.log i.commands i.answers i.owing i.waiting i.numbered c.self.invariant c.known.ensures.apart c.in-Some.slot c.in-Some.answer
+    some_waiting i.log i.commands i.answers i.owing i.waiting i.numbered c.self.invariant.lane c.known.ensures.apart c.in-Some.slot c.in-Some.answer
     (stands (slots_at i.log 2) found.front c.in-Some.slot found.back found.parts) found.is c.move_to_back.new.self c.move_to_back.ensures.state
 
 pub overflow_sub-self-2 : goal.overflow_sub-self-2
 overflow_sub-self-2 c =
     let i = c.self.inside in
     let found = c.in-Some.ensures in
-    let a = some_numbered i.log i.commands i.answers i.owing i.waiting i.numbered c.self.invariant c.known.ensures.apart c.in-Some.slot c.in-Some.answer
+    let a = some_numbered i.log i.commands i.answers i.owing i.waiting i.numbered c.self.invariant.lane c.known.ensures.apart c.in-Some.slot c.in-Some.answer
     (stands (slots_at i.log 2) found.front c.in-Some.slot found.back found.parts) found.is c.move_to_back.new.self c.move_to_back.ensures.state in
     let b = c.one_if.ensures in omega (arith, a, b)
 
@@ -40,18 +42,21 @@ invariant_of-self c =
     let i = c.self.inside in
     let found = c.in-Some.ensures in
     let there = stands (slots_at i.log 2) found.front c.in-Some.slot found.back found.parts in
-    let a = some_numbered i.log i.commands i.answers i.owing i.waiting i.numbered c.self.invariant c.known.ensures.apart c.in-Some.slot c.in-Some.answer there found.is c.move_to_back.new.self c.move_to_back.ensures.state in
-    let d = some_waiting i.log i.commands i.answers i.owing i.waiting i.numbered c.self.invariant c.known.ensures.apart c.in-Some.slot c.in-Some.answer there found.is c.move_to_back.new.self c.move_to_back.ensures.state in
+    let a = some_numbered i.log i.commands i.answers i.owing i.waiting i.numbered c.self.invariant.lane c.known.ensures.apart c.in-Some.slot c.in-Some.answer there found.is c.move_to_back.new.self c.move_to_back.ensures.state in
+    let d = some_waiting i.log i.commands i.answers i.owing i.waiting i.numbered c.self.invariant.lane c.known.ensures.apart c.in-Some.slot c.in-Some.answer there found.is c.move_to_back.new.self c.move_to_back.ensures.state in
     let b = c.one_if.ensures in
-    taken_lane i.log i.commands i.answers i.owing i.waiting i.numbered c.self.invariant c.known.ensures.apart c.in-Some.slot c.in-Some.answer there found.is c.move_to_back.new.self c.move_to_back.ensures.state
-    (i.waiting - 1) (i.numbered - c.one_if.result) (omega (arith, d)) (omega (arith, a, b))
+    record {
+      lane = taken_lane i.log i.commands i.answers i.owing i.waiting i.numbered c.self.invariant.lane c.known.ensures.apart c.in-Some.slot c.in-Some.answer there found.is c.move_to_back.new.self c.move_to_back.ensures.state
+          (i.waiting - 1) (i.numbered - c.one_if.result) (omega (arith, d)) (omega (arith, a, b));
+      lined = off_still c.give_up.new.self i.log c.move_to_back.new.self c.give_up.ensures.lined c.give_up.ensures.off (moved_room i.log c.move_to_back.new.self 1 c.in-Some.slot c.move_to_back.ensures.state);
+    }
 
 pub returns-clause-state : goal.returns-clause-state
 returns-clause-state c =
     let i = c.self.inside in
     let found = c.in-Some.ensures in
     let there = stands (slots_at i.log 2) found.front c.in-Some.slot found.back found.parts in
-    let items = taken_items i.log i.commands i.answers i.owing i.waiting i.numbered c.self.invariant c.known.ensures.apart c.in-Some.slot c.in-Some.answer there found.is c.move_to_back.new.self c.move_to_back.ensures.state
+    let items = taken_items i.log i.commands i.answers i.owing i.waiting i.numbered c.self.invariant.lane c.known.ensures.apart c.in-Some.slot c.in-Some.answer there found.is c.move_to_back.new.self c.move_to_back.ensures.state
     ∙ ap (standings i.log.values) (without_it (slots_at i.log 2) found.front c.in-Some.slot found.back (once_at i.log c.known.ensures.apart 2 c.in-Some.slot) found.parts) in
     ap (λ xs. dropped_on c.args.conn (with_items (lane_of i.log i.conns i.commands i.answers) xs)) items
     ∙ ap (with_items (lane_of i.log i.conns i.commands i.answers)) (others_same (goes_out_on c.args.conn) i.log.values c.in-Some.slot (ap (goes_out_on c.args.conn) found.is ∙ found.on) found.front found.back)
@@ -63,7 +68,7 @@ returns-clause-fewer c on =
     let i = c.self.inside in
     let found = c.in-Some.ensures in
     let there = stands (slots_at i.log 2) found.front c.in-Some.slot found.back found.parts in
-    let items = taken_items i.log i.commands i.answers i.owing i.waiting i.numbered c.self.invariant c.known.ensures.apart c.in-Some.slot c.in-Some.answer there found.is c.move_to_back.new.self c.move_to_back.ensures.state
+    let items = taken_items i.log i.commands i.answers i.owing i.waiting i.numbered c.self.invariant.lane c.known.ensures.apart c.in-Some.slot c.in-Some.answer there found.is c.move_to_back.new.self c.move_to_back.ensures.state
     ∙ ap (standings i.log.values) (without_it (slots_at i.log 2) found.front c.in-Some.slot found.back (once_at i.log c.known.ensures.apart 2 c.in-Some.slot) found.parts) in
     let a = ap length items in
     let b = fewer i.log.values c.in-Some.slot found.front found.back in

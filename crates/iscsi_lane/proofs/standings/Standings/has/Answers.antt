@@ -6,5 +6,5 @@ use Rattle.iscsi_lane.proofs.standings.Standings.has.Goals as goal
 pub returns : goal.returns
 returns c =
     let i = c.self.inside in
-    c.is_some.ensures ∙ found_is i.log i.commands c.args.command c.self.invariant.standing c.find.result c.find.ensures
+    c.is_some.ensures ∙ found_is i.log i.commands c.args.command c.self.invariant.lane.standing c.find.result c.find.ensures
     ∙ ap (any_in (is_command c.args.command)) c.self.view_is

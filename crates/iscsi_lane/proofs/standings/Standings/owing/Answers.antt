@@ -6,4 +6,4 @@ use Rattle.iscsi_lane.proofs.standings.Standings.owing.Goals as goal
 pub returns : goal.returns
 returns c =
     let i = c.self.inside in
-    counted_left i.log i.conns i.commands i.answers i.owing i.waiting i.numbered c.self.invariant ∙ ap (count_in is_left) c.self.view_is
+    counted_left i.log i.conns i.commands i.answers i.owing i.waiting i.numbered c.self.invariant.lane ∙ ap (count_in is_left) c.self.view_is

@@ -1,5 +1,6 @@
 use Rattle.std.proofs.Common.{◌≡◌, ◌+◌, ◌-◌, suc, arith}
-use Rattle.iscsi_lane.proofs.OpeningLemmas.{answer_opens, place_opens}
+use Rattle.iscsi_lane.proofs.OpeningLemmas.{answer_opens, opened, place_opens}
+use Rattle.iscsi_lane.proofs.LiningLemmas.{new_lined}
 use Rattle.iscsi_lane.proofs.standings.Standings.with_room.Goals as goal
 
 pub loop-preserved : goal.loop-preserved
@@ -22,4 +23,15 @@ loop-2-preserved c =
     record {
       opening = place_opens c.loop-2.log p.new.self c.args.commands (c.args.commands - c.loop-2.counter) (c.args.commands - (c.loop-2.counter + 1)) c.args.answers (c.args.commands + c.args.answers) p.result _ i.opening next p.ensures.slot p.ensures.state;
       within = omega (arith, more);
+    }
+
+pub invariant_of-result : goal.invariant_of-result
+invariant_of-result c =
+    let log = c.loop-2.log in
+    let opening = c.loop-2.invariant.opening in
+    let past = c.loop-2-test.false in
+    let all : c.args.commands - c.loop-2.counter ≡ 0 = omega (arith, past) in
+    record {
+      lane = opened log c.args.commands c.args.answers (c.args.commands - c.loop-2.counter) opening all;
+      lined = new_lined c.in_ok-with_room.field-0 log (c.args.commands + c.args.answers) c.in_ok-with_room.ensures opening.slots opening.none;
     }
