@@ -46,3 +46,4 @@ mod SoundParting
 mod SoundForms
 mod SoundItems
 mod SoundRuns
+mod ArrivedOne

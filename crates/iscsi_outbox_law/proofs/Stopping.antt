@@ -1,5 +1,5 @@
 -- A command that ran is stopped: what stands for the commands then.
-use Rattle.std.proofs.Common.{◌≡◌, ◌&&◌, ◌||◌, inl, inr, not, cond, Bool, true, false, List, [], ◌∷◌, map, filter, refl, ap, sym, subst, ◌∙◌}
+use Rattle.std.proofs.Common.{◌≡◌, ℕ, ◌&&◌, ◌||◌, inl, inr, not, cond, Bool, true, false, List, [], ◌∷◌, map, filter, refl, ap, sym, subst, ◌∙◌}
 use Rattle.std.proofs.lemmas.Bool.{false≢true, true≢false}
 use Rattle.iscsi_outbox_rules.specs.rules.Calls.{Opening}
 use Rattle.iscsi_outbox_rules.specs.rules.Boxes.{Phase, Dormant, Fresh, Started, Completed, Running, Gone, Task, Box}
@@ -7,7 +7,7 @@ use Rattle.iscsi_outbox_rules.specs.rules.Words.{is_left_phase, is_live_phase, i
 use Rattle.iscsi_outbox_state.specs.declared.lane.Left.{Left}
 use Rattle.iscsi_outbox_state.specs.declared.lane.Aim.{Aim}
 use Rattle.iscsi_outbox_state.specs.declared.lane.Aim.TheVariants.{Tag, Unit as OfUnit, Conn, Session, Nothing}
-use Rattle.iscsi_outbox_state.specs.Lane.{aims_at, not_running, owes}
+use Rattle.iscsi_outbox_state.specs.Lane.{aims_at, not_running, not_under_way, owes}
 use Rattle.iscsi_outbox_steps.specs.State.{State}
 use Rattle.iscsi_outbox_steps.specs.Steps.{is_live}
 use Rattle.iscsi_tracked.specs.declared.command.Command.{Command}
@@ -15,9 +15,9 @@ use Rattle.iscsi_tracked.specs.declared.command.Phase.{Phase as KeptPhase}
 use Rattle.iscsi_tracked.specs.declared.command.Phase.TheVariants.{Dormant as KeptDormant, Fresh as KeptFresh, Started as KeptStarted, Running as KeptRunning, Gone as KeptGone}
 use Rattle.iscsi_tracked.specs.Tracked.{is_out}
 use Rattle.iscsi_outbox_law.specs.Pairs.{PairsOf}
-use Rattle.iscsi_outbox_law.specs.Commands.{IsCommand, is_kept, is_under_way, link_in}
+use Rattle.iscsi_outbox_law.specs.Commands.{IsCommand, is_kept, link_in}
 use Rattle.iscsi_outbox_law.specs.Lanes.{left_of}
-use Rattle.iscsi_outbox_law.specs.Stands.{Stands}
+use Rattle.iscsi_outbox_law.specs.Stands.{StandsWith}
 use Rattle.iscsi_outbox_law.proofs.Members.{In, in_filter, pair_of}
 use Rattle.iscsi_outbox_law.proofs.Waiting.{live_as}
 use Rattle.iscsi_outbox_law.proofs.LeftOut.{out_under}
@@ -79,14 +79,14 @@ runs KeptRunning is = refl
 runs KeptGone is = absurd (false≢true is)
 
 -- a command that left owes
-pub dead_owes : (o : Opening) (s : State) (b : Box) → Stands o s b → (d : Command) → In d s.tracked.commands → is_live d ≡ false → owes (left_of d) ≡ true
-dead_owes o s b h d at dead =
-    let k : (t : Task) × In t (filter (is_kept (is_under_way o b.links)) b.tasks) × IsCommand (is_under_way o b.links) s.limits.cids b.links d t =
-    pair_of (IsCommand (is_under_way o b.links) s.limits.cids b.links) s.tracked.commands (filter (is_kept (is_under_way o b.links)) b.tasks) d at h.commands in
-    let f = in_filter (is_kept (is_under_way o b.links)) b.tasks k.0 k.1 in
+pub dead_owes : (under : ℕ → Bool) (o : Opening) (s : State) (b : Box) → StandsWith under o s b → (d : Command) → In d s.tracked.commands → is_live d ≡ false → owes (left_of d) ≡ true
+dead_owes under o s b h d at dead =
+    let k : (t : Task) × In t (filter (is_kept under) b.tasks) × IsCommand under s.limits.cids b.links d t =
+    pair_of (IsCommand under s.limits.cids b.links) s.tracked.commands (filter (is_kept under) b.tasks) d at h.commands in
+    let f = in_filter (is_kept under) b.tasks k.0 k.1 in
     ap (λ (v : Bool). v || is_out d) (running_as d k.0 k.2.phase)
-    ∙ ap (λ (v : Bool). is_running_phase k.0.phase || v) (out_under (is_under_way o b.links) d.ticket (link_in b.links d.conn) (d.last_out) k.2.out ∙ ap (is_under_way o b.links) k.2.ticket)
-    ∙ owing_phase k.0.phase (is_under_way o b.links k.0.ticket) f.1 (sym (live_as d k.0 k.2.phase) ∙ dead)
+    ∙ ap (λ (v : Bool). is_running_phase k.0.phase || v) (out_under under d.ticket (link_in b.links d.conn) (d.last_out) k.2.out ∙ ap under k.2.ticket)
+    ∙ owing_phase k.0.phase (under k.0.ticket) f.1 (sym (live_as d k.0 k.2.phase) ∙ dead)
   where
     owing_phase : (p : Phase) (u : Bool) → (is_live_phase p || (is_running_phase p || (is_left_phase p && u))) ≡ true → is_live_phase p ≡ false → (is_running_phase p || u) ≡ true
     owing_phase Dormant u kept gone = absurd (true≢false gone)
@@ -105,3 +105,13 @@ aims_same Nothing d = refl
 
 pub keeps_not_running : KeepsAims not_running
 keeps_not_running = record { command = λ d. refl; aims = aims_same }
+
+aims_same_out : (aim : Aim) (d : Left) → aims_at aim (not_under_way d) ≡ aims_at aim d
+aims_same_out (Tag tag) d = refl
+aims_same_out (OfUnit unit) d = refl
+aims_same_out (Conn conn) d = refl
+aims_same_out Session d = refl
+aims_same_out Nothing d = refl
+
+pub keeps_not_under_way : KeepsAims not_under_way
+keeps_not_under_way = record { command = λ d. refl; aims = aims_same_out }

@@ -120,8 +120,8 @@ module _ (o : Opening) (s : State) (b : Box) (h : Stands o s b) (homes : HaveHom
     commands = commands_gone;
     placed = placed_removed c.place s.tracked (any_from (is_at c.place) s.tracked.commands c here (eq-eqb c.place c.place refl)) h.placed;
     trails = trails_removed c.place s.tracked h.trails;
-    left = goes_left s.tracked s.lane.items h.left h.placed (dead_owes o s b h) c here gone not_running keeps_not_running v' idle (λ n apart. other_find c.place n s.tracked.commands apart) (none_find c.place s.tracked.commands)
+    left = goes_left s.tracked s.lane.items h.left h.placed (dead_owes (is_under_way o b.links) o s b h) c here gone not_running keeps_not_running v' idle (λ n apart. other_find c.place n s.tracked.commands apart) (none_find c.place s.tracked.commands)
         (fewer_gone c s.tracked.commands here (ap (λ (w : Bool). cond w false true) gone) h.placed.apart);
-    answers = answers_go s.tracked s.lane.items h.left h.placed (dead_owes o s b h) c here gone not_running keeps_not_running s.limits.cids v' refl b.undue h.answers;
+    answers = answers_go s.tracked s.lane.items h.left h.placed (dead_owes (is_under_way o b.links) o s b h) c here gone not_running keeps_not_running s.limits.cids v' refl b.undue h.answers;
     fence = h.fence;
   }

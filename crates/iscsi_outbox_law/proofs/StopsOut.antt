@@ -181,7 +181,7 @@ module _ (o : Opening) (s : State) (b : Box) (h : Stands o s b) (homes : HaveHom
       commands = commands_out;
       placed = placed_phase KeptGone c.place s.tracked h.placed;
       trails = trails_phase KeptGone c.place s.tracked h.trails;
-      left = stays_left s.tracked s.lane.items h.left h.placed (dead_owes o s b h) c kept dead not_running keeps_not_running v' out there (ap left_at here) (counted s.tracked.commands (λ d at. at));
-      answers = answers_stay s.tracked s.lane.items h.left h.placed (dead_owes o s b h) c kept dead not_running keeps_not_running s.limits.cids v' (to_phase KeptGone) (keeps_phase KeptGone) lives refl out b.undue h.answers;
+      left = stays_left s.tracked s.lane.items h.left h.placed (dead_owes (is_under_way o b.links) o s b h) c kept dead not_running keeps_not_running v' out there (ap left_at here) (counted s.tracked.commands (λ d at. at));
+      answers = answers_stay s.tracked s.lane.items h.left h.placed (dead_owes (is_under_way o b.links) o s b h) c kept dead not_running keeps_not_running s.limits.cids v' (to_phase KeptGone) (keeps_phase KeptGone) lives refl out b.undue h.answers;
       fence = h.fence;
     }
