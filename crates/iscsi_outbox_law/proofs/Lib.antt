@@ -47,3 +47,4 @@ mod SoundForms
 mod SoundItems
 mod SoundRuns
 mod ArrivedOne
+mod Trails
