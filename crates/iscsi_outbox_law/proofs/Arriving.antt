@@ -27,7 +27,7 @@ moves_written l = elim (nat_lt l.written (length l.handed)) as (λ v. Moves l (c
   | false ↦ stays l
 ]
 
-queue_written : (l : Link) → (one_written l).queue ≡ l.queue
+pub queue_written : (l : Link) → (one_written l).queue ≡ l.queue
 queue_written l = elim (nat_lt l.written (length l.handed)) as (λ v. (cond v (record l { written = l.written + 1 }) l).queue ≡ l.queue) [ true ↦ refl | false ↦ refl ]
 
 moves_arrived : (l : Link) (n : ℕ) → Moves l (record l { arrived = max l.arrived n })
@@ -51,7 +51,7 @@ moves_heard exp_stat_sn tag l = elim (is_open l) as (λ v. Moves l (cond v (reco
   | false ↦ stays l
 ]
 
-queue_heard : (exp_stat_sn tag : ℕ) (l : Link) → (link_heard exp_stat_sn tag l).queue ≡ l.queue
+pub queue_heard : (exp_stat_sn tag : ℕ) (l : Link) → (link_heard exp_stat_sn tag l).queue ≡ l.queue
 queue_heard exp_stat_sn tag l = elim (is_open l) as (λ v. (cond v (record l { arrived = max l.arrived (max (arrived_by_stat_sn l exp_stat_sn) (arrived_by_ping l tag)) }) l).queue ≡ l.queue) [ true ↦ refl | false ↦ refl ]
 
 module _ (o : Opening) (s : State) (b : Box) (h : Stands o s b) (distinct : are_distinct o.session.conns ≡ true) (cid p : ℕ) (at : IsPlace b.links cid p) where

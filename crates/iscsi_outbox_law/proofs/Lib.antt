@@ -48,3 +48,6 @@ mod SoundItems
 mod SoundRuns
 mod ArrivedOne
 mod Trails
+mod Silence
+mod Hearing
+mod Losing

@@ -8,7 +8,7 @@ ghost use Rattle.iscsi_outbox_law.specs.Sound.{IsSound};
 ghost use Rattle.iscsi_outbox_law.specs.Stands.{Stands};
 ghost use Rattle.iscsi_outbox_rules.specs.declared.own_pdu.OwnPdu.{OwnPdu};
 ghost use Rattle.iscsi_outbox_rules.specs.rules.Boxes.{Box};
-ghost use Rattle.iscsi_outbox_rules.specs.rules.Calls.{Clears, Joins, Nexts, Opening, Puts, Stops};
+ghost use Rattle.iscsi_outbox_rules.specs.rules.Calls.{Clears, Hears, Joins, Loses, Nexts, Opening, Puts, Stops, Writes};
 ghost use Rattle.iscsi_outbox_rules.specs.rules.Run.{after_call as after_call_by_rules, answered as answered_by_rules, opened};
 ghost use Rattle.iscsi_outbox_rules.specs.rules.Words.{max_shown as max_shown_by_rules, may_take as may_take_by_rules};
 ghost use Rattle.iscsi_outbox_steps.specs.Run.{after_call, answered, begun};
@@ -53,4 +53,20 @@ pub fn clears_law()
 pub fn stops_law()
     ensures answer { (o : Opening) (s : State) (b : Box) → Stands o s b → IsSound o b → are_distinct o.session.conns ≡ true → (ticket : ℕ) → answered s (Stops ticket) ≡ said (answered_by_rules o b (Stops ticket)) }
     ensures stands { (o : Opening) (s : State) (b : Box) → Stands o s b → IsSound o b → are_distinct o.session.conns ≡ true → (ticket : ℕ) → Fits o b → (after_call_by_rules o b (Stops ticket)).time < 2 ^ 64 - 1 → Stands o (after_call s (Stops ticket)) (after_call_by_rules o b (Stops ticket)) }
+{}
+
+/// The oldest PDU of a connection that wasn't written is: the state after it. The steps walk the trail of that connection alone, and
+/// stop at the first command of which something is under way still.
+pub fn writes_law()
+    ensures stands { (o : Opening) (s : State) (b : Box) → Stands o s b → IsSound o b → are_distinct o.session.conns ≡ true → Fits o b → (cid : ℕ) → (after_call_by_rules o b (Writes cid)).time < 2 ^ 64 - 1 → Stands o (after_call s (Writes cid)) (after_call_by_rules o b (Writes cid)) }
+{}
+
+/// A header arrived, and with it what is known to have arrived: the state after it.
+pub fn hears_law()
+    ensures stands { (o : Opening) (s : State) (b : Box) → Stands o s b → IsSound o b → are_distinct o.session.conns ≡ true → Fits o b → (cid exp_stat_sn tag : ℕ) → (after_call_by_rules o b (Hears cid exp_stat_sn tag)).time < 2 ^ 64 - 1 → Stands o (after_call s (Hears cid exp_stat_sn tag)) (after_call_by_rules o b (Hears cid exp_stat_sn tag)) }
+{}
+
+/// The transport of a connection is gone, and what waited there is dropped: the state after it.
+pub fn loses_law()
+    ensures stands { (o : Opening) (s : State) (b : Box) → Stands o s b → IsSound o b → are_distinct o.session.conns ≡ true → Fits o b → (cid : ℕ) → (after_call_by_rules o b (Loses cid)).time < 2 ^ 64 - 1 → Stands o (after_call s (Loses cid)) (after_call_by_rules o b (Loses cid)) }
 {}

@@ -3,4 +3,7 @@
 
 mod laws;
 
-pub use laws::{clears_law, joins_law, nexts_law, opened_law, puts_law, room_law, stops_law};
+pub use laws::{
+    clears_law, hears_law, joins_law, loses_law, nexts_law, opened_law, puts_law, room_law,
+    stops_law, writes_law,
+};
