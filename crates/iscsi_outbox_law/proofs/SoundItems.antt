@@ -1,7 +1,7 @@
 -- Each item that a session gives fits the box in which it is taken.
 use Rattle.std.proofs.Common.{◌≡◌, ◌<◌, ◌≤◌, ℕ, zero, suc, ◌+◌, ◌==◌, ◌&&◌, not, cond, nat_le, Bool, true, false, List, [], ◌∷◌, ◌++◌, map, filter, filter_map, length, Option, Some, None, refl, ap, sym, subst, ◌∙◌, arith, eq-eqb, ◌||◌}
 use Rattle.std.specs.List.{list_any, range_with_len}
-use Rattle.std.proofs.lemmas.Bool.{and_parts, false≢true}
+use Rattle.std.proofs.lemmas.Bool.{and_parts, false≢true, or_left, or_right}
 use Rattle.std.proofs.lemmas.List.{append-nil, map-append}
 use Rattle.iscsi_wire.specs.declared.reply.Reply.{Reply}
 use Rattle.iscsi_wire.specs.declared.reply.Reply.TheVariants.{Scsi, Task as TaskReply, Logout, Nop, Reject}
@@ -10,7 +10,7 @@ use Rattle.iscsi_wire.specs.Fields.{connection_of, opcode, function, rtt}
 use Rattle.iscsi_history.specs.declared.effect.Effect.{Effect}
 use Rattle.iscsi_history.specs.declared.effect.Effect.TheVariants.{Deliver, Immediate, Wait, Void, Empty, Enter, Enable, Leave, Send, CloseConn, CloseSession, Ignore}
 use Rattle.iscsi_history.specs.rules.Settings.{is_known}
-use Rattle.iscsi_history.specs.rules.Trace.{Arrival, Command, Mark, Trace, first_of, enters, entered, has, leaves_ticket, live, is_among, is_closed}
+use Rattle.iscsi_history.specs.rules.Trace.{Arrival, Command, Mark, Admits, Delivers, Executes, Voids, Empties, Waits, Leaves, Enters, Sends, ClosesConn, ClosesSession, Ignores, Trace, first_of, enters, entered, has, leaves_ticket, live, is_among, is_closed}
 use Rattle.iscsi_history.specs.rules.Execution.{unit_named}
 use Rattle.iscsi_history.specs.rules.Logout.{is_open}
 use Rattle.iscsi_history.specs.rules.Run.{newly_enabled, effects_of_item}
@@ -25,7 +25,7 @@ use Rattle.iscsi_outbox_rules.specs.rules.Calls.{Opening}
 use Rattle.iscsi_outbox_rules.specs.rules.Boxes.{Task, Aim, AtTag, AtUnit, AtConns, Box}
 use Rattle.iscsi_outbox_rules.specs.rules.Words.{contains}
 use Rattle.iscsi_outbox_rules.specs.rules.Items.{executing, ticket_left, tickets_left, ticket_enabled, reply_sent, task_entered, phase_taken_out, phase_completed, phase_enabled, aim_of, after_item}
-use Rattle.iscsi_outbox_rules.proofs.ClosedItems.{sent_item}
+use Rattle.iscsi_outbox_rules.proofs.ClosedItems.{send_of, sent_item}
 use Rattle.iscsi_outbox_rules.proofs.RoomLives.{tickets_of, entered_form, left_marks, live_tickets_item}
 use Rattle.iscsi_outbox_rules.proofs.RoomTasks.{live_after_item, ticket_entered, tickets_entered}
 use Rattle.iscsi_outbox_rules.proofs.TaskLives.{item_tasks, entered_tasks, left_tasks}
@@ -120,6 +120,22 @@ left_homes : (r : Option Request) (tickets : List ℕ) (ts : List Task) → map 
 left_homes (Some r) tickets ts = homes_turn (phased phase_taken_out tickets) (turn_phased phase_taken_out tickets taken_out_left) ts
 left_homes None tickets ts = homes_turn (phased phase_completed tickets) (turn_phased phase_completed tickets (λ p is. completed_left p ∙ is)) ts
 
+-- a reply goes out on its connection
+sent_at : (conn : ℕ) (reply : Reply) (ms : List Mark) → first_of (filter_map send_of ms) ≡ Some (conn, reply) → list_any (is_at conn) ms ≡ true
+sent_at conn reply [] sent = absurd cc
+sent_at conn reply (Sends k r ∷ ms) sent = or_left (k == conn) (list_any (is_at conn) ms) (eq-eqb k conn (ap (λ (y : Option (ℕ × Reply)). elim y [ Some x ↦ x.0 | None ↦ 0 ]) sent))
+sent_at conn reply (Admits a ∷ ms) sent = or_right (is_at conn (Admits a)) (list_any (is_at conn) ms) (sent_at conn reply ms sent)
+sent_at conn reply (Delivers a ∷ ms) sent = or_right (is_at conn (Delivers a)) (list_any (is_at conn) ms) (sent_at conn reply ms sent)
+sent_at conn reply (Executes a ∷ ms) sent = or_right (is_at conn (Executes a)) (list_any (is_at conn) ms) (sent_at conn reply ms sent)
+sent_at conn reply (Waits a ∷ ms) sent = or_right (is_at conn (Waits a)) (list_any (is_at conn) ms) (sent_at conn reply ms sent)
+sent_at conn reply (Enters c ∷ ms) sent = or_right (is_at conn (Enters c)) (list_any (is_at conn) ms) (sent_at conn reply ms sent)
+sent_at conn reply (Voids n ∷ ms) sent = sent_at conn reply ms sent
+sent_at conn reply (Empties a ∷ ms) sent = sent_at conn reply ms sent
+sent_at conn reply (Leaves c ∷ ms) sent = sent_at conn reply ms sent
+sent_at conn reply (ClosesConn n ∷ ms) sent = sent_at conn reply ms sent
+sent_at conn reply (ClosesSession ∷ ms) sent = sent_at conn reply ms sent
+sent_at conn reply (Ignores why ∷ ms) sent = sent_at conn reply ms sent
+
 -- ---- an item of a session
 
 module _ (o : Opening) (b : Box) (t : Trace) (now next : ℕ) (forms : HaveForms o.session next t) (item : List Mark) (f : HasForm o.session now t item) (h : Follows b t) where
@@ -187,6 +203,13 @@ module _ (o : Opening) (b : Box) (t : Trace) (now next : ℕ) (forms : HaveForms
       by_open true there = (and_parts (is_known (connection_of r) o.session.conns) (not (is_closed (connection_of r) t)) there).0
       by_open false shut = absurd (false≢true (sym (sound.on_open (connection_of r) shut) ∙ ap (list_any (is_at (connection_of r))) f.is ∙ (executes r is).there))
 
+  replies : Sound o.session t item → (conn : ℕ) (reply : Reply) → first_of (filter_map reply_sent (effects_of_item o.session t item)) ≡ Some (conn, reply) → is_known conn o.session.conns ≡ true
+  replies sound conn reply sent = by_open (is_open o.session t conn) refl
+    where
+      by_open : (v : Bool) → is_open o.session t conn ≡ v → is_known conn o.session.conns ≡ true
+      by_open true there = (and_parts (is_known conn o.session.conns) (not (is_closed conn t)) there).0
+      by_open false shut = absurd (false≢true (sym (sound.on_open conn shut) ∙ sent_at conn reply item (ap first_of (sym (sent_item o.session t item)) ∙ sent)))
+
   -- ---- closing
 
   one_close : length (filter_map conn_closed (effects_of_item o.session t item)) ≤ 1
@@ -223,7 +246,7 @@ module _ (o : Opening) (b : Box) (t : Trace) (now next : ℕ) (forms : HaveForms
     logout r conn (Reject reason header) is sent aimed = absurd cc
 
     pub item_sound : Sound o.session t item → IsItemSound o b (effects_of_item o.session t item)
-    item_sound sound = record { left = left; entered = entering; ascending = ascending; known = known sound; one_close = one_close; closing = closing; logout = logout }
+    item_sound sound = record { left = left; entered = entering; ascending = ascending; known = known sound; replies = replies sound; one_close = one_close; closing = closing; logout = logout }
 
   -- ---- a completion
 

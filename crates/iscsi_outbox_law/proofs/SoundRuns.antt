@@ -171,6 +171,7 @@ module _ (o : Opening) where
     entered = tt;
     ascending = tt;
     known = λ r is. absurd (no_fact r is);
+    replies = λ conn reply sent. absurd (no_fact (conn, reply) sent);
     one_close = omega arith;
     closing = λ conn reply sent. absurd (no_fact (conn, reply) sent);
     logout = λ r conn reply is. absurd (no_fact r is);
