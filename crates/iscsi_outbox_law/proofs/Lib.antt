@@ -51,3 +51,5 @@ mod Trails
 mod Silence
 mod Hearing
 mod Losing
+mod Turning
+mod TurningEach
