@@ -53,3 +53,7 @@ mod Hearing
 mod Losing
 mod Turning
 mod TurningEach
+mod TakesPhases
+mod TakesQueues
+mod TakesLane
+mod TakesLeaving
