@@ -57,3 +57,4 @@ mod TakesPhases
 mod TakesQueues
 mod TakesLane
 mod TakesLeaving
+mod TakesLeaves
