@@ -58,3 +58,4 @@ mod TakesQueues
 mod TakesLane
 mod TakesLeaving
 mod TakesLeaves
+mod TakesSends
