@@ -59,3 +59,5 @@ mod TakesLane
 mod TakesLeaving
 mod TakesLeaves
 mod TakesSends
+mod TakesClosed
+mod TakesAims
