@@ -61,3 +61,4 @@ mod TakesLeaves
 mod TakesSends
 mod TakesClosed
 mod TakesAims
+mod TakesSending
