@@ -62,3 +62,5 @@ mod TakesSends
 mod TakesClosed
 mod TakesAims
 mod TakesSending
+mod Closing
+mod ClosingEach
