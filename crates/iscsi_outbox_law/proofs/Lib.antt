@@ -64,3 +64,4 @@ mod TakesAims
 mod TakesSending
 mod Closing
 mod ClosingEach
+mod ClosingRoom
