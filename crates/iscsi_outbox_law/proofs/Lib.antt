@@ -62,6 +62,7 @@ mod TakesSends
 mod TakesClosed
 mod TakesAims
 mod TakesSending
+mod TurningFresh
 mod Closing
 mod ClosingEach
 mod ClosingRoom

@@ -159,14 +159,18 @@ module _ (o : Opening) (b : Box) (item : List Effect) (fit : IsItemFirm o b item
       ))
       (firm_leave o b None (tickets_left item) h)
 
-  pub firm_item : IsFirm o (after_item o b item)
-  firm_item = by_request (executing item) refl
+  -- before it settles
+  pub firm_sent : IsFirm o (send o (executing item) (tickets_left item) (closed_in b item) (newly_closed b (closed_in b item)) (first_of (filter_map reply_sent item))
+      (close (executing item) (newly_closed b (closed_in b item)) (enter_tasks (executing item) item (leave (executing item) (tickets_left item) b))))
+  firm_sent = by_request (executing item) refl
     where
-      enabling : (sent : Box) → IsFirm o sent → IsFirm o (settle o (in_phase phase_enabled (filter_map ticket_enabled item) sent))
-      enabling sent k = firm_settled o (in_phase phase_enabled (filter_map ticket_enabled item) sent) (firm_phased o sent phase_enabled (filter_map ticket_enabled item) enabled_left k)
-
       by_request : (r : Option Request) → executing item ≡ r
-          → IsFirm o (settle o (in_phase phase_enabled (filter_map ticket_enabled item)
-          (send o r (tickets_left item) (closed_in b item) (newly_closed b (closed_in b item)) (first_of (filter_map reply_sent item)) (close r (newly_closed b (closed_in b item)) (enter_tasks r item (leave r (tickets_left item) b))))))
-      by_request (Some r) is = enabling _ (executed r (closed_in b item) (newly_closed b (closed_in b item)) is)
-      by_request None is = enabling _ (completed (closed_in b item) (newly_closed b (closed_in b item)) is)
+          → IsFirm o (send o r (tickets_left item) (closed_in b item) (newly_closed b (closed_in b item)) (first_of (filter_map reply_sent item)) (close r (newly_closed b (closed_in b item)) (enter_tasks r item (leave r (tickets_left item) b))))
+      by_request (Some r) is = executed r (closed_in b item) (newly_closed b (closed_in b item)) is
+      by_request None is = completed (closed_in b item) (newly_closed b (closed_in b item)) is
+
+  pub firm_item : IsFirm o (after_item o b item)
+  firm_item =
+      let sent : Box = send o (executing item) (tickets_left item) (closed_in b item) (newly_closed b (closed_in b item)) (first_of (filter_map reply_sent item))
+      (close (executing item) (newly_closed b (closed_in b item)) (enter_tasks (executing item) item (leave (executing item) (tickets_left item) b))) in
+      firm_settled o (in_phase phase_enabled (filter_map ticket_enabled item) sent) (firm_phased o sent phase_enabled (filter_map ticket_enabled item) enabled_left firm_sent)
