@@ -63,6 +63,8 @@ mod TakesClosed
 mod TakesAims
 mod TakesSending
 mod TurningFresh
+mod TurningLast
+mod TurningCount
 mod Closing
 mod ClosingEach
 mod ClosingRoom

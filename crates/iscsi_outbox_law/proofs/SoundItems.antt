@@ -2,7 +2,7 @@
 use Rattle.std.proofs.Common.{◌≡◌, ◌<◌, ◌≤◌, ℕ, zero, suc, ◌+◌, ◌==◌, ◌&&◌, not, cond, nat_le, Bool, true, false, List, [], ◌∷◌, ◌++◌, map, filter, filter_map, length, Option, Some, None, refl, ap, sym, subst, ◌∙◌, arith, eq-eqb, ◌||◌}
 use Rattle.std.specs.List.{list_any, range_with_len}
 use Rattle.std.proofs.lemmas.Bool.{and_parts, false≢true, or_left, or_right}
-use Rattle.std.proofs.lemmas.List.{append-nil, map-append}
+use Rattle.std.proofs.lemmas.List.{append-nil, length-map, map-append}
 use Rattle.iscsi_wire.specs.declared.reply.Reply.{Reply}
 use Rattle.iscsi_wire.specs.declared.reply.Reply.TheVariants.{Scsi, Task as TaskReply, Logout, Nop, Reject}
 use Rattle.iscsi_wire.specs.declared.request.Request.{Request}
@@ -191,6 +191,16 @@ module _ (o : Opening) (b : Box) (t : Trace) (now next : ℕ) (forms : HaveForms
       by_entering None = tt
       by_entering (Some c) = (tt, tt)
 
+  next_ticket : EachOf (λ (e : ℕ × ℕ). e.0 ≡ 1 + length b.tasks) (entries_of (effects_of_item o.session t item))
+  next_ticket = subst (EachOf (λ (e : ℕ × ℕ). e.0 ≡ 1 + length b.tasks)) (sym entries_are) (by_entering (entering_in f.form) (entering_next o.session now t f.form f.formed))
+    where
+      as_many : length b.tasks ≡ length (entered t)
+      as_many = sym (length-map b.tasks home_of_task) ∙ ap length h.homes ∙ length-map (entered t) home_of_command
+
+      by_entering : (y : Option Command) → Each (EntersNext o.session t f.form) y → EachOf (λ (e : ℕ × ℕ). e.0 ≡ 1 + length b.tasks) (map (λ (c : Command). (c.ticket, c.unit)) (to_list y))
+      by_entering None e = tt
+      by_entering (Some c) e = ((let at = e.next in let same = as_many in omega (arith, at, same)), tt)
+
   -- ---- the request that executes
 
   executes : (r : Request) → executing (effects_of_item o.session t item) ≡ Some r → Executing f.form r
@@ -246,7 +256,7 @@ module _ (o : Opening) (b : Box) (t : Trace) (now next : ℕ) (forms : HaveForms
     logout r conn (Reject reason header) is sent aimed = absurd cc
 
     pub item_sound : Sound o.session t item → IsItemSound o b (effects_of_item o.session t item)
-    item_sound sound = record { left = left; entered = entering; ascending = ascending; known = known sound; replies = replies sound; one_close = one_close; closing = closing; logout = logout }
+    item_sound sound = record { left = left; entered = entering; ascending = ascending; next = next_ticket; known = known sound; replies = replies sound; one_close = one_close; closing = closing; logout = logout }
 
   -- ---- a completion
 

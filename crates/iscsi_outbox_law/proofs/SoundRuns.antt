@@ -170,6 +170,7 @@ module _ (o : Opening) where
     left = tt;
     entered = tt;
     ascending = tt;
+    next = tt;
     known = λ r is. absurd (no_fact r is);
     replies = λ conn reply sent. absurd (no_fact (conn, reply) sent);
     one_close = omega arith;

@@ -1,5 +1,5 @@
 -- What holds of each box of the rules, where what is taken is what a session gives; and what a session gives in an item.
-use Rattle.std.specs.Prelude.{◌≡◌, ◌<◌, ◌≤◌, ℕ, ◌==◌, ◌&&◌, Bool, true, false, List, [], filter_map, length, Option, Some, None, count_by}
+use Rattle.std.specs.Prelude.{◌≡◌, ◌<◌, ◌≤◌, ℕ, ◌+◌, ◌==◌, ◌&&◌, Bool, true, false, List, [], filter_map, length, Option, Some, None, count_by}
 use Rattle.std.specs.List.{list_any}
 use Rattle.iscsi_wire.specs.declared.request.Request.{Request}
 use Rattle.iscsi_wire.specs.declared.reply.Reply.{Reply}
@@ -97,6 +97,8 @@ pub record IsItemSound (o : Opening) (b : Box) (item : List Effect) : Type 0 whe
   pub left : EachOf (λ k. is_live_in b k ≡ true) (tickets_left item)
   pub entered : EachOf (λ (e : ℕ × ℕ). EachOf (λ (t : Task). t.ticket < e.0) b.tasks × (e.1 < o.session.units)) (entries_of item)
   pub ascending : InOrder (λ (d e : ℕ × ℕ). d.0 < e.0) (entries_of item)
+  -- tickets count the commands, from 1 on
+  pub next : EachOf (λ (e : ℕ × ℕ). e.0 ≡ 1 + length b.tasks) (entries_of item)
   pub known : (r : Request) → executing item ≡ Some r → is_known (connection_of r) o.session.conns ≡ true
   pub replies : (conn : ℕ) (reply : Reply) → first_of (filter_map reply_sent item) ≡ Some (conn, reply) → is_known conn o.session.conns ≡ true
   pub one_close : length (filter_map conn_closed item) ≤ 1
