@@ -68,3 +68,4 @@ mod TurningCount
 mod Closing
 mod ClosingEach
 mod ClosingRoom
+mod ClosingWhole
