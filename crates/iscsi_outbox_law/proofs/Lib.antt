@@ -69,3 +69,4 @@ mod Closing
 mod ClosingEach
 mod ClosingRoom
 mod ClosingWhole
+mod ClosingEvent
