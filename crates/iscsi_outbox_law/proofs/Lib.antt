@@ -70,3 +70,4 @@ mod ClosingEach
 mod ClosingRoom
 mod ClosingWhole
 mod ClosingEvent
+mod ClosingLaw
