@@ -1,5 +1,5 @@
 -- A Logout closes connections in both: its own, which takes still what had to wait, and others, where all that waits is dropped.
-use Rattle.std.proofs.Common.{◌≡◌, ℕ, ◌==◌, not, cond, Bool, true, false, List, [], ◌∷◌, ◌++◌, set, Option, Some, None, refl, ap, sym, subst, ◌∙◌, eq-eqb, ne_eqb}
+use Rattle.std.proofs.Common.{◌≡◌, ℕ, ◌==◌, not, cond, Bool, true, false, List, [], ◌∷◌, ◌++◌, set, Some, None, refl, ap, sym, subst, ◌∙◌, eq-eqb, ne_eqb}
 use Rattle.std.proofs.lemmas.Bool.{eqb-true}
 use Rattle.iscsi_history.specs.rules.Settings.{are_distinct}
 use Rattle.iscsi_arrivals.specs.Standing.{StandsFor}
@@ -23,7 +23,7 @@ use Rattle.iscsi_outbox_law.proofs.PairLemmas.{any-set}
 use Rattle.iscsi_outbox_law.proofs.Members.{same_tests}
 use Rattle.iscsi_outbox_law.proofs.PlaceLemmas.{AreApart, IsPlace, at_none, at_place, conns_of, one_place, place_found}
 use Rattle.iscsi_outbox_law.proofs.Standing.{counts_at, links_apart, stands_nowhere, stands_there}
-use Rattle.iscsi_outbox_law.proofs.LinkChanges.{Moves, stands_moved, stands_set, stands_under}
+use Rattle.iscsi_outbox_law.proofs.LinkChanges.{stands_moved, stands_set, stands_under}
 use Rattle.iscsi_outbox_law.proofs.CountChanges.{stands_closed, stands_cut, stands_queue}
 use Rattle.iscsi_outbox_law.proofs.Dropping.{answers_dropped, kept_answers, left_dropped}
 

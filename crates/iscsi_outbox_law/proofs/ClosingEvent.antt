@@ -1,5 +1,5 @@
 -- An event: where each of its items goes in the steps as in the rules, the whole event does.
-use Rattle.std.proofs.Common.{◌≡◌, ◌<◌, ◌≤◌, ◌-◌, ◌^◌, ◌+◌, ◌==◌, ◌&&◌, ℕ, cond, Bool, true, false, List, [], ◌∷◌, ◌++◌, length, filter_map, Option, Some, None, refl, ap, sym, ◌∙◌, arith}
+use Rattle.std.proofs.Common.{◌≡◌, ◌<◌, ◌≤◌, ◌-◌, ◌^◌, ◌==◌, ◌&&◌, ℕ, true, List, [], ◌∷◌, ◌++◌, length, filter_map, Option, Some, None, refl, ◌∙◌, arith}
 use Rattle.std.specs.List.{list_any}
 use Rattle.std.proofs.lemmas.Bool.{cond_both}
 use Rattle.iscsi_wire.specs.declared.reply.Reply.{Reply}
@@ -11,8 +11,8 @@ use Rattle.iscsi_history.specs.promises.Order.{in_parts}
 use Rattle.iscsi_history.specs.rules.Trace.{first_of}
 use Rattle.iscsi_outbox_rules.specs.rules.Calls.{Opening, Takes}
 use Rattle.iscsi_outbox_rules.specs.rules.Boxes.{Aim, Answer, Link, Box}
-use Rattle.iscsi_outbox_rules.specs.rules.Queues.{at_link, drop_on, enter, takes_more}
-use Rattle.iscsi_outbox_rules.specs.rules.Items.{after_item as box_after_item, after_items as box_after_items, aim, answer, await, close, close_all, close_one, closed_in, enter_tasks, executing, in_phase, leave, newly_closed, outgoing, phase_enabled, reply_sent, send, send_as, ticket_enabled, tickets_left}
+use Rattle.iscsi_outbox_rules.specs.rules.Queues.{at_link, drop_on, takes_more}
+use Rattle.iscsi_outbox_rules.specs.rules.Items.{after_item as box_after_item, after_items as box_after_items, aim, answer, close, close_all, close_one, closed_in, enter_tasks, executing, in_phase, leave, newly_closed, outgoing, phase_enabled, reply_sent, send, send_as, ticket_enabled, tickets_left}
 use Rattle.iscsi_outbox_steps.specs.State.{State}
 use Rattle.iscsi_outbox_steps.specs.Steps.{after_item, after_items}
 use Rattle.iscsi_outbox_law.specs.Room.{FitItems, Fits}

@@ -1,5 +1,5 @@
 -- What follows a session is answered alike by the steps and the rules, where each item goes in both.
-use Rattle.std.proofs.Common.{◌≡◌, ℕ, true, List}
+use Rattle.std.proofs.Common.{◌≡◌, true, List}
 use Rattle.iscsi_history.specs.declared.effect.Effect.{Effect}
 use Rattle.iscsi_history.specs.rules.Settings.{are_distinct}
 use Rattle.iscsi_outbox_rules.specs.promises.Deeds.{FollowsKnown}

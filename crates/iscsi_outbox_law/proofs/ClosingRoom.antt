@@ -1,7 +1,7 @@
 -- Before an item settles: its box holds together, and has the room that it has after that, as no answer is lost by it.
-use Rattle.std.proofs.Common.{◌≡◌, ◌<◌, ◌≤◌, ◌-◌, ◌^◌, ℕ, ◌+◌, ◌==◌, ◌&&◌, ◌||◌, cond, Bool, true, false, List, [], ◌∷◌, ◌++◌, length, map, count_by, sum_by, refl, ap, sym, subst, ◌∙◌, arith, ⊎_elim}
+use Rattle.std.proofs.Common.{◌≡◌, ◌<◌, ◌≤◌, ◌-◌, ◌^◌, ℕ, ◌+◌, ◌==◌, ◌&&◌, cond, Bool, true, false, List, [], ◌∷◌, ◌++◌, count_by, ap, sym, subst, arith, ⊎_elim}
 use Rattle.std.specs.List.{list_any}
-use Rattle.std.proofs.lemmas.Bool.{and_parts, cond_both, eqb-true, or_cases}
+use Rattle.std.proofs.lemmas.Bool.{and_parts, cond_both, or_cases}
 use Rattle.std.proofs.lemmas.List.{append_assoc, append-nil}
 use Rattle.std.proofs.lemmas.List.Sums.{sum_by-cons}
 use Rattle.iscsi_history.specs.rules.Settings.{are_distinct}
@@ -19,7 +19,7 @@ use Rattle.iscsi_outbox_law.specs.Room.{Fits}
 use Rattle.iscsi_outbox_law.specs.Sound.{HasHome}
 use Rattle.iscsi_outbox_law.specs.Stands.{Stands}
 use Rattle.iscsi_outbox_law.proofs.PairLemmas.{each-append, each-weaken}
-use Rattle.iscsi_outbox_law.proofs.PlaceLemmas.{AreApart, conns_of, distinct_apart}
+use Rattle.iscsi_outbox_law.proofs.PlaceLemmas.{AreApart, distinct_apart}
 use Rattle.iscsi_outbox_law.proofs.Rooms.{own_on, replies_queued}
 use Rattle.iscsi_outbox_law.proofs.Settling.{IsCalm, all_replies, settle_stands}
 use Rattle.iscsi_outbox_law.proofs.SoundFirm.{Firm, IsAnswerFirm, IsFirm, IsLinkFirm}

@@ -1,5 +1,5 @@
 -- All calls: where each goes in the steps as in the rules, they answer alike. What a call finds is what the calls before it left.
-use Rattle.std.proofs.Common.{◌≡◌, ◌<◌, ◌≤◌, ◌-◌, ◌^◌, ◌+◌, ◌*◌, ℕ, Bool, true, false, List, [], ◌∷◌, length, map, sum_by, count_by, refl, ap, sym, ◌∙◌, arith}
+use Rattle.std.proofs.Common.{◌≡◌, ◌<◌, ◌≤◌, ◌-◌, ◌^◌, ◌+◌, ℕ, true, List, [], ◌∷◌, length, map, sum_by, count_by, refl, ap, ◌∙◌, arith}
 use Rattle.std.proofs.lemmas.List.Sums.{sum_by-cons}
 use Rattle.iscsi_history.specs.declared.effect.Effect.{Effect}
 use Rattle.iscsi_history.specs.declared.effect.Numbers.{Numbers}
@@ -10,7 +10,6 @@ use Rattle.iscsi_outbox_rules.specs.rules.Words.{is_reply}
 use Rattle.iscsi_outbox_rules.specs.rules.Run.{after_call as after_call_by_rules, answered as answered_by_rules, answered_from as answered_from_by_rules, new_link, opened}
 use Rattle.iscsi_outbox_steps.specs.State.{State}
 use Rattle.iscsi_outbox_steps.specs.Run.{Gives, Joined, Put, Stopped, after_call, answered, answered_from, begun}
-use Rattle.iscsi_outbox_law.specs.Pairs.{EachOf}
 use Rattle.iscsi_outbox_law.specs.Room.{AreFew, AreShort, FitFrom, Fits, FitsCall, HasRoom, IsShort, ShortFrom}
 use Rattle.iscsi_outbox_law.specs.Said.{AnswersAlike, said}
 use Rattle.iscsi_outbox_law.specs.Sound.{IsSound, NoneIsFresh}
@@ -22,7 +21,7 @@ use Rattle.iscsi_outbox_law.proofs.Joins.{joins_answered, joins_stands}
 use Rattle.iscsi_outbox_law.proofs.NextAfter.{nexts_stands}
 use Rattle.iscsi_outbox_law.proofs.Opened.{stands_opened}
 use Rattle.iscsi_outbox_law.proofs.PutStands.{puts_answered, puts_stands}
-use Rattle.iscsi_outbox_law.proofs.SoundRuns.{SoundCall, SoundFrom, follows_sound}
+use Rattle.iscsi_outbox_law.proofs.SoundRuns.{SoundCall, SoundFrom}
 use Rattle.iscsi_outbox_law.proofs.Stops.{stops_answered, stops_stands}
 use Rattle.iscsi_outbox_law.proofs.TurningCount.{call_last}
 use Rattle.iscsi_outbox_law.proofs.TurningLast.{last_of}

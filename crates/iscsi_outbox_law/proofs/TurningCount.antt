@@ -1,5 +1,5 @@
 -- The steps' last ticket is no more than the count of the commands that ever entered: so each new one is above it.
-use Rattle.std.proofs.Common.{◌≡◌, ◌<◌, ◌≤◌, ℕ, suc, ◌+◌, cond, Bool, true, false, List, [], ◌∷◌, ◌++◌, length, map, filter_map, Option, Some, None, refl, ap, sym, subst, ◌∙◌, arith, ⊎_elim}
+use Rattle.std.proofs.Common.{◌≡◌, ◌<◌, ◌≤◌, ℕ, suc, ◌+◌, cond, List, [], ◌∷◌, length, filter_map, Option, Some, None, refl, ap, ◌∙◌, arith, ⊎_elim}
 use Rattle.std.proofs.lemmas.Bool.{cond_both}
 use Rattle.std.proofs.lemmas.List.{length-append, length-map}
 use Rattle.iscsi_wire.specs.declared.request.Request.{Request}
@@ -8,7 +8,7 @@ use Rattle.iscsi_history.specs.declared.effect.Effect.TheVariants.{Deliver, Imme
 use Rattle.iscsi_history.specs.promises.Order.{in_parts}
 use Rattle.iscsi_history.specs.rules.Trace.{first_of}
 use Rattle.iscsi_outbox_rules.specs.rules.Calls.{Opening, Call, Takes, Puts, Stops, Nexts, Writes, Hears, Joins, Loses, Clears}
-use Rattle.iscsi_outbox_rules.specs.rules.Boxes.{Phase, Task, Box}
+use Rattle.iscsi_outbox_rules.specs.rules.Boxes.{Task, Box}
 use Rattle.iscsi_outbox_rules.specs.rules.Words.{contains, is_running}
 use Rattle.iscsi_outbox_rules.specs.rules.Queues.{at_link, drop_on, enter}
 use Rattle.iscsi_outbox_rules.specs.rules.Own.{own_conn, own_outgoing, put_refusal}
@@ -22,7 +22,7 @@ use Rattle.iscsi_outbox_rules.proofs.RoomTasks.{settled_tasks}
 use Rattle.iscsi_outbox_rules.proofs.TaskLives.{entered_tasks, item_tasks, left_tasks}
 use Rattle.iscsi_outbox_steps.specs.State.{State}
 use Rattle.iscsi_outbox_steps.specs.Run.{after_call}
-use Rattle.iscsi_outbox_steps.specs.Steps.{after_item, after_items, close, closed_in, enable, enter_commands, enter_each, is_numbered, leave, newly_closed, send, settle, tell}
+use Rattle.iscsi_outbox_steps.specs.Steps.{after_item, after_items, close, closed_in, enable, enter_commands, is_numbered, leave, newly_closed, send}
 use Rattle.iscsi_outbox_law.specs.Pairs.{EachOf}
 use Rattle.iscsi_outbox_law.specs.Sound.{IsItemSound, entries_of}
 use Rattle.iscsi_outbox_law.proofs.SoundRuns.{SoundCall, SoundItems}

@@ -1,5 +1,5 @@
 -- The ticket that entered last, as the steps keep it, through each call: only commands that enter change it.
-use Rattle.std.proofs.Common.{◌≡◌, ◌≤◌, ℕ, zero, suc, ◌&&◌, ◌||◌, ◌==◌, not, nat_lt, cond, Bool, true, false, List, [], ◌∷◌, Option, Some, None, refl, ap, ◌∙◌, arith, sym}
+use Rattle.std.proofs.Common.{◌||◌, ◌≡◌, ◌≤◌, ℕ, zero, suc, ◌&&◌, ◌==◌, not, nat_lt, cond, Bool, true, false, List, [], ◌∷◌, Option, Some, None, refl, ◌∙◌, arith}
 use Rattle.std.specs.List.{list_any}
 use Rattle.iscsi_wire.specs.declared.reply.Reply.{Reply}
 use Rattle.iscsi_wire.specs.declared.request.Request.{Request}
@@ -10,7 +10,6 @@ use Rattle.iscsi_arrivals.specs.Counts.{heard_by, joined_by, takes_more_by, writ
 use Rattle.iscsi_arrivals.specs.declared.stamp.Stamp.{Stamp}
 use Rattle.iscsi_outbox_rules.specs.declared.own_pdu.OwnPdu.{OwnPdu}
 use Rattle.iscsi_outbox_rules.specs.declared.own_pdu.PutRefusal.{PutRefusal}
-use Rattle.iscsi_outbox_state.specs.declared.lane.Aim.{Aim}
 use Rattle.iscsi_outbox_state.specs.declared.lane.Undue.{Undue}
 use Rattle.iscsi_outbox_state.specs.Lane.{any_in as any_stands, arrived as arrived_in, awaited, cleared, count_in as count_stands, first_due, has_left, is_command, is_left, is_of_logout, stopped as stopped_in, without_due}
 use Rattle.iscsi_outbox_state.specs.Waits.{dropped_of}
@@ -18,9 +17,9 @@ use Rattle.iscsi_tracked.specs.declared.command.Command.{Command}
 use Rattle.iscsi_tracked.specs.declared.command.Entering.{Entering}
 use Rattle.iscsi_tracked.specs.declared.command.Phase.{Phase}
 use Rattle.iscsi_tracked.specs.declared.command.Phase.TheVariants.{Dormant, Fresh, Started, Running, Gone}
-use Rattle.iscsi_tracked.specs.Tracked.{arrived as arrived_at, entered, find_ticket, handed_out, has_place, in_phase, is_out, next_place, removed, trail_at}
+use Rattle.iscsi_tracked.specs.Tracked.{arrived as arrived_at, entered, find_ticket, handed_out, has_place, in_phase, is_out, next_place, removed}
 use Rattle.iscsi_outbox_steps.specs.State.{State, link_at, place_of, with_link}
-use Rattle.iscsi_outbox_steps.specs.Steps.{Out, Waited, Pinged, Noticed, after_out, aim_of, answer_item, arrived_command, await, chosen, cleared_of, close, close_each, close_itself, close_one, close_other, completed, enable, enter, enter_command, enter_commands, enter_each, enter_one, entering, heard, home_of, in_phase_if, is_dormant, is_fresh, is_of_unit, is_reset, is_running, is_started, joined, later, leave, leave_one, live_command, lost, lost_on, may_enter, next, next_arrived, of_command, of_fence, own_item, put, put_refusal, reply_item, send, send_on, settle, settled, shows, stopped, stopped_command, taken_out, tell, trail, trailed, without, written}
+use Rattle.iscsi_outbox_steps.specs.Steps.{Out, Waited, Pinged, Noticed, after_out, aim_of, answer_item, arrived_command, await, chosen, cleared_of, close, close_each, close_itself, close_one, close_other, completed, enable, enter, enter_command, enter_each, enter_one, entering, heard, home_of, in_phase_if, is_dormant, is_fresh, is_of_unit, is_reset, is_running, is_started, joined, later, leave, leave_one, live_command, lost, lost_on, may_enter, next, next_arrived, of_command, of_fence, own_item, put, put_refusal, reply_item, send, send_on, settle, settled, shows, stopped, stopped_command, taken_out, tell, trail, trailed, without, written}
 use Rattle.iscsi_outbox_law.specs.Pairs.{EachOf}
 use Rattle.iscsi_outbox_law.specs.Sound.{entries_of}
 
