@@ -71,3 +71,4 @@ mod ClosingRoom
 mod ClosingWhole
 mod ClosingEvent
 mod ClosingLaw
+mod TakesEntering
