@@ -72,3 +72,5 @@ mod ClosingWhole
 mod ClosingEvent
 mod ClosingLaw
 mod TakesEntering
+mod TakesEnters
+mod TakesEnabling

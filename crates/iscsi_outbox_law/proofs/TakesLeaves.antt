@@ -87,7 +87,7 @@ module _ (turn : Phase → Phase) where
   turned_none [] = refl
   turned_none (t ∷ ts) = ap (λ us. t ∷ us) (turned_none ts)
 
-  turned_twice : ((p : Phase) → turn (turn p) ≡ turn p) → (p q : ℕ → Bool) (ts : List Task) → map (turned_by turn q) (map (turned_by turn p) ts) ≡ map (turned_by turn (or_these p q)) ts
+  pub turned_twice : ((p : Phase) → turn (turn p) ≡ turn p) → (p q : ℕ → Bool) (ts : List Task) → map (turned_by turn q) (map (turned_by turn p) ts) ≡ map (turned_by turn (or_these p q)) ts
   turned_twice same p q [] = refl
   turned_twice same p q (t ∷ ts) =
       ap (λ u. u ∷ map (turned_by turn q) (map (turned_by turn p) ts)) (one_twice (p t.ticket)) ∙ ap (λ us. turned_by turn (or_these p q) t ∷ us) (turned_twice same p q ts)
