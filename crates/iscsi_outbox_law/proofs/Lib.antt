@@ -74,3 +74,4 @@ mod ClosingLaw
 mod TakesEntering
 mod TakesEnters
 mod TakesEnabling
+mod TakesClosing
