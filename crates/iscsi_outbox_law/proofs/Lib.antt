@@ -75,3 +75,5 @@ mod TakesEntering
 mod TakesEnters
 mod TakesEnabling
 mod TakesClosing
+mod TakesReady
+mod TakesRoom

@@ -32,7 +32,7 @@ closed_link l = record l { closed = true }
 abbrev pub cut_link : Link → Link
 cut_link l = record l { closed = true; cut = true }
 
-at_twice : (cid : ℕ) (links : List Link) → at_link cid emptied (at_link cid cut_link links) ≡ at_link cid (λ l. emptied (cut_link l)) links
+pub at_twice : (cid : ℕ) (links : List Link) → at_link cid emptied (at_link cid cut_link links) ≡ at_link cid (λ l. emptied (cut_link l)) links
 at_twice cid [] = refl
 at_twice cid (l ∷ links) =
     ap (λ m. m ∷ at_link cid emptied (at_link cid cut_link links)) (one (l.conn == cid) refl) ∙ ap (λ ls. cond (l.conn == cid) (emptied (cut_link l)) l ∷ ls) (at_twice cid links)
