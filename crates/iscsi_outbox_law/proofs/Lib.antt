@@ -77,3 +77,4 @@ mod TakesEnabling
 mod TakesClosing
 mod TakesReady
 mod TakesRoom
+mod TakesFacts
