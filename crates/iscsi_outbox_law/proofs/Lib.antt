@@ -78,3 +78,4 @@ mod TakesClosing
 mod TakesReady
 mod TakesRoom
 mod TakesFacts
+mod TakesKept
