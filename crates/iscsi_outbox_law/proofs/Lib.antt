@@ -79,3 +79,4 @@ mod TakesReady
 mod TakesRoom
 mod TakesFacts
 mod TakesKept
+mod TakesParts

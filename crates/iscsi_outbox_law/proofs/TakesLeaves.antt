@@ -69,7 +69,7 @@ abbrev pub left_by : Option Request → (ℕ → Bool) → Box → Box
 left_by (Some r) these b = record b { tasks = map (turned_by phase_taken_out these) b.tasks; links = map (without these) b.links }
 left_by None these b = record b { tasks = map (turned_by phase_completed these) b.tasks }
 
-leaves_by : (r : Option Request) (tickets : List ℕ) (b : Box) → leave_box r tickets b ≡ left_by r (contains tickets) b
+pub leaves_by : (r : Option Request) (tickets : List ℕ) (b : Box) → leave_box r tickets b ≡ left_by r (contains tickets) b
 leaves_by (Some r) tickets b = refl
 leaves_by None tickets b = refl
 
@@ -272,7 +272,7 @@ lives_other : (r : Option Request) (these : ℕ → Bool) (k : ℕ) (b : Box) �
 lives_other (Some r) these k b isnt = live_other phase_taken_out these k isnt b.tasks
 lives_other None these k b isnt = live_other phase_completed these k isnt b.tasks
 
-lives_none : (r : Option Request) (these : ℕ → Bool) (k : ℕ) (b : Box) → these k ≡ true → is_live_in (left_by r these b) k ≡ false
+pub lives_none : (r : Option Request) (these : ℕ → Bool) (k : ℕ) (b : Box) → these k ≡ true → is_live_in (left_by r these b) k ≡ false
 lives_none (Some r) these k b is = live_none_of phase_taken_out out_dead these k is b.tasks
 lives_none None these k b is = live_none_of phase_completed completed_dead these k is b.tasks
 

@@ -15,7 +15,7 @@ use Rattle.iscsi_outbox_law.proofs.TrackedLemmas.{any_map}
 use Rattle.iscsi_outbox_law.proofs.Rooms.{replies_queued}
 use Rattle.iscsi_outbox_law.proofs.TakesLeaves.{AreTaken}
 
-count_push : {A : Type 0} (p : A → Bool) (xs : List A) (x : A) → count_by p (xs ++ x ∷ []) ≡ count_by p xs + cond (p x) 1 0
+pub count_push : {A : Type 0} (p : A → Bool) (xs : List A) (x : A) → count_by p (xs ++ x ∷ []) ≡ count_by p xs + cond (p x) 1 0
 count_push p [] x = count-cons p x [] ∙ zero_first (cond (p x) 1 0)
   where
     zero_first : (n : ℕ) → n + 0 ≡ 0 + n
