@@ -80,3 +80,4 @@ mod TakesRoom
 mod TakesFacts
 mod TakesKept
 mod TakesParts
+mod TakesSent
