@@ -81,3 +81,4 @@ mod TakesFacts
 mod TakesKept
 mod TakesParts
 mod TakesSent
+mod TakesReply
