@@ -82,3 +82,4 @@ mod TakesKept
 mod TakesParts
 mod TakesSent
 mod TakesReply
+mod TakesItem
