@@ -83,3 +83,4 @@ mod TakesParts
 mod TakesSent
 mod TakesReply
 mod TakesItem
+mod Alike

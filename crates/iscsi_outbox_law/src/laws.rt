@@ -1,14 +1,15 @@
 //! What the steps have in common with the rules, for every list of calls: laws of the definitions, which no code is needed for.
 
-ghost use Rattle.std.specs.Prelude.{◌≡◌, ◌<◌, ◌-◌, ◌^◌, ℕ, true};
+ghost use Rattle.std.specs.Prelude.{◌≡◌, ◌<◌, ◌-◌, ◌^◌, ℕ, List, true};
 ghost use Rattle.iscsi_history.specs.rules.Settings.{are_distinct};
-ghost use Rattle.iscsi_outbox_law.specs.Room.{AreFew, Fits};
-ghost use Rattle.iscsi_outbox_law.specs.Said.{said};
+ghost use Rattle.iscsi_outbox_law.specs.Room.{AreFew, Fits, HasRoom, IsShort};
+ghost use Rattle.iscsi_outbox_law.specs.Said.{AnswersAlike, said};
 ghost use Rattle.iscsi_outbox_law.specs.Sound.{IsSound};
 ghost use Rattle.iscsi_outbox_law.specs.Stands.{Stands};
 ghost use Rattle.iscsi_outbox_rules.specs.declared.own_pdu.OwnPdu.{OwnPdu};
+ghost use Rattle.iscsi_outbox_rules.specs.promises.Deeds.{FollowsKnown};
 ghost use Rattle.iscsi_outbox_rules.specs.rules.Boxes.{Box};
-ghost use Rattle.iscsi_outbox_rules.specs.rules.Calls.{Clears, Hears, Joins, Loses, Nexts, Opening, Puts, Stops, Writes};
+ghost use Rattle.iscsi_outbox_rules.specs.rules.Calls.{Call, Clears, Hears, Joins, Loses, Nexts, Opening, Puts, Stops, Writes};
 ghost use Rattle.iscsi_outbox_rules.specs.rules.Run.{after_call as after_call_by_rules, answered as answered_by_rules, opened};
 ghost use Rattle.iscsi_outbox_rules.specs.rules.Words.{max_shown as max_shown_by_rules, may_take as may_take_by_rules};
 ghost use Rattle.iscsi_outbox_steps.specs.Run.{after_call, answered, begun};
@@ -69,4 +70,11 @@ pub fn hears_law()
 /// The transport of a connection is gone, and what waited there is dropped: the state after it.
 pub fn loses_law()
     ensures stands { (o : Opening) (s : State) (b : Box) → Stands o s b → IsSound o b → are_distinct o.session.conns ≡ true → Fits o b → (cid : ℕ) → (after_call_by_rules o b (Loses cid)).time < 2 ^ 64 - 1 → Stands o (after_call s (Loses cid)) (after_call_by_rules o b (Loses cid)) }
+{}
+
+/// The steps answer what the rules answer, for every list of calls of which what is taken is what a session gives, whose requests come on
+/// its own connections, where no CID stands twice, there is room at each call and in each item, and fewer PDUs go out than a word of 63
+/// bits counts. So what is promised of the rules holds of all that the steps hand out.
+pub fn steps_law()
+    ensures alike { (o : Opening) (calls : List Call) → FollowsKnown o calls → are_distinct o.session.conns ≡ true → HasRoom o calls → IsShort o calls → AnswersAlike o calls }
 {}
