@@ -84,3 +84,4 @@ mod TakesSent
 mod TakesReply
 mod TakesItem
 mod Alike
+pub mod Called

@@ -8,3 +8,4 @@ pub mod Stands
 pub mod Sound
 pub mod Room
 pub mod Rows
+pub mod Called

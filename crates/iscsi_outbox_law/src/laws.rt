@@ -2,6 +2,7 @@
 
 ghost use Rattle.std.specs.Prelude.{◌≡◌, ◌<◌, ◌-◌, ◌^◌, ℕ, List, true};
 ghost use Rattle.iscsi_history.specs.rules.Settings.{are_distinct};
+ghost use Rattle.iscsi_outbox_law.specs.Called.{KeepsToRules};
 ghost use Rattle.iscsi_outbox_law.specs.Room.{AreFew, Fits, HasRoom, IsShort};
 ghost use Rattle.iscsi_outbox_law.specs.Said.{AnswersAlike, said};
 ghost use Rattle.iscsi_outbox_law.specs.Sound.{IsSound};
@@ -77,4 +78,9 @@ pub fn loses_law()
 /// bits counts. So what is promised of the rules holds of all that the steps hand out.
 pub fn steps_law()
     ensures alike { (o : Opening) (calls : List Call) → FollowsKnown o calls → are_distinct o.session.conns ≡ true → HasRoom o calls → IsShort o calls → AnswersAlike o calls }
+{}
+
+/// Each call keeps to the rules, in any state that the calls before it led to.
+pub fn calls_law()
+    ensures rules { (s : State) (c : Call) → KeepsToRules s c }
 {}

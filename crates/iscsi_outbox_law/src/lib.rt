@@ -4,6 +4,6 @@
 mod laws;
 
 pub use laws::{
-    clears_law, hears_law, joins_law, loses_law, nexts_law, opened_law, puts_law, room_law,
-    steps_law, stops_law, writes_law,
+    calls_law, clears_law, hears_law, joins_law, loses_law, nexts_law, opened_law, puts_law,
+    room_law, steps_law, stops_law, writes_law,
 };
