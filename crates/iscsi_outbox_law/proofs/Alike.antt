@@ -5,7 +5,7 @@ use Rattle.iscsi_outbox_rules.specs.promises.Deeds.{FollowsKnown}
 use Rattle.iscsi_outbox_rules.specs.rules.Calls.{Opening, Call}
 use Rattle.iscsi_outbox_law.specs.Room.{HasRoom, IsShort}
 use Rattle.iscsi_outbox_law.specs.Said.{AnswersAlike}
-use Rattle.iscsi_outbox_law.proofs.ClosingLaw.{ItemsGo, steps_answer}
+use Rattle.iscsi_outbox_law.proofs.StepsGo.{ItemsGo, steps_answer}
 use Rattle.iscsi_outbox_law.proofs.TakesItem.{item_stands}
 use Rattle.iscsi_outbox_law.proofs.TurningCount.{newest_item}
 

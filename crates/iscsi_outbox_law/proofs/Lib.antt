@@ -65,12 +65,9 @@ mod TakesSending
 mod TurningFresh
 mod TurningLast
 mod TurningCount
-mod Closing
-mod ClosingEach
-mod ClosingRoom
-mod ClosingWhole
-mod ClosingEvent
-mod ClosingLaw
+mod CallsGo
+mod EventGoes
+mod StepsGo
 mod TakesEntering
 mod TakesEnters
 mod TakesEnabling

@@ -14,8 +14,8 @@ use Rattle.iscsi_outbox_law.specs.Stands.{Stands}
 use Rattle.iscsi_outbox_law.proofs.Hearing.{hears_stands, writes_stands}
 use Rattle.iscsi_outbox_law.proofs.Losing.{loses_stands}
 use Rattle.iscsi_outbox_law.proofs.SoundRuns.{follows_sound}
-use Rattle.iscsi_outbox_law.proofs.ClosingWhole.{GoSilently, answers_alike}
-use Rattle.iscsi_outbox_law.proofs.ClosingEvent.{FindsItem, event_goes}
+use Rattle.iscsi_outbox_law.proofs.CallsGo.{GoSilently, answers_alike}
+use Rattle.iscsi_outbox_law.proofs.EventGoes.{FindsItem, event_goes}
 
 abbrev pub ItemsGo : Opening → Type 0
 ItemsGo o = (s : State) (b : Box) (item : List Effect) → FindsItem o s b item → Stands o (after_item item s) (box_after_item o b item)

@@ -24,7 +24,7 @@ use Rattle.iscsi_outbox_law.proofs.TurningCount.{item_last}
 use Rattle.iscsi_outbox_law.proofs.TurningEach.{event_stands}
 use Rattle.iscsi_outbox_law.proofs.TurningFresh.{event_fresh}
 use Rattle.iscsi_outbox_law.proofs.TurningLast.{last_of}
-use Rattle.iscsi_outbox_law.proofs.ClosingWhole.{Finds, StandsAfter}
+use Rattle.iscsi_outbox_law.proofs.CallsGo.{Finds, StandsAfter}
 
 -- ---- time goes on
 
