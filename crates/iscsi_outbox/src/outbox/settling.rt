@@ -3,6 +3,8 @@
 ghost use Rattle.std.specs.Prelude.{◌≡◌, ◌<◌, ◌≤◌, length, true, IfSome};
 ghost use Rattle.iscsi_outbox_state.specs.Lane.{first_due, without_due};
 ghost use Rattle.iscsi_arrivals.specs.Counts.{heard_by};
+ghost use Rattle.iscsi_outbox_law.specs.Called.{KeepsToRules};
+ghost use Rattle.iscsi_outbox_rules.specs.rules.Calls.{Clears, Hears, Loses, Stops, Writes};
 ghost use Rattle.iscsi_outbox_steps.specs.State.{with_link};
 ghost use Rattle.iscsi_outbox_steps.specs.Steps.{answer_item, arrived_command, cleared_of, heard, is_of_unit, is_running, is_running_ticket, lost, lost_on, next_arrived, settle, stopped, stopped_command, trail, written};
 ghost use Rattle.iscsi_tracked.specs.Tracked.{has_place};
@@ -17,6 +19,7 @@ impl Outbox {
     pub fn stopped(&mut self, ticket: u64) -> bool
         ensures answer { result ≡ is_running_ticket ticket self.old }
         ensures state { self.new ≡ stopped ticket self.old }
+        ensures rules { KeepsToRules self.old (Stops ticket) }
     {
         match self.tracked.find(ticket) {
             Some(command) if is_running(&command) => {
@@ -31,7 +34,8 @@ impl Outbox {
     /// The oldest PDU that was handed out on a connection and isn't written has gone into the transport. Where there is none,
     /// nothing changes.
     pub fn written(&mut self, cid: u16)
-        ensures { self.new ≡ written cid self.old }
+        ensures state { self.new ≡ written cid self.old }
+        ensures rules { KeepsToRules self.old (Writes cid) }
     {
         if let Some(conn) = self.cids.place(cid) {
             self.links.write(conn);
@@ -43,7 +47,8 @@ impl Outbox {
     /// A header arrived on a connection, with this ExpStatSN; and, if it is that of a NOP-Out, this transfer tag, and else
     /// ffffffff. What wasn't handed out yet, or is older, changes nothing.
     pub fn heard(&mut self, cid: u16, exp_stat_sn: u32, transfer_tag: u32)
-        ensures { self.new ≡ heard cid exp_stat_sn transfer_tag self.old }
+        ensures state { self.new ≡ heard cid exp_stat_sn transfer_tag self.old }
+        ensures rules { KeepsToRules self.old (Hears cid exp_stat_sn transfer_tag) }
     {
         if let Some(conn) = self.cids.place(cid) {
             self.hear_on(conn, exp_stat_sn, transfer_tag);
@@ -62,7 +67,8 @@ impl Outbox {
 
     /// The transport of a connection is gone: what waits there is dropped, and the answers that would go out there.
     pub fn lose(&mut self, cid: u16)
-        ensures { self.new ≡ lost cid self.old }
+        ensures state { self.new ≡ lost cid self.old }
+        ensures rules { KeepsToRules self.old (Loses cid) }
     {
         self.reached = 0;
         if let Some(conn) = self.cids.place(cid) {
@@ -75,7 +81,8 @@ impl Outbox {
     /// No other session's command of a unit touches the medium any more: of the resets that wait for that, the oldest one
     /// waits no more.
     pub fn clear(&mut self, unit: u16)
-        ensures { self.new ≡ cleared_of unit self.old }
+        ensures state { self.new ≡ cleared_of unit self.old }
+        ensures rules { KeepsToRules self.old (Clears unit) }
     {
         self.lane.clear(unit);
         self.settle();

@@ -2,6 +2,8 @@
 
 ghost use Rattle.std.specs.Prelude.{◌≡◌};
 ghost use Rattle.iscsi_history.specs.promises.Order.{in_parts};
+ghost use Rattle.iscsi_outbox_law.specs.Called.{KeepsToRules};
+ghost use Rattle.iscsi_outbox_rules.specs.rules.Calls.{Takes};
 ghost use Rattle.iscsi_outbox_steps.specs.Steps.{after_item, after_items, taken};
 ghost use Rattle.iscsi_outbox.specs.Walks.{numbered_by};
 
@@ -18,7 +20,8 @@ impl Outbox {
     /// that is sent, or a command that enters, this is passed over; so it never comes to that as long as requests are taken
     /// while `may_take` alone.
     pub fn take(&mut self, effects: &[Effect], numbers: Numbers)
-        ensures { self.new ≡ taken effects.now numbers self.old }
+        ensures state { self.new ≡ taken effects.now numbers self.old }
+        ensures rules { KeepsToRules self.old (Takes effects.now numbers) }
     {
         self.take_items(effects);
         self.tell(effects);

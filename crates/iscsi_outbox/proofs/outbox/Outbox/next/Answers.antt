@@ -4,6 +4,8 @@ use Rattle.iscsi_outbox_state.specs.declared.waiting.Waiting.{Waiting}
 use Rattle.iscsi_outbox_steps.specs.State.{State, place_of}
 use Rattle.iscsi_outbox_steps.specs.Steps.{Noticed, Waited}
 use Rattle.iscsi_outbox.proofs.ChoiceLemmas.{given_at, given_none, next_at, next_none, nothing_goes, notice_goes, ping_goes, waiting_goes}
+use Rattle.iscsi_outbox_rules.specs.rules.Calls.{Nexts}
+use Rattle.iscsi_outbox_law.proofs.Called.{keeps}
 use Rattle.iscsi_outbox.proofs.outbox.Outbox.next.Goals as goal
 
 pub hand_out_waiting-requires-clause-open : goal.hand_out_waiting-requires-clause-open
@@ -77,3 +79,18 @@ pub returns-in-None-clause-state : goal.returns-in-None-clause-state
 returns-in-None-clause-state c =
     let at : place_of c.args.self.now c.args.cid ≡ Some c.in-Some.conn = ap (λ (s : State). place_of s c.args.cid) (sym c.self.view_is) ∙ sym c.place.ensures ∙ c.in-Some.is in
     sym (next_none c.args.cid c.in-Some.conn c.args.self.now at (nothing_goes c.in-Some.conn c.args.self.now (sym c.chosen.ensures ∙ c.in-None.is)))
+
+pub returns-in_default-clause-rules : goal.returns-in_default-clause-rules
+returns-in_default-clause-rules c = keeps _ (Nexts c.args.cid)
+
+pub returns-in-Some-Waiting-clause-rules : goal.returns-in-Some-Waiting-clause-rules
+returns-in-Some-Waiting-clause-rules c = keeps _ (Nexts c.args.cid)
+
+pub returns-in-Some-Ping-clause-rules : goal.returns-in-Some-Ping-clause-rules
+returns-in-Some-Ping-clause-rules c = keeps _ (Nexts c.args.cid)
+
+pub returns-in-Some-Notice-clause-rules : goal.returns-in-Some-Notice-clause-rules
+returns-in-Some-Notice-clause-rules c = keeps _ (Nexts c.args.cid)
+
+pub returns-in-None-clause-rules : goal.returns-in-None-clause-rules
+returns-in-None-clause-rules c = keeps _ (Nexts c.args.cid)

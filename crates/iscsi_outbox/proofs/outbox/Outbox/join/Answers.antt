@@ -1,0 +1,9 @@
+use Rattle.iscsi_outbox_rules.specs.rules.Calls.{Joins}
+use Rattle.iscsi_outbox_law.proofs.Called.{keeps}
+use Rattle.iscsi_outbox.proofs.outbox.Outbox.join.Goals as goal
+
+pub returns-in-Some-clause-rules : goal.returns-in-Some-clause-rules
+returns-in-Some-clause-rules c = keeps _ (Joins c.args.cid c.args.stat_sn)
+
+pub returns-in-None-clause-rules : goal.returns-in-None-clause-rules
+returns-in-None-clause-rules c = keeps _ (Joins c.args.cid c.args.stat_sn)

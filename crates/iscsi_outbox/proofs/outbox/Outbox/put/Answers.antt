@@ -1,0 +1,15 @@
+use Rattle.iscsi_outbox_rules.specs.rules.Calls.{Puts}
+use Rattle.iscsi_outbox_law.proofs.Called.{keeps}
+use Rattle.iscsi_outbox.proofs.outbox.Outbox.put.Goals as goal
+
+pub returns-then-not-is_fit-clause-rules : goal.returns-then-not-is_fit-clause-rules
+returns-then-not-is_fit-clause-rules c = keeps _ (Puts c.args.pdu.now)
+
+pub returns-in_default-clause-rules : goal.returns-in_default-clause-rules
+returns-in_default-clause-rules c = keeps _ (Puts c.args.pdu.now)
+
+pub returns-in-Some-refusal_on-clause-rules : goal.returns-in-Some-refusal_on-clause-rules
+returns-in-Some-refusal_on-clause-rules c = keeps _ (Puts c.args.pdu.now)
+
+pub returns-clause-rules : goal.returns-clause-rules
+returns-clause-rules c = keeps _ (Puts c.args.pdu.now)
