@@ -113,3 +113,8 @@ mod RoomTaken
 mod RoomCalls
 mod RoomKept
 mod RoomKeeps
+mod ShownReplies
+mod ShownTasks
+mod ShownAnswers
+mod ShownTurns
+mod ShownTheorem

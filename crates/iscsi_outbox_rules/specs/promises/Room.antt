@@ -87,10 +87,14 @@ RepliesFit o steps = are_distinct o.session.conns ≡ true → all_are (is_read_
 abbrev pub TasksFit : Opening → List Step → Type 0
 TasksFit o steps = all_are (is_read_with_room o) o (begun o) steps ≡ true → tasks_kept o (after_steps o (begun o) steps).box ≤ places o
 
+-- whatever was shown has room: an initiator that keeps to it isn't held back by the replies to its numbered requests. No CID stands twice
+-- here either
+abbrev pub ShownFits : Opening → List Step → Type 0
+ShownFits o steps = are_distinct o.session.conns ≡ true → all_are (is_within_shown o) o (begun o) steps ≡ true →
+    let s = after_steps o (begun o) steps in
+    (numbered_waiting s.box + count_by (λ (c : Command). not (is_immediate c.arrival.request)) (live s.trace) + (s.box.shown + 1 - exp_of o.session s.trace) ≤ numbered_room o)
+
 pub record RoomHolds (o : Opening) (steps : List Step) : Type 0 where
   pub replies : RepliesFit o steps
   pub tasks : TasksFit o steps
-  -- whatever was shown has room: an initiator that keeps to it isn't held back by its numbered requests. No CID stands twice here either
-  pub shown : are_distinct o.session.conns ≡ true → all_are (is_within_shown o) o (begun o) steps ≡ true →
-      let s = after_steps o (begun o) steps in
-      (numbered_waiting s.box + count_by (λ (c : Command). not (is_immediate c.arrival.request)) (live s.trace) + (s.box.shown + 1 - exp_of o.session s.trace) ≤ numbered_room o)
+  pub shown : ShownFits o steps
