@@ -91,7 +91,7 @@ mod PlaceTimes
 mod PlaceHere
 mod PlaceCalls
 mod PlaceTheorem
-mod PromisesTheorem
+pub mod PromisesTheorem
 mod WordTheorem
 mod PlaceRoom
 mod RoomFair
@@ -118,3 +118,5 @@ mod ShownTasks
 mod ShownAnswers
 mod ShownTurns
 mod ShownTheorem
+pub mod RoomItems
+pub mod RoomFollows

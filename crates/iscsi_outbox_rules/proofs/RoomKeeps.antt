@@ -55,7 +55,7 @@ taken_push [] (Loses conn) = refl
 taken_push [] (Clears unit) = refl
 taken_push (x ∷ cs) c = ap (λ es. entry_taken x ++ es) (taken_push cs c) ∙ sym (append_assoc (entry_taken x) (flat_map entry_taken cs) (entry_taken c))
 
-none_taken : (c : Call) → is_other c ≡ true → entry_taken c ≡ []
+pub none_taken : (c : Call) → is_other c ≡ true → entry_taken c ≡ []
 none_taken (Takes effects numbers) is = absurd (false≢true is)
 none_taken (Puts p) is = refl
 none_taken (Stops ticket) is = refl
@@ -95,21 +95,28 @@ module _ (o : Opening) where
   live_call b (Clears unit) is = ap live_tickets (settled_tasks o (record b { undue = cleared unit b.undue }))
 
   -- a session and its outbox, and what stands of them
-  record Keeps (s : Both) : Type 0 where
-    calls : List Call
-    events : List Event
-    box_is : s.box ≡ after_calls o (opened o) calls
-    follows : flat_map entry_taken calls ≡ run_of o.session events
-    trace_is : s.trace ≡ trace_of o.session events
-    event_is : s.event ≡ length events
-    within : Within o.session s.trace
-    forms : HaveForms o.session s.event s.trace
-    known : KnownIn o.session s.trace
-    same : SameLive o s.box s.trace
-    few : tasks_kept o s.box + pending s.trace ≤ places o
+  pub record Keeps (s : Both) : Type 0 where
+    pub calls : List Call
+    pub events : List Event
+    pub box_is : s.box ≡ after_calls o (opened o) calls
+    pub follows : flat_map entry_taken calls ≡ run_of o.session events
+    pub trace_is : s.trace ≡ trace_of o.session events
+    pub event_is : s.event ≡ length events
+    pub within : Within o.session s.trace
+    pub forms : HaveForms o.session s.event s.trace
+    pub known : KnownIn o.session s.trace
+    pub same : SameLive o s.box s.trace
+    pub few : tasks_kept o s.box + pending s.trace ≤ places o
 
-  taken : (s : Both) (e : Event) (k : ℕ) → belongs o.session e ≡ true → Entering o.session k s.trace (items_of o.session s.event s.trace e) → tasks_kept o s.box + pending s.trace + k ≤ places o → Keeps s → Keeps (after_step o s (Happens e))
-  taken s e k mine g fits h =
+  -- an event comes with so many more at the most
+  pub record Comes (s : Both) (e : Event) : Type 0 where
+    pub more : ℕ
+    pub mine : belongs o.session e ≡ true
+    pub entering : Entering o.session more s.trace (items_of o.session s.event s.trace e)
+    pub fits : tasks_kept o s.box + pending s.trace + more ≤ places o
+
+  taken : (s : Both) (e : Event) → Comes s e → Keeps s → Keeps (after_step o s (Happens e))
+  taken s e x h =
       let entry : Entry = entry_of o.session s.event s.trace e in
       let c : Call = Takes entry.effects entry.numbers in
       record {
@@ -122,32 +129,44 @@ module _ (o : Opening) where
         event_is = (let z : s.event + 1 ≡ length (h.events ++ e ∷ []) = omega (arith, h.event_is, length-append h.events (e ∷ [])) in z);
         within = event_limits o.session s.event s.trace e h.within;
         forms = event_going o.session s.event s.trace e h.forms;
-        known = event_known o.session s.event s.trace e mine h.known;
+        known = event_known o.session s.event s.trace e x.mine h.known;
         same = lives_event o s.event s.trace e s.box h.forms h.same;
-        few = omega (arith, event_kept o k s.event s.trace e s.box g, fits);
+        few = omega (arith, event_kept o x.more s.event s.trace e s.box x.entering, x.fits);
       }
 
-  arrives : (s : Both) (conn : ℕ) (header : List ℕ) → is_read_with_room o s (Happens (Arrive conn header)) ≡ true → Keeps s → Keeps (after_step o s (Happens (Arrive conn header)))
+  arrives : (s : Both) (conn : ℕ) (header : List ℕ) → is_read_with_room o s (Happens (Arrive conn header)) ≡ true → Keeps s → Comes s (Arrive conn header)
   arrives s conn header read h =
       let parts = and_parts (is_known conn o.session.conns) (may_take o s.box || is_parting s (request_of conn header)) read in
       by_room (may_take o s.box) refl parts.0 parts.1
     where
-      by_room : (v : Bool) → may_take o s.box ≡ v → is_known conn o.session.conns ≡ true → (v || is_parting s (request_of conn header)) ≡ true → Keeps (after_step o s (Happens (Arrive conn header)))
+      by_room : (v : Bool) → may_take o s.box ≡ v → is_known conn o.session.conns ≡ true → (v || is_parting s (request_of conn header)) ≡ true → Comes s (Arrive conn header)
       by_room true is mine any =
           let fits = and_parts (nat_lt (replies_waiting s.box) (room o)) (nat_lt (owing o s.box) (room o)) is in
           let below : nat_lt (owing o s.box) (room o) ≡ true = fits.1 in
           let less : owing o s.box < room o = grind (arith, nat_tests) in
-          taken s (Arrive conn header) 1 mine (event_enters o.session s.event s.trace (Arrive conn header))
-          (omega (arith, less, few_at_once o.session s.trace s.event h.forms h.within h.known, same_count o s.box s.trace h.same, all_counted (live s.trace))) h
+          record {
+            more = 1;
+            mine = mine;
+            entering = event_enters o.session s.event s.trace (Arrive conn header);
+            fits = omega (arith, less, few_at_once o.session s.trace s.event h.forms h.within h.known, same_count o s.box s.trace h.same, all_counted (live s.trace));
+          }
       by_room false is mine parted =
           let r = request_of conn header in
           let first = and_parts (is_immediate r && opcode r == 0x06) (list_any (λ (l : Link). l.conn == connection_of r && l.lost) s.box.links) parted in
           let second = and_parts (is_immediate r) (opcode r == 0x06) first.0 in
-          taken s (Arrive conn header) 0 mine (parting_enters o.session s.trace (arrival_of o.session s.event s.trace r) second.0 (eqb-true (opcode r) 6 second.1)) (omega (arith, h.few)) h
+          record {
+            more = 0;
+            mine = mine;
+            entering = parting_enters o.session s.trace (arrival_of o.session s.event s.trace r) second.0 (eqb-true (opcode r) 6 second.1);
+            fits = omega (arith, h.few);
+          }
 
-  step_keeps : (s : Both) (step : Step) → is_read_with_room o s step ≡ true → Keeps s → Keeps (after_step o s step)
-  step_keeps s (Happens (Arrive conn header)) read h = arrives s conn header read h
-  step_keeps s (Happens (Done ticket status)) read h = taken s (Done ticket status) 0 refl (done_enters o.session s.event s.trace ticket status) (omega (arith, h.few)) h
+  pub comes : (s : Both) (e : Event) → is_read_with_room o s (Happens e) ≡ true → Keeps s → Comes s e
+  comes s (Arrive conn header) read h = arrives s conn header read h
+  comes s (Done ticket status) read h = record { more = 0; mine = refl; entering = done_enters o.session s.event s.trace ticket status; fits = omega (arith, h.few) }
+
+  pub step_keeps : (s : Both) (step : Step) → is_read_with_room o s step ≡ true → Keeps s → Keeps (after_step o s step)
+  step_keeps s (Happens e) read h = taken s e (comes s e read h) h
   step_keeps s (Other c) read h =
       let kept : tasks_kept o (after_call o s.box c) ≤ tasks_kept o s.box = subst (λ x. tasks_kept o (after_call o x c) ≤ tasks_kept o x) (sym h.box_is) (call_kept o h.calls (h.events, h.follows) c read) in
       record {
@@ -170,7 +189,7 @@ module _ (o : Opening) where
       let parts = and_parts (is_read_with_room o s step) (all_are (is_read_with_room o) o (after_step o s step) steps) all in
       steps_keep (after_step o s step) steps parts.1 (step_keeps s step parts.0 h)
 
-  begun_keeps : Keeps (begun o)
+  pub begun_keeps : Keeps (begun o)
   begun_keeps = record {
     calls = [];
     events = [];

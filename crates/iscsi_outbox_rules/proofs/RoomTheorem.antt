@@ -122,37 +122,51 @@ call_keeps o b c other alone = by_call c other (box_keeps o (λ ds b. Unit {0}) 
 
 module _ (o : Opening) where
   -- a session and its outbox, and what stands of them
-  record Stands (s : Both) : Type 0 where
-    within : Within o.session s.trace
-    forms : HaveForms o.session s.event s.trace
-    known : KnownIn o.session s.trace
-    alone : AreOne s.box.links
-    few : replies_waiting s.box + at_once s.trace ≤ places o
+  pub record Stands (s : Both) : Type 0 where
+    pub within : Within o.session s.trace
+    pub forms : HaveForms o.session s.event s.trace
+    pub known : KnownIn o.session s.trace
+    pub alone : AreOne s.box.links
+    pub few : replies_waiting s.box + at_once s.trace ≤ places o
+
+  -- an event comes with so many more at the most, and replies to these connections don't wait
+  pub record Comes (s : Both) (e : Event) : Type 0 where
+    pub more : ℕ
+    pub quiet : ℕ → Bool
+    pub mine : belongs o.session e ≡ true
+    pub quiet_are : EachOf (Quiet o (replies_waiting s.box) quiet) s.box.links
+    pub going : Going o.session quiet more s.trace (items_of o.session s.event s.trace e)
+    pub fits : replies_waiting s.box + at_once s.trace + more ≤ places o
+
+  -- what its parts send is what its items send
+  pub sent_by_parts : (s : Both) (e : Event) (c : Comes s e) → sends o (replies_waiting s.box) c.quiet (in_parts (entry_of o.session s.event s.trace e).effects) ≡ sending o.session c.quiet (effects_each o.session s.trace (items_of o.session s.event s.trace e))
+  sent_by_parts s e c = by_lead parts.lead (in_parts (entry_of o.session s.event s.trace e).effects) parts.are
+    where
+      parts : Parts o.session s.trace (items_of o.session s.event s.trace e)
+      parts = event_parts o.session (Formed o.session c.quiet) (λ t item x. x) s.event s.trace e c.going.each
+
+      by_lead : (v : Bool) (ps : List (List Effect)) → ps ≡ cond v ([] ∷ effects_each o.session s.trace (items_of o.session s.event s.trace e)) (effects_each o.session s.trace (items_of o.session s.event s.trace e))
+          → sends o (replies_waiting s.box) c.quiet ps ≡ sending o.session c.quiet (effects_each o.session s.trace (items_of o.session s.event s.trace e))
+      by_lead true ps is = ap (sends o (replies_waiting s.box) c.quiet) is ∙ first (effects_each o.session s.trace (items_of o.session s.event s.trace e))
+        where
+          first : (rest : List (List Effect)) → sends o (replies_waiting s.box) c.quiet ([] ∷ rest) ≡ sending o.session c.quiet rest
+          first rest = omega (arith, count-cons (λ (es : List Effect). elim (first_of (filter_map reply_sent es)) [ Some sent ↦ not (c.quiet sent.0) | None ↦ false ]) [] rest)
+      by_lead false ps is = ap (sends o (replies_waiting s.box) c.quiet) is
 
   -- what is taken of an event leaves no more than so many more
-  taken : (s : Both) (e : Event) (k : ℕ) (quiet : ℕ → Bool) → belongs o.session e ≡ true → EachOf (Quiet o (replies_waiting s.box) quiet) s.box.links → Going o.session quiet k s.trace (items_of o.session s.event s.trace e)
-      → replies_waiting s.box + at_once s.trace + k ≤ places o → Stands s → Stands (after_step o s (Happens e))
-  taken s e k quiet mine q g room h =
+  taken : (s : Both) (e : Event) → Comes s e → Stands s → Stands (after_step o s (Happens e))
+  taken s e c h =
       let w : ℕ = replies_waiting s.box in
       let entry : Entry = entry_of o.session s.event s.trace e in
-      let f : Few o w quiet (in_parts entry.effects) (after_call o s.box (Takes entry.effects entry.numbers))
-      = event_keeps o (Few o w quiet) (few_walk o w quiet) (λ items b exp max h. record { alone = h.alone; quiet_are = h.quiet_are; few = h.few }) [] s.box entry.effects entry.numbers (record { alone = h.alone; quiet_are = q; few = omega arith }) in
-      let parts : Parts o.session s.trace (items_of o.session s.event s.trace e) = event_parts o.session (Formed o.session quiet) (λ t item x. x) s.event s.trace e g.each in
+      let f : Few o w c.quiet (in_parts entry.effects) (after_call o s.box (Takes entry.effects entry.numbers))
+      = event_keeps o (Few o w c.quiet) (few_walk o w c.quiet) (λ items b exp max h. record { alone = h.alone; quiet_are = h.quiet_are; few = h.few }) [] s.box entry.effects entry.numbers (record { alone = h.alone; quiet_are = c.quiet_are; few = omega arith }) in
       record {
         within = event_limits o.session s.event s.trace e h.within;
         forms = event_going o.session s.event s.trace e h.forms;
-        known = event_known o.session s.event s.trace e mine h.known;
+        known = event_known o.session s.event s.trace e c.mine h.known;
         alone = f.alone;
-        few = omega (arith, f.few, g.less, room, by_lead parts.lead (in_parts entry.effects) parts.are);
+        few = omega (arith, f.few, c.going.less, c.fits, sent_by_parts s e c);
       }
-    where
-      by_lead : (v : Bool) (ps : List (List Effect)) → ps ≡ cond v ([] ∷ effects_each o.session s.trace (items_of o.session s.event s.trace e)) (effects_each o.session s.trace (items_of o.session s.event s.trace e))
-          → sends o (replies_waiting s.box) quiet ps ≡ sending o.session quiet (effects_each o.session s.trace (items_of o.session s.event s.trace e))
-      by_lead true ps is = ap (sends o (replies_waiting s.box) quiet) is ∙ first (effects_each o.session s.trace (items_of o.session s.event s.trace e))
-        where
-          first : (rest : List (List Effect)) → sends o (replies_waiting s.box) quiet ([] ∷ rest) ≡ sending o.session quiet rest
-          first rest = omega (arith, count-cons (λ (es : List Effect). elim (first_of (filter_map reply_sent es)) [ Some sent ↦ not (quiet sent.0) | None ↦ false ]) [] rest)
-      by_lead false ps is = ap (sends o (replies_waiting s.box) quiet) is
 
   -- where all connections with a CID are lost
   lost_quiet : (k : ℕ) (conn : ℕ) (links : List Link) → count_by (λ (l : Link). l.conn == conn) links ≤ 1 → list_any (λ (l : Link). l.conn == conn && l.lost) links ≡ true → EachOf (Quiet o k (λ c. c == conn)) links
@@ -184,28 +198,50 @@ module _ (o : Opening) where
       by_lost true none here = refl
       by_lost false none here = absurd (false≢true (sym none ∙ here))
 
-  arrives : (s : Both) (conn : ℕ) (header : List ℕ) → is_read_with_room o s (Happens (Arrive conn header)) ≡ true → Stands s → Stands (after_step o s (Happens (Arrive conn header)))
+  arrives : (s : Both) (conn : ℕ) (header : List ℕ) → is_read_with_room o s (Happens (Arrive conn header)) ≡ true → Stands s → Comes s (Arrive conn header)
   arrives s conn header read h =
       let parts = and_parts (is_known conn o.session.conns) (may_take o s.box || is_parting s (request_of conn header)) read in
       by_room (may_take o s.box) refl parts.0 parts.1
     where
-      by_room : (v : Bool) → may_take o s.box ≡ v → is_known conn o.session.conns ≡ true → (v || is_parting s (request_of conn header)) ≡ true → Stands (after_step o s (Happens (Arrive conn header)))
+      by_room : (v : Bool) → may_take o s.box ≡ v → is_known conn o.session.conns ≡ true → (v || is_parting s (request_of conn header)) ≡ true → Comes s (Arrive conn header)
       by_room true is mine any =
           let fits = and_parts (nat_lt (replies_waiting s.box) (room o)) (nat_lt (owing o s.box) (room o)) is in
           let below : nat_lt (replies_waiting s.box) (room o) ≡ true = fits.0 in
           let less : replies_waiting s.box < room o = grind (arith, nat_tests) in
-          taken s (Arrive conn header) 1 never mine (all_quiet o (replies_waiting s.box) s.box.links) (event_sends o.session never s.event s.trace (Arrive conn header)) (omega (arith, less, few_at_once o.session s.trace s.event h.forms h.within h.known)) h
+          record {
+            more = 1;
+            quiet = never;
+            mine = mine;
+            quiet_are = all_quiet o (replies_waiting s.box) s.box.links;
+            going = event_sends o.session never s.event s.trace (Arrive conn header);
+            fits = omega (arith, less, few_at_once o.session s.trace s.event h.forms h.within h.known);
+          }
       by_room false is mine parted =
           let r = request_of conn header in
           let first = and_parts (is_immediate r && opcode r == 0x06) (list_any (λ (l : Link). l.conn == connection_of r && l.lost) s.box.links) parted in
           let second = and_parts (is_immediate r) (opcode r == 0x06) first.0 in
-          taken s (Arrive conn header) 0 (λ c. c == conn) mine (lost_quiet (replies_waiting s.box) conn s.box.links (h.alone conn) first.1)
-          (parting_going o.session (λ c. c == conn) s.trace (arrival_of o.session s.event s.trace r) second.0 (eqb-true (opcode r) 6 second.1) (eq-eqb conn conn refl)) (omega (arith, h.few)) h
+          record {
+            more = 0;
+            quiet = λ c. c == conn;
+            mine = mine;
+            quiet_are = lost_quiet (replies_waiting s.box) conn s.box.links (h.alone conn) first.1;
+            going = parting_going o.session (λ c. c == conn) s.trace (arrival_of o.session s.event s.trace r) second.0 (eqb-true (opcode r) 6 second.1) (eq-eqb conn conn refl);
+            fits = omega (arith, h.few);
+          }
 
-  step_stands : (s : Both) (step : Step) → is_read_with_room o s step ≡ true → Stands s → Stands (after_step o s step)
-  step_stands s (Happens (Arrive conn header)) read h = arrives s conn header read h
-  step_stands s (Happens (Done ticket status)) read h =
-      taken s (Done ticket status) 0 never refl (all_quiet o (replies_waiting s.box) s.box.links) (done_going o.session never s.event s.trace ticket status) (omega (arith, h.few)) h
+  pub comes : (s : Both) (e : Event) → is_read_with_room o s (Happens e) ≡ true → Stands s → Comes s e
+  comes s (Arrive conn header) read h = arrives s conn header read h
+  comes s (Done ticket status) read h = record {
+    more = 0;
+    quiet = never;
+    mine = refl;
+    quiet_are = all_quiet o (replies_waiting s.box) s.box.links;
+    going = done_going o.session never s.event s.trace ticket status;
+    fits = omega (arith, h.few);
+  }
+
+  pub step_stands : (s : Both) (step : Step) → is_read_with_room o s step ≡ true → Stands s → Stands (after_step o s step)
+  step_stands s (Happens e) read h = taken s e (comes s e read h) h
   step_stands s (Other c) read h =
       let n : NoMore s.box (after_call o s.box c) = call_keeps o s.box c read h.alone in
       record { within = h.within; forms = h.forms; known = h.known; alone = n.alone; few = omega (arith, n.few, h.few) }
@@ -224,7 +260,7 @@ module _ (o : Opening) where
       let parts = or_none (c.0 == x) (is_known x cs) h in
       omega (arith, count-cons (λ (l : Link). l.conn == x) (new_link c.0) (map (λ (d : ℕ × ℕ). new_link d.0) cs), ap one parts.0, none_known x cs parts.1)
 
-  all_alone : (cs : List (ℕ × ℕ)) → are_distinct cs ≡ true → AreOne (map (λ (c : ℕ × ℕ). new_link c.0) cs)
+  pub all_alone : (cs : List (ℕ × ℕ)) → are_distinct cs ≡ true → AreOne (map (λ (c : ℕ × ℕ). new_link c.0) cs)
   all_alone [] h x = omega arith
   all_alone (c ∷ cs) h x =
       let parts = and_parts (not (is_known c.0 cs)) (are_distinct cs) h in
@@ -239,7 +275,7 @@ module _ (o : Opening) where
   none_waits [] = omega arith
   none_waits (c ∷ cs) = omega (arith, sum_by-cons replies_in (new_link c.0) (map (λ (d : ℕ × ℕ). new_link d.0) cs), none_waits cs)
 
-  begun_stands : are_distinct o.session.conns ≡ true → Stands (begun o)
+  pub begun_stands : are_distinct o.session.conns ≡ true → Stands (begun o)
   begun_stands distinct = record {
     within = none_limits o.session;
     forms = tt;

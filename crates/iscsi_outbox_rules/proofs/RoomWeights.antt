@@ -70,7 +70,7 @@ module _ (o : Opening) (under : ℕ → Bool) where
   entered_count (Some r) es = entered_alike r es
   entered_count None es = refl
 
-  item_entered : (now : ℕ) (t : Trace) (item : List Mark) → HasForm o.session now t item → tasks_entered under (executing (effects_of_item o.session t item)) (effects_of_item o.session t item) ≡ enters_in item
+  pub item_entered : (now : ℕ) (t : Trace) (item : List Mark) → HasForm o.session now t item → tasks_entered under (executing (effects_of_item o.session t item)) (effects_of_item o.session t item) ≡ enters_in item
   item_entered now t item f =
       let es : List Effect = effects_of_item o.session t item in
       entered_count (executing es) es

@@ -14,13 +14,13 @@ use Rattle.iscsi_history.specs.declared.entry.Entry.{Entry}
 use Rattle.iscsi_history.specs.declared.event.Event.{Event}
 use Rattle.iscsi_history.specs.declared.event.Event.TheVariants.{Arrive, Done}
 use Rattle.iscsi_history.specs.declared.kind.Kind.TheVariants.{PassedOver, Unknown, Executes as ExecutesKind}
-use Rattle.iscsi_history.specs.rules.Settings.{is_known, are_distinct}
+use Rattle.iscsi_history.specs.rules.Settings.{are_distinct}
 use Rattle.iscsi_history.specs.rules.Trace.{Command, Mark, Leaves, Trace, after_items, entered, live, was_free, has, leaves_ticket}
 use Rattle.iscsi_history.specs.rules.Execution.{exp_of, max_of, unfinished, completion, reply_on, sense_of_status}
 use Rattle.iscsi_history.specs.rules.Agenda.{kind_of, arrival_of, command_of, items_of}
 use Rattle.iscsi_history.specs.rules.Run.{newly_enabled, effects_of_item, entry_of, after_event}
 use Rattle.iscsi_history.specs.promises.Order.{in_parts}
-use Rattle.iscsi_history.proofs.BoolLemmas.{and_parts, or_none, not_true}
+use Rattle.iscsi_history.proofs.BoolLemmas.{and_parts}
 use Rattle.iscsi_history.proofs.CountLemmas.{one, count-cons}
 use Rattle.iscsi_history.proofs.ElementLemmas.{In, in-filter, first-in}
 use Rattle.iscsi_history.proofs.Missing.{expected_low}
@@ -29,7 +29,7 @@ use Rattle.iscsi_history.proofs.FlowItems.{same_exp}
 use Rattle.iscsi_history.proofs.Forms.{Completed, HaveForms}
 use Rattle.iscsi_history.proofs.FormRuns.{event_going}
 use Rattle.iscsi_outbox_rules.specs.rules.Calls.{Opening, Call, Takes, Puts, Stops, Nexts, Writes, Hears, Joins, Loses, Clears}
-use Rattle.iscsi_outbox_rules.specs.rules.Boxes.{Link, Box}
+use Rattle.iscsi_outbox_rules.specs.rules.Boxes.{Box}
 use Rattle.iscsi_outbox_rules.specs.rules.Words.{numbered_room, numbered_waiting}
 use Rattle.iscsi_outbox_rules.specs.rules.Items.{tickets_left, is_numbered, in_phase, phase_completed, after_item}
 use Rattle.iscsi_outbox_rules.specs.rules.Items.{after_items as items_taken}
@@ -38,9 +38,9 @@ use Rattle.iscsi_outbox_rules.specs.promises.Room.{Step, Happens, Other, Both, i
 use Rattle.iscsi_outbox_rules.proofs.Walks.{event_keeps}
 use Rattle.iscsi_outbox_rules.proofs.RoomLimits.{none_received}
 use Rattle.iscsi_outbox_rules.proofs.ClosedParts.{effects_each, Parts, event_parts}
-use Rattle.iscsi_outbox_rules.proofs.RoomReplies.{AreOne}
 use Rattle.iscsi_outbox_rules.proofs.RoomSends.{Formed}
 use Rattle.iscsi_outbox_rules.proofs.RoomSends.{event_going as event_sends}
+use Rattle.iscsi_outbox_rules.proofs.RoomTheorem.{all_alone}
 use Rattle.iscsi_outbox_rules.proofs.RoomTurns.{Within, event_limits, none_limits}
 use Rattle.iscsi_outbox_rules.proofs.ShownLemmas.{Rise, max_by, rises}
 use Rattle.iscsi_outbox_rules.proofs.ShownReplies.{numbered_in, numbered_on, answers_numbered, Few, few_walk, completing_item, empty_item, call_few}
@@ -240,23 +240,6 @@ module _ (o : Opening) where
 
   -- ---- before any step
 
-  none_known : (x : ℕ) (cs : List (ℕ × ℕ)) → is_known x cs ≡ false → count_by (λ (l : Link). l.conn == x) (map (λ (c : ℕ × ℕ). new_link c.0) cs) ≤ 0
-  none_known x [] h = omega arith
-  none_known x (c ∷ cs) h =
-      let parts = or_none (c.0 == x) (is_known x cs) h in
-      omega (arith, count-cons (λ (l : Link). l.conn == x) (new_link c.0) (map (λ (d : ℕ × ℕ). new_link d.0) cs), ap one parts.0, none_known x cs parts.1)
-
-  all_alone : (cs : List (ℕ × ℕ)) → are_distinct cs ≡ true → AreOne (map (λ (c : ℕ × ℕ). new_link c.0) cs)
-  all_alone [] h x = omega arith
-  all_alone (c ∷ cs) h x =
-      let parts = and_parts (not (is_known c.0 cs)) (are_distinct cs) h in
-      let all : count_by (λ (l : Link). l.conn == x) (new_link c.0 ∷ map (λ (d : ℕ × ℕ). new_link d.0) cs) ≡ one (c.0 == x) + count_by (λ (l : Link). l.conn == x) (map (λ (d : ℕ × ℕ). new_link d.0) cs)
-      = count-cons (λ (l : Link). l.conn == x) (new_link c.0) (map (λ (d : ℕ × ℕ). new_link d.0) cs) in
-      elim (c.0 == x) as (λ v. (c.0 == x) ≡ v → one (c.0 == x) ≡ one v → count_by (λ (l : Link). l.conn == x) (new_link c.0 ∷ map (λ (d : ℕ × ℕ). new_link d.0) cs) ≤ 1) [
-        | true ↦ λ is same. omega (arith, all, same, none_known x cs (ap (λ n. is_known n cs) (sym (eqb-true c.0 x is)) ∙ not_true (is_known c.0 cs) parts.0))
-        | false ↦ λ is same. omega (arith, all, same, all_alone cs parts.1 x)
-      ] refl refl
-
   none_waits : (cs : List (ℕ × ℕ)) → numbered_on (map (λ (c : ℕ × ℕ). new_link c.0) cs) ≤ 0
   none_waits [] = omega arith
   none_waits (c ∷ cs) = omega (arith, sum_by-cons numbered_in (new_link c.0) (map (λ (d : ℕ × ℕ). new_link d.0) cs), none_waits cs)
@@ -268,7 +251,7 @@ module _ (o : Opening) where
     same = refl;
     below = λ k a is. absurd cc;
     top = omega arith;
-    few = record { alone = all_alone o.session.conns distinct; few = omega (arith, none_waits o.session.conns) };
+    few = record { alone = all_alone o o.session.conns distinct; few = omega (arith, none_waits o.session.conns) };
   }
 
   pub shown_fits : (steps : List Step) → ShownFits o steps

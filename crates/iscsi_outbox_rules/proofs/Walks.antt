@@ -72,7 +72,7 @@ closes_by : (o : Opening) (I : List (List Effect) → Box → Type 0) (w : Walk 
 closes_by o I w items b (Some r) conns h = closes_all o I w items b (connection_of r) conns h
 closes_by o I w items b None conns h = h
 
-item_keeps : (o : Opening) (I : List (List Effect) → Box → Type 0) (w : Walk o I) (items : List (List Effect)) (b : Box) (item : List Effect) → I items b → I (items ++ item ∷ []) (after_item o b item)
+pub item_keeps : (o : Opening) (I : List (List Effect) → Box → Type 0) (w : Walk o I) (items : List (List Effect)) (b : Box) (item : List Effect) → I items b → I (items ++ item ∷ []) (after_item o b item)
 item_keeps o I w items b item h =
     let r = executing item in
     let tickets = tickets_left item in

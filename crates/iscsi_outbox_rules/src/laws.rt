@@ -9,7 +9,7 @@ ghost use Rattle.iscsi_outbox_rules.specs.promises.Numbers.{CountStatSns, GoesOn
 ghost use Rattle.iscsi_outbox_rules.specs.promises.Once.{EntersInOrder, GoesInOrder, GoesOnce, SendsWhatWasSent};
 ghost use Rattle.iscsi_outbox_rules.specs.promises.Order.{KeepsCommandOrder, KeepsConnectionOrder, RespondsLast};
 ghost use Rattle.iscsi_outbox_rules.specs.promises.Promises.{KeepsPromises};
-ghost use Rattle.iscsi_outbox_rules.specs.promises.Room.{RepliesFit, ShownFits, Step, TasksFit};
+ghost use Rattle.iscsi_outbox_rules.specs.promises.Room.{RepliesFit, RoomOnTheWay, ShownFits, Step, TasksFit};
 ghost use Rattle.iscsi_outbox_rules.specs.promises.Silent.{SilentAfter};
 ghost use Rattle.iscsi_outbox_rules.specs.promises.Still.{ArrivesBefore, StopsBefore};
 ghost use Rattle.iscsi_outbox_rules.specs.promises.Word.{WordHolds, tells};
@@ -97,11 +97,12 @@ pub fn promises_law()
 
 /// Room, where requests are read only while `may_take` has it, but for the Logouts that tell of lost connections, and come on the
 /// session's connections: no more replies wait than there are places for, where no CID stands twice; and no more commands are live
-/// or owe. And where the initiator keeps to the MaxCmdSN that was shown, and no CID stands twice: whatever was shown has room. The
-/// numbered replies that wait, the numbered commands that are live, and the numbers shown that are still to come are no more than
-/// there are places for them.
+/// or owe. So it is at each call, and in each item of an event. And where the initiator keeps to the MaxCmdSN that was shown, and no
+/// CID stands twice: whatever was shown has room. The numbered replies that wait, the numbered commands that are live, and the numbers
+/// shown that are still to come are no more than there are places for them.
 pub fn room_law()
     ensures replies { (o : Opening) (steps : List Step) → RepliesFit o steps }
     ensures tasks { (o : Opening) (steps : List Step) → TasksFit o steps }
+    ensures way { (o : Opening) (steps : List Step) → RoomOnTheWay o steps }
     ensures shown { (o : Opening) (steps : List Step) → ShownFits o steps }
 {}

@@ -4,15 +4,18 @@ use Rattle.std.specs.List.{list_any}
 use Rattle.iscsi_wire.specs.declared.request.Request.{Request}
 use Rattle.iscsi_wire.specs.Serial.{lift}
 use Rattle.iscsi_wire.specs.Fields.{connection_of, is_immediate, cmd_sn, request_of, opcode}
+use Rattle.iscsi_history.specs.declared.effect.Effect.{Effect}
 use Rattle.iscsi_history.specs.declared.event.Event.{Event}
 use Rattle.iscsi_history.specs.declared.event.Event.TheVariants.{Arrive, Done}
 use Rattle.iscsi_history.specs.rules.Settings.{is_known, are_distinct}
 use Rattle.iscsi_history.specs.rules.Trace.{Trace, Command, live}
 use Rattle.iscsi_history.specs.rules.Execution.{exp_of}
 use Rattle.iscsi_history.specs.rules.Run.{entry_of, after_event}
+use Rattle.iscsi_history.specs.promises.Order.{in_parts}
 use Rattle.iscsi_outbox_rules.specs.rules.Calls.{Opening, Call, Takes}
 use Rattle.iscsi_outbox_rules.specs.rules.Boxes.{Task, Link, Box}
 use Rattle.iscsi_outbox_rules.specs.rules.Words.{is_live_phase, most_at_once, numbered_room, replies_waiting, numbered_waiting, owing, may_take}
+use Rattle.iscsi_outbox_rules.specs.rules.Items.{after_item}
 use Rattle.iscsi_outbox_rules.specs.rules.Run.{opened, after_call}
 
 -- an event of the session, or a call that takes none
@@ -78,6 +81,49 @@ places o = 3 * most_at_once o
 -- commands that are live or owe
 abbrev pub tasks_kept : Opening → Box → ℕ
 tasks_kept o b = count_by (λ (t : Task). is_live_phase t.phase) b.tasks + owing o b
+
+-- ---- at each call, and in each item of an event
+
+-- what the outbox is called with
+abbrev pub call_of : Opening → Both → Step → Call
+call_of o s (Happens e) = let entry = entry_of o.session s.event s.trace e in Takes entry.effects entry.numbers
+call_of o s (Other c) = c
+
+abbrev pub calls_of : Opening → Both → List Step → List Call
+calls_of o s [] = []
+calls_of o s (step ∷ steps) = call_of o s step ∷ calls_of o (after_step o s step) steps
+
+-- the events of the session
+abbrev pub events_of : List Step → List Event
+events_of [] = []
+events_of (Happens e ∷ steps) = e ∷ events_of steps
+events_of (Other c ∷ steps) = events_of steps
+
+-- no more replies wait, and no more commands are live or owe, than there are places for
+pub record Fits (o : Opening) (b : Box) : Type 0 where
+  pub replies : replies_waiting b ≤ places o
+  pub tasks : tasks_kept o b ≤ places o
+
+abbrev pub FitItems : Opening → Box → List (List Effect) → Type 0
+FitItems o b [] = Unit {0}
+FitItems o b (item ∷ items) = Fits o (after_item o b item) × FitItems o (after_item o b item) items
+
+abbrev pub FitsCall : Opening → Box → Call → Type 0
+FitsCall o b (Takes effects numbers) = FitItems o b (in_parts effects)
+FitsCall o b _ = Unit {0}
+
+abbrev pub FitFrom : Opening → Box → List Call → Type 0
+FitFrom o b [] = Unit {0}
+FitFrom o b (c ∷ cs) = FitsCall o b c × Fits o (after_call o b c) × FitFrom o (after_call o b c) cs
+
+abbrev pub HasRoom : Opening → List Call → Type 0
+HasRoom o calls = FitFrom o (opened o) calls
+
+-- there is room all the way, where no CID stands twice
+abbrev pub RoomOnTheWay : Opening → List Step → Type 0
+RoomOnTheWay o steps = are_distinct o.session.conns ≡ true → all_are (is_read_with_room o) o (begun o) steps ≡ true → HasRoom o (calls_of o (begun o) steps)
+
+-- ---- after these steps
 
 -- no more replies wait than there are places for, where no CID stands twice, as a session's options have it
 abbrev pub RepliesFit : Opening → List Step → Type 0
