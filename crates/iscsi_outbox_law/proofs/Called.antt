@@ -1,13 +1,20 @@
 -- Each call keeps to the rules, whatever calls came before.
-use Rattle.std.proofs.Common.{◌≡◌, List, [], ◌∷◌, ◌++◌, map, Option, Some, None, refl, ap, sym, ◌∙◌}
+use Rattle.std.proofs.Common.{◌≡◌, List, [], ◌∷◌, ◌++◌, map, Option, Some, None, refl, ap, sym, ◌∙◌, subst}
 use Rattle.iscsi_outbox_rules.specs.rules.Calls.{Opening, Call}
 use Rattle.iscsi_outbox_rules.specs.rules.Boxes.{Box}
 use Rattle.iscsi_outbox_rules.specs.rules.Run.{opened, after_call as after_call_by_rules, after_calls as after_calls_by_rules, answered as answered_by_rules, answered_from as answered_from_by_rules}
-use Rattle.iscsi_outbox_steps.specs.State.{State}
+use Rattle.iscsi_outbox_rules.specs.promises.Deeds.{FollowsFlow, FollowsKnown}
+use Rattle.iscsi_outbox_rules.specs.promises.Room.{HasRoom}
+use Rattle.iscsi_outbox_rules.proofs.PromisesTheorem.{keeps_promises}
+use Rattle.iscsi_outbox_rules.proofs.RoomFollows.{follows_flow, follows_known}
+use Rattle.iscsi_outbox_rules.proofs.RoomItems.{room_on_the_way}
+use Rattle.iscsi_outbox_steps.specs.State.{State, may_take}
 use Rattle.iscsi_outbox_steps.specs.Run.{Answered, after_call, answered, answered_from, begun}
-use Rattle.iscsi_outbox_law.specs.Called.{KeepsToRules, after_calls}
+use Rattle.iscsi_outbox_law.specs.Called.{IsRun, KeepsAllPromises, KeepsToRules, MayTakeByRules, after_calls}
 use Rattle.iscsi_outbox_law.specs.Said.{said}
-use Rattle.iscsi_outbox_law.proofs.Alike.{answers_alike}
+use Rattle.iscsi_outbox_law.specs.Stands.{Stands}
+use Rattle.iscsi_outbox_law.proofs.Alike.{answers_alike, leave_alike}
+use Rattle.iscsi_outbox_law.proofs.Waiting.{may_take_is}
 
 abbrev last_of : List Answered → Option Answered
 last_of [] = None
@@ -30,8 +37,25 @@ rules_push : (o : Opening) (b : Box) (cs : List Call) (c : Call) → map said (a
 rules_push o b [] c = refl
 rules_push o b (x ∷ cs) c = ap (λ xs. said (answered_by_rules o b x) ∷ xs) (rules_push o (after_call_by_rules o b x) cs c)
 
+-- ---- a run
+
+has_room : (o : Opening) (cs : List Call) (run : IsRun o cs) → HasRoom o cs
+has_room o cs run = subst (HasRoom o) run.calls (room_on_the_way o run.steps run.distinct run.read)
+
+follows : (o : Opening) (cs : List Call) (run : IsRun o cs) → FollowsKnown o cs
+follows o cs run = subst (FollowsKnown o) run.calls (follows_known o run.steps run.read)
+
 pub keeps : (s : State) (c : Call) → KeepsToRules s c
 keeps s c o cs came run =
     ap (λ t. answered t c) came
     ∙ same_last (answered_from (begun o) cs) (map said (answered_from_by_rules o (opened o) cs)) (answered (after_calls (begun o) cs) c) (said (answered_by_rules o (after_calls_by_rules o (opened o) cs) c))
-    (sym (answers_push (begun o) cs c) ∙ answers_alike o (cs ++ c ∷ []) run.known run.distinct run.room run.short ∙ rules_push o (opened o) cs c)
+    (sym (answers_push (begun o) cs c) ∙ answers_alike o (cs ++ c ∷ []) (follows o (cs ++ c ∷ []) run) run.distinct (has_room o (cs ++ c ∷ []) run) run.short ∙ rules_push o (opened o) cs c)
+
+pub keeps_all : (s : State) (c : Call) → KeepsAllPromises s c
+keeps_all s c o cs came run =
+    keeps_promises o (cs ++ c ∷ []) (subst (FollowsFlow o) run.calls (follows_flow o run.steps run.read run.flows run.window)) (follows o (cs ++ c ∷ []) run)
+
+pub may_take_by_rules : (s : State) → MayTakeByRules s (may_take s)
+may_take_by_rules s o cs came run =
+    let stands : Stands o (after_calls (begun o) cs) (after_calls_by_rules o (opened o) cs) = leave_alike o cs (follows o cs run) run.distinct (has_room o cs run) run.short in
+    ap may_take came ∙ may_take_is o (after_calls (begun o) cs) (after_calls_by_rules o (opened o) cs) stands

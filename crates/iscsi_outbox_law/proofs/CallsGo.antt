@@ -4,14 +4,16 @@ use Rattle.std.proofs.lemmas.List.Sums.{sum_by-cons}
 use Rattle.iscsi_history.specs.declared.effect.Effect.{Effect}
 use Rattle.iscsi_history.specs.declared.effect.Numbers.{Numbers}
 use Rattle.iscsi_history.specs.rules.Settings.{are_distinct}
+use Rattle.iscsi_outbox_rules.specs.promises.Room.{FitFrom, Fits, FitsCall, HasRoom}
 use Rattle.iscsi_outbox_rules.specs.rules.Calls.{Opening, Call, Takes, Puts, Stops, Nexts, Writes, Hears, Joins, Loses, Clears}
 use Rattle.iscsi_outbox_rules.specs.rules.Boxes.{Outgoing, Link, Box}
 use Rattle.iscsi_outbox_rules.specs.rules.Words.{is_reply}
-use Rattle.iscsi_outbox_rules.specs.rules.Run.{after_call as after_call_by_rules, answered as answered_by_rules, answered_from as answered_from_by_rules, new_link, opened}
+use Rattle.iscsi_outbox_rules.specs.rules.Run.{after_call as after_call_by_rules, after_calls as after_calls_by_rules, answered as answered_by_rules, answered_from as answered_from_by_rules, new_link, opened}
 use Rattle.iscsi_outbox_steps.specs.State.{State}
 use Rattle.iscsi_outbox_steps.specs.Run.{Gives, Joined, Put, Stopped, after_call, answered, answered_from, begun}
-use Rattle.iscsi_outbox_law.specs.Room.{AreFew, AreShort, FitFrom, Fits, FitsCall, HasRoom, IsShort, ShortFrom}
-use Rattle.iscsi_outbox_law.specs.Said.{AnswersAlike, said}
+use Rattle.iscsi_outbox_law.specs.Room.{AreFew, AreShort, IsShort, ShortFrom}
+use Rattle.iscsi_outbox_law.specs.Called.{after_calls}
+use Rattle.iscsi_outbox_law.specs.Said.{said}
 use Rattle.iscsi_outbox_law.specs.Sound.{IsSound, NoneIsFresh}
 use Rattle.iscsi_outbox_law.specs.Stands.{Stands}
 use Rattle.iscsi_outbox_law.proofs.PairLemmas.{each-new}
@@ -58,6 +60,10 @@ pub record GoSilently (o : Opening) : Type 0 where
   pub hears : (s : State) (b : Box) (cid exp_stat_sn tag : ℕ) → Finds o s b (Hears cid exp_stat_sn tag) → StandsAfter o s b (Hears cid exp_stat_sn tag)
   pub loses : (s : State) (b : Box) (cid : ℕ) → Finds o s b (Loses cid) → StandsAfter o s b (Loses cid)
 
+-- what calls answer, and what stands after them
+abbrev pub AllGo : Opening → List Call → State → Box → Type 0
+AllGo o cs s b = (answered_from s cs ≡ map said (answered_from_by_rules o b cs)) × Stands o (after_calls s cs) (after_calls_by_rules o b cs)
+
 module _ (o : Opening) (distinct : are_distinct o.session.conns ≡ true) (silent : GoSilently o) where
   goes : (s : State) (b : Box) (c : Call) → Finds o s b c → Goes o s b c
   goes s b (Takes effects numbers) k = (refl, silent.takes s b effects numbers k)
@@ -72,8 +78,8 @@ module _ (o : Opening) (distinct : are_distinct o.session.conns ≡ true) (silen
 
   -- ---- call by call
 
-  all_go : (cs : List Call) (s : State) (b : Box) → Stands o s b → last_of s ≤ length b.tasks → HasFit o b → SoundFrom o b cs → FitFrom o b cs → ShortFrom o b cs → answered_from s cs ≡ map said (answered_from_by_rules o b cs)
-  all_go [] s b h last fit sound room short = refl
+  all_go : (cs : List Call) (s : State) (b : Box) → Stands o s b → last_of s ≤ length b.tasks → HasFit o b → SoundFrom o b cs → FitFrom o b cs → ShortFrom o b cs → AllGo o cs s b
+  all_go [] s b h last fit sound room short = (refl, h)
   all_go (c ∷ cs) s b h last fit sound room short =
       let k : Goes o s b c = goes s b c (record {
         stands = h;
@@ -86,9 +92,9 @@ module _ (o : Opening) (distinct : are_distinct o.session.conns ≡ true) (silen
         fits_after = room.1;
         short = short.0;
       }) in
-      ap (λ x. x ∷ answered_from (after_call s c) cs) k.0
-      ∙ ap (λ xs. said (answered_by_rules o b c) ∷ xs)
-      (all_go cs (after_call s c) (after_call_by_rules o b c) k.1 (call_last o s b c last sound.1.0) (record { fits = room.1; time = short.0.time; few = short.0.handed }) sound.1.1 room.2 short.1)
+      let rest : AllGo o cs (after_call s c) (after_call_by_rules o b c)
+      = all_go cs (after_call s c) (after_call_by_rules o b c) k.1 (call_last o s b c last sound.1.0) (record { fits = room.1; time = short.0.time; few = short.0.handed }) sound.1.1 room.2 short.1 in
+      (ap (λ x. x ∷ answered_from (after_call s c) cs) k.0 ∙ ap (λ xs. said (answered_by_rules o b c) ∷ xs) rest.0, rest.1)
 
   -- ---- at first
 
@@ -103,5 +109,5 @@ module _ (o : Opening) (distinct : are_distinct o.session.conns ≡ true) (silen
     few = each-new (λ (l : Link). length l.handed < 2 ^ 63) (λ (c : ℕ × ℕ). new_link c.0) o.session.conns (λ c. omega arith);
   }
 
-  pub answers_alike : (calls : List Call) → SoundFrom o (opened o) calls → HasRoom o calls → IsShort o calls → AnswersAlike o calls
-  answers_alike calls sound room short = all_go calls (begun o) (opened o) (stands_opened o) (omega arith) fit_opened sound room short
+  pub run_goes : (calls : List Call) → SoundFrom o (opened o) calls → HasRoom o calls → IsShort o calls → AllGo o calls (begun o) (opened o)
+  run_goes calls sound room short = all_go calls (begun o) (opened o) (stands_opened o) (omega arith) fit_opened sound room short

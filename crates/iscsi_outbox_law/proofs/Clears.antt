@@ -3,6 +3,7 @@ use Rattle.std.proofs.Common.{◌≡◌, ℕ, ◌+◌, ◌-◌, ◌<◌, ◌==�
 use Rattle.std.proofs.lemmas.List.Folds.{list_any-append}
 use Rattle.iscsi_history.specs.rules.Settings.{are_distinct}
 use Rattle.iscsi_arrivals.proofs.CountLemmas.{count-cons}
+use Rattle.iscsi_outbox_rules.specs.promises.Room.{Fits}
 use Rattle.iscsi_outbox_rules.specs.rules.Calls.{Opening}
 use Rattle.iscsi_outbox_rules.specs.rules.Boxes.{Aim as RulesAim, AtTag, AtUnit, AtConns, Answer, Box}
 use Rattle.iscsi_outbox_rules.specs.rules.Words.{contains, is_left}
@@ -19,7 +20,6 @@ use Rattle.iscsi_outbox_steps.specs.Steps.{cleared_of}
 use Rattle.iscsi_tracked.specs.Tracked.{Tracked}
 use Rattle.iscsi_outbox_law.specs.Pairs.{EachOf}
 use Rattle.iscsi_outbox_law.specs.Lanes.{AreAnswers, IsAim, IsAnswer, is_aimed_at}
-use Rattle.iscsi_outbox_law.specs.Room.{Fits}
 use Rattle.iscsi_outbox_law.specs.Sound.{IsSound}
 use Rattle.iscsi_outbox_law.specs.Stands.{Stands}
 use Rattle.iscsi_outbox_law.proofs.Calm.{calm, room_there}

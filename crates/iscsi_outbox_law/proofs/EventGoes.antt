@@ -9,13 +9,13 @@ use Rattle.iscsi_history.specs.declared.effect.Effect.{Effect}
 use Rattle.iscsi_history.specs.declared.effect.Numbers.{Numbers}
 use Rattle.iscsi_history.specs.promises.Order.{in_parts}
 use Rattle.iscsi_history.specs.rules.Trace.{first_of}
+use Rattle.iscsi_outbox_rules.specs.promises.Room.{FitItems, Fits}
 use Rattle.iscsi_outbox_rules.specs.rules.Calls.{Opening, Takes}
 use Rattle.iscsi_outbox_rules.specs.rules.Boxes.{Aim, Answer, Link, Box}
 use Rattle.iscsi_outbox_rules.specs.rules.Queues.{at_link, drop_on, takes_more}
 use Rattle.iscsi_outbox_rules.specs.rules.Items.{after_item as box_after_item, after_items as box_after_items, aim, answer, close, close_all, close_one, closed_in, enter_tasks, executing, in_phase, leave, newly_closed, outgoing, phase_enabled, reply_sent, send, send_as, ticket_enabled, tickets_left}
 use Rattle.iscsi_outbox_steps.specs.State.{State}
 use Rattle.iscsi_outbox_steps.specs.Steps.{after_item, after_items}
-use Rattle.iscsi_outbox_law.specs.Room.{FitItems, Fits}
 use Rattle.iscsi_outbox_law.specs.Sound.{IsItemSound, IsSound}
 use Rattle.iscsi_outbox_law.specs.Stands.{Stands}
 use Rattle.iscsi_outbox_law.proofs.Settling.{settle_time}

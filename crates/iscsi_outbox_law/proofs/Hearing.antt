@@ -2,6 +2,7 @@
 use Rattle.std.proofs.Common.{◌≡◌, ℕ, ◌-◌, ◌<◌, ◌^◌, length, set, count_by, true, Option, Some, None, refl, ap, sym, subst, arith}
 use Rattle.iscsi_history.specs.rules.Settings.{are_distinct}
 use Rattle.iscsi_arrivals.specs.Counts.{Counts, heard_by, written_by}
+use Rattle.iscsi_outbox_rules.specs.promises.Room.{Fits}
 use Rattle.iscsi_outbox_rules.specs.rules.Calls.{Opening}
 use Rattle.iscsi_outbox_rules.specs.rules.Boxes.{Outgoing, Link, Box}
 use Rattle.iscsi_outbox_rules.specs.rules.Words.{is_reply}
@@ -13,7 +14,6 @@ use Rattle.iscsi_outbox_steps.specs.State.{State, place_of, with_link}
 use Rattle.iscsi_outbox_steps.specs.Steps.{heard, settle, trail, written}
 use Rattle.iscsi_tracked.specs.Tracked.{trail_at}
 use Rattle.iscsi_outbox_law.specs.Commands.{is_under_way, link_in}
-use Rattle.iscsi_outbox_law.specs.Room.{Fits}
 use Rattle.iscsi_outbox_law.specs.Sound.{IsSound}
 use Rattle.iscsi_outbox_law.specs.Stands.{Stands, StandsWith}
 use Rattle.iscsi_outbox_law.proofs.PlaceLemmas.{IsPlace, at_none, at_place}

@@ -8,7 +8,7 @@ use Rattle.iscsi_outbox_rules.specs.rules.Boxes.{Answer, Link, Box}
 use Rattle.iscsi_outbox_rules.specs.rules.Words.{contains, is_left}
 use Rattle.iscsi_outbox_rules.specs.rules.Queues.{at_link, drop_on, emptied}
 use Rattle.iscsi_outbox_rules.specs.rules.Due.{settle as settle_box}
-use Rattle.iscsi_outbox_rules.specs.promises.Room.{places}
+use Rattle.iscsi_outbox_rules.specs.promises.Room.{Fits, places}
 use Rattle.iscsi_outbox_rules.specs.rules.Run.{after_lost, link_lost}
 use Rattle.iscsi_outbox_state.specs.declared.lane.Undue.{Undue}
 use Rattle.iscsi_outbox_state.specs.declared.lane.Standing.{Standing}
@@ -19,7 +19,6 @@ use Rattle.iscsi_tracked.specs.Tracked.{Tracked, trail_at}
 use Rattle.iscsi_outbox_law.specs.Pairs.{place_in}
 use Rattle.iscsi_outbox_law.specs.Commands.{is_under_way, link_in}
 use Rattle.iscsi_outbox_law.specs.Lanes.{AreAnswers, IsAnswer}
-use Rattle.iscsi_outbox_law.specs.Room.{Fits}
 use Rattle.iscsi_outbox_law.specs.Sound.{IsSound}
 use Rattle.iscsi_outbox_law.specs.Stands.{Stands, StandsWith}
 use Rattle.iscsi_outbox_law.proofs.PairLemmas.{each-filter}

@@ -3,6 +3,7 @@ use Rattle.std.proofs.Common.{◌≡◌, ℕ, ◌-◌, ◌<◌, ◌==◌, ◌&&�
 use Rattle.std.specs.List.{list_any}
 use Rattle.std.proofs.lemmas.Bool.{and_from, and_parts, eqb-true, false≢true}
 use Rattle.iscsi_history.specs.rules.Settings.{are_distinct}
+use Rattle.iscsi_outbox_rules.specs.promises.Room.{Fits}
 use Rattle.iscsi_outbox_rules.specs.rules.Calls.{Opening}
 use Rattle.iscsi_outbox_rules.specs.rules.Boxes.{Phase, Dormant, Fresh, Started, Completed, Running, Gone, Task, Handed, Link, Answer, Box}
 use Rattle.iscsi_outbox_rules.specs.rules.Words.{contains, is_left, is_left_phase, is_running as is_running_box, is_running_phase}
@@ -17,7 +18,6 @@ use Rattle.iscsi_tracked.specs.declared.command.Phase.TheVariants.{Gone as Left}
 use Rattle.iscsi_tracked.specs.Tracked.{find_ticket, in_phase, is_out, removed}
 use Rattle.iscsi_outbox_law.specs.Pairs.{EachOf}
 use Rattle.iscsi_outbox_law.specs.Commands.{IsCommand, is_kept, is_under_way}
-use Rattle.iscsi_outbox_law.specs.Room.{Fits}
 use Rattle.iscsi_outbox_law.specs.Sound.{HasHome, IsSound}
 use Rattle.iscsi_outbox_law.specs.Stands.{Stands}
 use Rattle.iscsi_outbox_law.proofs.PairLemmas.{each-weaken}

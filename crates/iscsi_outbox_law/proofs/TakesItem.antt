@@ -11,11 +11,10 @@ use Rattle.iscsi_outbox_rules.specs.rules.Calls.{Opening}
 use Rattle.iscsi_outbox_rules.specs.rules.Boxes.{Phase, Dormant, Fresh, Started, Completed, Running, Gone, Box}
 use Rattle.iscsi_outbox_rules.specs.rules.Words.{contains, is_left_phase, replies_waiting}
 use Rattle.iscsi_outbox_rules.specs.rules.Items.{after_item as after_item_box, aim as aim_box, close as close_box, closed_in as closed_in_box, enter_tasks, executing, in_phase as tasks_in_phase, leave as leave_box, newly_closed as newly_closed_box, outgoing, phase_enabled, reply_sent, send as send_box, send_as, ticket_enabled, tickets_left}
-use Rattle.iscsi_outbox_rules.specs.promises.Room.{places as places_of, tasks_kept}
+use Rattle.iscsi_outbox_rules.specs.promises.Room.{Fits, places as places_of, tasks_kept}
 use Rattle.iscsi_outbox_steps.specs.State.{State}
 use Rattle.iscsi_outbox_steps.specs.Steps.{after_item, close, closed_in, enable, enter_commands, is_numbered, later, leave, newly_closed, send, send_on}
 use Rattle.iscsi_outbox_law.specs.Pairs.{EachOf}
-use Rattle.iscsi_outbox_law.specs.Room.{Fits}
 use Rattle.iscsi_outbox_law.specs.Sound.{IsItemSound, IsSound, entries_of}
 use Rattle.iscsi_outbox_law.specs.Stands.{Stands}
 use Rattle.iscsi_outbox_law.proofs.Settling.{all_replies, settle_stands, settle_time}

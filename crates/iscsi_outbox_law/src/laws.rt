@@ -2,11 +2,12 @@
 
 ghost use Rattle.std.specs.Prelude.{◌≡◌, ◌<◌, ◌-◌, ◌^◌, ℕ, List, true};
 ghost use Rattle.iscsi_history.specs.rules.Settings.{are_distinct};
-ghost use Rattle.iscsi_outbox_law.specs.Called.{KeepsToRules};
-ghost use Rattle.iscsi_outbox_law.specs.Room.{AreFew, Fits, HasRoom, IsShort};
+ghost use Rattle.iscsi_outbox_law.specs.Called.{KeepsAllPromises, KeepsToRules, MayTakeByRules};
+ghost use Rattle.iscsi_outbox_law.specs.Room.{AreFew, IsShort};
 ghost use Rattle.iscsi_outbox_law.specs.Said.{AnswersAlike, said};
 ghost use Rattle.iscsi_outbox_law.specs.Sound.{IsSound};
 ghost use Rattle.iscsi_outbox_law.specs.Stands.{Stands};
+ghost use Rattle.iscsi_outbox_rules.specs.promises.Room.{Fits, HasRoom};
 ghost use Rattle.iscsi_outbox_rules.specs.declared.own_pdu.OwnPdu.{OwnPdu};
 ghost use Rattle.iscsi_outbox_rules.specs.promises.Deeds.{FollowsKnown};
 ghost use Rattle.iscsi_outbox_rules.specs.rules.Boxes.{Box};
@@ -80,7 +81,10 @@ pub fn steps_law()
     ensures alike { (o : Opening) (calls : List Call) → FollowsKnown o calls → are_distinct o.session.conns ≡ true → HasRoom o calls → IsShort o calls → AnswersAlike o calls }
 {}
 
-/// Each call keeps to the rules, in any state that the calls before it led to.
+/// Each call keeps to the rules and to all promises, in any state that the calls before it led to. So does what says whether a
+/// request more may be taken.
 pub fn calls_law()
     ensures rules { (s : State) (c : Call) → KeepsToRules s c }
+    ensures promises { (s : State) (c : Call) → KeepsAllPromises s c }
+    ensures may { (s : State) → MayTakeByRules s (may_take s) }
 {}

@@ -1,5 +1,5 @@
-use Rattle.iscsi_outbox_law.proofs.Called.{keeps}
+use Rattle.iscsi_outbox_law.proofs.Called.{keeps, keeps_all, may_take_by_rules}
 use Rattle.iscsi_outbox_law.proofs.laws.calls_law.Goals as goal
 
 pub returns : goal.returns
-returns c = record { rules = keeps }
+returns c = record { rules = keeps; promises = keeps_all; may = may_take_by_rules }
