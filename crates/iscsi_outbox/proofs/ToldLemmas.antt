@@ -6,10 +6,11 @@ use Rattle.std.proofs.lemmas.List.{get_or-replicate, get_or-set_other, get_or-se
 use Rattle.std.proofs.lemmas.List.Quantifiers.{position-Some}
 use Rattle.std.proofs.lemmas.Option.{none-some, same_Some}
 use Rattle.iscsi_history.specs.rules.Settings.{are_distinct, is_known}
+use Rattle.iscsi_history.proofs.CountLemmas.{count_set}
 use Rattle.iscsi_outbox_rules.specs.rules.Calls.{Opening, Takes, Puts, Stops, Nexts, Writes, Hears, Joins, Loses, Clears}
 use Rattle.iscsi_outbox_steps.specs.State.{Limits, State, place_of}
 use Rattle.iscsi_outbox_steps.specs.Steps.{given}
-use Rattle.iscsi_outbox.specs.Words.{cid_at, first_ready, gives, gives_something, ready_from, told}
+use Rattle.iscsi_outbox.specs.Words.{cid_at, count_awake, first_ready, gives, gives_something, ready_from, told}
 use Rattle.iscsi_outbox.specs.Told.{Act, Does, Asks, GaveNothing, Heard, Hosted, IsReady, LedTo, LosesNoWord, TellsOnce, after_act, after_acts, awake_after, heard_at, heard_from, heard_of_call, heard_of_ready, hosted, told_since, was_told}
 use Rattle.iscsi_outbox.proofs.LimitsLemmas.{limits_stay}
 use Rattle.iscsi_outbox.proofs.WordLemmas.{given_gives, given_nowhere}
@@ -325,3 +326,15 @@ told_once s flags answer is o acts led cid some = by_ready (first_ready s flags)
     by_ready : (x : Option ℕ) → first_ready s flags ≡ x → (gives_something (given cid s) ≡ true) × (was_told cid (heard_from (hosted o) acts) ≡ false)
     by_ready (Some conn) found = by_conn conn found (same_Some (cid_at s conn) cid (ap (option_map (cid_at s)) (sym found) ∙ sym is ∙ some))
     by_ready None found = absurd (none-some cid (ap (option_map (cid_at s)) (sym found) ∙ sym is ∙ some))
+
+-- ---- it ends
+
+pub one_more : (s : State) (flags new : List Bool) (cid : ℕ) → Some cid ≡ option_map (cid_at s) (first_ready s flags) → new ≡ told (first_ready s flags) flags → count_awake new ≡ count_awake flags + 1
+one_more s flags new cid is state = by_ready (first_ready s flags) refl is state
+  where
+    by_ready : (x : Option ℕ) → first_ready s flags ≡ x → Some cid ≡ option_map (cid_at s) x → new ≡ told x flags → count_awake new ≡ count_awake flags + 1
+    by_ready None found is' state' = absurd (none-some cid (sym is'))
+    by_ready (Some conn) found is' state' =
+        let n = named 0 s flags conn found in
+        let at : n.at ≡ conn = omega (arith, n.is) in
+        ap count_awake state' ∙ count_set (λ (is_awake : Bool). is_awake) flags conn true false (omega (arith, at, n.within)) (ap (λ k. get_or flags k false) (sym at) ∙ n.asleep) refl
