@@ -8,3 +8,5 @@ pub mod WalkLemmas
 pub mod ItemLemmas
 pub mod OpenLemmas
 pub mod WordLemmas
+pub mod LimitsLemmas
+pub mod ToldLemmas

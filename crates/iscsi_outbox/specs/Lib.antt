@@ -4,3 +4,5 @@ pub mod Walks
 pub mod Options
 pub mod Headers
 pub mod Words
+pub mod Told
+pub mod Rows

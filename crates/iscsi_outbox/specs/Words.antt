@@ -1,5 +1,5 @@
 -- Which connections are told to be ready.
-use Rattle.std.specs.Prelude.{ℕ, ◌+◌, ◌&&◌, ◌||◌, not, Bool, true, false, List, [], ◌∷◌, Option, Some, None, is_some, slice_index_or, slice_set, if◌then◌else◌}
+use Rattle.std.specs.Prelude.{ℕ, ◌+◌, ◌&&◌, ◌||◌, not, Bool, true, false, List, [], ◌∷◌, count_by, Option, Some, None, is_some, slice_index_or, slice_set, if◌then◌else◌}
 use Rattle.iscsi_outbox_steps.specs.declared.given.Given.{Given}
 use Rattle.iscsi_outbox_steps.specs.declared.given.Given.TheVariants.{Hands, Nothing, IsOver}
 use Rattle.iscsi_outbox_steps.specs.State.{State, is_over, place_of}
@@ -21,6 +21,10 @@ first_ready s awake = ready_from 0 s awake
 abbrev pub told : Option ℕ → List Bool → List Bool
 told (Some conn) awake = slice_set awake conn true
 told None awake = awake
+
+-- so many are awake
+abbrev pub count_awake : List Bool → ℕ
+count_awake awake = count_by (λ (is_awake : Bool). is_awake) awake
 
 abbrev pub cid_at : State → ℕ → ℕ
 cid_at s conn = slice_index_or s.limits.cids conn 0

@@ -1,8 +1,9 @@
 //! Which writers are told that they may go on.
 
-ghost use Rattle.std.specs.Prelude.{◌≡◌, ◌<◌, ◌≤◌, ℕ, length, option_map, replicate, false, IfOk, IfSome};
+ghost use Rattle.std.specs.Prelude.{◌≡◌, ◌<◌, ◌≤◌, ℕ, ◌+◌, length, option_map, replicate, false, IfOk, IfSome};
 ghost use Rattle.iscsi_outbox_steps.specs.Steps.{given, next};
-ghost use Rattle.iscsi_outbox.specs.Words.{asked, cid_at, first_ready, gives, told};
+ghost use Rattle.iscsi_outbox.specs.Words.{asked, cid_at, count_awake, first_ready, gives, told};
+ghost use Rattle.iscsi_outbox.specs.Told.{LosesNoWord, TellsOnce};
 
 use crate::outbox::Outbox;
 use iscsi_outbox_steps::Given;
@@ -13,7 +14,7 @@ use std::marker::Model;
 /// waits without word, and each connection is told once until it gives nothing.
 ///
 /// After each call of the outbox the host asks `ready` until it gives none, and wakes the writers of the connections that it
-/// gave.
+/// gave. It asks for PDUs by `next` of these, and never by that of the outbox, of which nothing is known here.
 pub struct Writers {
     /// By the places of the connections.
     awake: Vec<bool>,
@@ -45,10 +46,17 @@ impl Writers {
 
     /// The CID of a connection that may give something, and wasn't told since it last gave nothing: it is told now. It looks at
     /// the connections one by one, 64 at the most.
+    ///
+    /// Whatever was called before: where it gives none, each connection that `next` would give something was told since it last
+    /// gave nothing (`word`); one that it gives wasn't, and `next` would give it something (`once`). With each one more is awake
+    /// (`more`): asked again and again, it gives none at last.
     pub fn ready(&mut self, outbox: &Outbox) -> Option<u16>
         requires { length self.old ≡ length outbox.now.limits.cids }
         ensures answer { result ≡ option_map (cid_at outbox.now) (first_ready outbox.now self.old) }
         ensures state { self.new ≡ told (first_ready outbox.now self.old) self.old }
+        ensures word { LosesNoWord result outbox.now self.old }
+        ensures once { TellsOnce result outbox.now self.old }
+        ensures more { IfSome result (λ cid. count_awake self.new ≡ count_awake self.old + 1) }
     {
         let conn = first_ready(outbox, &self.awake)?;
         self.awake[conn] = true;
