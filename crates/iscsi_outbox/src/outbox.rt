@@ -2,7 +2,7 @@
 
 ghost use Rattle.std.specs.Prelude.{◌≡◌, ◌+◌, ◌-◌, ◌<◌, ◌≤◌, ◌^◌, length, true, IfOk, IfSome};
 ghost use Rattle.iscsi_wire.specs.Serial.{number_of_first};
-ghost use Rattle.iscsi_outbox_law.specs.Called.{KeepsToRules};
+ghost use Rattle.iscsi_outbox_law.specs.Called.{KeepsAllPromises, KeepsToRules};
 ghost use Rattle.iscsi_outbox_rules.specs.rules.Calls.{Joins};
 ghost use Rattle.iscsi_outbox_steps.specs.State.{opened, place_of};
 ghost use Rattle.iscsi_outbox.specs.Words.{cid_at};
@@ -147,6 +147,7 @@ impl Outbox {
         ensures answer { result ≡ may_join cid self.old }
         ensures state { self.new ≡ joined cid stat_sn self.old }
         ensures rules { KeepsToRules self.old (Joins cid stat_sn) }
+        ensures promises { KeepsAllPromises self.old (Joins cid stat_sn) }
     {
         match self.cids.place(cid) {
             Some(conn) => self.links.join(conn, stat_sn),

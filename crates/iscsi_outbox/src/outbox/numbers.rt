@@ -1,6 +1,7 @@
 //! Room, and MaxCmdSN as it is shown (RFC 7143 section 4.2.2.1).
 
 ghost use Rattle.std.specs.Prelude.{◌≡◌, ◌≤◌};
+ghost use Rattle.iscsi_outbox_law.specs.Called.{MayTakeByRules};
 ghost use Rattle.iscsi_outbox_steps.specs.State.{credit_of, max_shown, may_take, most_at_once};
 ghost use Rattle.iscsi_outbox_steps.specs.Steps.{shows};
 
@@ -10,7 +11,8 @@ impl Outbox {
     /// Whether one more request may be taken from any connection: there is room for its reply, with those of all that is
     /// held, waits or is live; and for what it takes out.
     pub fn may_take(&self) -> bool
-        ensures { result ≡ may_take self.now }
+        ensures answer { result ≡ may_take self.now }
+        ensures rules { MayTakeByRules self.now (may_take self.now) }
     {
         let room = 2 * self.most_at_once();
         self.waits

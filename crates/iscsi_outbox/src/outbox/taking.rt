@@ -2,7 +2,7 @@
 
 ghost use Rattle.std.specs.Prelude.{◌≡◌};
 ghost use Rattle.iscsi_history.specs.promises.Order.{in_parts};
-ghost use Rattle.iscsi_outbox_law.specs.Called.{KeepsToRules};
+ghost use Rattle.iscsi_outbox_law.specs.Called.{KeepsAllPromises, KeepsToRules};
 ghost use Rattle.iscsi_outbox_rules.specs.rules.Calls.{Takes};
 ghost use Rattle.iscsi_outbox_steps.specs.Steps.{after_item, after_items, taken};
 ghost use Rattle.iscsi_outbox.specs.Walks.{numbered_by};
@@ -22,6 +22,7 @@ impl Outbox {
     pub fn take(&mut self, effects: &[Effect], numbers: Numbers)
         ensures state { self.new ≡ taken effects.now numbers self.old }
         ensures rules { KeepsToRules self.old (Takes effects.now numbers) }
+        ensures promises { KeepsAllPromises self.old (Takes effects.now numbers) }
     {
         self.take_items(effects);
         self.tell(effects);

@@ -4,7 +4,7 @@ use Rattle.iscsi_outbox_steps.specs.State.{State, place_of, with_link}
 use Rattle.iscsi_outbox_steps.specs.Steps.{settle, trail}
 use Rattle.iscsi_outbox.proofs.SendLemmas.{place_is}
 use Rattle.iscsi_outbox_rules.specs.rules.Calls.{Hears}
-use Rattle.iscsi_outbox_law.proofs.Called.{keeps}
+use Rattle.iscsi_outbox_law.proofs.Called.{keeps, keeps_all}
 use Rattle.iscsi_outbox.proofs.outbox.Outbox.heard.Goals as goal
 
 pub returns-in-Some-clause-state : goal.returns-in-Some-clause-state
@@ -18,5 +18,11 @@ returns-in-Some-clause-state c =
 pub returns-in-Some-clause-rules : goal.returns-in-Some-clause-rules
 returns-in-Some-clause-rules c = keeps _ (Hears c.args.cid c.args.exp_stat_sn c.args.transfer_tag)
 
+pub returns-in-Some-clause-promises : goal.returns-in-Some-clause-promises
+returns-in-Some-clause-promises c = keeps_all _ (Hears c.args.cid c.args.exp_stat_sn c.args.transfer_tag)
+
 pub returns-in_default-clause-rules : goal.returns-in_default-clause-rules
 returns-in_default-clause-rules c = keeps _ (Hears c.args.cid c.args.exp_stat_sn c.args.transfer_tag)
+
+pub returns-in_default-clause-promises : goal.returns-in_default-clause-promises
+returns-in_default-clause-promises c = keeps_all _ (Hears c.args.cid c.args.exp_stat_sn c.args.transfer_tag)

@@ -5,7 +5,7 @@ use Rattle.iscsi_outbox_steps.specs.State.{State, place_of}
 use Rattle.iscsi_outbox_steps.specs.Steps.{Noticed, Waited}
 use Rattle.iscsi_outbox.proofs.ChoiceLemmas.{given_at, given_none, next_at, next_none, nothing_goes, notice_goes, ping_goes, waiting_goes}
 use Rattle.iscsi_outbox_rules.specs.rules.Calls.{Nexts}
-use Rattle.iscsi_outbox_law.proofs.Called.{keeps}
+use Rattle.iscsi_outbox_law.proofs.Called.{keeps, keeps_all}
 use Rattle.iscsi_outbox.proofs.outbox.Outbox.next.Goals as goal
 
 pub hand_out_waiting-requires-clause-open : goal.hand_out_waiting-requires-clause-open
@@ -83,14 +83,29 @@ returns-in-None-clause-state c =
 pub returns-in_default-clause-rules : goal.returns-in_default-clause-rules
 returns-in_default-clause-rules c = keeps _ (Nexts c.args.cid)
 
+pub returns-in_default-clause-promises : goal.returns-in_default-clause-promises
+returns-in_default-clause-promises c = keeps_all _ (Nexts c.args.cid)
+
 pub returns-in-Some-Waiting-clause-rules : goal.returns-in-Some-Waiting-clause-rules
 returns-in-Some-Waiting-clause-rules c = keeps _ (Nexts c.args.cid)
+
+pub returns-in-Some-Waiting-clause-promises : goal.returns-in-Some-Waiting-clause-promises
+returns-in-Some-Waiting-clause-promises c = keeps_all _ (Nexts c.args.cid)
 
 pub returns-in-Some-Ping-clause-rules : goal.returns-in-Some-Ping-clause-rules
 returns-in-Some-Ping-clause-rules c = keeps _ (Nexts c.args.cid)
 
+pub returns-in-Some-Ping-clause-promises : goal.returns-in-Some-Ping-clause-promises
+returns-in-Some-Ping-clause-promises c = keeps_all _ (Nexts c.args.cid)
+
 pub returns-in-Some-Notice-clause-rules : goal.returns-in-Some-Notice-clause-rules
 returns-in-Some-Notice-clause-rules c = keeps _ (Nexts c.args.cid)
 
+pub returns-in-Some-Notice-clause-promises : goal.returns-in-Some-Notice-clause-promises
+returns-in-Some-Notice-clause-promises c = keeps_all _ (Nexts c.args.cid)
+
 pub returns-in-None-clause-rules : goal.returns-in-None-clause-rules
 returns-in-None-clause-rules c = keeps _ (Nexts c.args.cid)
+
+pub returns-in-None-clause-promises : goal.returns-in-None-clause-promises
+returns-in-None-clause-promises c = keeps_all _ (Nexts c.args.cid)

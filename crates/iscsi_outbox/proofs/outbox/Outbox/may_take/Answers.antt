@@ -1,0 +1,8 @@
+use Rattle.iscsi_outbox_law.proofs.Called.{may_take_by_rules}
+use Rattle.iscsi_outbox.proofs.outbox.Outbox.may_take.Goals as goal
+
+pub returns-then-saturating_add-room-clause-rules : goal.returns-then-saturating_add-room-clause-rules
+returns-then-saturating_add-room-clause-rules c = may_take_by_rules c.args.self.now
+
+pub returns-else-saturating_add-room-clause-rules : goal.returns-else-saturating_add-room-clause-rules
+returns-else-saturating_add-room-clause-rules c = may_take_by_rules c.args.self.now
