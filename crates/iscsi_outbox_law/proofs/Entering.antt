@@ -1,6 +1,5 @@
 -- A PDU enters the queue of a connection in both.
 use Rattle.std.proofs.Common.{◌≡◌, ℕ, ◌+◌, ◌==◌, ◌&&◌, cond, Bool, true, false, List, [], ◌∷◌, ◌++◌, set, refl, ap, sym, subst, ◌∙◌}
-use Rattle.std.specs.List.{list_any}
 use Rattle.std.proofs.lemmas.List.{set-get_or}
 use Rattle.iscsi_arrivals.specs.Counts.{new_counts, takes_more_by}
 use Rattle.iscsi_arrivals.proofs.SinceLemmas.{takes_more_is}
@@ -18,7 +17,7 @@ use Rattle.iscsi_outbox_law.specs.Links.{IsEntry, IsQueue, pdu_of, place_of_comm
 use Rattle.iscsi_outbox_law.specs.Commands.{is_under_way, link_in}
 use Rattle.iscsi_outbox_law.specs.Stands.{Stands, StandsWith}
 use Rattle.iscsi_outbox_law.proofs.PairLemmas.{any-set, pairs-append, pairs-at}
-use Rattle.iscsi_outbox_law.proofs.PlaceLemmas.{AreApart, IsPlace, at_none, at_place, conns_of}
+use Rattle.iscsi_outbox_law.proofs.PlaceLemmas.{AreApart, IsPlace, at_place, conns_of}
 use Rattle.iscsi_outbox_law.proofs.Standing.{counts_at}
 use Rattle.iscsi_outbox_law.proofs.LinkChanges.{Moves, stands_set, stands_under}
 use Rattle.iscsi_outbox_law.proofs.CountChanges.{stands_queue}
@@ -104,10 +103,3 @@ module _ (o : Opening) (s : State) (b : Box) (h : Stands o s b) (apart : AreApar
       by_test : (v : Bool) → Stands o (record s { waits = cond (v && true) (entered p item s.waits) (record s.waits { time = s.waits.time + 1 }) }) (box_at v)
       by_test true = entered_stands
       by_test false = passed_stands
-
--- a reply for a connection that isn't there
-pub enter_nowhere : (o : Opening) (s : State) (b : Box) (cid : ℕ) (out : Outgoing) → Stands o s b → has_time s.waits ≡ true → list_any (λ k. k == cid) (conns_of b.links) ≡ false
-    → Stands o (record s { waits = later s.waits }) (enter_box cid out b)
-enter_nowhere o s b cid out h timed none =
-    subst (λ ls. Stands o (record s { waits = later s.waits }) (record b { time = b.time + 1; links = ls })) (sym (at_none (append (record out { time = b.time })) b.links cid none))
-    (subst (λ v. Stands o (record s { waits = cond v (record s.waits { time = s.waits.time + 1 }) s.waits }) (record b { time = b.time + 1 })) (sym timed) (stands_later (is_under_way o b.links) o s b h))

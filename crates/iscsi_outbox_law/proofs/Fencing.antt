@@ -50,9 +50,6 @@ among (l ∷ links) (suc p) apart lt =
       apart_after = rest.apart_after;
     }
 
-IsIdle : Link → Type 0
-IsIdle l = is_open l ≡ false → l.queue ≡ []
-
 pub open_any : (test : Outgoing → Bool) (links : List Link) → EachOf (λ (l : Link). is_open l ≡ false → l.queue ≡ []) links → any_waits test (filter is_open links) ≡ any_waits test links
 open_any test [] idle = refl
 open_any test (l ∷ links) idle =
@@ -156,9 +153,6 @@ module _ (o : Opening) (s : State) (b : Box) (h : Stands o s b) (sound : IsSound
         ∙ sym (waits_elsewhere test b l mine opens)
 
     -- ---- the last fenced answer
-
-    is_out_at : Link → Bool
-    is_out_at m = list_any fenced_handed (unarrived m)
 
     elsewhere : Link → Bool
     elsewhere m = (is_open m && not (m.conn == (link_in b.links p).conn)) && list_any fenced_handed (unarrived m)

@@ -70,9 +70,6 @@ module _ (o : Opening) (s : State) (b : Box) (h : Stands o s b) (sound : IsSound
   st : StandsFor (link_at s p) (link_in b.links p)
   st = counts_at (is_under_way o b.links) o s b h p within
 
-  Chosen : Option Out → Option Outgoing → Type 0
-  Chosen = SameChosen o s b (link_in b.links p) p
-
   from_queues : is_open l ≡ true → (queue : List Entry) (outs : List Outgoing) → queue_at s.waits p ≡ queue → l.queue ≡ outs → PairsOf (IsEntry s.tracked l.conn) queue outs
       → SameChosen o s b l p
       (elim queue as (λ (q : List Entry). Option Out) [

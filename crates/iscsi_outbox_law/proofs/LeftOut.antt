@@ -129,9 +129,6 @@ out_under under ticket l None h = sym h
 out_under under ticket l (Some stamp) h = sym h.0
 
 module _ (o : Opening) (s : State) (b : Box) (h : Stands o s b) (homes : HaveHomes b) (apart : AreApart (conns_of b.links)) where
-  Kept : Command → Task → Type 0
-  Kept = IsCommand (is_under_way o b.links) s.limits.cids b.links
-
   pub out_is : (c : Command) (t : Task) → IsCommand (is_under_way o b.links) s.limits.cids b.links c t → is_out c ≡ is_under_way o b.links c.ticket
   out_is c t k = out_under (is_under_way o b.links) c.ticket (link_in b.links c.conn) (c.last_out) k.out
 

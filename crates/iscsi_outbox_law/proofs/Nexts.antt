@@ -41,9 +41,6 @@ use Rattle.iscsi_outbox_law.proofs.HandedLemmas.{answers_weaken, kept_same, out_
 -- ---- a command of which a PDU is handed out: its ticket, its place and how far it has come stay
 
 module _ (stamp : Stamp) (v : Tracked) (place : ℕ) where
-  turn : Command → Command
-  turn c = at_place (with_out (Some stamp)) place c
-
   pub live_turned : (c : Command) → is_live (at_place (with_out (Some stamp)) place c) ≡ is_live c
   live_turned c = elim (is_at place c) as (λ w. is_live (cond w (with_out (Some stamp) c) c) ≡ is_live c) [ true ↦ refl | false ↦ refl ]
 
@@ -187,9 +184,6 @@ module _ (o : Opening) (s : State) (b : Box) (st : Stands o s b) (p : ℕ) (h : 
   module _ (c : Command) (kept : In c s.tracked.commands) (live : is_live c ≡ true) (conn : c.conn ≡ p) (of : h.out.ticket ≡ Some c.ticket) (stamp : Stamp)
       (stamp_here : stamp ≡ stamp_at (link_in b.links p) (length (link_in b.links p).handed))
       (none : (t : Task) → In t b.tasks → is_left_phase t.phase ≡ true → named t.ticket ≡ false) where
-    v' : Tracked
-    v' = handed_out c.place stamp s.tracked
-
     names_is : (k : ℕ) → named k ≡ (c.ticket == k)
     names_is k = ap (λ (x : Option ℕ). elim x as (λ (y : Option ℕ). Bool) [ Some n ↦ n == k | None ↦ false ]) of
 

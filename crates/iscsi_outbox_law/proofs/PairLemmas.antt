@@ -16,10 +16,6 @@ module _ {A : Type 0} where
   each-weaken P Q [] f h = tt
   each-weaken P Q (x ∷ xs) f h = (f x h.0, each-weaken P Q xs f h.1)
 
-  pub each-all : (P : A → Type 0) (xs : List A) → ((x : A) → P x) → EachOf P xs
-  each-all P [] f = tt
-  each-all P (x ∷ xs) f = (f x, each-all P xs f)
-
   pub each-filter : (P : A → Type 0) (p : A → Bool) (xs : List A) → EachOf P xs → EachOf P (filter p xs)
   each-filter P p [] h = tt
   each-filter P p (x ∷ xs) h = cond_both (p x) (x ∷ filter p xs) (filter p xs) (EachOf P) (λ is. (h.0, each-filter P p xs h.1)) (λ is. each-filter P p xs h.1)
@@ -116,11 +112,6 @@ pairs-drop R [] [] h = tt
 pairs-drop R (x ∷ xs) (y ∷ ys) h = h.1
 pairs-drop R [] (y ∷ ys) h = absurd h
 pairs-drop R (x ∷ xs) [] h = absurd h
-
--- as each stands for what it is made of
-pub pairs-maps : {A B C : Type 0} (R : B → C → Type 0) (f : A → B) (g : A → C) (xs : List A) → ((x : A) → R (f x) (g x)) → PairsOf R (map f xs) (map g xs)
-pairs-maps R f g [] h = tt
-pairs-maps R f g (x ∷ xs) h = (h x, pairs-maps R f g xs h)
 
 pub pairs-map : {A B C D : Type 0} (R : A → B → Type 0) (S : C → D → Type 0) (f : A → C) (g : B → D) (xs : List A) (ys : List B) → ((x : A) (y : B) → R x y → S (f x) (g y)) → PairsOf R xs ys → PairsOf S (map f xs) (map g ys)
 pairs-map R S f g [] [] k h = tt

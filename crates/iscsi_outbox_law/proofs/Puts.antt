@@ -107,9 +107,6 @@ module _ (o : Opening) (s : State) (b : Box) (h : Stands o s b) (sound : IsSound
   apart : AreApart (conns_of b.links)
   apart = links_apart (is_under_way o b.links) o s b h distinct
 
-  live_test : ℕ → Task → Bool
-  live_test ticket t = t.ticket == ticket && is_live_phase t.phase
-
   pub both_live : (ticket : ℕ) → AreLive o s b ticket ⊎ NoneLive s b ticket
   both_live ticket = by_task (find (λ (t : Task). t.ticket == ticket && is_live_phase t.phase) b.tasks) refl
     where

@@ -49,9 +49,6 @@ module _ (o : Opening) (s : State) (b : Box) (h : Stands o s b) (homes : HaveHom
   abbrev v : Tracked
   v = s.tracked
 
-  abbrev under : ℕ → Bool
-  under = is_under_way o b.links
-
   pub kept : In c s.tracked.commands
   kept = (find_in (λ (x : Command). x.ticket == ticket) s.tracked.commands c found).0
 

@@ -1,14 +1,14 @@
--- Commands are enabled by an event, and are started once it is over.
+-- Commands are enabled by an event, in both.
 use Rattle.std.proofs.Common.{◌≡◌, ℕ, ◌+◌, ◌<◌, ◌==◌, ◌||◌, inl, inr, ⊎_elim, cond, Bool, true, false, List, [], ◌∷◌, map, filter, count_by, Option, Some, None, refl, ap, sym, subst, ◌∙◌, arith, eq-eqb, ne_eqb}
 use Rattle.std.proofs.lemmas.Bool.{cases_eq, eqb-true, false≢true, true≢false}
 use Rattle.iscsi_arrivals.proofs.CountLemmas.{count-cons}
 use Rattle.iscsi_outbox_rules.specs.rules.Calls.{Opening}
 use Rattle.iscsi_outbox_rules.specs.rules.Boxes.{Phase, Dormant as DormantTask, Fresh as FreshTask, Started as StartedTask, Completed as CompletedTask, Running as RunningTask, Gone as GoneTask, Task, Box}
 use Rattle.iscsi_outbox_rules.specs.rules.Words.{contains, is_live_phase}
-use Rattle.iscsi_outbox_rules.specs.rules.Items.{in_phase as tasks_in_phase, phase_enabled, phase_told}
+use Rattle.iscsi_outbox_rules.specs.rules.Items.{in_phase as tasks_in_phase, phase_enabled}
 use Rattle.iscsi_outbox_state.specs.declared.lane.Standing.TheVariants.{Left as IsLeft}
 use Rattle.iscsi_outbox_steps.specs.State.{State}
-use Rattle.iscsi_outbox_steps.specs.Steps.{enable, in_phase_if, is_dormant, is_fresh, is_live, tell}
+use Rattle.iscsi_outbox_steps.specs.Steps.{enable, in_phase_if, is_dormant, is_live}
 use Rattle.iscsi_tracked.specs.declared.command.Command.{Command}
 use Rattle.iscsi_tracked.specs.declared.command.Phase.{Phase as KeptPhase}
 use Rattle.iscsi_tracked.specs.declared.command.Phase.TheVariants.{Dormant, Fresh, Started, Running, Gone}
@@ -137,7 +137,7 @@ module _ (test : Command → Bool) (phase : KeptPhase) (turn : Phase → Phase) 
       joined true w = refl
       joined false w = refl
 
--- ---- enabled, and started
+-- ---- enabled
 
 dormant_of : (p : KeptPhase) → (elim p as (λ (q : KeptPhase). Bool) [ Dormant ↦ true | Fresh ↦ false | Started ↦ false | Running ↦ false | Gone ↦ false ]) ≡ true → (lives_in p ≡ true) × (FreshTask ≡ phase_enabled (phase_of p))
 dormant_of Dormant k = (refl, refl)
@@ -152,20 +152,6 @@ not_dormant Fresh k = refl
 not_dormant Started k = refl
 not_dormant Running k = refl
 not_dormant Gone k = refl
-
-fresh_of : (p : KeptPhase) → (elim p as (λ (q : KeptPhase). Bool) [ Fresh ↦ true | Dormant ↦ false | Started ↦ false | Running ↦ false | Gone ↦ false ]) ≡ true → (lives_in p ≡ true) × (StartedTask ≡ phase_told (phase_of p))
-fresh_of Dormant k = absurd (false≢true k)
-fresh_of Fresh k = (refl, refl)
-fresh_of Started k = absurd (false≢true k)
-fresh_of Running k = absurd (false≢true k)
-fresh_of Gone k = absurd (false≢true k)
-
-not_fresh : (p : KeptPhase) → (elim p as (λ (q : KeptPhase). Bool) [ Fresh ↦ true | Dormant ↦ false | Started ↦ false | Running ↦ false | Gone ↦ false ]) ≡ false → phase_told (phase_of p) ≡ phase_of p
-not_fresh Dormant k = refl
-not_fresh Fresh k = absurd (true≢false k)
-not_fresh Started k = refl
-not_fresh Running k = refl
-not_fresh Gone k = refl
 
 enabled_others : (p : Phase) → is_live_phase p ≡ false → phase_enabled p ≡ p
 enabled_others DormantTask k = absurd (true≢false k)
@@ -183,38 +169,12 @@ enabled_twice CompletedTask = refl
 enabled_twice RunningTask = refl
 enabled_twice GoneTask = refl
 
-told_others : (p : Phase) → is_live_phase p ≡ false → phase_told p ≡ p
-told_others DormantTask k = refl
-told_others FreshTask k = absurd (true≢false k)
-told_others StartedTask k = refl
-told_others CompletedTask k = refl
-told_others RunningTask k = refl
-told_others GoneTask k = refl
-
-told_twice : (p : Phase) → phase_told (phase_told p) ≡ phase_told p
-told_twice DormantTask = refl
-told_twice FreshTask = refl
-told_twice StartedTask = refl
-told_twice CompletedTask = refl
-told_twice RunningTask = refl
-told_twice GoneTask = refl
-
 enabling : IsTurn is_dormant Fresh phase_enabled
 enabling = record { lives = refl; kept = λ out. refl; passes = λ c k. dormant_of c.phase k; fails = λ c k. not_dormant c.phase k; others = enabled_others; twice = enabled_twice }
-
-starting : IsTurn is_fresh Started phase_told
-starting = record { lives = refl; kept = λ out. refl; passes = λ c k. fresh_of c.phase k; fails = λ c k. not_fresh c.phase k; others = told_others; twice = told_twice }
 
 enable_as : (tickets : List ℕ) (s : State) → all_turned is_dormant Fresh tickets s ≡ enable tickets s
 enable_as [] s = refl
 enable_as (ticket ∷ tickets) s = enable_as tickets (in_phase_if is_dormant Fresh ticket s)
 
-tell_as : (tickets : List ℕ) (s : State) → all_turned is_fresh Started tickets s ≡ tell tickets s
-tell_as [] s = refl
-tell_as (ticket ∷ tickets) s = tell_as tickets (in_phase_if is_fresh Started ticket s)
-
 pub enable_stands : (o : Opening) (tickets : List ℕ) (s : State) (b : Box) → Stands o s b → InOrder (λ (t u : Task). t.ticket < u.ticket) b.tasks → Stands o (enable tickets s) (tasks_in_phase phase_enabled tickets b)
 enable_stands o tickets s b h ascending = subst (λ x. Stands o x (tasks_in_phase phase_enabled tickets b)) (enable_as tickets s) (turns_stand is_dormant Fresh phase_enabled enabling o tickets s b h ascending)
-
-pub tell_stands : (o : Opening) (tickets : List ℕ) (s : State) (b : Box) → Stands o s b → InOrder (λ (t u : Task). t.ticket < u.ticket) b.tasks → Stands o (tell tickets s) (tasks_in_phase phase_told tickets b)
-tell_stands o tickets s b h ascending = subst (λ x. Stands o x (tasks_in_phase phase_told tickets b)) (tell_as tickets s) (turns_stand is_fresh Started phase_told starting o tickets s b h ascending)

@@ -40,14 +40,6 @@ module _ {A : Type 0} where
       let rest = find_push p xs y in
       elim (p x) as (λ v. cond v (Some x) (find p (xs ++ y ∷ [])) ≡ (elim (cond v (Some x) (find p xs)) as (λ (w : Option A). Option A) [ Some z ↦ Some z | None ↦ cond (p y) (Some y) None ])) [ true ↦ refl | false ↦ rest ]
 
-  find_nothing : (p : A → Bool) (xs : List A) → list_any p xs ≡ false → find p xs ≡ None
-  find_nothing p [] none = refl
-  find_nothing p (x ∷ xs) none = by_first (p x) none (find_nothing p xs)
-    where
-      by_first : (v : Bool) → (v || list_any p xs) ≡ false → (list_any p xs ≡ false → find p xs ≡ None) → cond v (Some x) (find p xs) ≡ None
-      by_first true e rest = absurd (true≢false e)
-      by_first false e rest = rest e
-
 -- nothing is of a ticket above all
 none_named : (ticket : ℕ) (tasks : List Task) (conn : ℕ) (out : Outgoing) → EachOf (λ (t : Task). t.ticket < ticket) tasks → HasHome tasks conn out → is_of (λ k. k == ticket) out ≡ false
 none_named ticket tasks conn out below home = by_ticket (out.ticket) home
@@ -90,9 +82,6 @@ module _ (o : Opening) (s : State) (b : Box) (h : Stands o s b) (handed : EachOf
 
   no_place : has_place place s.tracked ≡ false
   no_place = h.placed.unused place some_free
-
-  none_there : find_place place s.tracked ≡ None
-  none_there = find_nothing (is_at place) s.tracked.commands no_place
 
   apart : (d : Command) → In d s.tracked.commands → d.place ≡ place → ⊥
   apart d at same = true≢false (sym (any_from (is_at place) s.tracked.commands d at (eq-eqb d.place place same)) ∙ no_place)

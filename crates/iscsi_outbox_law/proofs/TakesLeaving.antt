@@ -130,9 +130,6 @@ module _ (o : Opening) (s : State) (b : Box) (h : Stands o s b) (ascending : InO
   there_is : list_any (is_at c.place) s.tracked.commands ≡ true
   there_is = any_from (is_at c.place) s.tracked.commands c mine (eq-eqb c.place c.place refl)
 
-  abbrev these : ℕ → Bool
-  these = contains (ticket ∷ [])
-
   -- what is under way is the same without what waits
   commands_without : (tasks : List Task) (v' : Tracked) → AreCommands (is_under_way o b.links) s.limits.cids b.links tasks v' → AreCommands (is_under_way o (map (without (contains (ticket ∷ []))) b.links)) s.limits.cids (map (without (contains (ticket ∷ []))) b.links) tasks v'
   commands_without tasks v' k =

@@ -60,9 +60,6 @@ on_trail v conn q h on =
 
 -- ---- a phase
 
-phase_out : (phase : Phase) (place : ℕ) (c : Command) → is_out (at_place (to_phase phase) place c) ≡ is_out c
-phase_out phase place c = elim (is_at place c) as (λ v. is_out (cond v (to_phase phase c) c) ≡ is_out c) [ true ↦ refl | false ↦ refl ]
-
 phase_last : (phase : Phase) (place p : ℕ) (v : Tracked) → out_place (in_phase phase place v) p ≡ out_place v p
 phase_last phase place p v = ap out_of (found_changed (to_phase phase) (keeps_phase phase) place p v.commands) ∙ by_found (find (is_at p) v.commands)
   where

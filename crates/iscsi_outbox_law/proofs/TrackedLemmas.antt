@@ -68,9 +68,6 @@ module _ (change : Command → Command) (keeps : KeepsPlace change) (place : ℕ
   pub same_place : (c : Command) → (at_place change place c).place ≡ c.place
   same_place c = elim (is_at place c) as (λ v. (cond v (change c) c).place ≡ c.place) [ true ↦ keeps.place c | false ↦ refl ]
 
-  pub same_conn_of : (c : Command) → (at_place change place c).conn ≡ c.conn
-  same_conn_of c = elim (is_at place c) as (λ v. (cond v (change c) c).conn ≡ c.conn) [ true ↦ keeps.conn c | false ↦ refl ]
-
   pub has_changed : (n : ℕ) (cs : List Command) → list_any (is_at n) (with_command change place cs) ≡ list_any (is_at n) cs
   has_changed n cs = any_map (is_at n) (at_place change place) cs (λ c. ap (λ k. k == n) (same_place c))
 

@@ -1,5 +1,5 @@
--- Commands are enabled, and count as started once their event is over, in both; and the numbers that an event shows.
-use Rattle.std.proofs.Common.{◌≡◌, ℕ, ◌+◌, ◌<◌, ◌==◌, ◌&&◌, ◌||◌, ◌^◌, nat_lt, cond, Bool, true, false, List, [], ◌∷◌, map, filter_map, Option, Some, None, refl, ap, sym, subst, ◌∙◌, lt-ltb}
+-- Commands count as started once their event is over, in both; and the numbers that an event shows.
+use Rattle.std.proofs.Common.{◌≡◌, ℕ, ◌<◌, ◌&&◌, ◌||◌, ◌^◌, nat_lt, cond, Bool, true, false, List, [], ◌∷◌, map, filter_map, refl, ap, sym, subst, ◌∙◌, lt-ltb}
 use Rattle.std.proofs.lemmas.Bool.{false≢true, true≢false}
 use Rattle.iscsi_wire.specs.Serial.{lift}
 use Rattle.iscsi_history.specs.declared.effect.Effect.{Effect}
@@ -8,10 +8,9 @@ use Rattle.iscsi_history.specs.promises.Order.{in_parts}
 use Rattle.iscsi_outbox_rules.specs.rules.Calls.{Opening}
 use Rattle.iscsi_outbox_rules.specs.rules.Boxes.{Phase, Dormant, Fresh, Started, Completed, Running, Gone, Task, Box}
 use Rattle.iscsi_outbox_rules.specs.rules.Words.{contains, is_left_phase, is_live_phase, is_running_phase}
-use Rattle.iscsi_outbox_rules.specs.rules.Items.{after_event, after_items as box_after_items, in_phase as tasks_in_phase, phase_enabled, phase_told, ticket_enabled}
+use Rattle.iscsi_outbox_rules.specs.rules.Items.{after_event, after_items as box_after_items, in_phase as tasks_in_phase, phase_told, ticket_enabled}
 use Rattle.iscsi_outbox_steps.specs.State.{State}
-use Rattle.iscsi_outbox_steps.specs.Steps.{after_items, enable, in_phase_if, is_dormant, is_fresh, is_live, taken, tell}
-use Rattle.iscsi_tracked.specs.declared.command.Command.{Command}
+use Rattle.iscsi_outbox_steps.specs.Steps.{after_items, in_phase_if, is_fresh, taken, tell}
 use Rattle.iscsi_tracked.specs.declared.command.Phase.{Phase as KeptPhase}
 use Rattle.iscsi_tracked.specs.declared.command.Phase.TheVariants.{Dormant as KeptDormant, Fresh as KeptFresh, Started as KeptStarted, Running as KeptRunning, Gone as KeptGone}
 use Rattle.iscsi_outbox_law.specs.Pairs.{EachOf}
@@ -21,54 +20,6 @@ use Rattle.iscsi_outbox_law.specs.Stands.{Stands, StandsWith}
 use Rattle.iscsi_outbox_law.proofs.Turning.{IsLiveTurn, one_stands, phases_one, turned_by}
 
 -- ---- the phases
-
-enables : IsLiveTurn is_dormant KeptFresh phase_enabled
-enables = record {
-  live = λ d is. live_too (d.phase) is;
-  after = λ d. refl;
-  turned = λ d is. turned_from (d.phase) is;
-  stays = λ d isnt. stays_from (d.phase) isnt;
-  kept = kept_too;
-  twice = again;
-}
-  where
-    live_too : (p : KeptPhase) → (elim p as (λ (q : KeptPhase). Bool) [ KeptDormant ↦ true | KeptFresh ↦ false | KeptStarted ↦ false | KeptRunning ↦ false | KeptGone ↦ false ]) ≡ true
-        → (elim p as (λ (q : KeptPhase). Bool) [ KeptDormant ↦ true | KeptFresh ↦ true | KeptStarted ↦ true | KeptRunning ↦ false | KeptGone ↦ false ]) ≡ true
-    live_too KeptDormant is = refl
-    live_too KeptFresh is = refl
-    live_too KeptStarted is = refl
-    live_too KeptRunning is = is
-    live_too KeptGone is = is
-
-    turned_from : (p : KeptPhase) → (elim p as (λ (q : KeptPhase). Bool) [ KeptDormant ↦ true | KeptFresh ↦ false | KeptStarted ↦ false | KeptRunning ↦ false | KeptGone ↦ false ]) ≡ true → Fresh ≡ phase_enabled (phase_of p)
-    turned_from KeptDormant is = refl
-    turned_from KeptFresh is = refl
-    turned_from KeptStarted is = absurd (false≢true is)
-    turned_from KeptRunning is = absurd (false≢true is)
-    turned_from KeptGone is = absurd (false≢true is)
-
-    stays_from : (p : KeptPhase) → (elim p as (λ (q : KeptPhase). Bool) [ KeptDormant ↦ true | KeptFresh ↦ false | KeptStarted ↦ false | KeptRunning ↦ false | KeptGone ↦ false ]) ≡ false → phase_of p ≡ phase_enabled (phase_of p)
-    stays_from KeptDormant isnt = absurd (true≢false isnt)
-    stays_from KeptFresh isnt = refl
-    stays_from KeptStarted isnt = refl
-    stays_from KeptRunning isnt = refl
-    stays_from KeptGone isnt = refl
-
-    kept_too : (p : Phase) (w : Bool) → (is_live_phase (phase_enabled p) || (is_running_phase (phase_enabled p) || (is_left_phase (phase_enabled p) && w))) ≡ (is_live_phase p || (is_running_phase p || (is_left_phase p && w)))
-    kept_too Dormant w = refl
-    kept_too Fresh w = refl
-    kept_too Started w = refl
-    kept_too Completed w = refl
-    kept_too Running w = refl
-    kept_too Gone w = refl
-
-    again : (p : Phase) → phase_enabled (phase_enabled p) ≡ phase_enabled p
-    again Dormant = refl
-    again Fresh = refl
-    again Started = refl
-    again Completed = refl
-    again Running = refl
-    again Gone = refl
 
 tells : IsLiveTurn is_fresh KeptStarted phase_told
 tells = record {
@@ -124,21 +75,11 @@ none_named : (change : Phase → Phase) (ts : List Task) → map (turned_by chan
 none_named change [] = refl
 none_named change (t ∷ ts) = ap (λ xs. t ∷ xs) (none_named change ts)
 
-pub enable_with : (under : ℕ → Bool) (o : Opening) (tickets : List ℕ) (s : State) (b : Box) → StandsWith under o s b → StandsWith under o (enable tickets s) (tasks_in_phase phase_enabled tickets b)
-enable_with under o [] s b h = subst (λ ts. StandsWith under o s (record b { tasks = ts })) (sym (none_named phase_enabled b.tasks)) h
-enable_with under o (ticket ∷ tickets) s b h =
-    subst (StandsWith under o (enable tickets (in_phase_if is_dormant KeptFresh ticket s))) (phases_one is_dormant KeptFresh phase_enabled enables ticket tickets b)
-    (enable_with under o tickets (in_phase_if is_dormant KeptFresh ticket s) (tasks_in_phase phase_enabled (ticket ∷ []) b) (one_stands is_dormant KeptFresh phase_enabled enables under o s b h ticket))
-
 tell_with : (under : ℕ → Bool) (o : Opening) (tickets : List ℕ) (s : State) (b : Box) → StandsWith under o s b → StandsWith under o (tell tickets s) (tasks_in_phase phase_told tickets b)
 tell_with under o [] s b h = subst (λ ts. StandsWith under o s (record b { tasks = ts })) (sym (none_named phase_told b.tasks)) h
 tell_with under o (ticket ∷ tickets) s b h =
     subst (StandsWith under o (tell tickets (in_phase_if is_fresh KeptStarted ticket s))) (phases_one is_fresh KeptStarted phase_told tells ticket tickets b)
     (tell_with under o tickets (in_phase_if is_fresh KeptStarted ticket s) (tasks_in_phase phase_told (ticket ∷ []) b) (one_stands is_fresh KeptStarted phase_told tells under o s b h ticket))
-
--- the commands that are enabled by an item
-pub enable_stands : (o : Opening) (tickets : List ℕ) (s : State) (b : Box) → Stands o s b → Stands o (enable tickets s) (tasks_in_phase phase_enabled tickets b)
-enable_stands o tickets s b h = enable_with (is_under_way o b.links) o tickets s b h
 
 -- ---- an event is over
 
