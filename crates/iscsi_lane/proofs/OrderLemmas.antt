@@ -324,6 +324,15 @@ module _ (ts due : List ℕ) (slot k : ℕ) (up : AreAscending (time_of ts) due)
   pub left_at : k < length due → get_or due k 0 ≡ slot → remove due k ≡ without slot due
   left_at l is = remove_only slot due k l is only_at
 
+  pub not_among : (k < length due → get_or due k 0 ≡ slot → ⊥) → times slot due ≡ 0
+  not_among apart = none_at slot due (λ j l is.
+      let same = only_at j l is in apart (omega (arith, l, same)) (subst (λ n. get_or due n 0 ≡ slot) same is))
+
   pub left_none : (k < length due → get_or due k 0 ≡ slot → ⊥) → due ≡ without slot due
-  left_none apart = sym (without_none slot due (none_at slot due (λ j l is.
-      let same = only_at j l is in apart (omega (arith, l, same)) (subst (λ n. get_or due n 0 ≡ slot) same is))))
+  left_none apart = sym (without_none slot due (not_among apart))
+
+  pub is_among : (b : Bool) → (b ≡ true → (k < length due) × (get_or due k 0 ≡ slot)) → (k < length due → get_or due k 0 ≡ slot → b ≡ true) → b ≡ has due slot
+  is_among b on_it off_it = ⊎_elim
+      (λ on. let found = on_it on in on ∙ sym (has_some due slot (subst (λ n. 1 ≤ times n due) found.1 (times_at due k found.0))))
+      (λ off. off ∙ sym (has_none due slot (not_among (λ l is. true≢false (sym (off_it l is) ∙ off)))))
+      (cases_Bool b)

@@ -1,8 +1,6 @@
 -- An answer goes, as the call has it.
-use Rattle.std.proofs.Common.{◌≡◌, ℕ, ◌+◌, ◌<◌, ◌≤◌, ◌||◌, true, List, length, map, filter, get_or, ap, sym, subst, ◌∙◌, arith}
-use Rattle.iscsi_slots.specs.Places.{AreAscending}
+use Rattle.std.proofs.Common.{◌≡◌, ℕ, ◌≤◌, ◌||◌, true, List, map, filter, ap, sym, subst, ◌∙◌, arith}
 use Rattle.iscsi_slots.specs.Slots.{times}
-use Rattle.iscsi_slots.proofs.SlotLemmas.{times_at}
 use Rattle.iscsi_lists.specs.Lists.{AreApart, Listed, linked_in, times_in, with_last, without}
 use Rattle.iscsi_lists.proofs.PlaceLemmas.{times_any}
 use Rattle.iscsi_outbox_state.specs.declared.lane.Aim.TheVariants.{Tag, Unit as AtUnit}
@@ -12,14 +10,12 @@ use Rattle.iscsi_outbox_state.specs.declared.lane.Standing.TheVariants.{Undue as
 use Rattle.iscsi_outbox_state.specs.Lane.{is_of_logout}
 use Rattle.iscsi_scopes.specs.Scopes.{AreKeysAscending, Scoped, left, scoped, slots_of}
 use Rattle.iscsi_lane.specs.Standings.{at, slots_at}
-use Rattle.iscsi_lane.specs.Scoping.{told}
-use Rattle.iscsi_lane.specs.Times.{InOrder, IsUp, gains, has, time_of}
+use Rattle.iscsi_lane.specs.Times.{InOrder, IsUp, gains, has}
 use Rattle.iscsi_lane.specs.Following.{Follows, FollowsLog}
 use Rattle.iscsi_lane.proofs.LaneLemmas.{moved_other, moved_room, moved_values}
 use Rattle.iscsi_lane.proofs.JoinLemmas.{stands_there}
 use Rattle.iscsi_lane.proofs.LessLemmas.{beside_taken, in_line_of_tag, in_line_of_unit, rest_in_order, tag_left_line, tag_taken, unit_left_line, unit_taken}
-use Rattle.iscsi_lane.proofs.OrderLemmas.{filter_few, up_filter}
-use Rattle.iscsi_lane.proofs.StampLemmas.{once_at, up_goes, within_at}
+use Rattle.iscsi_lane.proofs.StampLemmas.{once_at, up_goes}
 
 module _ (log : Listed Standing) (units tags : Scoped) (due : List ℕ) (capacity : ℕ) (f : FollowsLog log units tags due capacity) (known : AreApart (linked_in log))
     (up_u : AreKeysAscending units.lines) (up_t : AreKeysAscending tags.lines) (s : ℕ) (there : 1 ≤ times s (slots_at log 2)) (rest : List ℕ) (is_rest : rest ≡ without s due) where
@@ -31,15 +27,6 @@ module _ (log : Listed Standing) (units tags : Scoped) (due : List ℕ) (capacit
 
   pub in_log : 1 ≤ times_in s log.lists
   in_log = let a = times_any s 2 log.lists in omega (arith, a, there)
-
-  module _ (ts : List ℕ) where
-    pub due_within : length ts ≡ log.room + 1 → (j : ℕ) → j < length due → get_or due j 0 < length ts
-    due_within long j l =
-        let a = times_at due j l in let b = ap (times (get_or due j 0)) f.follows.is_due in let d = filter_few (get_or due j 0) (told units tags log.values) order in
-        let e = within_at log known 2 (get_or due j 0) (omega (arith, a, b, d)) in omega (arith, e, long)
-
-    pub due_up : IsUp ts order → AreAscending (time_of ts) due
-    due_up up = subst (AreAscending (time_of ts)) (sym f.follows.is_due) (up_filter ts (told units tags log.values) order up)
 
   module _ (t : Listed Standing) (is_t : t ≡ record log { lists = with_last 1 s (map (without s) log.lists) }) where
     t_order : slots_at t 2 ≡ without s order

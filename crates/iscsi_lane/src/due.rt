@@ -62,6 +62,17 @@ pub(crate) fn leave_due(stamps: &[u64], due: &mut Vec<u32>, slot: u32)
     }
 }
 
+/// Whether a slot is among those that are due.
+pub(crate) fn is_among(stamps: &[u64], due: &[u32], slot: u32) -> bool
+    requires slot { slot < length stamps.now }
+    requires within { (j : ℕ) → j < length due.now → slice_index_or due.now j 0 < length stamps.now }
+    requires up { AreAscending (time_of stamps.now) due.now }
+    ensures { result ≡ has due.now slot }
+{
+    let k = place_of(stamps, due, slot);
+    is_at(due, k, slot)
+}
+
 /// Whether a slot stands at a place.
 fn is_at(due: &[u32], k: usize, slot: u32) -> bool
     ensures yes { result ≡ true → (k < length due.now) × (slice_index_or due.now k 0 ≡ slot) }

@@ -6,7 +6,7 @@ ghost use Rattle.iscsi_lines.specs.Settling.{IsLess};
 ghost use Rattle.iscsi_outbox_state.specs.Lane.{as_cleared, owes, waits_for_clear};
 ghost use Rattle.iscsi_slots.specs.Slots.{times};
 ghost use Rattle.iscsi_lane.specs.Lining.{Enters, IsLined, IsNew, without_taken};
-ghost use Rattle.iscsi_lane.specs.Scoping.{as_item, is_untold as is_not_told, owing_of};
+ghost use Rattle.iscsi_lane.specs.Scoping.{as_item, owing_of};
 ghost use Rattle.iscsi_lane.specs.Standings.{at as stood_at, slots_at};
 ghost use Rattle.iscsi_lane.specs.Walking.{IsFirstDue};
 
@@ -14,7 +14,7 @@ use crate::due::examine;
 use crate::following::{enter, join, owe_less, part};
 use crate::settling::one_if;
 use crate::stamps::stamp;
-use crate::walking::{first_due, is_of_logout};
+use crate::walking::{first_due, is_untold};
 use iscsi_lists::Lists;
 use iscsi_outbox_state::{Left, Standing, Undue};
 use iscsi_scopes::Scopes;
@@ -150,18 +150,16 @@ impl Lines {
     }
 
     /// The answer that is due first, and its slot: the first of those that the lines tell. Where an answer waits of which they
-    /// don't tell, it walks over the log.
+    /// don't tell, it walks over the log to that which is due, and for each such answer over what stands before it.
     fn find_due(&self, log: &Lists<Standing>) -> Option<(u32, Undue)>
         requires lined { IsLined self.now log.now }
         requires lists { length log.now.lists ≡ 3 }
         ensures { IsFirstDue log.now result }
     {
-        if 0 < self.untold {
-            return first_due(log);
-        }
         log.known();
-        self.units.known();
-        self.tags.known();
+        if 0 < self.untold {
+            return first_due(log, &self.stamps, &self.due);
+        }
         let slot = first_told(&self.due)?;
         let Standing::Undue(answer) = *log.at(slot) else {
             return None;
@@ -225,11 +223,4 @@ fn first_told(due: &[u32]) -> Option<u32>
     ensures { result ≡ first_of due.now }
 {
     due.first().copied()
-}
-
-/// Whether the lines don't tell of an answer: it is a Logout's, or closes its connection.
-fn is_untold(answer: Undue) -> bool
-    ensures { result ≡ is_not_told (Standing.Undue answer) }
-{
-    is_of_logout(answer.aim) || answer.ends
 }

@@ -1,9 +1,9 @@
-use Rattle.std.proofs.Common.{◌∙◌, ⊎_elim, refl, ap, sym, arith}
-use Rattle.iscsi_lists.specs.Lists.{without}
+use Rattle.std.proofs.Common.{◌∙◌, ⊎_elim, ap, sym, arith}
 use Rattle.iscsi_outbox_state.specs.declared.lane.Aim.TheVariants.{Unit as AtUnit}
 use Rattle.iscsi_outbox_state.specs.Lane.{is_of_logout}
-use Rattle.iscsi_lane.proofs.TakeLemmas.{beside_goes, due_up, due_within, in_log, tag_goes, tag_left_there, tag_line_there, taken_order, taken_up, unit_goes, unit_left_there, unit_line_there}
+use Rattle.iscsi_lane.proofs.TakeLemmas.{beside_goes, in_log, tag_goes, tag_left_there, tag_line_there, taken_order, taken_up, unit_goes, unit_left_there, unit_line_there}
 use Rattle.iscsi_lane.proofs.StampLemmas.{once_at, within_at}
+use Rattle.iscsi_lane.proofs.TellLemmas.{due_up, due_within}
 use Rattle.iscsi_lane.proofs.following.part.Goals as goal
 
 pub move_to_back-requires-clause-slot : goal.move_to_back-requires-clause-slot
@@ -77,12 +77,10 @@ pub leave_due-requires-clause-slot : goal.leave_due-requires-clause-slot
 leave_due-requires-clause-slot c = let a = within_at c.args.log.now c.known.ensures.apart 2 c.args.slot c.requires.there in let b = c.requires.long in omega (arith, a, b)
 
 pub leave_due-requires-clause-within : goal.leave_due-requires-clause-within
-leave_due-requires-clause-within c = due_within c.args.log.now c.args.units.now c.args.tags.now c.args.due.now.items _ c.requires.follows c.known.ensures.apart c.known-2.ensures.ascending c.known-3.ensures.ascending c.args.slot c.requires.there (without c.args.slot c.args.due.now.items) refl
-    c.args.stamps.now c.requires.long
+leave_due-requires-clause-within c = due_within c.args.log.now c.args.units.now c.args.tags.now c.args.due.now.items _ c.requires.follows c.known.ensures.apart c.args.stamps.now c.requires.long
 
 pub leave_due-requires-clause-up : goal.leave_due-requires-clause-up
-leave_due-requires-clause-up c = due_up c.args.log.now c.args.units.now c.args.tags.now c.args.due.now.items _ c.requires.follows c.known.ensures.apart c.known-2.ensures.ascending c.known-3.ensures.ascending c.args.slot c.requires.there (without c.args.slot c.args.due.now.items) refl
-    c.args.stamps.now c.requires.up
+leave_due-requires-clause-up c = due_up c.args.log.now c.args.units.now c.args.tags.now c.args.due.now.items _ c.requires.follows c.known.ensures.apart c.args.stamps.now c.requires.up
 
 pub returns-in-Conn : goal.returns-in-Conn
 returns-in-Conn c = record {
