@@ -12,10 +12,10 @@ use Rattle.iscsi_outbox_state.specs.declared.lane.Aim.TheVariants.{Tag, Unit as 
 use Rattle.iscsi_outbox_state.specs.declared.lane.Undue.{Undue}
 use Rattle.iscsi_outbox_state.specs.declared.lane.Standing.{Standing}
 use Rattle.iscsi_outbox_state.specs.declared.lane.Standing.TheVariants.{Left as IsLeft, Undue as IsUndue}
-use Rattle.iscsi_outbox_state.specs.Lane.{is_due, is_of_logout, others_behind}
+use Rattle.iscsi_outbox_state.specs.Lane.{is_due, is_same_aim, others_behind}
 use Rattle.iscsi_scopes.specs.Scopes.{Scoped, slots_of}
 use Rattle.iscsi_lane.specs.Standings.{at, standings}
-use Rattle.iscsi_lane.specs.Scoping.{IsAbort, Mirrors, due_of, is_it, stands_in, told, told_of}
+use Rattle.iscsi_lane.specs.Scoping.{Mirrors, due_of, is_it, stands_in, told, told_of}
 use Rattle.iscsi_lane.specs.Times.{gains, is_cleared}
 use Rattle.iscsi_lane.proofs.DueLemmas.{AllTold, Tells}
 use Rattle.iscsi_lane.proofs.MirrorLemmas.{none_in_line}
@@ -56,10 +56,20 @@ module _ (units tags units' tags' : Scoped) (unit tag t : ℕ)
   abbrev looks : Aim → Bool
   looks aim = (is_it t (due_of units tags aim) || is_it t (due_at units' unit)) || is_it t (due_at tags' tag)
 
-  by_aim : (aim : Aim) (a : Undue) → a.aim ≡ aim → is_of_logout aim ≡ false
+  -- an aim that has no line
+  no_line : (aim : Aim) (a : Undue) → a.aim ≡ aim → is_it t (due_of units tags aim) ≡ false → is_same_aim (AtUnit unit) aim ≡ false → is_same_aim (Tag tag) aim ≡ false
+      → (due_at units' unit ≡ Some t → stands_in (AtUnit unit) (IsUndue a) ≡ true) → (due_at tags' tag ≡ Some t → stands_in (Tag tag) (IsUndue a) ≡ true)
+      → looks aim ≡ false
+  no_line aim a of_it none no_unit no_tag stand_u stand_t =
+      ap (λ b. (b || is_it t (due_at units' unit)) || is_it t (due_at tags' tag)) none
+      ∙ ap (λ b. b || is_it t (due_at tags' tag))
+      (false_from_ne_true (is_it t (due_at units' unit)) (λ here. true≢false (sym (stand_u (is_same t (due_at units' unit) here)) ∙ ap (is_same_aim (AtUnit unit)) of_it ∙ no_unit)))
+      ∙ false_from_ne_true (is_it t (due_at tags' tag)) (λ here. true≢false (sym (stand_t (is_same t (due_at tags' tag) here)) ∙ ap (is_same_aim (Tag tag)) of_it ∙ no_tag))
+
+  by_aim : (aim : Aim) (a : Undue) → a.aim ≡ aim
       → (due_at units' unit ≡ Some t → stands_in (AtUnit unit) (IsUndue a) ≡ true) → (due_at tags' tag ≡ Some t → stands_in (Tag tag) (IsUndue a) ≡ true)
       → is_it t (due_of units' tags' aim) ≡ looks aim
-  by_aim (AtUnit u) a of_it abort stand_u stand_t = same_bool (is_it t (due_at units' u)) (looks (AtUnit u))
+  by_aim (AtUnit u) a of_it stand_u stand_t = same_bool (is_it t (due_at units' u)) (looks (AtUnit u))
       (λ on. ⊎_elim
       (λ (same : u ≡ unit).
       or_left (is_it t (due_at units u) || is_it t (due_at units' unit)) (is_it t (due_at tags' tag))
@@ -80,7 +90,7 @@ module _ (units tags units' tags' : Scoped) (unit tag t : ℕ)
       let is = stand_t (is_same t (due_at tags' tag) other) in
       absurd (false≢true (subst (λ m. stands_in (Tag tag) (IsUndue (record a { aim = m })) ≡ true) of_it is)))
       (or_cases (is_it t (due_at units u) || is_it t (due_at units' unit)) (is_it t (due_at tags' tag)) any))
-  by_aim (Tag g) a of_it abort stand_u stand_t = same_bool (is_it t (due_at tags' g)) (looks (Tag g))
+  by_aim (Tag g) a of_it stand_u stand_t = same_bool (is_it t (due_at tags' g)) (looks (Tag g))
       (λ on. ⊎_elim
       (λ (same : g ≡ tag). or_right (is_it t (due_at tags g) || is_it t (due_at units' unit)) (is_it t (due_at tags' tag)) (ap (λ k. is_it t (due_at tags' k)) (sym same) ∙ on))
       (λ other.
@@ -99,26 +109,26 @@ module _ (units tags units' tags' : Scoped) (unit tag t : ℕ)
       let same : g ≡ tag = eqb-true g tag (subst (λ m. stands_in (Tag tag) (IsUndue (record a { aim = m })) ≡ true) of_it is) in
       ap (λ k. is_it t (due_at tags' k)) same ∙ here)
       (or_cases (is_it t (due_at tags g) || is_it t (due_at units' unit)) (is_it t (due_at tags' tag)) any))
-  by_aim (Conn conn) a of_it abort stand_u stand_t = absurd (true≢false abort)
-  by_aim Session a of_it abort stand_u stand_t = absurd (true≢false abort)
-  by_aim Nothing a of_it abort stand_u stand_t = absurd (true≢false abort)
+  by_aim (Conn conn) a of_it stand_u stand_t = sym (no_line (Conn conn) a of_it refl refl refl stand_u stand_t)
+  by_aim Session a of_it stand_u stand_t = sym (no_line Session a of_it refl refl refl stand_u stand_t)
+  by_aim Nothing a of_it stand_u stand_t = sym (no_line Nothing a of_it refl refl refl stand_u stand_t)
 
   split : (b p q r : Bool) → (b && ((p || q) || r)) ≡ (((b && p) || (b && q)) || (b && r))
   split true p q r = refl
   split false p q r = refl
 
-  by_standing : (x : Standing) → IsAbort x → (due_at units' unit ≡ Some t → stands_in (AtUnit unit) x ≡ true) → (due_at tags' tag ≡ Some t → stands_in (Tag tag) x ≡ true)
+  by_standing : (x : Standing) → (due_at units' unit ≡ Some t → stands_in (AtUnit unit) x ≡ true) → (due_at tags' tag ≡ Some t → stands_in (Tag tag) x ≡ true)
       → told_of units' tags' t x ≡ ((told_of units tags t x || (is_cleared x && is_it t (due_at units' unit))) || (is_cleared x && is_it t (due_at tags' tag)))
-  by_standing (IsLeft c) abort stand_u stand_t = refl
-  by_standing (IsUndue a) abort stand_u stand_t =
-      ap (λ b. not a.uncleared && b) (by_aim a.aim a refl abort.0 stand_u stand_t)
+  by_standing (IsLeft c) stand_u stand_t = refl
+  by_standing (IsUndue a) stand_u stand_t =
+      ap (λ b. not a.uncleared && b) (by_aim a.aim a refl stand_u stand_t)
       ∙ split (not a.uncleared) (is_it t (due_of units tags a.aim)) (is_it t (due_at units' unit)) (is_it t (due_at tags' tag))
 
   -- what is due then
-  pub told_then : (xs ys : List Standing) (order : List ℕ) → Mirrors AtUnit units' ys order → Mirrors Tag tags' ys order → at ys t ≡ at xs t → IsAbort (at ys t)
+  pub told_then : (xs ys : List Standing) (order : List ℕ) → Mirrors AtUnit units' ys order → Mirrors Tag tags' ys order → at ys t ≡ at xs t
       → told units' tags' ys t ≡ ((told units tags xs t || gains units' unit ys t) || gains tags' tag ys t)
-  told_then xs ys order of_units of_tags same abort =
-      by_standing (at ys t) abort (due_stands AtUnit units' ys order of_units unit t) (due_stands Tag tags' ys order of_tags tag t)
+  told_then xs ys order of_units of_tags same =
+      by_standing (at ys t) (due_stands AtUnit units' ys order of_units unit t) (due_stands Tag tags' ys order of_tags tag t)
       ∙ ap (λ x. (told_of units tags t x || gains units' unit ys t) || gains tags' tag ys t) same
 
 -- ---- the first one that is due is taken

@@ -1,11 +1,11 @@
 -- Lines by key, numbers and the answers that are due follow the lane, as one comes, owes less, or goes.
 use Rattle.std.proofs.Common.{◌≡◌, ◌≢◌, ℕ, ◌<◌, ◌≤◌, ◌==◌, ◌||◌, ◌&&◌, not, cond, Bool, true, false, List, [], ◌∷◌, ◌++◌, length, filter, set, Option, Some, None, refl, ap, sym, subst, ◌∙◌, arith, ⊎_elim, eq-eqb}
 use Rattle.std.proofs.lemmas.Bool.{cases_Bool, cases_eq, eqb-true, false≢true}
-use Rattle.std.proofs.lemmas.List.{append-nil, get_or-set_same, get_or-set_other}
+use Rattle.std.proofs.lemmas.List.{append-nil, get_or-set_same}
 use Rattle.iscsi_slots.specs.Slots.{times}
 use Rattle.iscsi_slots.proofs.SlotLemmas.{times_append}
 use Rattle.iscsi_lists.specs.Lists.{without}
-use Rattle.iscsi_lists.proofs.WithoutLemmas.{none_behind, not_first, times_other, times_without, times_without_other, without_none, without_other, without_same}
+use Rattle.iscsi_lists.proofs.WithoutLemmas.{times_other, times_without, times_without_other, without_none, without_other, without_same}
 use Rattle.iscsi_outbox_state.specs.declared.lane.Aim.{Aim}
 use Rattle.iscsi_outbox_state.specs.declared.lane.Aim.TheVariants.{Tag, Unit as AtUnit, Conn, Session, Nothing}
 use Rattle.iscsi_outbox_state.specs.declared.lane.Left.{Left}
@@ -15,7 +15,7 @@ use Rattle.iscsi_outbox_state.specs.declared.lane.Standing.TheVariants.{Left as 
 use Rattle.iscsi_outbox_state.specs.Lane.{is_of_logout, is_same_aim}
 use Rattle.iscsi_scopes.specs.Scopes.{AreKeysAscending, Scoped, entered, scoped}
 use Rattle.iscsi_lane.specs.Standings.{NOBODY, at}
-use Rattle.iscsi_lane.specs.Scoping.{AreAborts, IsAbort, Mirrors, as_item, due_of, is_it, stands_in, told, told_of}
+use Rattle.iscsi_lane.specs.Scoping.{Mirrors, as_item, due_of, is_it, stands_in, told, told_of}
 use Rattle.iscsi_lane.specs.Times.{InOrder, gains, has, is_cleared}
 use Rattle.iscsi_lane.specs.Following.{Follows}
 use Rattle.iscsi_lane.proofs.MirrorLemmas.{comes_beside, comes_in}
@@ -39,40 +39,6 @@ and_none false = refl
 pub is_same : (t : ℕ) (o : Option ℕ) → is_it t o ≡ true → o ≡ Some t
 is_same t None on = absurd (false≢true on)
 is_same t (Some x) on = ap Some (eqb-true x t on)
-
--- ---- no answer is that of a Logout
-
-aborts_fresh : (xs : List Standing) (s : ℕ) (x : Standing) (slots : List ℕ) → times s slots ≡ 0 → AreAborts xs slots → AreAborts (set xs s x) slots
-aborts_fresh xs s x [] none all = tt
-aborts_fresh xs s x (y ∷ ys) none all = (subst IsAbort (sym (get_or-set_other xs s y x NOBODY (not_first s y ys none))) all.0, aborts_fresh xs s x ys (none_behind s y ys none) all.1)
-
-aborts_push : (xs : List Standing) (s : ℕ) (slots : List ℕ) → AreAborts xs slots → IsAbort (at xs s) → AreAborts xs (slots ++ s ∷ [])
-aborts_push xs s [] all it = (it, tt)
-aborts_push xs s (y ∷ ys) all it = (all.0, aborts_push xs s ys all.1 it)
-
-pub aborts_set : (xs : List Standing) (s : ℕ) (x : Standing) (slots : List ℕ) → s < length xs → IsAbort x → AreAborts xs slots → AreAborts (set xs s x) slots
-aborts_set xs s x [] l it all = tt
-aborts_set xs s x (y ∷ ys) l it all = (
-  ⊎_elim
-      (λ (same : y ≡ s). subst IsAbort (sym (ap (at (set xs s x)) same ∙ get_or-set_same xs s x NOBODY l)) it)
-      (λ other. subst IsAbort (sym (get_or-set_other xs s y x NOBODY other)) all.0)
-      (cases_eq y s),
-  aborts_set xs s x ys l it all.1,
-)
-
-pub aborts_without : (xs : List Standing) (s : ℕ) (slots : List ℕ) → AreAborts xs slots → AreAborts xs (without s slots)
-aborts_without xs s [] all = tt
-aborts_without xs s (y ∷ ys) all = ⊎_elim
-    (λ same. subst (AreAborts xs) (sym (without_same s y ys same)) (aborts_without xs s ys all.1))
-    (λ other. subst (AreAborts xs) (sym (without_other s y ys other)) (all.0, aborts_without xs s ys all.1))
-    (cases_eq y s)
-
-pub abort_at : (xs : List Standing) (t : ℕ) (slots : List ℕ) → 1 ≤ times t slots → AreAborts xs slots → IsAbort (at xs t)
-abort_at xs t [] there all = absurd (omega (arith, there))
-abort_at xs t (y ∷ ys) there all = ⊎_elim
-    (λ (same : y ≡ t). subst (λ k. IsAbort (at xs k)) same all.0)
-    (λ other. let a = times_other t y ys other in abort_at xs t ys (omega (arith, a, there)) all.1)
-    (cases_eq y t)
 
 -- ---- those that are due
 
@@ -132,7 +98,7 @@ module _ (units tags : Scoped) (t key : ℕ) where
   unit_gain (IsLeft c) on = refl
   unit_gain (IsUndue a) on = ap (λ b. not a.uncleared && b) (unit_same a.aim on)
 
-  unit_or : (xs : List Standing) (order : List ℕ) → Mirrors AtUnit units xs order → (b : Bool) → b ≡ told units tags xs t → (b || gains units key xs t) ≡ told units tags xs t
+  pub unit_or : (xs : List Standing) (order : List ℕ) → Mirrors AtUnit units xs order → (b : Bool) → b ≡ told units tags xs t → (b || gains units key xs t) ≡ told units tags xs t
   unit_or xs order mirrors b e = ⊎_elim
       (λ on.
       ap (λ g. b || g) (unit_gain (at xs t) (due_stands AtUnit units xs order mirrors key t (is_same t (due_at units key) on)))
@@ -159,6 +125,20 @@ module _ (units tags : Scoped) (t key : ℕ) where
       (λ off. ap (λ g. b || g) (ap (λ q. is_cleared (at xs t) && q) off ∙ and_none (is_cleared (at xs t))) ∙ or_none b ∙ e)
       (cases_Bool (is_it t (due_at tags key)))
 
+-- ---- a Logout's answer has no line
+
+pub record HasNoLine (units tags : Scoped) (s : ℕ) (aim : Aim) : Type 0 where
+  pub no_unit : (k : ℕ) → is_same_aim (AtUnit k) aim ≡ false
+  pub no_tag : (k : ℕ) → is_same_aim (Tag k) aim ≡ false
+  pub not_due : is_it s (due_of units tags aim) ≡ false
+
+pub no_line_of : (units tags : Scoped) (s : ℕ) (aim : Aim) → is_of_logout aim ≡ true → HasNoLine units tags s aim
+no_line_of units tags s (Tag tag) logout = absurd (false≢true logout)
+no_line_of units tags s (AtUnit unit) logout = absurd (false≢true logout)
+no_line_of units tags s (Conn conn) logout = record { no_unit = λ k. refl; no_tag = λ k. refl; not_due = refl }
+no_line_of units tags s Session logout = record { no_unit = λ k. refl; no_tag = λ k. refl; not_due = refl }
+no_line_of units tags s Nothing logout = record { no_unit = λ k. refl; no_tag = λ k. refl; not_due = refl }
+
 -- ---- one comes
 
 module _ (units tags : Scoped) (xs : List Standing) (order due : List ℕ) (f : Follows units tags xs order due)
@@ -183,13 +163,12 @@ module _ (units tags : Scoped) (xs : List Standing) (order due : List ℕ) (f : 
     left_comes = record {
       of_units = comes_in AtUnit units xs order f.of_units s (IsLeft c) l none c.unit (λ k. refl) up_u in_u;
       of_tags = comes_in Tag tags xs order f.of_tags s (IsLeft c) l none c.tag (λ k. refl) up_t in_t;
-      aborts = aborts_push (set xs s (IsLeft c)) s order (aborts_fresh xs s (IsLeft c) order none f.aborts) (subst IsAbort (sym (get_or-set_same xs s (IsLeft c) NOBODY l)) tt);
       is_due = f.is_due ∙ sym (told_left units tags units_left tags_left xs order s (IsLeft c) l none left_same refl);
     }
 
   -- an answer of a unit, in its line
 
-  module _ (a : Undue) (key : ℕ) (of_it : a.aim ≡ AtUnit key) (stays : a.ends ≡ false) where
+  module _ (a : Undue) (key : ℕ) (of_it : a.aim ≡ AtUnit key) where
     abbrev units_with : Scoped
     units_with = scoped (entered key s units.lines) (set units.items s (as_item (IsUndue a))) units.room
 
@@ -230,13 +209,12 @@ module _ (units tags : Scoped) (xs : List Standing) (order due : List ℕ) (f : 
     unit_comes due' e = record {
       of_units = unit_line;
       of_tags = comes_beside Tag tags xs order f.of_tags s (IsUndue a) l none unit_beside;
-      aborts = aborts_push with_unit s order (aborts_fresh xs s (IsUndue a) order none f.aborts) (subst IsAbort (sym unit_at) (ap is_of_logout of_it, stays));
       is_due = e ∙ same_filter (λ t. has due t || gains units_with key with_unit t) (told units_with tags with_unit) (order ++ s ∷ []) unit_each;
     }
 
   -- an answer of a tag, in its line
 
-  module _ (a : Undue) (key : ℕ) (of_it : a.aim ≡ Tag key) (stays : a.ends ≡ false) where
+  module _ (a : Undue) (key : ℕ) (of_it : a.aim ≡ Tag key) where
     abbrev tags_with : Scoped
     tags_with = scoped (entered key s tags.lines) (set tags.items s (as_item (IsUndue a))) tags.room
 
@@ -277,6 +255,18 @@ module _ (units tags : Scoped) (xs : List Standing) (order due : List ℕ) (f : 
     tag_comes due' e = record {
       of_tags = tag_line;
       of_units = comes_beside AtUnit units xs order f.of_units s (IsUndue a) l none tag_beside;
-      aborts = aborts_push with_tag s order (aborts_fresh xs s (IsUndue a) order none f.aborts) (subst IsAbort (sym tag_at) (ap is_of_logout of_it, stays));
       is_due = e ∙ same_filter (λ t. has due t || gains tags_with key with_tag t) (told units tags_with with_tag) (order ++ s ∷ []) tag_each;
     }
+
+  -- an answer that has no line
+
+  module _ (a : Undue) (logout : is_of_logout a.aim ≡ true) where
+    pub beside_comes : Follows units tags (set xs s (IsUndue a)) (order ++ s ∷ []) due
+    beside_comes =
+        let none_of = no_line_of units tags s a.aim logout in
+        record {
+          of_units = comes_beside AtUnit units xs order f.of_units s (IsUndue a) l none none_of.no_unit;
+          of_tags = comes_beside Tag tags xs order f.of_tags s (IsUndue a) l none none_of.no_tag;
+          is_due = f.is_due
+              ∙ sym (told_left units tags units tags xs order s (IsUndue a) l none (λ t other key. (refl, refl)) (ap (λ b. not a.uncleared && b) none_of.not_due ∙ and_none (not a.uncleared)));
+        }

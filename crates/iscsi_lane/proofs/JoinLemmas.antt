@@ -1,5 +1,5 @@
 -- An answer comes to the lane, as the call has it.
-use Rattle.std.proofs.Common.{◌≡◌, ℕ, ◌+◌, ◌<◌, ◌≤◌, ◌||◌, false, List, [], ◌∷◌, ◌++◌, length, map, filter, set, ap, sym, subst, ◌∙◌, arith}
+use Rattle.std.proofs.Common.{◌≡◌, ℕ, ◌+◌, ◌<◌, ◌≤◌, ◌||◌, true, List, [], ◌∷◌, ◌++◌, length, map, filter, set, ap, sym, subst, ◌∙◌, arith}
 use Rattle.iscsi_slots.specs.Slots.{times}
 use Rattle.iscsi_lists.specs.Lists.{Listed, with_last, without}
 use Rattle.iscsi_lists.proofs.WithoutLemmas.{without_none}
@@ -9,6 +9,7 @@ use Rattle.iscsi_outbox_state.specs.declared.lane.Left.{Left}
 use Rattle.iscsi_outbox_state.specs.declared.lane.Undue.{Undue}
 use Rattle.iscsi_outbox_state.specs.declared.lane.Standing.{Standing}
 use Rattle.iscsi_outbox_state.specs.declared.lane.Standing.TheVariants.{Left as IsLeft, Undue as IsUndue}
+use Rattle.iscsi_outbox_state.specs.Lane.{is_of_logout}
 use Rattle.iscsi_scopes.specs.Scopes.{AreKeysAscending, Scoped, entered, scoped, slots_of, times_over}
 use Rattle.iscsi_lane.specs.Standings.{slots_at}
 use Rattle.iscsi_lane.specs.Scoping.{Mirrors, as_item, told}
@@ -16,7 +17,7 @@ use Rattle.iscsi_lane.specs.Times.{InOrder, gains, has}
 use Rattle.iscsi_lane.specs.Following.{Follows, FollowsLog}
 use Rattle.iscsi_lane.proofs.LaneLemmas.{moved_here, moved_room, moved_values}
 use Rattle.iscsi_lane.proofs.MirrorLemmas.{line_few, no_line}
-use Rattle.iscsi_lane.proofs.FollowLemmas.{in_order_push, left_comes, tag_comes, tag_line, unit_comes, unit_line}
+use Rattle.iscsi_lane.proofs.FollowLemmas.{beside_comes, in_order_push, left_comes, tag_comes, tag_line, unit_comes, unit_line}
 
 -- what stands in a line stands in the log
 pub stands_there : (aim : ℕ → Aim) (scopes : Scoped) (xs : List Standing) (order : List ℕ) → Mirrors aim scopes xs order → (key s : ℕ) → 1 ≤ times s (slots_of key scopes.lines) → 1 ≤ times s order
@@ -53,7 +54,7 @@ module _ (log p t : Listed Standing) (units tags : Scoped) (due : List ℕ) (cap
   pub join_order : InOrder due (slots_at t 2)
   join_order = subst (InOrder due) (sym t_order) (in_order_push (told units tags log.values) (slots_at log 2) due f.follows.is_due slot none)
 
-  module _ (a : Undue) (is_x : x ≡ IsUndue a) (key : ℕ) (of_it : a.aim ≡ AtUnit key) (stays : a.ends ≡ false) (units' : Scoped)
+  module _ (a : Undue) (is_x : x ≡ IsUndue a) (key : ℕ) (of_it : a.aim ≡ AtUnit key) (units' : Scoped)
       (is_s : units' ≡ scoped (entered key slot units.lines) (set units.items slot (as_item (IsUndue a))) units.room) where
     unit_values : t.values ≡ set log.values slot (IsUndue a)
     unit_values = t_values ∙ ap (set log.values slot) is_x
@@ -63,7 +64,7 @@ module _ (log p t : Listed Standing) (units tags : Scoped) (due : List ℕ) (cap
         subst (λ u. Mirrors AtUnit u t.values (slots_at t 2)) (sym is_s)
         (subst (λ v. Mirrors AtUnit (scoped (entered key slot units.lines) (set units.items slot (as_item (IsUndue a))) units.room) v (slots_at t 2)) (sym unit_values)
         (subst (λ o. Mirrors AtUnit (scoped (entered key slot units.lines) (set units.items slot (as_item (IsUndue a))) units.room) (set log.values slot (IsUndue a)) o) (sym t_order)
-        (unit_line units tags log.values (slots_at log 2) due f.follows up_u up_t slot inside none in_u in_t a key of_it stays)))
+        (unit_line units tags log.values (slots_at log 2) due f.follows up_u up_t slot inside none in_u in_t a key of_it)))
 
     pub unit_stands : (s : ℕ) → 1 ≤ times s (slots_of key units'.lines) → 1 ≤ times s (slots_at t 2)
     unit_stands s there = stands_there AtUnit units' t.values (slots_at t 2) unit_mirrors key s there
@@ -74,7 +75,7 @@ module _ (log p t : Listed Standing) (units tags : Scoped) (due : List ℕ) (cap
           subst (λ u. Follows u tags t.values (slots_at t 2) due') (sym is_s)
           (subst (λ v. Follows (scoped (entered key slot units.lines) (set units.items slot (as_item (IsUndue a))) units.room) tags v (slots_at t 2) due') (sym unit_values)
           (subst (λ o. Follows (scoped (entered key slot units.lines) (set units.items slot (as_item (IsUndue a))) units.room) tags (set log.values slot (IsUndue a)) o due') (sym t_order)
-          (unit_comes units tags log.values (slots_at log 2) due f.follows up_u up_t slot inside none in_u in_t a key of_it stays due'
+          (unit_comes units tags log.values (slots_at log 2) due f.follows up_u up_t slot inside none in_u in_t a key of_it due'
           (e ∙ ap (λ u. filter (λ k. has due k || gains u key t.values k) (slots_at t 2)) is_s
           ∙ ap (λ v. filter (λ k. has due k || gains (scoped (entered key slot units.lines) (set units.items slot (as_item (IsUndue a))) units.room) key v k) (slots_at t 2)) unit_values
           ∙ ap (λ o. filter (λ k. has due k || gains (scoped (entered key slot units.lines) (set units.items slot (as_item (IsUndue a))) units.room) key (set log.values slot (IsUndue a)) k) o) t_order))));
@@ -83,7 +84,7 @@ module _ (log p t : Listed Standing) (units tags : Scoped) (due : List ℕ) (cap
       due_room = let a = t_room in let b = f.due_room in omega (arith, a, b, more);
     }
 
-  module _ (a : Undue) (is_x : x ≡ IsUndue a) (key : ℕ) (of_it : a.aim ≡ Tag key) (stays : a.ends ≡ false) (tags' : Scoped)
+  module _ (a : Undue) (is_x : x ≡ IsUndue a) (key : ℕ) (of_it : a.aim ≡ Tag key) (tags' : Scoped)
       (is_s : tags' ≡ scoped (entered key slot tags.lines) (set tags.items slot (as_item (IsUndue a))) tags.room) where
     tag_values : t.values ≡ set log.values slot (IsUndue a)
     tag_values = t_values ∙ ap (set log.values slot) is_x
@@ -93,7 +94,7 @@ module _ (log p t : Listed Standing) (units tags : Scoped) (due : List ℕ) (cap
         subst (λ u. Mirrors Tag u t.values (slots_at t 2)) (sym is_s)
         (subst (λ v. Mirrors Tag (scoped (entered key slot tags.lines) (set tags.items slot (as_item (IsUndue a))) tags.room) v (slots_at t 2)) (sym tag_values)
         (subst (λ o. Mirrors Tag (scoped (entered key slot tags.lines) (set tags.items slot (as_item (IsUndue a))) tags.room) (set log.values slot (IsUndue a)) o) (sym t_order)
-        (tag_line units tags log.values (slots_at log 2) due f.follows up_u up_t slot inside none in_u in_t a key of_it stays)))
+        (tag_line units tags log.values (slots_at log 2) due f.follows up_u up_t slot inside none in_u in_t a key of_it)))
 
     pub tag_stands : (s : ℕ) → 1 ≤ times s (slots_of key tags'.lines) → 1 ≤ times s (slots_at t 2)
     tag_stands s there = stands_there Tag tags' t.values (slots_at t 2) tag_mirrors key s there
@@ -104,13 +105,26 @@ module _ (log p t : Listed Standing) (units tags : Scoped) (due : List ℕ) (cap
           subst (λ u. Follows units u t.values (slots_at t 2) due') (sym is_s)
           (subst (λ v. Follows units (scoped (entered key slot tags.lines) (set tags.items slot (as_item (IsUndue a))) tags.room) v (slots_at t 2) due') (sym tag_values)
           (subst (λ o. Follows units (scoped (entered key slot tags.lines) (set tags.items slot (as_item (IsUndue a))) tags.room) (set log.values slot (IsUndue a)) o due') (sym t_order)
-          (tag_comes units tags log.values (slots_at log 2) due f.follows up_u up_t slot inside none in_u in_t a key of_it stays due'
+          (tag_comes units tags log.values (slots_at log 2) due f.follows up_u up_t slot inside none in_u in_t a key of_it due'
           (e ∙ ap (λ u. filter (λ k. has due k || gains u key t.values k) (slots_at t 2)) is_s
           ∙ ap (λ v. filter (λ k. has due k || gains (scoped (entered key slot tags.lines) (set tags.items slot (as_item (IsUndue a))) tags.room) key v k) (slots_at t 2)) tag_values
           ∙ ap (λ o. filter (λ k. has due k || gains (scoped (entered key slot tags.lines) (set tags.items slot (as_item (IsUndue a))) tags.room) key (set log.values slot (IsUndue a)) k) o) t_order))));
       units_room = f.units_room ∙ sym t_room;
       tags_room = ap (λ (u : Scoped). u.room) is_s ∙ f.tags_room ∙ sym t_room;
       due_room = let a = t_room in let b = f.due_room in omega (arith, a, b, more);
+    }
+
+  -- an answer that has no line
+  module _ (a : Undue) (is_x : x ≡ IsUndue a) (logout : is_of_logout a.aim ≡ true) where
+    pub beside_joins : FollowsLog t units tags due capacity
+    beside_joins = record {
+      follows =
+          subst (λ v. Follows units tags v (slots_at t 2) due) (sym (t_values ∙ ap (set log.values slot) is_x))
+          (subst (λ o. Follows units tags (set log.values slot (IsUndue a)) o due) (sym t_order)
+          (beside_comes units tags log.values (slots_at log 2) due f.follows up_u up_t slot inside none in_u in_t a logout));
+      units_room = f.units_room ∙ sym t_room;
+      tags_room = f.tags_room ∙ sym t_room;
+      due_room = let a = t_room in let b = f.due_room in omega (arith, a, b);
     }
 
   -- a command comes

@@ -1,27 +1,26 @@
--- Lines by key and the answers that are due follow the lane, as a command owes less or goes, and as an answer is taken.
-use Rattle.std.proofs.Common.{◌≡◌, ◌≢◌, ℕ, ◌<◌, ◌≤◌, ◌==◌, ◌||◌, ◌&&◌, not, Bool, true, false, List, ◌∷◌, length, filter, get_or, set, refl, ap, sym, subst, ◌∙◌, arith, ⊎_elim, eq-eqb, ne_eqb}
+-- Lines by key and the answers that are due follow the lane, as a command owes less or goes, and as an answer goes.
+use Rattle.std.proofs.Common.{◌≡◌, ◌≢◌, ℕ, ◌<◌, ◌≤◌, ◌==◌, ◌||◌, ◌&&◌, not, Bool, true, false, List, length, filter, get_or, set, refl, ap, sym, subst, ◌∙◌, arith, ⊎_elim, eq-eqb, ne_eqb}
 use Rattle.std.proofs.lemmas.Bool.{cases_eq, false≢true, or_from, or_parts}
 use Rattle.std.proofs.lemmas.List.{get_or-set_same, get_or-set_other}
 use Rattle.iscsi_slots.specs.Slots.{times}
 use Rattle.iscsi_lists.specs.Lists.{without}
-use Rattle.iscsi_lists.proofs.WithoutLemmas.{times_same, times_without, without_none, without_same}
+use Rattle.iscsi_lists.proofs.WithoutLemmas.{times_without}
 use Rattle.iscsi_lines.specs.Lines.{BLANK}
 use Rattle.iscsi_outbox_state.specs.declared.lane.Aim.TheVariants.{Tag, Unit as AtUnit}
 use Rattle.iscsi_outbox_state.specs.declared.lane.Left.{Left}
 use Rattle.iscsi_outbox_state.specs.declared.lane.Undue.{Undue}
 use Rattle.iscsi_outbox_state.specs.declared.lane.Standing.{Standing}
 use Rattle.iscsi_outbox_state.specs.declared.lane.Standing.TheVariants.{Left as IsLeft, Undue as IsUndue}
-use Rattle.iscsi_outbox_state.specs.Lane.{is_same_aim, not_running, not_under_way}
+use Rattle.iscsi_outbox_state.specs.Lane.{is_of_logout, is_same_aim, not_running, not_under_way}
 use Rattle.iscsi_scopes.specs.Scopes.{AreKeysAscending, Scoped, left, scoped, slots_of}
 use Rattle.iscsi_lane.specs.Standings.{NOBODY, at}
-use Rattle.iscsi_lane.specs.Scoping.{AreAborts, Mirrors, as_item, blocks, is_it, line_of, stands_in, told, told_of}
+use Rattle.iscsi_lane.specs.Scoping.{Mirrors, as_item, blocks, is_it, line_of, stands_in, told, told_of}
 use Rattle.iscsi_lane.specs.Times.{InOrder, gains, has, is_cleared}
 use Rattle.iscsi_lane.specs.Following.{Follows}
 use Rattle.iscsi_lane.proofs.MirrorLemmas.{goes_beside, goes_out, its_line, line_has, none_in_line, owes_less}
 use Rattle.iscsi_lane.proofs.ToldLemmas.{item_at}
 use Rattle.iscsi_lane.proofs.TurnLemmas.{due_at, gone_beside, gone_stays, less_beside, less_stays, same_filter}
-use Rattle.iscsi_lane.proofs.OrderLemmas.{filter_few}
-use Rattle.iscsi_lane.proofs.FollowLemmas.{abort_at, aborts_set, aborts_without, due_without, filter_without, has_is, in_order_of, is_same, or_none, tag_gain, unit_gain}
+use Rattle.iscsi_lane.proofs.FollowLemmas.{due_without, filter_without, has_is, in_order_of, is_same, no_line_of, or_none, tag_gain, unit_gain}
 use Rattle.iscsi_lane.proofs.AfterLemmas.{due_stands, told_then}
 
 -- a command that owes less holds back no more than before
@@ -105,9 +104,6 @@ module _ (units tags : Scoped) (xs : List Standing) (order due : List ℕ) (f : 
       pub less_tags : Mirrors Tag tags_less with_less order
       less_tags = owes_less Tag tags xs order f.of_tags s (IsLeft d) l in_t (λ k. ap (λ u. u == k) same_tag ∙ sym (ap (stands_in (Tag k)) is))
 
-      less_aborts : AreAborts with_less order
-      less_aborts = aborts_set xs s (IsLeft d) order l tt f.aborts
-
       less_at : at with_less s ≡ IsLeft d
       less_at = get_or-set_same xs s (IsLeft d) NOBODY l
 
@@ -130,7 +126,7 @@ module _ (units tags : Scoped) (xs : List Standing) (order due : List ℕ) (f : 
           (λ conn off. less conn (ap (blocks conn) (sym (tag_item there)) ∙ off)) k due)
           (λ k away. less_beside AtUnit units xs order f.of_units up_u c.unit s k (as_item (IsLeft d)) (alone_u k away))
           (λ k away. less_beside Tag tags xs order f.of_tags up_t c.tag s k (as_item (IsLeft d)) (alone_t k away))
-          xs with_less order less_units less_tags (get_or-set_other xs s t (IsLeft d) NOBODY other) (abort_at with_less t order in_it less_aborts))
+          xs with_less order less_units less_tags (get_or-set_other xs s t (IsLeft d) NOBODY other))
           (cases_eq t s)
 
       pub less_follows : (due1 due2 : List ℕ) → due1 ≡ filter (λ t. has due t || gains units_less c.unit with_less t) order
@@ -138,7 +134,6 @@ module _ (units tags : Scoped) (xs : List Standing) (order due : List ℕ) (f : 
       less_follows due1 due2 e1 e2 = record {
         of_units = less_units;
         of_tags = less_tags;
-        aborts = less_aborts;
         is_due = two_looks order due due1 due2 (told units tags xs) (λ t. gains units_less c.unit with_less t) (λ t. gains tags_less c.tag with_less t) (told units_less tags_less with_less)
             (λ t in_it. has_is (told units tags xs) order due f.is_due t in_it) e1 e2 less_each;
       }
@@ -174,26 +169,22 @@ module _ (units tags : Scoped) (xs : List Standing) (order due : List ℕ) (f : 
         (λ k due. gone_stays Tag tags xs order f.of_tags up_t c.tag s t (once t) other k due)
         (λ k away. gone_beside AtUnit units xs order f.of_units up_u c.unit s k away)
         (λ k away. gone_beside Tag tags xs order f.of_tags up_t c.tag s k away)
-        xs xs (without s order) gone_units gone_tags refl (abort_at xs t (without s order) in_it (aborts_without xs s order f.aborts))
+        xs xs (without s order) gone_units gone_tags refl
 
     pub gone_follows : (due1 due2 : List ℕ) → due1 ≡ filter (λ t. has due t || gains units_gone c.unit xs t) (without s order)
         → due2 ≡ filter (λ t. has due1 t || gains tags_gone c.tag xs t) (without s order) → Follows units_gone tags_gone xs (without s order) due2
     gone_follows due1 due2 e1 e2 = record {
       of_units = gone_units;
       of_tags = gone_tags;
-      aborts = aborts_without xs s order f.aborts;
       is_due = two_looks (without s order) due due1 due2 (told units tags xs) (λ t. gains units_gone c.unit xs t) (λ t. gains tags_gone c.tag xs t) (told units_gone tags_gone xs)
           (λ t in_it. has_is (told units tags xs) (without s order) due gone_due t in_it) e1 e2 gone_each;
     }
 
-  -- ---- the first of those that are due
+  -- ---- an answer goes, and from those that are due
 
-  module _ (rest : List ℕ) (first : due ≡ s ∷ rest) where
-    due_once : times s rest ≡ 0
-    due_once = let a = ap (times s) (sym first ∙ f.is_due) in let b = filter_few s (told units tags xs) order in let c = once s in let d = times_same s s rest refl in omega (arith, a, b, c, d)
-
+  module _ (rest : List ℕ) (is_rest : rest ≡ without s due) where
     rest_is : rest ≡ filter (told units tags xs) (without s order)
-    rest_is = sym (filter_without (told units tags xs) s order ∙ ap (without s) (sym f.is_due ∙ first) ∙ without_same s s rest refl ∙ without_none s rest due_once)
+    rest_is = is_rest ∙ ap (without s) f.is_due ∙ sym (filter_without (told units tags xs) s order)
 
     pub rest_in_order : InOrder rest (without s order)
     rest_in_order = in_order_of (told units tags xs) (without s order) rest rest_is
@@ -230,13 +221,12 @@ module _ (units tags : Scoped) (xs : List Standing) (order due : List ℕ) (f : 
           (λ k due. due)
           (λ k away. gone_beside AtUnit units xs order f.of_units up_u key s k away)
           (λ k away. refl)
-          xs xs (without s order) unit_left_line unit_other_line refl (abort_at xs t (without s order) in_it (aborts_without xs s order f.aborts)))
+          xs xs (without s order) unit_left_line unit_other_line refl)
 
       pub unit_taken : (due' : List ℕ) → due' ≡ filter (λ t. has rest t || gains units_taken key xs t) (without s order) → Follows units_taken tags xs (without s order) due'
       unit_taken due' e = record {
         of_units = unit_left_line;
         of_tags = unit_other_line;
-        aborts = aborts_without xs s order f.aborts;
         is_due = e ∙ same_filter (λ t. has rest t || gains units_taken key xs t) (told units_taken tags xs) (without s order) unit_then;
       }
 
@@ -269,12 +259,22 @@ module _ (units tags : Scoped) (xs : List Standing) (order due : List ℕ) (f : 
           (λ k due. gone_stays Tag tags xs order f.of_tags up_t key s t (once t) (no_more t in_it) k due)
           (λ k away. refl)
           (λ k away. gone_beside Tag tags xs order f.of_tags up_t key s k away)
-          xs xs (without s order) tag_other_line tag_left_line refl (abort_at xs t (without s order) in_it (aborts_without xs s order f.aborts)))
+          xs xs (without s order) tag_other_line tag_left_line refl)
 
       pub tag_taken : (due' : List ℕ) → due' ≡ filter (λ t. has rest t || gains tags_taken key xs t) (without s order) → Follows units tags_taken xs (without s order) due'
       tag_taken due' e = record {
         of_tags = tag_left_line;
         of_units = tag_other_line;
-        aborts = aborts_without xs s order f.aborts;
         is_due = e ∙ same_filter (λ t. has rest t || gains tags_taken key xs t) (told units tags_taken xs) (without s order) tag_then;
       }
+
+    -- an answer that has no line
+    module _ (a : Undue) (is : at xs s ≡ IsUndue a) (logout : is_of_logout a.aim ≡ true) where
+      pub beside_taken : Follows units tags xs (without s order) rest
+      beside_taken =
+          let none_of = no_line_of units tags s a.aim logout in
+          record {
+            of_units = goes_beside AtUnit units xs order f.of_units s (λ k. ap (stands_in (AtUnit k)) is ∙ none_of.no_unit k);
+            of_tags = goes_beside Tag tags xs order f.of_tags s (λ k. ap (stands_in (Tag k)) is ∙ none_of.no_tag k);
+            is_due = rest_is;
+          }

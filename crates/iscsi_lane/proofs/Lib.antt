@@ -20,6 +20,6 @@ pub mod WalkLemmas
 pub mod CountLemmas
 pub mod DropLemmas
 pub mod CountedLemmas
-pub mod EmptyLemmas
 pub mod LiningLemmas
+pub mod ClearLemmas
 pub mod TellLemmas

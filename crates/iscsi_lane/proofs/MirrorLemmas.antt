@@ -129,6 +129,17 @@ items_set xs items s x (y ∷ ys) l m are = (
   items_set xs items s x ys l m are.1,
 )
 
+-- what changes and is the same item still
+items_kept : (xs : List Standing) (items : List Item) (s : ℕ) (x : Standing) (slots : List ℕ) → s < length xs → as_item x ≡ as_item (at xs s) → AreItems xs items slots → AreItems (set xs s x) items slots
+items_kept xs items s x [] l same are = tt
+items_kept xs items s x (y ∷ ys) l same are = (
+  are.0 ∙ ⊎_elim
+      (λ (here : y ≡ s). ap (λ k. as_item (at xs k)) here ∙ sym same ∙ ap as_item (sym (ap (at (set xs s x)) here ∙ get_or-set_same xs s x NOBODY l)))
+      (λ other. ap as_item (sym (get_or-set_other xs s y x NOBODY other)))
+      (cases_eq y s),
+  items_kept xs items s x ys l same are.1,
+)
+
 items_without : (xs : List Standing) (items : List Item) (s : ℕ) (slots : List ℕ) → AreItems xs items slots → AreItems xs items (without s slots)
 items_without xs items s [] are = tt
 items_without xs items s (y ∷ ys) are = ⊎_elim
@@ -203,6 +214,15 @@ module _ (aim : ℕ → Aim) (scopes : Scoped) (xs : List Standing) (order : Lis
     lines = λ k. mirrors.lines k ∙ sym (line_same (aim k) xs s x l (same k) order);
     items = λ k. subst (AreItems (set xs s x) (set scopes.items s (as_item x))) (sym (line_same (aim k) xs s x l (same k) order))
         (items_set xs scopes.items s x (line_of (aim k) xs order) l m (mirrors.items k));
+  }
+
+  -- ---- an answer changes, and is the same item in the same line
+
+  pub stays_as : (x : Standing) → s < length xs → ((k : ℕ) → stands_in (aim k) x ≡ stands_in (aim k) (at xs s)) → as_item x ≡ as_item (at xs s) → Mirrors aim scopes (set xs s x) order
+  stays_as x l same item = record {
+    lines = λ k. mirrors.lines k ∙ sym (line_same (aim k) xs s x l (same k) order);
+    items = λ k. subst (AreItems (set xs s x) scopes.items) (sym (line_same (aim k) xs s x l (same k) order))
+        (items_kept xs scopes.items s x (line_of (aim k) xs order) l item (mirrors.items k));
   }
 
   -- ---- one goes

@@ -1,12 +1,13 @@
 -- Those that are due, in the order of the log, and the place of one more.
 use Rattle.std.proofs.Common.{◌≡◌, ◌≢◌, ℕ, zero, suc, ◌<◌, ◌≤◌, ◌==◌, ◌||◌, ◌&&◌, cond, Bool, true, false, List, [], ◌∷◌, ◌++◌, length, filter, get_or, Some, None, refl, ap, sym, subst, ◌∙◌, arith, ⊎_elim, eq-eqb, ne_eqb}
-use Rattle.std.specs.List.{insert}
+use Rattle.std.specs.List.{insert, remove}
 use Rattle.std.proofs.lemmas.Bool.{cases_Bool, cases_eq, cases_lt, false_from_ne_true, le-ltb, lt-ltb, ltb-true, true≢false}
 use Rattle.std.proofs.lemmas.List.Kept.{AllPairs-filter}
 use Rattle.iscsi_slots.specs.Places.{AreAscending}
 use Rattle.iscsi_slots.specs.Slots.{times}
-use Rattle.iscsi_slots.proofs.SlotLemmas.{times_append, times_at}
-use Rattle.iscsi_lists.proofs.WithoutLemmas.{times_other, times_same}
+use Rattle.iscsi_slots.proofs.SlotLemmas.{stands, times_append, times_at}
+use Rattle.iscsi_lists.specs.Lists.{without}
+use Rattle.iscsi_lists.proofs.WithoutLemmas.{times_other, times_same, without_none, without_other, without_same}
 use Rattle.iscsi_lines.specs.Lines.{due_in}
 use Rattle.iscsi_outbox_state.specs.declared.lane.Standing.{Standing}
 use Rattle.iscsi_scopes.specs.Scopes.{Scoped, slots_of}
@@ -287,3 +288,51 @@ module _ (scopes : Scoped) (key : ℕ) (xs : List Standing) (order due : List �
 
       pub room_for : has due slot ≡ false → length due < length order
       room_for off = let a = ap length in_order in let b = filter_shorter (has due) slot order off there in omega (arith, a, b)
+
+-- ---- one goes from those that are due, found by halves
+
+none_at : (s : ℕ) (xs : List ℕ) → ((j : ℕ) → j < length xs → get_or xs j 0 ≡ s → ⊥) → times s xs ≡ 0
+none_at s xs none = ⊎_elim
+    (λ there. let p = stands s xs there in absurd (none p.place p.inside p.there))
+    (λ gone. omega (arith, gone))
+    (cases_lt 0 (times s xs))
+
+remove_only : (s : ℕ) (xs : List ℕ) (k : ℕ) → k < length xs → get_or xs k 0 ≡ s → ((j : ℕ) → j < length xs → get_or xs j 0 ≡ s → j ≡ k) → remove xs k ≡ without s xs
+remove_only s [] k l is only = absurd (omega (arith, l))
+remove_only s (x ∷ xs) zero l is only =
+    sym (without_same s x xs is ∙ without_none s xs (none_at s xs (λ j m e. let a = only (suc j) (omega (arith, m)) e in omega (arith, a))))
+remove_only s (x ∷ xs) (suc k) l is only =
+    let other : x ≢ s = λ same. (let a = only zero (omega arith) same in omega (arith, a)) in
+    ap (λ r. x ∷ r) (remove_only s xs k (omega (arith, l)) is (λ j m e. let a = only (suc j) (omega (arith, m)) e in omega (arith, a)))
+    ∙ sym (without_other s x xs other)
+
+module _ (ts due : List ℕ) (slot k : ℕ) (up : AreAscending (time_of ts) due)
+    (below : (j : ℕ) → j < k → time_of ts (get_or due j 0) < time_of ts slot) (above : (j : ℕ) → k ≤ j → j < length due → time_of ts slot ≤ time_of ts (get_or due j 0)) where
+  only_at : (j : ℕ) → j < length due → get_or due j 0 ≡ slot → j ≡ k
+  only_at j l is =
+      let same = ap (time_of ts) is in
+      ⊎_elim
+      (λ low. let a = below j low in absurd (omega (arith, a, same)))
+      (λ high. ⊎_elim
+      (λ (e : j ≡ k). e)
+      (λ other.
+      let a = above k (omega arith) (omega (arith, high, l)) in
+      let b = up k j 0 (omega (arith, high, other)) l in absurd (omega (arith, a, b, same)))
+      (cases_eq j k))
+      (cases_lt j k)
+
+  pub left_at : k < length due → get_or due k 0 ≡ slot → remove due k ≡ without slot due
+  left_at l is = remove_only slot due k l is only_at
+
+  pub not_among : (k < length due → get_or due k 0 ≡ slot → ⊥) → times slot due ≡ 0
+  not_among apart = none_at slot due (λ j l is.
+      let same = only_at j l is in apart (omega (arith, l, same)) (subst (λ n. get_or due n 0 ≡ slot) same is))
+
+  pub left_none : (k < length due → get_or due k 0 ≡ slot → ⊥) → due ≡ without slot due
+  left_none apart = sym (without_none slot due (not_among apart))
+
+  pub is_among : (b : Bool) → (b ≡ true → (k < length due) × (get_or due k 0 ≡ slot)) → (k < length due → get_or due k 0 ≡ slot → b ≡ true) → b ≡ has due slot
+  is_among b on_it off_it = ⊎_elim
+      (λ on. let found = on_it on in on ∙ sym (has_some due slot (subst (λ n. 1 ≤ times n due) found.1 (times_at due k found.0))))
+      (λ off. off ∙ sym (has_none due slot (not_among (λ l is. true≢false (sym (off_it l is) ∙ off)))))
+      (cases_Bool b)

@@ -93,7 +93,7 @@ module _ (units tags : Scoped) (xs : List Standing) (order : List ℕ) (of_units
   by_aim Session a of_it abort stays cleared s front back at_it is = absurd (true≢false abort)
   by_aim Nothing a of_it abort stays cleared s front back at_it is = absurd (true≢false abort)
 
-  tells : (s : ℕ) (front back : List ℕ) (x : Standing) → order ≡ front ++ s ∷ back → at xs s ≡ x → IsAbort x → Tells xs (told units tags xs) front s x
+  pub tells : (s : ℕ) (front back : List ℕ) (x : Standing) → order ≡ front ++ s ∷ back → at xs s ≡ x → IsAbort x → Tells xs (told units tags xs) front s x
   tells s front back (IsLeft c) at_it is abort = ap (told_of units tags s) is
   tells s front back (IsUndue a) at_it is abort =
       ap (told_of units tags s) is

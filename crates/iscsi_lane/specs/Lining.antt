@@ -1,37 +1,26 @@
--- Lines that follow the log, or are empty. For private contracts alone.
-use Rattle.std.specs.Prelude.{◌≡◌, ℕ, ◌+◌, ◌≤◌, false, true, List, [], length, map, Option, Some, None, slice_set, vec_capacity}
+-- Lines that follow the log. For private contracts alone.
+use Rattle.std.specs.Prelude.{◌≡◌, ℕ, ◌+◌, ◌≤◌, [], length, map, Option, Some, None, slice_set, vec_capacity}
 use Rattle.iscsi_lists.specs.Lists.{Listed, with_last, without}
-use Rattle.iscsi_outbox_state.specs.declared.lane.Aim.TheVariants.{Tag, Unit as AtUnit}
 use Rattle.iscsi_outbox_state.specs.declared.lane.Undue.{Undue}
 use Rattle.iscsi_outbox_state.specs.declared.lane.Standing.{Standing}
-use Rattle.iscsi_scopes.specs.Scopes.{Scoped}
 use Rattle.iscsi_lane.specs.declared.lines.Lines.{Lines}
-use Rattle.iscsi_lane.specs.Standings.{IsLane, slots_at}
-use Rattle.iscsi_lane.specs.Scoping.{Mirrors}
+use Rattle.iscsi_lane.specs.Standings.{IsLane, items_in, slots_at, tally}
+use Rattle.iscsi_lane.specs.Scoping.{is_untold}
 use Rattle.iscsi_lane.specs.Times.{AllUnder, IsUp}
 use Rattle.iscsi_lane.specs.Following.{FollowsLog}
 
--- nothing stands in them
-pub record AreEmpty (log : Listed Standing) (units tags : Scoped) (due : List ℕ) (capacity : ℕ) : Type 0 where
-  pub of_units : Mirrors AtUnit units log.values []
-  pub of_tags : Mirrors Tag tags log.values []
-  pub is_due : due ≡ []
-  pub units_room : units.room ≡ log.room
-  pub tags_room : tags.room ≡ log.room
-  pub due_room : log.room ≤ capacity
-
 pub record IsLined (l : Lines) (log : Listed Standing) : Type 0 where
-  pub following : l.follows ≡ true → FollowsLog log l.units l.tags l.due.items (vec_capacity l.due)
-  pub up : l.follows ≡ true → IsUp l.stamps.items (slots_at log 2)
-  pub under : l.follows ≡ true → AllUnder l.stamps.items l.next (slots_at log 2)
-  pub empty : l.follows ≡ false → AreEmpty log l.units l.tags l.due.items (vec_capacity l.due)
+  pub following : FollowsLog log l.units l.tags l.due.items (vec_capacity l.due)
+  pub up : IsUp l.stamps.items (slots_at log 2)
+  pub under : AllUnder l.stamps.items l.next (slots_at log 2)
   pub long : length l.stamps.items ≡ log.room + 1
+  pub of_untold : l.untold ≡ tally is_untold (items_in log)
 
 pub record IsNew (l : Lines) (room : ℕ) : Type 0 where
   pub units : l.units.lines ≡ []
   pub tags : l.tags.lines ≡ []
   pub due : l.due.items ≡ []
-  pub follows : l.follows ≡ true
+  pub untold : l.untold ≡ 0
   pub units_room : l.units.room ≡ room
   pub tags_room : l.tags.room ≡ room
   pub due_room : room ≤ vec_capacity l.due

@@ -64,7 +64,12 @@ told_of units tags s (IsUndue a) = not a.uncleared && is_it s (due_of units tags
 abbrev pub told : Scoped → Scoped → List Standing → ℕ → Bool
 told units tags xs s = told_of units tags s (at xs s)
 
--- no answer is that of a Logout
+-- an answer of which the lines don't tell: that of a Logout, or one that closes its connection
+abbrev pub is_untold : Standing → Bool
+is_untold (IsLeft c) = false
+is_untold (IsUndue a) = is_of_logout a.aim || a.ends
+
+-- no answer is one of these
 abbrev pub IsAbort : Standing → Type 0
 IsAbort (IsLeft c) = Unit {0}
 IsAbort (IsUndue a) = (is_of_logout a.aim ≡ false) × (a.ends ≡ false)

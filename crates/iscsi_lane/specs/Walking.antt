@@ -6,10 +6,12 @@ use Rattle.iscsi_lists.specs.Lists.{Listed, first_of, without}
 use Rattle.iscsi_outbox_state.specs.declared.lane.Undue.{Undue}
 use Rattle.iscsi_outbox_state.specs.declared.lane.Standing.{Standing}
 use Rattle.iscsi_outbox_state.specs.declared.lane.Standing.TheVariants.{Left as IsLeft, Undue as IsUndue}
-use Rattle.iscsi_outbox_state.specs.Lane.{due_behind, goes_out_on, holds_back, others_behind, waits_for_clear}
+use Rattle.iscsi_outbox_state.specs.Lane.{due_behind, goes_out_on, holds_back, is_due, others_behind, waits_for_clear}
 use Rattle.iscsi_lane.specs.declared.walking.Wanted.{Wanted}
 use Rattle.iscsi_lane.specs.declared.walking.Wanted.TheVariants.{GoingOut, Uncleared}
+use Rattle.iscsi_lane.specs.Scoping.{is_untold}
 use Rattle.iscsi_lane.specs.Standings.{at, items_in, slots_at, standings}
+use Rattle.iscsi_lane.specs.Times.{has}
 
 -- ---- how far a walk has come
 
@@ -50,6 +52,11 @@ pub record IsDueFirst (log : Listed Standing) (slot : ℕ) (a : Undue) : Type 0 
 abbrev pub IsFirstDue : Listed Standing → Option (ℕ × Undue) → Type 0
 IsFirstDue log None = NoneIsDue log
 IsFirstDue log (Some found) = IsDueFirst log found.0 found.1
+
+-- the slots that are due tell of each answer, but of those of which the lines don't tell
+abbrev pub AreTold : Listed Standing → List ℕ → Type 0
+AreTold log due = (s : ℕ) (a : Undue) → 1 ≤ times s (slots_at log 2) → at log.values s ≡ IsUndue a → is_untold (IsUndue a) ≡ false
+    → has due s ≡ is_due (standings log.values (before_slot s (slots_at log 2))) a
 
 -- what stands there is looked at from here on
 pub record IsPassed (xs : List Standing) (order front back : List ℕ) : Type 0 where

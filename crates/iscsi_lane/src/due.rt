@@ -4,6 +4,7 @@ ghost use Rattle.std.specs.Prelude.{◌≡◌, ℕ, ◌+◌, ◌<◌, ◌≤◌,
 ghost use Rattle.std.specs.List.{insert};
 ghost use Rattle.iscsi_slots.specs.Places.{AreAscending};
 ghost use Rattle.iscsi_slots.specs.Slots.{times};
+ghost use Rattle.iscsi_lists.specs.Lists.{without};
 ghost use Rattle.iscsi_lane.specs.Standings.{slots_at};
 ghost use Rattle.iscsi_lane.specs.Times.{InOrder, IsUp, gains, has, time_of};
 ghost use Rattle.iscsi_scopes.specs.Scopes.{slots_of};
@@ -45,6 +46,31 @@ pub(crate) fn examine(
         return;
     }
     insert_at(due, k, slot);
+}
+
+/// A slot is among those that are due no more, if it was.
+pub(crate) fn leave_due(stamps: &[u64], due: &mut Vec<u32>, slot: u32)
+    requires slot { slot < length stamps.now }
+    requires within { (j : ℕ) → j < length due.old.items → slice_index_or due.old.items j 0 < length stamps.now }
+    requires up { AreAscending (time_of stamps.now) due.old.items }
+    ensures due { due.new.items ≡ without slot due.old.items }
+    ensures capacity { vec_capacity due.old ≤ vec_capacity due.new }
+{
+    let k = place_of(stamps, due, slot);
+    if is_at(due, k, slot) {
+        due.remove(k);
+    }
+}
+
+/// Whether a slot is among those that are due.
+pub(crate) fn is_among(stamps: &[u64], due: &[u32], slot: u32) -> bool
+    requires slot { slot < length stamps.now }
+    requires within { (j : ℕ) → j < length due.now → slice_index_or due.now j 0 < length stamps.now }
+    requires up { AreAscending (time_of stamps.now) due.now }
+    ensures { result ≡ has due.now slot }
+{
+    let k = place_of(stamps, due, slot);
+    is_at(due, k, slot)
 }
 
 /// Whether a slot stands at a place.

@@ -1,17 +1,17 @@
 //! How the lines by key, and the answers that are due, follow the log.
 
-ghost use Rattle.std.specs.Prelude.{◌≡◌, ◌+◌, ◌≤◌, ◌++◌, ◌∷◌, [], false, true, Some, length, map, slice_set, vec_capacity};
+ghost use Rattle.std.specs.Prelude.{◌≡◌, ◌+◌, ◌≤◌, ◌++◌, ◌∷◌, [], false, true, length, map, slice_set, vec_capacity};
 ghost use Rattle.iscsi_lines.specs.Settling.{IsLess};
 ghost use Rattle.iscsi_outbox_state.specs.Lane.{owes};
-ghost use Rattle.iscsi_lists.specs.Lists.{first_of, times_in, with_last, without};
+ghost use Rattle.iscsi_lists.specs.Lists.{times_in, with_last, without};
 ghost use Rattle.iscsi_slots.specs.Slots.{times};
 ghost use Rattle.iscsi_scopes.specs.Scopes.{entered, scoped};
 ghost use Rattle.iscsi_lane.specs.Following.{FollowsLog};
-ghost use Rattle.iscsi_lane.specs.Scoping.{IsAbort, Mirrors, as_item, owing_of};
+ghost use Rattle.iscsi_lane.specs.Scoping.{Mirrors, as_item, owing_of};
 ghost use Rattle.iscsi_lane.specs.Standings.{at, slots_at};
 ghost use Rattle.iscsi_lane.specs.Times.{IsUp};
 
-use crate::due::examine;
+use crate::due::{examine, leave_due};
 use crate::settling::{FREE, LOG, follow, lessen};
 use iscsi_lines::{Item, Owing};
 use iscsi_lists::Lists;
@@ -44,7 +44,7 @@ pub(crate) fn enter(log: &Lists<Standing>, units: &mut Scopes, tags: &mut Scopes
     tags.push(left.tag, left.command, item);
 }
 
-/// An answer comes to a slot behind all that stands there, and into its line.
+/// An answer comes to a slot behind all that stands there, and into its line, if it has one.
 pub(crate) fn join(
     log: &mut Lists<Standing>,
     units: &mut Scopes,
@@ -62,7 +62,6 @@ pub(crate) fn join(
     requires none { times slot (slots_at log.old 2) ≡ 0 }
     requires up { IsUp stamps.now (slots_at log.old 2 ++ slot ∷ []) }
     requires long { length stamps.now ≡ log.old.room + 1 }
-    requires abort { IsAbort (Standing.Undue answer) }
     ensures log { log.new ≡ record log.old {
       lists = with_last 2 slot (map (without slot) log.old.lists);
       values = slice_set log.old.values slot (Standing.Undue answer);
@@ -128,8 +127,9 @@ pub(crate) fn owe_less(
     gone
 }
 
-/// The first of those that are due goes, with its slot. What was behind it in its line may be due then.
-pub(crate) fn take(
+/// An answer goes: from the log, from its line, if it has one, and from those that are due. What was behind it in its line may
+/// be due then.
+pub(crate) fn part(
     log: &mut Lists<Standing>,
     units: &mut Scopes,
     tags: &mut Scopes,
@@ -140,9 +140,8 @@ pub(crate) fn take(
 )
     requires follows { FollowsLog log.old units.old tags.old due.old.items (vec_capacity due.old) }
     requires lists { length log.old.lists ≡ 3 }
-    requires first { first_of due.old.items ≡ Some slot }
+    requires there { 1 ≤ times slot (slots_at log.old 2) }
     requires is { at log.old.values slot ≡ Standing.Undue answer }
-    requires abort { IsAbort (Standing.Undue answer) }
     requires up { IsUp stamps.now (slots_at log.old 2) }
     requires long { length stamps.now ≡ log.old.room + 1 }
     ensures log { log.new ≡ record log.old { lists = with_last 1 slot (map (without slot) log.old.lists) } }
@@ -151,7 +150,7 @@ pub(crate) fn take(
     log.known();
     units.known();
     tags.known();
-    due.remove(0);
+    leave_due(stamps, due, slot);
     log.move_to_back(slot, FREE);
     log.known();
     match answer.aim {

@@ -13,12 +13,11 @@ use std::marker::Model;
 /// The commands that left and owe something, and the answers that wait for them, in the order of the log.
 ///
 /// A command stands in the line of its unit and in that of its tag, and an abort's answer in the line of what it aims at. So
-/// each call looks at the ends of two lines, and at one of the answers that are due in as many steps as halve them. Where an
-/// answer of a Logout waits, or one was dropped or cleared, there are no lines until nothing stands here any more: then
-/// `take_due` walks over the log, and looks at what stands before each answer; but not where no answer waits, nor where it told
-/// that none is due and since then no answer came, went or was cleared, and no command that stands there owes less. `drop_on`
-/// walks over the log for each answer that it drops, `clear` once, and that which ends the lines takes a step for each that
-/// stands in them.
+/// each call looks at the ends of two lines, and at one of the answers that are due in as many steps as halve them. A Logout's
+/// answer has no line: while one waits, `take_due` walks over the log to the answer that is due first, and for each that is a
+/// Logout's over what stands before it; but not where it told that none is due and since then no answer came, went or was
+/// cleared, and no command that stands there owes less. `drop_on` walks over the log for each answer that it drops, and `clear`
+/// once.
 pub struct Lane {
     standings: Standings,
     /// Of each connection, how many commands have something under way on it, and how many answers go out on it.

@@ -2,7 +2,6 @@
 #![tactic(auto)]
 
 mod due;
-mod emptying;
 mod following;
 mod lane;
 mod lines;

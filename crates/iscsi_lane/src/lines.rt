@@ -3,27 +3,27 @@
 ghost use Rattle.std.specs.Prelude.{◌≡◌, ◌+◌, ◌*◌, ◌≤◌, [], false, true, length, map, slice_set, vec_capacity, IfOk};
 ghost use Rattle.iscsi_lists.specs.Lists.{first_of, times_in, with_last, without};
 ghost use Rattle.iscsi_lines.specs.Settling.{IsLess};
-ghost use Rattle.iscsi_outbox_state.specs.Lane.{owes};
+ghost use Rattle.iscsi_outbox_state.specs.Lane.{as_cleared, owes, waits_for_clear};
 ghost use Rattle.iscsi_slots.specs.Slots.{times};
 ghost use Rattle.iscsi_lane.specs.Lining.{Enters, IsLined, IsNew, without_taken};
-ghost use Rattle.iscsi_lane.specs.Scoping.{IsAbort, as_item, owing_of};
+ghost use Rattle.iscsi_lane.specs.Scoping.{as_item, owing_of};
 ghost use Rattle.iscsi_lane.specs.Standings.{at as stood_at, slots_at};
 ghost use Rattle.iscsi_lane.specs.Walking.{IsFirstDue};
 
-use crate::emptying::empty_lines;
-use crate::following::{enter, join, owe_less, take};
-use crate::settling::{FREE, LOG, lessen};
+use crate::due::examine;
+use crate::following::{enter, join, owe_less, part};
+use crate::settling::one_if;
 use crate::stamps::stamp;
-use crate::walking::{first_due, is_of_logout};
+use crate::walking::{first_due, is_untold};
 use iscsi_lists::Lists;
 use iscsi_outbox_state::{Left, Standing, Undue};
 use iscsi_scopes::Scopes;
 use std::alloc::{AllocError, Global};
 
-/// Lines by unit and by tag, and the slots of the answers that are due, in the order of the log.
+/// Lines by unit and by tag, and the slots of the answers that are due by them, in the order of the log.
 ///
-/// They follow the log as long as each answer that waits is an abort's, and since the log was empty none was dropped or
-/// cleared. Else they are empty.
+/// They follow the log, whatever comes and goes. Of some answers they don't tell whether they are due: of a Logout's, which
+/// stand in no line, and of those that close their connection. While one of these waits, `take` walks over the log.
 pub(crate) struct Lines {
     pub(crate) units: Scopes,
     pub(crate) tags: Scopes,
@@ -31,7 +31,8 @@ pub(crate) struct Lines {
     pub(crate) stamps: Vec<u64>,
     pub(crate) next: u64,
     pub(crate) due: Vec<u32>,
-    pub(crate) follows: bool,
+    /// How many answers stand in the log of which the lines don't tell.
+    pub(crate) untold: usize,
 }
 
 impl Drop for Lines {
@@ -42,7 +43,7 @@ impl Drop for Lines {
             stamps: _stamps,
             next: _next,
             due: _due,
-            follows: _follows,
+            untold: _untold,
         } = self;
     }
 }
@@ -59,7 +60,7 @@ impl Lines {
             stamps: vec![in alloc; 0; room + 1]?,
             next: 0,
             due: Vec::with_capacity(alloc, room)?,
-            follows: true,
+            untold: 0,
         })
     }
 
@@ -73,10 +74,6 @@ impl Lines {
         requires none { times left.command (slots_at log.now 2) ≡ 0 }
         ensures { Enters self.new log.now left.command (Standing.Left left) }
     {
-        self.resume(log);
-        if !self.follows {
-            return;
-        }
         log.known();
         self.units.known();
         self.tags.known();
@@ -84,8 +81,7 @@ impl Lines {
         enter(log, &mut self.units, &mut self.tags, left);
     }
 
-    /// An answer comes to a slot behind all that stands there, and to its line. The lines follow no more where it is
-    /// that of a Logout.
+    /// An answer comes to a slot behind all that stands there, and to its line, if it has one.
     pub(crate) fn join(&mut self, log: &mut Lists<Standing>, slot: u32, answer: Undue)
         requires lined { IsLined self.old log.old }
         requires lists { length log.old.lists ≡ 3 }
@@ -99,15 +95,7 @@ impl Lines {
         } }
         ensures lined { IsLined self.new log.new }
     {
-        self.resume(log);
-        if !is_abort(answer) {
-            self.give_up(log);
-        }
-        if !self.follows {
-            log.move_to_back(slot, LOG);
-            log.set(slot, Standing::Undue(answer));
-            return;
-        }
+        log.known();
         self.next = stamp(log, &mut self.stamps, self.next, slot);
         join(
             log,
@@ -118,6 +106,7 @@ impl Lines {
             slot,
             answer,
         );
+        self.untold += one_if(is_untold(answer));
     }
 
     /// A command owes less, there and in its two lines: how many go.
@@ -136,9 +125,6 @@ impl Lines {
         ensures lined { IsLined self.new log.new }
     {
         log.known();
-        if !self.follows {
-            return lessen(log, left);
-        }
         owe_less(
             log,
             &mut self.units,
@@ -150,7 +136,7 @@ impl Lines {
         )
     }
 
-    /// The answer that is due first goes, with its slot. Where the lines don't follow the log, it walks over that.
+    /// The answer that is due first goes, with its slot.
     pub(crate) fn take(&mut self, log: &mut Lists<Standing>) -> Option<(u32, Undue)>
         requires lined { IsLined self.old log.old }
         requires lists { length log.old.lists ≡ 3 }
@@ -158,32 +144,40 @@ impl Lines {
         ensures log { log.new ≡ without_taken result log.old }
         ensures lined { IsLined self.new log.new }
     {
-        if self.follows {
-            return self.take_told(log);
-        }
-        log.known();
-        let (slot, answer) = first_due(log)?;
-        log.move_to_back(slot, FREE);
+        let (slot, answer) = self.find_due(log)?;
+        self.part(log, slot, answer);
         Some((slot, answer))
     }
 
-    /// The first of those that the lines tell to be due goes, with its slot.
-    fn take_told(&mut self, log: &mut Lists<Standing>) -> Option<(u32, Undue)>
-        requires lined { IsLined self.old log.old }
-        requires lists { length log.old.lists ≡ 3 }
-        requires follows { self.old.follows ≡ true }
-        ensures first { IsFirstDue log.old result }
-        ensures log { log.new ≡ without_taken result log.old }
-        ensures lined { IsLined self.new log.new }
+    /// The answer that is due first, and its slot: the first of those that the lines tell. Where an answer waits of which they
+    /// don't tell, it walks over the log to that which is due, and for each such answer over what stands before it.
+    fn find_due(&self, log: &Lists<Standing>) -> Option<(u32, Undue)>
+        requires lined { IsLined self.now log.now }
+        requires lists { length log.now.lists ≡ 3 }
+        ensures { IsFirstDue log.now result }
     {
         log.known();
-        self.units.known();
-        self.tags.known();
+        if 0 < self.untold {
+            return first_due(log, &self.stamps, &self.due);
+        }
         let slot = first_told(&self.due)?;
         let Standing::Undue(answer) = *log.at(slot) else {
             return None;
         };
-        take(
+        Some((slot, answer))
+    }
+
+    /// An answer goes, from the log and from its line. What was behind it in its line may be due then.
+    pub(crate) fn part(&mut self, log: &mut Lists<Standing>, slot: u32, answer: Undue)
+        requires lined { IsLined self.old log.old }
+        requires there { 1 ≤ times slot (slots_at log.old 2) }
+        requires is { stood_at log.old.values slot ≡ Standing.Undue answer }
+        requires lists { length log.old.lists ≡ 3 }
+        ensures log { log.new ≡ record log.old { lists = with_last 1 slot (map (without slot) log.old.lists) } }
+        ensures lined { IsLined self.new log.new }
+    {
+        log.known();
+        part(
             log,
             &mut self.units,
             &mut self.tags,
@@ -192,33 +186,35 @@ impl Lines {
             slot,
             answer,
         );
-        Some((slot, answer))
+        self.untold -= one_if(is_untold(answer));
     }
 
-    /// They follow the log again where nothing stands in it.
-    fn resume(&mut self, log: &Lists<Standing>)
-        requires lined { IsLined self.old log.now }
-        requires lists { length log.now.lists ≡ 3 }
-        ensures { IsLined self.new log.now }
+    /// An answer about a unit waits for other sessions no more. So it may be due.
+    pub(crate) fn clear(&mut self, log: &mut Lists<Standing>, slot: u32, unit: u16, answer: Undue)
+        requires lined { IsLined self.old log.old }
+        requires there { 1 ≤ times slot (slots_at log.old 2) }
+        requires is { stood_at log.old.values slot ≡ Standing.Undue answer }
+        requires waits { waits_for_clear unit answer ≡ true }
+        ensures log { log.new ≡
+            record log.old { values = slice_set log.old.values slot (Standing.Undue (as_cleared answer)) } }
+        ensures lined { IsLined self.new log.new }
     {
-        if log.first(LOG).is_none() {
-            self.follows = true;
-        }
-    }
-
-    /// They follow the log no more, and are empty. It takes a step for each that stands there.
-    pub(crate) fn give_up(&mut self, log: &Lists<Standing>)
-        requires lined { IsLined self.old log.now }
-        requires lists { length log.now.lists ≡ 3 }
-        ensures lined { IsLined self.new log.now }
-        ensures off { self.new.follows ≡ false }
-    {
-        if !self.follows {
-            return;
-        }
-        empty_lines(log, &mut self.units, &mut self.tags);
-        self.due.clear();
-        self.follows = false;
+        log.known();
+        log.set(
+            slot,
+            Standing::Undue(Undue {
+                uncleared: false,
+                ..answer
+            }),
+        );
+        log.known();
+        examine(
+            log,
+            &self.units,
+            u32::from(unit),
+            &self.stamps,
+            &mut self.due,
+        );
     }
 }
 
@@ -227,11 +223,4 @@ fn first_told(due: &[u32]) -> Option<u32>
     ensures { result ≡ first_of due.now }
 {
     due.first().copied()
-}
-
-/// Whether an answer is that of an abort: it is no Logout's, and ends nothing.
-fn is_abort(answer: Undue) -> bool
-    ensures { result ≡ true → IsAbort (Standing.Undue answer) }
-{
-    !answer.ends && !is_of_logout(answer.aim)
 }

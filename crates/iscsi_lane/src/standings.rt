@@ -202,8 +202,7 @@ impl Standings {
         let Some((slot, answer)) = first_wanted(&self.log, Wanted::GoingOut(conn)) else {
             return false;
         };
-        self.lines.give_up(&self.log);
-        self.log.move_to_back(slot, FREE);
+        self.lines.part(&mut self.log, slot, answer);
         self.waiting -= 1;
         self.numbered -= one_if(answer.numbered);
         true
@@ -217,14 +216,7 @@ impl Standings {
         let Some((slot, answer)) = first_wanted(&self.log, Wanted::Uncleared(unit)) else {
             return;
         };
-        self.lines.give_up(&self.log);
-        self.log.set(
-            slot,
-            Standing::Undue(Undue {
-                uncleared: false,
-                ..answer
-            }),
-        );
+        self.lines.clear(&mut self.log, slot, unit, answer);
     }
 
     /// Whether a command stands there.

@@ -1,11 +1,15 @@
 //! What a walk over the log finds: the answer that is due first, and the first of some answers.
 
-ghost use Rattle.std.specs.Prelude.{◌≡◌, ◌≤◌, ◌&&◌, ◌==◌, not, length};
+ghost use Rattle.std.specs.Prelude.{◌≡◌, ℕ, ◌+◌, ◌<◌, ◌≤◌, ◌&&◌, ◌==◌, not, length, slice_index_or};
 ghost use Rattle.iscsi_slots.specs.Slots.{times};
 ghost use Rattle.iscsi_outbox_state.specs.Lane.{aims_at as does_aim_at, holds_back as does_hold_back, is_due as is_due_behind, is_of_logout as is_of_a_logout, is_same_aim as is_one_aim};
-ghost use Rattle.iscsi_lane.specs.Standings.{slots_at, standings};
-ghost use Rattle.iscsi_lane.specs.Walking.{IsFirst, IsFirstDue, before_slot, wants};
+ghost use Rattle.iscsi_slots.specs.Places.{AreAscending};
+ghost use Rattle.iscsi_lane.specs.Scoping.{is_untold as is_not_told};
+ghost use Rattle.iscsi_lane.specs.Standings.{at, slots_at, standings};
+ghost use Rattle.iscsi_lane.specs.Times.{time_of};
+ghost use Rattle.iscsi_lane.specs.Walking.{AreTold, IsFirst, IsFirstDue, before_slot, wants};
 
+use crate::due::is_among;
 use crate::settling::LOG;
 use iscsi_lists::Lists;
 use iscsi_outbox_state::{Aim, Left, Standing, Undue};
@@ -19,16 +23,21 @@ pub(crate) enum Wanted {
     Uncleared(u16),
 }
 
-/// The answer that is due first, and its slot. It looks at each answer, and at what stands before it.
-pub(crate) fn first_due(log: &Lists<Standing>) -> Option<(u32, Undue)>
-    requires { length log.now.lists ≡ 3 }
+/// The answer that is due first, and its slot. It looks at each answer, and at what stands before those of which the lines
+/// don't tell.
+pub(crate) fn first_due(log: &Lists<Standing>, stamps: &[u64], due: &[u32]) -> Option<(u32, Undue)>
+    requires lists { length log.now.lists ≡ 3 }
+    requires told { AreTold log.now due.now }
+    requires long { length stamps.now ≡ log.now.room + 1 }
+    requires within { (j : ℕ) → j < length due.now → slice_index_or due.now j 0 < length stamps.now }
+    requires up { AreAscending (time_of stamps.now) due.now }
     ensures { IsFirstDue log.now result }
 {
     log.known();
     let mut at = log.first(LOG);
     while let Some(slot) = at {
         if let Standing::Undue(answer) = *log.at(slot) {
-            if is_due(log, slot, answer) {
+            if is_due(log, stamps, due, slot, answer) {
                 return Some((slot, answer));
             }
         }
@@ -75,8 +84,26 @@ fn is_about(aim: Aim, unit: u16) -> bool
     }
 }
 
+/// Whether the answer in a slot is due: by the lines, where they tell of it, and else by all that stands before it.
+fn is_due(log: &Lists<Standing>, stamps: &[u64], due: &[u32], slot: u32, answer: Undue) -> bool
+    requires lists { length log.now.lists ≡ 3 }
+    requires there { 1 ≤ times slot (slots_at log.now 2) }
+    requires is { at log.now.values slot ≡ Standing.Undue answer }
+    requires told { AreTold log.now due.now }
+    requires long { length stamps.now ≡ log.now.room + 1 }
+    requires within { (j : ℕ) → j < length due.now → slice_index_or due.now j 0 < length stamps.now }
+    requires up { AreAscending (time_of stamps.now) due.now }
+    ensures { result ≡ is_due_behind (standings log.now.values (before_slot slot (slots_at log.now 2))) answer }
+{
+    log.known();
+    if is_untold(answer) {
+        return is_due_by_walk(log, slot, answer);
+    }
+    is_among(stamps, due, slot)
+}
+
 /// Whether the answer in a slot is due, by all that stands before it.
-fn is_due(log: &Lists<Standing>, slot: u32, answer: Undue) -> bool
+fn is_due_by_walk(log: &Lists<Standing>, slot: u32, answer: Undue) -> bool
     requires lists { length log.now.lists ≡ 3 }
     requires there { 1 ≤ times slot (slots_at log.now 2) }
     ensures { result ≡ is_due_behind (standings log.now.values (before_slot slot (slots_at log.now 2))) answer }
@@ -132,8 +159,15 @@ fn aims_at(aim: Aim, left: Left) -> bool
     }
 }
 
+/// Whether the lines don't tell of an answer: it is a Logout's, or closes its connection.
+pub(crate) fn is_untold(answer: Undue) -> bool
+    ensures { result ≡ is_not_told (Standing.Undue answer) }
+{
+    is_of_logout(answer.aim) || answer.ends
+}
+
 /// Whether an aim is that of a Logout.
-pub(crate) fn is_of_logout(aim: Aim) -> bool
+fn is_of_logout(aim: Aim) -> bool
     ensures { result ≡ is_of_a_logout aim }
 {
     match aim {

@@ -21,6 +21,9 @@ is_due-requires-clause-there c =
     let is = subst (IsWalk order Held) c.in-Some.is c.loop-at.invariant in
     there order Held c.in-Some.slot is (once_at log c.known.ensures.apart 2)
 
+pub is_due-requires-clause-is : goal.is_due-requires-clause-is
+is_due-requires-clause-is c = sym (c.at.ensures NOBODY) ∙ c.in-Undue.is
+
 pub returns-then-is_due : goal.returns-then-is_due
 returns-then-is_due c =
     let log = c.args.log.now in let order = slots_at log 2 in
@@ -56,7 +59,7 @@ loop-at-smaller c =
     let once = once_at log c.known.ensures.apart 2 in
     let step = p order Held slot is once in
     subst (λ o. still_ahead c.next-at.result order < still_ahead o order) (sym c.in-Some.is)
-    (nearer order Held slot is once c.next-at.result (c.next-at.ensures.slot 2 is.front step.rest (let a = c.requires in omega (arith, a)) step.parts))
+    (nearer order Held slot is once c.next-at.result (c.next-at.ensures.slot 2 is.front step.rest (let a = c.requires.lists in omega (arith, a)) step.parts))
 
 pub loop-at-preserved : goal.loop-at-preserved
 loop-at-preserved c =
@@ -67,7 +70,7 @@ loop-at-preserved c =
     let once = once_at log c.known.ensures.apart 2 in
     let step = p order Held slot is once in
     let passed = here order Held slot is once in
-    goes_on order Held slot is once c.next-at.result (c.next-at.ensures.slot 2 is.front step.rest (let a = c.requires in omega (arith, a)) step.parts)
+    goes_on order Held slot is once c.next-at.result (c.next-at.ensures.slot 2 is.front step.rest (let a = c.requires.lists in omega (arith, a)) step.parts)
     (elim c.match-at-2.branch [
       | in-Undue+else-is_due w ↦
           passes_undue log.values order is.front slot step.rest passed w.in-Undue.answer (sym (c.at.ensures NOBODY) ∙ w.in-Undue.is)

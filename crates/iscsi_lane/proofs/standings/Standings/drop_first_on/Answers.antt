@@ -1,13 +1,10 @@
 use Rattle.std.proofs.Common.{◌∙◌, ◌-◌, length, ap, sym, arith}
 use Rattle.iscsi_outbox_state.specs.Lane.{Lane, dropped_on, goes_out_on, with_items}
-use Rattle.iscsi_lists.proofs.PlaceLemmas.{times_any}
 use Rattle.iscsi_lane.specs.Standings.{items_in, lane_of, slots_at, standings}
 use Rattle.iscsi_lane.proofs.StampLemmas.{once_at}
 use Rattle.iscsi_lane.proofs.GoingLemmas.{some_numbered, some_waiting, taken_items, taken_lane}
 use Rattle.iscsi_lane.proofs.WalkLemmas.{without_it}
 use Rattle.iscsi_lane.proofs.DropLemmas.{fewer, none_to_drop, others_same, stands}
-use Rattle.iscsi_lane.proofs.LaneLemmas.{moved_room}
-use Rattle.iscsi_lane.proofs.LiningLemmas.{off_still}
 use Rattle.iscsi_lane.proofs.standings.Standings.drop_first_on.Goals as goal
 
 pub returns-in_default-clause-none : goal.returns-in_default-clause-none
@@ -16,25 +13,23 @@ returns-in_default-clause-none c off =
     sym c.self.view_is ∙ ap (with_items (lane_of i.log i.conns i.commands i.answers)) (sym (none_to_drop (goes_out_on c.args.conn) (items_in i.log) c.in_default.ensures))
     ∙ ap (dropped_on c.args.conn) c.self.view_is
 
-pub move_to_back-requires-clause-slot : goal.move_to_back-requires-clause-slot
-move_to_back-requires-clause-slot c =
-    let i = c.self.inside in
-    let found = c.in-Some.ensures in
-    let a = stands (slots_at i.log 2) found.front c.in-Some.slot found.back found.parts in let b = times_any c.in-Some.slot 2 i.log.lists in omega (arith, a, b)
+pub part-requires-clause-there : goal.part-requires-clause-there
+part-requires-clause-there c =
+    let found = c.in-Some.ensures in stands (slots_at c.self.inside.log 2) found.front c.in-Some.slot found.back found.parts
 
 pub overflow_sub-self : goal.overflow_sub-self
 overflow_sub-self c =
     let i = c.self.inside in
     let found = c.in-Some.ensures in
     some_waiting i.log i.commands i.answers i.owing i.waiting i.numbered c.self.invariant.lane c.known.ensures.apart c.in-Some.slot c.in-Some.answer
-    (stands (slots_at i.log 2) found.front c.in-Some.slot found.back found.parts) found.is c.move_to_back.new.self c.move_to_back.ensures.state
+    (stands (slots_at i.log 2) found.front c.in-Some.slot found.back found.parts) found.is c.part.new.log c.part.ensures.log
 
 pub overflow_sub-self-2 : goal.overflow_sub-self-2
 overflow_sub-self-2 c =
     let i = c.self.inside in
     let found = c.in-Some.ensures in
     let a = some_numbered i.log i.commands i.answers i.owing i.waiting i.numbered c.self.invariant.lane c.known.ensures.apart c.in-Some.slot c.in-Some.answer
-    (stands (slots_at i.log 2) found.front c.in-Some.slot found.back found.parts) found.is c.move_to_back.new.self c.move_to_back.ensures.state in
+    (stands (slots_at i.log 2) found.front c.in-Some.slot found.back found.parts) found.is c.part.new.log c.part.ensures.log in
     let b = c.one_if.ensures in omega (arith, a, b)
 
 pub invariant_of-self : goal.invariant_of-self
@@ -42,13 +37,13 @@ invariant_of-self c =
     let i = c.self.inside in
     let found = c.in-Some.ensures in
     let there = stands (slots_at i.log 2) found.front c.in-Some.slot found.back found.parts in
-    let a = some_numbered i.log i.commands i.answers i.owing i.waiting i.numbered c.self.invariant.lane c.known.ensures.apart c.in-Some.slot c.in-Some.answer there found.is c.move_to_back.new.self c.move_to_back.ensures.state in
-    let d = some_waiting i.log i.commands i.answers i.owing i.waiting i.numbered c.self.invariant.lane c.known.ensures.apart c.in-Some.slot c.in-Some.answer there found.is c.move_to_back.new.self c.move_to_back.ensures.state in
+    let a = some_numbered i.log i.commands i.answers i.owing i.waiting i.numbered c.self.invariant.lane c.known.ensures.apart c.in-Some.slot c.in-Some.answer there found.is c.part.new.log c.part.ensures.log in
+    let d = some_waiting i.log i.commands i.answers i.owing i.waiting i.numbered c.self.invariant.lane c.known.ensures.apart c.in-Some.slot c.in-Some.answer there found.is c.part.new.log c.part.ensures.log in
     let b = c.one_if.ensures in
     record {
-      lane = taken_lane i.log i.commands i.answers i.owing i.waiting i.numbered c.self.invariant.lane c.known.ensures.apart c.in-Some.slot c.in-Some.answer there found.is c.move_to_back.new.self c.move_to_back.ensures.state
+      lane = taken_lane i.log i.commands i.answers i.owing i.waiting i.numbered c.self.invariant.lane c.known.ensures.apart c.in-Some.slot c.in-Some.answer there found.is c.part.new.log c.part.ensures.log
           (i.waiting - 1) (i.numbered - c.one_if.result) (omega (arith, d)) (omega (arith, a, b));
-      lined = off_still c.give_up.new.self i.log c.move_to_back.new.self c.give_up.ensures.lined c.give_up.ensures.off (moved_room i.log c.move_to_back.new.self 1 c.in-Some.slot c.move_to_back.ensures.state);
+      lined = c.part.ensures.lined;
     }
 
 pub returns-clause-state : goal.returns-clause-state
@@ -56,7 +51,7 @@ returns-clause-state c =
     let i = c.self.inside in
     let found = c.in-Some.ensures in
     let there = stands (slots_at i.log 2) found.front c.in-Some.slot found.back found.parts in
-    let items = taken_items i.log i.commands i.answers i.owing i.waiting i.numbered c.self.invariant.lane c.known.ensures.apart c.in-Some.slot c.in-Some.answer there found.is c.move_to_back.new.self c.move_to_back.ensures.state
+    let items = taken_items i.log i.commands i.answers i.owing i.waiting i.numbered c.self.invariant.lane c.known.ensures.apart c.in-Some.slot c.in-Some.answer there found.is c.part.new.log c.part.ensures.log
     ∙ ap (standings i.log.values) (without_it (slots_at i.log 2) found.front c.in-Some.slot found.back (once_at i.log c.known.ensures.apart 2 c.in-Some.slot) found.parts) in
     ap (λ xs. dropped_on c.args.conn (with_items (lane_of i.log i.conns i.commands i.answers) xs)) items
     ∙ ap (with_items (lane_of i.log i.conns i.commands i.answers)) (others_same (goes_out_on c.args.conn) i.log.values c.in-Some.slot (ap (goes_out_on c.args.conn) found.is ∙ found.on) found.front found.back)
@@ -68,7 +63,7 @@ returns-clause-fewer c on =
     let i = c.self.inside in
     let found = c.in-Some.ensures in
     let there = stands (slots_at i.log 2) found.front c.in-Some.slot found.back found.parts in
-    let items = taken_items i.log i.commands i.answers i.owing i.waiting i.numbered c.self.invariant.lane c.known.ensures.apart c.in-Some.slot c.in-Some.answer there found.is c.move_to_back.new.self c.move_to_back.ensures.state
+    let items = taken_items i.log i.commands i.answers i.owing i.waiting i.numbered c.self.invariant.lane c.known.ensures.apart c.in-Some.slot c.in-Some.answer there found.is c.part.new.log c.part.ensures.log
     ∙ ap (standings i.log.values) (without_it (slots_at i.log 2) found.front c.in-Some.slot found.back (once_at i.log c.known.ensures.apart 2 c.in-Some.slot) found.parts) in
     let a = ap length items in
     let b = fewer i.log.values c.in-Some.slot found.front found.back in

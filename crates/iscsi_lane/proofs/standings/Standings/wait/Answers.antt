@@ -6,7 +6,7 @@ use Rattle.iscsi_outbox_state.specs.declared.lane.Standing.TheVariants.{Undue as
 use Rattle.iscsi_outbox_state.specs.Lane.{Lane, count_in, with_items}
 use Rattle.iscsi_lane.specs.Standings.{is_undue, slots_at}
 use Rattle.iscsi_lane.proofs.StandLemmas.{is_behind, one_at_most}
-use Rattle.iscsi_lane.proofs.LaneLemmas.{at_once, at_within, come_lane, come_view, few_numbered, few_waiting, first_there, in_at, only_at, some_first, some_free}
+use Rattle.iscsi_lane.proofs.LaneLemmas.{at_once, at_within, come_lane, come_view, few_numbered, few_waiting, first_there, only_at, some_first, some_free}
 use Rattle.iscsi_lane.proofs.standings.Standings.wait.Goals as goal
 
 pub unwrap-slot-requires : goal.unwrap-slot-requires

@@ -1,6 +1,6 @@
 use Rattle.iscsi_lane.specs.Standings.{slots_at}
 use Rattle.iscsi_lane.specs.Walking.{IsWalk, NoneHolds, still_ahead}
-use Rattle.iscsi_lane.proofs.walking.is_due.Given as goal
+use Rattle.iscsi_lane.proofs.walking.is_due_by_walk.Given as goal
 
 -- none so far holds it back
 abbrev pub invariant-loop-at : goal.invariant-loop-at
