@@ -43,10 +43,6 @@ module _ (test : Standing → Bool) where
   others_same xs s on [] rest = sym (ap (λ b. cond (not b) (at xs s ∷ others (standings xs rest)) (others (standings xs rest))) on)
   others_same xs s on (y ∷ ys) rest = ap (λ r. cond (not (test (at xs y))) (at xs y ∷ r) r) (others_same xs s on ys rest)
 
-pub fewer : (xs : List Standing) (s : ℕ) (front rest : List ℕ) → length (standings xs (front ++ rest)) < length (standings xs (front ++ s ∷ rest))
-fewer xs s [] rest = omega arith
-fewer xs s (y ∷ ys) rest = let a = fewer xs s ys rest in omega (arith, a)
-
 -- ---- it waits for other sessions no more
 
 passes_on : (unit : ℕ) (x : Standing) (rest : List Standing) → is_uncleared_of unit x ≡ false → cleared_in unit (x ∷ rest) ≡ x ∷ cleared_in unit rest

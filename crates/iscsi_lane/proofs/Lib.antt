@@ -22,4 +22,5 @@ pub mod DropLemmas
 pub mod CountedLemmas
 pub mod LiningLemmas
 pub mod ClearLemmas
+pub mod DroppingLemmas
 pub mod TellLemmas

@@ -12,10 +12,8 @@ use Rattle.iscsi_outbox_state.specs.declared.lane.Undue.{Undue}
 use Rattle.iscsi_outbox_state.specs.declared.lane.Standing.{Standing}
 use Rattle.iscsi_outbox_state.specs.declared.lane.Standing.TheVariants.{Left as IsLeft, Undue as IsUndue}
 use Rattle.iscsi_outbox_state.specs.Lane.{due_behind, holds_back, is_due, others_behind}
-use Rattle.iscsi_lane.specs.declared.walking.Wanted.{Wanted}
-use Rattle.iscsi_lane.specs.declared.walking.Wanted.TheVariants.{GoingOut, Uncleared}
 use Rattle.iscsi_lane.specs.Standings.{at, is_undue, slots_at, standings, tally}
-use Rattle.iscsi_lane.specs.Walking.{IsPassed, IsWalk, NoneHolds, NoneIsDue, before_slot, from_slot, still_ahead, wants}
+use Rattle.iscsi_lane.specs.Walking.{IsPassed, IsWalk, NoneHolds, NoneIsDue, before_slot, from_slot, still_ahead}
 use Rattle.iscsi_lane.proofs.StandLemmas.{standings_append}
 
 -- ---- how far it has come
@@ -51,7 +49,7 @@ pub record Step (order front : List ℕ) (s : ℕ) (back : List ℕ) : Type 0 wh
   pub here : back ≡ s ∷ rest
   pub parts : order ≡ front ++ s ∷ rest
 
-step_of : (order front back : List ℕ) (s : ℕ) → order ≡ front ++ back → Some s ≡ first_of back → Step order front s back
+pub step_of : (order front back : List ℕ) (s : ℕ) → order ≡ front ++ back → Some s ≡ first_of back → Step order front s back
 step_of order front [] s parts first = absurd (cc)
 step_of order front (y ∷ ys) s parts first =
     let same : y ≡ s = cc in
@@ -64,7 +62,7 @@ none_ahead (y ∷ ys) first = absurd (cc)
 alone_in : (s : ℕ) (front back : List ℕ) → times s (front ++ s ∷ back) ≤ 1 → times s front ≡ 0
 alone_in s front back once = let a = times_append s front (s ∷ back) in let b = times_same s s back refl in omega (arith, a, b, once)
 
-ahead_is : (order front : List ℕ) (o : Option ℕ) (back : List ℕ) → ((t : ℕ) → times t order ≤ 1) → order ≡ front ++ back → o ≡ first_of back → still_ahead o order ≡ length back
+pub ahead_is : (order front : List ℕ) (o : Option ℕ) (back : List ℕ) → ((t : ℕ) → times t order ≤ 1) → order ≡ front ++ back → o ≡ first_of back → still_ahead o order ≡ length back
 ahead_is order front o [] once parts first = ap (λ x. still_ahead x order) first
 ahead_is order front o (s ∷ back) once parts first =
     ap (λ x. still_ahead x order) first ∙ ap (from_slot s) parts
@@ -118,10 +116,6 @@ any_at test xs (y ∷ ys) s back on = ⊎_elim
     (λ yes. ap (λ b. b || list_any test (standings xs (ys ++ s ∷ back))) yes)
     (λ no. ap (λ b. b || list_any test (standings xs (ys ++ s ∷ back))) no ∙ any_at test xs ys s back on)
     (cases_Bool (test (at xs y)))
-
-pub wants_no_command : (w : Wanted) (c : Left) → wants w (IsLeft c) ≡ false
-wants_no_command (GoingOut conn) c = refl
-wants_no_command (Uncleared unit) c = refl
 
 -- ---- whether an answer is due
 

@@ -6,3 +6,4 @@ pub mod Rows
 pub mod Walking
 pub mod Counting
 pub mod Lining
+pub mod Dropping

@@ -6,9 +6,7 @@ use Rattle.iscsi_lists.specs.Lists.{Listed, first_of, without}
 use Rattle.iscsi_outbox_state.specs.declared.lane.Undue.{Undue}
 use Rattle.iscsi_outbox_state.specs.declared.lane.Standing.{Standing}
 use Rattle.iscsi_outbox_state.specs.declared.lane.Standing.TheVariants.{Left as IsLeft, Undue as IsUndue}
-use Rattle.iscsi_outbox_state.specs.Lane.{due_behind, goes_out_on, holds_back, is_due, others_behind, waits_for_clear}
-use Rattle.iscsi_lane.specs.declared.walking.Wanted.{Wanted}
-use Rattle.iscsi_lane.specs.declared.walking.Wanted.TheVariants.{GoingOut, Uncleared}
+use Rattle.iscsi_outbox_state.specs.Lane.{due_behind, holds_back, is_due, others_behind, waits_for_clear}
 use Rattle.iscsi_lane.specs.Scoping.{is_untold}
 use Rattle.iscsi_lane.specs.Standings.{at, items_in, slots_at, standings}
 use Rattle.iscsi_lane.specs.Times.{has}
@@ -73,10 +71,6 @@ pub record NoneHolds (xs : List Standing) (a : Undue) (slot : ℕ) (front back :
 abbrev pub is_uncleared_of : ℕ → Standing → Bool
 is_uncleared_of unit (IsLeft c) = false
 is_uncleared_of unit (IsUndue a) = waits_for_clear unit a
-
-abbrev pub wants : Wanted → Standing → Bool
-wants (GoingOut conn) s = goes_out_on conn s
-wants (Uncleared unit) s = is_uncleared_of unit s
 
 abbrev pub NoneSoFar : (Standing → Bool) → List Standing → List ℕ → List ℕ → Type 0
 NoneSoFar test xs front back = list_any test (standings xs front) ≡ false

@@ -1,6 +1,7 @@
 //! The lane: commands that left and owe something, and the answers that wait for them.
 #![tactic(auto)]
 
+mod dropping;
 mod due;
 mod following;
 mod lane;

@@ -4,9 +4,10 @@ ghost use Rattle.std.specs.Prelude.{◌≡◌, ◌+◌, ◌*◌, ◌<◌, ◌≤
 ghost use Rattle.iscsi_outbox_state.specs.Lane.{any_in, arrived, awaited, cleared, count_in, dropped_on, first_due, has_left, is_command, is_left, is_numbered, opened, owes, stopped, without_due};
 ghost use Rattle.iscsi_lane.specs.Standings.{AreSound, is_undue, left_in};
 
+use crate::dropping::drop_all;
 use crate::lines::Lines;
 use crate::settling::{AWAY, FREE, LOG, find, one_if};
-use crate::walking::{Wanted, first_wanted};
+use crate::walking::first_uncleared;
 use iscsi_lists::Lists;
 use iscsi_outbox_state::{Left, Standing, Undue};
 use std::alloc::{AllocError, Global};
@@ -185,27 +186,13 @@ impl Standings {
         Some(answer)
     }
 
-    /// The answers that would go out on a connection are dropped. It walks over the log for each.
+    /// The answers that would go out on a connection are dropped. It walks over the log, once.
     pub(crate) fn drop_on(&mut self, conn: u16)
         ensures { self.new ≡ dropped_on conn self.old }
     {
-        while self.drop_first_on(conn) {}
-    }
-
-    /// The first answer that would go out on a connection is dropped, if there is one.
-    fn drop_first_on(&mut self, conn: u16) -> bool
-        ensures state { dropped_on conn self.new ≡ dropped_on conn self.old }
-        ensures none { result ≡ false → self.new ≡ dropped_on conn self.old }
-        ensures fewer { result ≡ true → length self.new.items < length self.old.items }
-    {
-        self.log.known();
-        let Some((slot, answer)) = first_wanted(&self.log, Wanted::GoingOut(conn)) else {
-            return false;
-        };
-        self.lines.part(&mut self.log, slot, answer);
-        self.waiting -= 1;
-        self.numbered -= one_if(answer.numbered);
-        true
+        let dropped = drop_all(&mut self.lines, &mut self.log, conn);
+        self.waiting -= dropped.answers;
+        self.numbered -= dropped.numbered;
     }
 
     /// The oldest answer that waits for other sessions, about this unit, waits for them no more. It walks over the log.
@@ -213,7 +200,7 @@ impl Standings {
         ensures { self.new ≡ cleared unit self.old }
     {
         self.log.known();
-        let Some((slot, answer)) = first_wanted(&self.log, Wanted::Uncleared(unit)) else {
+        let Some((slot, answer)) = first_uncleared(&self.log, unit) else {
             return;
         };
         self.lines.clear(&mut self.log, slot, unit, answer);

@@ -1,4 +1,4 @@
-//! What a walk over the log finds: the answer that is due first, and the first of some answers.
+//! What a walk over the log finds: the answer that is due first, and the first that waits for other sessions.
 
 ghost use Rattle.std.specs.Prelude.{◌≡◌, ℕ, ◌+◌, ◌<◌, ◌≤◌, ◌&&◌, ◌==◌, not, length, slice_index_or};
 ghost use Rattle.iscsi_slots.specs.Slots.{times};
@@ -7,21 +7,12 @@ ghost use Rattle.iscsi_slots.specs.Places.{AreAscending};
 ghost use Rattle.iscsi_lane.specs.Scoping.{is_untold as is_not_told};
 ghost use Rattle.iscsi_lane.specs.Standings.{at, slots_at, standings};
 ghost use Rattle.iscsi_lane.specs.Times.{time_of};
-ghost use Rattle.iscsi_lane.specs.Walking.{AreTold, IsFirst, IsFirstDue, before_slot, wants};
+ghost use Rattle.iscsi_lane.specs.Walking.{AreTold, IsFirst, IsFirstDue, before_slot, is_uncleared_of};
 
 use crate::due::is_among;
 use crate::settling::LOG;
 use iscsi_lists::Lists;
 use iscsi_outbox_state::{Aim, Left, Standing, Undue};
-
-/// Which answers a walk looks for.
-#[derive(Clone, Copy)]
-pub(crate) enum Wanted {
-    /// Those that go out on a connection.
-    GoingOut(u16),
-    /// Those about a unit that wait for other sessions.
-    Uncleared(u16),
-}
 
 /// The answer that is due first, and its slot. It looks at each answer, and at what stands before those of which the lines
 /// don't tell.
@@ -46,16 +37,16 @@ pub(crate) fn first_due(log: &Lists<Standing>, stamps: &[u64], due: &[u32]) -> O
     None
 }
 
-/// The first of some answers, and its slot.
-pub(crate) fn first_wanted(log: &Lists<Standing>, wanted: Wanted) -> Option<(u32, Undue)>
+/// The first answer about a unit that waits for other sessions, and its slot.
+pub(crate) fn first_uncleared(log: &Lists<Standing>, unit: u16) -> Option<(u32, Undue)>
     requires { length log.now.lists ≡ 3 }
-    ensures { IsFirst (wants wanted) log.now result }
+    ensures { IsFirst (is_uncleared_of unit) log.now result }
 {
     log.known();
     let mut at = log.first(LOG);
     while let Some(slot) = at {
         if let Standing::Undue(answer) = *log.at(slot) {
-            if is_wanted(wanted, answer) {
+            if is_uncleared(answer, unit) {
                 return Some((slot, answer));
             }
         }
@@ -64,14 +55,11 @@ pub(crate) fn first_wanted(log: &Lists<Standing>, wanted: Wanted) -> Option<(u32
     None
 }
 
-/// Whether an answer is wanted.
-fn is_wanted(wanted: Wanted, answer: Undue) -> bool
-    ensures { result ≡ wants wanted (Standing.Undue answer) }
+/// Whether an answer waits for other sessions, and is about a unit.
+fn is_uncleared(answer: Undue, unit: u16) -> bool
+    ensures { result ≡ is_uncleared_of unit (Standing.Undue answer) }
 {
-    match wanted {
-        Wanted::GoingOut(conn) => answer.conn == conn,
-        Wanted::Uncleared(unit) => answer.uncleared && is_about(answer.aim, unit),
-    }
+    answer.uncleared && is_about(answer.aim, unit)
 }
 
 /// Whether an aim is a unit.
