@@ -1,5 +1,5 @@
 -- The ticket that entered last, as the steps keep it, through each call: only commands that enter change it.
-use Rattle.std.proofs.Common.{◌||◌, ◌≡◌, ◌≤◌, ℕ, zero, suc, ◌&&◌, ◌==◌, not, nat_lt, cond, Bool, true, false, List, [], ◌∷◌, Option, Some, None, refl, ◌∙◌, arith}
+use Rattle.std.proofs.Common.{◌||◌, ◌≡◌, ◌≤◌, ℕ, zero, suc, ◌&&◌, ◌==◌, not, nat_lt, cond, Bool, true, false, List, [], ◌∷◌, Option, Some, None, refl, ◌∙◌}
 use Rattle.std.specs.List.{list_any}
 use Rattle.iscsi_wire.specs.declared.reply.Reply.{Reply}
 use Rattle.iscsi_wire.specs.declared.request.Request.{Request}
