@@ -11,15 +11,15 @@ use Rattle.iscsi_outbox_state.specs.declared.lane.Standing.{Standing}
 use Rattle.iscsi_outbox_state.specs.declared.lane.Standing.TheVariants.{Undue as IsUndue}
 use Rattle.iscsi_outbox_state.specs.Lane.{as_cleared, is_same_aim, waits_for_clear}
 use Rattle.iscsi_scopes.specs.Scopes.{Scoped, slots_of}
-use Rattle.iscsi_lane.specs.Standings.{NOBODY, at, items_in, slots_at, tally}
-use Rattle.iscsi_lane.specs.Scoping.{Mirrors, as_item, due_of, is_it, is_untold, stands_in, told, told_of}
+use Rattle.iscsi_lane.specs.Standings.{NOBODY, at, slots_at}
+use Rattle.iscsi_lane.specs.Scoping.{Mirrors, as_item, due_of, is_it, is_untold, stands_in, told, told_of, untold_at}
 use Rattle.iscsi_lane.specs.Times.{InOrder, gains, has}
 use Rattle.iscsi_lane.specs.Following.{Follows, FollowsLog}
 use Rattle.iscsi_lane.proofs.FollowLemmas.{has_is, in_order_of, unit_gain, unit_or}
 use Rattle.iscsi_lane.proofs.JoinLemmas.{stands_there}
 use Rattle.iscsi_lane.proofs.MirrorLemmas.{stays_as}
 use Rattle.iscsi_lane.proofs.StampLemmas.{within_at}
-use Rattle.iscsi_lane.proofs.StandLemmas.{tally_set}
+use Rattle.iscsi_lane.proofs.LiningLemmas.{untold_set}
 use Rattle.iscsi_lane.proofs.TurnLemmas.{same_filter}
 
 and_parts : (p q : Bool) → (p && q) ≡ true → (p ≡ true) × (q ≡ true)
@@ -98,8 +98,8 @@ module _ (log : Listed Standing) (units tags : Scoped) (due : List ℕ) (capacit
   pub clear_stands : (k : ℕ) → 1 ≤ times k (slots_of unit units.lines) → 1 ≤ times k (slots_at t 2)
   clear_stands k in_it = subst (λ o. 1 ≤ times k o) (sym t_order) (stands_there AtUnit units log.values (slots_at log 2) f.follows.of_units unit k in_it)
 
-  pub clear_untold : tally is_untold (items_in t) ≡ tally is_untold (items_in log)
-  clear_untold = ap (λ (u : Listed Standing). tally is_untold (items_in u)) is_t ∙ tally_set is_untold log.values s (IsUndue (as_cleared a)) (slots_at log 2) inside (sym (ap is_untold is))
+  pub clear_untold : filter (untold_at t.values) (slots_at t 2) ≡ filter (untold_at log.values) (slots_at log 2)
+  clear_untold = ap (λ (u : Listed Standing). filter (untold_at u.values) (slots_at u 2)) is_t ∙ untold_set log.values s (IsUndue (as_cleared a)) (slots_at log 2) inside (sym (ap is_untold is))
 
   pub clear_follows : (due' : List ℕ) (capacity' : ℕ) → due' ≡ filter (λ k. has due k || gains units unit t.values k) (slots_at t 2) → capacity ≤ capacity' → FollowsLog t units tags due' capacity'
   clear_follows due' capacity' e more = record {

@@ -21,6 +21,7 @@ pub mod CountLemmas
 pub mod DropLemmas
 pub mod CountedLemmas
 pub mod LiningLemmas
+pub mod HoldLemmas
 pub mod ClearLemmas
 pub mod DroppingLemmas
 pub mod TellLemmas

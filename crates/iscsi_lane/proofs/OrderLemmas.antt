@@ -42,7 +42,7 @@ front_under : (ts : List ℕ) (s : ℕ) (front back : List ℕ) → IsUp ts (fro
 front_under ts s [] back up = tt
 front_under ts s (y ∷ ys) back up = ((after_behind ts (time_of ts y) ys (s ∷ back) up.0).0, front_under ts s ys back up.1)
 
-back_after : (ts : List ℕ) (s : ℕ) (front back : List ℕ) → IsUp ts (front ++ s ∷ back) → AllAfter ts (time_of ts s) back
+pub back_after : (ts : List ℕ) (s : ℕ) (front back : List ℕ) → IsUp ts (front ++ s ∷ back) → AllAfter ts (time_of ts s) back
 back_after ts s [] back up = up.0
 back_after ts s (y ∷ ys) back up = back_after ts s ys back up.1
 

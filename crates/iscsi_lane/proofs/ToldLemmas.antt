@@ -1,11 +1,10 @@
 -- The lines tell which answers are due: so the first of those that they tell, in the order of the log, is the first that is due.
-use Rattle.std.proofs.Common.{◌≡◌, ℕ, ◌≤◌, ◌&&◌, not, true, false, List, [], ◌∷◌, ◌++◌, filter, get_or, Option, Some, None, refl, ap, sym, subst, ◌∙◌, arith, ⊎_elim, eq-eqb}
+use Rattle.std.proofs.Common.{◌≡◌, ℕ, ◌≤◌, ◌&&◌, not, true, false, List, [], ◌∷◌, ◌++◌, get_or, Option, Some, None, refl, ap, sym, subst, ◌∙◌, arith, ⊎_elim, eq-eqb}
 use Rattle.std.specs.List.{list_any}
 use Rattle.std.proofs.lemmas.Bool.{cases_Bool, cases_eq, true≢false, false≢true, eqb-true, false_from_ne_true}
 use Rattle.iscsi_slots.specs.Slots.{times}
 use Rattle.iscsi_slots.proofs.SlotLemmas.{times_append}
-use Rattle.iscsi_lists.specs.Lists.{first_of}
-use Rattle.iscsi_lists.proofs.WithoutLemmas.{append_one, times_other, times_same}
+use Rattle.iscsi_lists.proofs.WithoutLemmas.{times_other, times_same}
 use Rattle.iscsi_lines.specs.declared.item.Item.{Item}
 use Rattle.iscsi_lines.specs.declared.item.Item.TheVariants.{Answer}
 use Rattle.iscsi_lines.specs.Lines.{BLANK, due_in}
@@ -14,11 +13,11 @@ use Rattle.iscsi_outbox_state.specs.declared.lane.Aim.TheVariants.{Tag, Unit as 
 use Rattle.iscsi_outbox_state.specs.declared.lane.Undue.{Undue}
 use Rattle.iscsi_outbox_state.specs.declared.lane.Standing.{Standing}
 use Rattle.iscsi_outbox_state.specs.declared.lane.Standing.TheVariants.{Left as IsLeft, Undue as IsUndue}
-use Rattle.iscsi_outbox_state.specs.Lane.{due_behind, holds_back, is_due, is_of_logout}
+use Rattle.iscsi_outbox_state.specs.Lane.{holds_back, is_due, is_of_logout}
 use Rattle.iscsi_scopes.specs.Scopes.{Scoped, slots_of}
 use Rattle.iscsi_lane.specs.Standings.{at, standings}
-use Rattle.iscsi_lane.specs.Scoping.{AreAborts, AreItems, IsAbort, Mirrors, as_item, due_of, is_it, line_of, stands_in, told, told_of}
-use Rattle.iscsi_lane.proofs.DueLemmas.{AllTold, Tells, answer_of, due_from_line, due_to_line, first_is}
+use Rattle.iscsi_lane.specs.Scoping.{AreItems, IsAbort, Mirrors, as_item, due_of, is_it, line_of, stands_in, told, told_of}
+use Rattle.iscsi_lane.proofs.DueLemmas.{Tells, due_from_line, due_to_line}
 use Rattle.iscsi_lane.proofs.MirrorLemmas.{line_append, line_few, line_first}
 
 is_same : (s : ℕ) (o : Option ℕ) → is_it s o ≡ true → o ≡ Some s
@@ -103,14 +102,3 @@ module _ (units tags : Scoped) (xs : List Standing) (order : List ℕ) (of_units
       (λ (cleared : a.uncleared ≡ false).
       ap (λ b. not b && is_it s (due_of units tags a.aim)) cleared ∙ by_aim a.aim a refl abort.0 abort.1 cleared s front back at_it is)
       (cases_Bool a.uncleared)
-
-  pub all_told : (front back : List ℕ) → order ≡ front ++ back → AreAborts xs back → AllTold xs (told units tags xs) front back
-  all_told front [] at_it aborts = tt
-  all_told front (s ∷ back) at_it aborts = (
-    tells s front back (at xs s) at_it refl aborts.0,
-    all_told (front ++ s ∷ []) back (at_it ∙ append_one front back s) aborts.1,
-  )
-
-  -- the first answer that is due is the first that the lines tell
-  pub first_told : AreAborts xs order → due_behind [] (standings xs order) ≡ answer_of xs (first_of (filter (told units tags xs) order))
-  first_told aborts = first_is xs (told units tags xs) [] order (all_told [] order refl aborts)

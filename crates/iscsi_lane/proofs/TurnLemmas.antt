@@ -111,7 +111,7 @@ same_filter f g (y ∷ ys) same =
     ap (λ b. cond b (y ∷ filter f ys) (filter f ys)) (same y (omega (arith, here)))
     ∙ ap (λ r. cond (g y) (y ∷ r) r) (same_filter f g ys (λ t there. same t (omega (arith, there))))
 
-filter_push : (f : ℕ → Bool) (slots : List ℕ) (s : ℕ) → filter f (slots ++ s ∷ []) ≡ filter f slots ++ filter f (s ∷ [])
+pub filter_push : (f : ℕ → Bool) (slots : List ℕ) (s : ℕ) → filter f (slots ++ s ∷ []) ≡ filter f slots ++ filter f (s ∷ [])
 filter_push f [] s = refl
 filter_push f (y ∷ ys) s = elim (f y) as (λ b. cond b (y ∷ filter f (ys ++ s ∷ [])) (filter f (ys ++ s ∷ [])) ≡ cond b (y ∷ filter f ys) (filter f ys) ++ filter f (s ∷ [])) [
   | true ↦ ap (λ r. y ∷ r) (filter_push f ys s)

@@ -1,11 +1,11 @@
 -- Lines that follow the log. For private contracts alone.
-use Rattle.std.specs.Prelude.{◌≡◌, ℕ, ◌+◌, ◌≤◌, [], length, map, Option, Some, None, slice_set, vec_capacity}
+use Rattle.std.specs.Prelude.{◌≡◌, ℕ, ◌+◌, ◌≤◌, [], length, filter, map, Option, Some, None, slice_set, vec_capacity}
 use Rattle.iscsi_lists.specs.Lists.{Listed, with_last, without}
 use Rattle.iscsi_outbox_state.specs.declared.lane.Undue.{Undue}
 use Rattle.iscsi_outbox_state.specs.declared.lane.Standing.{Standing}
 use Rattle.iscsi_lane.specs.declared.lines.Lines.{Lines}
-use Rattle.iscsi_lane.specs.Standings.{IsLane, items_in, slots_at, tally}
-use Rattle.iscsi_lane.specs.Scoping.{is_untold}
+use Rattle.iscsi_lane.specs.Standings.{IsLane, slots_at}
+use Rattle.iscsi_lane.specs.Scoping.{untold_at}
 use Rattle.iscsi_lane.specs.Times.{AllUnder, IsUp}
 use Rattle.iscsi_lane.specs.Following.{FollowsLog}
 
@@ -14,13 +14,17 @@ pub record IsLined (l : Lines) (log : Listed Standing) : Type 0 where
   pub up : IsUp l.stamps.items (slots_at log 2)
   pub under : AllUnder l.stamps.items l.next (slots_at log 2)
   pub long : length l.stamps.items ≡ log.room + 1
-  pub of_untold : l.untold ≡ tally is_untold (items_in log)
+  pub of_untold : l.untold.items ≡ filter (untold_at log.values) (slots_at log 2)
+  pub untold_room : log.room ≤ vec_capacity l.untold
+  pub holders : length l.holders.items ≡ log.room + 1
 
 pub record IsNew (l : Lines) (room : ℕ) : Type 0 where
   pub units : l.units.lines ≡ []
   pub tags : l.tags.lines ≡ []
   pub due : l.due.items ≡ []
-  pub untold : l.untold ≡ 0
+  pub untold : l.untold.items ≡ []
+  pub untold_room : room ≤ vec_capacity l.untold
+  pub holders : length l.holders.items ≡ room + 1
   pub units_room : l.units.room ≡ room
   pub tags_room : l.tags.room ≡ room
   pub due_room : room ≤ vec_capacity l.due

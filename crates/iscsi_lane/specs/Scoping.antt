@@ -69,11 +69,11 @@ abbrev pub is_untold : Standing → Bool
 is_untold (IsLeft c) = false
 is_untold (IsUndue a) = is_of_logout a.aim || a.ends
 
--- no answer is one of these
+-- the slot of such a one
+abbrev pub untold_at : List Standing → ℕ → Bool
+untold_at xs s = is_untold (at xs s)
+
+-- no answer, or one that is none of these
 abbrev pub IsAbort : Standing → Type 0
 IsAbort (IsLeft c) = Unit {0}
 IsAbort (IsUndue a) = (is_of_logout a.aim ≡ false) × (a.ends ≡ false)
-
-abbrev pub AreAborts : List Standing → List ℕ → Type 0
-AreAborts xs [] = Unit {0}
-AreAborts xs (s ∷ slots) = IsAbort (at xs s) × AreAborts xs slots

@@ -6,7 +6,7 @@ use Rattle.iscsi_lists.specs.Lists.{Listed, first_of, without}
 use Rattle.iscsi_outbox_state.specs.declared.lane.Undue.{Undue}
 use Rattle.iscsi_outbox_state.specs.declared.lane.Standing.{Standing}
 use Rattle.iscsi_outbox_state.specs.declared.lane.Standing.TheVariants.{Left as IsLeft, Undue as IsUndue}
-use Rattle.iscsi_outbox_state.specs.Lane.{due_behind, holds_back, is_due, others_behind, waits_for_clear}
+use Rattle.iscsi_outbox_state.specs.Lane.{due_behind, holds_back, is_due, is_of_logout, others_behind, waits_for_clear}
 use Rattle.iscsi_lane.specs.Scoping.{is_untold}
 use Rattle.iscsi_lane.specs.Standings.{at, items_in, slots_at, standings}
 use Rattle.iscsi_lane.specs.Times.{has}
@@ -55,6 +55,14 @@ IsFirstDue log (Some found) = IsDueFirst log found.0 found.1
 abbrev pub AreTold : Listed Standing → List ℕ → Type 0
 AreTold log due = (s : ℕ) (a : Undue) → 1 ≤ times s (slots_at log 2) → at log.values s ≡ IsUndue a → is_untold (IsUndue a) ≡ false
     → has due s ≡ is_due (standings log.values (before_slot s (slots_at log 2))) a
+
+-- something before it holds a Logout's answer back
+abbrev pub IsHeld : List Standing → Standing → Type 0
+IsHeld before (IsLeft c) = Unit {0}
+IsHeld before (IsUndue a) = (is_of_logout a.aim ≡ true) × (list_any (holds_back a) before ≡ true)
+
+abbrev pub IsHeldAt : Listed Standing → ℕ → Type 0
+IsHeldAt log s = IsHeld (standings log.values (before_slot s (slots_at log 2))) (at log.values s)
 
 -- what stands there is looked at from here on
 pub record IsPassed (xs : List Standing) (order front back : List ℕ) : Type 0 where

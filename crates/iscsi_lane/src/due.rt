@@ -1,6 +1,6 @@
 //! The answers that are due, in the order of the log.
 
-ghost use Rattle.std.specs.Prelude.{◌≡◌, ℕ, ◌+◌, ◌<◌, ◌≤◌, ◌||◌, length, filter, slice_index_or, true, vec_capacity};
+ghost use Rattle.std.specs.Prelude.{◌≡◌, ℕ, ◌+◌, ◌<◌, ◌≤◌, ◌||◌, ◌++◌, ◌∷◌, [], if◌then◌else◌, length, filter, slice_index_or, true, vec_capacity};
 ghost use Rattle.std.specs.List.{insert};
 ghost use Rattle.iscsi_slots.specs.Places.{AreAscending};
 ghost use Rattle.iscsi_slots.specs.Slots.{times};
@@ -48,7 +48,7 @@ pub(crate) fn examine(
     insert_at(due, k, slot);
 }
 
-/// A slot is among those that are due no more, if it was.
+/// A slot is no more among some in the order of the log, as those that are due, if it was.
 pub(crate) fn leave_due(stamps: &[u64], due: &mut Vec<u32>, slot: u32)
     requires slot { slot < length stamps.now }
     requires within { (j : ℕ) → j < length due.old.items → slice_index_or due.old.items j 0 < length stamps.now }
@@ -59,6 +59,18 @@ pub(crate) fn leave_due(stamps: &[u64], due: &mut Vec<u32>, slot: u32)
     let k = place_of(stamps, due, slot);
     if is_at(due, k, slot) {
         due.remove(k);
+    }
+}
+
+/// A slot comes behind all others, if it is to.
+pub(crate) fn add_if(slots: &mut Vec<u32>, slot: u32, there: bool)
+    requires room { length slots.old.items < vec_capacity slots.old }
+    ensures slots { slots.new.items ≡ slots.old.items ++ (if there then slot ∷ [] else []) }
+    ensures capacity { vec_capacity slots.old ≤ vec_capacity slots.new }
+{
+    if there {
+        let added: Result<_, _> = slots.push(slot);
+        added.unwrap();
     }
 }
 

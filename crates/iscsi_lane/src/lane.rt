@@ -14,9 +14,9 @@ use std::marker::Model;
 ///
 /// A command stands in the line of its unit and in that of its tag, and an abort's answer in the line of what it aims at. So
 /// each call looks at the ends of two lines, and at one of the answers that are due in as many steps as halve them. A Logout's
-/// answer has no line: while one waits, `take_due` walks over the log to the answer that is due first, and for each that is a
-/// Logout's over what stands before it; but not where it told that none is due and since then no answer came, went or was
-/// cleared, and no command that stands there owes less. `drop_on` and `clear` walk over the log, once.
+/// answer has no line: while one waits, `take_due` looks at what held it back when it was looked at last, and goes on from there,
+/// so that it passes each command once. Where nothing holds it back any more, `take_due` walks over the log to the answer that
+/// is due first. `drop_on` and `clear` walk over the log, once.
 pub struct Lane {
     standings: Standings,
     /// Of each connection, how many commands have something under way on it, and how many answers go out on it.

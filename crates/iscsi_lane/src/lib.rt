@@ -4,6 +4,7 @@
 mod dropping;
 mod due;
 mod following;
+mod holding;
 mod lane;
 mod lines;
 mod settling;

@@ -10,9 +10,9 @@ ghost use Rattle.iscsi_lane.specs.Scoping.{as_item, owing_of};
 ghost use Rattle.iscsi_lane.specs.Standings.{at as stood_at, slots_at};
 ghost use Rattle.iscsi_lane.specs.Walking.{IsFirstDue};
 
-use crate::due::examine;
+use crate::due::{add_if, examine, leave_due};
 use crate::following::{enter, join, owe_less, part};
-use crate::settling::one_if;
+use crate::holding::{are_held, pass_command, pass_over};
 use crate::stamps::stamp;
 use crate::walking::{first_due, is_untold};
 use iscsi_lists::Lists;
@@ -23,7 +23,8 @@ use std::alloc::{AllocError, Global};
 /// Lines by unit and by tag, and the slots of the answers that are due by them, in the order of the log.
 ///
 /// They follow the log, whatever comes and goes. Of some answers they don't tell whether they are due: of a Logout's, which
-/// stand in no line, and of those that close their connection. While one of these waits, `take` walks over the log.
+/// stand in no line, and of those that close their connection. Such a one is held back by what held it back before, while that
+/// does; then by what stands behind that. Where one isn't held back any more, `take` walks over the log.
 pub(crate) struct Lines {
     pub(crate) units: Scopes,
     pub(crate) tags: Scopes,
@@ -31,8 +32,10 @@ pub(crate) struct Lines {
     pub(crate) stamps: Vec<u64>,
     pub(crate) next: u64,
     pub(crate) due: Vec<u32>,
-    /// How many answers stand in the log of which the lines don't tell.
-    pub(crate) untold: usize,
+    /// The slots of the answers of which the lines don't tell, in the order of the log, and of each the slot of what held it
+    /// back when it was looked at last, or of what is to be looked at next.
+    pub(crate) untold: Vec<u32>,
+    pub(crate) holders: Vec<u32>,
 }
 
 impl Drop for Lines {
@@ -44,6 +47,7 @@ impl Drop for Lines {
             next: _next,
             due: _due,
             untold: _untold,
+            holders: _holders,
         } = self;
     }
 }
@@ -60,7 +64,8 @@ impl Lines {
             stamps: vec![in alloc; 0; room + 1]?,
             next: 0,
             due: Vec::with_capacity(alloc, room)?,
-            untold: 0,
+            untold: Vec::with_capacity(alloc, room)?,
+            holders: vec![in alloc; 0; room + 1]?,
         })
     }
 
@@ -106,7 +111,9 @@ impl Lines {
             slot,
             answer,
         );
-        self.untold += one_if(is_untold(answer));
+        log.known();
+        self.holders[slot as usize] = 0;
+        add_if(&mut self.untold, slot, is_untold(answer));
     }
 
     /// A command owes less, there and in its two lines: how many go.
@@ -125,6 +132,7 @@ impl Lines {
         ensures lined { IsLined self.new log.new }
     {
         log.known();
+        pass_command(log, &self.untold, &mut self.holders, left);
         owe_less(
             log,
             &mut self.units,
@@ -140,6 +148,7 @@ impl Lines {
     pub(crate) fn take(&mut self, log: &mut Lists<Standing>) -> Option<(u32, Undue)>
         requires lined { IsLined self.old log.old }
         requires lists { length log.old.lists ≡ 3 }
+        requires all { log.old.free ≡ [] }
         ensures first { IsFirstDue log.old result }
         ensures log { log.new ≡ without_taken result log.old }
         ensures lined { IsLined self.new log.new }
@@ -149,15 +158,17 @@ impl Lines {
         Some((slot, answer))
     }
 
-    /// The answer that is due first, and its slot: the first of those that the lines tell. Where an answer waits of which they
-    /// don't tell, it walks over the log to that which is due, and for each such answer over what stands before it.
-    fn find_due(&self, log: &Lists<Standing>) -> Option<(u32, Undue)>
-        requires lined { IsLined self.now log.now }
+    /// The answer that is due first, and its slot: the first of those that the lines tell. Where an answer isn't held back of
+    /// which they don't tell, it walks over the log to that which is due, and for each such answer over what stands before it.
+    fn find_due(&mut self, log: &Lists<Standing>) -> Option<(u32, Undue)>
+        requires lined { IsLined self.old log.now }
         requires lists { length log.now.lists ≡ 3 }
-        ensures { IsFirstDue log.now result }
+        requires all { log.now.free ≡ [] }
+        ensures first { IsFirstDue log.now result }
+        ensures lined { IsLined self.new log.now }
     {
         log.known();
-        if 0 < self.untold {
+        if !are_held(log, &self.stamps, &self.untold, &mut self.holders) {
             return first_due(log, &self.stamps, &self.due);
         }
         let slot = first_told(&self.due)?;
@@ -177,6 +188,8 @@ impl Lines {
         ensures lined { IsLined self.new log.new }
     {
         log.known();
+        pass_over(log, &self.untold, &mut self.holders, slot);
+        leave_due(&self.stamps, &mut self.untold, slot);
         part(
             log,
             &mut self.units,
@@ -186,7 +199,6 @@ impl Lines {
             slot,
             answer,
         );
-        self.untold -= one_if(is_untold(answer));
     }
 
     /// An answer about a unit waits for other sessions no more. So it may be due.

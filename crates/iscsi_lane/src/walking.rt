@@ -114,7 +114,7 @@ fn is_due_by_walk(log: &Lists<Standing>, slot: u32, answer: Undue) -> bool
 }
 
 /// Whether what stands before an answer holds it back.
-fn holds_back(answer: Undue, before: Standing) -> bool
+pub(crate) fn holds_back(answer: Undue, before: Standing) -> bool
     ensures { result ≡ does_hold_back answer before }
 {
     match before {
@@ -155,7 +155,7 @@ pub(crate) fn is_untold(answer: Undue) -> bool
 }
 
 /// Whether an aim is that of a Logout.
-fn is_of_logout(aim: Aim) -> bool
+pub(crate) fn is_of_logout(aim: Aim) -> bool
     ensures { result ≡ is_of_a_logout aim }
 {
     match aim {

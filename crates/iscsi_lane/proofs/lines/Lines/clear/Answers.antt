@@ -1,4 +1,4 @@
-use Rattle.std.proofs.Common.{◌+◌, ◌≤◌, ◌∙◌, ℕ, filter, ap, sym, subst}
+use Rattle.std.proofs.Common.{◌+◌, ◌≤◌, ◌∙◌, ℕ, filter, ap, sym, subst, arith}
 use Rattle.std.specs.Prelude.{◌||◌}
 use Rattle.iscsi_slots.specs.Slots.{times}
 use Rattle.iscsi_scopes.specs.Scopes.{slots_of}
@@ -37,4 +37,6 @@ returns-clause-lined c =
       under = subst (AllUnder now.stamps.items now.next) (sym order) c.requires.lined.under;
       long = c.requires.lined.long ∙ ap (λ n. n + 1) (sym room);
       of_untold = c.requires.lined.of_untold ∙ sym (clear_untold c.args.log.now c.args.self.now.units c.args.self.now.tags c.args.self.now.due.items _ c.requires.lined.following c.known.ensures.apart c.known.ensures.values c.args.slot c.requires.there c.args.unit c.args.answer c.requires.is c.requires.waits c.set.new.self c.set.ensures);
+      untold_room = let a = c.requires.lined.untold_room in omega (arith, a, room);
+      holders = c.requires.lined.holders ∙ ap (λ n. n + 1) (sym room);
     }

@@ -1,0 +1,14 @@
+use Rattle.std.proofs.Common.{◌≡◌, ◌+◌, ◌-◌, ◌<◌, ◌≤◌, ℕ, length, get_or}
+use Rattle.iscsi_lane.specs.Walking.{IsHeldAt}
+use Rattle.iscsi_lane.proofs.holding.are_held.Given as goal
+
+-- those so far are held back
+abbrev pub invariant-loop-k : goal.invariant-loop-k
+invariant-loop-k l = record {
+  within : l.k ≤ length l.untold;
+  held : (j : ℕ) → j < l.k → IsHeldAt l.log (get_or l.untold j 0);
+  holders : length l.holders.items ≡ l.log.room + 1;
+}
+
+abbrev pub decreases-loop-k : goal.decreases-loop-k
+decreases-loop-k l = length l.untold - l.k
