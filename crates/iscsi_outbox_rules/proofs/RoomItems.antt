@@ -68,8 +68,7 @@ module _ (o : Opening) where
         let way_after : SameWay o start after.links = item_keeps o (λ its x. SameWay o start x.links) (way_walk o start) done b item way in
         let so_far : sends o w quiet (done ++ item ∷ []) ≡ sends o w quiet done + sends o w quiet (item ∷ []) = sends-append done (item ∷ []) in
         let all : sends o w quiet (item ∷ items) ≡ sends o w quiet (item ∷ []) + sends o w quiet items = sends-append (item ∷ []) items in
-        let weighs : weight (under start) after.tasks ≤ weight (under start) b.tasks + tasks_entered (under start) (executing item) item = item_weight (under start) o b item in
-        (
+        let weighs : weight (under start) after.tasks ≤ weight (under start) b.tasks + tasks_entered (under start) (executing item) item = item_weight (under start) o b item in (
           record {
             replies = omega (arith, few_after.few, so_far, all, replies);
             tasks = omega (arith, kept_weighs o after, weight_less (under after.links) (under start) (λ k h. sym (way_after (λ ticket. ticket == k)) ∙ h) after.tasks, weighs, tasks);
