@@ -1,13 +1,13 @@
 //! What goes out on a connection.
 
 use iscsi_outbox_rules::OwnPdu;
-use iscsi_wire::Reply;
+use iscsi_outbox_state::SentReply;
 
 /// What goes out.
 #[derive(Clone, Copy, Debug, PartialEq, Eq)]
 pub enum Pdu {
-    /// A reply of the session.
-    Reply(Reply),
+    /// A reply of the session, with its place in the session's log.
+    Reply(SentReply),
     /// A PDU of the target's own.
     Own(OwnPdu),
     /// A NOP-In with this transfer tag, which asks for an answer (RFC 7143 section 11.19).
