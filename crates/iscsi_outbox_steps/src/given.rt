@@ -16,7 +16,8 @@ pub enum Pdu {
     Notice,
 }
 
-/// A PDU that is handed out, with its numbers as the wire shows them (RFC 7143 section 4.2.2).
+/// A PDU that is handed out, with its numbers as the wire shows them (RFC 7143 section 4.2.2). The place of a reply isn't shown
+/// there: it is how many replies the session sent before it, modulo 2^64, whatever became of these.
 #[derive(Clone, Copy, Debug, PartialEq, Eq)]
 pub struct Handed {
     pub pdu: Pdu,
