@@ -15,14 +15,14 @@ command place conn running under_way = record { command = place; conn = conn; un
 
 -- the answer to an ABORT TASK of tag 9, and to a LOGICAL UNIT RESET of unit 5
 abbrev pub abort : ℕ → Undue
-abort conn = record { reply = TaskReply 1 0; conn = conn; aim = Tag 9; numbered = true; ends = false; uncleared = false }
+abort conn = record { reply = record { reply = TaskReply 1 0; place = 5 }; conn = conn; aim = Tag 9; numbered = true; ends = false; uncleared = false }
 
 abbrev pub reset : ℕ → Bool → Undue
-reset conn uncleared = record { reply = TaskReply 2 0; conn = conn; aim = AtUnit 5; numbered = false; ends = false; uncleared = uncleared }
+reset conn uncleared = record { reply = record { reply = TaskReply 2 0; place = 6 }; conn = conn; aim = AtUnit 5; numbered = false; ends = false; uncleared = uncleared }
 
 -- the answer to a Logout that closes its own connection
 abbrev pub logout : ℕ → Undue
-logout conn = record { reply = Logout 3 0; conn = conn; aim = Conn conn; numbered = true; ends = true; uncleared = false }
+logout conn = record { reply = record { reply = Logout 3 0; place = 7 }; conn = conn; aim = Conn conn; numbered = true; ends = true; uncleared = false }
 
 -- an abort waits behind a running command
 abbrev pub behind_running : Lane

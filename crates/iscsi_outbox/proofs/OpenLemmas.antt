@@ -117,6 +117,7 @@ shown_as o cids links waits lane tracked last = record {
   max = last;
   shown = last;
   reached = last;
+  sent = 0;
 }
 
 pub assembled : (o : OutboxOptions) (cids : Named) (links : Links) (waits : Waits) (lane : Lane) (tracked : Tracked) (last : ℕ)

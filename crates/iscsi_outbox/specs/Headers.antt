@@ -7,7 +7,7 @@ use Rattle.iscsi_outbox_steps.specs.declared.given.Pdu.{Pdu}
 use Rattle.iscsi_outbox_steps.specs.declared.given.Pdu.TheVariants.{Reply, Own, Ping, Notice}
 
 abbrev pub as_rules : Pdu → RulesPdu
-as_rules (Reply reply) = Replies reply
+as_rules (Reply sent) = Replies sent.reply
 as_rules (Own own) = Owns own
 as_rules (Ping tag) = Pings tag
 as_rules Notice = Notices

@@ -18,7 +18,8 @@ pub fn header(handed: &Handed) -> [u8; 48]
     ensures { result ≡ header_of handed.now }
 {
     match handed.pdu {
-        Pdu::Reply(reply) => *reply
+        Pdu::Reply(sent) => *sent
+            .reply
             .encode(handed.stat_sn, handed.exp, handed.max)
             .header(),
         Pdu::Own(own) => with_numbers(own_header(&own), handed.stat_sn, handed.exp, handed.max),

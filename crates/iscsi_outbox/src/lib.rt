@@ -13,6 +13,7 @@ mod writers;
 pub use bytes::header;
 pub use fault::OutboxFault;
 pub use iscsi_outbox_rules::{OwnPdu, PutRefusal};
+pub use iscsi_outbox_state::SentReply;
 pub use iscsi_outbox_steps::{Given, Handed, Pdu};
 pub use options::OutboxOptions;
 pub use outbox::Outbox;

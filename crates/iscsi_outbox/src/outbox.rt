@@ -52,6 +52,8 @@ pub struct Outbox {
     shown: u64,
     /// .. and 0 once a connection was lost since.
     reached: u64,
+    /// How many replies were taken, modulo 2^64.
+    sent: u64,
 }
 
 impl Drop for Outbox {
@@ -71,6 +73,7 @@ impl Drop for Outbox {
             max: _max,
             shown: _shown,
             reached: _reached,
+            sent: _sent,
         } = self;
     }
 }
@@ -99,6 +102,7 @@ impl Model for Outbox {
       max = o.max;
       shown = o.shown;
       reached = o.reached;
+      sent = o.sent;
     } };
 
     ghost invariant = { λ o. IsOutbox o.cids.cids o.links.links o.waits o.lane o.tracked o.fence o.window o.units o.max o.shown };
@@ -206,6 +210,7 @@ fn assemble(
         max: last,
         shown: last,
         reached: last,
+        sent: 0,
     }
 }
 

@@ -215,7 +215,7 @@ module _ (under : ℕ → Bool) (o : Opening) (s : State) (b : Box) (h : StandsW
         → StandsWith (less under c.ticket) o (record s { lane = record s.lane { items = items }; tracked = v1 }) b
     stands_so items left answers = record {
       sizes = record { limits = h.sizes.limits; waits = h.sizes.waits; answers = h.sizes.answers; commands = h.sizes.commands; trails = length-map s.tracked.trails (without c.place) ∙ h.sizes.trails };
-      numbers = record { time = h.numbers.time; exp = h.numbers.exp; max = h.numbers.max; shown = h.numbers.shown; reached = h.numbers.reached };
+      numbers = record { time = h.numbers.time; exp = h.numbers.exp; max = h.numbers.max; shown = h.numbers.shown; reached = h.numbers.reached; sent = h.numbers.sent };
       links = h.links;
       queues = queues_weaken s.tracked v1 place_stays s.waits.queues b.links h.queues;
       commands = commands_stay;
@@ -342,7 +342,7 @@ module _ (under : ℕ → Bool) (o : Opening) (s : State) (b : Box) (h : StandsW
         commands = h.sizes.commands;
         trails = length-map (map (without c.place) s.tracked.trails) (without c.place) ∙ length-map s.tracked.trails (without c.place) ∙ h.sizes.trails;
       };
-      numbers = record { time = h.numbers.time; exp = h.numbers.exp; max = h.numbers.max; shown = h.numbers.shown; reached = h.numbers.reached };
+      numbers = record { time = h.numbers.time; exp = h.numbers.exp; max = h.numbers.max; shown = h.numbers.shown; reached = h.numbers.reached; sent = h.numbers.sent };
       links = h.links;
       queues = queues_weaken s.tracked v2 place_goes s.waits.queues b.links h.queues;
       commands = commands_go;

@@ -54,6 +54,7 @@ module _ (cids : List ℕ) (v : Tracked) (unit : ℕ) where
         | true ↦ (
           record {
             pdu = h.0.pdu;
+            sent = h.0.sent;
             conn = h.0.conn;
             aim = h.0.aim;
             takes = h.0.takes;
@@ -113,7 +114,7 @@ clears_stands o s b h sound distinct fits unit timed =
     cleared_now : Stands o (record s { lane = cleared unit s.lane }) (record b { undue = cleared_answers unit b.undue })
     cleared_now = record {
       sizes = record { limits = h.sizes.limits; waits = h.sizes.waits; answers = h.sizes.answers; commands = h.sizes.commands; trails = h.sizes.trails };
-      numbers = record { time = h.numbers.time; exp = h.numbers.exp; max = h.numbers.max; shown = h.numbers.shown; reached = h.numbers.reached };
+      numbers = record { time = h.numbers.time; exp = h.numbers.exp; max = h.numbers.max; shown = h.numbers.shown; reached = h.numbers.reached; sent = h.numbers.sent };
       links = h.links;
       queues = h.queues;
       commands = h.commands;

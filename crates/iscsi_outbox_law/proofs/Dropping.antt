@@ -54,6 +54,7 @@ module _ (cids : List ℕ) (v : Tracked) (p cid : ℕ) (same : (before : List St
   answer_front : (before : List Standing) (a : Undue) (answer : Answer) → IsAnswer cids v before a answer → IsAnswer cids v (kept_items p before) a answer
   answer_front before a answer h = record {
     pdu = h.pdu;
+    sent = h.sent;
     conn = h.conn;
     aim = h.aim;
     takes = h.takes;

@@ -13,7 +13,7 @@ use Rattle.iscsi_outbox_state.specs.Waits.{Entry, entered, entry, queue_at}
 use Rattle.iscsi_outbox_steps.specs.State.{State, link_at}
 use Rattle.iscsi_outbox_steps.specs.Steps.{enter, has_room, has_time, later}
 use Rattle.iscsi_tracked.specs.Tracked.{Tracked}
-use Rattle.iscsi_outbox_law.specs.Links.{IsEntry, IsQueue, pdu_of, place_of_command}
+use Rattle.iscsi_outbox_law.specs.Links.{IsEntry, IsQueue, pdu_of, place_of_command, sent_of, word_of}
 use Rattle.iscsi_outbox_law.specs.Commands.{is_under_way, link_in}
 use Rattle.iscsi_outbox_law.specs.Stands.{Stands, StandsWith}
 use Rattle.iscsi_outbox_law.proofs.PairLemmas.{any-set, pairs-append, pairs-at}
@@ -26,7 +26,7 @@ use Rattle.iscsi_outbox_law.proofs.CountChanges.{stands_queue}
 pub stands_later : (under : ℕ → Bool) (o : Opening) (s : State) (b : Box) → StandsWith under o s b → StandsWith under o (record s { waits = record s.waits { time = s.waits.time + 1 } }) (record b { time = b.time + 1 })
 stands_later under o s b h = record {
   sizes = record { limits = h.sizes.limits; waits = h.sizes.waits; answers = h.sizes.answers; commands = h.sizes.commands; trails = h.sizes.trails };
-  numbers = record { time = ap (λ n. n + 1) h.numbers.time; exp = h.numbers.exp; max = h.numbers.max; shown = h.numbers.shown; reached = h.numbers.reached };
+  numbers = record { time = ap (λ n. n + 1) h.numbers.time; exp = h.numbers.exp; max = h.numbers.max; shown = h.numbers.shown; reached = h.numbers.reached; sent = h.numbers.sent };
   links = h.links;
   queues = h.queues;
   commands = h.commands;
@@ -40,6 +40,7 @@ stands_later under o s b h = record {
 -- a PDU that is to enter, in both
 pub record IsSame (v : Tracked) (cid : ℕ) (item : Waiting) (out : Outgoing) : Type 0 where
   pub pdu : pdu_of item.content ≡ out.pdu
+  pub sent : sent_of item.content ≡ word_of out.sent
   pub takes : item.takes ≡ out.takes
   pub fenced : item.fenced ≡ out.fenced
   pub numbered : item.numbered ≡ out.numbered
@@ -67,6 +68,7 @@ module _ (o : Opening) (s : State) (b : Box) (h : Stands o s b) (apart : AreApar
   new_entry = record {
     time = h.numbers.time;
     pdu = same.pdu;
+    sent = same.sent;
     takes = same.takes;
     fenced = same.fenced;
     numbered = same.numbered;

@@ -26,7 +26,7 @@ use Rattle.iscsi_outbox_steps.specs.State.{State, is_over as is_over_steps, link
 use Rattle.iscsi_outbox_steps.specs.Steps.{Out, Waited, Pinged, Noticed, chosen, from_queue, given, given_on, numbered, pdu_of as pdu_of_out, without}
 use Rattle.iscsi_outbox_law.specs.Pairs.{EachOf, PairsOf}
 use Rattle.iscsi_outbox_law.specs.Said.{given_said, handed_said, pdu_said}
-use Rattle.iscsi_outbox_law.specs.Links.{IsEntry, IsQueue, pdu_of}
+use Rattle.iscsi_outbox_law.specs.Links.{IsEntry, IsQueue, pdu_of, sent_of, word_of}
 use Rattle.iscsi_outbox_law.specs.Commands.{is_under_way, link_in}
 use Rattle.iscsi_outbox_law.specs.Sound.{IsSound}
 use Rattle.iscsi_outbox_law.specs.Stands.{Stands, StandsWith}
@@ -38,6 +38,20 @@ use Rattle.iscsi_outbox_law.proofs.CountChanges.{stands_queue}
 use Rattle.iscsi_outbox_law.proofs.Waiting.{max_shown_is}
 use Rattle.iscsi_outbox_law.proofs.Fencing.{apart, passes_is}
 use Rattle.iscsi_outbox_law.proofs.Asking.{notice_is, over_is, ping_is}
+
+-- ---- places
+
+-- a PDU of the rules, whose place is this
+abbrev pdu_placed : RulesPdu → Option ℕ → Pdu
+pdu_placed (Replies reply) (Some place) = Rattle.iscsi_outbox_steps.specs.declared.given.Pdu.TheVariants.Reply (record { reply = reply; place = place })
+pdu_placed pdu sent = pdu_said pdu sent
+
+placed_said : (pdu : RulesPdu) (sent : Option ℕ) → pdu_placed pdu (word_of sent) ≡ pdu_said pdu sent
+placed_said (Replies reply) (Some place) = refl
+placed_said (Replies reply) None = refl
+placed_said (Owns own) sent = refl
+placed_said (Pings tag) sent = refl
+placed_said Notices sent = refl
 
 -- ---- what is chosen
 
@@ -150,14 +164,16 @@ module _ (o : Opening) (s : State) (b : Box) (h : Stands o s b) (sound : IsSound
 
   -- ---- what is given
 
-  content_said : (c : Content) (item : Waiting) → item.content ≡ c → pdu_of_out (Waited item) ≡ pdu_said (pdu_of c)
+  content_said : (c : Content) (item : Waiting) → item.content ≡ c → pdu_of_out (Waited item) ≡ pdu_placed (pdu_of c) (sent_of c)
   content_said (IsReply reply) item is = ap (λ (x : Content). elim x as (λ (y : Content). Pdu) [ IsReply r ↦ Rattle.iscsi_outbox_steps.specs.declared.given.Pdu.TheVariants.Reply r | IsOwn own ↦ Rattle.iscsi_outbox_steps.specs.declared.given.Pdu.TheVariants.Own own ]) is
   content_said (IsOwn own) item is = ap (λ (x : Content). elim x as (λ (y : Content). Pdu) [ IsReply r ↦ Rattle.iscsi_outbox_steps.specs.declared.given.Pdu.TheVariants.Reply r | IsOwn q ↦ Rattle.iscsi_outbox_steps.specs.declared.given.Pdu.TheVariants.Own q ]) is
 
-  same_pdu : (x : Out) (out : Outgoing) → SameOut o s b l p x out → pdu_of_out x ≡ pdu_said out.pdu
-  same_pdu (Waited item) out w = content_said (item.content) item refl ∙ ap (λ (i : Waiting). pdu_said (pdu_of i.content)) (sym w.item_is) ∙ ap pdu_said w.is.pdu
-  same_pdu (Pinged tag) out k = ap (λ n. pdu_said (Pings n)) k.0 ∙ ap (λ (y : Outgoing). pdu_said y.pdu) k.1
-  same_pdu Noticed out k = ap (λ (y : Outgoing). pdu_said y.pdu) k
+  same_pdu : (x : Out) (out : Outgoing) → SameOut o s b l p x out → pdu_of_out x ≡ pdu_said out.pdu out.sent
+  same_pdu (Waited item) out w =
+      content_said (item.content) item refl ∙ ap (λ (i : Waiting). pdu_placed (pdu_of i.content) (sent_of i.content)) (sym w.item_is)
+      ∙ ap (λ pdu. pdu_placed pdu (sent_of w.entry.item.content)) w.is.pdu ∙ ap (pdu_placed out.pdu) w.is.sent ∙ placed_said out.pdu out.sent
+  same_pdu (Pinged tag) out k = ap (λ n. pdu_said (Pings n) None) k.0 ∙ ap (λ (y : Outgoing). pdu_said y.pdu y.sent) k.1
+  same_pdu Noticed out k = ap (λ (y : Outgoing). pdu_said y.pdu y.sent) k
 
   made : Pdu → ℕ → ℕ → ℕ → Handed
   made pdu stat_sn exp max = record { pdu = pdu; stat_sn = stat_sn; exp = exp; max = max }
@@ -166,9 +182,9 @@ module _ (o : Opening) (s : State) (b : Box) (h : Stands o s b) (sound : IsSound
   unfolding made
   handed_is x out k =
       ap (λ (pdu : Pdu). made pdu (wire (link_at s p).next) s.exp (wire (max_shown_steps (without p x s)))) (same_pdu x out k)
-      ∙ ap (λ n. made (pdu_said out.pdu) (wire n) s.exp (wire (max_shown_steps (without p x s)))) st.next
-      ∙ ap (λ n. made (pdu_said out.pdu) (wire (next_stat_sn l)) n (wire (max_shown_steps (without p x s)))) h.numbers.exp
-      ∙ ap (λ n. made (pdu_said out.pdu) (wire (next_stat_sn l)) b.exp (wire n)) (max_shown_is o (without p x s) (without_chosen b l out) (without_stands x out k))
+      ∙ ap (λ n. made (pdu_said out.pdu out.sent) (wire n) s.exp (wire (max_shown_steps (without p x s)))) st.next
+      ∙ ap (λ n. made (pdu_said out.pdu out.sent) (wire (next_stat_sn l)) n (wire (max_shown_steps (without p x s)))) h.numbers.exp
+      ∙ ap (λ n. made (pdu_said out.pdu out.sent) (wire (next_stat_sn l)) b.exp (wire n)) (max_shown_is o (without p x s) (without_chosen b l out) (without_stands x out k))
 
   over_anyway : is_over_steps p s ≡ is_over b l
   over_anyway = by_open (is_open l) refl

@@ -216,6 +216,7 @@ answers_weaken cids v v' f before (IsUndue a ∷ items) [] h = absurd h
 answers_weaken cids v v' f before (IsUndue a ∷ items) (answer ∷ answers) h = (
   record {
     pdu = h.0.pdu;
+    sent = h.0.sent;
     conn = h.0.conn;
     aim = h.0.aim;
     takes = h.0.takes;
@@ -235,6 +236,7 @@ queues_weaken v v' same queues links h =
     (λ q l k. pairs-weaken (IsEntry v l.conn) (IsEntry v' l.conn) q l.queue (λ e out j. record {
       time = j.time;
       pdu = j.pdu;
+      sent = j.sent;
       takes = j.takes;
       fenced = j.fenced;
       numbered = j.numbered;

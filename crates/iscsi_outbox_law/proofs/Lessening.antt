@@ -164,6 +164,7 @@ module _ (change : Left → Left) (keeps : KeepsAims change) (place : ℕ) where
         answers_lessened (before ++ IsUndue a ∷ []) items answers (in_push Good before (IsUndue a) good (more (IsUndue a) (inl refl))) (λ x at. more x (inr at)) h.1 in (
           record {
             pdu = h.0.pdu;
+            sent = h.0.sent;
             conn = h.0.conn;
             aim = h.0.aim;
             takes = h.0.takes;

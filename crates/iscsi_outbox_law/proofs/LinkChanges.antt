@@ -123,7 +123,7 @@ pub stands_moved : (under : ℕ → Bool) (o : Opening) (s : State) (b : Box) (p
     → StandsWith under o (record s { links = set s.links p c }) (record b { links = set b.links p m })
 stands_moved under o s b p c m h within mv queue st = record {
   sizes = record { limits = h.sizes.limits; waits = h.sizes.waits; answers = h.sizes.answers; commands = h.sizes.commands; trails = h.sizes.trails };
-  numbers = record { time = h.numbers.time; exp = h.numbers.exp; max = h.numbers.max; shown = h.numbers.shown; reached = h.numbers.reached };
+  numbers = record { time = h.numbers.time; exp = h.numbers.exp; max = h.numbers.max; shown = h.numbers.shown; reached = h.numbers.reached; sent = h.numbers.sent };
   links = links_set b.links p m within mv s.limits.cids s.links c st h.links;
   queues = queues_same b.links p m within mv s.tracked s.waits.queues queue h.queues;
   commands = commands_moved b.links p m within mv under s.limits.cids b.tasks s.tracked h.commands;
@@ -139,7 +139,7 @@ pub stands_set : (under : ℕ → Bool) (o : Opening) (s : State) (b : Box) (p :
     → StandsWith under o (record s { links = set s.links p c; waits = record s.waits { queues = set s.waits.queues p q } }) (record b { links = set b.links p m })
 stands_set under o s b p c q m h within mv queue st = record {
   sizes = record { limits = h.sizes.limits; waits = h.sizes.waits; answers = h.sizes.answers; commands = h.sizes.commands; trails = h.sizes.trails };
-  numbers = record { time = h.numbers.time; exp = h.numbers.exp; max = h.numbers.max; shown = h.numbers.shown; reached = h.numbers.reached };
+  numbers = record { time = h.numbers.time; exp = h.numbers.exp; max = h.numbers.max; shown = h.numbers.shown; reached = h.numbers.reached; sent = h.numbers.sent };
   links = links_set b.links p m within mv s.limits.cids s.links c st h.links;
   queues = queues_set b.links p m within mv s.tracked s.waits.queues q queue h.queues;
   commands = commands_moved b.links p m within mv under s.limits.cids b.tasks s.tracked h.commands;

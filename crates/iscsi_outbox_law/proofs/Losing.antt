@@ -104,7 +104,7 @@ module _ (o : Opening) (s : State) (b : Box) (h : Stands o s b) (sound : IsSound
     dropped_set : StandsWith (is_under_way o b.links) o (lost_on p (record s { reached = 0 })) (record b { links = set b.links p (gone (link_in b.links p)); reached = 0; undue = kept_answers cid b.undue })
     dropped_set = record {
       sizes = record { limits = set_now.sizes.limits; waits = set_now.sizes.waits; answers = set_now.sizes.answers; commands = set_now.sizes.commands; trails = set_now.sizes.trails };
-      numbers = record { time = set_now.numbers.time; exp = set_now.numbers.exp; max = set_now.numbers.max; shown = set_now.numbers.shown; reached = refl };
+      numbers = record { time = set_now.numbers.time; exp = set_now.numbers.exp; max = set_now.numbers.max; shown = set_now.numbers.shown; reached = refl; sent = set_now.numbers.sent };
       links = set_now.links;
       queues = set_now.queues;
       commands = set_now.commands;
@@ -165,7 +165,7 @@ module _ (o : Opening) (s : State) (b : Box) (h : Stands o s b) (sound : IsSound
       unread : Stands o (record s { reached = 0 }) (record b { reached = 0 })
       unread = record {
         sizes = record { limits = h.sizes.limits; waits = h.sizes.waits; answers = h.sizes.answers; commands = h.sizes.commands; trails = h.sizes.trails };
-        numbers = record { time = h.numbers.time; exp = h.numbers.exp; max = h.numbers.max; shown = h.numbers.shown; reached = refl };
+        numbers = record { time = h.numbers.time; exp = h.numbers.exp; max = h.numbers.max; shown = h.numbers.shown; reached = refl; sent = h.numbers.sent };
         links = h.links;
         queues = h.queues;
         commands = h.commands;

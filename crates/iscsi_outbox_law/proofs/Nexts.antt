@@ -132,7 +132,7 @@ module _ (o : Opening) (s : State) (b : Box) (st : Stands o s b) (p : ℕ) (h : 
       → IsFence s.limits.looks links_after f → Stands o (state_after v f n) (box_after n)
   whole v f n room trails queues commands placed on left scopes fence = record {
     sizes = record { limits = st.sizes.limits; waits = st.sizes.waits; answers = st.sizes.answers; commands = room ∙ st.sizes.commands; trails = trails ∙ st.sizes.trails };
-    numbers = record { time = st.numbers.time; exp = st.numbers.exp; max = st.numbers.max; shown = refl; reached = refl };
+    numbers = record { time = st.numbers.time; exp = st.numbers.exp; max = st.numbers.max; shown = refl; reached = refl; sent = st.numbers.sent };
     links = record { conns = conns_set b.links p (handed_out_on h (link_in b.links p)) within refl ∙ st.links.conns; each = pairs-set StandsFor s.links b.links p c' (handed_out_on h (link_in b.links p)) counts st.links.each };
     queues = subst (λ qs. AreQueues v qs links_after) (set-get_or s.waits.queues p [])
         (pairs-set (IsQueue v) s.waits.queues b.links p (get_or s.waits.queues p []) (handed_out_on h (link_in b.links p)) (pairs-at (IsQueue v) s.waits.queues b.links p [] (new_link 0) within queues) queues);

@@ -88,7 +88,7 @@ stands_opened o = record {
     commands = refl;
     trails = length-replicate (length (limits_of o).cids) [];
   };
-  numbers = record { time = refl; exp = refl; max = refl; shown = refl; reached = refl };
+  numbers = record { time = refl; exp = refl; max = refl; shown = refl; reached = refl; sent = refl };
   links = record { conns = conns_new o.session.conns; each = counts_new o.session.conns };
   queues = queues_new (begun o).tracked o.session.conns;
   commands = tt;

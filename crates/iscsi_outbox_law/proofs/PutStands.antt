@@ -104,7 +104,7 @@ module _ (o : Opening) (s : State) (b : Box) (h : Stands o s b) (sound : IsSound
     entered : (k : HasPlace s b p) → refusal_on k.place s ≡ None → Stands o (enter k.place (own_item p k.command) s) (enter_box k.cid (own_outgoing p) b)
     entered k free =
         enter_stands o s b h (links_apart (is_under_way o b.links) o s b h distinct) k.cid k.place k.at (own_item p k.command) (own_outgoing p)
-        (record { pdu = refl; takes = refl; fenced = refl; numbered = refl; ends = refl; command = k.command_is }) has_time_now
+        (record { pdu = refl; sent = refl; takes = refl; fenced = refl; numbered = refl; ends = refl; command = k.command_is }) has_time_now
         (room_is (is_under_way o b.links) o s b h
         (let e = own_less o.own b.links k.place k.at.within room_left (own_few o s b h sound distinct) in let f = room_there o s b h sound distinct fits in omega (arith, e, f)) has_time_now)
       where

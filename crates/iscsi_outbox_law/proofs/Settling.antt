@@ -50,6 +50,7 @@ module _ (cids : List ℕ) (v : Tracked) where
   answers_front before front (IsUndue a ∷ items) (answer ∷ answers) same h = (
     record {
       pdu = h.0.pdu;
+      sent = h.0.sent;
       conn = h.0.conn;
       aim = h.0.aim;
       takes = h.0.takes;
@@ -189,7 +190,7 @@ calm_enter o b rest cid out isnt h = record {
 
 -- ---- the pass
 
-reply_unowned : (answer : Answer) (a : Undue) → answer.out.pdu ≡ Replies a.reply → is_own answer.out.pdu ≡ false
+reply_unowned : (answer : Answer) (a : Undue) → answer.out.pdu ≡ Replies a.reply.reply → is_own answer.out.pdu ≡ false
 reply_unowned answer a is = ap is_own is
 
 module _ (o : Opening) where
@@ -199,7 +200,7 @@ module _ (o : Opening) where
       → Stands o (record s { lane = with_items s.lane (pre ++ suf) }) (record b { undue = before ++ rest })
   taken_out s b pre suf before rest a answer h whole first behind = record {
     sizes = record { limits = h.sizes.limits; waits = h.sizes.waits; answers = h.sizes.answers; commands = h.sizes.commands; trails = h.sizes.trails };
-    numbers = record { time = h.numbers.time; exp = h.numbers.exp; max = h.numbers.max; shown = h.numbers.shown; reached = h.numbers.reached };
+    numbers = record { time = h.numbers.time; exp = h.numbers.exp; max = h.numbers.max; shown = h.numbers.shown; reached = h.numbers.reached; sent = h.numbers.sent };
     links = h.links;
     queues = h.queues;
     commands = h.commands;
@@ -252,6 +253,7 @@ module _ (o : Opening) where
     same : IsSame s1.tracked answer.conn (answer_item a) answer.out
     same = record {
       pdu = sym behind.0.pdu;
+      sent = sym behind.0.sent;
       takes = sym behind.0.takes;
       fenced = sym behind.0.fenced;
       numbered = behind.0.numbered;

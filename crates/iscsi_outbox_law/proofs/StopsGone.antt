@@ -114,7 +114,7 @@ module _ (o : Opening) (s : State) (b : Box) (h : Stands o s b) (homes : HaveHom
   pub gone_stands : Stands o (record s { lane = stopped_in c.place s.lane; tracked = v' }) (tasks_in_phase phase_stopped (ticket ∷ []) b)
   gone_stands = record {
     sizes = record { limits = h.sizes.limits; waits = h.sizes.waits; answers = h.sizes.answers; commands = h.sizes.commands; trails = length-map s.tracked.trails (without c.place) ∙ h.sizes.trails };
-    numbers = record { time = h.numbers.time; exp = h.numbers.exp; max = h.numbers.max; shown = h.numbers.shown; reached = h.numbers.reached };
+    numbers = record { time = h.numbers.time; exp = h.numbers.exp; max = h.numbers.max; shown = h.numbers.shown; reached = h.numbers.reached; sent = h.numbers.sent };
     links = h.links;
     queues = queues_weaken s.tracked v' place_gone s.waits.queues b.links h.queues;
     commands = commands_gone;

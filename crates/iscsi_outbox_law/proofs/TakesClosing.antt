@@ -86,7 +86,7 @@ module _ (o : Opening) (s : State) (b : Box) (h : Stands o s b) (apart : AreApar
       (let k = emptied_stands in
       record {
         sizes = record { limits = h.sizes.limits; waits = h.sizes.waits; answers = h.sizes.answers; commands = h.sizes.commands; trails = h.sizes.trails };
-        numbers = record { time = h.numbers.time; exp = h.numbers.exp; max = h.numbers.max; shown = h.numbers.shown; reached = h.numbers.reached };
+        numbers = record { time = h.numbers.time; exp = h.numbers.exp; max = h.numbers.max; shown = h.numbers.shown; reached = h.numbers.reached; sent = h.numbers.sent };
         links = k.links;
         queues = k.queues;
         commands = k.commands;

@@ -86,7 +86,7 @@ module _ (test : Command → Bool) (phase : KeptPhase) (turn : Phase → Phase) 
       turned_stands : Stands o (record s { tracked = v' }) (record b { tasks = map (turned_to turn ticket) b.tasks })
       turned_stands = record {
         sizes = record { limits = h.sizes.limits; waits = h.sizes.waits; answers = h.sizes.answers; commands = h.sizes.commands; trails = h.sizes.trails };
-        numbers = record { time = h.numbers.time; exp = h.numbers.exp; max = h.numbers.max; shown = h.numbers.shown; reached = h.numbers.reached };
+        numbers = record { time = h.numbers.time; exp = h.numbers.exp; max = h.numbers.max; shown = h.numbers.shown; reached = h.numbers.reached; sent = h.numbers.sent };
         links = h.links;
         queues = queues_weaken s.tracked v' places s.waits.queues b.links h.queues;
         commands = commands_phase o s b h ascending ticket c found turn phase (is.passes c passed).1 (is.kept _);

@@ -180,6 +180,7 @@ module _ (o : Opening) (s : State) (b : Box) (h : Stands o s b) (handed : EachOf
       one_queue q l for k = pairs_keep (IsEntry s.tracked l.conn) (IsEntry v' l.conn) q l.queue (λ x out at there j. record {
         time = j.time;
         pdu = j.pdu;
+        sent = j.sent;
         takes = j.takes;
         fenced = j.fenced;
         numbered = j.numbered;
@@ -211,7 +212,7 @@ module _ (o : Opening) (s : State) (b : Box) (h : Stands o s b) (handed : EachOf
   pub entered_stands : Stands o (record s { tracked = v' }) (record b { tasks = b.tasks ++ task ∷ [] })
   entered_stands = record {
     sizes = record { limits = h.sizes.limits; waits = h.sizes.waits; answers = h.sizes.answers; commands = h.sizes.commands; trails = h.sizes.trails };
-    numbers = record { time = h.numbers.time; exp = h.numbers.exp; max = h.numbers.max; shown = h.numbers.shown; reached = h.numbers.reached };
+    numbers = record { time = h.numbers.time; exp = h.numbers.exp; max = h.numbers.max; shown = h.numbers.shown; reached = h.numbers.reached; sent = h.numbers.sent };
     links = h.links;
     queues = queues_entered;
     commands = commands_entered;

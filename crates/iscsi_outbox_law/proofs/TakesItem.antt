@@ -13,7 +13,7 @@ use Rattle.iscsi_outbox_rules.specs.rules.Words.{contains, is_left_phase, replie
 use Rattle.iscsi_outbox_rules.specs.rules.Items.{after_item as after_item_box, aim as aim_box, close as close_box, closed_in as closed_in_box, enter_tasks, executing, in_phase as tasks_in_phase, leave as leave_box, newly_closed as newly_closed_box, outgoing, phase_enabled, reply_sent, send as send_box, send_as, ticket_enabled, tickets_left}
 use Rattle.iscsi_outbox_rules.specs.promises.Room.{Fits, places as places_of, tasks_kept}
 use Rattle.iscsi_outbox_steps.specs.State.{State}
-use Rattle.iscsi_outbox_steps.specs.Steps.{after_item, close, closed_in, enable, enter_commands, is_numbered, later, leave, newly_closed, send, send_on}
+use Rattle.iscsi_outbox_steps.specs.Steps.{after_item, close, closed_in, counted, enable, enter_commands, is_numbered, later, leave, newly_closed, placed, send, send_on}
 use Rattle.iscsi_outbox_law.specs.Pairs.{EachOf}
 use Rattle.iscsi_outbox_law.specs.Sound.{IsItemSound, IsSound, entries_of}
 use Rattle.iscsi_outbox_law.specs.Stands.{Stands}
@@ -105,11 +105,11 @@ module _ (o : Opening) (s : State) (b : Box) (h : Stands o s b) (sound : IsSound
   sent_stands (Some sent) e few =
       let at = place_known o s3 b3 h3 sent.0 (is.replies sent.0 sent.1 e) in
       let b' = send_as o (executing item) (aim_box o (executing item) sent.1) conns closes sent.0 (outgoing b3 (executing item) (tickets_left item) sent.1) b3 in
-      subst (λ (y : Option ℕ). Stands o (elim y as (λ (z : Option ℕ). State) [
-        | Some conn ↦ send_on conn (executing item) item (is_numbered s (executing item) (tickets_left item)) (list_any (λ p. p == conn) (newly_closed s (closed_in s item))) sent.1 s3
+      subst (λ (y : Option ℕ). Stands o (counted (elim y as (λ (z : Option ℕ). State) [
+        | Some conn ↦ send_on conn (executing item) item (is_numbered s (executing item) (tickets_left item)) (list_any (λ p. p == conn) (newly_closed s (closed_in s item))) (placed sent.1 s3) s3
         | None ↦ record s3 { waits = later s3.waits }
-      ]) (record b' { sent = b'.sent + 1 })) (sym at.1)
-      (stands_sent o _ b' (b'.sent + 1)
+      ])) (record b' { sent = b'.sent + 1 })) (sym at.1)
+      (stands_sent o _ b'
       (reply_stands o s b h sound distinct item is s3 b3 h3 ready3 (tickets_left item) is.left (λ x f n. ap (λ r. close_box r closes (enter_tasks r item (leave_box r (tickets_left item) b))) (f ∙ n)) sent.0 sent.1 e time_few few at.0 at.1))
 
   pub item_stands : Stands o (after_item item s) (after_item_box o b item)

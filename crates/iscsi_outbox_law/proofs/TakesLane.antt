@@ -136,6 +136,7 @@ module _ (v : Tracked) (items : List Standing) (left : AreLeft v items) (placed 
       answer_with : (before : List Standing) (a : Undue) (answer : Answer) → NoneStands c.place before → IsFree answer → IsAnswer cids v before a answer → IsAnswer cids v' before a answer
       answer_with before a answer none free k = record {
         pdu = k.pdu;
+        sent = k.sent;
         conn = k.conn;
         aim = k.aim;
         takes = k.takes;

@@ -153,7 +153,7 @@ module _ (o : Opening) (s : State) (b : Box) (h : Stands o s b) (ascending : InO
     out_stands : Stands o (record s { waits = dropped_of c.place s.waits; lane = has_left (left_of (to_phase (phase_out c.phase) c)) s.lane; tracked = v' }) (record b { tasks = map (turned_to phase_taken_out ticket) b.tasks; links = map (without (contains (ticket ∷ []))) b.links })
     out_stands = record {
       sizes = record { limits = h.sizes.limits; waits = h.sizes.waits; answers = h.sizes.answers; commands = h.sizes.commands; trails = h.sizes.trails };
-      numbers = record { time = h.numbers.time; exp = h.numbers.exp; max = h.numbers.max; shown = h.numbers.shown; reached = h.numbers.reached };
+      numbers = record { time = h.numbers.time; exp = h.numbers.exp; max = h.numbers.max; shown = h.numbers.shown; reached = h.numbers.reached; sent = h.numbers.sent };
       links = links_without (contains (ticket ∷ [])) s.limits.cids s.links b.links h.links;
       queues = queues_dropped s.tracked v' ticket c.place named places s.waits.queues b.links h.queues;
       commands = commands_without (map (turned_to phase_taken_out ticket) b.tasks) v'
@@ -173,7 +173,7 @@ module _ (o : Opening) (s : State) (b : Box) (h : Stands o s b) (ascending : InO
       → Stands o (record s { waits = dropped_of c.place s.waits; tracked = removed c.place s.tracked }) (record b { tasks = map (turned_to phase_taken_out ticket) b.tasks; links = map (without (contains (ticket ∷ []))) b.links })
   gone_stands none = record {
     sizes = record { limits = h.sizes.limits; waits = h.sizes.waits; answers = h.sizes.answers; commands = h.sizes.commands; trails = length-map s.tracked.trails (without_place c.place) ∙ h.sizes.trails };
-    numbers = record { time = h.numbers.time; exp = h.numbers.exp; max = h.numbers.max; shown = h.numbers.shown; reached = h.numbers.reached };
+    numbers = record { time = h.numbers.time; exp = h.numbers.exp; max = h.numbers.max; shown = h.numbers.shown; reached = h.numbers.reached; sent = h.numbers.sent };
     links = links_without (contains (ticket ∷ [])) s.limits.cids s.links b.links h.links;
     queues = queues_dropped s.tracked (removed c.place s.tracked) ticket c.place named (place_removed o s b h ascending ticket c found) s.waits.queues b.links h.queues;
     commands = commands_without (map (turned_to phase_taken_out ticket) b.tasks) (removed c.place s.tracked) (commands_removed o s b h ascending ticket c found phase_taken_out (out_kept c.phase (is_out c) live ∙ none));
@@ -210,7 +210,7 @@ module _ (o : Opening) (s : State) (b : Box) (h : Stands o s b) (ascending : InO
   pub completed_stands : Stands o (completed c s) (record b { tasks = map (turned_to phase_completed ticket) b.tasks })
   completed_stands = record {
     sizes = record { limits = h.sizes.limits; waits = h.sizes.waits; answers = h.sizes.answers; commands = h.sizes.commands; trails = length-map s.tracked.trails (without_place c.place) ∙ h.sizes.trails };
-    numbers = record { time = h.numbers.time; exp = h.numbers.exp; max = h.numbers.max; shown = h.numbers.shown; reached = h.numbers.reached };
+    numbers = record { time = h.numbers.time; exp = h.numbers.exp; max = h.numbers.max; shown = h.numbers.shown; reached = h.numbers.reached; sent = h.numbers.sent };
     links = h.links;
     queues = queues_released s.tracked (removed c.place s.tracked) ticket c.place named (place_removed o s b h ascending ticket c found) s.waits.queues b.links h.queues;
     commands = commands_removed o s b h ascending ticket c found phase_completed (completed_kept c.phase (is_out c) live);

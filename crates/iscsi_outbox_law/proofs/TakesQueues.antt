@@ -140,7 +140,7 @@ module _ (v v' : Tracked) (ticket place : ℕ)
       by_test false e = absurd (false≢true e)
 
   entry_with : (cid : ℕ) (e : Entry) (out : Outgoing) → place_of_command v' out.ticket ≡ place_of_command v out.ticket → IsEntry v cid e out → IsEntry v' cid e out
-  entry_with cid e out same k = record { time = k.time; pdu = k.pdu; takes = k.takes; fenced = k.fenced; numbered = k.numbered; ends = k.ends; command = k.command ∙ sym same }
+  entry_with cid e out same k = record { time = k.time; pdu = k.pdu; sent = k.sent; takes = k.takes; fenced = k.fenced; numbered = k.numbered; ends = k.ends; command = k.command ∙ sym same }
 
   pub queues_dropped : (queues : List (List Entry)) (links : List Link) → AreQueues v queues links → AreQueues v' (map (λ (q : List Entry). filter (λ e. not (is_of_command place e)) q) queues) (map (without (contains (ticket ∷ []))) links)
   queues_dropped queues links h = pairs-map (IsQueue v) (IsQueue v') (λ (q : List Entry). filter (λ e. not (is_of_command place e)) q) (without (contains (ticket ∷ []))) queues links queue_dropped h
@@ -157,7 +157,7 @@ module _ (v v' : Tracked) (ticket place : ℕ)
       one_released : (cid : ℕ) (e : Entry) (out : Outgoing) → IsEntry v cid e out → IsEntry v' cid (released place e) out
       one_released cid e out k = elim (is_of_command place e) as (λ w. is_of_command place e ≡ w → IsEntry v' cid (cond w (entry e.time (of_none e.item)) e) out) [
         | true ↦ λ here.
-            record { time = k.time; pdu = k.pdu; takes = k.takes; fenced = k.fenced; numbered = k.numbered; ends = k.ends; command = sym (mine_nowhere (out.ticket) (sym (entry_named cid e out k) ∙ here)) }
+            record { time = k.time; pdu = k.pdu; sent = k.sent; takes = k.takes; fenced = k.fenced; numbered = k.numbered; ends = k.ends; command = sym (mine_nowhere (out.ticket) (sym (entry_named cid e out k) ∙ here)) }
         | false ↦ λ apart. entry_with cid e out (other_place (out.ticket) (sym (entry_named cid e out k) ∙ apart)) k
       ] refl
 

@@ -13,7 +13,7 @@ use Rattle.iscsi_outbox_rules.specs.rules.Queues.{takes_more}
 use Rattle.iscsi_outbox_rules.specs.rules.Items.{aim as aim_box, closed_in as closed_in_box, executing, is_numbered as is_numbered_box, leave as leave_box, newly_closed as newly_closed_box, outgoing, phase_completed, reply_sent, send_as}
 use Rattle.iscsi_outbox_rules.specs.promises.Room.{places as places_of}
 use Rattle.iscsi_outbox_steps.specs.State.{State, place_of}
-use Rattle.iscsi_outbox_steps.specs.Steps.{closed_in, has_room, has_time, is_numbered, newly_closed, send_on}
+use Rattle.iscsi_outbox_steps.specs.Steps.{closed_in, has_room, has_time, is_numbered, newly_closed, placed, send_on}
 use Rattle.iscsi_outbox_law.specs.Pairs.{EachOf, place_in}
 use Rattle.iscsi_outbox_law.specs.Commands.{is_under_way, link_in}
 use Rattle.iscsi_outbox_law.specs.Sound.{IsItemSound, IsSound, is_live_in}
@@ -48,10 +48,10 @@ module _ (o : Opening) (s : State) (b : Box) (h : Stands o s b) (sound : IsSound
   pub reply_stands : (cid : ℕ) (reply : Reply) → first_of (filter_map reply_sent item) ≡ Some (cid, reply) → b3.time < 2 ^ 64 - 1
       → replies_waiting (send_as o (executing item) (aim_box o (executing item) reply) (closed_in_box b item) closes cid (outgoing b3 (executing item) tickets reply) b3) ≤ places_of o
       → (p : ℕ) → place_of s3 cid ≡ Some p
-      → Stands o (send_on p (executing item) item (is_numbered s (executing item) tickets) (list_any (λ q. q == p) (newly_closed s (closed_in s item))) reply s3)
+      → Stands o (send_on p (executing item) item (is_numbered s (executing item) tickets) (list_any (λ q. q == p) (newly_closed s (closed_in s item))) (placed reply s3) s3)
       (send_as o (executing item) (aim_box o (executing item) reply) (closed_in_box b item) closes cid (outgoing b3 (executing item) tickets reply) b3)
   reply_stands cid reply sent timed few p found =
-      subst (λ ps. Stands o (send_on p (executing item) item (is_numbered s (executing item) tickets) (list_any (λ q. q == p) ps) reply s3)
+      subst (λ ps. Stands o (send_on p (executing item) item (is_numbered s (executing item) tickets) (list_any (λ q. q == p) ps) (placed reply s3) s3)
       (send_as o (executing item) (aim_box o (executing item) reply) (closed_in_box b item) closes cid (outgoing b3 (executing item) tickets reply) b3))
       (sym (closes_are o s b h (links_apart (is_under_way o b.links) o s b h distinct) item ∙ ap (λ cs. filter_map (place_in cs) closes) same))
       (send_on_stands o s3 b3 h3 apart b conns item is.one_close ready.calm.homes.ascending tickets (is_numbered s (executing item) tickets) closes cid p found reply now roomy fewer (executing item) (number_is (executing item) refl)

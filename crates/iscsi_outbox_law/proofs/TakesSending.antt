@@ -21,7 +21,7 @@ use Rattle.iscsi_outbox_state.specs.declared.lane.Aim.{Aim}
 use Rattle.iscsi_outbox_state.specs.declared.lane.Aim.TheVariants.{Tag, Unit as OfUnit, Conn, Session, Nothing}
 use Rattle.iscsi_outbox_state.specs.Lane.{aims_at, is_of_logout}
 use Rattle.iscsi_outbox_steps.specs.State.{State, Limits, place_of}
-use Rattle.iscsi_outbox_steps.specs.Steps.{aim_of, aim_of_logout, await, enter, has_room, has_time, is_of_unit, is_reset, reply_item, send_on}
+use Rattle.iscsi_outbox_steps.specs.Steps.{aim_of, aim_of_logout, await, enter, has_room, has_time, is_of_unit, is_reset, placed, reply_item, send_on}
 use Rattle.iscsi_tracked.specs.declared.command.Command.{Command}
 use Rattle.iscsi_outbox_law.specs.Pairs.{InOrder}
 use Rattle.iscsi_outbox_law.specs.Links.{place_of_command}
@@ -165,10 +165,11 @@ module _ (o : Opening) (s : State) (b : Box) (h : Stands o s b) (apart : AreApar
 
     new_answer : (r : Request) (x : Aim) (y : RulesAim) → SameAim r x y → numbered ≡ is_numbered_box b (Some r) tickets → (contains closes cid ≡ true → y ≡ AtConns)
         → IsAnswer s.limits.cids s.tracked s.lane.items
-        (record { reply = reply; conn = p; aim = x; numbered = numbered; ends = list_any (λ q. q == p) (filter_map (place_of s) closes) && is_of_logout x; uncleared = s.limits.shared && is_reset r && is_of_unit x })
+        (record { reply = placed reply s; conn = p; aim = x; numbered = numbered; ends = list_any (λ q. q == p) (filter_map (place_of s) closes) && is_of_logout x; uncleared = s.limits.shared && is_reset r && is_of_unit x })
         (answer o b r (closed_in_box before item) closes cid (outgoing b (Some r) tickets reply) y)
     new_answer r x y k number closing = record {
       pdu = refl;
+      sent = ap Some (sym h.numbers.sent);
       conn = found;
       aim = k.is;
       takes = refl;
@@ -190,22 +191,22 @@ module _ (o : Opening) (s : State) (b : Box) (h : Stands o s b) (apart : AreApar
 
     pub send_on_stands : (r : Option Request) → numbered ≡ is_numbered_box b r tickets → (aim_box o r reply ≡ Some AtConns → (x : Request) → r ≡ Some x → (opcode x == 0x02) ≡ false)
         → (contains closes cid ≡ true → aim_box o r reply ≡ Some AtConns) → (r ≡ None → place_of_command s.tracked (first_of tickets) ≡ None)
-        → Stands o (send_on p r item numbered (list_any (λ q. q == p) (filter_map (place_of s) closes)) reply s) (send_as o r (aim_box o r reply) (closed_in_box before item) closes cid (outgoing b r tickets reply) b)
+        → Stands o (send_on p r item numbered (list_any (λ q. q == p) (filter_map (place_of s) closes)) (placed reply s) s) (send_as o r (aim_box o r reply) (closed_in_box before item) closes cid (outgoing b r tickets reply) b)
     send_on_stands None number isnt closing none =
-        reply_enters o s b h apart cid p at (reply_item numbered reply) (outgoing b None tickets reply) (record { pdu = refl; takes = refl; fenced = refl; numbered = number; ends = refl; command = sym (none refl) }) timed roomy
+        reply_enters o s b h apart cid p at (reply_item numbered (placed reply s)) (outgoing b None tickets reply) (record { pdu = refl; sent = ap Some h.numbers.sent; takes = refl; fenced = refl; numbered = number; ends = refl; command = sym (none refl) }) timed roomy
     send_on_stands (Some r) number isnt closing none = by_aim (aim_of r item reply s) (aim_of_box o r reply) (aims_alike r reply (λ is. isnt is r refl)) closing
       where
         by_aim : (x : Option Aim) (y : Option RulesAim) → AimsAlike r x y → (contains closes cid ≡ true → y ≡ Some AtConns)
             → Stands o
             (elim x as (λ (z : Option Aim). State) [
-              | Some aim ↦ await p (record { reply = reply; conn = p; aim = aim; numbered = numbered; ends = list_any (λ q. q == p) (filter_map (place_of s) closes) && is_of_logout aim; uncleared = s.limits.shared && is_reset r && is_of_unit aim }) s
-              | None ↦ enter p (reply_item numbered reply) s
+              | Some aim ↦ await p (record { reply = placed reply s; conn = p; aim = aim; numbered = numbered; ends = list_any (λ q. q == p) (filter_map (place_of s) closes) && is_of_logout aim; uncleared = s.limits.shared && is_reset r && is_of_unit aim }) s
+              | None ↦ enter p (reply_item numbered (placed reply s)) s
             ]) (send_as o (Some r) y (closed_in_box before item) closes cid (outgoing b (Some r) tickets reply) b)
         by_aim None None k closes_it =
-            reply_enters o s b h apart cid p at (reply_item numbered reply) (outgoing b (Some r) tickets reply) (record { pdu = refl; takes = refl; fenced = refl; numbered = number; ends = refl; command = refl }) timed roomy
+            reply_enters o s b h apart cid p at (reply_item numbered (placed reply s)) (outgoing b (Some r) tickets reply) (record { pdu = refl; sent = ap Some h.numbers.sent; takes = refl; fenced = refl; numbered = number; ends = refl; command = refl }) timed roomy
         by_aim (Some x) (Some y) k closes_it =
             await_stands o s b h apart p
-            (record { reply = reply; conn = p; aim = x; numbered = numbered; ends = list_any (λ q. q == p) (filter_map (place_of s) closes) && is_of_logout x; uncleared = s.limits.shared && is_reset r && is_of_unit x })
+            (record { reply = placed reply s; conn = p; aim = x; numbered = numbered; ends = list_any (λ q. q == p) (filter_map (place_of s) closes) && is_of_logout x; uncleared = s.limits.shared && is_reset r && is_of_unit x })
             (answer o b r (closed_in_box before item) closes cid (outgoing b (Some r) tickets reply) y) at (new_answer r x y k number (λ is. (let e : Some y ≡ Some AtConns = closes_it is in cc))) fewer
         by_aim None (Some y) k closes_it = absurd k
         by_aim (Some x) None k closes_it = absurd k

@@ -1,5 +1,5 @@
 -- A reply enters a queue, or waits in the lane until it is due.
-use Rattle.std.proofs.Common.{◌≡◌, ℕ, ◌+◌, ◌*◌, ◌<◌, ◌==◌, ◌&&◌, ◌||◌, not, nat_lt, cond, Bool, true, false, List, [], ◌∷◌, ◌++◌, length, map, filter, count_by, set, inl, inr, refl, ap, sym, subst, ◌∙◌, arith, eq-eqb, append-nil, lt-ltb}
+use Rattle.std.proofs.Common.{◌≡◌, ℕ, ◌+◌, ◌*◌, ◌%◌, ◌^◌, ◌<◌, ◌==◌, ◌&&◌, ◌||◌, not, nat_lt, cond, Bool, true, false, List, [], ◌∷◌, ◌++◌, length, map, filter, count_by, set, inl, inr, refl, ap, sym, subst, ◌∙◌, arith, eq-eqb, append-nil, lt-ltb}
 use Rattle.std.specs.List.{list_any}
 use Rattle.std.proofs.lemmas.Bool.{and_from, and_parts, eqb-true, false≢true, true≢false}
 use Rattle.std.proofs.lemmas.List.{length-map, set-get_or}
@@ -21,7 +21,7 @@ use Rattle.iscsi_outbox_state.specs.declared.waiting.Waiting.{Waiting}
 use Rattle.iscsi_outbox_state.specs.Lane.{aims_at, awaited, is_command, is_left}
 use Rattle.iscsi_outbox_state.specs.Waits.{entered}
 use Rattle.iscsi_outbox_steps.specs.State.{State, link_at, places}
-use Rattle.iscsi_outbox_steps.specs.Steps.{await, enter, has_room, has_time, is_live, later}
+use Rattle.iscsi_outbox_steps.specs.Steps.{await, counted, enter, has_room, has_time, is_live, later}
 use Rattle.iscsi_tracked.specs.declared.command.Command.{Command}
 use Rattle.iscsi_outbox_law.specs.Pairs.{EachOf, InOrder}
 use Rattle.iscsi_outbox_law.specs.Commands.{IsCommand, is_kept, is_under_way, link_in}
@@ -36,11 +36,22 @@ use Rattle.iscsi_outbox_law.proofs.LeftOut.{found_there}
 use Rattle.iscsi_outbox_law.proofs.Entering.{IsSame, enter_stands, stands_later}
 use Rattle.iscsi_outbox_law.proofs.Settling.{all_replies, answers_append}
 
--- how many replies the log has is of the rules alone
-pub stands_sent : (o : Opening) (s : State) (b : Box) (n : ℕ) → Stands o s b → Stands o s (record b { sent = n })
-stands_sent o s b n h = record {
-  sizes = h.sizes;
-  numbers = record { time = h.numbers.time; exp = h.numbers.exp; max = h.numbers.max; shown = h.numbers.shown; reached = h.numbers.reached };
+-- a word that is counted on is that of the next number
+next_word : (n : ℕ) → (n % 2 ^ 64 + 1) % 2 ^ 64 ≡ (n + 1) % 2 ^ 64
+next_word n = omega arith
+
+-- one reply more is counted in both
+pub stands_sent : (o : Opening) (s : State) (b : Box) → Stands o s b → Stands o (counted s) (record b { sent = b.sent + 1 })
+stands_sent o s b h = record {
+  sizes = record { limits = h.sizes.limits; waits = h.sizes.waits; answers = h.sizes.answers; commands = h.sizes.commands; trails = h.sizes.trails };
+  numbers = record {
+    time = h.numbers.time;
+    exp = h.numbers.exp;
+    max = h.numbers.max;
+    shown = h.numbers.shown;
+    reached = h.numbers.reached;
+    sent = ap (λ n. (n + 1) % 2 ^ 64) h.numbers.sent ∙ next_word b.sent;
+  };
   links = h.links;
   queues = h.queues;
   commands = h.commands;
@@ -84,7 +95,7 @@ module _ (o : Opening) (s : State) (b : Box) (h : Stands o s b) (apart : AreApar
   waited_stands : Stands o (record s { lane = awaited a s.lane }) (record b { undue = b.undue ++ answer ∷ [] })
   waited_stands = record {
     sizes = record { limits = h.sizes.limits; waits = h.sizes.waits; answers = h.sizes.answers; commands = h.sizes.commands; trails = h.sizes.trails };
-    numbers = record { time = h.numbers.time; exp = h.numbers.exp; max = h.numbers.max; shown = h.numbers.shown; reached = h.numbers.reached };
+    numbers = record { time = h.numbers.time; exp = h.numbers.exp; max = h.numbers.max; shown = h.numbers.shown; reached = h.numbers.reached; sent = h.numbers.sent };
     links = h.links;
     queues = h.queues;
     commands = h.commands;

@@ -169,7 +169,7 @@ module _ (test : Command → Bool) (phase : KeptPhase) (change : Phase → Phase
       stands_after : ArePlaced v' → AreTrails v' → v'.room ≡ s.tracked.room → length v'.trails ≡ length s.tracked.trails → StandsWith under o (record s { tracked = v' }) (tasks_in_phase change (ticket ∷ []) b)
       stands_after placed trails room long = record {
         sizes = record { limits = h.sizes.limits; waits = h.sizes.waits; answers = h.sizes.answers; commands = room ∙ h.sizes.commands; trails = long ∙ h.sizes.trails };
-        numbers = record { time = h.numbers.time; exp = h.numbers.exp; max = h.numbers.max; shown = h.numbers.shown; reached = h.numbers.reached };
+        numbers = record { time = h.numbers.time; exp = h.numbers.exp; max = h.numbers.max; shown = h.numbers.shown; reached = h.numbers.reached; sent = h.numbers.sent };
         links = h.links;
         queues = queues_weaken s.tracked v' place_after s.waits.queues b.links h.queues;
         commands = commands_after;

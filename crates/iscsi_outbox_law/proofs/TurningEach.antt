@@ -120,6 +120,7 @@ shows under o s b n h small = record {
     max = ap (λ m. cond (nat_lt (lift m n.max) (2 ^ 63)) (lift m n.max) m) h.numbers.max ∙ ap (λ (v : Bool). cond v (lift b.max n.max) b.max) (lt-ltb (lift b.max n.max) (2 ^ 63) small);
     shown = h.numbers.shown;
     reached = h.numbers.reached;
+    sent = h.numbers.sent;
   };
   links = h.links;
   queues = h.queues;

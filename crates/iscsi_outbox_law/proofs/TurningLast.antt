@@ -19,7 +19,7 @@ use Rattle.iscsi_tracked.specs.declared.command.Phase.{Phase}
 use Rattle.iscsi_tracked.specs.declared.command.Phase.TheVariants.{Dormant, Fresh, Started, Running, Gone}
 use Rattle.iscsi_tracked.specs.Tracked.{arrived as arrived_at, entered, find_ticket, handed_out, has_place, in_phase, is_out, next_place, removed}
 use Rattle.iscsi_outbox_steps.specs.State.{State, link_at, place_of, with_link}
-use Rattle.iscsi_outbox_steps.specs.Steps.{Out, Waited, Pinged, Noticed, after_out, aim_of, answer_item, arrived_command, await, chosen, cleared_of, close, close_each, close_itself, close_one, close_other, completed, enable, enter, enter_command, enter_each, enter_one, entering, heard, home_of, in_phase_if, is_dormant, is_fresh, is_of_unit, is_reset, is_running, is_started, joined, later, leave, leave_one, live_command, lost, lost_on, may_enter, next, next_arrived, of_command, of_fence, own_item, put, put_refusal, reply_item, send, send_on, settle, settled, shows, stopped, stopped_command, taken_out, tell, trail, trailed, without, written}
+use Rattle.iscsi_outbox_steps.specs.Steps.{Out, Waited, Pinged, Noticed, after_out, aim_of, answer_item, arrived_command, await, chosen, cleared_of, close, close_each, close_itself, close_one, close_other, completed, enable, enter, enter_command, enter_each, enter_one, entering, heard, home_of, in_phase_if, is_dormant, is_fresh, is_of_unit, is_reset, is_running, is_started, joined, later, leave, leave_one, live_command, lost, lost_on, may_enter, next, next_arrived, of_command, of_fence, own_item, placed, put, put_refusal, reply_item, send, send_on, settle, settled, shows, stopped, stopped_command, taken_out, tell, trail, trailed, without, written}
 use Rattle.iscsi_outbox_law.specs.Pairs.{EachOf}
 use Rattle.iscsi_outbox_law.specs.Sound.{entries_of}
 
@@ -151,15 +151,15 @@ await_last conn a s = if_last (takes_more_by (link_at s conn) && nat_lt (count_s
 pub send_last : (r : Option Request) (item : List Effect) (numbered : Bool) (closes : List ℕ) (x : Option (ℕ × Reply)) (s : State) → last_of (send r item numbered closes x s) ≡ last_of s
 send_last r item numbered closes None s = refl
 send_last r item numbered closes (Some sent) s =
-    opt_last (place_of s sent.0) (λ conn. send_on conn r item numbered (list_any (λ p. p == conn) closes) sent.1 s) (record s { waits = later s.waits }) (last_of s) (λ conn. one conn r (list_any (λ p. p == conn) closes)) refl
+    opt_last (place_of s sent.0) (λ conn. send_on conn r item numbered (list_any (λ p. p == conn) closes) (placed sent.1 s) s) (record s { waits = later s.waits }) (last_of s) (λ conn. one conn r (list_any (λ p. p == conn) closes)) refl
   where
-    one : (conn : ℕ) (q : Option Request) (ends : Bool) → last_of (send_on conn q item numbered ends sent.1 s) ≡ last_of s
+    one : (conn : ℕ) (q : Option Request) (ends : Bool) → last_of (send_on conn q item numbered ends (placed sent.1 s) s) ≡ last_of s
     one conn None ends = refl
     one conn (Some q) ends =
         opt_last (aim_of q item sent.1 s)
-        (λ aim. await conn (record { reply = sent.1; conn = conn; aim = aim; numbered = numbered; ends = ends && is_of_logout aim; uncleared = s.limits.shared && is_reset q && is_of_unit aim }) s)
-        (enter conn (reply_item numbered sent.1) s) (last_of s)
-        (λ aim. await_last conn (record { reply = sent.1; conn = conn; aim = aim; numbered = numbered; ends = ends && is_of_logout aim; uncleared = s.limits.shared && is_reset q && is_of_unit aim }) s) refl
+        (λ aim. await conn (record { reply = placed sent.1 s; conn = conn; aim = aim; numbered = numbered; ends = ends && is_of_logout aim; uncleared = s.limits.shared && is_reset q && is_of_unit aim }) s)
+        (enter conn (reply_item numbered (placed sent.1 s)) s) (last_of s)
+        (λ aim. await_last conn (record { reply = placed sent.1 s; conn = conn; aim = aim; numbered = numbered; ends = ends && is_of_logout aim; uncleared = s.limits.shared && is_reset q && is_of_unit aim }) s) refl
 
 phase_last : (test : Command → Bool) (phase : Phase) (ticket : ℕ) (s : State) → last_of (in_phase_if test phase ticket s) ≡ last_of s
 phase_last test phase ticket s =

@@ -14,6 +14,7 @@ use Rattle.iscsi_tracked.specs.declared.command.Command.{Command}
 use Rattle.iscsi_tracked.specs.Tracked.{Tracked, find_place, is_out}
 use Rattle.iscsi_outbox_steps.specs.Steps.{is_live, is_of_unit, is_running}
 use Rattle.iscsi_outbox_law.specs.Pairs.{EachOf, place_in}
+use Rattle.iscsi_outbox_law.specs.Links.{word_of}
 
 -- ---- commands
 
@@ -54,7 +55,8 @@ IsInScope before a answer c = is_live c ≡ false → contains answer.out.scope 
 
 -- an answer, with what stands before it
 pub record IsAnswer (cids : List ℕ) (v : Tracked) (before : List Standing) (a : Undue) (answer : Answer) : Type 0 where
-  pub pdu : answer.out.pdu ≡ Replies a.reply
+  pub pdu : answer.out.pdu ≡ Replies a.reply.reply
+  pub sent : word_of answer.out.sent ≡ Some a.reply.place
   pub conn : place_in cids answer.conn ≡ Some a.conn
   pub aim : IsAim a.aim answer.aim
   pub takes : answer.out.takes ≡ true

@@ -1,5 +1,5 @@
 -- The connections of the steps stand for those of the rules, and what waits on them for what waits there.
-use Rattle.std.specs.Prelude.{◌≡◌, ℕ, List, map, Option, Some, None, if◌then◌else◌}
+use Rattle.std.specs.Prelude.{◌≡◌, ℕ, ◌%◌, ◌^◌, List, map, Option, Some, None, if◌then◌else◌}
 use Rattle.iscsi_arrivals.specs.Counts.{Counts}
 use Rattle.iscsi_arrivals.specs.Standing.{StandsFor}
 use Rattle.iscsi_outbox_rules.specs.rules.Boxes.{Pdu as RulesPdu, Replies, Owns, Outgoing, Link}
@@ -19,8 +19,18 @@ pub record AreLinks (cids : List ℕ) (counts : List Counts) (links : List Link)
 -- ---- what waits
 
 abbrev pub pdu_of : Content → RulesPdu
-pdu_of (Reply reply) = Replies reply
+pdu_of (Reply sent) = Replies sent.reply
 pdu_of (Own own) = Owns own
+
+-- the place of a reply in the session's log, modulo 2^64. An own PDU has none
+abbrev pub sent_of : Content → Option ℕ
+sent_of (Reply sent) = Some sent.place
+sent_of (Own own) = None
+
+-- .. as the rules count it, in a word of 64 bits
+abbrev pub word_of : Option ℕ → Option ℕ
+word_of (Some place) = Some (place % 2 ^ 64)
+word_of None = None
 
 -- the place of the live command with this ticket
 abbrev pub live_place : Tracked → ℕ → Option ℕ
@@ -34,6 +44,7 @@ place_of_command v None = None
 pub record IsEntry (v : Tracked) (cid : ℕ) (e : Entry) (out : Outgoing) : Type 0 where
   pub time : e.time ≡ out.time
   pub pdu : pdu_of e.item.content ≡ out.pdu
+  pub sent : sent_of e.item.content ≡ word_of out.sent
   pub takes : e.item.takes ≡ out.takes
   pub fenced : e.item.fenced ≡ out.fenced
   pub numbered : e.item.numbered ≡ out.numbered

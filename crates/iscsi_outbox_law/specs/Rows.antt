@@ -1,13 +1,15 @@
 -- Worked lists that the rules and the steps answer alike.
-use Rattle.std.specs.Prelude.{◌≡◌, true, List, [], ◌∷◌, refl}
+use Rattle.std.specs.Prelude.{◌≡◌, ℕ, true, List, [], ◌∷◌, filter_map, map, refl}
 use Rattle.iscsi_wire.specs.declared.reply.Reply.TheVariants.{Logout}
 use Rattle.iscsi_tasks.specs.Rules as Rules
 use Rattle.iscsi_history.specs.declared.event.Event.TheVariants.{Arrive}
 use Rattle.iscsi_history.specs.examples.Rows.{command, logout_now, of_two}
-use Rattle.iscsi_outbox_rules.specs.rules.Calls.{Joins, Nexts, Stops}
+use Rattle.iscsi_outbox_rules.specs.rules.Calls.{Joins, Nexts, Stops, Opening}
+use Rattle.iscsi_outbox_rules.specs.rules.Run.{answered_by as answered_by_rules}
 use Rattle.iscsi_outbox_rules.specs.promises.Room.{Step, Happens, Other, all_are, begun, calls_of, is_read_with_room}
 use Rattle.iscsi_outbox_rules.specs.examples.Rows.{Happens as Moves, Calls, calls_of as moves_call, Row, Worked, arrives, joins, none_goes, outbox, replies, stops}
-use Rattle.iscsi_outbox_steps.specs.Rows.{Worked as WorkedBySteps}
+use Rattle.iscsi_outbox_steps.specs.Rows.{Worked as WorkedBySteps, place_given, places_given}
+use Rattle.iscsi_outbox_law.specs.Said.{said}
 
 -- the Logout of the last connection closes the session, and waits for the commands of those that were closed before
 abbrev pub last_closes_rows : List Row
@@ -31,6 +33,19 @@ last_closes = refl
 pub last_closes_by_steps : WorkedBySteps (outbox (of_two 4)) last_closes_rows
 unfolding Rules.bars_as
 last_closes_by_steps = refl
+
+-- the places of the replies that are handed out, in order, by the rules
+abbrev pub places_by_rules : Opening → List Row → List ℕ
+places_by_rules o rows = filter_map place_given (map said (answered_by_rules o (moves_call o (map (λ (r : Row). r.0) rows))))
+
+-- the answer to the Logout that came last goes out first
+pub last_closes_places : places_given (outbox (of_two 4)) last_closes_rows ≡ 1 ∷ 0 ∷ []
+unfolding Rules.bars_as
+last_closes_places = refl
+
+pub last_closes_places_by_rules : places_by_rules (outbox (of_two 4)) last_closes_rows ≡ 1 ∷ 0 ∷ []
+unfolding Rules.bars_as
+last_closes_places_by_rules = refl
 
 -- ---- the calls of a session and its outbox
 

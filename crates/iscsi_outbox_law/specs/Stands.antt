@@ -1,5 +1,5 @@
 -- When what the steps keep stands for a box of the rules.
-use Rattle.std.specs.Prelude.{◌≡◌, ℕ, Bool, [], length}
+use Rattle.std.specs.Prelude.{◌≡◌, ℕ, ◌%◌, ◌^◌, Bool, [], length}
 use Rattle.iscsi_outbox_rules.specs.rules.Calls.{Opening}
 use Rattle.iscsi_outbox_rules.specs.rules.Boxes.{Box}
 use Rattle.iscsi_outbox_steps.specs.State.{State, limits_of, places, waiting_room}
@@ -14,6 +14,7 @@ pub record AreNumbers (s : State) (b : Box) : Type 0 where
   pub max : s.max ≡ b.max
   pub shown : s.shown ≡ b.shown
   pub reached : s.reached ≡ b.reached
+  pub sent : s.sent ≡ b.sent % 2 ^ 64
 
 pub record AreSizes (o : Opening) (s : State) : Type 0 where
   pub limits : s.limits ≡ limits_of o

@@ -76,7 +76,8 @@ pub fn loses_law()
 
 /// The steps answer what the rules answer, for every list of calls of which what is taken is what a session gives, whose requests come on
 /// its own connections, where no CID stands twice, there is room at each call and in each item, and fewer PDUs go out than a word of 63
-/// bits counts. So what is promised of the rules holds of all that the steps hand out.
+/// bits counts. So what is promised of the rules holds of all that the steps hand out. A reply is handed out with its place in the
+/// session's log, as the rules know it, modulo 2^64.
 pub fn steps_law()
     ensures alike { (o : Opening) (calls : List Call) → FollowsKnown o calls → are_distinct o.session.conns ≡ true → HasRoom o calls → IsShort o calls → AnswersAlike o calls }
 {}

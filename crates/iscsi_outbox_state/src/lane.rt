@@ -1,6 +1,6 @@
 //! What stands in the lane.
 
-use iscsi_wire::Reply;
+use crate::waiting::SentReply;
 
 /// What an abort or Logout aims at.
 #[derive(Clone, Copy, Debug, PartialEq, Eq)]
@@ -35,7 +35,7 @@ pub struct Left {
 /// The answer to an abort or Logout that isn't due yet.
 #[derive(Clone, Copy, Debug, PartialEq, Eq)]
 pub struct Undue {
-    pub reply: Reply,
+    pub reply: SentReply,
     /// The place of the connection that it goes out on.
     pub conn: u16,
     pub aim: Aim,

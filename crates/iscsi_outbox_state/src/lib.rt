@@ -6,4 +6,4 @@ mod lane;
 mod waiting;
 
 pub use lane::{Aim, Left, Standing, Undue};
-pub use waiting::{Content, Front, Waiting};
+pub use waiting::{Content, Front, SentReply, Waiting};

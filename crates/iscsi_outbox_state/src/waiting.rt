@@ -3,11 +3,18 @@
 use iscsi_outbox_rules::OwnPdu;
 use iscsi_wire::Reply;
 
+/// A reply of the session, and how many it sent before it, modulo 2^64.
+#[derive(Clone, Copy, Debug, PartialEq, Eq)]
+pub struct SentReply {
+    pub reply: Reply,
+    pub place: u64,
+}
+
 /// What a PDU is that waits.
 #[derive(Clone, Copy, Debug, PartialEq, Eq)]
 pub enum Content {
     /// A reply of the session.
-    Reply(Reply),
+    Reply(SentReply),
     /// A PDU of the target's own.
     Own(OwnPdu),
 }

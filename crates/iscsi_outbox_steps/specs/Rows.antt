@@ -1,10 +1,11 @@
 -- Worked lists, computed: those of the rules. By what is kept each is answered as the rules have it.
-use Rattle.std.specs.Prelude.{◌≡◌, true, false, List, map, refl}
+use Rattle.std.specs.Prelude.{◌≡◌, ℕ, true, false, List, [], ◌∷◌, filter_map, map, Option, Some, None, refl}
 use Rattle.iscsi_tasks.specs.Rules as Rules
-use Rattle.iscsi_history.specs.examples.Rows.{setting, of_two}
+use Rattle.iscsi_wire.specs.declared.reply.Reply.TheVariants.{Nop}
+use Rattle.iscsi_history.specs.examples.Rows.{nop_now, setting, of_two}
 use Rattle.iscsi_outbox_rules.specs.rules.Boxes.{Pdu as RulesPdu, Replies, Owns, Pings, Notices}
 use Rattle.iscsi_outbox_rules.specs.rules.Calls.{Opening}
-use Rattle.iscsi_outbox_rules.specs.examples.Rows.{Row, Said, Quiet, Goes, NoneGoes, NoneIsLeft, calls_of, outbox, said_by_join, said_by_put, said_by_stopped}
+use Rattle.iscsi_outbox_rules.specs.examples.Rows.{Row, Said, Quiet, Goes, NoneGoes, NoneIsLeft, arrives, calls_of, joins, outbox, replies, said_by_join, said_by_put, said_by_stopped}
 use Rattle.iscsi_outbox_rules.specs.examples.AbortRows.{abort_held_rows, others_go_on_rows, second_abort_rows, reset_after_abort_rows, never_started_rows, data_of_commands_rows, data_under_way_rows, behind_data_rows}
 use Rattle.iscsi_outbox_rules.specs.examples.FenceRows.{fence_rows, ping_first_rows, unjoined_fence_rows, two_fences_rows, one_connection_rows, lost_before_fence_rows, not_handed_out_yet_rows, written_is_enough_rows}
 use Rattle.iscsi_outbox_rules.specs.examples.CloseRows.{logout_behind_abort_rows, logout_held_rows, closed_by_another_rows, session_closed_rows, connection_lost_rows, join_refused_rows}
@@ -17,7 +18,7 @@ use Rattle.iscsi_outbox_steps.specs.declared.given.Pdu.TheVariants.{Reply, Own, 
 use Rattle.iscsi_outbox_steps.specs.Run.{Answered, Silent, Put, Stopped, Gives, Joined, answered_by}
 
 abbrev pub pdu_said : Pdu → RulesPdu
-pdu_said (Reply reply) = Replies reply
+pdu_said (Reply sent) = Replies sent.reply
 pdu_said (Own own) = Owns own
 pdu_said (Ping tag) = Pings tag
 pdu_said Notice = Notices
@@ -149,3 +150,45 @@ refused_own_pdus = refl
 pub reset_of_shared : Worked (record (outbox (setting 1 4)) { shared = true }) reset_of_shared_rows
 unfolding Rules.bars_as
 reset_of_shared = refl
+
+-- ---- places
+
+-- which reply is handed out
+abbrev pub place_given : Answered → Option ℕ
+place_given (Gives (Hands h)) = elim (h.pdu) [ Reply sent ↦ Some sent.place | Own own ↦ None | Ping tag ↦ None | Notice ↦ None ]
+place_given _ = None
+
+-- the places of the replies that are handed out, in order
+abbrev pub places_given : Opening → List Row → List ℕ
+places_given o rows = filter_map place_given (answered_by o (calls_of o (map (λ (r : Row). r.0) rows)))
+
+-- the answer to an abort is overtaken by what was sent behind it
+pub overtaken_places : places_given (outbox (setting 1 4)) others_go_on_rows ≡ 1 ∷ 0 ∷ []
+unfolding Rules.bars_as
+overtaken_places = refl
+
+pub reset_places : places_given (outbox (setting 1 4)) reset_after_abort_rows ≡ 2 ∷ 0 ∷ 1 ∷ []
+unfolding Rules.bars_as
+reset_places = refl
+
+-- own PDUs have none
+pub data_places : places_given (outbox (setting 1 4)) data_of_commands_rows ≡ 0 ∷ 1 ∷ []
+unfolding Rules.bars_as
+data_places = refl
+
+-- what was dropped had places
+pub dropped_places : places_given (outbox (of_two 4)) closed_by_another_rows ≡ 2 ∷ []
+unfolding Rules.bars_as
+dropped_places = refl
+
+-- a reply to a connection that hasn't joined goes nowhere, and has a place all the same
+abbrev pub goes_nowhere_rows : List Row
+goes_nowhere_rows = joins 1 1 ∷ arrives 2 (nop_now 0xc1 1) ∷ arrives 1 (nop_now 0xc2 1) ∷ replies 1 (Nop 0xc2) 1 1 4 ∷ []
+
+pub goes_nowhere : Worked (outbox (of_two 4)) goes_nowhere_rows
+unfolding Rules.bars_as
+goes_nowhere = refl
+
+pub nowhere_places : places_given (outbox (of_two 4)) goes_nowhere_rows ≡ 1 ∷ []
+unfolding Rules.bars_as
+nowhere_places = refl

@@ -4,7 +4,6 @@ use Rattle.std.specs.List.{position}
 use Rattle.iscsi_wire.specs.Serial.{lift, number_of_first}
 use Rattle.iscsi_outbox_rules.specs.rules.Calls.{Opening}
 use Rattle.iscsi_outbox_rules.specs.rules.Words.{looks_for_arrival}
-use Rattle.iscsi_arrivals.specs.declared.stamp.Stamp.{Stamp}
 use Rattle.iscsi_arrivals.specs.Counts.{Counts, has_arrived_by, is_behind_logout_by, is_busy_by, is_open_by, is_usable_by, new_counts}
 use Rattle.iscsi_outbox_state.specs.declared.waiting.Front.{Front}
 use Rattle.iscsi_outbox_state.specs.Waits.{Waits, opened as no_waits, is_fenced, is_fenced_before, is_reply, is_taking, is_taking_before, queue_at, any_in as any_waits, count_in as count_waits, is_numbered as is_numbered_entry}
@@ -32,6 +31,7 @@ pub record State : Type 0 where
   pub max : ℕ  -- the session's MaxCmdSN, without bound
   pub shown : ℕ  -- the last MaxCmdSN that was shown, without bound
   pub reached : ℕ  -- the same, and 0 once a connection was lost since
+  pub sent : ℕ  -- how many replies were taken, modulo 2^64
 
 abbrev pub limits_of : Opening → Limits
 limits_of o = record {
@@ -80,6 +80,7 @@ opened o first =
       max = last;
       shown = last;
       reached = last;
+      sent = 0;
     }
 
 -- ---- connections

@@ -1,5 +1,5 @@
 -- What each call makes of what an outbox keeps, and what it answers.
-use Rattle.std.specs.Prelude.{ℕ, zero, suc, ◌+◌, ◌-◌, ◌^◌, ◌==◌, ◌&&◌, ◌||◌, not, nat_le, nat_lt, Bool, true, false, List, [], ◌∷◌, ◌++◌, length, count_by, filter, filter_map, Option, Some, None, if◌then◌else◌}
+use Rattle.std.specs.Prelude.{ℕ, zero, suc, ◌+◌, ◌-◌, ◌^◌, ◌%◌, ◌==◌, ◌&&◌, ◌||◌, not, nat_le, nat_lt, Bool, true, false, List, [], ◌∷◌, ◌++◌, length, count_by, filter, filter_map, Option, Some, None, if◌then◌else◌}
 use Rattle.std.specs.List.{list_any}
 use Rattle.iscsi_wire.specs.declared.reply.Reply.{Reply}
 use Rattle.iscsi_wire.specs.declared.reply.Reply.TheVariants.{Task as TaskReply, Logout}
@@ -25,6 +25,7 @@ use Rattle.iscsi_outbox_state.specs.declared.lane.Aim.{Aim}
 use Rattle.iscsi_outbox_state.specs.declared.lane.Aim.TheVariants.{Tag, Unit, Conn, Session, Nothing as ClosesNothing}
 use Rattle.iscsi_outbox_state.specs.declared.lane.Undue.{Undue}
 use Rattle.iscsi_outbox_state.specs.declared.waiting.Content.TheVariants.{Reply as IsReply, Own as IsOwn}
+use Rattle.iscsi_outbox_state.specs.declared.waiting.SentReply.{SentReply}
 use Rattle.iscsi_outbox_state.specs.declared.waiting.Waiting.{Waiting}
 use Rattle.iscsi_outbox_state.specs.Waits.{Waits, count_in as count_waits, dropped_of, dropped_on, entered, is_any, is_own, popped, queue_at, released_of}
 use Rattle.iscsi_outbox_state.specs.Lane.{any_in as any_stands, arrived as arrived_in, awaited, cleared, count_in as count_stands, dropped_on as dropped_answers, first_due, has_left, is_command, is_left, is_of_logout, stopped as stopped_in, without_due}
@@ -233,22 +234,33 @@ is_reset r = opcode r == 0x02 && (function r == 4 || function r == 5)
 abbrev pub await : ℕ → Undue → State → State
 await conn a s = if takes_more_by (link_at s conn) && nat_lt (count_stands (λ x. not (is_left x)) s.lane) s.lane.answers then record s { lane = awaited a s.lane } else s
 
-abbrev pub reply_item : Bool → Reply → Waiting
+abbrev pub reply_item : Bool → SentReply → Waiting
 reply_item numbered reply = record { content = IsReply reply; takes = true; fenced = false; numbered = numbered; ends = false; command = None }
 
 -- `closes`: it closes the connection that it goes out on
-abbrev pub send_on : ℕ → Option Request → List Effect → Bool → Bool → Reply → State → State
-send_on conn (Some r) item numbered closes reply s = elim (aim_of r item reply s) [
+abbrev pub send_on : ℕ → Option Request → List Effect → Bool → Bool → SentReply → State → State
+send_on conn (Some r) item numbered closes reply s = elim (aim_of r item reply.reply s) [
   | Some aim ↦ await conn (record { reply = reply; conn = conn; aim = aim; numbered = numbered; ends = closes && is_of_logout aim; uncleared = s.limits.shared && is_reset r && is_of_unit aim }) s
   | None ↦ enter conn (reply_item numbered reply) s
 ]
 send_on conn None item numbered closes reply s = enter conn (reply_item numbered reply) s
 
-abbrev pub send : Option Request → List Effect → Bool → List ℕ → Option (ℕ × Reply) → State → State
-send r item numbered closes (Some sent) s = elim (place_of s sent.0) [
-  | Some conn ↦ send_on conn r item numbered (list_any (λ p. p == conn) closes) sent.1 s
+-- a reply with its place: so many were taken before it
+abbrev pub placed : Reply → State → SentReply
+placed reply s = record { reply = reply; place = s.sent }
+
+-- one reply more was taken, wherever it goes
+abbrev pub counted : State → State
+counted s = record s { sent = (s.sent + 1) % 2 ^ 64 }
+
+abbrev pub send_placed : Option Request → List Effect → Bool → List ℕ → ℕ → SentReply → State → State
+send_placed r item numbered closes cid reply s = elim (place_of s cid) [
+  | Some conn ↦ send_on conn r item numbered (list_any (λ p. p == conn) closes) reply s
   | None ↦ record s { waits = later s.waits }
 ]
+
+abbrev pub send : Option Request → List Effect → Bool → List ℕ → Option (ℕ × Reply) → State → State
+send r item numbered closes (Some sent) s = counted (send_placed r item numbered closes sent.0 (placed sent.1 s) s)
 send r item numbered closes None s = s
 
 -- a reply answers a numbered request: the one that executes, or that of a command that completes

@@ -1,13 +1,13 @@
 //! What goes out on a connection.
 
 use iscsi_outbox_rules::OwnPdu;
-use iscsi_wire::Reply;
+use iscsi_outbox_state::SentReply;
 
 /// What goes out.
 #[derive(Clone, Copy, Debug, PartialEq, Eq)]
 pub enum Pdu {
-    /// A reply of the session.
-    Reply(Reply),
+    /// A reply of the session, with its place in the session's log.
+    Reply(SentReply),
     /// A PDU of the target's own.
     Own(OwnPdu),
     /// A NOP-In with this transfer tag, which asks for an answer (RFC 7143 section 11.19).
@@ -16,7 +16,8 @@ pub enum Pdu {
     Notice,
 }
 
-/// A PDU that is handed out, with its numbers as the wire shows them (RFC 7143 section 4.2.2).
+/// A PDU that is handed out, with its numbers as the wire shows them (RFC 7143 section 4.2.2). The place of a reply isn't shown
+/// there: it is how many replies the session sent before it, modulo 2^64, whatever became of these.
 #[derive(Clone, Copy, Debug, PartialEq, Eq)]
 pub struct Handed {
     pub pdu: Pdu,

@@ -10,7 +10,7 @@ abbrev pub own : Option ℕ → Waiting
 own command = record { content = Own (OfConnection 0 []); takes = false; fenced = false; numbered = false; ends = false; command = command }
 
 abbrev pub reply : Bool → Waiting
-reply fenced = record { content = Reply (Nop 7); takes = true; fenced = fenced; numbered = true; ends = false; command = None }
+reply fenced = record { content = Reply (record { reply = Nop 7; place = 5 }); takes = true; fenced = fenced; numbered = true; ends = false; command = None }
 
 -- on the first connection a PDU of command 2 and a fenced answer, on the second one another PDU of command 2 and a reply
 abbrev pub four : Waits

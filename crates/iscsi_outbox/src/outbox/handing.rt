@@ -20,7 +20,8 @@ use iscsi_outbox_steps::{Given, Handed, Pdu, Sent};
 
 impl Outbox {
     /// Hands out the next PDU of a connection, with its numbers as they are now: `Nothing` where none may go out now, and
-    /// `IsOver` where none does any more.
+    /// `IsOver` where none does any more. A reply comes with its place: so many the session had sent before it, modulo 2^64, on
+    /// all connections, with those that went nowhere. It tells which request is answered, as answers may overtake each other.
     pub fn next(&mut self, cid: u16) -> Given
         ensures answer { result ≡ given cid self.old }
         ensures state { self.new ≡ next cid self.old }

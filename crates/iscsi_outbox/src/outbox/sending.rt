@@ -1,8 +1,8 @@
 //! Replies: which have to wait, and for what (RFC 7143 sections 4.2.3.3, 11.6 and 11.15).
 
-ghost use Rattle.std.specs.Prelude.{◌≡◌, ℕ, ◌<◌, List, ◌∷◌, length};
+ghost use Rattle.std.specs.Prelude.{◌≡◌, ℕ, ◌<◌, List, ◌∷◌, length, Some};
 ghost use Rattle.iscsi_outbox_steps.specs.State.{place_of};
-ghost use Rattle.iscsi_outbox_steps.specs.Steps.{aim_of, aim_of_logout, closed_in, is_of_unit, is_reset, newly_closed, later, reply_item, send, send_on};
+ghost use Rattle.iscsi_outbox_steps.specs.Steps.{aim_of, aim_of_logout, closed_in, counted, is_of_unit, is_reset, newly_closed, later, placed, reply_item, send, send_on, send_placed};
 ghost use Rattle.iscsi_history.specs.rules.Execution.{unit_named};
 ghost use Rattle.iscsi_outbox_state.specs.Lane.{is_of_logout};
 ghost use Rattle.iscsi_outbox.specs.Walks.{aim_of_function, ends_with};
@@ -11,7 +11,7 @@ use crate::items::closes_session;
 use crate::outbox::Outbox;
 use crate::outbox::settling::is_of_unit;
 use iscsi_history::Effect;
-use iscsi_outbox_state::{Aim, Content, Undue, Waiting};
+use iscsi_outbox_state::{Aim, Content, SentReply, Undue, Waiting};
 use iscsi_wire::{Reply, Request, unit_of};
 
 impl Outbox {
@@ -43,6 +43,41 @@ impl Outbox {
         let Some((cid, reply)) = sent else {
             return;
         };
+        let reply = self.placed(reply);
+        self.send_placed(cid, request, item, numbered, ends, reply);
+        self.count_reply();
+    }
+
+    /// A reply with its place: so many were taken before it.
+    fn placed(&self, reply: Reply) -> SentReply
+        ensures { result ≡ placed reply self.now }
+    {
+        SentReply {
+            reply,
+            place: self.sent,
+        }
+    }
+
+    /// One reply more was taken, wherever it goes.
+    fn count_reply(&mut self)
+        ensures { self.new ≡ counted self.old }
+    {
+        self.sent = self.sent.wrapping_add(1);
+    }
+
+    /// A reply that has its place enters its queue, waits until it is due, or goes nowhere.
+    fn send_placed(
+        &mut self,
+        cid: u16,
+        request: Option<Request>,
+        item: &[Effect],
+        numbered: bool,
+        ends: bool,
+        reply: SentReply,
+    )
+        ensures { (closes : List ℕ) → ends ≡ ends_with closes (Some (cid, reply.reply)) self.old →
+            self.new ≡ send_placed request item.now numbered closes cid reply self.old }
+    {
         match self.cids.place(cid) {
             Some(conn) => self.send_on(conn, request, item, numbered, ends, reply),
             None => self.pass_time(),
@@ -66,7 +101,7 @@ impl Outbox {
         item: &[Effect],
         numbered: bool,
         ends: bool,
-        reply: Reply,
+        reply: SentReply,
     )
         requires { conn < length self.old.limits.cids }
         ensures { self.new ≡ send_on conn request item.now numbered ends reply self.old }
@@ -76,7 +111,7 @@ impl Outbox {
             return;
         };
         let shared = self.shared;
-        match self.aim_of(&request, item, &reply) {
+        match self.aim_of(&request, item, &reply.reply) {
             Some(aim) => self.await_due(
                 conn,
                 Undue {
@@ -163,7 +198,7 @@ impl Outbox {
 }
 
 /// A reply that enters its queue at once.
-fn reply_item(numbered: bool, reply: Reply) -> Waiting
+fn reply_item(numbered: bool, reply: SentReply) -> Waiting
     ensures { result ≡ reply_item numbered reply }
 {
     Waiting {
