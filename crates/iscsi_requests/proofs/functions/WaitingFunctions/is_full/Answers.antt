@@ -1,0 +1,14 @@
+use Rattle.std.proofs.Common.{◌≡◌, ◌<◌, subst}
+use Rattle.iscsi_requests.specs.Conns.{count_all}
+use Rattle.iscsi_requests.specs.Functions.{WaitingFunctions}
+use Rattle.iscsi_requests.specs.Kept.{NO_FUNCTION}
+use Rattle.iscsi_requests.proofs.ValueLemmas.{all_there, fewer_there}
+use Rattle.iscsi_requests.proofs.functions.WaitingFunctions.is_full.Goals as goal
+
+pub returns-clause-yes : goal.returns-clause-yes
+returns-clause-yes c full =
+    subst (λ (v : WaitingFunctions). count_all v.waiting ≡ v.room) c.self.view_is (all_there NO_FUNCTION c.self.inside.kept c.known.ensures.apart (c.is_full.ensures.yes full))
+
+pub returns-clause-no : goal.returns-clause-no
+returns-clause-no c not_full =
+    subst (λ (v : WaitingFunctions). count_all v.waiting < v.room) c.self.view_is (fewer_there NO_FUNCTION c.self.inside.kept c.known.ensures.apart (c.is_full.ensures.some not_full))
