@@ -1,0 +1,3 @@
+-- What must come of it. A reader has to trust these as well.
+pub mod Deeds
+pub mod Words
