@@ -4,7 +4,9 @@
 #![tactic(auto)]
 
 mod action;
+mod laws;
 mod refusal;
 
 pub use action::{Action, StopReason};
+pub use laws::{starts_law, words_law};
 pub use refusal::Refusal;

@@ -1,4 +1,4 @@
-mod EachLemmas
+pub mod EachLemmas
 pub mod Cuts
 mod Walks
 mod FirstLemmas

@@ -1,0 +1,5 @@
+mod SideWalks
+mod Follows
+mod Leavings
+mod StartTheorem
+mod WordTheorem

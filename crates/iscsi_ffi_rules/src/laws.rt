@@ -1,0 +1,18 @@
+//! What the rules of a target's side come to, for every list of calls: laws of the definitions, which no code is needed for.
+
+ghost use Rattle.std.specs.Prelude.{List};
+ghost use Rattle.iscsi_ffi_rules.specs.promises.Starts.{StartsOnce, StopsStarted};
+ghost use Rattle.iscsi_ffi_rules.specs.promises.Words.{ComesBackOnce};
+ghost use Rattle.iscsi_ffi_rules.specs.rules.Calls.{Call, Interface};
+
+/// Each word comes back once, or is kept still: as often as it was given, with a request that was taken or with a PDU of the target's
+/// own that is of no command, it was to be forgotten or is among those that are kept.
+pub fn words_law()
+    ensures once { (i : Interface) (calls : List Call) → ComesBackOnce i calls }
+{}
+
+/// No command is told twice to start, nor twice to stop; and what is told to stop was told to start before.
+pub fn starts_law()
+    ensures once { (i : Interface) (calls : List Call) → StartsOnce i calls }
+    ensures stops { (i : Interface) (calls : List Call) → StopsStarted i calls }
+{}
