@@ -1,0 +1,6 @@
+//! The commands of the target's side of a session: by ticket, by the place of their request, and by unit.
+#![tactic(auto)]
+
+mod command;
+
+pub use command::{Command, Stage};

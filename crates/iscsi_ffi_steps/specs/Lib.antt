@@ -1,0 +1,4 @@
+pub mod State
+pub mod Walk
+pub mod Steps
+pub mod Rows
