@@ -1,7 +1,7 @@
 //! The lane, its lines and their tags.
 
 use iscsi_lane::Lane;
-use iscsi_outbox_state::{Aim, Left, Undue};
+use iscsi_outbox_state::{Aim, Left, SentReply, Undue};
 use iscsi_scopes::Scopes;
 use iscsi_tags::Tags;
 use iscsi_wire::Reply;
@@ -19,9 +19,12 @@ const LEFT: Left = Left {
 
 /// The answer to a LOGICAL UNIT RESET of its unit, on another connection.
 const RESET: Undue = Undue {
-    reply: Reply::Task {
-        itt: 2,
-        response: 0,
+    reply: SentReply {
+        reply: Reply::Task {
+            itt: 2,
+            response: 0,
+        },
+        place: 6,
     },
     conn: 0,
     aim: Aim::Unit(5),
