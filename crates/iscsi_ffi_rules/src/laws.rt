@@ -1,6 +1,7 @@
 //! What the rules of a target's side come to, for every list of calls: laws of the definitions, which no code is needed for.
 
 ghost use Rattle.std.specs.Prelude.{List};
+ghost use Rattle.iscsi_ffi_rules.specs.promises.Needed.{KeepsNeeded, NeededNoMore};
 ghost use Rattle.iscsi_ffi_rules.specs.promises.Starts.{StartsOnce, StopsStarted};
 ghost use Rattle.iscsi_ffi_rules.specs.promises.Words.{ComesBackOnce};
 ghost use Rattle.iscsi_ffi_rules.specs.rules.Calls.{Call, Interface};
@@ -15,4 +16,11 @@ pub fn words_law()
 pub fn starts_law()
     ensures once { (i : Interface) (calls : List Call) → StartsOnce i calls }
     ensures stops { (i : Interface) (calls : List Call) → StopsStarted i calls }
+{}
+
+/// A request that was taken, and is kept no more, isn't needed again, whatever calls come: nothing of it is held, waits, is live, runs,
+/// waits to go out, or is handed out and not written. And each that is kept is needed.
+pub fn needed_law()
+    ensures over { (i : Interface) (calls later : List Call) → NeededNoMore i calls later }
+    ensures kept { (i : Interface) (calls : List Call) → KeepsNeeded i calls }
 {}
