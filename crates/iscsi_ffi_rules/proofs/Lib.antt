@@ -8,3 +8,4 @@ mod NeedForms
 mod NeedItems
 mod NeedTheorem
 mod WordTheorem
+mod WordOrder

@@ -70,13 +70,13 @@ find_none : {A : Type 0} (p : A → Bool) (xs : List A) → ((x : A) → In x xs
 find_none p [] h = refl
 find_none p (y ∷ xs) h = ap (λ b. cond b (Some y) (find p xs)) (h y (inl refl)) ∙ find_none p xs (λ x there. h x (inr there))
 
-none_counted : {A : Type 0} (p : A → Bool) (xs : List A) → list_any p xs ≡ false → count_by p xs ≤ 0
+pub none_counted : {A : Type 0} (p : A → Bool) (xs : List A) → list_any p xs ≡ false → count_by p xs ≤ 0
 none_counted p [] h = omega arith
 none_counted p (x ∷ xs) h =
     let parts = or_none (p x) (list_any p xs) h in
     omega (arith, count-cons p x xs, ap one parts.0, none_counted p xs parts.1)
 
-counted_none : {A : Type 0} (p : A → Bool) (xs : List A) → count_by p xs ≤ 0 → list_any p xs ≡ false
+pub counted_none : {A : Type 0} (p : A → Bool) (xs : List A) → count_by p xs ≤ 0 → list_any p xs ≡ false
 counted_none p [] h = refl
 counted_none p (x ∷ xs) h =
     let all : count_by p (x ∷ xs) ≡ one (p x) + count_by p xs = count-cons p x xs in

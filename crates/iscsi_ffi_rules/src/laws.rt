@@ -3,13 +3,15 @@
 ghost use Rattle.std.specs.Prelude.{List};
 ghost use Rattle.iscsi_ffi_rules.specs.promises.Needed.{KeepsNeeded, NeededNoMore};
 ghost use Rattle.iscsi_ffi_rules.specs.promises.Starts.{StartsOnce, StopsStarted};
-ghost use Rattle.iscsi_ffi_rules.specs.promises.Words.{ComesBackOnce};
+ghost use Rattle.iscsi_ffi_rules.specs.promises.Words.{ComesBackOnce, ForgottenLast};
 ghost use Rattle.iscsi_ffi_rules.specs.rules.Calls.{Call, Interface};
 
 /// Each word comes back once, or is kept still: as often as it was given, with a request that was taken or with a PDU of the target's
-/// own that is of no command, it was to be forgotten or is among those that are kept.
+/// own that is of no command, it was to be forgotten or is among those that are kept. And a word that was given once, and isn't 0, comes
+/// back last: behind that no command of it is told to start or to stop, and no PDU of it is handed out.
 pub fn words_law()
     ensures once { (i : Interface) (calls : List Call) → ComesBackOnce i calls }
+    ensures last { (i : Interface) (calls : List Call) → ForgottenLast i calls }
 {}
 
 /// No command is told twice to start, nor twice to stop; and what is told to stop was told to start before.
