@@ -2,4 +2,10 @@ mod SideWalks
 mod Follows
 mod Leavings
 mod StartTheorem
+mod EventForms
+mod BoxOuts
+mod NeedForms
+mod NeedItems
+mod NeedTheorem
 mod WordTheorem
+mod WordOrder

@@ -39,7 +39,17 @@ is_aside (Forget cookie) = true
 abbrev pub left_to_clear : Side → ℕ → List Command
 left_to_clear s unit = filter (λ (c : Command). not (is_marked s c)) (live_in unit s.both.trace)
 
--- what holds of a state, and of all that was told on the way to it
+-- what holds of a state, and of all that was told on the way to it, through a call but for its end
+pub record InCall (i : Interface) (P : Side → List Action → Type 0) : Type 0 where
+  pub event : (s : Side) (acts : List Action) (e : Event) → P s acts → P (happening i s e).side (acts ++ (happening i s e).actions)
+  pub by_other : (s : Side) (acts : List Action) (c : outbox.Call) → is_other c ≡ true → P s acts → P (other i s c) acts
+  pub clearing : (s : Side) (acts : List Action) (unit : ℕ) → P s acts
+      → P (record s { marked = s.marked ++ map (λ (c : Command). c.ticket) (left_to_clear s unit) }) (acts ++ map (stop s ClearedReason) (filter (is_started s) (left_to_clear s unit)))
+  pub arrives : (s : Side) (acts : List Action) (new : Asked) → P s acts → P (record s { asked = s.asked ++ new ∷ [] }) acts
+  pub notes : (s : Side) (acts : List Action) (more : List Noted) → P s acts → P (record s { noted = s.noted ++ more }) acts
+  pub sleeps : (s : Side) (acts : List Action) (conn : ℕ) → P s acts → P (asleep conn s) acts
+
+-- and to its end
 pub record Kept (i : Interface) (P : Side → List Action → Type 0) : Type 0 where
   pub event : (s : Side) (acts : List Action) (e : Event) → P s acts → P (happening i s e).side (acts ++ (happening i s e).actions)
   pub by_other : (s : Side) (acts : List Action) (c : outbox.Call) → is_other c ≡ true → P s acts → P (other i s c) acts
@@ -48,9 +58,19 @@ pub record Kept (i : Interface) (P : Side → List Action → Type 0) : Type 0 w
   pub beside : (s : Side) (acts : List Action) (asked : List Asked) (noted : List Noted) (awake over : List ℕ) → P s acts → P (record s { asked = asked; noted = noted; awake = awake; over = over }) acts
   pub aside : (s : Side) (acts more : List Action) → EachOf (λ a. is_aside a ≡ true) more → P s acts → P s (acts ++ more)
 
-module _ (i : Interface) (P : Side → List Action → Type 0) (k : Kept i P) where
+pub in_call : (i : Interface) (P : Side → List Action → Type 0) → Kept i P → InCall i P
+in_call i P k = record {
+  event = k.event;
+  by_other = k.by_other;
+  clearing = k.clearing;
+  arrives = λ s acts new h. k.beside s acts (s.asked ++ new ∷ []) s.noted s.awake s.over h;
+  notes = λ s acts more h. k.beside s acts s.asked (s.noted ++ more) s.awake s.over h;
+  sleeps = λ s acts conn h. k.beside s acts s.asked s.noted (asleep conn s).awake s.over h;
+}
+
+module _ (i : Interface) (P : Side → List Action → Type 0) (k : InCall i P) where
   -- behind what was told before
-  abbrev On : List Action → Told → Type 0
+  abbrev pub On : List Action → Told → Type 0
   On acts w = P w.side (acts ++ w.actions)
 
   on_withholding : (acts : List Action) (n : ℕ) (w : Told) → On acts w → On acts (withholding i n w)
@@ -68,10 +88,10 @@ module _ (i : Interface) (P : Side → List Action → Type 0) (k : Kept i P) wh
           further (record { side = g.side; actions = w.actions ++ g.actions })
           (subst (P g.side) (append_assoc acts w.actions g.actions) (k.event w.side (acts ++ w.actions) e h))
 
-  on_withheld : (acts : List Action) (w : Told) → On acts w → On acts (withheld i w)
+  pub on_withheld : (acts : List Action) (w : Told) → On acts w → On acts (withheld i w)
   on_withheld acts w h = on_withholding acts (length (live w.side.both.trace)) w h
 
-  on_happens : (acts : List Action) (s : Side) (e : Event) → P s acts → On acts (happens i s e)
+  pub on_happens : (acts : List Action) (s : Side) (e : Event) → P s acts → On acts (happens i s e)
   on_happens acts s e h = on_withheld acts (happening i s e) (k.event s acts e h)
 
   on_quiet : (acts : List Action) (s : Side) → P s acts → On acts (quiet s)
@@ -94,8 +114,8 @@ module _ (i : Interface) (P : Side → List Action → Type 0) (k : Kept i P) wh
       by_refusal (Some refusal) = on_quiet acts s h
       by_refusal None =
           let s' : Side = heard_in i s conn header in
-          let asked : List Asked = s'.asked ++ record { event = s'.both.event; cookie = cookie } ∷ [] in
-          on_happens acts (record s' { asked = asked }) (Arrive conn header) (k.beside s' acts asked s'.noted s'.awake s'.over (k.by_other s acts (outbox.Hears conn (word_at 28 header) (tag_heard header)) refl h))
+          let new : Asked = record { event = s'.both.event; cookie = cookie } in
+          on_happens acts (record s' { asked = s'.asked ++ new ∷ [] }) (Arrive conn header) (k.arrives s' acts new (k.by_other s acts (outbox.Hears conn (word_at 28 header) (tag_heard header)) refl h))
 
   on_stopped : (acts : List Action) (s : Side) (ticket : ℕ) → P s acts → On acts (stopped i s ticket).told
   on_stopped acts s ticket h =
@@ -141,8 +161,8 @@ module _ (i : Interface) (P : Side → List Action → Type 0) (k : Kept i P) wh
         | IsOver ↦ answers (asleep conn s) NoneIsLeft
       ] in On acts a.told
       by_given (Hands g) = on_other acts s (outbox.Nexts conn) refl h
-      by_given Nothing = on_quiet acts (asleep conn s) (k.beside s acts s.asked s.noted (asleep conn s).awake s.over h)
-      by_given IsOver = on_quiet acts (asleep conn s) (k.beside s acts s.asked s.noted (asleep conn s).awake s.over h)
+      by_given Nothing = on_quiet acts (asleep conn s) (k.sleeps s acts conn h)
+      by_given IsOver = on_quiet acts (asleep conn s) (k.sleeps s acts conn h)
 
   on_put : (acts : List Action) (s : Side) (p : OwnPdu) (cookie : ℕ) → P s acts → On acts (put i s p cookie).told
   on_put acts s p cookie h = by_refusal (put_refusal i.outbox s.both.box p)
@@ -151,10 +171,9 @@ module _ (i : Interface) (P : Side → List Action → Type 0) (k : Kept i P) wh
       by_refusal (Some why) = on_other acts s (outbox.Puts p) refl h
       by_refusal None =
           let s' : Side = other i s (outbox.Puts p) in
-          let noted : List Noted = s.noted ++ noted_with p cookie in
-          on_quiet acts (record s' { noted = noted }) (k.beside s' acts s'.asked noted s'.awake s'.over (k.by_other s acts (outbox.Puts p) refl h))
+          on_quiet acts (record s' { noted = s'.noted ++ noted_with p cookie }) (k.notes s' acts (noted_with p cookie) (k.by_other s acts (outbox.Puts p) refl h))
 
-  on_called : (acts : List Action) (s : Side) (c : Call) → P s acts → On acts (called i s c).told
+  pub on_called : (acts : List Action) (s : Side) (c : Call) → P s acts → On acts (called i s c).told
   on_called acts s (Arrives conn header cookie) h = on_arrive acts s conn header cookie h
   on_called acts s (Completes ticket status) h = on_complete acts s ticket status h
   on_called acts s (Stops ticket) h = on_stops acts s ticket h
@@ -167,11 +186,12 @@ module _ (i : Interface) (P : Side → List Action → Type 0) (k : Kept i P) wh
   on_called acts s (Clears unit) h = on_clear acts s unit h
   on_called acts s (Cleared unit) h = on_other acts s (outbox.Clears unit) refl h
 
+module _ (i : Interface) (P : Side → List Action → Type 0) (k : Kept i P) where
   all_aside : {A : Type 0} (f : A → Action) (xs : List A) → ((x : A) → is_aside (f x) ≡ true) → EachOf (λ a. is_aside a ≡ true) (map f xs)
   all_aside f [] h = tt
   all_aside f (x ∷ xs) h = (h x, all_aside f xs h)
 
-  on_ended : (acts : List Action) (w : Told) → On acts w → On acts (ended i w)
+  on_ended : (acts : List Action) (w : Told) → On i P (in_call i P k) acts w → On i P (in_call i P k) acts (ended i w)
   on_ended acts w h =
       let s : Side = w.side in
       let ready : List Action = map (λ conn. Ready conn) (newly_ready i s) in
@@ -191,7 +211,7 @@ module _ (i : Interface) (P : Side → List Action → Type 0) (k : Kept i P) wh
 
   -- each call keeps it
   pub kept_by_call : (acts : List Action) (s : Side) (c : Call) → P s acts → P (after_call i s c).told.side (acts ++ (after_call i s c).told.actions)
-  kept_by_call acts s c h = on_ended acts (called i s c).told (on_called acts s c h)
+  kept_by_call acts s c h = on_ended acts (called i s c).told (on_called i P (in_call i P k) acts s c h)
 
   -- and so do all of a list
   pub kept_by_calls : (acts : List Action) (s : Side) (cs : List Call) → P s acts → P (side_after i s cs) (acts ++ told_in (deeds_from i s cs))

@@ -87,9 +87,9 @@ module _ (word : ℕ) where
       )
 
   -- on the way to this state none is to be forgotten, and `more` words more are kept
-  record Calm (s : Side) (more : ℕ) (w : Told) : Type 0 where
-    silent : back w.actions ≡ 0
-    kept : count_kept word w.side ≡ count_kept word s + more
+  pub record Calm (s : Side) (more : ℕ) (w : Told) : Type 0 where
+    pub silent : back w.actions ≡ 0
+    pub kept : count_kept word w.side ≡ count_kept word s + more
 
   calm_withholding : (i : Interface) (s : Side) (more n : ℕ) (w : Told) → Calm s more w → Calm s more (withholding i n w)
   calm_withholding i s more zero w h = h
@@ -207,7 +207,7 @@ module _ (word : ℕ) where
           let new : Noted = record { conn = conn; cookie = cookie } in
           calm_quiet s (record (other i s (outbox.Puts p)) { noted = s.noted ++ new ∷ [] }) (one (cookie == word)) (omega (arith, sum_by-append (λ (n : Noted). cond (t n) 1 0) s.noted (new ∷ []), count-cons t new []))
 
-  calm_called : (i : Interface) (s : Side) (c : Call) → let a = called i s c in Calm s (one (gives_word word c a.answer)) a.told
+  pub calm_called : (i : Interface) (s : Side) (c : Call) → let a = called i s c in Calm s (one (gives_word word c a.answer)) a.told
   calm_called i s (Arrives conn header cookie) = calm_arrive i s conn header cookie
   calm_called i s (Completes ticket status) = calm_complete i s ticket status
   calm_called i s (Stops ticket) = calm_stops i s ticket
@@ -260,7 +260,7 @@ module _ (word : ℕ) where
         parted_counted links rest,
       )
 
-  ended_counted : (i : Interface) (w : Told) → count_kept word (ended i w).side + back (ended i w).actions ≡ count_kept word w.side + back w.actions
+  pub ended_counted : (i : Interface) (w : Told) → count_kept word (ended i w).side + back (ended i w).actions ≡ count_kept word w.side + back w.actions
   ended_counted i w =
       let s : Side = w.side in
       let ready : List ℕ = newly_ready i s in

@@ -4,3 +4,5 @@ pub mod CommandRows
 pub mod ClearRows
 pub mod ConnectionRows
 pub mod LogoutRows
+pub mod OtherRows
+pub mod PromiseRows

@@ -2,3 +2,4 @@
 pub mod Deeds
 pub mod Words
 pub mod Starts
+pub mod Needed

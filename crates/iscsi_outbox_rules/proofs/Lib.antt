@@ -27,7 +27,7 @@ mod MomentTheorem
 mod OwnRuns
 mod OwnTheorem
 mod TicketLemmas
-mod TaskWalks
+pub mod TaskWalks
 mod CommandRuns
 mod CommandTheorem
 mod TaskRuns
@@ -95,7 +95,7 @@ pub mod PromisesTheorem
 mod WordTheorem
 mod PlaceRoom
 mod RoomFair
-mod RoomSteps
+pub mod RoomSteps
 mod RoomMarks
 mod RoomLimits
 mod RoomTurns
