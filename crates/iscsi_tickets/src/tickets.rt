@@ -2,7 +2,7 @@
 
 ghost use Rattle.std.specs.Prelude.{◌≡◌, ℕ, ◌+◌, ◌*◌, ◌<◌, ◌≤◌, ◌++◌, List, [], ◌∷◌, true, false, length, filter, slice_set, vec_len, vec_capacity, All, IfOk};
 ghost use Rattle.iscsi_slots.specs.Places.{AreAscending as AreKeysAscending};
-ghost use Rattle.iscsi_tickets.specs.Tickets.{AreKnown, IsLivePlace, ended, kept_at, known, live_in, ticket_of, value_of, without_ticket};
+ghost use Rattle.iscsi_tickets.specs.Tickets.{AreKnown, IsLivePlace, ended, guessed, kept_at, known, live_in, ticket_of, value_of, without_ticket};
 
 use crate::kept::{Kept, kept_at};
 use std::alloc::{AllocError, Global};
@@ -11,7 +11,8 @@ use std::marker::Model;
 /// Values, each with a ticket of its own. Tickets ascend as values enter.
 ///
 /// Values that enter are noted in a log, one behind the other. One that is taken out stays there, marked, until the log
-/// is full: then the others close up. A value is found by a binary search.
+/// is full: then the others close up. A value is found at once where its place is as far behind the first one's as its ticket is above
+/// that, and else by a binary search.
 pub struct Tickets {
     /// The values in the order of their tickets.
     log: Vec<Kept>,
@@ -178,6 +179,30 @@ fn end(log: &mut Vec<Kept>, k: usize) -> u32
 /// The place of the value with this ticket.
 #[inline(always)]
 fn place_of(log: &[Kept], ticket: u64) -> Option<usize>
+    requires { AreKeysAscending ticket_of log.now }
+    ensures { IsLivePlace log.now ticket result }
+{
+    let place = guess(log, ticket);
+    if is_at(log, place, ticket) && kept_at(log, place).is_live {
+        return Some(place);
+    }
+    searched_place(log, ticket)
+}
+
+/// Where a ticket stands if those from the first one of the log up to it came one by one, as the tickets of a session do.
+#[inline(always)]
+fn guess(log: &[Kept], ticket: u64) -> usize
+    ensures { result ≡ guessed log.now ticket }
+{
+    match log.first() {
+        Some(first) if first.ticket <= ticket => (ticket - first.ticket) as usize,
+        _ => 0,
+    }
+}
+
+/// The place of the value with this ticket, by a binary search.
+#[inline(never)]
+fn searched_place(log: &[Kept], ticket: u64) -> Option<usize>
     requires { AreKeysAscending ticket_of log.now }
     ensures { IsLivePlace log.now ticket result }
 {

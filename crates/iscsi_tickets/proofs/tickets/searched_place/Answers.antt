@@ -2,8 +2,8 @@ use Rattle.std.proofs.Common.{◌<◌, length, sym, ap, subst, ◌∙◌}
 use Rattle.std.proofs.lemmas.Bool.{false≢true}
 use Rattle.iscsi_tickets.specs.Tickets.{IsLiveAt, kept_at, ticket_of}
 use Rattle.iscsi_tickets.proofs.LogLemmas.{live_within, ticket_at}
-use Rattle.iscsi_tickets.proofs.tickets.place_of.Goals.{else-is_at-via-then-is_at+else-kept_at, else-is_at-via-else-is_at}
-use Rattle.iscsi_tickets.proofs.tickets.place_of.Goals as goal
+use Rattle.iscsi_tickets.proofs.tickets.searched_place.Goals.{else-is_at-via-then-is_at+else-kept_at, else-is_at-via-else-is_at}
+use Rattle.iscsi_tickets.proofs.tickets.searched_place.Goals as goal
 
 pub returns-else-is_at : goal.returns-else-is_at
 returns-else-is_at c = λ k live is.
