@@ -11,6 +11,8 @@ mod links;
 #[cfg(test)]
 mod ready;
 #[cfg(test)]
+mod requests;
+#[cfg(test)]
 mod sequence;
 #[cfg(test)]
 mod tickets;

@@ -57,7 +57,7 @@ NO_FUNCTION = record { number = 0; request = 0 }
 abbrev pub functions_of : Listed WaitingFunction → WaitingFunctions
 functions_of kept = record { waiting = values_in NO_FUNCTION kept.values kept.lists; room = kept.room }
 
--- a walk over the slots of a list: those behind it have another number
+-- a walk over the slots of a list: those that it has passed have another number
 pub record IsWalk (order : List ℕ) (xs : List WaitingFunction) (number : ℕ) (at_it : Option ℕ) : Type 0 where
   pub front : List ℕ
   pub back : List ℕ

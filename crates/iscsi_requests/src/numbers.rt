@@ -1,7 +1,7 @@
 //! The numbers that are held.
 
 ghost use Rattle.std.specs.Prelude.{◌≡◌, ◌+◌, ◌%◌, ◌<◌, ◌≤◌, ◌^◌, None, Some, nat_le, find, unwrap_or, length, replicate, IfOk};
-ghost use Rattle.iscsi_requests.specs.Numbers.{AreKnown, held_at, opened, size_for, with_held};
+ghost use Rattle.iscsi_requests.specs.Numbers.{AreKnown, held_at, index_of, opened, size_for, with_held};
 
 use std::alloc::{AllocError, Global};
 use std::marker::Model;
@@ -65,14 +65,15 @@ impl HeldNumbers {
     pub fn at(&self, number: u32) -> Option<u32>
         ensures { result ≡ held_at number self.now }
     {
-        self.places[(number % self.size) as usize]
+        self.places[self.index_of(number)]
     }
 
     /// A place is held under a number from now on.
     pub fn put(&mut self, number: u32, place: u32)
         ensures { self.new ≡ with_held number (Some place) self.old }
     {
-        self.places[(number % self.size) as usize] = Some(place);
+        let k = self.index_of(number);
+        self.places[k] = Some(place);
     }
 
     /// What is held under a number isn't any more: its place.
@@ -81,8 +82,18 @@ impl HeldNumbers {
         ensures state { self.new ≡ with_held number None self.old }
     {
         let held = self.at(number);
-        self.places[(number % self.size) as usize] = None;
+        let k = self.index_of(number);
+        self.places[k] = None;
         held
+    }
+
+    /// Where a number stands in the table.
+    #[inline(always)]
+    fn index_of(&self, number: u32) -> usize
+        ensures is { result ≡ index_of number self.now }
+        ensures within { result < length self.now.places }
+    {
+        (number % self.size) as usize
     }
 }
 
