@@ -7,5 +7,6 @@ mod BoxOuts
 mod NeedForms
 mod NeedItems
 mod NeedTheorem
+mod ReadyTheorem
 mod WordTheorem
 mod WordOrder

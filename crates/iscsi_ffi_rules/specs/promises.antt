@@ -3,3 +3,4 @@ pub mod Deeds
 pub mod Words
 pub mod Starts
 pub mod Needed
+pub mod Ready

@@ -2,6 +2,7 @@
 
 ghost use Rattle.std.specs.Prelude.{List};
 ghost use Rattle.iscsi_ffi_rules.specs.promises.Needed.{KeepsNeeded, NeededNoMore};
+ghost use Rattle.iscsi_ffi_rules.specs.promises.Ready.{ReadyHolds};
 ghost use Rattle.iscsi_ffi_rules.specs.promises.Starts.{StartsOnce, StopsStarted};
 ghost use Rattle.iscsi_ffi_rules.specs.promises.Words.{ComesBackOnce, ForgottenLast};
 ghost use Rattle.iscsi_ffi_rules.specs.rules.Calls.{Call, Interface};
@@ -25,4 +26,10 @@ pub fn starts_law()
 pub fn needed_law()
     ensures over { (i : Interface) (calls later : List Call) → NeededNoMore i calls later }
     ensures kept { (i : Interface) (calls : List Call) → KeepsNeeded i calls }
+{}
+
+/// No lost word to who hands out: a connection that could give something was told to be ready since it last gave nothing, and is told
+/// so once until then.
+pub fn ready_law()
+    ensures ready { (i : Interface) (calls : List Call) → ReadyHolds i calls }
 {}

@@ -8,5 +8,5 @@ mod laws;
 mod refusal;
 
 pub use action::{Action, StopReason};
-pub use laws::{needed_law, starts_law, words_law};
+pub use laws::{needed_law, ready_law, starts_law, words_law};
 pub use refusal::Refusal;

@@ -1,12 +1,12 @@
 -- Worked lists: another session's reset.
 use Rattle.std.specs.Prelude.{List, [], ◌∷◌, refl, None}
-use Rattle.iscsi_wire.specs.declared.reply.Reply.TheVariants.{Scsi}
+use Rattle.iscsi_wire.specs.declared.reply.Reply.TheVariants.{Scsi, Task}
 use Rattle.iscsi_tasks.specs.declared.task.Attr.TheVariants.{Simple}
 use Rattle.iscsi_tasks.specs.Rules as Rules
-use Rattle.iscsi_history.specs.examples.Rows.{command, command_to, setting}
-use Rattle.iscsi_ffi_rules.specs.declared.action.Action.TheVariants.{Start, Stop, Ready}
+use Rattle.iscsi_history.specs.examples.Rows.{command, command_to, function_now, setting}
+use Rattle.iscsi_ffi_rules.specs.declared.action.Action.TheVariants.{Start, Stop, Ready, Forget}
 use Rattle.iscsi_ffi_rules.specs.declared.action.StopReason.TheVariants.{Cleared}
-use Rattle.iscsi_ffi_rules.specs.examples.Rows.{interface, Worked, Row, joins, arrives, stops, is_reset, replies, starts}
+use Rattle.iscsi_ffi_rules.specs.examples.Rows.{interface, Worked, Row, joins, arrives, stops, is_reset, replies, is_written, starts}
 
 -- a command that was told to start is told to stop, and completed as it has; one behind it is completed as its turn comes, and never
 -- started; a HEAD OF QUEUE command that comes meanwhile finds the unit busy; one that comes behind is started
@@ -26,3 +26,19 @@ cleared_rows =
 pub is_cleared : Worked (interface (setting 1 4)) cleared_rows
 unfolding Rules.bars_as
 is_cleared = refl
+
+-- one that was told to stop by it, and that an abort takes out then, isn't told so again
+abbrev pub aborted_too_rows : List Row
+aborted_too_rows =
+    joins 1 1
+    ∷ arrives 1 (command 0xa1 1) 7 (starts 1 7 ∷ [])
+    ∷ is_reset 0 (Stop 1 7 Cleared ∷ [])
+    ∷ arrives 1 (function_now 1 2 0xb1 0xa1 1) 8 []
+    ∷ stops 1 (Ready 1 ∷ Forget 7 ∷ [])
+    ∷ replies 1 (Task 0xb1 0) 1 2 5 8
+    ∷ is_written 1 (Forget 8 ∷ [])
+    ∷ []
+
+pub is_aborted_too : Worked (interface (setting 1 4)) aborted_too_rows
+unfolding Rules.bars_as
+is_aborted_too = refl
