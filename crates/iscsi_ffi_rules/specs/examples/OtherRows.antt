@@ -8,7 +8,7 @@ use Rattle.iscsi_ffi_rules.specs.declared.action.Action.TheVariants.{Stop, Ready
 use Rattle.iscsi_ffi_rules.specs.declared.action.StopReason.TheVariants.{Aborted, Cleared}
 use Rattle.iscsi_ffi_rules.specs.declared.refusal.Refusal.TheVariants.{UnknownConnection, NotJoined}
 use Rattle.iscsi_ffi_rules.specs.rules.Calls.{Completes, Hears, Joins, Loses}
-use Rattle.iscsi_ffi_rules.specs.examples.Rows.{interface, Worked, Row, row, IsTaken, IsRefused, IsStale, IsJoined, joins, arrives, completes, is_lost, is_reset, replies, is_written, starts}
+use Rattle.iscsi_ffi_rules.specs.examples.Rows.{interface, Worked, Row, row, IsTaken, IsRefused, IsStale, IsJoined, joins, arrives, completes, is_lost, is_reset, replies, none_goes, is_written, starts}
 
 -- a completion of a command that an abort took out says that it stopped; behind that it says nothing
 abbrev pub late_rows : List Row
@@ -73,3 +73,21 @@ heard_rows =
 pub heard : Worked (interface (of_two 4)) heard_rows
 unfolding Rules.bars_as
 heard = refl
+
+-- a connection that gave nothing is told again, and one that didn't isn't
+abbrev pub told_again_rows : List Row
+told_again_rows =
+    joins 1 1
+    ∷ arrives 1 (nop_now 0xc1 1) 7 (Ready 1 ∷ [])
+    ∷ replies 1 (Nop 0xc1) 1 1 4 7
+    ∷ is_written 1 (Forget 7 ∷ [])
+    ∷ arrives 1 (nop_now 0xc2 1) 8 []
+    ∷ replies 1 (Nop 0xc2) 2 1 4 8
+    ∷ none_goes 1
+    ∷ arrives 1 (nop_now 0xc3 1) 9 (Ready 1 ∷ [])
+    ∷ replies 1 (Nop 0xc3) 3 1 4 9
+    ∷ []
+
+pub told_again : Worked (interface (setting 1 4)) told_again_rows
+unfolding Rules.bars_as
+told_again = refl
