@@ -1,6 +1,6 @@
 -- The commands of a side, as callers see them, and what becomes of them.
-use Rattle.std.specs.Prelude.{ℕ, ◌==◌, ◌&&◌, not, nat_le, nat_lt, Bool, true, false, List, [], ◌∷◌, ◌++◌, map, filter, Option, if◌then◌else◌}
-use Rattle.std.specs.List.{find, list_any}
+use Rattle.std.specs.Prelude.{◌≢◌, ℕ, ◌<◌, ◌≤◌, ◌==◌, ◌&&◌, not, nat_le, nat_lt, Bool, true, false, List, [], ◌∷◌, ◌++◌, length, map, filter, All, Option, Some, None, if◌then◌else◌}
+use Rattle.std.specs.List.{AllPairs, find, list_any}
 use Rattle.iscsi_tasks.specs.declared.task.Attr.TheVariants.{Simple, Ordered, Head}
 use Rattle.iscsi_ffi_commands.specs.declared.command.Command.{Command}
 use Rattle.iscsi_ffi_commands.specs.declared.command.Stage.{Stage}
@@ -49,6 +49,21 @@ find_ticket ticket v = find (has_ticket ticket) v.items
 abbrev pub of_unit : ℕ → Commands → List Command
 of_unit unit v = filter (λ (c : Command). c.unit == unit) v.items
 
+abbrev pub ticket_of_first : List Command → Option ℕ
+ticket_of_first [] = None
+ticket_of_first (c ∷ commands) = Some (c.ticket)
+
+abbrev pub behind : ℕ → List Command → List Command
+behind ticket [] = []
+behind ticket (c ∷ commands) = if has_ticket ticket c then commands else behind ticket commands
+
+-- the ticket of the first command of a unit, and that of the one behind another one of its unit
+abbrev pub first_of : ℕ → Commands → Option ℕ
+first_of unit v = ticket_of_first (of_unit unit v)
+
+abbrev pub next_of : ℕ → Commands → Option ℕ
+next_of ticket v = elim (find_ticket ticket v) [ Some c ↦ ticket_of_first (behind ticket (of_unit (c.unit) v)) | None ↦ None ]
+
 -- a command of the unit is left that a reset takes out
 abbrev pub is_clearing : ℕ → Commands → Bool
 is_clearing unit v = list_any (λ (c : Command). c.unit == unit && is_marked c) v.items
@@ -70,3 +85,14 @@ staged stage ticket v = record v { items = map (λ (c : Command). if has_ticket 
 -- that of a request is kept no more, if it has one
 abbrev pub forgotten : ℕ → Commands → Commands
 forgotten request v = record v { items = filter (λ (c : Command). not (is_of request c)) v.items }
+
+-- ---- what holds of all
+
+pub record AreKnown (v : Commands) : Type 0 where
+  pub ascending : AllPairs (λ (a b : Command). a.ticket < b.ticket) v.items
+  pub newest : All (λ (c : Command). c.ticket ≤ v.last) v.items
+  pub apart : AllPairs (λ (a b : Command). a.request ≢ b.request) v.items
+  pub low : All (λ (c : Command). 1 ≤ c.request) v.items
+  pub high : All (λ (c : Command). c.request ≤ v.room) v.items
+  pub below : All (λ (c : Command). c.unit < v.units) v.items
+  pub few : length v.items ≤ v.room

@@ -4,7 +4,7 @@ use Rattle.iscsi_tasks.specs.declared.task.Attr.TheVariants.{Simple}
 use Rattle.iscsi_ffi_commands.specs.declared.command.Command.{Command}
 use Rattle.iscsi_ffi_commands.specs.declared.command.Stage.{Stage}
 use Rattle.iscsi_ffi_commands.specs.declared.command.Stage.TheVariants.{Entered, Marked, Started, Over}
-use Rattle.iscsi_ffi_commands.specs.Commands.{Commands, entered, find_ticket, forgotten, is_clearing, may_enter, of_unit, opened, staged}
+use Rattle.iscsi_ffi_commands.specs.Commands.{Commands, entered, find_ticket, first_of, forgotten, is_clearing, may_enter, next_of, of_unit, opened, staged}
 
 abbrev pub command : ℕ → ℕ → ℕ → Stage → Command
 command ticket request unit stage = record { ticket = ticket; request = request; unit = unit; attr = Simple; stage = stage }
@@ -45,3 +45,19 @@ of_it = refl
 
 pub gone : (forgotten 3 two).items ≡ command 9 1 1 Entered ∷ []
 gone = refl
+
+-- a third one, of unit 0: the walk over the unit passes the second one
+abbrev pub three : Commands
+three = entered (command 10 2 0 Entered) two
+
+pub first_there : first_of 0 three ≡ Some 4
+first_there = refl
+
+pub next_there : next_of 4 three ≡ Some 10
+next_there = refl
+
+pub none_behind : next_of 10 three ≡ None
+none_behind = refl
+
+pub no_command : next_of 5 three ≡ None
+no_command = refl

@@ -2,5 +2,7 @@
 #![tactic(auto)]
 
 mod command;
+mod commands;
 
 pub use command::{Command, Stage};
+pub use commands::Commands;

@@ -3,6 +3,8 @@
 #![tactic(auto)]
 
 #[cfg(test)]
+mod ffi_commands;
+#[cfg(test)]
 mod lane;
 #[cfg(test)]
 mod lines;

@@ -1,0 +1,5 @@
+pub mod CellLemmas
+pub mod UnitLemmas
+pub mod StateLemmas
+pub mod KnownLemmas
+pub mod ChangeLemmas
