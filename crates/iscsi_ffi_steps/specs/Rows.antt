@@ -7,9 +7,10 @@ use Rattle.iscsi_ffi_rules.specs.declared.action.Action.{Action}
 use Rattle.iscsi_ffi_rules.specs.rules.Calls.{Interface}
 use Rattle.iscsi_ffi_rules.specs.examples.Rows.{Row, Said, IsTaken, IsRefused, IsStale, IsPut, IsJoined, GoesOut, IsBlocked, Nothing, NothingMore, interface}
 use Rattle.iscsi_ffi_rules.specs.examples.CommandRows.{one_command_rows, aborted_rows, held_rows}
-use Rattle.iscsi_ffi_rules.specs.examples.ClearRows.{cleared_rows}
+use Rattle.iscsi_ffi_rules.specs.examples.ClearRows.{cleared_rows, aborted_too_rows}
 use Rattle.iscsi_ffi_rules.specs.examples.ConnectionRows.{lost_rows, own_rows}
 use Rattle.iscsi_ffi_rules.specs.examples.LogoutRows.{logout_rows, unstarted_rows, shared, shared_rows, exhausted_rows}
+use Rattle.iscsi_ffi_rules.specs.examples.OtherRows.{late_rows, marked_rows, refused_rows, heard_rows, told_again_rows}
 use Rattle.iscsi_ffi_steps.specs.Steps.{Answer, Taken, Refused, Stale, Put, Joined, Goes, Blocked, NoneGoes, NoneIsLeft, answered_by}
 
 abbrev pub said : Answer → Said
@@ -67,3 +68,27 @@ is_shared = refl
 pub exhausted : Worked (interface (record (setting 1 4) { events = 77 })) exhausted_rows
 unfolding Rules.bars_as
 exhausted = refl
+
+pub late : Worked (interface (setting 1 4)) late_rows
+unfolding Rules.bars_as
+late = refl
+
+pub marked : Worked (interface (setting 1 4)) marked_rows
+unfolding Rules.bars_as
+marked = refl
+
+pub refused : Worked (interface (setting 1 4)) refused_rows
+unfolding Rules.bars_as
+refused = refl
+
+pub heard : Worked (interface (of_two 4)) heard_rows
+unfolding Rules.bars_as
+heard = refl
+
+pub told_again : Worked (interface (setting 1 4)) told_again_rows
+unfolding Rules.bars_as
+told_again = refl
+
+pub is_aborted_too : Worked (interface (setting 1 4)) aborted_too_rows
+unfolding Rules.bars_as
+is_aborted_too = refl
