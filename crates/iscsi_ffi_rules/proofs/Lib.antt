@@ -1,12 +1,12 @@
-mod SideWalks
-mod Follows
-mod Leavings
+pub mod SideWalks
+pub mod Follows
+pub mod Leavings
 mod StartTheorem
 mod EventForms
-mod BoxOuts
-mod NeedForms
-mod NeedItems
-mod NeedTheorem
-mod ReadyTheorem
-mod WordTheorem
+pub mod BoxOuts
+pub mod NeedForms
+pub mod NeedItems
+pub mod NeedTheorem
+pub mod ReadyTheorem
+pub mod WordTheorem
 mod WordOrder

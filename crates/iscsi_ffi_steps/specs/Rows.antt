@@ -7,7 +7,7 @@ use Rattle.iscsi_ffi_rules.specs.declared.action.Action.{Action}
 use Rattle.iscsi_ffi_rules.specs.rules.Calls.{Interface}
 use Rattle.iscsi_ffi_rules.specs.examples.Rows.{Row, Said, IsTaken, IsRefused, IsStale, IsPut, IsJoined, GoesOut, IsBlocked, Nothing, NothingMore, interface}
 use Rattle.iscsi_ffi_rules.specs.examples.CommandRows.{one_command_rows, aborted_rows, held_rows}
-use Rattle.iscsi_ffi_rules.specs.examples.ClearRows.{cleared_rows, aborted_too_rows}
+use Rattle.iscsi_ffi_rules.specs.examples.ClearRows.{cleared_rows, aborted_too_rows, busy_still_rows}
 use Rattle.iscsi_ffi_rules.specs.examples.ConnectionRows.{lost_rows, own_rows}
 use Rattle.iscsi_ffi_rules.specs.examples.LogoutRows.{logout_rows, unstarted_rows, shared, shared_rows, exhausted_rows}
 use Rattle.iscsi_ffi_rules.specs.examples.OtherRows.{late_rows, marked_rows, refused_rows, heard_rows, told_again_rows}
@@ -92,3 +92,7 @@ told_again = refl
 pub is_aborted_too : Worked (interface (setting 1 4)) aborted_too_rows
 unfolding Rules.bars_as
 is_aborted_too = refl
+
+pub is_busy_still : Worked (interface (setting 1 8)) busy_still_rows
+unfolding Rules.bars_as
+is_busy_still = refl

@@ -22,36 +22,40 @@ pub record State : Type 0 where
   pub withheld : List ℕ  -- the tickets of the commands that are to be completed and never start, going up
   pub awake : List Bool
   pub over : List Bool
-  pub room : ℕ  -- how many actions may be told in a call, and how many requests forgotten
+  pub room : ℕ  -- how many actions may be told in a call, how many requests forgotten, and how many commands withheld
 
 -- ---- sizes
 
--- so many requests are kept at once: held, waiting or live; answered by what waits; with something that isn't written
-abbrev pub requests_room : Interface → Limits → ℕ
-requests_room i l = 4 * most_at_once l + (l.own + i.unwritten) * length l.cids
+-- so many requests are kept at once: held, waiting or live; taken out and running; answered by what waits; with something that isn't
+-- written. `unwritten`: the most PDUs of a connection that are handed out and aren't written
+abbrev pub requests_room : ℕ → Limits → ℕ
+requests_room unwritten l = 7 * most_at_once l + (l.own + unwritten) * length l.cids
 
 -- each request starts, stops and resets once at the most, and each connection is told to be ready and closed once
-abbrev pub actions_room : Interface → Limits → ℕ
-actions_room i l = 3 * requests_room i l + 2 * length l.cids
+abbrev pub actions_room : ℕ → Limits → ℕ
+actions_room unwritten l = 3 * requests_room unwritten l + 2 * length l.cids
 
-abbrev pub opened : Interface → State
-opened i =
-    let l = limits_of i.outbox in
+-- `first`: the session's first CmdSN
+abbrev pub opened_with : ℕ → Limits → ℕ → State
+opened_with unwritten l first =
     let conns = length l.cids in
     record {
-      outbox = outbox_opened l i.outbox.session.first;
-      cookies = no_requests (requests_room i l);
+      outbox = outbox_opened l first;
+      cookies = no_requests (requests_room unwritten l);
       held = no_numbers l.window;
       functions = no_functions conns (4 * conns);
-      commands = no_commands (requests_room i l) l.units;
+      commands = no_commands (requests_room unwritten l) l.units;
       replies = no_replies conns (3 * most_at_once l);
       noted = nothing_handed conns (l.own * conns);
-      unwritten = nothing_handed conns (i.unwritten * conns);
+      unwritten = nothing_handed conns (unwritten * conns);
       withheld = [];
       awake = replicate conns false;
       over = replicate conns false;
-      room = actions_room i l;
+      room = actions_room unwritten l;
     }
+
+abbrev pub opened : Interface → State
+opened i = opened_with i.unwritten (limits_of i.outbox) i.outbox.session.first
 
 -- ---- commands
 
@@ -63,3 +67,7 @@ is_withheld s c = is_marked c || (is_head c && is_clearing c.unit s.commands)
 abbrev pub inserted : ℕ → List ℕ → List ℕ
 inserted ticket [] = ticket ∷ []
 inserted ticket (t ∷ ts) = if nat_lt ticket t then ticket ∷ t ∷ ts else t ∷ inserted ticket ts
+
+-- a command is to be completed, and never starts, if there is room, as there is meant to be
+abbrev pub withhold : ℕ → State → State
+withhold ticket s = if nat_lt (length s.withheld) s.room then record s { withheld = inserted ticket s.withheld } else s

@@ -41,7 +41,7 @@ use Rattle.iscsi_ffi_rules.specs.rules.Run.{kept_back, parting, tag_heard, word_
 use Rattle.iscsi_ffi_commands.specs.declared.command.Command.{Command}
 use Rattle.iscsi_ffi_commands.specs.declared.command.Stage.TheVariants.{Entered, Marked, Started, Cleared, Over}
 use Rattle.iscsi_ffi_commands.specs.Commands.{find_ticket, is_going, is_live, is_marked, of_unit}
-use Rattle.iscsi_ffi_steps.specs.State.{State, inserted, is_withheld, opened}
+use Rattle.iscsi_ffi_steps.specs.State.{State, is_withheld, opened, withhold}
 use Rattle.iscsi_ffi_steps.specs.Walk.{Doing, Walk, drop_waiting, in_state, on_effects, release, release_if, sweep, tell, tell_all, touched_by, with_stage}
 
 -- a side, and the history of its session
@@ -83,7 +83,7 @@ resets_in s effects = if s.outbox.limits.shared then flat_map (reset_in s.outbox
 -- a command that was enabled starts, or is to be completed
 abbrev pub start : Command → Doing → Doing
 start c d =
-    if is_withheld d.state c then in_state (λ s. record s { withheld = inserted c.ticket s.withheld }) d
+    if is_withheld d.state c then in_state (withhold c.ticket) d
     else in_state (with_stage Started c.ticket) (tell (Start c.ticket c.unit c.attr (cookie_at c.request d.state.cookies)) d)
 
 abbrev pub start_each : List ℕ → Doing → Doing

@@ -33,7 +33,7 @@ pub record Doing : Type 0 where
 abbrev pub in_state : (State → State) → Doing → Doing
 in_state change d = record d { state = change d.state }
 
--- what has no room isn't told: it never comes to that
+-- what has no room isn't told. The room is meant for all that a call may tell; that it is enough isn't proved
 abbrev pub with_room : ℕ → List Action → Action → List Action
 with_room room actions action = if nat_lt (length actions) room then actions ++ action ∷ [] else actions
 

@@ -34,6 +34,7 @@ is_withheld s c = is_marked s c || (is_head c.attr && is_clearing s c.unit)
 abbrev pub status_of : Side → Command → ℕ
 status_of s c = if is_marked s c then TASK_ABORTED else BUSY
 
--- the oldest command that is enabled, and is withheld: one that was told to start has to stop first
+-- the oldest command that is enabled, and was withheld as it became so: all others were told to start. It stays withheld, also where
+-- those that the reset takes out have left since
 abbrev pub next_withheld : Side → Option Command
-next_withheld s = first_of (filter (λ (c : Command). was_free c s.both.trace && not (contains s.told c.ticket) && is_withheld s c) (live s.both.trace))
+next_withheld s = first_of (filter (λ (c : Command). was_free c s.both.trace && not (contains s.told c.ticket)) (live s.both.trace))
