@@ -172,6 +172,14 @@ impl Arrivals {
         self.lost = true;
     }
 
+    /// Whether its transport is gone.
+    pub fn is_lost(&self) -> bool
+        ensures answer { result ≡ self.now.lost }
+        ensures since { (l : Link) → StandsFor self.now l → result ≡ l.lost }
+    {
+        self.lost
+    }
+
     /// Whether a Logout on another connection closed it.
     pub fn is_cut(&self) -> bool
         ensures answer { result ≡ self.now.cut }

@@ -82,6 +82,13 @@ impl Commands {
         self.kept.known();
     }
 
+    /// How many there are.
+    pub fn len(&self) -> usize
+        ensures { result ≡ length self.now.items }
+    {
+        self.tickets.len()
+    }
+
     /// The command with this ticket.
     pub fn find(&self, ticket: u64) -> Option<Command>
         ensures { result ≡ find_ticket ticket self.now }

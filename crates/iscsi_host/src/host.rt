@@ -79,6 +79,20 @@ impl Host {
         Ok(())
     }
 
+    /// The effects of the last event: none before the first event.
+    pub fn effects(&self) -> &[Effect]
+        ensures { result.now ≡ self.now.effects }
+    {
+        &self.effects
+    }
+
+    /// ExpCmdSN and MaxCmdSN after the last event (RFC 7143 section 4.2.2.1).
+    pub fn event_numbers(&self) -> Numbers
+        ensures { result ≡ self.now.numbers }
+    {
+        self.numbers
+    }
+
     /// How many effects the last event had: none before the first event.
     pub fn effect_count(&self) -> usize
         ensures { result ≡ length self.now.effects }

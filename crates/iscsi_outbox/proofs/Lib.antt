@@ -10,3 +10,4 @@ pub mod OpenLemmas
 pub mod WordLemmas
 pub mod LimitsLemmas
 pub mod ToldLemmas
+pub mod AskLemmas

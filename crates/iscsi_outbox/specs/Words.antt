@@ -34,6 +34,16 @@ gives_something (Hands handed) = true
 gives_something Nothing = false
 gives_something IsOver = true
 
+abbrev pub gives_pdu : Given → Bool
+gives_pdu (Hands handed) = true
+gives_pdu Nothing = false
+gives_pdu IsOver = false
+
+abbrev pub gives_no_more : Given → Bool
+gives_no_more (Hands handed) = false
+gives_no_more Nothing = false
+gives_no_more IsOver = true
+
 -- one that was asked, and gave nothing, isn't awake any more
 abbrev pub asked : ℕ → State → List Bool → List Bool
 asked cid s awake = elim (place_of s cid) [ Some conn ↦ slice_set awake conn (slice_index_or awake conn false && gives_something (given cid s)) | None ↦ awake ]

@@ -12,6 +12,7 @@ mod writers;
 
 pub use bytes::header;
 pub use fault::OutboxFault;
+pub use iscsi_arrivals::Arrivals;
 pub use iscsi_outbox_rules::{OwnPdu, PutRefusal};
 pub use iscsi_outbox_state::SentReply;
 pub use iscsi_outbox_steps::{Given, Handed, Pdu};

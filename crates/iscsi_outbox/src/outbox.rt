@@ -9,6 +9,7 @@ ghost use Rattle.iscsi_outbox.specs.Words.{cid_at};
 ghost use Rattle.iscsi_outbox.specs.Options.{RefusesAs, is_valid, lane_of, limits_of, links_of, refusal_of, tracked_of, waits_of};
 ghost use Rattle.iscsi_outbox_steps.specs.Steps.{joined, may_join};
 
+mod asking;
 mod choosing;
 mod closing;
 mod handing;
@@ -125,13 +126,14 @@ impl Outbox {
     /// How many connections the session has: 64 at the most.
     pub fn conns(&self) -> usize
         ensures count { result ≡ length self.now.limits.cids }
+        ensures links { length self.now.links ≡ length self.now.limits.cids }
         ensures few { result ≤ 64 }
     {
         self.cids.len()
     }
 
     /// The CID of a connection, by its place.
-    pub(crate) fn cid(&self, conn: usize) -> u16
+    pub fn cid(&self, conn: usize) -> u16
         requires { conn < length self.now.limits.cids }
         ensures { result ≡ cid_at self.now conn }
     {
@@ -139,7 +141,7 @@ impl Outbox {
     }
 
     /// The place of the connection with this CID.
-    pub(crate) fn place(&self, cid: u16) -> Option<usize>
+    pub fn place(&self, cid: u16) -> Option<usize>
         ensures { result ≡ place_of self.now cid }
     {
         self.cids.place(cid)

@@ -1,56 +1,56 @@
-mod PairLemmas
-mod Opened
-mod PlaceLemmas
+pub mod PairLemmas
+pub mod Opened
+pub mod PlaceLemmas
 mod LinkChanges
 mod CountChanges
-mod Standing
-mod Joins
-mod Waiting
+pub mod Standing
+pub mod Joins
+pub mod Waiting
 mod Fencing
 mod Members
 mod Homes
 mod LeftOut
 mod Asking
-mod Giving
+pub mod Giving
 mod TrackedLemmas
 mod TrackedChanges
 mod HandedLemmas
 mod Nexts
 mod NextStands
-mod NextAfter
+pub mod NextAfter
 mod Entering
 mod Dues
 mod Rooms
-mod Settling
+pub mod Settling
 mod Calm
-mod Clears
+pub mod Clears
 mod Puts
-mod PutStands
+pub mod PutStands
 mod TrackedEnds
 mod Lessening
 mod LeftEnds
 mod Stopping
 mod StopsOut
 mod StopsGone
-mod Stops
+pub mod Stops
 mod Arriving
 mod Dropping
 mod SoundSettled
 mod SoundLists
-mod SoundFirm
+pub mod SoundFirm
 mod SoundMoves
 mod SoundTurns
 mod SoundTaking
-mod SoundCalls
+pub mod SoundCalls
 mod SoundParting
 mod SoundForms
 mod SoundItems
-mod SoundRuns
+pub mod SoundRuns
 mod ArrivedOne
 mod Trails
 mod Silence
-mod Hearing
-mod Losing
+pub mod Hearing
+pub mod Losing
 mod Turning
 mod TurningEach
 mod TakesPhases
@@ -65,9 +65,9 @@ mod TakesSending
 mod TurningFresh
 mod TurningLast
 mod TurningCount
-mod CallsGo
+pub mod CallsGo
 mod EventGoes
-mod StepsGo
+pub mod StepsGo
 mod TakesEntering
 mod TakesEnters
 mod TakesEnabling
@@ -80,5 +80,5 @@ mod TakesParts
 mod TakesSent
 mod TakesReply
 mod TakesItem
-mod Alike
+pub mod Alike
 pub mod Called

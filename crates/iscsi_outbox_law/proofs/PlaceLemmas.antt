@@ -20,7 +20,7 @@ abbrev pub AreApart : List ℕ → Type 0
 AreApart [] = Unit {0}
 AreApart (c ∷ cs) = (list_any (λ k. k == c) cs ≡ false) × AreApart cs
 
-known_any : (cid : ℕ) (cs : List (ℕ × ℕ)) → is_known cid cs ≡ list_any (λ k. k == cid) (map (λ (c : ℕ × ℕ). c.0) cs)
+pub known_any : (cid : ℕ) (cs : List (ℕ × ℕ)) → is_known cid cs ≡ list_any (λ k. k == cid) (map (λ (c : ℕ × ℕ). c.0) cs)
 known_any cid [] = refl
 known_any cid (c ∷ cs) = ap (λ (v : Bool). (c.0 == cid) || v) (known_any cid cs)
 

@@ -1,6 +1,6 @@
 //! The replies that wait.
 
-ghost use Rattle.std.specs.Prelude.{◌≡◌, ◌+◌, ◌*◌, ◌<◌, ◌≤◌, ◌^◌, true, false, length, IfOk};
+ghost use Rattle.std.specs.Prelude.{◌≡◌, ◌+◌, ◌*◌, ◌<◌, ◌≤◌, ◌^◌, true, false, length, IfOk, IfSome};
 ghost use Rattle.iscsi_requests.specs.Conns.{count_all};
 ghost use Rattle.iscsi_requests.specs.Replies.{AreKnown, IsAbove, find_log_place, first_request, opened, popped, pushed, taken};
 
@@ -85,7 +85,8 @@ impl WaitingReplies {
 
     /// The log place of the reply that entered last, if one has.
     pub fn last(&self) -> Option<u64>
-        ensures { result ≡ self.now.last }
+        ensures last { result ≡ self.now.last }
+        ensures short { IfSome result (λ last. last + 1 < 2 ^ 64) }
     {
         let last = self.tickets.last();
         if last == 0 { None } else { Some(last - 1) }

@@ -175,7 +175,7 @@ impl Outbox {
 }
 
 /// Whether a command left, and wasn't stopped since.
-fn is_running(command: &Command) -> bool
+pub(crate) fn is_running(command: &Command) -> bool
     ensures { result ≡ is_running command.now }
 {
     match command.phase {
