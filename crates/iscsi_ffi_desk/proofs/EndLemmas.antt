@@ -1,0 +1,42 @@
+-- At the end of a call: connection by connection.
+use Rattle.std.proofs.Common.{◌≡◌, ◌<◌, ◌≤◌, ℕ, ◌+◌, ◌&&◌, not, Bool, true, false, List, [], ◌∷◌, length, drop, get_or, set, refl, sym, ap, ◌∙◌, if◌then◌else◌}
+use Rattle.std.proofs.lemmas.List.{drop_more}
+use Rattle.std.proofs.Math.ListN.{drop_of_length-le}
+use Rattle.iscsi_outbox_steps.specs.Steps.{given}
+use Rattle.iscsi_ffi_rules.specs.declared.action.Action.TheVariants.{Ready, Close}
+use Rattle.iscsi_ffi_steps.specs.Walk.{Doing, in_state, tell}
+use Rattle.iscsi_ffi_steps.specs.Steps.{close_each, close_on, gives, gives_no_more, tell_each, tell_on}
+
+told_outbox : (conn cid : ℕ) (d : Doing) (b : Bool) → (if b then in_state (λ s. record s { awake = set s.awake conn true }) (tell (Ready cid) d) else d).state.outbox ≡ d.state.outbox
+told_outbox conn cid d true = refl
+told_outbox conn cid d false = refl
+
+pub tell_on_outbox : (conn cid : ℕ) (d : Doing) → (tell_on conn cid d).state.outbox ≡ d.state.outbox
+tell_on_outbox conn cid d = told_outbox conn cid d (gives (given cid d.state.outbox) && not (get_or d.state.awake conn false))
+
+closed_outbox : (conn cid : ℕ) (d : Doing) (b : Bool) → (if b then in_state (λ s. record s { over = set s.over conn true }) (tell (Close cid) d) else d).state.outbox ≡ d.state.outbox
+closed_outbox conn cid d true = refl
+closed_outbox conn cid d false = refl
+
+pub close_on_outbox : (conn cid : ℕ) (d : Doing) → (close_on conn cid d).state.outbox ≡ d.state.outbox
+close_on_outbox conn cid d = closed_outbox conn cid d (gives_no_more (given cid d.state.outbox) && not (get_or d.state.over conn false))
+
+pub tell_each_step : (conn : ℕ) (cids : List ℕ) (d d' : Doing) → conn < length cids → d' ≡ tell_on conn (get_or cids conn 0) d → tell_each (conn + 1) (drop (conn + 1) cids) d' ≡ tell_each conn (drop conn cids) d
+tell_each_step conn cids d d' within is =
+    ap (λ (e : Doing). tell_each (conn + 1) (drop (conn + 1) cids) e) is
+    ∙ ap (λ (xs : List ℕ). tell_each conn xs d) (sym (drop_more cids conn 0 within))
+
+pub close_each_step : (conn : ℕ) (cids : List ℕ) (d d' : Doing) → conn < length cids → d' ≡ close_on conn (get_or cids conn 0) d → close_each (conn + 1) (drop (conn + 1) cids) d' ≡ close_each conn (drop conn cids) d
+close_each_step conn cids d d' within is =
+    ap (λ (e : Doing). close_each (conn + 1) (drop (conn + 1) cids) e) is
+    ∙ ap (λ (xs : List ℕ). close_each conn xs d) (sym (drop_more cids conn 0 within))
+
+pub tell_each_done : (conn : ℕ) (cids : List ℕ) (d : Doing) → length cids ≤ conn → tell_each conn (drop conn cids) d ≡ d
+tell_each_done conn cids d all = ap (λ (xs : List ℕ). tell_each conn xs d) (drop_of_length-le cids all)
+
+pub close_each_done : (conn : ℕ) (cids : List ℕ) (d : Doing) → length cids ≤ conn → close_each conn (drop conn cids) d ≡ d
+close_each_done conn cids d all = ap (λ (xs : List ℕ). close_each conn xs d) (drop_of_length-le cids all)
+
+pub tell_each_outbox : (conn : ℕ) (cids : List ℕ) (d : Doing) → (tell_each conn cids d).state.outbox ≡ d.state.outbox
+tell_each_outbox conn [] d = refl
+tell_each_outbox conn (cid ∷ cids) d = tell_each_outbox (conn + 1) cids (tell_on conn cid d) ∙ tell_on_outbox conn cid d

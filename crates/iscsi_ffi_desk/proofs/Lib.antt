@@ -1,0 +1,12 @@
+pub mod AskLemmas
+pub mod DropLemmas
+pub mod OutboxLemmas
+pub mod PlaceLemmas
+pub mod ReplyLemmas
+pub mod CallLemmas
+pub mod ClearLemmas
+pub mod WordLemmas
+pub mod EndLemmas
+pub mod OpenLemmas
+pub mod TakeLemmas
+pub mod TellLemmas

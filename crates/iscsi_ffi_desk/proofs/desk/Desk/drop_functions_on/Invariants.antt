@@ -1,0 +1,14 @@
+use Rattle.std.proofs.Common.{◌≡◌, length}
+use Rattle.iscsi_requests.specs.Conns.{of_conn}
+use Rattle.iscsi_ffi_steps.specs.Walk.{drop_functions_on}
+use Rattle.iscsi_ffi_desk.proofs.desk.Desk.drop_functions_on.Given as goal
+
+-- some were dropped: it makes no odds whether that is done before all are
+abbrev pub invariant-loop-request : goal.invariant-loop-request
+invariant-loop-request l = record {
+  state : drop_functions_on l.conn l.self ≡ drop_functions_on l.fn.conn l.fn.self;
+  outbox : l.self.state.outbox ≡ l.fn.self.state.outbox;
+}
+
+abbrev pub decreases-loop-request : goal.decreases-loop-request
+decreases-loop-request l = length (of_conn l.conn l.self.state.functions.waiting)

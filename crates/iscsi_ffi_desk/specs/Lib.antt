@@ -1,0 +1,5 @@
+pub mod Calls
+pub mod Courses
+pub mod Kept
+pub mod Options
+pub mod Rooms

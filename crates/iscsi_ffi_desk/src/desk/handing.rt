@@ -1,0 +1,130 @@
+//! What goes out.
+
+ghost use Rattle.std.specs.Prelude.{◌≡◌, ◌<◌, length, Some, None};
+ghost use Rattle.iscsi_outbox_steps.specs.Steps.{given};
+ghost use Rattle.iscsi_requests.specs.Replies.{find_log_place};
+ghost use Rattle.iscsi_ffi_steps.specs.Steps.{request_handed, write_on};
+ghost use Rattle.iscsi_ffi_desk.specs.Calls.{command_used, cookie_handed, cookie_of_place, handed_out, is_blocked, left_queue, pushed_out, reply_left, request_of_command, written_on};
+
+use crate::desk::Desk;
+use iscsi_outbox::{Given, Handed, OwnPdu, Pdu};
+
+impl Desk {
+    /// Whether as many PDUs of a connection are handed out and not written as may be.
+    pub fn is_blocked(&self, conn: usize, most: u32) -> bool
+        requires { conn < length self.now.state.outbox.limits.cids }
+        ensures { result ≡ is_blocked most conn self.now.state }
+    {
+        self.outbox.link(conn).is_open() && most <= self.unwritten.count(conn)
+    }
+
+    /// Hands out the next PDU of a connection, with the word for what it belongs to.
+    pub fn next(&mut self, conn: usize, cid: u16) -> (Given, Option<u64>)
+        requires { conn < length self.old.state.outbox.limits.cids }
+        ensures answer { result.0 ≡ given cid self.old.state.outbox }
+        ensures cookie { result.1 ≡ cookie_handed conn (given cid self.old.state.outbox) self.old.state }
+        ensures state { self.new ≡ handed_out cid conn self.old }
+    {
+        let given = self.outbox.next(cid);
+        match given {
+            Given::Hands(handed) => {
+                let cookie = self.hand_out(conn, &handed.pdu);
+                (given, cookie)
+            }
+            Given::Nothing | Given::IsOver => (given, None),
+        }
+    }
+
+    /// A PDU was handed out on a connection, and is to be written: the word for what it belongs to.
+    fn hand_out(&mut self, conn: usize, pdu: &Pdu) -> Option<u64>
+        requires { conn < length self.old.state.outbox.limits.cids }
+        ensures cookie { result ≡ cookie_of_place self.old.state (request_handed self.old.state conn pdu.now) }
+        ensures state { self.new ≡ pushed_out conn (request_handed self.old.state conn pdu.now) (left_queue conn pdu.now self.old) }
+    {
+        let request = self.leave_queue(conn, pdu);
+        self.push_unwritten(conn, request);
+        self.cookie_of(request)
+    }
+
+    /// It stands behind what is handed out there and not written, if there is room, as there is meant to be.
+    fn push_unwritten(&mut self, conn: usize, request: Option<u32>)
+        requires { conn < length self.old.state.outbox.limits.cids }
+        ensures { self.new ≡ pushed_out conn request self.old }
+    {
+        if !self.unwritten.is_full() {
+            self.unwritten.push(conn, request);
+        }
+    }
+
+    /// What waited on a connection first leaves its queue: the place of the request that it belongs to.
+    fn leave_queue(&mut self, conn: usize, pdu: &Pdu) -> Option<u32>
+        requires { conn < length self.old.state.outbox.limits.cids }
+        ensures request { result ≡ request_handed self.old.state conn pdu.now }
+        ensures state { self.new ≡ left_queue conn pdu.now self.old }
+    {
+        match pdu {
+            Pdu::Reply(sent) => self.take_reply(sent.place),
+            Pdu::Own(OwnPdu::OfCommand { ticket, .. }) => self.use_again(*ticket),
+            Pdu::Own(OwnPdu::OfConnection { .. }) => self.noted.pop(conn).flatten(),
+            Pdu::Ping(_) | Pdu::Notice => None,
+        }
+    }
+
+    /// The word of the request in a place, if there is one.
+    fn cookie_of(&self, request: Option<u32>) -> Option<u64>
+        ensures { result ≡ cookie_of_place self.now.state request }
+    {
+        match request {
+            Some(place) => Some(self.cookie(place)),
+            None => None,
+        }
+    }
+
+    /// The reply with this place in the log waits no more: its request.
+    fn take_reply(&mut self, log_place: u64) -> Option<u32>
+        ensures request { result ≡ find_log_place log_place self.old.state.replies }
+        ensures state { self.new ≡ reply_left log_place self.old }
+    {
+        self.replies.known();
+        let is_there = match self.replies.last() {
+            Some(last) => log_place <= last,
+            None => false,
+        };
+        if is_there {
+            self.replies.take(log_place)
+        } else {
+            None
+        }
+    }
+
+    /// A PDU of a command is handed out: its request has a use more.
+    fn use_again(&mut self, ticket: u64) -> Option<u32>
+        ensures request { result ≡ request_of_command ticket self.old.state }
+        ensures state { self.new ≡ command_used ticket self.old }
+    {
+        let place = self.commands.find(ticket)?.request;
+        if self.cookies.has(place) && self.cookies.uses(place) < u32::MAX {
+            self.cookies.use_more(place);
+        }
+        Some(place)
+    }
+
+    /// What was handed out first on a connection, and isn't written, has gone into the transport.
+    pub fn write(&mut self, conn: usize, cid: u16)
+        requires { conn < length self.old.state.outbox.limits.cids }
+        ensures { self.new ≡ written_on cid conn self.old }
+    {
+        self.outbox.written(cid);
+        self.write_oldest(conn);
+    }
+
+    /// What was handed out first there is written.
+    fn write_oldest(&mut self, conn: usize)
+        requires { conn < length self.old.state.outbox.limits.cids }
+        ensures { self.new ≡ write_on conn self.old }
+    {
+        if let Some(request) = self.unwritten.pop(conn) {
+            self.release_if(request);
+        }
+    }
+}
