@@ -1,0 +1,12 @@
+use Rattle.std.proofs.Common.{sym, ◌∙◌}
+use Rattle.iscsi_ffi_rules.specs.rules.Calls.{Arrives}
+use Rattle.iscsi_ffi.specs.Answers.{answer_of}
+use Rattle.iscsi_ffi.specs.declared.answer.Answer.TheVariants.{ActionsWait}
+use Rattle.iscsi_ffi.proofs.PublicLemmas.{call_taken, call_waits}
+use Rattle.iscsi_ffi.proofs.side.Side.arrive.Goals as goal
+
+pub returns-then-waits : goal.returns-then-waits
+returns-then-waits c = call_waits answer_of ActionsWait (Arrives c.args.cid c.args.header.now c.args.cookie) c.args.self.now (sym c.waits.ensures ∙ c.if-waits.true)
+
+pub returns : goal.returns
+returns c = call_taken answer_of ActionsWait (Arrives c.args.cid c.args.header.now c.args.cookie) c.args.self.now c.begin.new.self c.arrive_now-answer.new.self c.end.new.self c.arrive_now-answer.result (sym c.waits.ensures ∙ c.if-waits.false) c.begin.ensures c.arrive_now-answer.ensures.stands c.arrive_now-answer.ensures.answer c.end.ensures

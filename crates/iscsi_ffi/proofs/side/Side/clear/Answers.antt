@@ -1,0 +1,12 @@
+use Rattle.std.proofs.Common.{refl, sym, ◌∙◌}
+use Rattle.iscsi_ffi_rules.specs.rules.Calls.{Clears}
+use Rattle.iscsi_ffi.specs.Answers.{answer_of}
+use Rattle.iscsi_ffi.specs.declared.answer.Answer.TheVariants.{ActionsWait, Done}
+use Rattle.iscsi_ffi.proofs.PublicLemmas.{call_taken, call_waits}
+use Rattle.iscsi_ffi.proofs.side.Side.clear.Goals as goal
+
+pub returns-then-waits : goal.returns-then-waits
+returns-then-waits c = call_waits answer_of ActionsWait (Clears c.args.unit) c.args.self.now (sym c.waits.ensures ∙ c.if-waits.true)
+
+pub returns : goal.returns
+returns c = call_taken answer_of ActionsWait (Clears c.args.unit) c.args.self.now c.begin.new.self c.clear_now.new.self c.end.new.self Done (sym c.waits.ensures ∙ c.if-waits.false) c.begin.ensures c.clear_now.ensures (λ i s b. refl) c.end.ensures

@@ -1,0 +1,13 @@
+use Rattle.std.proofs.Common.{refl, sym, ◌∙◌}
+use Rattle.iscsi_ffi_rules.specs.rules.Calls.{Hears}
+use Rattle.iscsi_ffi_rules.specs.rules.Run.{tag_heard, word_at}
+use Rattle.iscsi_ffi.specs.Answers.{answer_of}
+use Rattle.iscsi_ffi.specs.declared.answer.Answer.TheVariants.{ActionsWait, Done}
+use Rattle.iscsi_ffi.proofs.PublicLemmas.{call_taken, call_waits}
+use Rattle.iscsi_ffi.proofs.side.Side.heard.Goals as goal
+
+pub returns-then-waits : goal.returns-then-waits
+returns-then-waits c = call_waits answer_of ActionsWait (Hears c.args.cid (word_at 28 c.args.header.now) (tag_heard c.args.header.now)) c.args.self.now (sym c.waits.ensures ∙ c.if-waits.true)
+
+pub returns : goal.returns
+returns c = call_taken answer_of ActionsWait (Hears c.args.cid (word_at 28 c.args.header.now) (tag_heard c.args.header.now)) c.args.self.now c.begin.new.self c.heard_now.new.self c.end.new.self Done (sym c.waits.ensures ∙ c.if-waits.false) c.begin.ensures c.heard_now.ensures (λ i s b. refl) c.end.ensures

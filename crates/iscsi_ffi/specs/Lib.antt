@@ -1,0 +1,7 @@
+pub mod Answers
+pub mod Asked
+pub mod Calls
+pub mod Opened
+pub mod Options
+pub mod Standing
+pub mod Held

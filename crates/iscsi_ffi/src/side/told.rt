@@ -1,0 +1,58 @@
+//! What is told, and handed over.
+
+ghost use Rattle.std.specs.Prelude.{◌≡◌, length, min};
+ghost use Rattle.iscsi_ffi_rules.specs.rules.Calls.{Interface};
+ghost use Rattle.iscsi_ffi_steps.specs.Steps.{Going, after, ended, going};
+ghost use Rattle.iscsi_ffi.specs.Standing.{Begun, Stands, is_waiting, taken_one, waiting};
+ghost use Rattle.iscsi_requests.specs.Conns.{oldest};
+
+use crate::side::Side;
+use iscsi_ffi_rules::Action;
+
+impl Side {
+    /// Whether actions of the last call wait.
+    pub fn waits(&self) -> bool
+        ensures { result ≡ is_waiting self.now }
+    {
+        self.given < self.desk.actions().len() || self.forgotten < self.desk.forgets().len()
+    }
+
+    /// How many do, if that fits.
+    pub fn waiting(&self) -> u32
+        ensures { result ≡ min (length (waiting self.now)) 4294967295 }
+    {
+        let actions = self.desk.actions().len().saturating_sub(self.given);
+        let forgets = self.desk.forgets().len().saturating_sub(self.forgotten);
+        actions.saturating_add(forgets).min(4294967295) as u32
+    }
+
+    /// Hands over the next of them.
+    pub fn take_action(&mut self) -> Option<Action>
+        ensures action { result ≡ oldest (waiting self.old) }
+        ensures state { self.new ≡ taken_one self.old }
+    {
+        if let Some(action) = self.desk.actions().get(self.given).copied() {
+            self.given += 1;
+            return Some(action);
+        }
+        let forget = self.desk.forgets().get(self.forgotten).copied()?;
+        self.forgotten += 1;
+        Some(forget)
+    }
+
+    /// A call begins: nothing was told in it yet.
+    pub(super) fn begin(&mut self)
+        ensures { (i : Interface) (g : Going) → Stands i self.old g → Begun i self.new (going (after g)) }
+    {
+        self.desk.begin();
+        self.given = 0;
+        self.forgotten = 0;
+    }
+
+    /// A call ends: it tells who has something to hand out, and what is to be closed.
+    pub(super) fn end(&mut self)
+        ensures { (i : Interface) (g : Going) → Begun i self.old g → Begun i self.new (ended g) }
+    {
+        self.desk.end();
+    }
+}
