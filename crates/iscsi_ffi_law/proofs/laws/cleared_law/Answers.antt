@@ -1,0 +1,5 @@
+use Rattle.iscsi_ffi_law.proofs.Quiet.{cleared_alike}
+use Rattle.iscsi_ffi_law.proofs.laws.cleared_law.Goals as goal
+
+pub returns : goal.returns
+returns c = record { alike = cleared_alike }

@@ -1,0 +1,5 @@
+use Rattle.iscsi_ffi_law.proofs.Putting.{puts_alike}
+use Rattle.iscsi_ffi_law.proofs.laws.puts_law.Goals as goal
+
+pub returns : goal.returns
+returns c = record { alike = puts_alike }

@@ -1,0 +1,5 @@
+use Rattle.iscsi_ffi_law.proofs.Stopping.{stops_alike}
+use Rattle.iscsi_ffi_law.proofs.laws.stops_law.Goals as goal
+
+pub returns : goal.returns
+returns c = record { alike = stops_alike }

@@ -1,0 +1,7 @@
+pub mod Names
+pub mod Uses
+pub mod Parts
+pub mod Stands
+pub mod Fit
+pub mod Alike
+pub mod Lists

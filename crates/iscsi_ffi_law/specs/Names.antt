@@ -1,0 +1,34 @@
+-- The requests that a side keeps, by their places, as the rules know them.
+use Rattle.std.specs.Prelude.{ℕ, ◌+◌, ◌==◌, ◌&&◌, Bool, List, count_by, Option, option_map}
+use Rattle.std.specs.List.{find}
+use Rattle.iscsi_ffi_rules.specs.rules.Sides.{Asked, Noted}
+
+-- a request in its place, by the event in which it arrived
+pub record Name : Type 0 where
+  pub place : ℕ
+  pub event : ℕ
+  pub cookie : ℕ
+
+-- an own PDU that is of no command in its place, by its connection
+pub record Note : Type 0 where
+  pub place : ℕ
+  pub conn : ℕ
+  pub cookie : ℕ
+
+abbrev pub asked_of : Name → Asked
+asked_of n = record { event = n.event; cookie = n.cookie }
+
+abbrev pub noted_of : Note → Noted
+noted_of n = record { conn = n.conn; cookie = n.cookie }
+
+abbrev pub is_of_event : ℕ → Name → Bool
+is_of_event event n = n.event == event
+
+-- the place of the request that arrived in this event
+abbrev pub place_named : List Name → ℕ → Option ℕ
+place_named names event = option_map (λ (n : Name). n.place) (find (is_of_event event) names)
+
+-- how many have this place and this word
+abbrev pub count_words : ℕ → ℕ → List Name → List Note → ℕ
+count_words place cookie names notes =
+    count_by (λ (n : Name). n.place == place && n.cookie == cookie) names + count_by (λ (n : Note). n.place == place && n.cookie == cookie) notes
