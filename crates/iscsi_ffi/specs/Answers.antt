@@ -6,7 +6,7 @@ use Rattle.iscsi_ffi_rules.specs.declared.refusal.Refusal.{Refusal}
 use Rattle.iscsi_ffi_rules.specs.declared.refusal.Refusal.TheVariants.{UnknownConnection as IsUnknown, NotJoined as HasNotJoined, Exhausted as IsExhausted, Busy as IsBusy}
 use Rattle.iscsi_ffi_steps.specs.Steps as steps
 use Rattle.iscsi_ffi.specs.declared.side.outgoing.Next.{Next}
-use Rattle.iscsi_ffi.specs.declared.side.outgoing.Next.TheVariants.{Goes as IsGoing, None as IsNone}
+use Rattle.iscsi_ffi.specs.declared.side.outgoing.Next.TheVariants.{Goes as IsGoing, None as GivesNone}
 use Rattle.iscsi_ffi.specs.declared.answer.Answer.{Answer}
 use Rattle.iscsi_ffi.specs.declared.answer.Answer.TheVariants.{Done, BadOptions, NoMemory, NotOpen, AlreadyOpen, ShortHeader, ShortBuffer, NullPointer, ActionsWait, UnknownConnection, NotJoined, Exhausted, Busy, Stale, CannotJoin, Unfit, Gone, Closed, Full, Nothing, Blocked, Over}
 
@@ -66,11 +66,11 @@ answer_of steps.NoneIsLeft = Over
 -- what `next` gives
 abbrev pub given_of : steps.Answer → Next
 given_of (steps.Goes handed cookie) = IsGoing handed cookie
-given_of steps.Blocked = IsNone Blocked
-given_of steps.NoneGoes = IsNone Nothing
-given_of steps.NoneIsLeft = IsNone Over
-given_of steps.Taken = IsNone Done
-given_of (steps.Refused refusal) = IsNone (of_refusal refusal)
-given_of steps.Stale = IsNone Stale
-given_of (steps.Put refusal) = IsNone (of_put refusal)
-given_of (steps.Joined may) = IsNone (of_join may)
+given_of steps.Blocked = GivesNone Blocked
+given_of steps.NoneGoes = GivesNone Nothing
+given_of steps.NoneIsLeft = GivesNone Over
+given_of steps.Taken = GivesNone Done
+given_of (steps.Refused refusal) = GivesNone (of_refusal refusal)
+given_of steps.Stale = GivesNone Stale
+given_of (steps.Put refusal) = GivesNone (of_put refusal)
+given_of (steps.Joined may) = GivesNone (of_join may)
