@@ -11,15 +11,15 @@ use std::process::Abort;
 use std::test::Fail;
 
 /// The connection.
-const CID: u16 = 1;
+pub(crate) const CID: u16 = 1;
 
 /// The first StatSN of the connection.
-const STAT_SN: u32 = 7;
+pub(crate) const STAT_SN: u32 = 7;
 
 /// The ticket of the first command.
-const TICKET: u64 = 1;
+pub(crate) const TICKET: u64 = 1;
 
-const OPTIONS: PlainOptions = PlainOptions {
+pub(crate) const OPTIONS: PlainOptions = PlainOptions {
     events: 1000,
     size: 48,
     first_cmd_sn: 1,
@@ -61,7 +61,7 @@ fn opened(rt: &impl Abort, alloc: Global, options: &PlainOptions) -> Result<Side
 }
 
 /// A header with CmdSN 1 and an ExpStatSN.
-fn header(opcode: u8, flags: u8, itt: u32, exp_stat_sn: u32) -> [u8; 48] {
+pub(crate) fn header(opcode: u8, flags: u8, itt: u32, exp_stat_sn: u32) -> [u8; 48] {
     let mut header = [0; 48];
     header[0] = opcode;
     header[1] = flags;
@@ -72,7 +72,7 @@ fn header(opcode: u8, flags: u8, itt: u32, exp_stat_sn: u32) -> [u8; 48] {
 }
 
 /// A READ (10) of a block of unit 0.
-fn read() -> [u8; 48] {
+pub(crate) fn read() -> [u8; 48] {
     let mut header = header(0x01, 0xc1, 0xa1, STAT_SN);
     header[32] = 0x28;
     header[40] = 0x01;
@@ -80,7 +80,7 @@ fn read() -> [u8; 48] {
 }
 
 /// An immediate ABORT TASK of it.
-fn abort() -> [u8; 48] {
+pub(crate) fn abort() -> [u8; 48] {
     let mut header = header(0x42, 0x81, 0xb1, STAT_SN);
     header[23] = 0xa1;
     header[35] = 0x01;

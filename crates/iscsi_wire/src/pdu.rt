@@ -1,6 +1,6 @@
 //! The bytes of an encoded reply.
 
-ghost use Rattle.std.specs.Prelude.{◌≡◌, length};
+ghost use Rattle.std.specs.Prelude.{◌≡◌, ◌≤◌, length};
 ghost use Rattle.iscsi_wire.specs.Pdus.{pdu_header, pdu_tail, bytes_of_tail};
 
 /// What follows a reply's header.
@@ -50,7 +50,8 @@ impl Pdu {
 
     /// The data segment: sense of 20 bytes, a rejected header of 48, or nothing.
     pub fn tail(&self) -> &[u8]
-        ensures { result.now ≡ pdu_tail self.now }
+        ensures bytes { result.now ≡ pdu_tail self.now }
+        ensures few { length result.now ≤ 48 }
     {
         match &self.tail {
             Tail::Nothing => &[],

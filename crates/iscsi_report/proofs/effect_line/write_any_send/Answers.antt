@@ -30,7 +30,7 @@ returns-then-is_empty-clause-written c =
     let header : List ℕ = header_of c.args.reply.now c.args.stat_sn c.args.numbers.exp c.args.numbers.max in
     let tail : List ℕ = tail_of c.args.reply.now in
     let empty : c.tail.result.now ≡ [] = search rules in
-    let none : tail ≡ [] = sym c.encode-pdu.ensures.tail ∙ sym c.tail.ensures ∙ empty in
+    let none : tail ≡ [] = sym c.encode-pdu.ensures.tail ∙ sym c.tail.ensures.bytes ∙ empty in
     let digits = alone c.header.result.now header tail (c.header.ensures ∙ c.encode-pdu.ensures.header) none in
     let apart = append_assoc (decimal c.args.conn) (codes " " ++ encode_lower (header ++ tail)) (codes "\n") in
     c.write_header.ensures.written ∙ ap (λ (l : List ℕ). take c.args.at c.args.line.now ++ (codes "  send " ++ l))

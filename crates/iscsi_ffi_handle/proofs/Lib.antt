@@ -1,0 +1,5 @@
+pub mod AsBox
+pub mod ByteLemmas
+pub mod CallLemmas
+pub mod OpenLemmas
+pub mod TellLemmas

@@ -1,0 +1,11 @@
+pub mod Asking
+pub mod Bytes
+pub mod Calling
+pub mod Codes
+pub mod Inside
+pub mod Opening
+pub mod Outgoing
+pub mod Ownership
+pub mod Plain
+pub mod Ready
+pub mod Telling

@@ -1,0 +1,30 @@
+//! What a side tells is handed over.
+
+ghost use Rattle.std.specs.Prelude.{◌≡◌};
+ghost use Rattle.iscsi_ffi_handle.specs.Telling.{places_after, side_after, told_after};
+
+use crate::plain::{PlainAction, PlainTold, plain_action};
+use iscsi_ffi::Side;
+
+/// As many actions are handed over at once at the most.
+const MOST: usize = 4_294_967_295;
+
+/// As many of the actions that wait as have room are written into the first places, and wait no more.
+pub(crate) fn hand_over(side: &mut Side, actions: &mut [PlainAction]) -> PlainTold
+    ensures side { side.new ≡ side_after actions.old side.old }
+    ensures actions { actions.new ≡ places_after actions.old side.old }
+    ensures told { result ≡ told_after actions.old side.old }
+{
+    let room = actions.len().min(MOST);
+    let count = side.waiting().min(room as u32);
+    for index in 0..room {
+        let Some(action) = side.take_action() else {
+            break;
+        };
+        actions[index] = plain_action(action);
+    }
+    PlainTold {
+        count,
+        waiting: side.waiting(),
+    }
+}
