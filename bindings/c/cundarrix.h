@@ -34,7 +34,8 @@
  *
  * A call looks at what may refuse it in this order: CUNDARRIX_NULL_POINTER; CUNDARRIX_SHORT_HEADER or CUNDARRIX_SHORT_BUFFER;
  * CUNDARRIX_NOT_OPEN; CUNDARRIX_ACTIONS_WAIT; and then what stands beside it, in the order in which it stands there. A call that
- * answers anything but CUNDARRIX_OK has changed nothing; only, one that told->count shows to have told actions has told them.
+ * answers anything but CUNDARRIX_OK has changed nothing and tells nothing; but behind CUNDARRIX_NOTHING and CUNDARRIX_OVER the
+ * connection may be told to be ready again.
  */
 #ifndef CUNDARRIX_H
 #define CUNDARRIX_H
