@@ -289,14 +289,23 @@ static void *send_all(void *argument) {
     return NULL;
 }
 
-/* Data goes to the WRITE whose ticket the transfer tag is. That of one that left, or that isn't what comes next, is thrown away. */
+/* Whether a Data-Out is what comes next for a WRITE that isn't to stop: the transfer tag is its ticket. */
+static bool is_for(const uint8_t *header, const struct request *request) {
+    return request->data && request->header[32] == WRITE && !request->stop && ((uint32_t)request->ticket & 0x7fffffff) == number(header + 20)
+        && number(request->header + 16) == number(header + 16) && number(header + 40) == request->arrived
+        && segment(header) <= request->length - request->arrived;
+}
+
+/* What is for no command is thrown away, as that for one that left. */
 static void take_data(const uint8_t *header, const uint8_t *data) {
-    for (struct request *request = requests; request; request = request->next)
-        if (request->ticket && ((uint32_t)request->ticket & 0x7fffffff) == number(header + 20) && !memcmp(request->header + 16, header + 16, 4)
-            && !request->stop && number(header + 40) == request->arrived && segment(header) <= request->length - request->arrived) {
-            memcpy(request->data + request->arrived, data, segment(header));
-            request->arrived += segment(header);
-        }
+    struct request *request = requests;
+    while (request && !is_for(header, request))
+        request = request->next;
+    if (!request)
+        return;
+    memcpy(request->data + request->arrived, data, segment(header));
+    request->arrived += segment(header);
+    pthread_cond_broadcast(&changed);
 }
 
 /* Gives a request to the session, and holds it back while that is busy. Whether the connection goes on. */
