@@ -142,7 +142,7 @@ class Session:
 
     # ---- what comes
 
-    def pump(self, until, seconds=30, cids=None):
+    def pump(self, until, seconds=15, cids=None):
         """Reads connections (all, or those that are named) until this holds, or for so long. Whether it holds."""
         end = time.monotonic() + seconds
         while not until() and time.monotonic() < end:
