@@ -329,6 +329,9 @@ static void test_logout(void) {
     TELLS(forget(80));
     DONE(lose, 1);
     TELLS_NOTHING();
+    GIVES_BARE(2, NOTICE);
+    DONE(written, 2);
+    TELLS_NOTHING();
     GIVES_NONE(2, NOTHING);
     DONE(arrive, 2, logout(2, 0xc2, 2), 48, 81);
     TELLS(ready(2));
