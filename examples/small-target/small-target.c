@@ -6,6 +6,7 @@
    takes for a call and for what that tells; none holds it while it reads, writes or works on the disk. */
 #define _POSIX_C_SOURCE 200809L
 #include <arpa/inet.h>
+#include <netinet/tcp.h>
 #include <pthread.h>
 #include <stdio.h>
 #include <stdlib.h>
@@ -452,6 +453,7 @@ int main(int count, char **words) {
         connection->socket = accept(listener, NULL, NULL);
         if (connection->socket < 0)
             fail("small-target: accept");
+        setsockopt(connection->socket, IPPROTO_TCP, TCP_NODELAY, &yes, sizeof yes);
         pthread_detach(begin_thread(begin_connection, connection));
     }
 }
