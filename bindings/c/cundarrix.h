@@ -19,8 +19,8 @@
  * isn't closed, and behind that the session names it no more: there, and nowhere else, the caller frees what it keeps for that
  * request. A call that answers otherwise has kept no cookie. cundarrix_close gives none back.
  *
- * Memory. cundarrix_open takes all that the session ever needs, from malloc; cundarrix_close gives it back by free. No other call
- * allocates, and only cundarrix_open answers CUNDARRIX_NO_MEMORY. No pointer that is given to a call is kept.
+ * Memory. cundarrix_open takes all that the session ever needs, by malloc and realloc; cundarrix_close gives it back by free. No other call
+ * allocates or frees, and only cundarrix_open answers CUNDARRIX_NO_MEMORY. No pointer that is given to a call is kept.
  *
  * Threads. Any thread may make any call; calls on one session are made one at a time, by a lock of the caller's or a thread of its
  * own. What one call told is carried out in the order of the calls. Sessions share nothing. No call blocks. No call may be made
@@ -30,7 +30,7 @@
  *   - a cundarrix_session begins as CUNDARRIX_CLOSED, and C never writes nor copies its fields;
  *   - each pointer that isn't NULL points to what its type says, for as many elements as the length beside it, and no two of the
  *     pointers of a call overlap;
- *   - malloc and free are of one allocator.
+ *   - malloc, realloc and free are of one allocator.
  *
  * A call looks at what may refuse it in this order: CUNDARRIX_NULL_POINTER; CUNDARRIX_SHORT_HEADER or CUNDARRIX_SHORT_BUFFER;
  * CUNDARRIX_NOT_OPEN; CUNDARRIX_ACTIONS_WAIT; and then what stands beside it, in the order in which it stands there. A call that

@@ -40,10 +40,10 @@ class Connection:
         whole[28:32] = self.stat_sn.to_bytes(4, "big")
         self.socket.sendall(bytes(whole) + data + bytes(-len(data) % 4))
 
-    def receive(self):
+    def receive(self, most=1 << 18):
         """The PDUs that are whole by what can be read now: headers with their data."""
         try:
-            came = self.socket.recv(1 << 18)
+            came = self.socket.recv(most)
         except ConnectionError:
             came = b""
         self.is_closed = not came
@@ -155,6 +155,17 @@ class Session:
                 for header, data in connection.receive():
                     self.take(connection, header, data)
         return until()
+
+    def sip(self, cid, until):
+        """Reads a connection a little at a time, so that much of it stays unread, and the others, until this holds."""
+        end = time.monotonic() + 15
+        while not until() and time.monotonic() < end:
+            others = [other for other in self.connections if other != cid]
+            self.pump(until, 0.005, others)
+            connection = self.connections[cid]
+            if not until() and select.select([connection.socket], [], [], 0)[0]:
+                for header, data in connection.receive(16384):
+                    self.take(connection, header, data)
 
     def take(self, connection, header, data):
         opcode, tag = header[0], word(header, 16)
