@@ -172,6 +172,30 @@ static void test_memory(void) {
     CHECK(held == 0);
 }
 
+/* What an opening asks for, by docs/USING.md. */
+static size_t formula(const cundarrix_options *options, size_t connections) {
+    return 71724 + (size_t)5556 * options->window + (size_t)(160 + 48 * options->depth) * options->units
+        + (59626 + (size_t)462 * options->own + (size_t)328 * options->unwritten) * connections;
+}
+
+/* It asks for that, to a KiB: for usual sessions, the least one and the greatest. */
+static void test_formula(void) {
+    static const uint32_t rows[][6] = {{32, 1, 64, 64, 16, 1}, {32, 4, 64, 64, 16, 4}, {128, 32, 64, 64, 16, 8}, {128, 256, 1024, 1, 1, 1},
+                                       {1, 1, 1, 1, 1, 1}, {1024, 256, 1024, 1024, 1024, 64}};
+    cundarrix_options options = CUNDARRIX_OPTIONS;
+    uint16_t cids[64];
+    for (uint16_t index = 0; index < 64; index++)
+        cids[index] = index;
+    for (size_t row = 0; row < sizeof rows / sizeof *rows; row++) {
+        options.window = rows[row][0], options.units = rows[row][1], options.depth = rows[row][2];
+        options.own = rows[row][3], options.unwritten = rows[row][4];
+        bytes = 0;
+        CHECK(cundarrix_open(&side, &options, cids, rows[row][5]) == CUNDARRIX_OK);
+        CHECK(bytes < formula(&options, rows[row][5]) + 1024 && bytes + 1024 > formula(&options, rows[row][5]));
+        CHECK(cundarrix_close(&side) == CUNDARRIX_OK && held == 0);
+    }
+}
+
 /* ---- room */
 
 /* Each call that tells is refused, and tells nothing, while actions wait. What only asks is answered. */
@@ -305,6 +329,7 @@ int main(void) {
     test_options();
     test_cids();
     test_memory();
+    test_formula();
     test_small_room();
     test_busy();
     test_exhausted();
