@@ -1,357 +1,339 @@
-/* Tests of cundarrix.h: the layout of its structs, and each function with each of its answers. It prints nothing and
-   ends with status 0 where all is well; otherwise it prints a line and ends with status 1.
+/* Tests of cundarrix.h: what each function refuses, options, memory, arrays that are too small, limits, and the words for it all. */
+#include "testing.h"
 
-   Linked with -Wl,--wrap=malloc,--wrap=realloc,--wrap=free, since it refuses memory and counts what is held. */
-#include <stdio.h>
-#include <stdlib.h>
-#include <string.h>
+/* ---- what is refused before anything else */
 
-#include "cundarrix.h"
-
-#define OFFSET(type, field, offset) _Static_assert(offsetof(type, field) == (offset), #type "." #field)
-#define SIZE(type, size) _Static_assert(sizeof(type) == (size), #type)
-
-SIZE(cundarrix_session, 2 * sizeof(void *));
-OFFSET(cundarrix_session, open, 0);
-OFFSET(cundarrix_session, at, sizeof(void *));
-SIZE(cundarrix_options, 32);
-OFFSET(cundarrix_options, events, 0);
-OFFSET(cundarrix_options, first_cmd_sn, 8);
-OFFSET(cundarrix_options, window, 12);
-OFFSET(cundarrix_options, units, 16);
-OFFSET(cundarrix_options, depth, 20);
-OFFSET(cundarrix_options, level, 24);
-SIZE(cundarrix_connection, 8);
-OFFSET(cundarrix_connection, first_stat_sn, 0);
-OFFSET(cundarrix_connection, cid, 4);
-SIZE(cundarrix_effect, 120);
-OFFSET(cundarrix_effect, ticket, 0);
-OFFSET(cundarrix_effect, sn, 8);
-OFFSET(cundarrix_effect, cid, 12);
-OFFSET(cundarrix_effect, unit, 14);
-OFFSET(cundarrix_effect, kind, 16);
-OFFSET(cundarrix_effect, attribute, 17);
-OFFSET(cundarrix_effect, reason, 18);
-OFFSET(cundarrix_effect, tail_length, 19);
-OFFSET(cundarrix_effect, header, 20);
-OFFSET(cundarrix_effect, tail, 68);
-OFFSET(cundarrix_effect, reserved, 116);
-SIZE(cundarrix_numbers, 8);
-OFFSET(cundarrix_numbers, exp_cmd_sn, 0);
-OFFSET(cundarrix_numbers, max_cmd_sn, 4);
-
-#define CHECK(is_so) check((is_so), __LINE__, #is_so)
-
-static void check(bool is_so, int line, const char *text) {
-    if (is_so)
-        return;
-    printf("test.c:%d: not so: %s\n", line, text);
-    exit(1);
-}
-
-/* Memory that is refused: so many requests are granted; all, where it is below 0. */
-static long granted = -1;
-static size_t requests;
-/* How many blocks the library and this test hold: taken and not freed. */
-static long held;
-
-void *__real_malloc(size_t size);
-void *__real_realloc(void *block, size_t size);
-void __real_free(void *block);
-
-static bool is_refused(void) {
-    requests++;
-    if (granted == 0)
-        return true;
-    if (granted > 0)
-        granted--;
-    return false;
-}
-
-void *__wrap_malloc(size_t size) {
-    void *block = is_refused() ? NULL : __real_malloc(size);
-    held += block != NULL;
-    return block;
-}
-
-void *__wrap_realloc(void *block, size_t size) {
-    void *moved = is_refused() ? NULL : __real_realloc(block, size);
-    held += block == NULL && moved != NULL;
-    return moved;
-}
-
-void __wrap_free(void *block) {
-    held -= block != NULL;
-    __real_free(block);
-}
-
-static const cundarrix_options usual = {
-    .events = 100, .first_cmd_sn = 1, .window = 4, .units = 2, .depth = 8, .level = 1};
-static const cundarrix_connection connections[2] = {{.first_stat_sn = 1, .cid = 1}, {.first_stat_sn = 16, .cid = 2}};
-
-enum { TAG = 0xa1, HEADER = 48 };
-
-/* A request: byte 0 and 1, the unit, and CmdSN. Its tag is TAG plus the CmdSN. */
-static void make_header(uint8_t header[HEADER], uint8_t opcode, uint8_t flags, uint8_t unit, uint8_t cmd_sn) {
-    memset(header, 0, HEADER);
-    header[0] = opcode;
-    header[1] = flags;
-    header[9] = unit;
-    header[19] = (uint8_t)(TAG + cmd_sn);
-    header[27] = cmd_sn;
-}
-
-static cundarrix_result arrive(cundarrix_session *session, uint16_t cid, uint8_t opcode, uint8_t flags, uint8_t unit,
-                               uint8_t cmd_sn) {
-    uint8_t header[HEADER];
-    make_header(header, opcode, flags, unit, cmd_sn);
-    return cundarrix_arrive(session, cid, header, sizeof header);
-}
-
-/* The effect at an index, which is there and has this kind. */
-static cundarrix_effect effect_of(cundarrix_session *session, size_t index, uint8_t kind) {
-    static const uint8_t nothing[4];
-    cundarrix_effect effect;
-    memset(&effect, 0xee, sizeof effect);
-    CHECK(cundarrix_effect_at(session, index, &effect) == CUNDARRIX_OK);
-    CHECK(effect.kind == kind);
-    CHECK(memcmp(effect.reserved, nothing, sizeof nothing) == 0);
-    return effect;
-}
+#define IS_NULL(name, ...) CHECK(cundarrix_##name(__VA_ARGS__) == CUNDARRIX_NULL_POINTER)
+/* A call that tells with each of its pointers NULL, `told` is zeros where there is one. */
+#define NULLS(name, ...) \
+    do { \
+        poison(); \
+        IS_NULL(name, NULL, __VA_ARGS__, actions, ROOM, &told); \
+        CHECK(told.count == 0 && told.waiting == 0); \
+        IS_NULL(name, &side, __VA_ARGS__, NULL, 1, &told); \
+        IS_NULL(name, &side, __VA_ARGS__, actions, ROOM, NULL); \
+    } while (0)
 
 static void test_null(void) {
-    cundarrix_session session = CUNDARRIX_CLOSED;
-    cundarrix_effect effect;
+    const cundarrix_options options = CUNDARRIX_OPTIONS;
+    const uint16_t cid = 1;
     cundarrix_numbers numbers;
-    uint8_t header[HEADER] = {0};
-    CHECK(cundarrix_open(NULL, &usual, connections, 2) == CUNDARRIX_NULL_POINTER);
-    CHECK(cundarrix_open(&session, NULL, connections, 2) == CUNDARRIX_NULL_POINTER);
-    CHECK(cundarrix_open(&session, &usual, NULL, 2) == CUNDARRIX_NULL_POINTER);
-    CHECK(cundarrix_arrive(NULL, 1, header, HEADER) == CUNDARRIX_NULL_POINTER);
-    CHECK(cundarrix_arrive(&session, 1, NULL, HEADER) == CUNDARRIX_NULL_POINTER);
-    CHECK(cundarrix_complete(NULL, 1, 0) == CUNDARRIX_NULL_POINTER);
-    CHECK(cundarrix_effect_count(NULL) == 0);
-    CHECK(cundarrix_effect_at(NULL, 0, &effect) == CUNDARRIX_NULL_POINTER);
-    CHECK(cundarrix_effect_at(&session, 0, NULL) == CUNDARRIX_NULL_POINTER);
-    CHECK(cundarrix_numbers_now(NULL, &numbers) == CUNDARRIX_NULL_POINTER);
-    CHECK(cundarrix_numbers_now(&session, NULL) == CUNDARRIX_NULL_POINTER);
-    CHECK(cundarrix_close(NULL) == CUNDARRIX_NULL_POINTER);
-    CHECK(!session.open && !session.at);
+    IS_NULL(open, NULL, &options, &cid, 1);
+    IS_NULL(open, &side, NULL, &cid, 1);
+    IS_NULL(open, &side, &options, NULL, 1);
+    NULLS(arrive, 1, header, sizeof header, 7);
+    NULLS(complete, 1, 0);
+    NULLS(stopped, 1);
+    NULLS(next, 1, buffer, sizeof buffer, &pdu);
+    NULLS(put, 1, 0, header, sizeof header, 7);
+    NULLS(written, 1);
+    NULLS(heard, 1, header, sizeof header);
+    NULLS(join, 1, 1);
+    NULLS(lose, 1);
+    NULLS(clear, 0);
+    NULLS(cleared, 0);
+    IS_NULL(arrive, &side, 1, NULL, 48, 7, actions, ROOM, &told);
+    IS_NULL(put, &side, 1, 0, NULL, 48, 7, actions, ROOM, &told);
+    IS_NULL(heard, &side, 1, NULL, 48, actions, ROOM, &told);
+    IS_NULL(next, &side, 1, NULL, 96, &pdu, actions, ROOM, &told);
+    IS_NULL(next, &side, 1, buffer, 96, NULL, actions, ROOM, &told);
+    IS_NULL(more, NULL, actions, ROOM, &told);
+    IS_NULL(more, &side, NULL, 1, &told);
+    IS_NULL(more, &side, actions, ROOM, NULL);
+    IS_NULL(numbers_now, NULL, &numbers);
+    IS_NULL(numbers_now, &side, NULL);
+    CHECK(!cundarrix_may_take(NULL) && !cundarrix_is_asked(NULL, 1) && !cundarrix_may_join(NULL, 1));
+    IS_NULL(close, NULL);
+    CHECK(!side.open && !side.at);
 }
 
-/* Each call but an opening on a session that isn't open. */
-static void expect_closed(cundarrix_session *session) {
-    cundarrix_effect effect, untouched;
+/* Each call but an opening on a session that isn't open, and what is looked at before that. */
+static void expect_closed(void) {
     cundarrix_numbers numbers = {7, 9};
-    memset(&effect, 0xee, sizeof effect);
-    memset(&untouched, 0xee, sizeof untouched);
-    CHECK(arrive(session, 1, 0x01, 0x81, 0, 1) == CUNDARRIX_NOT_OPEN);
-    CHECK(cundarrix_complete(session, 1, 0) == CUNDARRIX_NOT_OPEN);
-    CHECK(cundarrix_effect_count(session) == 0);
-    CHECK(cundarrix_effect_at(session, 0, &effect) == CUNDARRIX_NOT_OPEN);
-    CHECK(memcmp(&effect, &untouched, sizeof effect) == 0);
-    CHECK(cundarrix_numbers_now(session, &numbers) == CUNDARRIX_NOT_OPEN);
+    REFUSED(SHORT_HEADER, arrive, 1, header, 47, 7);
+    REFUSED(SHORT_HEADER, put, 1, 0, header, 47, 7);
+    REFUSED(SHORT_HEADER, heard, 1, header, 47);
+    REFUSED(SHORT_BUFFER, next, 1, buffer, 95, &pdu);
+    REFUSED(NOT_OPEN, arrive, 1, header, 48, 7);
+    REFUSED(NOT_OPEN, complete, 1, 0);
+    REFUSED(NOT_OPEN, stopped, 1);
+    GIVES_NONE(1, NOT_OPEN);
+    REFUSED(NOT_OPEN, put, 1, 0, header, 48, 7);
+    REFUSED(NOT_OPEN, written, 1);
+    REFUSED(NOT_OPEN, heard, 1, header, 48);
+    REFUSED(NOT_OPEN, join, 1, 1);
+    REFUSED(NOT_OPEN, lose, 1);
+    REFUSED(NOT_OPEN, clear, 0);
+    REFUSED(NOT_OPEN, cleared, 0);
+    poison();
+    CHECK(cundarrix_more(&side, actions, ROOM, &told) == CUNDARRIX_NOT_OPEN);
+    TELLS_NOTHING();
+    CHECK(cundarrix_numbers_now(&side, &numbers) == CUNDARRIX_NOT_OPEN);
     CHECK(numbers.exp_cmd_sn == 7 && numbers.max_cmd_sn == 9);
-    CHECK(cundarrix_close(session) == CUNDARRIX_NOT_OPEN);
-    CHECK(!session->open);
+    CHECK(!cundarrix_may_take(&side) && !cundarrix_is_asked(&side, 1) && !cundarrix_may_join(&side, 1));
+    CHECK(cundarrix_close(&side) == CUNDARRIX_NOT_OPEN);
+    CHECK(!side.open);
 }
 
-static void refuse(cundarrix_options options, size_t count) {
-    cundarrix_session session = CUNDARRIX_CLOSED;
-    CHECK(cundarrix_open(&session, &options, connections, count) == CUNDARRIX_BAD_OPTIONS);
-    expect_closed(&session);
+static void refuse(cundarrix_options options) {
+    const uint16_t cid = 1;
+    CHECK(cundarrix_open(&side, &options, &cid, 1) == CUNDARRIX_BAD_OPTIONS);
+    CHECK(!side.open && held == 0);
+}
+
+static void accept(cundarrix_options options) {
+    const uint16_t cid = 1;
+    CHECK(cundarrix_open(&side, &options, &cid, 1) == CUNDARRIX_OK);
+    CHECK(cundarrix_close(&side) == CUNDARRIX_OK);
+    CHECK(held == 0);
+}
+
+/* The least and the greatest of an option are taken, and what is beside them isn't. */
+#define LIMITS(field, least, most) \
+    do { \
+        cundarrix_options options = usual(); \
+        options.field = (least); \
+        accept(options); \
+        options.field = (most); \
+        accept(options); \
+        options.field = (least) - 1; \
+        refuse(options); \
+        options.field = (most) + 1; \
+        refuse(options); \
+    } while (0)
+
+static void test_limits(void) {
+    LIMITS(events, 1, (uint64_t)1 << 48);
+    LIMITS(window, 1, 1024);
+    LIMITS(units, 1, 256);
+    LIMITS(depth, 1, 1024);
+    LIMITS(level, 1, 2);
+    LIMITS(own, 1, 1024);
+    LIMITS(unwritten, 1, 1024);
 }
 
 static void test_options(void) {
-    const cundarrix_connection twice[2] = {{1, 3}, {2, 3}};
-    cundarrix_session session = CUNDARRIX_CLOSED;
-    cundarrix_options wrong = usual;
-    refuse(usual, 0);
-    wrong.events = 0;
-    refuse(wrong, 2);
-    wrong.events = ((uint64_t)1 << 48) + 1;
-    refuse(wrong, 2);
-    wrong = usual, wrong.window = 1025;
-    refuse(wrong, 2);
-    wrong = usual, wrong.units = 257;
-    refuse(wrong, 2);
-    wrong = usual, wrong.depth = 0;
-    refuse(wrong, 2);
-    wrong = usual, wrong.level = 3;
-    refuse(wrong, 2);
-    CHECK(cundarrix_open(&session, &usual, twice, 2) == CUNDARRIX_BAD_OPTIONS);
-    expect_closed(&session);
+    cundarrix_options options = usual();
+    for (int flag = 0; flag <= 1; flag++) {
+        options = usual();
+        options.acknowledged = options.shared = (uint8_t)flag;
+        accept(options);
+    }
+    options.acknowledged = 2;
+    refuse(options);
+    options = usual();
+    options.shared = 2;
+    refuse(options);
+    for (int byte = 0; byte < 6; byte++) {
+        options = usual();
+        options.reserved[byte] = 1;
+        refuse(options);
+    }
+    options = usual();
+    options.size = 47;
+    refuse(options);
+    options.size = 49;
+    refuse(options);
 }
 
-/* Each request for memory of an opening is refused in turn. */
+static void test_cids(void) {
+    const cundarrix_options options = usual();
+    uint16_t cids[65];
+    for (uint16_t index = 0; index < 65; index++)
+        cids[index] = (uint16_t)(65535 - index);
+    CHECK(cundarrix_open(&side, &options, cids, 0) == CUNDARRIX_BAD_OPTIONS);
+    CHECK(cundarrix_open(&side, &options, cids, 65) == CUNDARRIX_BAD_OPTIONS);
+    CHECK(cundarrix_open(&side, &options, cids, 64) == CUNDARRIX_OK);
+    CHECK(cundarrix_may_join(&side, 65472) && !cundarrix_may_join(&side, 65471));
+    CHECK(cundarrix_open(&side, &options, cids, 64) == CUNDARRIX_ALREADY_OPEN);
+    CHECK(cundarrix_open(&side, &options, cids, 0) == CUNDARRIX_ALREADY_OPEN);
+    CHECK(cundarrix_close(&side) == CUNDARRIX_OK);
+    cids[63] = cids[0];
+    CHECK(cundarrix_open(&side, &options, cids, 64) == CUNDARRIX_BAD_OPTIONS);
+    expect_closed();
+}
+
+/* Each request for memory of an opening is refused in turn: none of what was granted is lost. */
 static void test_memory(void) {
-    cundarrix_session session = CUNDARRIX_CLOSED;
+    const cundarrix_options options = usual();
+    const uint16_t cids[2] = {1, 2};
     cundarrix_result answer = CUNDARRIX_NO_MEMORY;
     long refused = 0;
     for (; answer == CUNDARRIX_NO_MEMORY; refused++) {
         granted = refused;
-        answer = cundarrix_open(&session, &usual, connections, 2);
+        answer = cundarrix_open(&side, &options, cids, 2);
         granted = -1;
+        CHECK(held == 0 || answer == CUNDARRIX_OK);
         if (answer == CUNDARRIX_NO_MEMORY)
-            expect_closed(&session);
+            expect_closed();
     }
-    CHECK(answer == CUNDARRIX_OK && refused > 1);
-    CHECK(cundarrix_close(&session) == CUNDARRIX_OK);
+    CHECK(answer == CUNDARRIX_OK && refused > 10);
+    CHECK(cundarrix_close(&side) == CUNDARRIX_OK);
+    CHECK(held == 0);
 }
 
-/* Every effect of the last event can be read, and none behind the last one. */
-static void test_end_of_effects(cundarrix_session *session, size_t count) {
-    cundarrix_effect effect, untouched;
-    memset(&effect, 0xee, sizeof effect);
-    memset(&untouched, 0xee, sizeof untouched);
-    CHECK(cundarrix_effect_count(session) == count);
-    CHECK(cundarrix_effect_at(session, count, &effect) == CUNDARRIX_NO_EFFECT);
-    CHECK(cundarrix_effect_at(session, SIZE_MAX, &effect) == CUNDARRIX_NO_EFFECT);
-    CHECK(memcmp(&effect, &untouched, sizeof effect) == 0);
+/* What an opening asks for, by docs/USING.md. */
+static size_t formula(const cundarrix_options *options, size_t connections) {
+    return 71724 + (size_t)5556 * options->window + (size_t)(160 + 48 * options->depth) * options->units
+        + (59626 + (size_t)462 * options->own + (size_t)328 * options->unwritten) * connections;
 }
 
-static void expect_numbers(cundarrix_session *session, uint32_t exp_cmd_sn, uint32_t max_cmd_sn) {
+/* It asks for that, to a KiB: for usual sessions, the least one and the greatest. */
+static void test_formula(void) {
+    static const uint32_t rows[][6] = {{32, 1, 64, 64, 16, 1}, {32, 4, 64, 64, 16, 4}, {128, 32, 64, 64, 16, 8}, {128, 256, 1024, 1, 1, 1},
+                                       {1, 1, 1, 1, 1, 1}, {1024, 256, 1024, 1024, 1024, 64}};
+    cundarrix_options options = CUNDARRIX_OPTIONS;
+    uint16_t cids[64];
+    for (uint16_t index = 0; index < 64; index++)
+        cids[index] = index;
+    for (size_t row = 0; row < sizeof rows / sizeof *rows; row++) {
+        options.window = rows[row][0], options.units = rows[row][1], options.depth = rows[row][2];
+        options.own = rows[row][3], options.unwritten = rows[row][4];
+        bytes = 0;
+        CHECK(cundarrix_open(&side, &options, cids, rows[row][5]) == CUNDARRIX_OK);
+        CHECK(bytes < formula(&options, rows[row][5]) + 1024 && bytes + 1024 > formula(&options, rows[row][5]));
+        CHECK(cundarrix_close(&side) == CUNDARRIX_OK && held == 0);
+    }
+}
+
+/* ---- room */
+
+/* Each call that tells is refused, and tells nothing, while actions wait. What only asks is answered. */
+static void expect_waiting(void) {
     cundarrix_numbers numbers = {0, 0};
-    CHECK(cundarrix_numbers_now(session, &numbers) == CUNDARRIX_OK);
-    CHECK(numbers.exp_cmd_sn == exp_cmd_sn && numbers.max_cmd_sn == max_cmd_sn);
+    REFUSED(ACTIONS_WAIT, arrive, 2, nop_out(5, 0xffffffff, 4), 48, 7);
+    REFUSED(ACTIONS_WAIT, complete, 2, 0);
+    REFUSED(ACTIONS_WAIT, stopped, 1);
+    GIVES_NONE(2, ACTIONS_WAIT);
+    REFUSED(ACTIONS_WAIT, put, 2, 0, nop_in(5), 48, 7);
+    REFUSED(ACTIONS_WAIT, written, 2);
+    REFUSED(ACTIONS_WAIT, heard, 2, nop_out(5, 0xffffffff, 4), 48);
+    REFUSED(ACTIONS_WAIT, join, 2, 1);
+    REFUSED(ACTIONS_WAIT, lose, 2);
+    REFUSED(ACTIONS_WAIT, clear, 0);
+    REFUSED(ACTIONS_WAIT, cleared, 0);
+    REFUSED(SHORT_HEADER, arrive, 2, header, 47, 7);
+    CHECK(cundarrix_numbers_now(&side, &numbers) == CUNDARRIX_OK && numbers.exp_cmd_sn == 3);
+    CHECK(cundarrix_may_take(&side) && !cundarrix_is_asked(&side, 2) && !cundarrix_may_join(&side, 2));
 }
 
-/* A command from its arrival to its response. */
-static void test_command(cundarrix_session *session) {
-    uint8_t header[HEADER];
-    cundarrix_effect effect;
-    make_header(header, 0x01, 0x82, 1, 1);
-    expect_numbers(session, 1, 4);
-    CHECK(arrive(session, 1, 0x01, 0x82, 1, 1) == CUNDARRIX_OK);
-    test_end_of_effects(session, 3);
-    effect = effect_of(session, 0, CUNDARRIX_DELIVER);
-    CHECK(effect.cid == 1 && effect.sn == 1 && memcmp(effect.header, header, HEADER) == 0);
-    effect = effect_of(session, 1, CUNDARRIX_ENTER);
-    CHECK(effect.ticket == 1 && effect.unit == 1 && effect.attribute == CUNDARRIX_ORDERED);
-    CHECK(effect.cid == 1 && effect.sn == 1 && memcmp(effect.header, header, HEADER) == 0);
-    effect = effect_of(session, 2, CUNDARRIX_ENABLE);
-    CHECK(effect.ticket == 1 && effect.unit == 1);
-    expect_numbers(session, 2, 4);
-    CHECK(cundarrix_complete(session, 1, 0x08) == CUNDARRIX_OK);
-    test_end_of_effects(session, 2);
-    effect = effect_of(session, 0, CUNDARRIX_LEAVE);
-    CHECK(effect.ticket == 1 && effect.unit == 1);
-    effect = effect_of(session, 1, CUNDARRIX_SEND);
-    CHECK(effect.cid == 1 && effect.sn == 1 && effect.header[0] == 0x21 && effect.header[3] == 0x08);
-    CHECK(effect.header[19] == TAG + 1 && effect.tail_length == 0);
-    expect_numbers(session, 2, 5);
+/* The next action comes alone, and so many wait behind it. */
+static void expect_more(cundarrix_action wanted, uint32_t waiting) {
+    poison();
+    CHECK(cundarrix_more(&side, actions, 1, &told) == CUNDARRIX_OK);
+    CHECK(told.count == 1 && told.waiting == waiting && actions[1].kind == POISON);
+    CHECK(!memcmp(actions, &wanted, sizeof wanted));
 }
 
-/* The replies that carry data, and what is passed over. */
-static void test_replies(cundarrix_session *session) {
-    cundarrix_effect effect;
-    CHECK(arrive(session, 2, 0x01, 0x81, 9, 2) == CUNDARRIX_OK);
-    effect = effect_of(session, 1, CUNDARRIX_SEND);
-    CHECK(effect.cid == 2 && effect.sn == 16 && effect.tail_length == 20);
-    CHECK(effect.tail[1] == 18 && effect.tail[4] == 5 && effect.tail[14] == 0x25);
-    CHECK(arrive(session, 2, 0x1f, 0x80, 0, 3) == CUNDARRIX_OK);
-    effect = effect_of(session, 0, CUNDARRIX_SEND);
-    CHECK(effect.sn == 17 && effect.header[0] == 0x3f && effect.tail_length == 48 && effect.tail[0] == 0x1f);
-    CHECK(arrive(session, 2, 0x01, 0x81, 0, 1) == CUNDARRIX_OK);
-    CHECK(effect_of(session, 0, CUNDARRIX_IGNORE).reason == CUNDARRIX_OUTSIDE);
-    CHECK(arrive(session, 2, 0x01, 0x81, 0, 4) == CUNDARRIX_OK);
-    test_end_of_effects(session, 0);
-    CHECK(arrive(session, 1, 0x01, 0x81, 0, 4) == CUNDARRIX_OK);
-    CHECK(effect_of(session, 0, CUNDARRIX_IGNORE).reason == CUNDARRIX_DUPLICATE);
-    CHECK(arrive(session, 1, 0x05, 0x80, 0, 3) == CUNDARRIX_OK);
-    CHECK(effect_of(session, 0, CUNDARRIX_IGNORE).reason == CUNDARRIX_DATA);
-    CHECK(cundarrix_complete(session, 99, 0) == CUNDARRIX_OK);
-    CHECK(effect_of(session, 0, CUNDARRIX_IGNORE).reason == CUNDARRIX_STALE);
+/* An array that is too small: what it has no room for waits, and comes in its order, none twice. */
+static void test_small_room(void) {
+    open_with(usual(), 2);
+    for (uint32_t number = 1; number <= 2; number++) {
+        DONE(arrive, 1, command(CUNDARRIX_SIMPLE, 0, number), 48, 70 + number);
+        TELLS(start(number, 0, CUNDARRIX_SIMPLE, 70 + number));
+    }
+    DONE(arrive, 1, command(CUNDARRIX_SIMPLE, 0, 4), 48, 74);
+    TELLS_NOTHING();
+    poison();
+    CHECK(cundarrix_lose(&side, 1, NULL, 0, &told) == CUNDARRIX_OK);
+    CHECK(told.count == 0 && told.waiting == 4);
+    expect_waiting();
+    expect_more(stop(1, 71, CUNDARRIX_LOST), 3);
+    expect_waiting();
+    poison();
+    CHECK(cundarrix_more(&side, NULL, 0, &told) == CUNDARRIX_OK);
+    CHECK(told.count == 0 && told.waiting == 3);
+    expect_more(stop(2, 72, CUNDARRIX_LOST), 2);
+    poison();
+    CHECK(cundarrix_more(&side, actions, ROOM, &told) == CUNDARRIX_OK);
+    TELLS(ready(2), forget(74));
+    poison();
+    CHECK(cundarrix_more(&side, actions, ROOM, &told) == CUNDARRIX_OK);
+    TELLS_NOTHING();
+    DONE(stopped, 2);
+    TELLS(forget(72));
+    close_side();
 }
 
-/* A function that waits, a number that is voided, and a session that is closed. */
-static void test_functions(cundarrix_session *session) {
-    uint8_t header[HEADER];
-    CHECK(arrive(session, 1, 0x42, 0x82, 0, 5) == CUNDARRIX_OK);
-    CHECK(effect_of(session, 0, CUNDARRIX_WAIT).sn == 5);
-    make_header(header, 0x42, 0x81, 0, 6);
-    memset(header + 20, 0xff, 4);
-    header[35] = 3;
-    CHECK(cundarrix_arrive(session, 1, header, HEADER + 1) == CUNDARRIX_OK);
-    CHECK(effect_of(session, 0, CUNDARRIX_IMMEDIATE).cid == 1);
-    CHECK(effect_of(session, 1, CUNDARRIX_VOID).sn == 3);
-    CHECK(effect_of(session, 2, CUNDARRIX_SEND).header[0] == 0x22);
-    CHECK(effect_of(session, 3, CUNDARRIX_DELIVER).sn == 4);
-    CHECK(effect_of(session, 4, CUNDARRIX_ENTER).attribute == CUNDARRIX_SIMPLE);
-    CHECK(effect_of(session, 5, CUNDARRIX_ENABLE).ticket == 2);
-    CHECK(effect_of(session, 6, CUNDARRIX_IMMEDIATE).sn == 5);
-    CHECK(effect_of(session, 7, CUNDARRIX_LEAVE).ticket == 2);
-    CHECK(effect_of(session, 8, CUNDARRIX_SEND).header[19] == TAG + 5);
-    test_end_of_effects(session, 9);
-    CHECK(arrive(session, 2, 0x01, 0x81, 0, 6) == CUNDARRIX_OK);
-    CHECK(arrive(session, 1, 0x46, 0x80, 0, 7) == CUNDARRIX_OK);
-    CHECK(effect_of(session, 0, CUNDARRIX_IMMEDIATE).sn == 7);
-    CHECK(effect_of(session, 1, CUNDARRIX_EMPTY).sn == 6);
-    CHECK(effect_of(session, 2, CUNDARRIX_SEND).header[0] == 0x26);
-    (void)effect_of(session, cundarrix_effect_count(session) - 1, CUNDARRIX_CLOSE_SESSION);
-    CHECK(arrive(session, 1, 0x01, 0x83, 0, 5) == CUNDARRIX_OK);
-    CHECK(effect_of(session, 0, CUNDARRIX_IGNORE).reason == CUNDARRIX_AFTER_CLOSE);
+/* No more requests are taken than have room, until something goes out. */
+static void test_busy(void) {
+    cundarrix_options options = usual();
+    uint64_t cookie = 100;
+    options.window = 1;
+    open_with(options, 1);
+    while (cundarrix_may_take(&side)) {
+        DONE(arrive, 1, nop_out((uint32_t)cookie, 0xffffffff, 1), 48, cookie);
+        CHECK(told.count == (cookie == 100) && told.waiting == 0);
+        cookie++;
+    }
+    CHECK(cookie == 100 + 2 * (1 + 12));
+    REFUSED(BUSY, arrive, 1, nop_out(5, 0xffffffff, 1), 48, cookie);
+    DONE(heard, 1, header, 48);
+    TELLS_NOTHING();
+    GIVES(1, REPLY, 100);
+    CHECK(cundarrix_may_take(&side));
+    DONE(arrive, 1, nop_out(5, 0xffffffff, 1), 48, cookie);
+    TELLS_NOTHING();
+    DONE(written, 1);
+    TELLS(forget(100));
+    close_side();
 }
 
-/* A connection that closes, and a HEAD OF QUEUE command of another one. */
-static void test_connections(void) {
-    cundarrix_session session = CUNDARRIX_CLOSED;
-    uint8_t header[HEADER];
-    CHECK(cundarrix_open(&session, &usual, connections, 2) == CUNDARRIX_OK);
-    CHECK(arrive(&session, 1, 0x01, 0x83, 0, 1) == CUNDARRIX_OK);
-    CHECK(effect_of(&session, 1, CUNDARRIX_ENTER).attribute == CUNDARRIX_HEAD_OF_QUEUE);
-    make_header(header, 0x46, 0x81, 0, 2);
-    header[21] = 2;
-    CHECK(cundarrix_arrive(&session, 1, header, HEADER) == CUNDARRIX_OK);
-    CHECK(effect_of(&session, 2, CUNDARRIX_CLOSE_CONNECTION).cid == 2);
-    CHECK(cundarrix_close(&session) == CUNDARRIX_OK);
-    expect_closed(&session);
+/* Events are kept back for what is live. */
+static void test_exhausted(void) {
+    cundarrix_options options = usual();
+    options.events = 64 + 4 + 8 + 2;
+    open_with(options, 1);
+    DONE(arrive, 1, command(CUNDARRIX_SIMPLE, 0, 1), 48, 70);
+    TELLS(start(1, 0, CUNDARRIX_SIMPLE, 70));
+    DONE(arrive, 1, command(CUNDARRIX_SIMPLE, 0, 2), 48, 71);
+    TELLS(start(2, 0, CUNDARRIX_SIMPLE, 71));
+    REFUSED(EXHAUSTED, arrive, 1, command(CUNDARRIX_SIMPLE, 0, 3), 48, 72);
+    DONE(complete, 1, 0);
+    TELLS(ready(1));
+    DONE(lose, 1);
+    TELLS(stop(2, 71, CUNDARRIX_LOST), forget(70));
+    close_side();
 }
 
-/* What is refused, and that it changes nothing. */
-static void test_refusals(void) {
-    cundarrix_session session = CUNDARRIX_CLOSED;
-    cundarrix_options options = usual;
-    uint8_t header[HEADER];
-    options.events = 2;
-    make_header(header, 0x01, 0x81, 0, 1);
-    CHECK(cundarrix_open(&session, &options, connections, 2) == CUNDARRIX_OK);
-    CHECK(cundarrix_open(&session, &options, connections, 2) == CUNDARRIX_ALREADY_OPEN);
-    test_end_of_effects(&session, 0);
-    CHECK(cundarrix_arrive(&session, 1, header, HEADER - 1) == CUNDARRIX_SHORT_HEADER);
-    CHECK(cundarrix_arrive(&session, 3, header, HEADER) == CUNDARRIX_UNKNOWN_CONNECTION);
-    test_end_of_effects(&session, 0);
-    expect_numbers(&session, 1, 4);
-    CHECK(cundarrix_arrive(&session, 1, header, HEADER) == CUNDARRIX_OK);
-    CHECK(cundarrix_complete(&session, 1, 0) == CUNDARRIX_OK);
-    CHECK(cundarrix_arrive(&session, 1, header, HEADER) == CUNDARRIX_EXHAUSTED);
-    CHECK(cundarrix_complete(&session, 1, 0) == CUNDARRIX_EXHAUSTED);
-    test_end_of_effects(&session, 2);
-    CHECK(cundarrix_close(&session) == CUNDARRIX_OK);
-    CHECK(cundarrix_open(&session, &options, connections, 1) == CUNDARRIX_OK);
-    CHECK(cundarrix_close(&session) == CUNDARRIX_OK);
+/* ---- what it is called */
+
+static void test_texts(void) {
+    CHECK(CUNDARRIX_VERSION_MAJOR == 2 && CUNDARRIX_VERSION_MINOR == 0 && !strcmp(cundarrix_version(), "2.0"));
+    for (int one = 0; one <= CUNDARRIX_OVER; one++)
+        for (int other = 0; other < one; other++)
+            CHECK(strcmp(cundarrix_result_text((cundarrix_result)one), cundarrix_result_text((cundarrix_result)other)));
+    for (uint8_t one = 0; one <= CUNDARRIX_FORGET; one++)
+        for (uint8_t other = 0; other < one; other++)
+            CHECK(strcmp(cundarrix_action_text(one), cundarrix_action_text(other)));
+    for (uint8_t one = 0; one <= CUNDARRIX_NOTICE; one++)
+        for (uint8_t other = 0; other < one; other++)
+            CHECK(strcmp(cundarrix_pdu_text(one), cundarrix_pdu_text(other)));
+    CHECK(!strcmp(cundarrix_action_text(7), "unknown") && !strcmp(cundarrix_pdu_text(5), "unknown"));
+}
+
+/* Zeros are a closed session. */
+static void test_zeros(void) {
+    const cundarrix_session closed = CUNDARRIX_CLOSED;
+    memset(&side, 0, sizeof side);
+    CHECK(side.open == closed.open && side.at == closed.at);
+    expect_closed();
+    open_with(usual(), 1);
+    close_side();
 }
 
 int main(void) {
-    cundarrix_session session = CUNDARRIX_CLOSED;
-    size_t before;
     test_null();
-    expect_closed(&session);
+    expect_closed();
+    test_limits();
     test_options();
+    test_cids();
     test_memory();
-    CHECK(held == 0);
-    CHECK(cundarrix_open(&session, &usual, connections, 2) == CUNDARRIX_OK);
-    CHECK(held > 0);
-    before = requests;
-    test_command(&session);
-    test_replies(&session);
-    test_functions(&session);
-    CHECK(requests == before);
-    CHECK(cundarrix_close(&session) == CUNDARRIX_OK);
-    CHECK(held == 0);
-    expect_closed(&session);
-    test_connections();
-    test_refusals();
-    CHECK(held == 0);
+    test_formula();
+    test_small_room();
+    test_busy();
+    test_exhausted();
+    test_texts();
+    test_zeros();
     return 0;
 }
