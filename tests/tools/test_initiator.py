@@ -70,7 +70,7 @@ class Target:
         connection.sendall(answer)
 
     def answer(self, connection, header):
-        """A response of the request's tag, or an R2T for a write. Before one there are two NOP-Ins of the target's own."""
+        """A response of the request's tag, or an R2T for a write; before one, two NOP-Ins of the target's own."""
         if number(header, 16, 19) == PINGING:
             for transfer_tag in (b"\x80\0\0\x01", b"\xff" * 4):
                 connection.sendall(struct.pack(">BB14x4s4s4s20x", 0x20, 0x80, b"\xff" * 4, transfer_tag, bytes(4)))
