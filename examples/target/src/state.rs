@@ -175,8 +175,11 @@ impl State {
 
     // ---- requests
 
-    /// Keeps a request that arrived, and gives its cookie.
-    pub fn keep(&mut self, connection: &Arc<Connection>, pdu: Pdu) -> u64 {
+    /// Keeps a request that arrived, and gives its cookie. Data that nothing comes of isn't kept.
+    pub fn keep(&mut self, connection: &Arc<Connection>, mut pdu: Pdu) -> u64 {
+        if ![opcode::SCSI_COMMAND, opcode::NOP_OUT, opcode::TEXT].contains(&pdu.header.opcode()) {
+            pdu.data = Vec::new();
+        }
         let (connection, transfer) = (connection.clone(), Transfer::default());
         self.next_cookie += 1;
         let kept = Kept { pdu, connection, command: None, transfer, outcome: None, data_ins: 0 };
