@@ -174,3 +174,43 @@ impl Transfer {
         (!self.is_wrong).then_some(self.buffer).ok_or(Sense::WRONG_DATA)
     }
 }
+
+#[cfg(test)]
+mod tests {
+    use super::*;
+    use std::net::{TcpListener, TcpStream};
+    use std::thread;
+    use std::time::Instant;
+
+    fn command() -> Arc<Command> {
+        let listener = TcpListener::bind("127.0.0.1:0").expect("a port");
+        let stream = TcpStream::connect(listener.local_addr().expect("its address")).expect("a connection");
+        let (unit, header) = (Arc::new(Unit::new(0, 512)), Header::new(opcode::SCSI_COMMAND, FINAL, 9));
+        Arc::new(Command::new(1, 1, unit, header, Arc::new(Connection::new(1, 8192, stream))))
+    }
+
+    #[test]
+    fn one_that_is_not_begun_stops_at_once() {
+        let command = command();
+        assert!(command.stop() && command.is_stopped());
+        assert_eq!(command.execute(Duration::ZERO, || unreachable!("it was stopped")), None::<()>);
+    }
+
+    #[test]
+    fn one_that_is_begun_goes_on_to_its_end() {
+        let command = command();
+        let executed = command.execute(Duration::ZERO, || command.stop());
+        assert_eq!((executed, command.is_stopped()), (Some(false), true));
+    }
+
+    #[test]
+    fn one_that_is_delayed_stops_at_once() {
+        let (command, began) = (command(), Instant::now());
+        let worker = command.clone();
+        let worker = thread::spawn(move || worker.execute(Duration::from_secs(60), || ()));
+        thread::sleep(Duration::from_millis(20));
+        assert!(command.stop());
+        assert_eq!(worker.join().expect("the worker ends"), None);
+        assert!(began.elapsed() < Duration::from_secs(30));
+    }
+}
