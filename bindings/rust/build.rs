@@ -2,7 +2,8 @@
 //!
 //! Two archives are wanted: `libiscsi_c.a`, which `rt lib` makes in `crates/iscsi_c`, and the kit's `liblibc_c.a`.
 //! Where the environment has `CUNDARRIX_LIB_DIR`, both are taken from that folder (the second one from the kit, if it
-//! isn't there).
+//! isn't there). With the feature `docs`, or where the environment has `DOCS_RS`, neither is looked for: `cargo doc` and
+//! `cargo check` link nothing.
 
 use std::collections::BTreeSet;
 use std::env;
@@ -14,10 +15,15 @@ use std::time::SystemTime;
 const ARCHIVE: &str = "libiscsi_c.a";
 const HEAP: &str = "liblibc_c.a";
 const FOLDER: &str = "CUNDARRIX_LIB_DIR";
+const DOCUMENTS: &str = "DOCS_RS";
 
 fn main() {
     println!("cargo:rerun-if-changed=build.rs");
     println!("cargo:rerun-if-env-changed={FOLDER}");
+    println!("cargo:rerun-if-env-changed={DOCUMENTS}");
+    if env::var_os("CARGO_FEATURE_DOCS").is_some() || env::var_os(DOCUMENTS).is_some() {
+        return;
+    }
     if let Err(why) = link() {
         eprintln!("cundarrix: {why}");
         exit(1);

@@ -53,7 +53,7 @@ def why_not_read(path, port, folder):
 
 def why_different(base):
     """What tools/compare says, unless it says that there is no difference."""
-    done = run([os.path.join(TOP, "tools", "compare"), base, "--all"], 60)
+    done = run([os.path.join(TOP, "tools", "compare"), base, "--all", "--by-moment"], 60)
     return None if not done.returncode and last_line(done.stdout) == "No difference." else done.stdout.strip()
 
 

@@ -11,7 +11,8 @@ import unittest
 from helpers import TOP, replay, run_tool
 
 sys.path.insert(0, os.path.join(TOP, "tools"))
-from lib.differences import longest_rise  # noqa: E402
+from lib.answers import read as read_answers  # noqa: E402
+from lib.differences import Comparison, Place, Replay, longest_rise  # noqa: E402
 
 CAPTURES = os.path.join(TOP, "tests", "tools", "captures")
 HAS_TSHARK = shutil.which("tshark") is not None
@@ -213,6 +214,80 @@ class Kinds(Session):
                       "1 x NOP-In of the target's own; 1 x R2T; 1 x Text Response.\n", told)
         self.assertIn("the program's Rejects of the requests, 1.\n"
                       "Compared: 3 replies of the target, 3 of the program.\nNo difference.", told)
+
+
+def sent(opcode, tag, stat_sn, exp_cmd_sn, max_cmd_sn):
+    """The line of a report for a reply without data on connection 1."""
+    numbers = f"{stat_sn:08x}{exp_cmd_sn:08x}{max_cmd_sn:08x}"
+    return f"  send 1 {opcode:02x}800000{'0' * 24}{tag:08x}00000000{numbers}".ljust(105, "0")
+
+
+class ByMoment(unittest.TestCase):
+    """A target that gives numbers as PDUs go out, and lets the answer to an abort wait; beside a report that was written
+    by hand: two commands, a NOP-Out, an abort of the first command, and the end of the second one, ten frames apart."""
+    REPORT = "\n".join((
+        f"> {COMMANDS[0][0]}", "  deliver 1 00000001 00000001", "  enter 1 0 simple", "  enable 1",
+        f"> {COMMANDS[1][0]}", "  deliver 1 00000002 00000002", "  enter 2 0 simple", "  enable 2",
+        f"> {NOP[0]}", "  deliver 1 00000003 00000003", sent(0x20, 3, 1, 4, 0x21),
+        f"> C 1 {header(0x42, 0x81, 6, 4, referenced=1)}", "  immediate 1 00000004 00000006", "  leave 1",
+        sent(0x22, 6, 2, 4, 0x22), "> D 2 00", "  leave 2", sent(0x21, 2, 3, 4, 0x23)))
+
+    @staticmethod
+    def nop(frame=31, stat_sn=1, exp_cmd_sn=4, max_cmd_sn=0x21):
+        return f"{frame} 0.1 1 nop-in 00000003 {stat_sn:08x} {exp_cmd_sn:08x} {max_cmd_sn:08x} --"
+
+    @staticmethod
+    def second(frame=50, stat_sn=2, max_cmd_sn=0x23):
+        return f"{frame} 0.1 1 scsi-response 00000002 {stat_sn:08x} 00000004 {max_cmd_sn:08x} 00 GOOD"
+
+    @staticmethod
+    def abort(frame=51, stat_sn=3, exp_cmd_sn=4, max_cmd_sn=0x23):
+        return f"{frame} 0.1 1 function-response 00000006 {stat_sn:08x} {exp_cmd_sn:08x} {max_cmd_sn:08x} 00 complete"
+
+    def differences(self, *answers, moment=(1, 32)):
+        """The differences of a target's answers: the kind of each, and what of it stands behind the request."""
+        replay = Replay(self.REPORT, [Place(frame, frame / 100) for frame in (10, 20, 30, 40, 50)])
+        answers = list(read_answers(answer.replace(" 0.1 ", " 0.100000 ") for answer in answers))
+        return [(one.kind, one.words.partition(": ")[2]) for one in Comparison(replay, answers, moment).differences]
+
+    def test_an_answer_that_had_to_wait(self):
+        answers = self.nop(), self.second(), self.abort()
+        self.assertEqual([], self.differences(*answers))
+        self.assertEqual(["MaxCmdSN", "order"], sorted(kind for kind, _ in self.differences(*answers, moment=None)))
+
+    def test_one_that_did_not_wait(self):
+        abort = self.abort(frame=41, stat_sn=2, max_cmd_sn=0x22)
+        self.assertEqual([], self.differences(self.nop(), abort, self.second(stat_sn=3)))
+
+    def test_others_keep_their_order(self):
+        nop = self.nop(frame=51, stat_sn=2, max_cmd_sn=0x23)
+        found = self.differences(self.second(stat_sn=1), nop, self.abort(frame=52))
+        self.assertEqual(["order"], [kind for kind, _ in found])
+
+    def test_an_answer_that_may_wait_is_never_early(self):
+        abort, nop = self.abort(frame=41, stat_sn=1, max_cmd_sn=0x22), self.nop(frame=42, stat_sn=2, max_cmd_sn=0x22)
+        found = self.differences(abort, nop, self.second(stat_sn=3))
+        self.assertEqual(["order"], [kind for kind, _ in found])
+
+    def test_numbers_below_those_of_the_event(self):
+        low = self.nop(exp_cmd_sn=3, max_cmd_sn=0x20)
+        self.assertEqual([("ExpCmdSN", "the target says ExpCmdSN 00000003, the program 00000004 at its event already"),
+                          ("MaxCmdSN", "the target says MaxCmdSN 00000020, the program 00000021 at its event already")],
+                         self.differences(low, self.second(), self.abort()))
+
+    def test_numbers_below_those_that_were_shown(self):
+        self.assertEqual([("MaxCmdSN", "the target says MaxCmdSN 00000022, and said 00000023 before")],
+                         self.differences(self.nop(), self.second(), self.abort(max_cmd_sn=0x22)))
+
+    def test_numbers_that_can_not_be_yet(self):
+        self.assertEqual([("ExpCmdSN", "the target says ExpCmdSN 00000005, and it can't be above 00000004 yet")],
+                         self.differences(self.nop(), self.second(), self.abort(exp_cmd_sn=5)))
+        self.assertEqual([("MaxCmdSN", "the target says MaxCmdSN 00000024, and it can't be above 00000023 yet")],
+                         self.differences(self.nop(), self.second(), self.abort(max_cmd_sn=0x24)))
+
+    def test_stat_sns_count_in_the_order_of_sending(self):
+        found = self.differences(self.nop(), self.second(stat_sn=3), self.abort(stat_sn=2))
+        self.assertEqual(["StatSN", "StatSN"], [kind for kind, _ in found])
 
 
 class Faults(Session):

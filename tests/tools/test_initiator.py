@@ -13,12 +13,12 @@ import unittest
 from helpers import TOP
 
 sys.path.insert(0, os.path.join(TOP, "tools"))
-from lib.pdu import DATA_OUT, LOGIN, LOGOUT, Request, number  # noqa: E402
+from lib.pdu import DATA_OUT, LOGIN, LOGOUT, NO_TAG, Request, number  # noqa: E402
 from lib.streams import Splitter  # noqa: E402
 
 PROGRAM = os.path.join(TOP, "tests", "initiator")
 NAME = "iqn.2026-01.example:disk"
-RESETTING = 0x66
+RESETTING, PINGING = 0x66, 0x67
 ANSWERS = {0x00: 0x20, 0x01: 0x21, 0x02: 0x22, 0x06: 0x26}
 
 
@@ -70,9 +70,12 @@ class Target:
         connection.sendall(answer)
 
     def answer(self, connection, header):
-        """A response of the request's tag, or an R2T for a write."""
+        """A response of the request's tag, or an R2T for a write; before one, two NOP-Ins of the target's own."""
+        if number(header, 16, 19) == PINGING:
+            for transfer_tag in (b"\x80\0\0\x01", b"\xff" * 4):
+                connection.sendall(struct.pack(">BB14x4s4s4s20x", 0x20, 0x80, b"\xff" * 4, transfer_tag, bytes(4)))
         asks = header[0] & 0x3f == 1 and header[1] & 0x20
-        if header[0] & 0x3f in ANSWERS:
+        if header[0] & 0x3f in ANSWERS and number(header, 16, 19) != NO_TAG:
             answer = bytearray(48)
             answer[0], answer[1] = (0x31 if asks else ANSWERS[header[0] & 0x3f]), 0x80
             answer[16:20], answer[20:24], answer[44:48] = header[16:20], b"\0\0\0\x55", (8).to_bytes(4, "big")
@@ -126,6 +129,15 @@ class Initiator(unittest.TestCase):
         self.assertIn("Ready To Transfer", told)
         _, out, data = self.target.came[1]
         self.assertEqual((DATA_OUT, 1, 0x55, bytes(8)), (out.opcode, out.tag, out.referenced_tag, data))
+
+    def test_pings_are_answered_and_not_shown(self):
+        told = self.play(f"1 test tag={PINGING}", f"wait {PINGING}", "1 test tag=2", "wait 2")
+        self.assertRegex(told, r"\A1 SCSI Response GOOD: tag 00000067, .*\n1 SCSI Response GOOD: tag 00000002, .*\n\Z")
+        _, ping, _ = self.requests()
+        self.assertEqual((0, True, 0xffffffff, 0x80000001, 2),
+                         (ping.opcode, ping.immediate, ping.tag, ping.referenced_tag, ping.cmd_sn))
+        # The NOP-Ins take no StatSN, so what is acknowledged with the answer is the login.
+        self.assertEqual([1, 1], [number(request.header, 28, 31) for request in self.requests()[:2]])
 
     def test_digests_are_asked_for(self):
         self.run_program("--digests", "pause 0.1")

@@ -9,7 +9,7 @@ import sys
 from dataclasses import dataclass, field
 
 sys.path.insert(0, os.path.join(os.path.dirname(os.path.realpath(__file__)), "..", "..", "tools"))
-from lib.pdu import DATA_IN, REJECT, SCSI_COMMAND, SCSI_RESPONSE, TASK_MANAGEMENT, \
+from lib.pdu import DATA_IN, NOP_IN, R2T, REJECT, SCSI_COMMAND, SCSI_RESPONSE, TASK_MANAGEMENT, \
     TASK_MANAGEMENT_RESPONSE  # noqa: E402
 
 ABORT_TASK, ABORT_TASK_SET, CLEAR_TASK_SET, LOGICAL_UNIT_RESET = 1, 2, 4, 5
@@ -45,6 +45,7 @@ class Session:
         self.first, self.tsih, self.begin = session.first, session.tsih, begin
         self.commands, self.of_tag, self.functions, self.faults, self.overtaken = [], {}, {}, [], []
         self.arrivals, self.completed, self.tasks, self.limits = {}, 0, {}, {}
+        self.next_stat_sns, self.shown = dict(session.connections), {}
         for item in session.items:
             if item.request:
                 self.take_request(item)
@@ -95,12 +96,29 @@ class Session:
 
     def take_reply(self, item):
         reply = item.reply
+        self.take_numbers(item)
         if reply.opcode == TASK_MANAGEMENT_RESPONSE:
             self.end_function(item)
         if reply.opcode in (SCSI_RESPONSE, DATA_IN):
             self.take_answer(item)
         if reply.opcode == REJECT:
             self.functions.pop(item.tag, None)
+
+    def take_numbers(self, item):
+        """Takes the numbers of a reply: on its connection StatSN counts, and ExpCmdSN and MaxCmdSN never go back."""
+        reply, wanted = item.reply, self.next_stat_sns[item.cid]
+        counts = reply.ends_command or not (item.is_ping or reply.opcode in (DATA_IN, R2T))
+        if reply.stat_sn != wanted and (counts or reply.opcode in (NOP_IN, R2T)):
+            self.fault(item, f"{reply.name} for tag {item.tag:08x} has the StatSN {reply.stat_sn:08x}, and not "
+                             f"{wanted:08x}")
+        if counts:
+            self.next_stat_sns[item.cid] = (reply.stat_sn + 1) % 2**32
+        numbers = {"ExpCmdSN": self.offset(reply.exp_cmd_sn), "MaxCmdSN": self.offset(reply.max_cmd_sn)}
+        for name, before in self.shown.get(item.cid, numbers).items():
+            if numbers[name] < before:
+                self.fault(item, f"{reply.name} for tag {item.tag:08x} has a {name} that is {before - numbers[name]} "
+                                 "lower than what was shown before")
+        self.shown[item.cid] = numbers
 
     def end_function(self, item):
         """Takes a Task Management Function Response."""

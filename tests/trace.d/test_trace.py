@@ -44,6 +44,7 @@ class Run:
 
     def __init__(self):
         self.frames, self.segments, self.milliseconds, self.lines, self.sides = [], [], 0, ["# a trace"], {}
+        self.stat_sns = {1: 1, 2: 1}
         for cid in (1, 2):
             self.sides[cid] = (Side(b"\2" * 6, b"\x7f\0\0\1", 40000 + cid), Side(b"\3" * 6, b"\x7f\0\0\1", PORT))
             for content in handshake(*self.sides[cid]):
@@ -78,8 +79,10 @@ class Run:
                              at_24=four(FIRST + number), at_32=four(FIRST + refsn)), True)
 
     def reply(self, cid, opcode, tag, response=0, flags=0x80, exp=1, greatest=32):
-        self.put(cid, header(opcode, flags, tag, at_2=bytes((response,)), at_28=four(FIRST + exp),
-                             at_32=four(FIRST + greatest)), False)
+        """A reply with the next StatSN, which all but a Data-In, an R2T and a NOP-In of the target's own take."""
+        self.put(cid, header(opcode, flags, tag, at_2=bytes((response,)), at_24=four(self.stat_sns[cid]),
+                             at_28=four(FIRST + exp), at_32=four(FIRST + greatest)), False)
+        self.stat_sns[cid] += opcode not in (0x25, 0x31) and tag != 0xffffffff
 
     def answer(self, cid, tag, **numbers):
         self.reply(cid, 0x21, tag, **numbers)
@@ -223,6 +226,31 @@ class Checks(unittest.TestCase):
         run = good_run()
         run.answer(2, 0x13)
         self.found(run, r"SCSI Response of READ\(10\) with tag 00000013 .* after the abort of it was answered")
+
+    def test_numbers_that_do_not_go_on(self):
+        for name, numbers in (("ExpCmdSN", {"exp": 0}), ("MaxCmdSN", {"greatest": 31})):
+            run = good_run()
+            run.command(1, 7, 0x17)
+            run.work(6, 0x17, 7)
+            run.answer(1, 0x17, **numbers)
+            self.found(run, rf"\A.*SCSI Response for tag 00000017 has a {name} that is 1 lower than what was shown "
+                            r"before\Z")
+
+    def test_stat_sns_that_do_not_count(self):
+        for cid, tag in ((1, 0x17), (2, 0x17)):
+            run = good_run()
+            run.command(cid, 7, tag)
+            run.work(6, tag, 7)
+            run.stat_sns[cid] += 1
+            run.answer(cid, tag)
+            run.reply(cid, 0x20, 0xffffffff)
+            wanted = run.stat_sns[cid] - 2
+            self.found(run, rf"\A.*SCSI Response for tag 00000017 has the StatSN {wanted + 1:08x}, and not "
+                            rf"{wanted:08x}\Z")
+        run = good_run()
+        run.stat_sns[1] -= 1
+        run.reply(1, 0x20, 0xffffffff)
+        self.found(run, r"\A.*NOP-In for tag ffffffff has the StatSN 00000005, and not 00000006\Z")
 
     def test_answers_twice_or_of_no_command(self):
         run = good_run()

@@ -7,6 +7,7 @@ from dataclasses import dataclass
 
 from . import report
 from .answers import NAMES, kind_of, outcome_of
+from .moments import Moments, early, may_wait
 from .pdu import DATA_OUT, REJECT, SNACK, TEXT, number
 
 PLACE = re.compile(r"# time (\d+\.\d+) frame (\d+)")
@@ -164,14 +165,16 @@ def longest_rise(values):
     return rise
 
 
-def out_of_order(pairs):
+def out_of_order(pairs, waits=lambda sent: False):
     """The program's replies, by their order, that stand elsewhere on their connection than the target's: as few as
-    can be.
+    can be. Those that may wait may stand later.
 
     Read from the end, so that of two which changed places the one counts that the target sent later.
     """
     found = set()
     for replies in by_connection(sent for answer, sent in pairs if answer and sent).values():
+        found.update(sent.order for sent in early(replies) if waits(sent))
+        replies = [sent for sent in replies if not waits(sent)]
         rise = longest_rise([-sent.order for sent in reversed(replies)])
         found.update(sent.order for place, sent in enumerate(reversed(replies)) if place not in rise)
     return found
@@ -204,16 +207,18 @@ def fixed_window(answers):
 
 
 class Comparison:
-    """The differences between a replay and the answers of a target."""
+    """The differences between a replay and the answers of a target; with `moment`, its first CmdSN and its window, of one
+    whose replies have the numbers of the moment at which they go out."""
 
-    def __init__(self, replay, answers):
+    def __init__(self, replay, answers, moment=None):
         self.replay = replay
+        self.moments = Moments(replay.events, replay.places, *moment) if moment else None
         self.left_out = Counter(answer.name for answer in answers if answer.is_left_out)
         self.answers = [answer for answer in answers if not answer.is_left_out]
         self.rejected_texts = self.leave_out_texts(answers)
         self.window = fixed_window(self.answers)
         self.pairs = sorted(pair(replay, self.answers), key=self.frame)
-        self.elsewhere = out_of_order(self.pairs)
+        self.elsewhere = out_of_order(self.pairs, self.waits) if moment else out_of_order(self.pairs)
         self.differences = [found for answer, sent in self.pairs for found in self.compare(answer, sent)]
         self.differences += (Difference(STAT_SN, answer.frame, answer.time, answer.cid,
                                         numbers_differ(STAT_SN, answer.stat_sn, stat_sn) + " at this place")
@@ -224,6 +229,10 @@ class Comparison:
         """Where a pair stands in the capture: by the target's reply, or by the event of the program's."""
         answer, sent = replies
         return answer.frame if answer else self.replay.places[sent.event].frame
+
+    def waits(self, sent):
+        """Whether a reply of the program's is one that a target may have to hold back."""
+        return may_wait(self.replay.events[sent.request].request, outcome_of(sent.reply))
 
     def leave_out_texts(self, answers):
         """Leaves out the program's Rejects of Text Requests to which the target gave a Text Response. How many it left
@@ -278,6 +287,10 @@ class Comparison:
             place = self.replay.places[sent.event]
             yield self.differ(ORDER, answer, sent, "it stands elsewhere among the replies of the connection: "
                               f"the program sends it at the event of frame {place.frame}")
+        if self.moments:
+            for kind, why in self.moments.faults(answer, reply):
+                yield self.differ(kind, answer, sent, why)
+            return
         if answer.exp_cmd_sn != reply.exp_cmd_sn:
             yield self.differ(EXP_CMD_SN, answer, sent, numbers_differ(EXP_CMD_SN, answer.exp_cmd_sn, reply.exp_cmd_sn))
         if answer.max_cmd_sn != reply.max_cmd_sn:

@@ -1,55 +1,62 @@
-//! The command queue and task manager of an iSCSI target (RFC 7143 sections 4.2.2, 4.2.3, 11.5 and 11.6; SAM-5).
+//! The command queue, the task manager and the sending side of an iSCSI target (RFC 7143 sections 4.2.2, 4.2.3, 11.5 and
+//! 11.6; SAM-5).
 //!
 //! The library behind this crate is proved: it starts each command at most once, and none before its turn; once it
-//! has acknowledged an abort, it answers none of the commands that the abort covers; it answers each request at most
-//! once; ExpCmdSN and MaxCmdSN never go back. This crate and the C interface's text are not proved, but tested.
+//! has handed out the answer to an abort, nothing of a command that the abort covers goes out, and none touches the medium any
+//! more; it answers each request at most once; StatSN, ExpCmdSN and MaxCmdSN never go back. Of the calls that this crate has
+//! some are proved to follow the rules over the whole run, and some are computed on worked lists: the repository's
+//! README says which. This crate and the C interface's text are not proved, but tested.
 //!
-//! A [`Session`] is one iSCSI session in its Full Feature Phase. The target gives it the header of each request PDU
-//! that arrives and each command that a logical unit completed, and carries out the [`Effect`]s of that event in
-//! order: it starts a command only at [`Effect::Enable`], stops it at [`Effect::Leave`], and sends the reply of each
-//! [`Effect::Send`]. Login, data transfer and what a command means are the target's own part.
+//! A [`Session`] is one iSCSI session in its Full Feature Phase. A target has four duties beside it:
+//!
+//! 1. It gives each request's header to [`Session::arrive`], with a cookie under which it keeps what it needs of that
+//!    request, until [`Action::Forget`].
+//! 2. It starts a command at [`Action::Start`], and says by [`Session::complete`] that it ended.
+//! 3. It stops a command at [`Action::Stop`], and says by [`Session::stopped`] that it has.
+//! 4. It sends what [`Session::next`] gives once [`Action::Ready`] tells it, and says by [`Session::written`] that it is sent.
+//!
+//! Login, data transfer and what a command means are the target's own part. So is time: no call waits, and none knows a clock.
 //!
 //! ```
-//! use cundarrix::{Connection, Effect, Options, Session};
+//! use cundarrix::{Action, Opcode, Options, Request, Session};
 //!
 //! # fn main() -> Result<(), cundarrix::Refusal> {
-//! let mut session = Session::open(&Options::default(), &[Connection { cid: 1, first_stat_sn: 1 }])?;
+//! let mut session = Session::open(&Options::new(), &[1])?;
+//! session.join(1, 1, |_| unreachable!("nothing is to be done yet"))?;
 //!
-//! // A SCSI Command arrives: SIMPLE, for unit 0, with the initiator task tag a1 and CmdSN 1.
-//! let mut header = [0; 48];
-//! header[..2].copy_from_slice(&[0x01, 0x81]);
-//! header[19] = 0xa1;
-//! header[27] = 1;
-//! let mut enabled = None;
-//! session.arrive(1, &header)?;
-//! for effect in session.effects() {
-//!     if let Effect::Enable { ticket, .. } = effect {
-//!         enabled = Some(ticket); // The unit may start it.
+//! // A SCSI Command arrives for unit 0, and the unit may start it.
+//! let request = Request::new(Opcode::ScsiCommand).with_tag(0xa1).with_cmd_sn(1);
+//! let mut started = None;
+//! session.arrive(1, &request, 7, |action| {
+//!     if let Action::Start { ticket, cookie, .. } = action {
+//!         started = Some((ticket, cookie));
 //!     }
-//! }
-//! assert_eq!(enabled, Some(1));
+//! })?;
+//! assert_eq!(started, Some((1, 7)));
 //!
-//! // The unit completes it with status GOOD, and its SCSI Response goes out.
-//! let mut sent = Vec::new();
-//! session.complete(1, 0x00)?;
-//! for effect in session.effects() {
-//!     if let Effect::Send(reply) = effect {
-//!         sent.extend_from_slice(&reply.header);
-//!         sent.extend_from_slice(&reply.data);
-//!     }
-//! }
-//! assert_eq!((sent.len(), sent[0]), (48, 0x21));
-//! assert_eq!(session.numbers()?.exp_cmd_sn, 2);
+//! // It ends with status GOOD, and its SCSI Response goes out.
+//! session.complete(1, 0x00, |action| assert_eq!(action, Action::Ready { cid: 1 }))?;
+//! let response = session.next(1, |_| ())?;
+//! assert_eq!((response.len(), response[0], response.cookie()), (48, 0x21, Some(7)));
+//!
+//! // It is written: what is kept of the request may be freed.
+//! session.written(1, |action| assert_eq!(action, Action::Forget { cookie: 7 }))?;
 //! # Ok(())
 //! # }
 //! ```
 #![no_std]
 
-mod effect;
+mod action;
+mod options;
+mod pdu;
 mod raw;
 mod refusal;
+mod request;
 mod session;
 
-pub use effect::{Attribute, Effect, Reason, Reply, ReplyData};
+pub use action::{Action, Attribute, Clearing, StopReason};
+pub use options::Options;
+pub use pdu::{Pdu, PduKind};
 pub use refusal::Refusal;
-pub use session::{Connection, Effects, Event, Numbers, Options, Session};
+pub use request::{Function, LogoutReason, Opcode, Request};
+pub use session::{Numbers, Session};

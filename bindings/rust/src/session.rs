@@ -1,77 +1,20 @@
 //! The session.
 
-use crate::raw::{self, RawEffect, RawNumbers, RawOptions, RawSession};
-use crate::{Effect, Refusal};
+use crate::raw::{self, RawAction, RawNumbers, RawPdu, RawSession, RawTold};
+use crate::{Action, Options, Pdu, Refusal};
 use core::cell::UnsafeCell;
 use core::fmt;
-use core::iter::FusedIterator;
-use core::ptr;
 
-/// The options of a session.
-#[derive(Clone, Copy, Debug, PartialEq, Eq)]
-pub struct Options {
-    /// The most events that the session takes: 1 to 2^48. Each call of [`Session::arrive`] and [`Session::complete`]
-    /// that isn't refused is one.
-    pub events: u64,
-    /// The first CmdSN, as the login gave it (RFC 7143 section 4.2.2.1). Any number.
-    pub first_cmd_sn: u32,
-    /// The size of the command window, the most commands that are received and not finished: 1 to 1024.
-    pub window: u32,
-    /// How many logical units there are, numbered from 0: 1 to 256.
-    pub units: u32,
-    /// The most commands that a unit's task set has at one time: 1 to 1024. One more is answered TASK SET FULL.
-    pub depth: u32,
-    /// The protocol level: 1, or 2 for QUERY TASK and QUERY TASK SET (RFC 7144).
-    pub level: u32,
-}
+/// So many actions are fetched at a time. Few calls tell more, and none loses any.
+const ROOM: usize = 16;
 
-impl Options {
-    /// 2^48, the greatest number of [`events`](Options::events).
-    pub const MOST_EVENTS: u64 = 1 << 48;
-}
-
-impl Default for Options {
-    /// First CmdSN 1, a window of 32, one unit with a task set of 64, level 1, and as many events as there can be.
-    fn default() -> Options {
-        Options { events: Options::MOST_EVENTS, first_cmd_sn: 1, window: 32, units: 1, depth: 64, level: 1 }
-    }
-}
-
-/// A connection of a session. A session has 1 to 64, and no CID twice.
-#[derive(Clone, Copy, Debug, PartialEq, Eq)]
-#[repr(C)]
-pub struct Connection {
-    /// The StatSN of its first reply in the Full Feature Phase (RFC 7143 section 4.2.2.2). Any number.
-    pub first_stat_sn: u32,
-    /// Its CID. Any number.
-    pub cid: u16,
-}
-
-/// What a session takes.
-#[derive(Clone, Copy, Debug, PartialEq, Eq)]
-pub enum Event {
-    /// A request PDU arrives: see [`Session::arrive`].
-    Arrive {
-        /// The connection.
-        cid: u16,
-        /// The PDU's basic header segment.
-        header: [u8; 48],
-    },
-    /// A logical unit completes a command: see [`Session::complete`].
-    Complete {
-        /// The command's ticket.
-        ticket: u64,
-        /// Its SCSI status.
-        status: u8,
-    },
-}
-
-/// ExpCmdSN and MaxCmdSN (RFC 7143 section 4.2.2.1), as each PDU that the target sends now carries them.
-#[derive(Clone, Copy, Debug, PartialEq, Eq)]
+/// ExpCmdSN and MaxCmdSN (RFC 7143 section 4.2.2.1), as a Login Response of one more connection may show them. All other PDUs
+/// have theirs by [`Session::next`].
+#[derive(Clone, Copy, Debug, PartialEq, Eq, Hash)]
 pub struct Numbers {
     /// The lowest CmdSN that isn't received.
     pub exp_cmd_sn: u32,
-    /// The greatest CmdSN that the target takes now. It is `exp_cmd_sn - 1` where the window is shut.
+    /// The greatest CmdSN that was shown to the initiator, which it may send.
     pub max_cmd_sn: u32,
 }
 
@@ -80,12 +23,66 @@ pub struct Numbers {
 /// It takes all its memory in [`open`](Session::open), and frees it when it is dropped; no other call allocates.
 /// No call blocks. It may be sent to another thread, and takes one call at a time: it is `Send` and not `Sync`.
 ///
+/// # Actions
+///
+/// Each call hands over the [`Action`]s that come of it to its last argument, one by one and all of them, before it returns;
+/// also where it is refused. What is given there is called while the session is borrowed, so it can't call the
+/// session: it does at once what is done at once, and puts the rest into a queue of the target's.
+///
+/// ```
+/// # use cundarrix::{Options, Session};
+/// # let mut session = Session::open(&Options::new(), &[1])?;
+/// let mut actions = Vec::new();
+/// session.join(1, 1, |action| actions.push(action))?;
+/// # assert_eq!(actions, []);
+/// # Ok::<(), cundarrix::Refusal>(())
+/// ```
+///
+/// Actions of different calls are to be carried out in the order of the calls, too. Where threads share the session behind a lock,
+/// that is so where each puts its actions into their queues before it lets the lock go.
+///
+/// Where what is given panics, the actions behind the one it was given aren't lost: the next call hands them over first.
+///
 /// ```compile_fail
 /// fn is_sync<T: Sync>() {}
 /// is_sync::<cundarrix::Session>();
 /// ```
 pub struct Session {
     raw: UnsafeCell<RawSession>,
+    told: Told,
+}
+
+/// What the library told, of which some is not handed over yet.
+struct Told {
+    actions: [RawAction; ROOM],
+    raw: RawTold,
+    given: usize,
+}
+
+/// Where the library writes what a call tells.
+struct Room {
+    actions: *mut RawAction,
+    room: usize,
+    told: *mut RawTold,
+}
+
+impl Told {
+    const NONE: Told = Told { actions: [RawAction::EMPTY; ROOM], raw: RawTold::NONE, given: 0 };
+
+    /// Room for another call, once all of the last one was handed over. Not every answer writes what it told.
+    fn room(&mut self) -> Room {
+        self.raw = RawTold::NONE;
+        self.given = 0;
+        Room { actions: self.actions.as_mut_ptr(), room: ROOM, told: &mut self.raw }
+    }
+
+    /// The next action that was written. It counts as handed over.
+    fn next(&mut self) -> Option<Action> {
+        let is_told = self.given < self.raw.count as usize;
+        let raw = self.actions.get(self.given).filter(|_| is_told)?;
+        self.given += 1;
+        Some(Action::of(raw))
+    }
 }
 
 // SAFETY: all that the session holds is behind `at`, which no other value points to, and was made by `malloc`, whose
@@ -94,149 +91,271 @@ pub struct Session {
 unsafe impl Send for Session {}
 
 impl Session {
-    /// Opens a session, with the options and the connections that its login gave.
+    /// Opens a session whose connections have these CIDs, 1 to 64 of them: all that may ever be. None has joined yet.
     ///
     /// # Errors
     ///
     /// [`Refusal::BadOptions`] and [`Refusal::NoMemory`].
-    pub fn open(options: &Options, connections: &[Connection]) -> Result<Session, Refusal> {
-        let &Options { events, first_cmd_sn, window, units, depth, level } = options;
-        let raw_options = RawOptions { events, first_cmd_sn, window, units, depth, level };
-        let raw = UnsafeCell::new(RawSession { open: false, at: ptr::null_mut() });
-        // SAFETY: the session is closed, the pointers are those of references, and `Connection` is the header's struct.
-        let answer = unsafe { raw::iscsi_c_open(&raw_options, connections.as_ptr(), connections.len(), raw.get()) };
-        let session = Session { raw };
+    pub fn open(options: &Options, cids: &[u16]) -> Result<Session, Refusal> {
+        let raw = UnsafeCell::new(RawSession::CLOSED);
+        // SAFETY: the session is closed, and the pointers are those of references.
+        let answer = unsafe { raw::iscsi_c_open(&options.raw, cids.as_ptr(), cids.len(), raw.get()) };
+        let session = Session { raw, told: Told::NONE };
         Refusal::check(answer).map(|()| session)
     }
 
-    /// A request PDU arrived on a connection: this is its basic header segment. [`effects`](Session::effects) has
-    /// what comes of it.
-    ///
-    /// Data segments, additional header segments and digests are the target's own part. Data-Out and SNACK are passed
-    /// over ([`Reason::Data`](crate::Reason::Data)).
+    /// A connection's login ended: this is the StatSN of its first PDU in the Full Feature Phase (RFC 7143 section 4.2.2.2).
     ///
     /// # Errors
     ///
-    /// [`Refusal::UnknownConnection`], [`Refusal::Exhausted`] and [`Refusal::NotOpen`]. The effects of the last event
-    /// stay then.
-    pub fn arrive(&mut self, cid: u16, header: &[u8; 48]) -> Result<(), Refusal> {
-        // SAFETY: the session is this one's own, and the header has as many bytes as is said.
-        let answer = unsafe { raw::iscsi_c_arrive(self.raw.get_mut(), cid, header.as_ptr(), header.len()) };
-        Refusal::check(answer)
+    /// [`Refusal::CannotJoin`].
+    pub fn join(&mut self, cid: u16, stat_sn: u32, tell: impl FnMut(Action)) -> Result<(), Refusal> {
+        // SAFETY: the session and the room are this one's own.
+        self.call(tell, |session, Room { actions, room, told }| unsafe {
+            raw::iscsi_c_join(session, cid, stat_sn, actions, room, told)
+        })
     }
 
-    /// A logical unit completed a command, with this SCSI status. [`effects`](Session::effects) has what comes of it.
+    /// A request PDU arrived on a connection: this is its basic header segment, and the cookie under which the target keeps what
+    /// it keeps of it. The cookie comes back in the actions and PDUs of this request, and by [`Action::Forget`] at last.
     ///
-    /// A ticket that is none of an enabled command is passed over ([`Reason::Stale`](crate::Reason::Stale)), as an
-    /// abort and the command's end may cross. With CHECK CONDITION (02) the reply carries the sense data of an internal
-    /// target failure; a target with sense data of its own puts it in their place.
+    /// Data segments, additional header segments and digests are the target's own part. So are Data-Outs and SNACKs: they are
+    /// given to [`heard`](Session::heard); here they would be passed over, and their cookies come back at once.
     ///
     /// # Errors
     ///
-    /// [`Refusal::Exhausted`] and [`Refusal::NotOpen`]. The effects of the last event stay then.
-    pub fn complete(&mut self, ticket: u64, status: u8) -> Result<(), Refusal> {
-        // SAFETY: the session is this one's own.
-        let answer = unsafe { raw::iscsi_c_complete(self.raw.get_mut(), ticket, status) };
-        Refusal::check(answer)
+    /// [`Refusal::UnknownConnection`], [`Refusal::NotJoined`], [`Refusal::Exhausted`] and [`Refusal::Busy`]. The cookie isn't
+    /// kept then, and doesn't come back.
+    pub fn arrive(
+        &mut self,
+        cid: u16,
+        header: &[u8; 48],
+        cookie: u64,
+        tell: impl FnMut(Action),
+    ) -> Result<(), Refusal> {
+        // SAFETY: the session and the room are this one's own, and the header has as many bytes as is said.
+        self.call(tell, |session, Room { actions, room, told }| unsafe {
+            raw::iscsi_c_arrive(session, cid, header.as_ptr(), header.len(), cookie, actions, room, told)
+        })
     }
 
-    /// Takes an event: [`arrive`](Session::arrive) or [`complete`](Session::complete), with their refusals.
+    /// A logical unit completed a command, with this SCSI status. Its data was [`put`](Session::put_data) before.
+    ///
+    /// With CHECK CONDITION (02) the reply carries the sense data of an internal target failure; a target with sense data of
+    /// its own puts it in their place as the PDU goes out.
     ///
     /// # Errors
     ///
-    /// Those of the two.
-    pub fn step(&mut self, event: &Event) -> Result<(), Refusal> {
-        match event {
-            Event::Arrive { cid, header } => self.arrive(*cid, header),
-            Event::Complete { ticket, status } => self.complete(*ticket, *status),
+    /// [`Refusal::Stale`]: there is nothing left to complete or to stop. Of a command that was told to stop and hasn't
+    /// [`stopped`](Session::stopped) this is no error: it says that it has, and the status isn't looked at.
+    pub fn complete(&mut self, ticket: u64, status: u8, tell: impl FnMut(Action)) -> Result<(), Refusal> {
+        // SAFETY: the session and the room are this one's own.
+        self.call(tell, |session, Room { actions, room, told }| unsafe {
+            raw::iscsi_c_complete(session, ticket, status, actions, room, told)
+        })
+    }
+
+    /// A command that was told to stop has stopped: its unit doesn't touch the medium for it any more.
+    ///
+    /// # Errors
+    ///
+    /// [`Refusal::Stale`]: no such command with this ticket is left to stop.
+    pub fn stopped(&mut self, ticket: u64, tell: impl FnMut(Action)) -> Result<(), Refusal> {
+        // SAFETY: the session and the room are this one's own.
+        self.call(tell, |session, Room { actions, room, told }| unsafe {
+            raw::iscsi_c_stopped(session, ticket, actions, room, told)
+        })
+    }
+
+    /// The next PDU of a connection. It goes into the transport behind all that went before it there, and then
+    /// [`written`](Session::written) says so.
+    ///
+    /// # Errors
+    ///
+    /// [`Refusal::Nothing`], [`Refusal::Blocked`] and [`Refusal::Over`]: there is none now, until one is written, or any more.
+    pub fn next(&mut self, cid: u16, tell: impl FnMut(Action)) -> Result<Pdu, Refusal> {
+        let (mut bytes, mut pdu) = ([0; Pdu::LONGEST], RawPdu::EMPTY);
+        // SAFETY: the session and the room are this one's own, and the buffer has as many bytes as is said.
+        self.call(tell, |session, Room { actions, room, told }| unsafe {
+            raw::iscsi_c_next(session, cid, bytes.as_mut_ptr(), bytes.len(), &mut pdu, actions, room, told)
+        })?;
+        Ok(Pdu::of(bytes, &pdu))
+    }
+
+    /// The target sends a PDU of its own, with a cookie for what goes with it: a NOP-In, a Text Response or an Asynchronous
+    /// Message. This is its header; its StatSN, ExpCmdSN and MaxCmdSN are filled in as it goes out.
+    ///
+    /// # Errors
+    ///
+    /// [`Refusal::Unfit`], [`Refusal::Closed`] and [`Refusal::Full`]. The cookie isn't kept then, and doesn't come back.
+    pub fn put(&mut self, cid: u16, header: &[u8; 48], cookie: u64, tell: impl FnMut(Action)) -> Result<(), Refusal> {
+        self.put_as(cid, 0, header, cookie, tell)
+    }
+
+    /// The target sends a Data-In without status, or an R2T, of a command that was started. This is its header; its StatSN,
+    /// ExpCmdSN and MaxCmdSN are filled in as it goes out, on the command's own connection and with the cookie of its
+    /// request. Where the command is taken out before, it doesn't go out.
+    ///
+    /// # Errors
+    ///
+    /// [`Refusal::Unfit`], [`Refusal::Gone`], [`Refusal::Closed`] and [`Refusal::Full`].
+    pub fn put_data(&mut self, ticket: u64, header: &[u8; 48], tell: impl FnMut(Action)) -> Result<(), Refusal> {
+        match ticket {
+            // The library's word for a PDU that is of no command.
+            0 => Err(Refusal::Gone),
+            _ => self.put_as(0, ticket, header, 0, tell),
         }
     }
 
-    /// The effects of the last event that wasn't refused, in order: none before the first event, and none where the
-    /// session was closed.
-    pub fn effects(&self) -> Effects<'_> {
-        // SAFETY: the session is this one's own; no other call runs, as it isn't Sync and no call calls back.
-        let count = unsafe { raw::iscsi_c_effect_count(self.raw.get()) };
-        Effects { session: self, next: 0, count }
+    fn put_as(
+        &mut self,
+        cid: u16,
+        ticket: u64,
+        header: &[u8; 48],
+        cookie: u64,
+        tell: impl FnMut(Action),
+    ) -> Result<(), Refusal> {
+        // SAFETY: the session and the room are this one's own, and the header has as many bytes as is said.
+        self.call(tell, |session, Room { actions, room, told }| unsafe {
+            raw::iscsi_c_put(session, cid, ticket, header.as_ptr(), header.len(), cookie, actions, room, told)
+        })
     }
 
-    /// ExpCmdSN and MaxCmdSN as they are after the last event; before the first one, as the session opened.
+    /// The oldest PDU of a connection that [`next`](Session::next) gave and that wasn't written yet has gone into the
+    /// transport, with its data. Where there is none, nothing changes.
     ///
     /// # Errors
     ///
-    /// [`Refusal::NotOpen`].
-    pub fn numbers(&self) -> Result<Numbers, Refusal> {
+    /// None that this crate knows of.
+    pub fn written(&mut self, cid: u16, tell: impl FnMut(Action)) -> Result<(), Refusal> {
+        // SAFETY: the session and the room are this one's own.
+        self.call(tell, |session, Room { actions, room, told }| unsafe {
+            raw::iscsi_c_written(session, cid, actions, room, told)
+        })
+    }
+
+    /// A header arrived that isn't given to [`arrive`](Session::arrive), or not yet: a Data-Out, or a request that is held back
+    /// while the session is busy. What it says to have arrived is heard.
+    ///
+    /// # Errors
+    ///
+    /// None that this crate knows of.
+    pub fn heard(&mut self, cid: u16, header: &[u8; 48], tell: impl FnMut(Action)) -> Result<(), Refusal> {
+        // SAFETY: the session and the room are this one's own, and the header has as many bytes as is said.
+        self.call(tell, |session, Room { actions, room, told }| unsafe {
+            raw::iscsi_c_heard(session, cid, header.as_ptr(), header.len(), actions, room, told)
+        })
+    }
+
+    /// The transport of a connection is gone, and no thread writes there any more: what a Logout of it would do is done, and
+    /// isn't answered.
+    ///
+    /// # Errors
+    ///
+    /// [`Refusal::UnknownConnection`], and [`Refusal::NotJoined`] where it was lost already.
+    pub fn lose(&mut self, cid: u16, tell: impl FnMut(Action)) -> Result<(), Refusal> {
+        // SAFETY: the session and the room are this one's own.
+        self.call(tell, |session, Room { actions, room, told }| unsafe {
+            raw::iscsi_c_lose(session, cid, actions, room, told)
+        })
+    }
+
+    /// Another session reset or cleared a unit: this session's commands of it stop, and are answered with TASK ABORTED.
+    ///
+    /// # Errors
+    ///
+    /// None that this crate knows of.
+    pub fn clear(&mut self, unit: u16, tell: impl FnMut(Action)) -> Result<(), Refusal> {
+        // SAFETY: the session and the room are this one's own.
+        self.call(tell, |session, Room { actions, room, told }| unsafe {
+            raw::iscsi_c_clear(session, unit, actions, room, told)
+        })
+    }
+
+    /// No other session's command of this unit touches the medium any more, behind an [`Action::Reset`] of it.
+    ///
+    /// # Errors
+    ///
+    /// None that this crate knows of.
+    pub fn cleared(&mut self, unit: u16, tell: impl FnMut(Action)) -> Result<(), Refusal> {
+        // SAFETY: the session and the room are this one's own.
+        self.call(tell, |session, Room { actions, room, told }| unsafe {
+            raw::iscsi_c_cleared(session, unit, actions, room, told)
+        })
+    }
+
+    /// ExpCmdSN as the last event left it, and the last MaxCmdSN that was shown.
+    pub fn numbers(&self) -> Numbers {
         let mut numbers = RawNumbers { exp_cmd_sn: 0, max_cmd_sn: 0 };
-        // SAFETY: as in `effects`; `numbers` is written where the answer is 0.
+        // SAFETY: the session is this one's own; no other call runs, as it isn't Sync and no call calls back.
         let answer = unsafe { raw::iscsi_c_numbers(self.raw.get(), &mut numbers) };
         let RawNumbers { exp_cmd_sn, max_cmd_sn } = numbers;
-        Refusal::check(answer).map(|()| Numbers { exp_cmd_sn, max_cmd_sn })
+        match Refusal::check(answer) {
+            Ok(()) => Numbers { exp_cmd_sn, max_cmd_sn },
+            Err(why) => unreachable!("an open session has numbers: {why}"),
+        }
     }
 
-    /// Closes the session and frees what it holds, as a drop does. Every later call is refused as
-    /// [`Refusal::NotOpen`], and there are no effects.
-    ///
-    /// # Errors
-    ///
-    /// [`Refusal::NotOpen`].
-    pub fn close(&mut self) -> Result<(), Refusal> {
-        // SAFETY: the session is this one's own, and stays a closed one.
-        Refusal::check(unsafe { raw::iscsi_c_close(self.raw.get_mut()) })
+    /// Whether a request would be taken now: else [`arrive`](Session::arrive) is refused as [`Refusal::Busy`].
+    pub fn may_take(&self) -> bool {
+        // SAFETY: as in `numbers`.
+        unsafe { raw::iscsi_c_may_take(self.raw.get()) }
     }
 
-    /// The effect at an index. `None` where there is none.
-    fn effect(&self, index: usize) -> Option<Effect> {
-        let mut effect = RawEffect::EMPTY;
-        // SAFETY: as in `effects`; `effect` is written where the answer is 0.
-        let answer = unsafe { raw::iscsi_c_effect(self.raw.get(), index, &mut effect) };
-        (answer == 0).then(|| Effect::of(&effect))
+    /// Whether a ping of the library's own was handed out on a connection, and isn't answered. Time is the target's: one that
+    /// stays so for long is to be [`lost`](Session::lose).
+    pub fn is_asked(&self, cid: u16) -> bool {
+        // SAFETY: as in `numbers`.
+        unsafe { raw::iscsi_c_is_asked(self.raw.get(), cid) }
+    }
+
+    /// Whether a connection may [`join`](Session::join): it is the session's, hasn't joined, is neither closed nor lost.
+    pub fn may_join(&self, cid: u16) -> bool {
+        // SAFETY: as in `numbers`.
+        unsafe { raw::iscsi_c_may_join(self.raw.get(), cid) }
+    }
+
+    /// Closes the session and frees what it holds, as a drop does. Cookies that didn't come back yet don't any more.
+    pub fn close(self) {}
+
+    /// Makes a call, and hands over what it tells: before it what an earlier call left, because what was given there panicked.
+    fn call(
+        &mut self,
+        mut tell: impl FnMut(Action),
+        ask: impl FnOnce(*mut RawSession, Room) -> u32,
+    ) -> Result<(), Refusal> {
+        self.hand_over(&mut tell);
+        let answer = ask(self.raw.get_mut(), self.told.room());
+        self.hand_over(&mut tell);
+        Refusal::check(answer)
+    }
+
+    /// Hands over all that was told, until nothing waits in the library either.
+    fn hand_over(&mut self, tell: &mut impl FnMut(Action)) {
+        loop {
+            while let Some(action) = self.told.next() {
+                tell(action);
+            }
+            if self.told.raw.waiting == 0 {
+                return;
+            }
+            let Room { actions, room, told } = self.told.room();
+            // SAFETY: the session and the room are this one's own.
+            let answer = unsafe { raw::iscsi_c_more(self.raw.get_mut(), actions, room, told) };
+            debug_assert_eq!(answer, 0, "an open session tells what waits");
+        }
     }
 }
 
 impl Drop for Session {
     fn drop(&mut self) {
-        // A session that is closed already is refused, which changes nothing.
-        let _ = self.close();
+        // SAFETY: the session is this one's own, and stays a closed one.
+        let _ = unsafe { raw::iscsi_c_close(self.raw.get_mut()) };
     }
 }
 
 impl fmt::Debug for Session {
     fn fmt(&self, f: &mut fmt::Formatter<'_>) -> fmt::Result {
-        f.debug_struct("Session").field("numbers", &self.numbers().ok()).finish_non_exhaustive()
-    }
-}
-
-/// The effects of an event, in order. It borrows the session, and allocates nothing.
-#[derive(Clone)]
-pub struct Effects<'a> {
-    session: &'a Session,
-    next: usize,
-    count: usize,
-}
-
-impl Iterator for Effects<'_> {
-    type Item = Effect;
-
-    fn next(&mut self) -> Option<Effect> {
-        if self.next == self.count {
-            return None;
-        }
-        self.next += 1;
-        self.session.effect(self.next - 1)
-    }
-
-    fn size_hint(&self) -> (usize, Option<usize>) {
-        let left = self.count - self.next;
-        (left, Some(left))
-    }
-}
-
-impl ExactSizeIterator for Effects<'_> {}
-
-impl FusedIterator for Effects<'_> {}
-
-impl fmt::Debug for Effects<'_> {
-    fn fmt(&self, f: &mut fmt::Formatter<'_>) -> fmt::Result {
-        f.debug_list().entries(self.clone()).finish()
+        f.debug_struct("Session").field("numbers", &self.numbers()).finish_non_exhaustive()
     }
 }

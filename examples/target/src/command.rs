@@ -1,8 +1,9 @@
 //! A command that is in a task set, and the data that it is sent.
 
 use crate::connection::Connection;
+use crate::keys::Keys;
 use crate::lock;
-use crate::pdu::{opcode, place, Header, Pdu, FINAL, READ, WRITE};
+use crate::pdu::{opcode, place, Header, Pdu, FINAL, NO_TAG, READ, WRITE};
 use crate::scsi::{Outcome, Sense};
 use crate::unit::Unit;
 use std::sync::{Arc, Condvar, Mutex, PoisonError};
@@ -12,41 +13,77 @@ use std::time::Duration;
 const OVERFLOW: u8 = 0x04;
 const UNDERFLOW: u8 = 0x02;
 
-/// A command that entered a task set.
+/// A command that was started.
 pub struct Command {
     pub ticket: u64,
+    /// Under which its request is kept.
+    pub cookie: u64,
     pub unit: Arc<Unit>,
     pub header: Header,
     /// The connection that brought it, and on which its data and its response go.
     pub connection: Arc<Connection>,
-    is_stopped: Mutex<bool>,
+    work: Mutex<Work>,
     stopped: Condvar,
 }
 
+/// How far its unit has come.
+#[derive(Clone, Copy, PartialEq, Eq)]
+enum Work {
+    NotBegun,
+    Begun,
+    Stopped,
+}
+
 impl Command {
-    pub fn new(ticket: u64, unit: Arc<Unit>, header: Header, connection: Arc<Connection>) -> Command {
-        Command { ticket, unit, header, connection, is_stopped: Mutex::new(false), stopped: Condvar::new() }
+    pub fn new(ticket: u64, cookie: u64, unit: Arc<Unit>, header: Header, connection: Arc<Connection>) -> Command {
+        let (work, stopped) = (Mutex::new(Work::NotBegun), Condvar::new());
+        Command { ticket, cookie, unit, header, connection, work, stopped }
     }
 
-    /// It left its task set without being completed. Where its unit changes blocks by it just now, this waits for that;
-    /// from then on the unit does nothing more for it, and what is queued of it doesn't go out.
-    pub fn stop(&self) {
-        *lock(&self.is_stopped) = true;
+    /// It is taken out. Whether it has stopped with that: a unit that has begun to execute it goes on to the end.
+    pub fn stop(&self) -> bool {
+        let before = std::mem::replace(&mut *lock(&self.work), Work::Stopped);
         self.stopped.notify_all();
-        self.connection.discard(self.ticket);
+        before == Work::NotBegun
     }
 
     pub fn is_stopped(&self) -> bool {
-        *lock(&self.is_stopped)
+        *lock(&self.work) == Work::Stopped
     }
 
-    /// Executes the command after so long, unless it was stopped. It isn't stopped halfway.
+    /// Executes the command after so long, unless it was stopped before. It isn't stopped halfway.
     pub fn execute<T>(&self, delay: Duration, execute: impl FnOnce() -> T) -> Option<T> {
-        let guard = lock(&self.is_stopped);
-        let waited = self.stopped.wait_timeout_while(guard, delay, |is_stopped| !*is_stopped);
-        let is_stopped = waited.unwrap_or_else(PoisonError::into_inner).0;
-        (!*is_stopped).then(execute)
+        let work = lock(&self.work);
+        let waited = self.stopped.wait_timeout_while(work, delay, |work| *work == Work::NotBegun);
+        let mut work = waited.unwrap_or_else(PoisonError::into_inner).0;
+        if *work == Work::Stopped {
+            return None;
+        }
+        *work = Work::Begun;
+        drop(work);
+        Some(execute())
     }
+}
+
+/// The headers of the Data-Ins that bring so much data, or as much of it as the initiator has room for. They have no numbers
+/// of the session's yet.
+pub fn data_ins(command: &Header, length: usize, keys: &Keys, longest_data: usize) -> Vec<Header> {
+    let (end, max_burst) = (length.min(command.data_length(READ)), keys.max_burst as usize);
+    let mut headers = Vec::new();
+    let mut offset = 0;
+    while offset < end {
+        let burst_end = (offset / max_burst + 1) * max_burst;
+        let part_end = (offset + longest_data).min(burst_end).min(end);
+        let flags = if part_end == burst_end || part_end == end { FINAL } else { 0 };
+        let mut header = Header::new(opcode::DATA_IN, flags, command.tag());
+        header.set(place::LENGTHS, (part_end - offset) as u32);
+        header.set(place::TRANSFER_TAG, NO_TAG);
+        header.set(place::DATA_SN, headers.len() as u32);
+        header.set(place::OFFSET, offset as u32);
+        headers.push(header);
+        offset = part_end;
+    }
+    headers
 }
 
 /// Completes the library's SCSI Response by what the library doesn't know: the residual count, and the unit's sense
@@ -135,5 +172,45 @@ impl Transfer {
     /// What came. An error where some of it was not what had to come.
     pub fn data(self) -> Result<Vec<u8>, Sense> {
         (!self.is_wrong).then_some(self.buffer).ok_or(Sense::WRONG_DATA)
+    }
+}
+
+#[cfg(test)]
+mod tests {
+    use super::*;
+    use std::net::{TcpListener, TcpStream};
+    use std::thread;
+    use std::time::Instant;
+
+    fn command() -> Arc<Command> {
+        let listener = TcpListener::bind("127.0.0.1:0").expect("a port");
+        let stream = TcpStream::connect(listener.local_addr().expect("its address")).expect("a connection");
+        let (unit, header) = (Arc::new(Unit::new(0, 512)), Header::new(opcode::SCSI_COMMAND, FINAL, 9));
+        Arc::new(Command::new(1, 1, unit, header, Arc::new(Connection::new(1, 8192, stream))))
+    }
+
+    #[test]
+    fn one_that_is_not_begun_stops_at_once() {
+        let command = command();
+        assert!(command.stop() && command.is_stopped());
+        assert_eq!(command.execute(Duration::ZERO, || unreachable!("it was stopped")), None::<()>);
+    }
+
+    #[test]
+    fn one_that_is_begun_goes_on_to_its_end() {
+        let command = command();
+        let executed = command.execute(Duration::ZERO, || command.stop());
+        assert_eq!((executed, command.is_stopped()), (Some(false), true));
+    }
+
+    #[test]
+    fn one_that_is_delayed_stops_at_once() {
+        let (command, began) = (command(), Instant::now());
+        let worker = command.clone();
+        let worker = thread::spawn(move || worker.execute(Duration::from_secs(60), || ()));
+        thread::sleep(Duration::from_millis(20));
+        assert!(command.stop());
+        assert_eq!(worker.join().expect("the worker ends"), None);
+        assert!(began.elapsed() < Duration::from_secs(30));
     }
 }

@@ -8,6 +8,7 @@ pub mod options;
 pub mod pdu;
 pub mod scsi;
 mod session;
+mod state;
 mod trace;
 pub mod unit;
 

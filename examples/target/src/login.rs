@@ -38,6 +38,7 @@ enum Refused {
 /// A login under way.
 struct Login<'a> {
     target: &'a Arc<Target>,
+    stream: &'a TcpStream,
     /// Where the connection reached the target.
     address: String,
     keys: Keys,
@@ -47,7 +48,7 @@ struct Login<'a> {
 /// Takes a connection to the Full Feature Phase. `None` where the login was refused, or broke off.
 pub fn log_in(requests: &mut impl Read, mut stream: &TcpStream, target: &Arc<Target>) -> Result<Option<Member>, Fault> {
     let address = stream.local_addr()?.to_string();
-    let mut login = Login { target, address, keys: Keys::default(), has_declared: false };
+    let mut login = Login { target, stream, address, keys: Keys::default(), has_declared: false };
     for stat_sn in 0..MOST_REQUESTS {
         let Some(request) = Pdu::read(requests)? else {
             return Ok(None);
@@ -129,9 +130,10 @@ impl Login<'_> {
         } else {
             known.filter(|session| !session.keys.is_discovery).ok_or(Refused::NoSession)?
         };
-        let (cid, first_stat_sn) = (request.short(place::CID), response.number(place::STAT_SN) + 1);
-        let connection = Arc::new(Connection::new(cid, self.keys.longest_data as usize, first_stat_sn));
-        response.set_numbers(session.attach(&connection).ok_or(Refused::NotIncluded)?);
+        let stream = self.stream.try_clone().map_err(|_| Refused::OutOfResources)?;
+        let connection = Connection::new(request.short(place::CID), self.keys.longest_data as usize, stream);
+        let (connection, stat_sn) = (Arc::new(connection), response.number(place::STAT_SN) + 1);
+        response.set_numbers(session.attach(&connection, stat_sn).ok_or(Refused::NotIncluded)?);
         response.0[place::TSIH..][..2].copy_from_slice(&session.tsih.to_be_bytes());
         Ok(Member { session, connection })
     }

@@ -10,8 +10,8 @@ pub mod opcode {
     pub const TEXT: u8 = 0x04;
     pub const DATA_OUT: u8 = 0x05;
     pub const LOGOUT: u8 = 0x06;
+    pub const NOP_IN: u8 = 0x20;
     pub const SCSI_RESPONSE: u8 = 0x21;
-    pub const FUNCTION_RESPONSE: u8 = 0x22;
     pub const LOGIN_RESPONSE: u8 = 0x23;
     pub const TEXT_RESPONSE: u8 = 0x24;
     pub const DATA_IN: u8 = 0x25;
@@ -68,10 +68,6 @@ impl Header {
         self.0[0] & 0x3f
     }
 
-    pub fn is_immediate(&self) -> bool {
-        self.0[0] & 0x40 != 0
-    }
-
     pub fn is_final(&self) -> bool {
         self.0[1] & FINAL != 0
     }
@@ -91,6 +87,11 @@ impl Header {
 
     pub fn tag(&self) -> u32 {
         self.number(place::TAG)
+    }
+
+    /// How long the data segment is, without the bytes that pad it.
+    pub fn length(&self) -> usize {
+        (self.number(place::LENGTHS) & 0x00ff_ffff) as usize
     }
 
     /// How much data the initiator of a SCSI Command with this bit, `READ` or `WRITE`, has room for or has ready.
@@ -124,7 +125,7 @@ impl Pdu {
             return Ok(None);
         }
         stream.read_exact(&mut header.0[1..])?;
-        let length = (header.number(place::LENGTHS) & 0x00ff_ffff) as usize;
+        let length = header.length();
         if length > LONGEST_DATA {
             return Err(io::Error::new(ErrorKind::InvalidData, "a data segment that is too long"));
         }

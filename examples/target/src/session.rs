@@ -1,26 +1,28 @@
 //! A session in its Full Feature Phase: the library decides, and this carries out.
 //!
-//! Which request executes when, what starts, what leaves, and which reply goes out with which numbers comes from the
+//! Which request executes when, what starts, what stops, and which PDU goes out when with which numbers comes from the
 //! library alone. The target's own part is the data of commands (immediate data, Data-Out, R2T and Data-In), what its
 //! units answer, and four things that it puts into the library's replies (`complete_reply`).
 
-use crate::command::{complete_response, Command, Transfer};
-use crate::connection::{Connection, Fault, Fence};
+use crate::command::{complete_response, data_ins, Command};
+use crate::connection::{Connection, Fault, PATIENCE};
 use crate::keys::{add_pair, pairs, Keys};
-use crate::pdu::{opcode, place, Header, Pdu, FINAL, NO_TAG, READ, WRITE};
-use crate::scsi::{wanted_length, Outcome};
-use crate::unit::Job;
+use crate::pdu::{opcode, place, Header, Pdu, FINAL, NO_TAG};
+use crate::scsi::Outcome;
+use crate::state::{State, MOST_DATA_INS};
 use crate::{lock, Target};
-use cundarrix::{Effect, Numbers, Options, Refusal, Reply};
-use std::collections::HashMap;
-use std::sync::{Arc, Mutex};
+use cundarrix::{Numbers, Options, Refusal};
+use std::sync::{Arc, Condvar, Mutex, MutexGuard, PoisonError};
 
-/// A session's connections are fixed when the library opens it; so it is opened with the CID of the first one and so
-/// many of 0, 1, 2 .. that there are 64, and a connection that joins has one of these.
+/// A session's connections are fixed when the library opens it. One that may have several is opened with the CID of the
+/// first one and so many of 0, 1, 2 .. that there are 64, and a connection that joins has one of these.
 const MOST_CONNECTIONS: usize = 64;
 
 /// The most commands of a unit's task set.
 const DEPTH: u32 = 256;
+
+/// The most immediate commands of a connection that are live. Each command has one R2T that waits, at the most.
+const MOST_IMMEDIATE: u32 = 8;
 
 pub struct Session {
     pub tsih: u16,
@@ -28,276 +30,198 @@ pub struct Session {
     pub keys: Keys,
     /// Where the target is reached, as SendTargets tells it.
     address: String,
-    target: Arc<Target>,
+    pub target: Arc<Target>,
     state: Mutex<State>,
-}
-
-/// What the session's lock guards. Each event is taken, and its effects carried out, under it.
-struct State {
-    library: cundarrix::Session,
-    connections: HashMap<u16, Attached>,
-    /// The CIDs that a connection may still have; none, once the session is over.
-    free_cids: Vec<u16>,
-    /// The data of the requests that haven't executed, by the I bit and CmdSN.
-    held: HashMap<(bool, u32), Vec<u8>>,
-    live: HashMap<u64, Live>,
-    next_transfer_tag: u32,
-}
-
-struct Attached {
-    connection: Arc<Connection>,
-    next_stat_sn: u32,
-}
-
-/// A command in a task set, and its data.
-struct Live {
-    command: Arc<Command>,
-    transfer: Transfer,
+    /// A request may be taken that had to wait, or nothing is left of the session.
+    changed: Condvar,
 }
 
 impl Session {
     /// Opens the library's session by its first login, for all connections that may come.
     pub fn open(target: &Arc<Target>, tsih: u16, login: &Header, keys: Keys, address: String) -> Result<Self, Refusal> {
-        let options = Options {
-            first_cmd_sn: login.number(place::CMD_SN),
-            window: target.options.window,
-            units: target.units.len() as u32,
-            depth: DEPTH,
-            level: keys.level,
-            ..Options::default()
-        };
+        let window = target.options.window;
+        let options = Options::new()
+            .first_cmd_sn(login.number(place::CMD_SN))
+            .window(window)
+            .units(target.units.len() as u32)
+            .depth(DEPTH)
+            .level(keys.level)
+            .own(MOST_DATA_INS + window + MOST_IMMEDIATE)
+            .unwritten(1);
         let first = login.short(place::CID);
         let others = (0..=u16::MAX).filter(|cid| *cid != first);
-        let free_cids: Vec<u16> = std::iter::once(first).chain(others).take(MOST_CONNECTIONS).collect();
-        let connection = |&cid| cundarrix::Connection { cid, first_stat_sn: 0 };
-        let library = cundarrix::Session::open(&options, &free_cids.iter().map(connection).collect::<Vec<_>>())?;
-        let state = Mutex::new(State {
-            library,
-            connections: HashMap::new(),
-            free_cids,
-            held: HashMap::new(),
-            live: HashMap::new(),
-            next_transfer_tag: 0,
-        });
-        Ok(Session { tsih, isid: login.part(place::ISID), keys, address, target: target.clone(), state })
+        let count = if keys.connections == 1 { 1 } else { MOST_CONNECTIONS };
+        let cids: Vec<u16> = std::iter::once(first).chain(others).take(count).collect();
+        let state = Mutex::new(State::new(cundarrix::Session::open(&options, &cids)?));
+        let (isid, target) = (login.part(place::ISID), target.clone());
+        Ok(Session { tsih, isid, keys, address, target, state, changed: Condvar::new() })
     }
 
-    /// A connection joins, at these numbers. `None` where the session can't take it.
-    ///
-    /// The library counts StatSN from 0 on each connection, since it has to know the first one before a connection logs
-    /// in, while the login takes as many responses as the initiator makes it. So the login's next StatSN is added to
-    /// each StatSN of the library's.
-    pub fn attach(&self, connection: &Arc<Connection>) -> Option<Numbers> {
+    /// A connection joins, whose next StatSN is this. `None` where the session can't take it.
+    pub fn attach(self: &Arc<Session>, connection: &Arc<Connection>, stat_sn: u32) -> Option<Numbers> {
         let mut state = lock(&self.state);
-        let has_room = state.connections.len() < self.keys.connections as usize;
-        let place = state.free_cids.iter().position(|cid| has_room && *cid == connection.cid)?;
-        state.free_cids.swap_remove(place);
-        let attached = Attached { connection: connection.clone(), next_stat_sn: connection.first_stat_sn };
-        state.connections.insert(connection.cid, attached);
-        Some(state.numbers())
+        let has_room = !state.is_over && state.connections.len() < self.keys.connections as usize;
+        let has_joined = has_room && state.join(connection, stat_sn);
+        state.carry_out(self);
+        has_joined.then(|| state.library.numbers())
     }
 
-    /// A PDU arrived.
-    pub fn take(self: &Arc<Session>, cid: u16, mut pdu: Pdu) -> Result<(), Fault> {
-        let opcode = pdu.header.opcode();
-        if self.keys.is_discovery && ![opcode::NOP_OUT, opcode::TEXT, opcode::LOGOUT].contains(&opcode) {
+    /// A PDU arrived. It waits while the library can't take it.
+    pub fn take(self: &Arc<Session>, connection: &Arc<Connection>, pdu: Pdu) -> Result<(), Fault> {
+        let (cid, header) = (connection.cid, pdu.header);
+        let is_talk = [opcode::NOP_OUT, opcode::TEXT, opcode::LOGOUT].contains(&header.opcode());
+        if self.keys.is_discovery && !is_talk {
             return Err("a discovery session is for Text and Logout alone".into());
         }
         let mut state = lock(&self.state);
-        if opcode == opcode::DATA_OUT {
+        if header.opcode() == opcode::DATA_OUT {
             state.take_data(self, cid, &pdu);
+            self.let_go(state);
             return Ok(());
         }
-        state.library.arrive(cid, &pdu.header.0)?;
-        let effects: Vec<Effect> = state.library.effects().collect();
-        let data = std::mem::take(&mut pdu.data);
-        if !data.is_empty() && !matches!(effects[..], [Effect::Ignore { .. }]) {
-            state.held.insert((pdu.header.is_immediate(), pdu.header.number(place::CMD_SN)), data);
-        }
-        state.carry_out(self, effects, pdu, &Outcome::failed(None));
-        Ok(())
-    }
-
-    /// Sends the data of a READ, which carries no status and takes no StatSN. `false` where the command was stopped, or
-    /// its connection closed: then nothing more of it goes out.
-    pub fn send_data(&self, command: &Command, data: &[u8]) -> bool {
-        let data = &data[..data.len().min(command.header.data_length(READ))];
-        let (mut offset, mut data_sn) = (0, 0);
-        for burst in data.chunks(self.keys.max_burst as usize) {
-            let mut left = burst.len();
-            for part in burst.chunks(command.connection.longest_data) {
-                left -= part.len();
-                let flags = if left == 0 { FINAL } else { 0 };
-                let mut header = Header::new(opcode::DATA_IN, flags, command.header.tag());
-                header.set(place::TRANSFER_TAG, NO_TAG);
-                header.set(place::DATA_SN, data_sn);
-                header.set(place::OFFSET, offset);
-                header.set_numbers(lock(&self.state).numbers());
-                if !command.connection.post_data(command, Pdu { header, data: part.to_vec() }.to_bytes()) {
-                    return false;
+        let cookie = state.keep(connection, pdu);
+        loop {
+            let taken = state.call(|library, tell| library.arrive(cid, &header.0, cookie, tell));
+            match taken {
+                Err(Refusal::Busy) if !state.is_broken(cid) => {
+                    // What it acknowledges may be what others wait for.
+                    let _ = state.call(|library, tell| library.heard(cid, &header.0, tell));
+                    state.carry_out(self);
+                    let wait = |state: &mut State| !state.library.may_take() && !state.is_broken(cid);
+                    state = self.changed.wait_while(state, wait).unwrap_or_else(PoisonError::into_inner);
                 }
-                (offset, data_sn) = (offset + part.len() as u32, data_sn + 1);
+                Err(why) => {
+                    state.discard(cookie);
+                    self.let_go(state);
+                    return Err(why.into());
+                }
+                Ok(()) => {
+                    self.let_go(state);
+                    return Ok(());
+                }
             }
         }
-        !command.is_stopped()
     }
 
-    /// A unit completed a command. Whether it is answered: one that left before isn't.
-    pub fn complete(self: &Arc<Session>, command: &Command, outcome: &Outcome) -> bool {
+    /// A unit ends a command that it executed, or that was stopped before (`None`): its data and its response go out. Whether
+    /// it is answered.
+    pub fn end_command(self: &Arc<Session>, command: &Command, outcome: Option<Outcome>) -> bool {
+        let outcome = outcome.map(Arc::new);
         let mut state = lock(&self.state);
-        let is_taken = !command.is_stopped() && state.library.complete(command.ticket, outcome.status).is_ok();
-        if is_taken {
-            state.live.remove(&command.ticket);
-            let effects = state.library.effects().collect();
-            state.carry_out(self, effects, Pdu { header: command.header, data: Vec::new() }, outcome);
+        if let Some(outcome) = &outcome {
+            state.keep_outcome(command.cookie, outcome);
+            state = self.put_data(state, command, outcome);
         }
-        is_taken
+        let ended = match &outcome {
+            Some(outcome) if !command.is_stopped() => {
+                state.call(|library, tell| library.complete(command.ticket, outcome.status, tell)).is_ok()
+            }
+            _ => {
+                // Of a command that no worker had begun it was said before.
+                let _ = state.call(|library, tell| library.stopped(command.ticket, tell));
+                false
+            }
+        };
+        self.let_go(state);
+        ended
     }
 
-    /// A connection broke, or its initiator closed it. Where that wasn't after a Logout, the session ends with it, as
-    /// it does without error recovery.
-    pub fn lose(&self, cid: u16) {
+    /// Puts the data of a READ, and waits for room where need be, until the command is stopped.
+    fn put_data<'a>(
+        self: &'a Arc<Session>,
+        mut state: MutexGuard<'a, State>,
+        command: &Command,
+        outcome: &Outcome,
+    ) -> MutexGuard<'a, State> {
+        let connection = &command.connection;
+        for header in data_ins(&command.header, outcome.data.len(), &self.keys, connection.longest_data) {
+            let is_full = |state: &mut State| !state.has_room(connection.cid) && !command.is_stopped();
+            state = connection.changed.wait_while(state, is_full).unwrap_or_else(PoisonError::into_inner);
+            if command.is_stopped() || state.put_data_in(command, &header).is_err() {
+                break;
+            }
+            state.carry_out(self);
+        }
+        state
+    }
+
+    /// The bytes of the next PDU of a connection, once there is one; `has_written`: the last one is written. `None` where
+    /// nothing goes out there any more.
+    pub fn next(self: &Arc<Session>, connection: &Connection, has_written: bool) -> Option<Vec<u8>> {
+        let cid = connection.cid;
         let mut state = lock(&self.state);
-        if state.connections.contains_key(&cid) {
-            state.end(self, true);
+        if has_written {
+            let _ = state.call(|library, tell| library.written(cid, tell));
         }
-    }
-
-    /// Another login takes the session's place.
-    pub fn abandon(&self) {
-        lock(&self.state).end(self, true);
-    }
-}
-
-impl State {
-    fn numbers(&self) -> Numbers {
-        self.library.numbers().expect("the library's session is open until it is dropped")
-    }
-
-    /// Carries out the effects of an event, in order. `current` is the request that they answer: that which arrived, or
-    /// whose command a unit completed, until another one executes. It has its data once it executes.
-    fn carry_out(&mut self, session: &Arc<Session>, effects: Vec<Effect>, mut current: Pdu, outcome: &Outcome) {
-        for effect in effects {
-            match effect {
-                Effect::Deliver { cmd_sn, header, .. } | Effect::Immediate { cmd_sn, header, .. } => {
-                    let header = Header(header);
-                    let data = self.held.remove(&(header.is_immediate(), cmd_sn)).unwrap_or_default();
-                    current = Pdu { header, data };
+        loop {
+            let next = state.call(|library, tell| library.next(cid, tell));
+            let goes_on = state.goes_on(cid);
+            match next {
+                Ok(handed) if goes_on => {
+                    let outgoing = state.outgoing(self, connection, &handed);
+                    self.let_go(state);
+                    return Some(outgoing.to_bytes());
                 }
-                Effect::Wait { .. } | Effect::Void { .. } | Effect::Ignore { .. } => {}
-                Effect::Empty { cmd_sn } => drop(self.held.remove(&(false, cmd_sn))),
-                Effect::Enter { ticket, unit, cid, .. } => self.enter(session, ticket, unit, cid, &mut current),
-                Effect::Enable { ticket, .. } => self.advance(session, ticket),
-                // A command that a unit completed isn't live any more.
-                Effect::Leave { ticket, .. } => {
-                    if let Some(live) = self.live.remove(&ticket) {
-                        live.command.stop();
-                    }
+                Err(Refusal::Nothing) if goes_on => state.carry_out(self),
+                _ => {
+                    self.let_go(state);
+                    return None;
                 }
-                Effect::Send(reply) => self.send(session, reply, &current, outcome),
-                Effect::CloseConnection { cid } => {
-                    if let Some(attached) = self.connections.remove(&cid) {
-                        attached.connection.close(false);
-                    }
-                }
-                Effect::CloseSession => self.end(session, false),
             }
-        }
-        // The library counts the CIDs that never came as open; the session ends with the last one that did.
-        if self.connections.is_empty() {
-            self.end(session, false);
-        }
-    }
-
-    fn enter(&mut self, session: &Session, ticket: u64, unit: u16, cid: u16, current: &mut Pdu) {
-        if let (Some(attached), Some(unit)) = (self.connections.get(&cid), session.target.units.get(unit as usize)) {
-            let (header, data) = (current.header, std::mem::take(&mut current.data));
-            let wanted = wanted_length(unit, &header.part(place::CDB)).min(header.data_length(WRITE));
-            let transfer = Transfer::new(&header, data, wanted, session.keys.first_burst as usize);
-            let command = Arc::new(Command::new(ticket, unit.clone(), header, attached.connection.clone()));
-            self.live.insert(ticket, Live { command, transfer });
+            self.changed.notify_all();
+            let waited = connection.changed.wait_timeout_while(state, PATIENCE, |state| state.is_quiet(cid));
+            state = waited.unwrap_or_else(PoisonError::into_inner).0;
         }
     }
 
-    /// Asks for the data that an enabled command needs next, or gives the command to its unit once all is there. An
-    /// R2T carries the next StatSN and takes none.
-    fn advance(&mut self, session: &Arc<Session>, ticket: u64) {
-        let numbers = self.numbers();
-        let Some(Live { command, transfer }) = self.live.get_mut(&ticket) else {
-            return;
-        };
-        let asked = transfer.ask(&command.header, self.next_transfer_tag, session.keys.max_burst as usize);
-        let Some(mut header) = asked else {
-            let data = std::mem::take(transfer).data();
-            return command.unit.push(Job { session: session.clone(), command: command.clone(), data });
-        };
-        self.next_transfer_tag = (self.next_transfer_tag + 1) % NO_TAG;
-        header.set_numbers(numbers);
-        if let Some(attached) = self.connections.get(&command.connection.cid) {
-            header.set(place::STAT_SN, attached.next_stat_sn);
-            attached.connection.post(Pdu { header, data: Vec::new() }.to_bytes(), Some(ticket), Fence::new());
+    /// A connection's reader is at its end: what is still to be written there isn't.
+    pub fn break_off(self: &Arc<Session>, cid: u16) {
+        let mut state = lock(&self.state);
+        state.break_off(cid);
+        self.let_go(state);
+    }
+
+    /// A connection is gone, with its threads. Where that wasn't by a Logout, the session ends with it, as it does without
+    /// error recovery; it also ends with its last connection.
+    pub fn lose(self: &Arc<Session>, cid: u16) {
+        let mut state = lock(&self.state);
+        let was_closed = state.connections.remove(&cid).is_some_and(|attached| attached.is_closed);
+        let _ = state.call(|library, tell| library.lose(cid, tell));
+        if !was_closed || state.connections.is_empty() {
+            state.end();
         }
+        self.let_go(state);
     }
 
-    /// A Data-Out arrived. The library doesn't look at it. What is for no command any more is discarded.
-    fn take_data(&mut self, session: &Arc<Session>, cid: u16, pdu: &Pdu) {
-        let (tag, transfer_tag) = (pdu.header.tag(), pdu.header.number(place::TRANSFER_TAG));
-        let live = self.live.values_mut().find(|live| live.transfer.awaits(transfer_tag));
-        if let Some(live) = live.filter(|live| live.command.connection.cid == cid && live.command.header.tag() == tag) {
-            live.transfer.take(pdu);
-            if pdu.header.is_final() {
-                let ticket = live.command.ticket;
-                self.advance(session, ticket);
-            }
+    /// Another login takes the session's place, once all of its commands have stopped.
+    pub fn abandon(self: &Arc<Session>) {
+        let mut state = lock(&self.state);
+        state.end();
+        state.carry_out(self);
+        self.changed.notify_all();
+        let waited = self.changed.wait_while(state, |state| !state.is_left());
+        self.let_go(waited.unwrap_or_else(PoisonError::into_inner));
+    }
+
+    /// Carries out what was told, and lets the lock go. A session of which nothing is left is the target's no more.
+    fn let_go(self: &Arc<Session>, mut state: MutexGuard<State>) {
+        state.carry_out(self);
+        if state.is_left() {
+            lock(&self.target.sessions).by_tsih.remove(&self.tsih);
         }
+        self.changed.notify_all();
     }
 
-    /// Sends a reply, with the connection's own StatSN.
-    fn send(&mut self, session: &Session, reply: Reply, current: &Pdu, outcome: &Outcome) {
-        let mut pdu = Pdu { header: Header(reply.header), data: reply.data.to_vec() };
-        session.complete_reply(&mut pdu, current, outcome);
-        let fence = self.fence(&pdu.header, &current.header);
-        if let Some(attached) = self.connections.get_mut(&reply.cid) {
-            let stat_sn = reply.stat_sn.wrapping_add(attached.connection.first_stat_sn);
-            attached.next_stat_sn = stat_sn.wrapping_add(1);
-            pdu.header.set(place::STAT_SN, stat_sn);
-            pdu.data.truncate(attached.connection.longest_data);
-            attached.connection.post(pdu.to_bytes(), None, fence);
-        }
-    }
-
-    /// What goes out before a reply: where an abort of several tasks is complete, all that the session's connections
-    /// have queued (the response fence of RFC 7143 section 4.2.3.3).
-    fn fence(&self, reply: &Header, current: &Header) -> Fence {
-        const FUNCTION_COMPLETE: u8 = 0;
-        let is_fenced = reply.opcode() == opcode::FUNCTION_RESPONSE
-            && reply.0[2] == FUNCTION_COMPLETE
-            && [0x82, 0x84, 0x85].contains(&current.0[1]);
-        let others = self.connections.values().map(|attached| &attached.connection).filter(|_| is_fenced);
-        others.map(|other| (other.clone(), other.queued())).collect()
-    }
-
-    /// The session is over: its commands stop, and its connections are closed.
-    fn end(&mut self, session: &Session, is_at_once: bool) {
-        self.live.drain().for_each(|(_, live)| live.command.stop());
-        self.connections.drain().for_each(|(_, attached)| attached.connection.close(is_at_once));
-        self.free_cids.clear();
-        self.held.clear();
-        lock(&session.target.sessions).by_tsih.remove(&session.tsih);
-    }
-}
-
-impl Session {
     /// Puts into a reply of the library's what the library doesn't know: the residual count and the unit's sense data
     /// of a SCSI Response, the ping's data of a NOP-In, and the Text Response in place of the Reject, as the library
     /// has no negotiation. Its numbers, its tag, its status and its place in the order stay the library's.
-    fn complete_reply(&self, pdu: &mut Pdu, current: &Pdu, outcome: &Outcome) {
-        match (current.header.opcode(), pdu.header.opcode()) {
-            (opcode::SCSI_COMMAND, opcode::SCSI_RESPONSE) => complete_response(pdu, &current.header, outcome),
-            (opcode::NOP_OUT, _) => pdu.data = current.data.clone(),
-            (opcode::TEXT, opcode::REJECT) if current.header.tag() != NO_TAG => {
-                if let Some(data) = self.text_answer(&current.header, &current.data) {
-                    let mut header = Header::new(opcode::TEXT_RESPONSE, FINAL, current.header.tag());
+    pub fn complete_reply(&self, pdu: &mut Pdu, request: &Pdu, outcome: &Outcome) {
+        match (request.header.opcode(), pdu.header.opcode()) {
+            (opcode::SCSI_COMMAND, opcode::SCSI_RESPONSE) => complete_response(pdu, &request.header, outcome),
+            (opcode::NOP_OUT, opcode::NOP_IN) => pdu.data = request.data.clone(),
+            (opcode::TEXT, opcode::REJECT) if request.header.tag() != NO_TAG => {
+                if let Some(data) = self.text_answer(&request.header, &request.data) {
+                    let mut header = Header::new(opcode::TEXT_RESPONSE, FINAL, request.header.tag());
                     header.set(place::TRANSFER_TAG, NO_TAG);
                     header.0[place::STAT_SN..][..12].copy_from_slice(&pdu.header.0[place::STAT_SN..][..12]);
                     *pdu = Pdu { header, data };

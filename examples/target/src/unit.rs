@@ -59,20 +59,18 @@ impl Unit {
             let next = lock_after(&self.jobs, &self.is_wanted, |jobs| jobs.is_empty()).pop_front();
             if let Some(job) = next {
                 let begin = now();
-                let outcome = self.execute(&job, delay);
+                let outcome = job.command.execute(delay, || self.execute(&job));
                 let end = now();
-                let is_completed = outcome.is_some_and(|outcome| job.session.complete(&job.command, &outcome));
+                let is_completed = job.session.end_command(&job.command, outcome);
                 trace.write(&job, begin, end, is_completed);
             }
         }
     }
 
-    /// Executes a command, and sends the data of a READ. `None` where the command was stopped.
-    fn execute(&self, job: &Job, delay: Duration) -> Option<Outcome> {
-        let outcome = job.command.execute(delay, || match &job.data {
+    fn execute(&self, job: &Job) -> Outcome {
+        match &job.data {
             Ok(data) => scsi::execute(self, &job.command.header.part(place::CDB), data),
             Err(sense) => Outcome::failed(Some(*sense)),
-        })?;
-        job.session.send_data(&job.command, &outcome.data).then_some(outcome)
+        }
     }
 }

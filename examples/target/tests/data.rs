@@ -1,6 +1,7 @@
 //! The data of a command: how it comes, and the residuals.
 
-use target::command::{complete_response, Transfer};
+use target::command::{complete_response, data_ins, Transfer};
+use target::keys::Keys;
 use target::pdu::{opcode, place, Header, Pdu, FINAL};
 use target::scsi::Outcome;
 
@@ -79,4 +80,24 @@ fn immediate_data_is_no_longer_than_the_command_and_the_first_burst_allow() {
         assert_eq!(asked(&mut transfer, 5).is_some(), is_right && length < 40, "{length} of {first_burst}");
         assert_eq!(transfer.data().is_ok(), is_right, "{length} of {first_burst}");
     }
+}
+
+#[test]
+fn data_goes_out_in_parts_that_end_with_their_bursts() {
+    let mut read = Header::new(opcode::SCSI_COMMAND, 0x40 | FINAL, 9);
+    read.set(place::EXPECTED_LENGTH, 44);
+    let keys = Keys { max_burst: 32, ..Keys::default() };
+    let parts = |length, longest| -> Vec<(u32, usize, u32, bool)> {
+        let headers = data_ins(&read, length, &keys, longest);
+        headers.iter().for_each(|header| assert_eq!((header.opcode(), header.tag()), (opcode::DATA_IN, 9)));
+        let part = |header: &Header| {
+            (header.number(place::OFFSET), header.length(), header.number(place::DATA_SN), header.is_final())
+        };
+        headers.iter().map(part).collect()
+    };
+    assert_eq!(parts(40, 20), [(0, 20, 0, false), (20, 12, 1, true), (32, 8, 2, true)]);
+    assert_eq!(parts(40, 64), [(0, 32, 0, true), (32, 8, 1, true)]);
+    // More than the initiator has room for isn't sent.
+    assert_eq!(parts(50, 64), [(0, 32, 0, true), (32, 12, 1, true)]);
+    assert_eq!(parts(0, 64), []);
 }
