@@ -120,5 +120,5 @@ fn cases() {
             (replies, stopping) = (replies + more, stopping + stops);
         }
     }
-    assert!(replies > 500 && stopping > 50, "{replies} replies, {stopping} events in which a command stops");
+    assert!(replies > 200 && stopping > 20, "{replies} replies, {stopping} events in which a command stops");
 }

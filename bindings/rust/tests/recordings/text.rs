@@ -91,6 +91,11 @@ pub fn options_of(words: &str) -> (Options, bool) {
     (options, threads)
 }
 
+/// What kind of effect a line has.
+fn word_of(effect: &str) -> &str {
+    effect.split(' ').next().unwrap_or(effect)
+}
+
 /// Reads a report, whose later lines stand on its earlier ones.
 #[derive(Default)]
 pub struct Reader {
@@ -111,7 +116,7 @@ impl Reader {
     /// What the effects of an event come to.
     pub fn outcome(&mut self, effects: &[&str]) -> Outcome {
         let (mut outcome, mut enabled) = (Outcome::default(), Vec::new());
-        outcome.is_nothing = matches!(effects, [only] if !only.starts_with("wait") && !only.starts_with("send"));
+        outcome.is_nothing = matches!(effects, [only] if ["ignore", "deliver", "immediate"].contains(&word_of(only)));
         self.executing = None;
         let mut item = 0;
         for effect in effects {
