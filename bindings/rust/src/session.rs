@@ -77,6 +77,7 @@ impl Told {
     }
 
     /// The next action that was written. It counts as handed over.
+    #[inline]
     fn next(&mut self) -> Option<Action> {
         let is_told = self.given < self.raw.count as usize;
         let raw = self.actions.get(self.given).filter(|_| is_told)?;
