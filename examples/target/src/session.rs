@@ -15,8 +15,8 @@ use cundarrix::{Numbers, Options, Refusal};
 use std::sync::{Arc, Condvar, Mutex, MutexGuard, PoisonError};
 
 /// A session's connections are fixed when the library opens it. One that may have several is opened with the CID of the
-/// first one and so many of 0, 1, 2 .. that there are 64, and a connection that joins has one of these.
-const MOST_CONNECTIONS: usize = 64;
+/// first one and so many of 0, 1, 2 .. that there are 16, and a connection that joins has one of these.
+const MOST_CONNECTIONS: usize = 16;
 
 /// The most commands of a unit's task set.
 const DEPTH: u32 = 256;
