@@ -30,7 +30,7 @@ struct Walk {
     actions: Vec<Action>,
     next_cookie: u64,
     kept: HashSet<u64>,
-    last_ticket: u64,
+    started: HashSet<u64>,
     running: Vec<u64>,
     stopping: Vec<u64>,
     ready: HashSet<u16>,
@@ -50,16 +50,15 @@ impl Walk {
         let mut session = Session::open(&options, &CIDS).expect("the options are right");
         let shown = CIDS.iter().map(|cid| (*cid, (1, 1, 0))).collect();
         CIDS.iter().for_each(|cid| session.join(*cid, 1, |action| panic!("{action:?}")).expect("it joins"));
-        let (kept, ready, closed, lost, handed) = Default::default();
+        let (kept, started, ready, closed, lost, handed) = Default::default();
         let (running, stopping, pings, actions) = Default::default();
-        let (next_cookie, last_ticket) = (0, 0);
         Walk {
             session,
             random,
             actions,
-            next_cookie,
+            next_cookie: 0,
             kept,
-            last_ticket,
+            started,
             running,
             stopping,
             ready,
@@ -87,9 +86,7 @@ impl Walk {
     fn take(&mut self, action: Action) {
         match action {
             Action::Start { ticket, cookie, .. } => {
-                assert!(self.kept.contains(&cookie) && ticket > 0, "{action:?}");
-                assert!(!self.running.contains(&ticket) && !self.stopping.contains(&ticket), "{action:?} again");
-                self.last_ticket = self.last_ticket.max(ticket);
+                assert!(self.kept.contains(&cookie) && self.started.insert(ticket), "{action:?}");
                 self.running.push(ticket);
             }
             Action::Stop { ticket, cookie, .. } => {
@@ -259,7 +256,7 @@ fn walks() {
     for seed in 1..=400 {
         let mut walk = Walk::new(seed);
         (0..600).for_each(|_| walk.step());
-        (tickets, cookies) = (tickets + walk.last_ticket, cookies + walk.next_cookie);
+        (tickets, cookies) = (tickets + walk.started.len(), cookies + walk.next_cookie);
         closing += u64::from(walk.closed.len() + walk.lost.len() > 0);
         assert_eq!(end(walk), 0, "seed {seed}: cookies are kept for ever");
     }
