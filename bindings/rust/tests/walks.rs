@@ -1,6 +1,6 @@
-//! Walks of random calls, and what holds of each: a command starts once, and stops only if it was started; a connection that
-//! gives something was told to be ready, and is told once; StatSN counts, and ExpCmdSN and MaxCmdSN never go back; and each
-//! cookie comes back exactly once, after all that speaks of it.
+//! Walks of random calls, and what holds of each: a command starts once, and stops only if it was started; a connection
+//! that gives something was told to be ready, and is told once; StatSN counts, and ExpCmdSN and MaxCmdSN never go back;
+//! and each cookie comes back exactly once, after all that speaks of it.
 
 use cundarrix::{Action, Attribute, Function, LogoutReason, Opcode, Options, PduKind, Refusal, Request, Session};
 use std::collections::{HashMap, HashSet};
