@@ -2,8 +2,8 @@
 //!
 //! Two archives are wanted: `libiscsi_c.a`, which `rt lib` makes in `crates/iscsi_c`, and the kit's `liblibc_c.a`.
 //! Where the environment has `CUNDARRIX_LIB_DIR`, both are taken from that folder (the second one from the kit, if it
-//! isn't there). With the feature `docs`, or where the environment has `DOCS_RS`, neither is looked for: `cargo doc` and
-//! `cargo check` link nothing.
+//! isn't there). With the feature `docs`, or where the environment has `DOCS_RS`, neither is looked for: `cargo doc`
+//! and `cargo check` link nothing.
 
 use std::collections::BTreeSet;
 use std::env;

@@ -1,9 +1,9 @@
 //! What an event costs by the crate: commands arrive on one connection and complete, and their responses go out.
 //!
-//! Two words on the command line say how many commands (1000000), and how many of them are live at a time (64). A command is
-//! two events, its arrival and its completion, with all of their actions; its response is taken out and written with the
-//! second. Nanoseconds an event are printed. Instructions an event are what two runs under `valgrind --tool=cachegrind`
-//! differ by, with 20000 and with 10000 commands, over 20,000 events.
+//! Two words on the command line say how many commands (1000000), and how many of them are live at a time (64). A
+//! command is two events, its arrival and its completion, with all of their actions; its response is taken out and
+//! written with the second. Nanoseconds an event are printed. The instructions an event are what two
+//! runs under valgrind's cachegrind differ by, with 20000 and with 10000 commands, over 20,000 events.
 
 use cundarrix::{Action, Opcode, Options, Refusal, Request, Session};
 use std::hint::black_box;

@@ -1,5 +1,5 @@
-//! A walk through the four duties of a target, with a unit and a transport that are played: two commands arrive, an abort takes
-//! the second one out, the first one completes, and all that goes out is printed.
+//! A walk through the four duties of a target, with a unit and a transport that are played: two commands arrive, an
+//! abort takes the second one out, the first one completes, and all that goes out is printed.
 
 use cundarrix::{Action, Function, Opcode, Options, Refusal, Request, Session};
 use std::collections::{HashMap, VecDeque};

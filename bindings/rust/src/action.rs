@@ -40,8 +40,8 @@ pub enum Action {
         /// The function that did it.
         function: Clearing,
     },
-    /// The connection has something to send: ask [`Session::next`](crate::Session::next) until it gives nothing. It is told
-    /// once until then.
+    /// The connection has something to send: ask [`Session::next`](crate::Session::next) until it gives nothing. It is
+    /// told once until then.
     Ready {
         /// The connection.
         cid: u16,
@@ -52,8 +52,8 @@ pub enum Action {
         /// The connection.
         cid: u16,
     },
-    /// Nothing speaks of this request any more, nor of this PDU of the target's own: what is kept under the cookie may be
-    /// freed. Each cookie that a call took comes back so exactly once.
+    /// Nothing speaks of this request any more, nor of this PDU of the target's own: what is kept under the cookie may
+    /// be freed. Each cookie that a call took comes back so exactly once.
     Forget {
         /// The cookie.
         cookie: u64,
@@ -118,7 +118,8 @@ pub enum StopReason {
     LoggedOut,
     /// Its connection was lost.
     Lost,
-    /// Another session reset its unit ([`Session::clear`](crate::Session::clear)). It alone is answered, with TASK ABORTED.
+    /// Another session reset its unit ([`Session::clear`](crate::Session::clear)). It alone is answered, with TASK
+    /// ABORTED.
     Cleared,
 }
 

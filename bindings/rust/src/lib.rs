@@ -1,11 +1,11 @@
-//! The command queue, the task manager and the sending side of an iSCSI target (RFC 7143 sections 4.2.2, 4.2.3, 11.5 and
-//! 11.6; SAM-5).
+//! The command queue, the task manager and the sending side of an iSCSI target (RFC 7143 sections 4.2.2, 4.2.3, 11.5
+//! and 11.6; SAM-5).
 //!
-//! The library behind this crate is proved: it starts each command at most once, and none before its turn; once it
-//! has handed out the answer to an abort, nothing of a command that the abort covers goes out, and none touches the medium any
-//! more; it answers each request at most once; StatSN, ExpCmdSN and MaxCmdSN never go back. Of the calls that this crate has
-//! some are proved to follow the rules over the whole run, and some are computed on worked lists: the repository's
-//! README says which. This crate and the C interface's text are not proved, but tested.
+//! The library behind this crate is proved, call by call. By the rules that it carries out it starts each command at
+//! most once, and none before its turn; once it has handed out the answer to an abort, nothing of a command that the
+//! abort covers goes out, and none touches the medium any more; it answers each request at most once; StatSN, ExpCmdSN
+//! and MaxCmdSN never go back. Not of all calls it is proved that they follow these rules over a whole run: the
+//! repository's README says of which. This crate and the C interface's text are not proved, but tested.
 //!
 //! A [`Session`] is one iSCSI session in its Full Feature Phase. A target has four duties beside it:
 //!
@@ -13,9 +13,11 @@
 //!    request, until [`Action::Forget`].
 //! 2. It starts a command at [`Action::Start`], and says by [`Session::complete`] that it ended.
 //! 3. It stops a command at [`Action::Stop`], and says by [`Session::stopped`] that it has.
-//! 4. It sends what [`Session::next`] gives once [`Action::Ready`] tells it, and says by [`Session::written`] that it is sent.
+//! 4. It sends what [`Session::next`] gives once [`Action::Ready`] tells it, and says by [`Session::written`] that it
+//!    is sent.
 //!
-//! Login, data transfer and what a command means are the target's own part. So is time: no call waits, and none knows a clock.
+//! Login, data transfer and what a command means are the target's own part. So is time: no call waits, and none knows a
+//! clock.
 //!
 //! ```
 //! use cundarrix::{Action, Opcode, Options, Request, Session};

@@ -21,8 +21,8 @@ impl Options {
     /// 2^48, the greatest number of [`events`](Options::events).
     pub const MOST_EVENTS: u64 = 1 << 48;
 
-    /// The defaults: first CmdSN 1, a window of 32, one unit with a task set of 64, level 1, 64 own PDUs and 16 unwritten
-    /// ones a connection, `acknowledged`, not `shared`, and as many events as there can be.
+    /// The defaults: first CmdSN 1, a window of 32, one unit with a task set of 64, level 1, 64 own PDUs and 16
+    /// unwritten ones a connection, `acknowledged`, not `shared`, and as many events as there can be.
     pub const fn new() -> Options {
         Options {
             raw: RawOptions {
@@ -42,9 +42,9 @@ impl Options {
         }
     }
 
-    /// The most events that the session takes: 1 to 2^48. A request that arrives is one, so is a command that completes, and
-    /// a connection that is lost. 64 + window + 8 a connection are kept back for losses and completions, so fewer
-    /// requests are taken.
+    /// The most events that the session takes: 1 to 2^48. A request that arrives is one, so is a command that
+    /// completes, and a connection that is lost. 64 + window + 8 a connection are kept back for losses and completions,
+    /// so fewer requests are taken.
     pub const fn events(mut self, events: u64) -> Options {
         self.raw.events = events;
         self
@@ -94,17 +94,17 @@ impl Options {
         self
     }
 
-    /// Whether a PDU that was written counts as under way until it is known to have arrived, by its initiator's ExpStatSN or
-    /// by the answer to a ping of the library's own (RFC 7143 section 4.2.2.3.4). Without, it is enough that it is
-    /// written: what lies in the transport of another connection may then still arrive behind the answer to an abort.
-    /// With one connection there is no difference.
+    /// Whether a PDU that was written counts as under way until it is known to have arrived, by its initiator's
+    /// ExpStatSN or by the answer to a ping of the library's own (RFC 7143 section 4.2.2.3.4). Without, it is enough
+    /// that it is written: what lies in the transport of another connection may then still arrive behind the answer to
+    /// an abort. With one connection there is no difference.
     pub const fn acknowledged(mut self, acknowledged: bool) -> Options {
         self.raw.acknowledged = acknowledged as u8;
         self
     }
 
-    /// Whether other sessions have the units, too. Then [`Action::Reset`](crate::Action::Reset) is told, and the answer to a
-    /// CLEAR TASK SET or LOGICAL UNIT RESET waits for [`Session::cleared`](crate::Session::cleared).
+    /// Whether other sessions have the units, too. Then [`Action::Reset`](crate::Action::Reset) is told, and the answer
+    /// to a CLEAR TASK SET or LOGICAL UNIT RESET waits for [`Session::cleared`](crate::Session::cleared).
     pub const fn shared(mut self, shared: bool) -> Options {
         self.raw.shared = shared as u8;
         self

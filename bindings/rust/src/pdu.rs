@@ -7,8 +7,8 @@ use core::ops::Deref;
 /// A PDU that goes out now: its header, with StatSN, ExpCmdSN and MaxCmdSN as they are at this moment, and its data
 /// segment where it is the library's. It is used as the slice of its bytes.
 ///
-/// Of a PDU that the target put ([`PduKind::Own`]) this is the header alone: its data segment, as long as the header says,
-/// is the target's to send behind it.
+/// Of a PDU that the target put ([`PduKind::Own`]) this is the header alone: its data segment, as long as the header
+/// says, is the target's to send behind it.
 #[derive(Clone, Copy, PartialEq, Eq)]
 pub struct Pdu {
     bytes: [u8; Pdu::LONGEST],
@@ -21,13 +21,13 @@ pub struct Pdu {
 #[derive(Clone, Copy, Debug, PartialEq, Eq, Hash)]
 #[non_exhaustive]
 pub enum PduKind {
-    /// It answers a request: a SCSI Response, a Task Management Function Response, a Logout Response, a NOP-In or a Reject
-    /// (RFC 7143 sections 11.4, 11.6, 11.15, 11.19 and 11.17).
+    /// It answers a request: a SCSI Response, a Task Management Function Response, a Logout Response, a NOP-In or a
+    /// Reject (RFC 7143 sections 11.4, 11.6, 11.15, 11.19 and 11.17).
     Reply,
     /// The target put it.
     Own,
-    /// A NOP-In of the library's own, whose answer tells that what went before it has arrived. Where none comes, it is the
-    /// target's to [`lose`](crate::Session::lose) the connection after a time.
+    /// A NOP-In of the library's own, whose answer tells that what went before it has arrived. Where none comes, it is
+    /// the target's to [`lose`](crate::Session::lose) the connection after a time.
     Ping,
     /// A NOP-In that shows MaxCmdSN. It needs no answer.
     Notice,
@@ -62,7 +62,8 @@ impl Pdu {
         self.kind
     }
 
-    /// The cookie of the request that it answers or is of, or that it was put with. The library's own NOP-Ins have none.
+    /// The cookie of the request that it answers or is of, or that it was put with. The library's own NOP-Ins have
+    /// none.
     pub const fn cookie(&self) -> Option<u64> {
         self.cookie
     }

@@ -4,8 +4,8 @@ use core::fmt;
 
 /// Why a call was refused. A call that is refused has changed nothing.
 ///
-/// These are all that the library knows. Those of which it is said that *no call of this crate* answers them are kept out
-/// by its types.
+/// These are all that the library knows. Those of which it is said that *no call of this crate* answers them are kept
+/// out by its types.
 #[derive(Clone, Copy, Debug, PartialEq, Eq, Hash)]
 #[non_exhaustive]
 pub enum Refusal {

@@ -4,11 +4,11 @@ use crate::Attribute;
 use core::fmt;
 use core::ops::Deref;
 
-/// The basic header segment of a request (RFC 7143 sections 11.2 to 11.16), to be read and made by named fields. It is used as
-/// its 48 bytes.
+/// The basic header segment of a request (RFC 7143 sections 11.2 to 11.16), to be read and made by named fields. It is
+/// used as its 48 bytes.
 ///
-/// Which field has a meaning depends on the opcode, and some share a place: see each one. None is checked here. The session
-/// looks at the header as it stands.
+/// Which field has a meaning depends on the opcode, and some share a place: see each one. None is checked here. The
+/// session looks at the header as it stands.
 ///
 /// ```
 /// use cundarrix::{Attribute, Opcode, Request};
@@ -123,8 +123,8 @@ macro_rules! numbers {
 }
 
 numbers! {
-    /// The eight bytes of the LUN, of a SCSI Command and a Task Management Function Request; also of a NOP-Out and a Data-Out
-    /// that have a transfer tag.
+    /// The eight bytes of the LUN, of a SCSI Command and a Task Management Function Request; also of a NOP-Out and a
+    /// Data-Out that have a transfer tag.
     lun with_lun 8 u64;
     /// The Initiator Task Tag. ffffffff ([`Request::NO_TAG`]) names no task.
     tag with_tag 16 u32;
@@ -176,8 +176,8 @@ impl Request {
         self.with_bits(0, IMMEDIATE, if is_immediate { IMMEDIATE } else { 0 })
     }
 
-    /// The F bit: of a Data-Out, that it is the last one of its sequence; of a SCSI Command, that no unsolicited Data-Out
-    /// follows.
+    /// The F bit: of a Data-Out, that it is the last one of its sequence; of a SCSI Command, that no unsolicited
+    /// Data-Out follows.
     pub const fn is_final(&self) -> bool {
         self.header[1] & FINAL != 0
     }
@@ -264,8 +264,8 @@ impl Request {
         self.with_part(5, low)
     }
 
-    /// The unit that the LUN names, by the single level forms of SAM-5: the peripheral and the flat one. `None` where it has
-    /// another form.
+    /// The unit that the LUN names, by the single level forms of SAM-5: the peripheral and the flat one. `None` where
+    /// it has another form.
     pub fn unit(&self) -> Option<u16> {
         match self.part::<8>(8) {
             [0, unit, 0, 0, 0, 0, 0, 0] => Some(u16::from(unit)),

@@ -8,8 +8,8 @@ use core::fmt;
 /// So many actions are fetched at a time. Few calls tell more, and none loses any.
 const ROOM: usize = 16;
 
-/// ExpCmdSN and MaxCmdSN (RFC 7143 section 4.2.2.1), as a Login Response of one more connection may show them. All other PDUs
-/// have theirs by [`Session::next`].
+/// ExpCmdSN and MaxCmdSN (RFC 7143 section 4.2.2.1), as a Login Response of one more connection may show them. All
+/// other PDUs have theirs by [`Session::next`].
 #[derive(Clone, Copy, Debug, PartialEq, Eq, Hash)]
 pub struct Numbers {
     /// The lowest CmdSN that isn't received.
@@ -25,8 +25,8 @@ pub struct Numbers {
 ///
 /// # Actions
 ///
-/// Each call hands over the [`Action`]s that come of it to its last argument, one by one and all of them, before it returns;
-/// also where it is refused. What is given there is called while the session is borrowed, so it can't call the
+/// Each call hands over the [`Action`]s that come of it to its last argument, one by one and all of them, before it
+/// returns; also where it is refused. What is given there is called while the session is borrowed, so it can't call the
 /// session: it does at once what is done at once, and puts the rest into a queue of the target's.
 ///
 /// ```
@@ -38,10 +38,11 @@ pub struct Numbers {
 /// # Ok::<(), cundarrix::Refusal>(())
 /// ```
 ///
-/// Actions of different calls are to be carried out in the order of the calls, too. Where threads share the session behind a lock,
-/// that is so where each puts its actions into their queues before it lets the lock go.
+/// Actions of different calls are to be carried out in the order of the calls, too. Where threads share the session
+/// behind a lock, that is so where each puts its actions into their queues before it lets the lock go.
 ///
-/// Where what is given panics, the actions behind the one it was given aren't lost: the next call hands them over first.
+/// Where what is given panics, the actions behind the one it was given aren't lost: the next call hands them over
+/// first.
 ///
 /// ```compile_fail
 /// fn is_sync<T: Sync>() {}
@@ -105,7 +106,8 @@ impl Session {
         Refusal::check(answer).map(|()| session)
     }
 
-    /// A connection's login ended: this is the StatSN of its first PDU in the Full Feature Phase (RFC 7143 section 4.2.2.2).
+    /// A connection's login ended: this is the StatSN of its first PDU in the Full Feature Phase (RFC 7143 section
+    /// 4.2.2.2).
     ///
     /// # Errors
     ///
@@ -117,16 +119,18 @@ impl Session {
         })
     }
 
-    /// A request PDU arrived on a connection: this is its basic header segment, and the cookie under which the target keeps what
-    /// it keeps of it. The cookie comes back in the actions and PDUs of this request, and by [`Action::Forget`] at last.
+    /// A request PDU arrived on a connection: this is its basic header segment, and the cookie under which the target
+    /// keeps what it keeps of it. The cookie comes back in the actions and PDUs of this request, and by
+    /// [`Action::Forget`] at last.
     ///
-    /// Data segments, additional header segments and digests are the target's own part. So are Data-Outs and SNACKs: they are
-    /// given to [`heard`](Session::heard); here they would be passed over, and their cookies come back at once.
+    /// Data segments, additional header segments and digests are the target's own part. So are Data-Outs and SNACKs:
+    /// they are given to [`heard`](Session::heard); here they would be passed over, and their cookies come back at
+    /// once.
     ///
     /// # Errors
     ///
-    /// [`Refusal::UnknownConnection`], [`Refusal::NotJoined`], [`Refusal::Exhausted`] and [`Refusal::Busy`]. The cookie isn't
-    /// kept then, and doesn't come back.
+    /// [`Refusal::UnknownConnection`], [`Refusal::NotJoined`], [`Refusal::Exhausted`] and [`Refusal::Busy`]. The cookie
+    /// isn't kept then, and doesn't come back.
     pub fn arrive(
         &mut self,
         cid: u16,
@@ -142,8 +146,8 @@ impl Session {
 
     /// A logical unit completed a command, with this SCSI status. Its data was [`put`](Session::put_data) before.
     ///
-    /// With CHECK CONDITION (02) the reply carries the sense data of an internal target failure; a target with sense data of
-    /// its own puts it in their place as the PDU goes out.
+    /// With CHECK CONDITION (02) the reply carries the sense data of an internal target failure; a target with sense
+    /// data of its own puts it in their place as the PDU goes out.
     ///
     /// # Errors
     ///
@@ -173,7 +177,8 @@ impl Session {
     ///
     /// # Errors
     ///
-    /// [`Refusal::Nothing`], [`Refusal::Blocked`] and [`Refusal::Over`]: there is none now, until one is written, or any more.
+    /// [`Refusal::Nothing`], [`Refusal::Blocked`] and [`Refusal::Over`]: there is none now, until one is written, or
+    /// any more.
     pub fn next(&mut self, cid: u16, tell: impl FnMut(Action)) -> Result<Pdu, Refusal> {
         let (mut bytes, mut pdu) = ([0; Pdu::LONGEST], RawPdu::EMPTY);
         // SAFETY: the session and the room are this one's own, and the buffer has as many bytes as is said.
@@ -183,19 +188,20 @@ impl Session {
         Ok(Pdu::of(bytes, &pdu))
     }
 
-    /// The target sends a PDU of its own, with a cookie for what goes with it: a NOP-In, a Text Response or an Asynchronous
-    /// Message. This is its header; its StatSN, ExpCmdSN and MaxCmdSN are filled in as it goes out.
+    /// The target sends a PDU of its own, with a cookie for what goes with it: a NOP-In, a Text Response or an
+    /// Asynchronous Message. This is its header; its StatSN, ExpCmdSN and MaxCmdSN are filled in as it goes out.
     ///
     /// # Errors
     ///
-    /// [`Refusal::Unfit`], [`Refusal::Closed`] and [`Refusal::Full`]. The cookie isn't kept then, and doesn't come back.
+    /// [`Refusal::Unfit`], [`Refusal::Closed`] and [`Refusal::Full`]. The cookie isn't kept then, and doesn't come
+    /// back.
     pub fn put(&mut self, cid: u16, header: &[u8; 48], cookie: u64, tell: impl FnMut(Action)) -> Result<(), Refusal> {
         self.put_as(cid, 0, header, cookie, tell)
     }
 
-    /// The target sends a Data-In without status, or an R2T, of a command that was started. This is its header; its StatSN,
-    /// ExpCmdSN and MaxCmdSN are filled in as it goes out, on the command's own connection and with the cookie of its
-    /// request. Where the command is taken out before, it doesn't go out.
+    /// The target sends a Data-In without status, or an R2T, of a command that was started. This is its header; its
+    /// StatSN, ExpCmdSN and MaxCmdSN are filled in as it goes out, on the command's own connection and with the cookie
+    /// of its request. Where the command is taken out before, it doesn't go out.
     ///
     /// # Errors
     ///
@@ -235,8 +241,8 @@ impl Session {
         })
     }
 
-    /// A header arrived that isn't given to [`arrive`](Session::arrive), or not yet: a Data-Out, or a request that is held back
-    /// while the session is busy. What it says to have arrived is heard.
+    /// A header arrived that isn't given to [`arrive`](Session::arrive), or not yet: a Data-Out, or a request that is
+    /// held back while the session is busy. What it says to have arrived is heard.
     ///
     /// # Errors
     ///
@@ -248,8 +254,8 @@ impl Session {
         })
     }
 
-    /// The transport of a connection is gone, and no thread writes there any more: what a Logout of it would do is done, and
-    /// isn't answered.
+    /// The transport of a connection is gone, and no thread writes there any more: what a Logout of it would do is
+    /// done, and isn't answered.
     ///
     /// # Errors
     ///
@@ -303,14 +309,15 @@ impl Session {
         unsafe { raw::iscsi_c_may_take(self.raw.get()) }
     }
 
-    /// Whether a ping of the library's own was handed out on a connection, and isn't answered. Time is the target's: one that
-    /// stays so for long is to be [`lost`](Session::lose).
+    /// Whether a ping of the library's own was handed out on a connection, and isn't answered. Time is the target's:
+    /// one that stays so for long is to be [`lost`](Session::lose).
     pub fn is_asked(&self, cid: u16) -> bool {
         // SAFETY: as in `numbers`.
         unsafe { raw::iscsi_c_is_asked(self.raw.get(), cid) }
     }
 
-    /// Whether a connection may [`join`](Session::join): it is the session's, hasn't joined, is neither closed nor lost.
+    /// Whether a connection may [`join`](Session::join): it is the session's, hasn't joined, is neither closed nor
+    /// lost.
     pub fn may_join(&self, cid: u16) -> bool {
         // SAFETY: as in `numbers`.
         unsafe { raw::iscsi_c_may_join(self.raw.get(), cid) }
@@ -319,7 +326,8 @@ impl Session {
     /// Closes the session and frees what it holds, as a drop does. Cookies that didn't come back yet don't any more.
     pub fn close(self) {}
 
-    /// Makes a call, and hands over what it tells: before it what an earlier call left, because what was given there panicked.
+    /// Makes a call, and hands over what it tells: before it what an earlier call left, because what was given there
+    /// panicked.
     fn call(
         &mut self,
         mut tell: impl FnMut(Action),

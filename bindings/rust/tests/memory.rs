@@ -1,6 +1,6 @@
-//! Memory: each request for memory of an opening is refused in turn, which leaks nothing; no call but the opening and the
-//! drop takes or frees any; and a session holds none once it is dropped. This puts itself in place of `malloc`, `realloc`
-//! and `free` of the GNU C library, and so is for Linux with that library.
+//! Memory: each request for memory of an opening is refused in turn, which leaks nothing; no call but the opening and
+//! the drop takes or frees any; and a session holds none once it is dropped. This puts itself in place of `malloc`,
+//! `realloc` and `free` of the GNU C library, and so is for Linux with that library.
 #![cfg(all(target_os = "linux", target_env = "gnu"))]
 
 use cundarrix::{Action, Function, Opcode, Options, Refusal, Request, Session};
@@ -83,7 +83,8 @@ fn open() -> Result<Session, Refusal> {
     Session::open(&Options::new().shared(true), &CIDS)
 }
 
-/// Each call of a session at least once, with many commands that start in one and stop in another. Gives how many actions there were.
+/// Each call of a session at least once, with many commands that start in one and stop in another. Gives how many
+/// actions there were.
 fn live(session: &mut Session) -> Result<u32, Refusal> {
     let mut actions = 0;
     let mut tell = |_: Action| actions += 1;

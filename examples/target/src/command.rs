@@ -65,8 +65,8 @@ impl Command {
     }
 }
 
-/// The headers of the Data-Ins that bring so much data, or as much of it as the initiator has room for. They have no numbers
-/// of the session's yet.
+/// The headers of the Data-Ins that bring so much data, or as much of it as the initiator has room for. They have no
+/// numbers of the session's yet.
 pub fn data_ins(command: &Header, length: usize, keys: &Keys, longest_data: usize) -> Vec<Header> {
     let (end, max_burst) = (length.min(command.data_length(READ)), keys.max_burst as usize);
     let mut headers = Vec::new();

@@ -34,7 +34,8 @@ pub fn serve(stream: &TcpStream, target: &Arc<Target>) -> Result<(), Fault> {
     })
 }
 
-/// A connection, and the session that it is part of. It is lost when this is dropped, once both of its threads have ended.
+/// A connection, and the session that it is part of. It is lost when this is dropped, once both of its threads have
+/// ended.
 pub struct Member {
     pub session: Arc<Session>,
     pub connection: Arc<Connection>,

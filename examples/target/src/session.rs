@@ -103,8 +103,8 @@ impl Session {
         }
     }
 
-    /// A unit ends a command that it executed, or that was stopped before (`None`): its data and its response go out. Whether
-    /// it is answered.
+    /// A unit ends a command that it executed, or that was stopped before (`None`): its data and its response go out.
+    /// Whether it is answered.
     pub fn end_command(self: &Arc<Session>, command: &Command, outcome: Option<Outcome>) -> bool {
         let outcome = outcome.map(Arc::new);
         let mut state = lock(&self.state);
@@ -145,8 +145,8 @@ impl Session {
         state
     }
 
-    /// The bytes of the next PDU of a connection, once there is one; `has_written`: the last one is written. `None` where
-    /// nothing goes out there any more.
+    /// The bytes of the next PDU of a connection, once there is one; `has_written`: the last one is written. `None`
+    /// where nothing goes out there any more.
     pub fn next(self: &Arc<Session>, connection: &Connection, has_written: bool) -> Option<Vec<u8>> {
         let cid = connection.cid;
         let mut state = lock(&self.state);
@@ -181,8 +181,8 @@ impl Session {
         self.let_go(state);
     }
 
-    /// A connection is gone, with its threads. Where that wasn't by a Logout, the session ends with it, as it does without
-    /// error recovery; it also ends with its last connection.
+    /// A connection is gone, with its threads. Where that wasn't by a Logout, the session ends with it, as it does
+    /// without error recovery; it also ends with its last connection.
     pub fn lose(self: &Arc<Session>, cid: u16) {
         let mut state = lock(&self.state);
         let was_closed = state.connections.remove(&cid).is_some_and(|attached| attached.is_closed);

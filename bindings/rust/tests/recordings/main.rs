@@ -1,18 +1,20 @@
-//! Every recording of `examples/` and of `tests/cases/` whose events are one after the other, through the crate, beside its report.
+//! Every recording of `examples/` and of `tests/cases/` whose events are one after the other, through the crate, beside
+//! its report.
 //!
-//! Of each event is compared: which commands start, in their order, each with its unit, its attribute and the request that
-//! its cookie stands for; which stop, in their order, and whether by a Logout; whether nothing comes of it; which
+//! Of each event is compared: which commands start, in their order, each with its unit, its attribute and the request
+//! that its cookie stands for; which stop, in their order, and whether by a Logout; whether nothing comes of it; which
 //! connections close; and the replies of each connection, in their order and byte for byte.
 //!
-//! A report has no outbox behind it: there the answer to an abort goes out in its place. Here it goes out when what it took
-//! out has stopped, which this target says behind the event. So in an event in which a command stops the replies of a
-//! connection may have changed places: they are compared without their StatSNs, in any order, and the StatSNs in order.
+//! A report has no outbox behind it: there the answer to an abort goes out in its place. Here it goes out when what it
+//! took out has stopped, which this target says behind the event. So in an event in which a command stops the replies
+//! of a connection may have changed places: they are compared without their StatSNs, in any order, and the StatSNs in
+//! order.
 //!
-//! A reply that waited on a connection as another one's Logout closed it is in the report, and doesn't go out. NOP-Ins that
-//! show MaxCmdSN alone aren't in it.
+//! A reply that waited on a connection as another one's Logout closed it is in the report, and doesn't go out. NOP-Ins
+//! that show MaxCmdSN alone aren't in it.
 //!
-//! Beside that: each connection that gives something was told to be ready; what a cookie stands for is never spoken of once it is
-//! forgotten; and when all connections are lost, none is left.
+//! Beside that: each connection that gives something was told to be ready; what a cookie stands for is never spoken of
+//! once it is forgotten; and when all connections are lost, none is left.
 
 mod play;
 mod text;

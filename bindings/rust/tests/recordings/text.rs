@@ -19,8 +19,8 @@ pub struct Recording {
 /// What a report says that came of an event.
 #[derive(Debug, Default, PartialEq, Eq)]
 pub struct Outcome {
-    /// The commands that started, and weren't taken out again in the same event: tickets with the tags of their requests, units
-    /// and attributes.
+    /// The commands that started, and weren't taken out again in the same event: tickets with the tags of their
+    /// requests, units and attributes.
     pub starts: Vec<(u64, u32, u16, String)>,
     /// The commands that were started by an earlier event and are taken out, and whether by a Logout.
     pub stops: Vec<(u64, bool)>,
@@ -161,7 +161,8 @@ impl Reader {
         }
     }
 
-    /// A Logout closes connections. What its item took out it took out, and what waits on another connection doesn't go out.
+    /// A Logout closes connections. What its item took out it took out, and what waits on another connection doesn't go
+    /// out.
     fn close(&mut self, cids: &[u16], item: usize, outcome: &mut Outcome) {
         let (by, _) = self.executing.expect("a Logout executes");
         outcome.stops[item..].iter_mut().for_each(|(_, by_logout)| *by_logout = true);
