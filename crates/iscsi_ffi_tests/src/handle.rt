@@ -268,14 +268,7 @@ fn closed_handle_refuses_all(rt: HostRuntime) -> Result<(), Fail> {
         &mut room.told,
     );
     assert_eq!(rt; answer, Answer::ShortBuffer);
-    let answer = handle.arrive(
-        alloc,
-        CID,
-        &read()[..47],
-        70,
-        &mut room.actions,
-        &mut room.told,
-    );
+    let answer = handle.arrive(alloc, CID, &[0; 47], 70, &mut room.actions, &mut room.told);
     assert_eq!(rt; answer, Answer::ShortHeader);
     assert_eq!(rt; handle.open(alloc, &OPTIONS, &[]), Answer::BadOptions);
     assert_eq!(rt; handle.open(alloc, &OPTIONS, &[CID]), Answer::Done);
