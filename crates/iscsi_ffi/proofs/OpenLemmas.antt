@@ -1,5 +1,5 @@
 -- A side is opened just as its options are good.
-use Rattle.std.proofs.Common.{◌≡◌, ◌∙◌, ℕ, ◌+◌, ◌*◌, ◌^◌, ◌==◌, ◌&&◌, ◌||◌, not, Bool, true, false, List, [], ◌∷◌, length, map, suc, Ok, Err, inr, refl, sym, ap, subst}
+use Rattle.std.proofs.Common.{◌≡◌, ◌∙◌, ℕ, ◌+◌, ◌*◌, ◌^◌, ◌==◌, ◌&&◌, ◌||◌, not, Bool, true, false, List, [], ◌∷◌, length, map, suc, Ok, Err, refl, sym, ap, subst}
 use Rattle.std.proofs.lemmas.Bool.{false≢true}
 use Rattle.iscsi_history.specs.rules.Settings.{Setting, are_distinct, is_known, is_valid as is_valid_setting, is_within}
 use Rattle.iscsi_outbox.specs.Options.{are_distinct as are_distinct_cids, is_known as is_known_cid, limits_of as limits_by}
@@ -11,6 +11,7 @@ use Rattle.iscsi_ffi_steps.specs.Steps.{begun, going}
 use Rattle.iscsi_ffi_desk.specs.declared.desk.opening.DeskOptions.{DeskOptions}
 use Rattle.iscsi_ffi_desk.specs.Options.{is_valid as is_valid_desk, opened}
 use Rattle.iscsi_ffi.specs.declared.answer.Answer.{Answer}
+use Rattle.iscsi_ffi.specs.declared.answer.Answer.TheVariants.{BadOptions, NoMemory}
 use Rattle.iscsi_ffi.specs.declared.options.PlainOptions.{PlainOptions}
 use Rattle.iscsi_ffi.specs.Opened.{RefusesAs}
 use Rattle.iscsi_ffi.specs.Options.{IsDeskOf, connection_of, fits, interface_of, is_valid, setting_by}
@@ -67,39 +68,6 @@ desk-valid o cids d of is =
     desk-by o cids d of
     ∙ pick (fits o (length cids)) (is_within o.window 1024) (is_within o.units 256) (is_within o.depth 1024) (is_within o.level 2) (is_within o.events (2 ^ 48)) (is_within (length (map connection_of cids)) 64) (are_distinct (map connection_of cids)) (is_within o.own 1024) (is_within o.unwritten 1024) is
 
-rest : (w u ow n di un : Bool) → ((w && u && ow && n && di) && un) ≡ true → (ow && un) ≡ true
-rest false u ow n di un is = absurd (false≢true is)
-rest true false ow n di un is = absurd (false≢true is)
-rest true true false n di un is = absurd (false≢true is)
-rest true true true false di un is = absurd (false≢true is)
-rest true true true true false un is = absurd (false≢true is)
-rest true true true true true un is = is
-
-all : (f s r : Bool) → f ≡ true → s ≡ true → r ≡ true → (f && (s && r)) ≡ true
-all true true true is1 is2 is3 = refl
-all false s r is1 is2 is3 = is1
-all true false r is1 is2 is3 = is2
-all true true false is1 is2 is3 = is3
-
--- a side's are, where those of its parts are
-pub side-valid : (o : PlainOptions) (cids : List ℕ) (s : Setting) (d : DeskOptions) → s ≡ setting_by o cids → IsDeskOf o cids d
-    → fits o (length cids) ≡ true → is_valid_setting s ≡ true → is_valid_desk d ≡ true → is_valid o cids ≡ true
-side-valid o cids s d same of fit is1 is2 =
-    all (fits o (length cids)) (is_valid_setting (setting_by o cids)) (is_within o.own 1024 && is_within o.unwritten 1024)
-    fit
-    (ap is_valid_setting (sym same) ∙ is1)
-    (rest (is_within o.window 1024) (is_within o.units 256) (is_within o.own 1024) (is_within (length (map connection_of cids)) 64) (are_distinct (map connection_of cids)) (is_within o.unwritten 1024)
-    (sym (desk-by o cids d of) ∙ is2))
-
--- what is opened isn't refused
-pub opened-valid : {A : Type 0} (part : Bool) (x : A) → RefusesAs part (Ok x) → part ≡ true
-opened-valid true x is = refl
-opened-valid false x is = absurd is
-
-pub opened-by : {A : Type 0} (whole : Bool) (x : A) → whole ≡ true → RefusesAs whole (Ok x)
-opened-by true x is = tt
-opened-by false x is = absurd (false≢true is)
-
 first : (f s r : Bool) → (f && (s && r)) ≡ true → s ≡ true
 first false s r is = absurd (false≢true is)
 first true false r is = absurd (false≢true is)
@@ -109,12 +77,26 @@ pub session-valid : (o : PlainOptions) (cids : List ℕ) (s : Setting) → s ≡
 session-valid o cids s same is =
     ap is_valid_setting same ∙ first (fits o (length cids)) (is_valid_setting (setting_by o cids)) (is_within o.own 1024 && is_within o.unwritten 1024) is
 
--- what a part refuses the whole refuses
-pub refused-by : (A B : Type 0) (part whole : Bool) (answer : Answer) → (whole ≡ true → part ≡ true) → RefusesAs {A = A} part (Err answer) → RefusesAs {A = B} whole (Err answer)
-refused-by A B true true answer goes is = is
-refused-by A B false true answer goes is = absurd (false≢true (goes refl))
-refused-by A B true false answer goes is = inr is
-refused-by A B false false answer goes is = is
+-- a session's connections are as many as the CIDs, and as distinct
+pub valid_by : (o : PlainOptions) (cids : List ℕ) → is_valid o cids ≡
+    (fits o (length cids) && (((is_within o.window 1024 && is_within o.units 256 && is_within o.depth 1024 && is_within o.level 2) && is_within o.events (2 ^ 48) && is_within (length cids) 64 && are_distinct_cids cids) && (is_within o.own 1024 && is_within o.unwritten 1024)))
+valid_by o cids =
+    ap (λ (n : ℕ). fits o (length cids) && (((is_within o.window 1024 && is_within o.units 256 && is_within o.depth 1024 && is_within o.level 2) && is_within o.events (2 ^ 48) && is_within n 64 && are_distinct (map connection_of cids)) && (is_within o.own 1024 && is_within o.unwritten 1024))) (length-conns cids)
+    ∙ ap (λ (b : Bool). fits o (length cids) && (((is_within o.window 1024 && is_within o.units 256 && is_within o.depth 1024 && is_within o.level 2) && is_within o.events (2 ^ 48) && is_within (length cids) 64 && b) && (is_within o.own 1024 && is_within o.unwritten 1024))) (distinct-conns cids)
+
+-- ---- what is refused, and what isn't
+
+pub refused : (A : Type 0) (valid : Bool) (answer : Answer) → valid ≡ false → answer ≡ BadOptions → RefusesAs {A = A} valid (Err answer)
+refused A true answer is same = absurd (false≢true (sym is))
+refused A false answer is same = same
+
+pub wanting : (A : Type 0) (valid : Bool) (answer : Answer) → valid ≡ true → answer ≡ NoMemory → RefusesAs {A = A} valid (Err answer)
+wanting A true answer is same = same
+wanting A false answer is same = absurd (false≢true is)
+
+pub opened-by : {A : Type 0} (valid : Bool) (x : A) → valid ≡ true → RefusesAs valid (Ok x)
+opened-by true x is = tt
+opened-by false x is = absurd (false≢true is)
 
 -- ---- what is opened
 

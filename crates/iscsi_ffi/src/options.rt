@@ -1,9 +1,11 @@
 //! The options of a side, as C gives them.
 
-ghost use Rattle.std.specs.Prelude.{◌≡◌, ◌==◌, IfSome};
+ghost use Rattle.std.specs.Prelude.{◌≡◌, ◌==◌, ◌&&◌, ◌^◌, length, IfSome};
 ghost use Rattle.std.specs.List.{list_all};
+ghost use Rattle.iscsi_history.specs.rules.Settings.{is_within};
+ghost use Rattle.iscsi_outbox.specs.Options.{are_distinct, is_known};
 ghost use Rattle.iscsi_session.specs.promises.Settings.{setting_of};
-ghost use Rattle.iscsi_ffi.specs.Options.{IsDeskOf, fits, is_plain, setting_by};
+ghost use Rattle.iscsi_ffi.specs.Options.{IsDeskOf, fits, is_plain, is_valid, setting_by};
 
 use iscsi_ffi_desk::DeskOptions;
 use iscsi_outbox::OutboxOptions;
@@ -14,6 +16,19 @@ use std::alloc::Global;
 const SIZE: u32 = 48;
 
 const MOST_CONNECTIONS: usize = 64;
+
+const MAX_WINDOW: u64 = 1024;
+
+const MAX_UNITS: u64 = 256;
+
+const MAX_DEPTH: u64 = 1024;
+
+const MAX_LEVEL: u64 = 2;
+
+const MAX_EVENTS: u64 = 1 << 48;
+
+/// The most PDUs that may be kept of a connection, of either kind.
+const MAX_KEPT: u64 = 1024;
 
 /// The options of a side. The limits of the first six are those of `iscsi_session::Options`.
 #[repr(C)]
@@ -47,8 +62,43 @@ pub struct PlainOptions {
 }
 
 impl PlainOptions {
-    /// Whether these are options of this version, and so many connections may be: what is looked at before anything is copied.
-    pub(crate) fn fit(&self, conns: usize) -> bool
+    /// Whether every option is within its limits, and no CID stands twice: what is looked at before anything is copied.
+    #[tactic(auto, using(crate::proofs::OpenLemmas::valid_by))]
+    pub(crate) fn are_valid(&self, cids: &[u16]) -> bool
+        ensures { result ≡ is_valid self.now cids.now }
+    {
+        self.fit(cids.len()) && self.are_session_valid(cids) && self.are_kept_valid()
+    }
+
+    /// Whether those of the session are within their limits, and no CID stands twice.
+    fn are_session_valid(&self, cids: &[u16]) -> bool
+        ensures { result ≡ ((is_within self.now.window 1024 && is_within self.now.units 256 && is_within self.now.depth 1024 && is_within self.now.level 2) && is_within self.now.events (2 ^ 48) && is_within (length cids.now) 64 && are_distinct cids.now) }
+    {
+        self.are_sizes_valid()
+            && is_within(self.events, MAX_EVENTS)
+            && are_few(cids)
+            && are_distinct(cids)
+    }
+
+    /// Whether what is kept of a connection is within its limits.
+    fn are_kept_valid(&self) -> bool
+        ensures { result ≡ (is_within self.now.own 1024 && is_within self.now.unwritten 1024) }
+    {
+        is_within(u64::from(self.own), MAX_KEPT) && is_within(u64::from(self.unwritten), MAX_KEPT)
+    }
+
+    /// Whether the sizes of the session are within their limits.
+    fn are_sizes_valid(&self) -> bool
+        ensures { result ≡ (is_within self.now.window 1024 && is_within self.now.units 256 && is_within self.now.depth 1024 && is_within self.now.level 2) }
+    {
+        is_within(u64::from(self.window), MAX_WINDOW)
+            && is_within(u64::from(self.units), MAX_UNITS)
+            && is_within(u64::from(self.depth), MAX_DEPTH)
+            && is_within(u64::from(self.level), MAX_LEVEL)
+    }
+
+    /// Whether these are options of this version, and so many connections may be.
+    fn fit(&self, conns: usize) -> bool
         ensures { result ≡ fits self.now conns }
     {
         self.is_plain() && 1 <= conns && conns <= MOST_CONNECTIONS
@@ -103,4 +153,37 @@ fn are_zero(bytes: &[u8]) -> bool
     ensures { result ≡ list_all (λ b. b == 0) bytes.now }
 {
     bytes.iter().all(|byte| *byte == 0)
+}
+
+/// Whether the number is from 1 to `most`.
+fn is_within(number: u64, most: u64) -> bool
+    ensures { result ≡ is_within number most }
+{
+    1 <= number && number <= most
+}
+
+/// Whether one of the connections has this CID.
+fn is_known(cid: u16, cids: &[u16]) -> bool
+    ensures { result ≡ is_known cid cids.now }
+{
+    cids.iter().any(|other| *other == cid)
+}
+
+/// Whether there are from 1 to 64.
+fn are_few(cids: &[u16]) -> bool
+    ensures { result ≡ is_within (length cids.now) 64 }
+{
+    is_within(cids.len() as u64, MOST_CONNECTIONS as u64)
+}
+
+/// Whether none stands twice.
+fn are_distinct(cids: &[u16]) -> bool
+    ensures { result ≡ are_distinct cids.now }
+{
+    for (place, cid) in cids.iter().enumerate() {
+        if is_known(*cid, &cids[place + 1..]) {
+            return false;
+        }
+    }
+    true
 }

@@ -1,5 +1,5 @@
 -- A side is opened in a box, just as it is without, and a handle with it.
-use Rattle.std.proofs.Common.{◌≡◌, ◌∙◌, ℕ, Bool, true, false, List, [], Option, Some, None, is_some, Ok, Err, inr, refl, sym}
+use Rattle.std.proofs.Common.{◌≡◌, ◌∙◌, ℕ, Bool, true, false, List, [], Option, Some, None, is_some, Ok, Err, refl, sym}
 use Rattle.iscsi_ffi.specs.declared.answer.Answer.{Answer}
 use Rattle.iscsi_ffi.specs.declared.answer.Answer.TheVariants.{Done, NoMemory}
 use Rattle.iscsi_ffi.specs.declared.options.PlainOptions.{PlainOptions}
@@ -19,9 +19,10 @@ refuses_too : (A B : Type 0) (b : Bool) (answer : Answer) → RefusesAs {A = A} 
 refuses_too A B true answer is = is
 refuses_too A B false answer is = is
 
-pub no_memory : (A : Type 0) (b : Bool) → RefusesAs {A = A} b (Err NoMemory)
-no_memory A true = refl
-no_memory A false = inr refl
+-- a side was opened, and there is no memory for its box
+pub no_memory : (A : Type 0) {B : Type 0} (b : Bool) (x : B) → RefusesAs b (Ok x) → RefusesAs {A = A} b (Err NoMemory)
+no_memory A true x is = refl
+no_memory A false x is = absurd is
 
 -- ---- a handle
 

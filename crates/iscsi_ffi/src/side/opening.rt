@@ -1,6 +1,6 @@
 //! A side is opened.
 
-ghost use Rattle.std.specs.Prelude.{◌≡◌, ◌+◌, ◌*◌, ◌≤◌, [], false, length, IfOk};
+ghost use Rattle.std.specs.Prelude.{◌≡◌, ◌+◌, ◌*◌, ◌≤◌, [], true, false, length, IfErr, IfOk};
 ghost use Rattle.iscsi_history.specs.rules.Settings.{is_valid as is_valid_setting};
 ghost use Rattle.iscsi_session.specs.promises.Settings.{setting_of};
 ghost use Rattle.iscsi_host.specs.Serving.{Serves};
@@ -14,8 +14,7 @@ use crate::options::PlainOptions;
 use crate::side::Side;
 use iscsi_ffi_desk::{Desk, DeskOptions};
 use iscsi_host::Host;
-use iscsi_outbox::OutboxFault;
-use iscsi_session::{Options, SessionFault};
+use iscsi_session::Options;
 use std::alloc::Global;
 
 impl Side {
@@ -28,7 +27,7 @@ impl Side {
         ensures nothing { IfOk result (λ side. is_waiting side ≡ false) }
         ensures refused { RefusesAs (is_valid options.now cids.now) result }
     {
-        if !options.fit(cids.len()) {
+        if !options.are_valid(cids) {
             return Err(Answer::BadOptions);
         }
         let Some(session_options) = options.of_session(alloc, cids) else {
@@ -66,26 +65,26 @@ fn kept_back(options: &PlainOptions, cids: &[u16]) -> u64
     64 + u64::from(options.window) + 8 * cids.len() as u64
 }
 
-/// The session, or why it isn't opened.
+/// The session. Its options are within their limits, so only memory may be wanting.
 fn open_host(alloc: Global, options: Options) -> Result<Host, Answer>
+    requires { is_valid_setting (setting_of options) ≡ true }
     ensures serves { IfOk result (λ host. Serves (setting_of options) host []) }
-    ensures refused { RefusesAs (is_valid_setting (setting_of options)) result }
+    ensures wanting { IfErr result (λ answer. answer ≡ Answer.NoMemory) }
 {
     match Host::open(alloc, options) {
         Ok(host) => Ok(host),
-        Err(SessionFault::BadOptions) => Err(Answer::BadOptions),
         Err(_) => Err(Answer::NoMemory),
     }
 }
 
-/// What is kept beside it, or why that isn't opened.
+/// What is kept beside it. Its options are within their limits, too.
 fn open_desk(alloc: Global, options: &DeskOptions) -> Result<Desk, Answer>
+    requires { is_valid_desk options.now ≡ true }
     ensures state { IfOk result (λ desk. desk ≡ opened options.now) }
-    ensures refused { RefusesAs (is_valid_desk options.now) result }
+    ensures wanting { IfErr result (λ answer. answer ≡ Answer.NoMemory) }
 {
     match Desk::open(alloc, options) {
         Ok(desk) => Ok(desk),
-        Err(OutboxFault::BadOptions) => Err(Answer::BadOptions),
-        Err(OutboxFault::NoMemory) => Err(Answer::NoMemory),
+        Err(_) => Err(Answer::NoMemory),
     }
 }

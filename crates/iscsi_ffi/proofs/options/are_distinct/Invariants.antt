@@ -1,0 +1,7 @@
+use Rattle.std.proofs.Common.{◌≡◌, drop}
+use Rattle.iscsi_outbox.specs.Options.{are_distinct}
+use Rattle.iscsi_ffi.proofs.options.are_distinct.Given as goal
+
+-- those that were looked at are unlike all after them
+abbrev pub invariant-loop-place : goal.invariant-loop-place
+invariant-loop-place l = are_distinct l.cids ≡ are_distinct (drop l.place l.cids)
