@@ -14,10 +14,10 @@ pub(crate) struct Link {
 
 /// From now on the second node stands behind the first one.
 #[inline(always)]
-fn join(nodes: &mut Vec<Link>, first: u32, second: u32)
-    requires first { first < length nodes.old.items }
-    requires second { second < length nodes.old.items }
-    ensures { nodes.new.items ≡ linked_to nodes.old.items first second }
+fn join(nodes: &mut [Link], first: u32, second: u32)
+    requires first { first < length nodes.old }
+    requires second { second < length nodes.old }
+    ensures { nodes.new ≡ linked_to nodes.old first second }
 {
     nodes[first as usize].after = second;
     nodes[second as usize].before = first;
@@ -30,6 +30,17 @@ pub(crate) fn move_before(nodes: &mut Vec<Link>, slot: u32, target: u32, list: u
     requires target { target < length nodes.old.items }
     requires inside { AreInside nodes.old.items }
     ensures { nodes.new.items ≡ moved_before nodes.old.items slot target list }
+{
+    move_within(nodes, slot, target, list);
+}
+
+/// The same in a slice, which lies where it lies, whatever is written into it.
+#[inline(always)]
+fn move_within(nodes: &mut [Link], slot: u32, target: u32, list: u32)
+    requires slot { slot < length nodes.old }
+    requires target { target < length nodes.old }
+    requires inside { AreInside nodes.old }
+    ensures { nodes.new ≡ moved_before nodes.old slot target list }
 {
     let Link { before, after, .. } = nodes[slot as usize];
     join(nodes, before, after);
