@@ -199,6 +199,7 @@ impl Links {
     }
 
     /// A connection is as this one from now on.
+    #[inline(always)]
     fn change(&mut self, which: usize, new: Arrivals)
         requires { which < length self.old.links }
         ensures { self.new ≡ record self.old { links = slice_set self.old.links which new } }
@@ -222,6 +223,7 @@ fn unjoined(alloc: Global, count: usize) -> Result<Vec<Arrivals>, AllocError>
 }
 
 /// How many are busy, as one was and is.
+#[inline(always)]
 fn busy_with(busy: usize, was: bool, is: bool) -> usize
     requires some { was ≡ true → 1 ≤ busy }
     requires few { busy ≤ 64 }
@@ -235,6 +237,7 @@ fn busy_with(busy: usize, was: bool, is: bool) -> usize
 }
 
 /// The first connection that takes requests, as this one has changed, before which it was another one.
+#[inline(always)]
 fn usable_with(list: &[Arrivals], usable: usize, place: usize) -> usize
     requires within { place < length list.now }
     requires first { usable ≤ length list.now }
