@@ -37,3 +37,11 @@ gives_nowhere cid s e = sym (ap (λ (o : Option ℕ). gives_pdu (elim o as (λ (
 pub turned : (r s : Bool) → not r ≡ s → r ≡ not s
 turned true s e = ap (λ b. not b) e
 turned false s e = ap (λ b. not b) e
+
+pub beside : (a b : Bool) → b ≡ true → a ≡ (a && b)
+beside true b e = sym e
+beside false b e = refl
+
+pub without : (a b : Bool) → b ≡ false → false ≡ (a && b)
+without true b e = sym e
+without false b e = refl

@@ -77,7 +77,7 @@ impl Outbox {
         ensures { result ≡ gives_no_more (given cid self.now) }
     {
         match self.cids.place(cid) {
-            Some(conn) => self.chosen(conn).is_none() && self.is_over(conn),
+            Some(conn) => self.is_over(conn) && self.chosen(conn).is_none(),
             None => false,
         }
     }

@@ -94,7 +94,18 @@ impl Outbox {
     }
 
     /// What is due enters, in the order of the log.
+    #[inline(always)]
     pub(crate) fn settle(&mut self)
+        ensures { self.new ≡ settle self.old }
+    {
+        if self.lane.answers_waiting() > 0 {
+            self.enter_due();
+        }
+    }
+
+    /// Of the answers that wait those enter that are due.
+    #[inline(never)]
+    fn enter_due(&mut self)
         ensures { self.new ≡ settle self.old }
     {
         while let Some(answer) = self.take_due() {

@@ -43,8 +43,20 @@ impl Outbox {
         self.take_item(&effects[from..]);
     }
 
-    /// Takes an item.
+    /// Takes an item: one without effects is in front of an event that begins with a request.
+    #[inline(always)]
     fn take_item(&mut self, item: &[Effect])
+        ensures { self.new ≡ after_item item.now self.old }
+    {
+        if item.is_empty() {
+            self.settle();
+        } else {
+            self.take_effects(item);
+        }
+    }
+
+    /// Takes the effects of an item.
+    fn take_effects(&mut self, item: &[Effect])
         ensures { self.new ≡ after_item item.now self.old }
     {
         let request = executing(item);

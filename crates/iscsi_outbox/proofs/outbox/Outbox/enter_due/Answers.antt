@@ -4,7 +4,7 @@ use Rattle.iscsi_outbox_state.specs.Lane.{Lane, count_in, is_left}
 use Rattle.iscsi_outbox_steps.specs.State.{State}
 use Rattle.iscsi_outbox_steps.specs.Steps.{answer_item, enter, settle}
 use Rattle.iscsi_outbox.proofs.SettleLemmas.{due_counts, settle_done, settle_more, stays}
-use Rattle.iscsi_outbox.proofs.outbox.Outbox.settle.Goals as goal
+use Rattle.iscsi_outbox.proofs.outbox.Outbox.enter_due.Goals as goal
 
 pub loop-answer-smaller : goal.loop-answer-smaller
 loop-answer-smaller c =

@@ -1,5 +1,5 @@
 use Rattle.iscsi_outbox.proofs.ItemLemmas.{is_item}
-use Rattle.iscsi_outbox.proofs.outbox.Outbox.take_item.Goals as goal
+use Rattle.iscsi_outbox.proofs.outbox.Outbox.take_effects.Goals as goal
 
 pub returns : goal.returns
 returns c = is_item c.args.item.now c.args.self.now (record {
