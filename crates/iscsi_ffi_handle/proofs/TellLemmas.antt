@@ -1,14 +1,15 @@
 -- What a side tells is handed over, one after the other.
-use Rattle.std.proofs.Common.{◌≡◌, ◌∙◌, ℕ, zero, ◌+◌, ◌-◌, ◌<◌, ◌≤◌, Bool, true, false, List, [], ◌∷◌, ◌++◌, nat_lt, length, set, take, drop, suc, Some, None, if◌then◌else◌, refl, sym, ap, arith}
-use Rattle.std.proofs.lemmas.Bool.{ltb-false, ltb-true}
+use Rattle.std.proofs.Common.{◌≡◌, ◌∙◌, ℕ, zero, ◌+◌, ◌-◌, ◌<◌, ◌≤◌, ◌||◌, Bool, true, false, List, [], ◌∷◌, ◌++◌, min, nat_lt, length, set, take, drop, suc, Some, None, if◌then◌else◌, refl, sym, ap, arith}
+use Rattle.std.proofs.lemmas.Bool.{false≢true, ltb-false, ltb-true}
 use Rattle.std.proofs.lemmas.List.{drop-drop, drop_all, drop_more, take_all}
 use Rattle.iscsi_ffi_rules.specs.declared.action.Action.{Action}
 use Rattle.iscsi_ffi_rules.specs.declared.action.Action.TheVariants.{Forget}
 use Rattle.iscsi_requests.specs.Conns.{oldest}
-use Rattle.iscsi_ffi.specs.Standing.{Sided, taken_one, waiting}
+use Rattle.iscsi_ffi.specs.Standing.{Sided, is_waiting, taken_one, waiting}
 use Rattle.iscsi_ffi_handle.specs.declared.plain.PlainAction.{PlainAction}
 use Rattle.iscsi_ffi_handle.specs.Plain.{plain_action}
-use Rattle.iscsi_ffi_handle.specs.Telling.{taken_many, written_over}
+use Rattle.iscsi_ffi_handle.specs.declared.plain.PlainTold.{PlainTold}
+use Rattle.iscsi_ffi_handle.specs.Telling.{room_in, side_after, taken_many, told_after, written_over}
 
 -- ---- what waits
 
@@ -102,6 +103,41 @@ idle_many n m v le to = sym (ap (λ k. taken_many k v) (sum n m to) ∙ idle_fro
 
 pub all_taken : (n m : ℕ) (xs : List Action) → length xs ≤ n → n ≤ m → take n xs ≡ take m xs
 all_taken n m xs le to = take_all n xs le ∙ sym (take_all m xs (omega (arith, le, to)))
+
+-- ---- where none waits, nothing is handed over
+
+pub empty_if : (v : Sided) → is_waiting v ≡ false → waiting v ≡ []
+empty_if v idle = by_given (nat_lt v.given (length v.desk.actions)) refl (nat_lt v.forgotten (length v.desk.forgets)) refl
+  where
+    same : nat_lt v.given (length v.desk.actions) || nat_lt v.forgotten (length v.desk.forgets) ≡ false
+    same = idle
+
+    by_given : (a : Bool) → nat_lt v.given (length v.desk.actions) ≡ a → (b : Bool) → nat_lt v.forgotten (length v.desk.forgets) ≡ b → waiting v ≡ []
+    by_given true is b or = absurd (false≢true (sym same ∙ ap (λ c. c || nat_lt v.forgotten (length v.desk.forgets)) is))
+    by_given false is true or = absurd (false≢true (sym same ∙ ap (λ c. c || nat_lt v.forgotten (length v.desk.forgets)) is ∙ or))
+    by_given false is false or =
+        ap (λ (zs : List Action). zs ++ drop v.forgotten v.desk.forgets) (none v.given v.desk.actions is)
+        ∙ none v.forgotten v.desk.forgets or
+
+short : (xs : List Action) → xs ≡ [] → length xs ≤ 0
+short xs empty = let none : length xs ≡ 0 = ap length empty in omega (arith, none)
+
+pub same_side : (n : ℕ) (v : Sided) → waiting v ≡ [] → v ≡ taken_many n v
+same_side n v empty = idle_many 0 n v (short (waiting v) empty) (let z : 0 ≤ n = omega arith in z)
+
+pub same_places : (n : ℕ) (old : List PlainAction) (v : Sided) → waiting v ≡ [] → old ≡ written_over old (take n (waiting v))
+same_places n old v empty =
+    sym (ap (λ (xs : List Action). written_over old xs)
+    (ap (λ (xs : List Action). take n xs) empty ∙ take_all n [] (let z : 0 ≤ n = omega arith in z)))
+
+pub none_told : (places : List PlainAction) (v : Sided) → waiting v ≡ [] → record { count = 0; waiting = 0 } ≡ told_after places v
+none_told places v empty =
+    let before = short (waiting v) empty in
+    let stays = same_side (room_in places) v empty in
+    let after : length (waiting (side_after places v)) ≤ 0 = short (waiting (side_after places v)) (ap waiting (sym stays) ∙ empty) in
+    let count : 0 ≡ min (length (waiting v)) (room_in places) = omega (arith, before) in
+    let more : 0 ≡ min (length (waiting (side_after places v))) 4294967295 = omega (arith, after) in
+    λ i. record { count = count i; waiting = more i }
 
 -- ---- places
 

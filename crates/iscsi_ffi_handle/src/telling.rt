@@ -10,7 +10,24 @@ use iscsi_ffi::Side;
 const MOST: usize = 4_294_967_295;
 
 /// As many of the actions that wait as have room are written into the first places, and wait no more.
+#[inline(always)]
 pub(crate) fn hand_over(side: &mut Side, actions: &mut [PlainAction]) -> PlainTold
+    ensures side { side.new ≡ side_after actions.old side.old }
+    ensures actions { actions.new ≡ places_after actions.old side.old }
+    ensures told { result ≡ told_after actions.old side.old }
+{
+    if !side.waits() {
+        return PlainTold {
+            count: 0,
+            waiting: 0,
+        };
+    }
+    hand_over_some(side, actions)
+}
+
+/// Where some wait.
+#[inline(never)]
+fn hand_over_some(side: &mut Side, actions: &mut [PlainAction]) -> PlainTold
     ensures side { side.new ≡ side_after actions.old side.old }
     ensures actions { actions.new ≡ places_after actions.old side.old }
     ensures told { result ≡ told_after actions.old side.old }
