@@ -39,3 +39,13 @@ mod Losing
 mod Opened
 mod AllCalls
 mod Telling
+mod DoneShape
+mod Staging
+mod Starting
+mod DoneQueue
+mod DoneBox
+mod DoneRoom
+mod DoneWalk
+mod DoneRequests
+mod DoneRules
+mod Doing
