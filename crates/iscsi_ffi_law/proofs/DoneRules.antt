@@ -104,7 +104,7 @@ module _ (i : Interface) (names : List Name) (notes : List Note) (s : State) (r 
   -- ---- where none is withheld then
 
   -- it wasn't told to start before
-  untold_before : (n : RulesCommand) → In n ns → contains r.told n.ticket ≡ false
+  pub untold_before : (n : RulesCommand) → In n ns → contains r.told n.ticket ≡ false
   untold_before n at = by_test (contains r.told n.ticket) refl
     where
       k : IsNew r.both.trace (done_trace r.both.trace d status) n

@@ -145,7 +145,7 @@ few_units f cs few a (suc n) =
     split [] = omega arith
     split (x ∷ ds) = omega (arith, split ds, each x.unit, count-cons (λ (c : Command). c.unit == a) x ds, count-cons (λ (c : Command). not (nat_lt c.unit (a + 1))) x ds, count-cons (λ (c : Command). not (nat_lt c.unit a)) x ds)
 
-filter_counted : (p : Command → Bool) (cs : List Command) → length (filter p cs) ≡ count_by p cs
+pub filter_counted : (p : Command → Bool) (cs : List Command) → length (filter p cs) ≡ count_by p cs
 filter_counted p [] = refl
 filter_counted p (c ∷ cs) = by_test (filter_counted p cs) (p c) refl
   where
@@ -153,7 +153,7 @@ filter_counted p (c ∷ cs) = by_test (filter_counted p cs) (p c) refl
     by_test rest true is = let here : one (p c) ≡ 1 = ap one is in omega (arith, rest, here, count-cons p c cs)
     by_test rest false is = let here : one (p c) ≡ 0 = ap one is in omega (arith, rest, here, count-cons p c cs)
 
-few_counted : (p : Command → Bool) (cs : List Command) → count_by p cs ≤ length cs
+pub few_counted : (p : Command → Bool) (cs : List Command) → count_by p cs ≤ length cs
 few_counted p cs = omega (arith, filter_counted p cs, filter-shorter p cs)
 
 pub few_new : (o : Setting) (t : Trace) (item : List Mark) → length (newly_enabled o t item) ≤ length (live (item ∷ t))

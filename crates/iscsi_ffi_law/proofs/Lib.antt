@@ -49,3 +49,9 @@ mod DoneWalk
 mod DoneRequests
 mod DoneRules
 mod Doing
+mod Ascending
+mod DoneCounts
+mod DoneHeld
+mod DoneMid
+mod DoneChain
+mod DoneCalls

@@ -1,20 +1,22 @@
--- What is premised of the end of a command that the session has, of the rules' side alone.
-use Rattle.std.specs.Prelude.{◌≡◌, ◌<◌, ◌≤◌, ◌-◌, ◌^◌, ◌==◌, ◌&&◌, ℕ, true, length, Some, None}
+-- What is premised of the end of a command that the session has, and of those that are withheld then: of the rules' side alone.
+use Rattle.std.specs.Prelude.{◌≡◌, ◌<◌, ◌≤◌, ◌-◌, ◌^◌, ◌==◌, ◌&&◌, ◌++◌, ℕ, zero, suc, true, length, Some, None}
 use Rattle.std.specs.List.{list_any}
 use Rattle.iscsi_wire.specs.Fields.{connection_of}
 use Rattle.iscsi_history.specs.declared.event.Event.TheVariants.{Done}
 use Rattle.iscsi_history.specs.rules.Agenda.{command_of}
 use Rattle.iscsi_history.specs.rules.Run.{entry_of}
-use Rattle.iscsi_history.specs.rules.Trace.{live}
+use Rattle.iscsi_history.specs.rules.Trace.{Command, entered, live}
 use Rattle.iscsi_outbox_rules.specs.promises.Room.{FitsCall, places}
 use Rattle.iscsi_outbox_rules.specs.rules.Boxes.{Handed, Link, Task}
 use Rattle.iscsi_outbox_rules.specs.rules.Calls as outbox
 use Rattle.iscsi_outbox_rules.specs.rules.Queues.{takes_more}
 use Rattle.iscsi_outbox_rules.specs.rules.Run.{after_call}
 use Rattle.iscsi_outbox_rules.specs.rules.Words.{is_live_phase, replies_waiting}
-use Rattle.iscsi_outbox_law.specs.Pairs.{EachOf}
+use Rattle.iscsi_outbox_law.specs.Pairs.{EachOf, InOrder}
 use Rattle.iscsi_outbox_law.specs.Sound.{NoneIsFresh}
 use Rattle.iscsi_ffi_rules.specs.rules.Calls.{Interface}
+use Rattle.iscsi_ffi_rules.specs.rules.Clearing.{next_withheld, status_of}
+use Rattle.iscsi_ffi_rules.specs.rules.Happening.{Told, happening}
 use Rattle.iscsi_ffi_rules.specs.rules.Sides.{Side}
 use Rattle.iscsi_ffi_law.specs.Fit.{IsFit}
 use Rattle.iscsi_ffi_law.specs.Parts.{IsBefore}
@@ -43,3 +45,23 @@ pub record IsDoneFit (i : Interface) (r : Side) (ticket status : ℕ) : Type 0 w
   pub takes : list_any (λ (l : Link). l.conn == home_of r ticket && takes_more l) r.both.box.links ≡ true
   -- what was handed out has its place in the log
   pub handed : EachOf (λ (l : Link). EachOf (λ (h : Handed). IsBefore r.both.box.sent h.out.sent) l.handed) r.both.box.links
+
+-- so many commands that are withheld complete, one after the other
+abbrev pub AreDoneFit : Interface → ℕ → Told → Type 0
+AreDoneFit i zero w = Unit {0}
+AreDoneFit i (suc n) w = elim (next_withheld w.side) [
+  | Some c ↦ IsDoneFit i w.side c.ticket (status_of w.side c)
+      × (let h = happening i w.side (Done c.ticket (status_of w.side c)) in AreDoneFit i n (record { side = h.side; actions = w.actions ++ h.actions }))
+  | None ↦ Unit {0}
+]
+
+-- the commands of a session: tickets go up, and units are its own
+pub record IsRegular (i : Interface) (r : Side) : Type 0 where
+  pub ascending : InOrder (λ (c d : Command). c.ticket < d.ticket) (entered r.both.trace)
+  pub units : EachOf (λ (c : Command). c.unit < i.outbox.session.units) (entered r.both.trace)
+
+-- a command completes with this status, and behind it all that are withheld then
+pub record AllDone (i : Interface) (r : Side) (ticket status : ℕ) : Type 0 where
+  pub regular : IsRegular i r
+  pub fit : IsDoneFit i r ticket status
+  pub withheld : let w = happening i r (Done ticket status) in AreDoneFit i (length (live w.side.both.trace)) w
