@@ -17,17 +17,16 @@ use Rattle.iscsi_history.specs.rules.Settings.{Setting, is_known}
 use Rattle.iscsi_history.specs.rules.Trace.{Command as RulesCommand, entered, has, leaves_ticket, live, was_free}
 use Rattle.iscsi_history.proofs.BoolLemmas.{and_parts}
 use Rattle.iscsi_history.proofs.ElementLemmas.{In, first-in, in-filter}
-use Rattle.iscsi_history.proofs.ListLemmas.{any_same, list_any-map}
 use Rattle.iscsi_outbox_rules.specs.promises.Room.{FitItems, Fits, FitsCall}
 use Rattle.iscsi_outbox_rules.specs.promises.Scope.{nth}
-use Rattle.iscsi_outbox_rules.specs.rules.Boxes.{Answer, Box, Completed, Dormant, Fresh, Gone, Link, Outgoing, Phase, Running, Started, Task}
+use Rattle.iscsi_outbox_rules.specs.rules.Boxes.{Answer, Box, Link, Outgoing, Task}
 use Rattle.iscsi_outbox_rules.specs.rules.Calls as outbox
 use Rattle.iscsi_outbox_rules.specs.rules.Calls.{Opening}
 use Rattle.iscsi_outbox_rules.specs.rules.Due.{settle}
 use Rattle.iscsi_outbox_rules.specs.rules.Items.{after_event, after_item, after_items, in_phase, outgoing, phase_completed, phase_enabled, phase_told, ticket_enabled, ticket_left, tickets_left}
 use Rattle.iscsi_outbox_rules.specs.rules.Queues.{append, enter, takes_more}
 use Rattle.iscsi_outbox_rules.specs.rules.Run.{after_call, new_link}
-use Rattle.iscsi_outbox_rules.specs.rules.Words.{contains, is_live_phase, is_running_phase}
+use Rattle.iscsi_outbox_rules.specs.rules.Words.{is_live_phase}
 use Rattle.iscsi_outbox_rules.proofs.TaskLives.{item_tasks}
 use Rattle.iscsi_outbox_law.specs.Commands.{is_under_way, link_in}
 use Rattle.iscsi_outbox_law.specs.Pairs.{EachOf, InOrder}
@@ -53,6 +52,7 @@ use Rattle.iscsi_ffi_law.specs.Names.{Name, Note}
 use Rattle.iscsi_ffi_law.specs.Parts.{IsKnownOut, IsLiveNamed, IsNamedEvent, IsQueued, is_named}
 use Rattle.iscsi_ffi_law.specs.Stands.{AreRequests, AreSizes}
 use Rattle.iscsi_ffi_law.proofs.Commands.{one_command}
+use Rattle.iscsi_ffi_law.proofs.DonePhases.{running_completed, running_enabled, runs_at, told_runs, turned, turned_runs}
 use Rattle.iscsi_ffi_law.proofs.DoneQueue.{apart_on, nth_last, queued_apart, queued_reply, undue_more}
 use Rattle.iscsi_ffi_law.proofs.DoneShape.{done_effects, done_reply, done_trace, entered_same, entry_is, news, none_is, one_part, shows_none}
 use Rattle.iscsi_ffi_law.proofs.Finish.{as_many_links}
@@ -69,49 +69,6 @@ pub record IsFound (i : Interface) (names : List Name) (notes : List Note) (s : 
   pub sizes : AreSizes i s
   pub command : command_of r.both.trace d.ticket ≡ Some d
   pub fit : IsDoneFit i r d.ticket status
-
--- ---- phases
-
-running_completed : (p : Phase) → is_running_phase (phase_completed p) ≡ is_running_phase p
-running_completed Dormant = refl
-running_completed Fresh = refl
-running_completed Started = refl
-running_completed Completed = refl
-running_completed Running = refl
-running_completed Gone = refl
-
-running_enabled : (p : Phase) → is_running_phase (phase_enabled p) ≡ is_running_phase p
-running_enabled Dormant = refl
-running_enabled Fresh = refl
-running_enabled Started = refl
-running_enabled Completed = refl
-running_enabled Running = refl
-running_enabled Gone = refl
-
-running_told : (p : Phase) → is_running_phase (phase_told p) ≡ is_running_phase p
-running_told Dormant = refl
-running_told Fresh = refl
-running_told Started = refl
-running_told Completed = refl
-running_told Running = refl
-running_told Gone = refl
-
-abbrev runs_at : ℕ → Task → Bool
-runs_at k t = t.ticket == k && is_running_phase t.phase
-
-abbrev turned : (Phase → Phase) → List ℕ → Task → Task
-turned change tickets t = cond (contains tickets t.ticket) (record t { phase = change t.phase }) t
-
-turned_runs : (change : Phase → Phase) (tickets : List ℕ) (k : ℕ) (ts : List Task) → ((p : Phase) → is_running_phase (change p) ≡ is_running_phase p) → list_any (runs_at k) (map (turned change tickets) ts) ≡ list_any (runs_at k) ts
-turned_runs change tickets k ts same =
-    list_any-map (runs_at k) (turned change tickets) ts
-    ∙ any_same (λ (t : Task). runs_at k (turned change tickets t)) (runs_at k) ts
-    (λ t. cond_both (contains tickets t.ticket) (record t { phase = change t.phase }) t (λ (u : Task). runs_at k u ≡ runs_at k t) (λ is. ap (λ v. (t.ticket == k) && v) (same t.phase)) (λ isnt. refl))
-
-told_runs : (k : ℕ) (ts : List Task) → list_any (runs_at k) (map (λ (t : Task). record t { phase = phase_told t.phase }) ts) ≡ list_any (runs_at k) ts
-told_runs k ts =
-    list_any-map (runs_at k) (λ (t : Task). record t { phase = phase_told t.phase }) ts
-    ∙ any_same (λ (t : Task). runs_at k (record t { phase = phase_told t.phase })) (runs_at k) ts (λ t. ap (λ v. (t.ticket == k) && v) (running_told t.phase))
 
 -- ---- the item
 

@@ -43,6 +43,7 @@ mod DoneShape
 mod Staging
 mod Starting
 mod DoneQueue
+mod DonePhases
 mod DoneBox
 mod DoneRoom
 mod DoneWalk

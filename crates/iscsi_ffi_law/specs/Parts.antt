@@ -97,7 +97,7 @@ is_sent_at place out = elim (out.sent) [ Some p ↦ p == place | None ↦ false 
 abbrev pub count_sent : ℕ → List Answer → Link → ℕ
 count_sent place undue l = count_by (is_sent_at place) l.queue + count_by (λ (a : Answer). a.conn == l.conn && is_sent_at place a.out) undue
 
--- no number as great as this one
+-- it comes before this place of the log, if there is one
 abbrev pub IsBefore : ℕ → Option ℕ → Type 0
 IsBefore place (Some last) = last < place
 IsBefore place None = Unit {0}
