@@ -15,7 +15,7 @@ use Rattle.iscsi_ffi_rules.specs.rules.Needs.{left_to_write}
 use Rattle.iscsi_ffi_rules.specs.rules.Sides.{Side}
 use Rattle.iscsi_ffi_steps.specs.State.{State}
 use Rattle.iscsi_ffi_law.specs.Names.{Name, Note}
-use Rattle.iscsi_ffi_law.specs.Parts.{AreCounted, AreKept, IsAbout, IsAnswered, IsCommand, IsConn, IsNote, IsOneUse, IsQueued, IsRequest, IsUndue, is_named, noted_in}
+use Rattle.iscsi_ffi_law.specs.Parts.{AreCounted, AreKept, IsAbout, IsAnswered, IsBefore, IsCommand, IsConn, IsNote, IsOneUse, IsQueued, IsRequest, IsUndue, is_named, noted_in}
 use Rattle.iscsi_ffi_law.specs.Stands.{AreRequests}
 use Rattle.iscsi_ffi_law.specs.Uses.{count_lists, uses_of}
 use Rattle.iscsi_ffi_law.proofs.Moved.{same_homes, with_box}
@@ -30,6 +30,7 @@ pub record IsChanged (names : List Name) (notes : List Note) (pending : ℕ → 
   pub counted : AreCounted v
   pub uses : (place : ℕ) → uses_at place v ≡ uses_of place (changed_to s o v replies noted unwritten) + pending place
   pub once : (log_place : ℕ) → count_lists (has_log_place log_place) replies.waiting ≤ 1
+  pub last : IsBefore (length r.answers) replies.last
   pub one_use : EachOf (IsOneUse o) s.commands.items
   pub sent : b.sent ≡ r.both.box.sent
   pub long : length b.links ≡ length r.both.box.links
@@ -59,6 +60,7 @@ requests_changed names notes pending pending' gone gone' s r a o v replies noted
       numbered = a.numbered;
       answers = a.answers ∙ sym c.sent;
       once = c.once;
+      last = c.last;
       conns = c.conns;
       undue = c.undue;
     }

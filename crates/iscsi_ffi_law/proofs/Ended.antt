@@ -276,6 +276,7 @@ module _ (names : List Name) (notes : List Note) (pending : ℕ → ℕ) (gone :
     numbered = λ ticket. omega (arith, a.numbered ticket, fewer_counted (has_ticket ticket) (λ (c : Command). is_used_place s c.request) s.commands.items);
     answers = a.answers;
     once = a.once;
+    last = a.last;
     conns = λ p within.
         let c : IsConn names notes (gone p) s r p (link_in r.both.box.links p) = a.conns p within in
         record {

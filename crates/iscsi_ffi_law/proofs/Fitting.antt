@@ -50,7 +50,7 @@ parted q (x ∷ xs) = by_first (q x) refl (parted q xs)
         omega (arith, rest, here, long, count-cons q x xs)
 
 -- replies with places of their own, each of which stands among these
-fewer : (ys : List (Option ℕ)) (xs : List WaitingReply) → ((p : ℕ) → count_by (has_log_place p) xs ≤ 1) → ((p : ℕ) → count_by (has_log_place p) xs ≤ count_by (is_place p) ys) → length xs ≤ count_by is_some ys
+pub fewer : (ys : List (Option ℕ)) (xs : List WaitingReply) → ((p : ℕ) → count_by (has_log_place p) xs ≤ 1) → ((p : ℕ) → count_by (has_log_place p) xs ≤ count_by (is_place p) ys) → length xs ≤ count_by is_some ys
 fewer [] [] apart found = omega arith
 fewer [] (x ∷ xs) apart found =
     absurd (let all = count-cons (has_log_place x.log_place) x xs in let here : one (x.log_place == x.log_place) ≡ 1 = ap one (eq-eqb x.log_place x.log_place refl) in let none = found x.log_place in let wrong : ⊥ = omega (arith, all, here, none) in wrong)
@@ -83,7 +83,7 @@ count_map f p [] = refl
 count_map f p (x ∷ xs) = omega (arith, count_map f p xs, count-cons p (f x) (map f xs), count-cons (λ y. p (f y)) x xs)
 
 -- what is passed in by those that it holds of
-count_inside : {A : Type 0} (P : A → Type 0) (p q : A → Bool) (xs : List A) → EachOf P xs → ((x : A) → P x → p x ≡ true → q x ≡ true) → count_by p xs ≤ count_by q xs
+pub count_inside : {A : Type 0} (P : A → Type 0) (p q : A → Bool) (xs : List A) → EachOf P xs → ((x : A) → P x → p x ≡ true → q x ≡ true) → count_by p xs ≤ count_by q xs
 count_inside P p q [] each f = omega arith
 count_inside P p q (x ∷ xs) each f = by_first (count_inside P p q xs each.1 f) (p x) refl
   where
@@ -124,13 +124,13 @@ noted_own (Owns own) e = refl
 noted_own (Pings tag) e = absurd (false≢true e)
 noted_own Notices e = absurd (false≢true e)
 
-sent_reply : (x : Pdu) (ticket sent : Option ℕ) → IsOwnOut x ticket sent → is_some sent ≡ true → is_reply x ≡ true
+pub sent_reply : (x : Pdu) (ticket sent : Option ℕ) → IsOwnOut x ticket sent → is_some sent ≡ true → is_reply x ≡ true
 sent_reply (Replies reply) ticket sent own some = refl
 sent_reply (Owns p) ticket sent own some = absurd (false≢true (sym (ap is_some own.1) ∙ some))
 sent_reply (Pings tag) ticket sent own some = absurd own
 sent_reply Notices ticket sent own some = absurd own
 
-sent_place : (p : ℕ) (out : Outgoing) → is_sent_at p out ≡ true → is_place p out.sent ≡ true
+pub sent_place : (p : ℕ) (out : Outgoing) → is_sent_at p out ≡ true → is_place p out.sent ≡ true
 sent_place p out is = by_sent (out.sent) is
   where
     by_sent : (x : Option ℕ) → elim x [ Some q ↦ q == p | None ↦ false ] ≡ true → is_place p x ≡ true

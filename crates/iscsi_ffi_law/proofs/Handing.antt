@@ -28,7 +28,7 @@ use Rattle.iscsi_ffi_rules.specs.rules.Sides.{Side}
 use Rattle.iscsi_ffi_steps.specs.State.{State}
 use Rattle.iscsi_ffi_steps.specs.Steps.{Side as StepsSide}
 use Rattle.iscsi_ffi_law.specs.Names.{Note}
-use Rattle.iscsi_ffi_law.specs.Parts.{AreCounted, AreKept, IsAbout, IsAnswered, IsConn, IsOneUse, IsQueued, noted_in}
+use Rattle.iscsi_ffi_law.specs.Parts.{AreCounted, AreKept, IsAbout, IsAnswered, IsBefore, IsConn, IsOneUse, IsQueued, noted_in}
 use Rattle.iscsi_ffi_law.specs.Stands.{Stands}
 use Rattle.iscsi_ffi_law.specs.Uses.{count_lists, is_place, uses_of}
 use Rattle.iscsi_ffi_law.proofs.Changed.{changed_to, requests_changed}
@@ -84,6 +84,8 @@ module _ (i : Interface) (s : StepsSide) (r : Side) (h : Stands i s r) (p : ℕ)
     pub uses : (place : ℕ) → uses_at place v ≡ uses_of place (changed_to s.state s.state.outbox v replies noted s.state.unwritten) + one (is_place place x)
     pub once : (log_place : ℕ) → count_lists (has_log_place log_place) replies.waiting ≤ 1
     pub replies_long : length replies.waiting ≡ length s.state.replies.waiting
+    pub replies_room : replies.room ≡ s.state.replies.room
+    pub replies_last : replies.last ≡ s.state.replies.last
     pub noted_long : length noted.handed ≡ length s.state.noted.handed
     pub noted_room : noted.room ≡ s.state.noted.room
     pub answered : (q : ℕ) → EachOf (λ (y : WaitingReply). IsAnswered h.names r.answers y.log_place y.request) (of_conn q replies.waiting)
@@ -198,6 +200,7 @@ module _ (i : Interface) (s : StepsSide) (r : Side) (h : Stands i s r) (p : ℕ)
             unwritten = length-set s.state.unwritten.handed p (of_conn p s.state.unwritten.handed ++ x ∷ []) ∙ h.sizes.unwritten;
             noted_room = c.noted_room ∙ h.sizes.noted_room;
             unwritten_room = h.sizes.unwritten_room;
+            replies_room = c.replies_room ∙ h.sizes.replies_room;
             few = each-set (λ (ys : List (Option ℕ)). length ys ≤ i.unwritten) s.state.unwritten.handed p (of_conn p s.state.unwritten.handed ++ x ∷ [])
                 (let e = length-append (of_conn p s.state.unwritten.handed) (x ∷ []) in let less : length (of_conn p s.state.unwritten.handed ++ x ∷ []) ≤ i.unwritten = omega (arith, e, free) in less) h.sizes.few;
           };
@@ -207,6 +210,7 @@ module _ (i : Interface) (s : StepsSide) (r : Side) (h : Stands i s r) (p : ℕ)
             counted = c.counted;
             uses = uses_now;
             once = c.once;
+            last = subst (IsBefore (length r.answers)) (sym c.replies_last) h.requests.last;
             one_use = each-weaken (IsOneUse s.state.outbox) (IsOneUse o) s.state.commands.items (λ y k. ap (λ w. is_live y && w) (runs y.ticket) ∙ k) h.requests.one_use;
             sent = refl;
             long = many;

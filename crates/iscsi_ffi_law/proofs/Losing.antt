@@ -264,6 +264,7 @@ module _ (i : Interface) (s : StepsSide) (r : Side) (h : Stands i s r) (cid : �
     counted = h.requests.counted;
     uses = uses_now;
     once = λ log_place. let fewer = lists_set (has_log_place log_place) s.state.replies.waiting p [] (omega (arith, at.within, long_replies)) in omega (arith, fewer, h.requests.once log_place);
+    last = h.requests.last;
     one_use = each-weaken (IsOneUse s.state.outbox) (IsOneUse (lost cid s.state.outbox)) s.state.commands.items (λ c k. ap (λ v. is_live c && v) (runs c.ticket) ∙ k) h.requests.one_use;
     sent = settled_sent i.outbox [] undue' dropped;
     long = settled.long ∙ many;
@@ -295,6 +296,7 @@ module _ (i : Interface) (s : StepsSide) (r : Side) (h : Stands i s r) (cid : �
           unwritten = length-set s.state.unwritten.handed p [] ∙ h.sizes.unwritten;
           noted_room = h.sizes.noted_room;
           unwritten_room = h.sizes.unwritten_room;
+          replies_room = h.sizes.replies_room;
           few = each-set (λ (ys : List (Option ℕ)). length ys ≤ i.unwritten) s.state.unwritten.handed p [] (omega arith) h.sizes.few;
         };
         flags = record { awake = h.flags.awake; over = h.flags.over };

@@ -173,7 +173,7 @@ module _ (r : Side) (unit : ℕ) where
 -- ---- what is told
 
 -- those that are live are named
-named_first : (names : List Name) (t : Trace) (ds : List RulesCommand) → EachOf (IsLiveNamed names t) ds
+pub named_first : (names : List Name) (t : Trace) (ds : List RulesCommand) → EachOf (IsLiveNamed names t) ds
     → filter (λ (d : RulesCommand). not (has (leaves_ticket d.ticket) t)) (filter (is_named names) ds) ≡ filter (λ (d : RulesCommand). not (has (leaves_ticket d.ticket) t)) ds
 named_first names t [] each = refl
 named_first names t (d ∷ ds) each = by_tests (named_first names t ds each.1) (is_named names d) (has (leaves_ticket d.ticket) t) refl refl each.0

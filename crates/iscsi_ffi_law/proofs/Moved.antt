@@ -104,6 +104,7 @@ module _ (names : List Name) (notes : List Note) (pending : ℕ → ℕ) (gone :
     numbered = a.numbered;
     answers = a.answers ∙ sym m.sent;
     once = a.once;
+    last = a.last;
     conns = λ p within.
         let c : IsConn names notes (gone p) s r p (link_in r.both.box.links p) = a.conns p (omega (arith, within, m.long)) in
         record {

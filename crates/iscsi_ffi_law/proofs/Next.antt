@@ -58,7 +58,7 @@ all_fewer m (xs ∷ lists) zero few within less = let rest = all_few m lists few
 all_fewer m (xs ∷ lists) (suc p) few within less =
     let rest = all_fewer m lists p few.1 (omega (arith, within)) less in let here : length xs ≤ m = few.0 in let more : m * suc (length lists) ≡ m * length lists + m = mul-suc m (length lists) in omega (arith, rest, here, more)
 
-nth_within : {A : Type 0} (k : ℕ) (xs : List A) (x : A) → nth k xs ≡ Some x → k < length xs
+pub nth_within : {A : Type 0} (k : ℕ) (xs : List A) (x : A) → nth k xs ≡ Some x → k < length xs
 nth_within k [] x is = absurd cc
 nth_within zero (y ∷ xs) x is = omega arith
 nth_within (suc k) (y ∷ xs) x is = let rest = nth_within k xs x is in omega (arith, rest)

@@ -131,6 +131,8 @@ module _ (i : Interface) (s : StepsSide) (r : Side) (h : Stands i s r) (p : ℕ)
           omega (arith, set_there, all, left, h.requests.uses place);
       once = h.requests.once;
       replies_long = refl;
+      replies_room = refl;
+      replies_last = refl;
       noted_long = length-set s.state.noted.handed p (behind_oldest (of_conn p s.state.noted.handed));
       noted_room = refl;
       answered = λ q. answered_on i s r h q;

@@ -73,6 +73,7 @@ module _ (i : Interface) where
       unwritten = length-replicate (length (cids i)) [];
       noted_room = refl;
       unwritten_room = refl;
+      replies_room = refl;
       few = none_many (length (cids i));
     };
     flags = record { awake = none_told (cids i); over = none_told (cids i) };
@@ -92,6 +93,7 @@ module _ (i : Interface) where
       numbered = λ ticket. omega arith;
       answers = refl;
       once = λ log_place. let e = lists_new (has_log_place log_place) (length (cids i)) in omega (arith, e);
+      last = tt;
       conns = λ p within.
           let short : p < length i.outbox.session.conns = omega (arith, within, length-map i.outbox.session.conns (λ (c : ℕ × ℕ). new_link c.0)) in
           subst (IsConn [] [] [] (opened_state i) (opened i) p) (sym (get_or-map (λ (c : ℕ × ℕ). new_link c.0) i.outbox.session.conns p (0, 0) (new_link 0) short)) (conn_opened p (get_or i.outbox.session.conns p (0, 0)).0);

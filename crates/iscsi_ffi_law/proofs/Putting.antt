@@ -327,6 +327,7 @@ module _ (i : Interface) (s : StepsSide) (r : Side) (h : Stands i s r) (p : OwnP
       numbered = h.requests.numbered;
       answers = h.requests.answers;
       once = h.requests.once;
+      last = h.requests.last;
       conns = λ q within. ⊎_elim
           (λ (same : q ≡ k.q). subst (λ n. IsConn h.names notes' [] s' r' n (link_in b'.links n)) (sym same) here)
           (λ (other : q ≡ k.q → ⊥). elsewhere q (omega (arith, within, many i s r h cid (own_outgoing p))) other) (cases_eq q k.q);
@@ -352,6 +353,7 @@ module _ (i : Interface) (s : StepsSide) (r : Side) (h : Stands i s r) (p : OwnP
             unwritten = h.sizes.unwritten;
             noted_room = h.sizes.noted_room;
             unwritten_room = h.sizes.unwritten_room;
+            replies_room = h.sizes.replies_room;
             few = h.sizes.few;
           };
           flags = record { awake = h.flags.awake; over = h.flags.over };

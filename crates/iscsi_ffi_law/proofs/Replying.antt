@@ -238,6 +238,8 @@ module _ (i : Interface) (s : StepsSide) (r : Side) (h : Stands i s r) (p : ℕ)
       uses = λ place. let less = uses_less place in omega (arith, less, h.requests.uses place);
       once = λ log_place. let split = lists_split (has_log_place log_place) (has_log_place k) s.state.replies.waiting in omega (arith, split, h.requests.once log_place);
       replies_long = length-map s.state.replies.waiting (without_log_place k);
+      replies_room = refl;
+      replies_last = refl;
       noted_long = refl;
       noted_room = refl;
       answered = λ q. subst (λ ys. EachOf (λ (y : WaitingReply). IsAnswered h.names r.answers y.log_place y.request) ys) (sym (conn_taken q))

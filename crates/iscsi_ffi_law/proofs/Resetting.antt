@@ -87,7 +87,7 @@ few_of_unit unit (c ∷ cs) = by_unit (c.unit == unit) (few_of_unit unit cs)
     by_unit false rest = omega (arith, rest)
 
 -- nothing is withheld
-calm : (i : Interface) (n : ℕ) (w : Told) → next_withheld w.side ≡ None → withholding i n w ≡ w
+pub calm : (i : Interface) (n : ℕ) (w : Told) → next_withheld w.side ≡ None → withholding i n w ≡ w
 calm i zero w none = refl
 calm i (suc n) w none = ap (λ (x : Option RulesCommand). elim x [
   | Some c ↦ let g = happening i w.side (Done c.ticket (status_of w.side c)) in withholding i n (record { side = g.side; actions = w.actions ++ g.actions })
@@ -135,6 +135,7 @@ module _ (i : Interface) (s : StepsSide) (r : Side) (h : Stands i s r) (unit : �
         omega (arith, mapped, same, h.requests.numbered ticket);
     answers = h.requests.answers;
     once = h.requests.once;
+    last = h.requests.last;
     conns = λ p within.
         let c : IsConn h.names h.notes [] s.state r p (link_in r.both.box.links p) = h.requests.conns p within in
         record {
@@ -152,7 +153,7 @@ module _ (i : Interface) (s : StepsSide) (r : Side) (h : Stands i s r) (unit : �
     sound = fit.sound;
     few = fit.few;
     distinct = fit.distinct;
-    sizes = record { room = h.sizes.room; functions = h.sizes.functions; replies = h.sizes.replies; noted = h.sizes.noted; unwritten = h.sizes.unwritten; noted_room = h.sizes.noted_room; unwritten_room = h.sizes.unwritten_room; few = h.sizes.few };
+    sizes = record { room = h.sizes.room; functions = h.sizes.functions; replies = h.sizes.replies; noted = h.sizes.noted; unwritten = h.sizes.unwritten; noted_room = h.sizes.noted_room; unwritten_room = h.sizes.unwritten_room; replies_room = h.sizes.replies_room; few = h.sizes.few };
     flags = record { awake = h.flags.awake; over = h.flags.over };
     requests = requests_now;
     withheld = h.withheld;

@@ -113,6 +113,8 @@ module _ (i : Interface) (s : StepsSide) (r : Side) (h : Stands i s r) (p : ℕ)
     uses = h.requests.uses;
     once = h.requests.once;
     replies_long = refl;
+    replies_room = refl;
+    replies_last = refl;
     noted_long = refl;
     noted_room = refl;
     answered = answered_all;
@@ -222,6 +224,8 @@ module _ (i : Interface) (s : StepsSide) (r : Side) (h : Stands i s r) (p : ℕ)
         uses = uses_more;
         once = h.requests.once;
         replies_long = refl;
+        replies_room = refl;
+        replies_last = refl;
         noted_long = refl;
         noted_room = refl;
         answered = λ q. answered_on i s r h q;

@@ -87,7 +87,7 @@ stopped_run ticket k (t ∷ tasks) = ap (λ v. one_runs (cond (contains (ticket 
 
 -- ---- uses
 
-count_sum : {A : Type 0} (p q e : A → Bool) (xs : List A) → ((x : A) → In x xs → one (p x) ≡ one (q x) + one (e x)) → count_by p xs ≡ count_by q xs + count_by e xs
+pub count_sum : {A : Type 0} (p q e : A → Bool) (xs : List A) → ((x : A) → In x xs → one (p x) ≡ one (q x) + one (e x)) → count_by p xs ≡ count_by q xs + count_by e xs
 count_sum p q e [] same = refl
 count_sum p q e (x ∷ xs) same =
     let rest : count_by p xs ≡ count_by q xs + count_by e xs = count_sum p q e xs (λ y k. same y (inr k)) in
@@ -142,6 +142,7 @@ module _ (i : Interface) (s : StepsSide) (r : Side) (h : Stands i s r) (ticket :
       counted = h.requests.counted;
       uses = uses;
       once = h.requests.once;
+      last = h.requests.last;
       one_use = still_one;
       sent = settled_sent i.outbox [] r.both.box.undue (in_phase phase_stopped (ticket ∷ []) r.both.box);
       long = k.long;
@@ -161,7 +162,7 @@ module _ (i : Interface) (s : StepsSide) (r : Side) (h : Stands i s r) (ticket :
           sound = fit'.sound_after;
           few = fit'.short.handed;
           distinct = fit.distinct;
-          sizes = record { room = h.sizes.room; functions = h.sizes.functions; replies = h.sizes.replies; noted = h.sizes.noted; unwritten = h.sizes.unwritten; noted_room = h.sizes.noted_room; unwritten_room = h.sizes.unwritten_room; few = h.sizes.few };
+          sizes = record { room = h.sizes.room; functions = h.sizes.functions; replies = h.sizes.replies; noted = h.sizes.noted; unwritten = h.sizes.unwritten; noted_room = h.sizes.noted_room; unwritten_room = h.sizes.unwritten_room; replies_room = h.sizes.replies_room; few = h.sizes.few };
           flags = record { awake = h.flags.awake; over = h.flags.over };
           requests = requests_changed h.names h.notes (λ place. 0) (ending x) (λ p. []) (λ p. []) s.state r h.requests (stopped ticket s.state.outbox) s.state.cookies s.state.replies s.state.noted s.state.unwritten settled (changed_now x uses);
           withheld = h.withheld;

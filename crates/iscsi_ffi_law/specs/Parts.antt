@@ -1,5 +1,5 @@
 -- The parts of what the steps keep, and what they stand for in the rules.
-use Rattle.std.specs.Prelude.{◌≡◌, ◌≤◌, ℕ, ◌+◌, ◌==◌, ◌&&◌, ◌||◌, not, Bool, true, false, List, [], ◌∷◌, ◌++◌, length, map, filter, count_by, nat_lt, Option, Some, None, is_some, if◌then◌else◌}
+use Rattle.std.specs.Prelude.{◌≡◌, ◌<◌, ◌≤◌, ℕ, ◌+◌, ◌==◌, ◌&&◌, ◌||◌, not, Bool, true, false, List, [], ◌∷◌, ◌++◌, length, map, filter, count_by, nat_lt, Option, Some, None, is_some, if◌then◌else◌}
 use Rattle.std.specs.List.{find, list_any}
 use Rattle.iscsi_history.specs.rules.Trace.{Command as RulesCommand, Trace, entered, has, leaves_ticket, was_free}
 use Rattle.iscsi_outbox_rules.specs.rules.Boxes.{Answer, Handed, Link, Notices, Outgoing, Owns, Pdu, Pings, Replies}
@@ -96,6 +96,11 @@ is_sent_at place out = elim (out.sent) [ Some p ↦ p == place | None ↦ false 
 -- how often a reply waits on a connection, also one that isn't due
 abbrev pub count_sent : ℕ → List Answer → Link → ℕ
 count_sent place undue l = count_by (is_sent_at place) l.queue + count_by (λ (a : Answer). a.conn == l.conn && is_sent_at place a.out) undue
+
+-- it comes before this place of the log, if there is one
+abbrev pub IsBefore : ℕ → Option ℕ → Type 0
+IsBefore place (Some last) = last < place
+IsBefore place None = Unit {0}
 
 -- ---- what was handed out
 

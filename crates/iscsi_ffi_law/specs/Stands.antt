@@ -5,7 +5,7 @@ use Rattle.iscsi_outbox_rules.specs.rules.Words.{contains}
 use Rattle.iscsi_outbox_law.specs.Commands.{link_in}
 use Rattle.iscsi_outbox_law.specs.Pairs.{EachOf}
 use Rattle.iscsi_outbox_law.specs.Stands.{Stands as OutboxStands}
-use Rattle.iscsi_outbox_steps.specs.State.{limits_of}
+use Rattle.iscsi_outbox_steps.specs.State.{limits_of, most_at_once}
 use Rattle.iscsi_ffi_commands.specs.Commands.{has_ticket}
 use Rattle.iscsi_requests.specs.Cookies.{uses_at}
 use Rattle.iscsi_requests.specs.Replies.{has_log_place}
@@ -17,7 +17,7 @@ use Rattle.iscsi_ffi_steps.specs.State.{State, actions_room}
 use Rattle.iscsi_ffi_steps.specs.Steps.{Side as StepsSide}
 use Rattle.iscsi_ffi_law.specs.Names.{Name, Note, asked_of, noted_of}
 use Rattle.iscsi_ffi_law.specs.Uses.{count_lists, uses_of}
-use Rattle.iscsi_ffi_law.specs.Parts.{AreApart, AreCommands, AreCounted, AreKept, IsConn, IsLiveNamed, IsNote, IsOneUse, IsRequest, IsUndue}
+use Rattle.iscsi_ffi_law.specs.Parts.{AreApart, AreCommands, AreCounted, AreKept, IsBefore, IsConn, IsLiveNamed, IsNote, IsOneUse, IsRequest, IsUndue}
 
 pub record AreSizes (i : Interface) (s : State) : Type 0 where
   pub room : s.room ≡ actions_room i.unwritten (limits_of i.outbox)
@@ -27,6 +27,7 @@ pub record AreSizes (i : Interface) (s : State) : Type 0 where
   pub unwritten : length s.unwritten.handed ≡ length (cids i)
   pub noted_room : s.noted.room ≡ i.outbox.own * length (cids i)
   pub unwritten_room : s.unwritten.room ≡ i.unwritten * length (cids i)
+  pub replies_room : s.replies.room ≡ 3 * most_at_once (limits_of i.outbox)
   pub few : EachOf (λ (xs : List (Option ℕ)). length xs ≤ i.unwritten) s.unwritten.handed
 
 -- who was told to be ready, or to be closed
@@ -52,6 +53,7 @@ pub record AreRequests (names : List Name) (notes : List Note) (pending : ℕ �
   pub numbered : (ticket : ℕ) → count_by (has_ticket ticket) s.commands.items ≤ 1
   pub answers : length r.answers ≡ r.both.box.sent
   pub once : (log_place : ℕ) → count_lists (has_log_place log_place) s.replies.waiting ≤ 1
+  pub last : IsBefore (length r.answers) s.replies.last
   pub conns : (p : ℕ) → p < length r.both.box.links → IsConn names notes (gone p) s r p (link_in r.both.box.links p)
   pub undue : EachOf (IsUndue names r.answers) r.both.box.undue
 

@@ -1,13 +1,15 @@
 //! What the steps have in common with the rules: laws of the definitions, which no code is needed for.
 
-ghost use Rattle.std.specs.Prelude.{◌≡◌, ◌<◌, ◌≤◌, ◌&&◌, ◌+◌, ◌*◌, ◌^◌, ℕ, List, false, is_some, length, true};
+ghost use Rattle.std.specs.Prelude.{◌≡◌, ◌<◌, ◌≤◌, ◌&&◌, ◌+◌, ◌*◌, ◌^◌, ℕ, List, cond, false, is_some, length, true};
 ghost use Rattle.iscsi_ffi_law.specs.Alike.{GoesAlike};
+ghost use Rattle.iscsi_ffi_law.specs.Done.{AllDone};
 ghost use Rattle.iscsi_ffi_law.specs.Fit.{IsFit, IsOrderly};
 ghost use Rattle.iscsi_history.specs.rules.Settings.{is_known};
 ghost use Rattle.iscsi_history.specs.rules.Trace.{is_closed};
 ghost use Rattle.iscsi_ffi_law.specs.Lists.{AreAlike, MeetFrom};
 ghost use Rattle.iscsi_ffi_law.specs.Stands.{Stands};
 ghost use Rattle.iscsi_ffi_rules.specs.rules.Calls.{Call, Cleared, Clears, Completes, Hears, Interface, Joins, Loses, Nexts, Puts, Stops, Writes};
+ghost use Rattle.iscsi_ffi_rules.specs.rules.Clearing.{TASK_ABORTED};
 ghost use Rattle.iscsi_ffi_rules.specs.rules.Run.{cids, is_going, is_lost};
 ghost use Rattle.iscsi_ffi_rules.specs.rules.Sides.{Side, opened};
 ghost use Rattle.iscsi_ffi_steps.specs.Steps.{Side as StepsSide, begun};
@@ -74,9 +76,17 @@ pub fn clears_law()
     ensures alike { (i : Interface) (s : StepsSide) (r : Side) → Stands i s r → (unit : ℕ) → IsFit i r.both.box r.both.box → length s.state.commands.items + 2 * length (cids i) ≤ s.state.room → GoesAlike i s r (Clears unit) }
 {}
 
+/// A command that goes on ends: it completes, or stops where another session's reset takes it out. Its reply waits, and the commands that it
+/// barred are told to start; those that are withheld complete behind it, one after the other. What is premised of the rules' side, at each of
+/// these events, is said in `AllDone`.
+pub fn done_law()
+    ensures alike { (i : Interface) (s : StepsSide) (r : Side) → Stands i s r → (ticket status : ℕ) → is_going r ticket ≡ true → AllDone i r ticket (cond (contains r.marked ticket) TASK_ABORTED status) → GoesAlike i s r (Completes ticket status) }
+    ensures stops { (i : Interface) (s : StepsSide) (r : Side) → Stands i s r → (ticket : ℕ) → (is_going r ticket && contains r.marked ticket) ≡ true → AllDone i r ticket TASK_ABORTED → GoesAlike i s r (Stops ticket) }
+{}
+
 /// A list of calls: each is answered by the steps as by the rules, and tells the same in the same order, but for what is forgotten, which is
-/// the same in any order. What is asked of each call is said in `Meets`. It is still a premise there that a call by which the session takes an
-/// event goes alike: a request that isn't refused, the loss of a connection that isn't closed, and the end of a command that goes on.
+/// the same in any order. What is asked of each call is said in `Meets`. It is still a premise there that two calls by which the session takes an
+/// event go alike: a request that isn't refused, and the loss of a connection that isn't closed.
 pub fn lists_law()
     ensures alike { (i : Interface) (calls : List Call) → MeetFrom i (begun i) (opened i) calls → AreAlike i (begun i) (opened i) calls }
 {}

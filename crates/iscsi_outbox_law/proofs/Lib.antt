@@ -52,7 +52,7 @@ mod Silence
 pub mod Hearing
 pub mod Losing
 mod Turning
-mod TurningEach
+pub mod TurningEach
 mod TakesPhases
 mod TakesQueues
 mod TakesLane
@@ -62,7 +62,7 @@ mod TakesSends
 mod TakesClosed
 mod TakesAims
 mod TakesSending
-mod TurningFresh
+pub mod TurningFresh
 mod TurningLast
 mod TurningCount
 pub mod CallsGo
@@ -79,6 +79,6 @@ mod TakesKept
 mod TakesParts
 mod TakesSent
 mod TakesReply
-mod TakesItem
+pub mod TakesItem
 pub mod Alike
 pub mod Called
