@@ -5,8 +5,8 @@ import random
 
 from loopback import Failed, last_line, missing, run
 
-MIB = 1 << 20
-IMAGE_MIB, SECONDS = 32, 40
+# As long as a unit.
+IMAGE, SECONDS = 64 << 20, 40
 # Writes with a pattern each, and reads that look for it: aligned, unaligned, side by side, and of zeroes. The target has no UNMAP and no WRITE
 # SAME, so QEMU writes the zeroes itself, and a discard does nothing.
 STEPS = ("write -P 0x11 0 1M", "write -P 0x22 1000 70000", "read -P 0x22 1000 70000", "read -P 0x11 0 1000", "read -P 0x11 71000 900",
@@ -34,15 +34,15 @@ def status(words, wanted=0):
 def image_in_and_out(url, folder):
     """An image is written to the unit, compared, and read again as it was."""
     source, copy = os.path.join(folder, "in.raw"), os.path.join(folder, "out.raw")
-    data = random.Random(1).randbytes(IMAGE_MIB * MIB)
+    data = random.Random(1).randbytes(IMAGE)
     with open(source, "wb") as file:
         file.write(data)
-    for words in (["convert", "-n", "-f", "raw", "-O", "raw", source, url], ["compare", "-f", "raw", "-F", "raw", source, url],
+    for words in (["convert", "-n", "-f", "raw", "-O", "raw", source, url], ["compare", "-s", "-f", "raw", "-F", "raw", source, url],
                   ["convert", "-f", "raw", "-O", "raw", url, copy]):
         if why := status(["qemu-img", *words]):
             return f"qemu-img {words[0]}: {why}"
     with open(copy, "rb") as file:
-        return None if file.read(len(data)) == data else "what was read isn't what was written"
+        return None if file.read() == data else "what was read isn't what was written"
 
 
 def patterns(url):

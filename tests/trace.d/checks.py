@@ -18,7 +18,7 @@ OF_SET = (ABORT_TASK_SET, CLEAR_TASK_SET, LOGICAL_UNIT_RESET)
 # A worker that takes a command which was stopped before has a line, too, of no work: it begins and ends in a moment. So
 # what began less than so many nanoseconds before isn't judged.
 MOMENT = 5_000_000
-COMPLETE = 0
+COMPLETE, TASK_ABORTED = 0, 0x40
 ORDERED, HEAD_OF_QUEUE = 2, 3
 NEVER = float("inf")
 
@@ -263,10 +263,11 @@ def by_attribute(session):
 
 
 def by_outcome(session):
-    """No command that a worker stopped is answered, and none starts that was aborted before it came."""
+    """No command that a worker stopped is answered, but with TASK ABORTED, where another session's reset took it out; and
+    none starts that was aborted before it came."""
     for command in session.commands:
         for work in command.works:
-            if not work.is_completed and command.answers:
+            if not work.is_completed and any(item.reply.status != TASK_ABORTED for item in command.answers):
                 yield (f"line {work.line} of the trace: {command.name} was stopped, and is answered in frame "
                        f"{command.answers[0].frame}")
             if command.is_aborted_late:

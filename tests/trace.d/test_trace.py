@@ -78,9 +78,9 @@ class Run:
         self.put(cid, header(0x42, 0x80 | function, tag, at_8=lun_of(unit), at_20=four(ref),
                              at_24=four(FIRST + number), at_32=four(FIRST + refsn)), True)
 
-    def reply(self, cid, opcode, tag, response=0, flags=0x80, exp=1, greatest=32):
+    def reply(self, cid, opcode, tag, response=0, flags=0x80, exp=1, greatest=32, status=0):
         """A reply with the next StatSN, which all but a Data-In, an R2T and a NOP-In of the target's own take."""
-        self.put(cid, header(opcode, flags, tag, at_2=bytes((response,)), at_24=four(self.stat_sns[cid]),
+        self.put(cid, header(opcode, flags, tag, at_2=bytes((response, status)), at_24=four(self.stat_sns[cid]),
                              at_28=four(FIRST + exp), at_32=four(FIRST + greatest)), False)
         self.stat_sns[cid] += opcode not in (0x25, 0x31) and tag != 0xffffffff
 
@@ -269,6 +269,11 @@ class Checks(unittest.TestCase):
         run.work(1, 0x10, 0, outcome="stopped")
         run.answer(1, 0x10)
         self.found(run, r"tag 00000010 .* was stopped, and is answered in frame")
+        run = Run()
+        run.command(1, 0, 0x10)
+        run.work(1, 0x10, 0, outcome="stopped")
+        run.answer(1, 0x10, status=0x40)
+        self.assertEqual([], run.faults())
 
     def worked_on(self, function, outcome, took=20, tsih=TSIH):
         """A command of one session or the other is worked on for so long, from before a function to behind its answer."""
