@@ -8,7 +8,7 @@ use crate::pdu::{opcode, place, Header, Pdu, FINAL, NO_TAG, WRITE};
 use crate::scsi::{read_length, wanted_length, Outcome, Sense, MOST_BYTES};
 use crate::session::{Clearing, Errand, Session};
 use crate::unit::{Job, Unit};
-use cundarrix::{Action, PduKind, Refusal};
+use cundarrix::{Action, Clearing as Function, PduKind, Refusal};
 use std::collections::{HashMap, VecDeque};
 use std::io;
 use std::sync::Arc;
@@ -187,8 +187,12 @@ impl State {
                     self.tell(cid);
                 }
                 Action::Forget { cookie } => self.forget(session, cookie),
-                // Other sessions are told without this one's lock.
                 Action::Reset { unit, function } => {
+                    // Also who resets a unit is told that it was reset.
+                    if function == Function::LogicalUnitReset {
+                        self.attentions.insert(unit, Sense::RESET);
+                    }
+                    // The other sessions are told without this one's lock.
                     session.target.errands.push(Errand::Reset(session.clone(), unit, function));
                 }
             }

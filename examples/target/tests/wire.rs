@@ -50,14 +50,14 @@ fn a_reset_of_one_session_reaches_the_others() {
     assert_eq!(one.answer(1), (0, None));
     assert!(began.elapsed() >= DELAY, "the reset is answered once the other session's command has stopped");
     assert_eq!(other.answer(1).0, TASK_ABORTED);
-    // The other session is told once, and not of the unit in RAM.
+    // Each session is told once, and not of the unit in RAM.
     other.command(2, 0, &TEST_UNIT_READY, 0, &[]);
     assert_eq!(other.answer(2).0, GOOD);
     other.command(3, disk, &[0x12, 0, 0, 0, 36], 36, &[]);
     assert_eq!(other.data(3).len(), 36);
-    other.command(4, disk, &TEST_UNIT_READY, 0, &[]);
-    assert_eq!(other.answer(4), (CHECK_CONDITION, Some([6, 0x29, 0])));
     for initiator in [&mut one, &mut other] {
+        initiator.command(4, disk, &TEST_UNIT_READY, 0, &[]);
+        assert_eq!(initiator.answer(4), (CHECK_CONDITION, Some([6, 0x29, 0])));
         initiator.command(5, disk, &TEST_UNIT_READY, 0, &[]);
         assert_eq!(initiator.answer(5).0, GOOD);
     }
