@@ -5,20 +5,24 @@ from dataclasses import dataclass
 
 # Each with the seconds that it may take. In iSCSIcmdsn commands aren't answered, and it waits for its own time-out.
 FAMILIES = {
-    "iSCSIcmdsn": 30, "iSCSIdatasn": 15, "iSCSITMF": 15, "iSCSIResiduals": 15, "Read10": 20, "Read12": 20, "Read16": 20,
-    "Write10": 20, "Write12": 20, "Write16": 20, "ReadCapacity10": 10, "ReadCapacity16": 10, "Inquiry": 10,
-    "Mandatory": 10, "TestUnitReady": 10, "ModeSense6": 10,
+    "iSCSIcmdsn": 30, "iSCSIdatasn": 15, "iSCSITMF": 15, "iSCSIResiduals": 15, "Read6": 20, "Read10": 20, "Read12": 20,
+    "Read16": 20, "Write10": 20, "Write12": 20, "Write16": 20, "Verify10": 20, "Verify12": 20, "Verify16": 20,
+    "WriteVerify10": 20, "WriteVerify12": 20, "WriteVerify16": 20, "ReadCapacity10": 10, "ReadCapacity16": 10,
+    "Inquiry": 10, "Mandatory": 10, "TestUnitReady": 10, "ModeSense6": 10, "ReportSupportedOpcodes": 10,
+    "MultipathIO": 20,
 }
+# These have two sessions with the unit.
+OF_TWO_PATHS = ("MultipathIO",)
 
 # What is known of tests that don't pass against the target, by their names FAMILY.TEST, each with the reason: that they
 # fail, or that a part of them is skipped by iscsi-test-cu itself. One that passes after all is counted as a failure.
 KNOWN_FAILURES = {}
-NO_WRITE_VERIFY = "the target has no WRITE AND VERIFY, which SBC-3 lets be absent"
-NO_LIST = "the target has no REPORT SUPPORTED OPERATION CODES, by which the test asks whether DPO and FUA are told"
 KNOWN_SKIPS = {
-    **{f"iSCSIResiduals.WriteVerify{size}Residuals": NO_WRITE_VERIFY for size in (10, 12, 16)},
-    **{f"{kind}{size}.DpoFua": NO_LIST for kind in ("Read", "Write") for size in (10, 12, 16)},
-    "Inquiry.BlockLimits": "the limits of UNMAP are for thin provisioned units, and the units are in RAM as a whole",
+    "Inquiry.BlockLimits": "the limits of UNMAP are for thin provisioned units, and those of the target have all blocks",
+    "ReportSupportedOpcodes.OneCommand": "iscsi-test-cu takes the INVALID FIELD IN CDB for a missing command, with which "
+                                         "SPC-4 refuses a service action of an opcode that has none",
+    "MultipathIO.CompareAndWriteAsync": "the target has no WRITE SAME and no COMPARE AND WRITE, which SBC-3 lets be "
+                                        "absent",
 }
 
 TEST = re.compile(r"^  Test: (\S+) \.\.\.", re.MULTILINE)
@@ -36,7 +40,8 @@ class Outcome:
 
 
 def command(url, family):
-    return ["iscsi-test-cu", "--dataloss", "--fail", "--verbose", f"--test=ALL.{family}", url]
+    urls = [url] * (2 if family in OF_TWO_PATHS else 1)
+    return ["iscsi-test-cu", "--dataloss", "--fail", "--verbose", f"--test=ALL.{family}", *urls]
 
 
 def outcomes(output):
