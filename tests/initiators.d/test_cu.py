@@ -23,8 +23,10 @@ KNOWN_FAILURES = {
 SANITIZE = "the target has no SANITIZE, which SBC-3 lets be absent"
 KNOWN_SKIPS = {
     "Inquiry.BlockLimits": "the limits of UNMAP are for thin provisioned units, and the units aren't",
-    "MultipathIO.CompareAndWriteAsync": "the target has no COMPARE AND WRITE, which SBC-3 lets be absent",
-    "ReportSupportedOpcodes.OneCommand": "iscsi-test-cu asks for a command that the target has not",
+    "MultipathIO.CompareAndWriteAsync": "the target has no WRITE SAME and no COMPARE AND WRITE, which SBC-3 lets be "
+                                        "absent",
+    "ReportSupportedOpcodes.OneCommand": "iscsi-test-cu takes the INVALID FIELD IN CDB for a missing command, with which "
+                                         "SPC-4 refuses a service action of an opcode that has none",
     "StartStopUnit.Simple": "the units aren't removable",
     **{f"Sanitize.{test}": SANITIZE for test in (
         "BlockErase", "BlockEraseReserved", "CryptoErase", "CryptoEraseReserved", "ExitFailureMode",

@@ -1,35 +1,49 @@
-//! A small iSCSI target over RAM, by the crate `cundarrix`. See README.md.
+//! A small iSCSI target over RAM and a file, by the crate `cundarrix`. See README.md.
 
 pub mod command;
 mod connection;
 pub mod keys;
+mod log;
 mod login;
 pub mod options;
+mod outgoing;
 pub mod pdu;
+mod queue;
 pub mod scsi;
 mod session;
 mod state;
 mod trace;
 pub mod unit;
 
+use keys::Keys;
+use log::Log;
 use options::Options;
-use session::Session;
+use queue::Queue;
+use session::{Errand, Session};
 use std::collections::HashMap;
-use std::io;
+use std::io::{self, ErrorKind, Write};
 use std::net::{TcpListener, TcpStream};
 use std::sync::{Arc, Condvar, Mutex, MutexGuard, PoisonError};
 use std::thread;
+use std::time::Duration;
 use trace::Trace;
 use unit::Unit;
 
-/// How many units the target has: LUN 0 and so on.
+/// How many units the target has in RAM: LUN 0 and so on. A file is the next one.
 const UNITS: u8 = 2;
+
+/// So long no connection is taken, where one couldn't be: mostly there is no descriptor left.
+const BACK_OFF: Duration = Duration::from_millis(100);
 
 /// What all sessions share: the options, the units, and which sessions there are.
 pub struct Target {
     options: Options,
     units: Vec<Arc<Unit>>,
     sessions: Mutex<Sessions>,
+    /// What sessions have each other do.
+    errands: Queue<Errand>,
+    trace: Trace,
+    log: Log,
 }
 
 #[derive(Default)]
@@ -40,49 +54,102 @@ struct Sessions {
 
 /// Starts the units' workers, and serves each connection in a thread of its own.
 pub fn run(options: Options) -> io::Result<()> {
-    let trace = Arc::new(Trace::open(options.trace.as_deref())?);
     let listener = TcpListener::bind(&options.listen)?;
-    let units: Vec<_> = (0..UNITS).map(|number| Arc::new(Unit::new(number, options.size))).collect();
-    for unit in &units {
-        for _ in 0..options.workers {
-            let (unit, trace, delay) = (unit.clone(), trace.clone(), options.delay);
-            thread::Builder::new().spawn(move || unit.work(delay, &trace))?;
+    let target = Arc::new(Target::new(options)?);
+    for unit in target.units.iter().filter(|unit| !unit.is_instant()) {
+        for _ in 0..target.options.workers {
+            let unit = unit.clone();
+            thread::Builder::new().spawn(move || unit.work())?;
         }
     }
-    println!("{} at {}, without authentication", options.name, listener.local_addr()?);
-    let target = Arc::new(Target { options, units, sessions: Mutex::default() });
-    for stream in listener.incoming() {
-        let target = target.clone();
-        let serve = move |stream: TcpStream| {
-            if let Err(why) = connection::serve(&stream, &target) {
-                eprintln!("target: a connection is closed: {why}");
+    let errands = target.clone();
+    thread::Builder::new().spawn(move || loop {
+        errands.errands.pop().run();
+    })?;
+    // Whoever began the program needn't read what it says.
+    let _ = writeln!(io::stdout(), "{} at {}, without authentication", target.options.name, listener.local_addr()?);
+    loop {
+        match listener.accept() {
+            Ok((stream, _)) => target.serve(stream),
+            // A connection that is gone before it is taken says nothing of the next one.
+            Err(why) if why.kind() == ErrorKind::ConnectionAborted => {}
+            Err(why) => {
+                target.log.say(format_args!("no connection can be taken: {why}"));
+                thread::sleep(BACK_OFF);
             }
-        };
-        // A connection that is gone before it is taken, or for which there is no thread, ends no other one.
-        if let Err(why) = stream.and_then(|stream| thread::Builder::new().spawn(move || serve(stream))) {
-            eprintln!("target: a connection isn't served: {why}");
         }
     }
-    Ok(())
 }
 
 impl Target {
-    /// The session of an initiator's port, which is its name and the ISID; with this TSIH, where it isn't 0.
-    fn session_of(&self, initiator: &str, isid: [u8; 6], tsih: u16) -> Option<Arc<Session>> {
-        let sessions = lock(&self.sessions);
-        let mut of_port = sessions.by_tsih.values().filter(|one| one.keys.initiator == initiator && one.isid == isid);
-        of_port.find(|one| tsih == 0 || one.tsih == tsih).cloned()
+    fn new(options: Options) -> io::Result<Target> {
+        let trace = Trace::open(options.trace.as_deref())?;
+        let mut units: Vec<_> = (0..UNITS).map(|number| Unit::in_memory(number, options.size, options.delay)).collect();
+        if let Some(path) = &options.disk {
+            units.push(Unit::on_disk(UNITS, path, options.size, options.delay)?);
+        }
+        let count = units.len() as u8;
+        units.iter_mut().for_each(|unit| unit.unit_count = count);
+        let (units, sessions, errands) =
+            (units.into_iter().map(Arc::new).collect(), Mutex::default(), Queue::default());
+        Ok(Target { options, units, sessions, errands, trace, log: Log::default() })
     }
 
-    /// Adds the session that is made for a new TSIH. `None` where all are taken, or none was made.
-    fn add(&self, make: impl FnOnce(u16) -> Option<Session>) -> Option<Arc<Session>> {
+    /// Serves a connection in a thread of its own. Where there is none, the connection is closed.
+    fn serve(self: &Arc<Target>, stream: TcpStream) {
+        let target = self.clone();
+        let serve = move || {
+            if let Err(why) = connection::serve(&Arc::new(stream), &target) {
+                target.log.say(format_args!("a connection is closed: {why}"));
+            }
+        };
+        if let Err(why) = thread::Builder::new().spawn(serve) {
+            self.log.say(format_args!("a connection isn't served: {why}"));
+        }
+    }
+
+    /// The session of an initiator's port, which is its name and the ISID, with this TSIH.
+    fn session_of(&self, keys: &Keys, isid: [u8; 6], tsih: u16) -> Option<Arc<Session>> {
+        let sessions = lock(&self.sessions);
+        sessions.by_tsih.get(&tsih).filter(|session| session.is_of(keys, isid)).cloned()
+    }
+
+    /// Adds the session that is opened for a new TSIH. Else the one that the initiator's port has already, which must
+    /// end first; none where there is no room, or the session can't be opened. All of it under one lock, so that a port
+    /// never has two.
+    fn add(
+        &self,
+        keys: &Keys,
+        isid: [u8; 6],
+        open: impl FnOnce(u16) -> Option<Session>,
+    ) -> Result<Arc<Session>, Option<Arc<Session>>> {
         let mut sessions = lock(&self.sessions);
+        if let Some(former) = sessions.by_tsih.values().find(|session| session.is_of(keys, isid)) {
+            return Err(Some(former.clone()));
+        }
+        if sessions.by_tsih.len() >= self.options.sessions {
+            return Err(None);
+        }
         let mut next = (1..=u16::MAX).map(|step| sessions.last.wrapping_add(step));
-        let tsih = next.find(|tsih| *tsih != 0 && !sessions.by_tsih.contains_key(tsih))?;
+        let tsih = next.find(|tsih| *tsih != 0 && !sessions.by_tsih.contains_key(tsih)).ok_or(None)?;
+        let session = Arc::new(open(tsih).ok_or(None)?);
         sessions.last = tsih;
-        let session = Arc::new(make(tsih)?);
         sessions.by_tsih.insert(tsih, session.clone());
-        Some(session)
+        Ok(session)
+    }
+
+    /// Nothing is left of a session.
+    fn remove(&self, session: &Arc<Session>) {
+        let mut sessions = lock(&self.sessions);
+        if sessions.by_tsih.get(&session.tsih).is_some_and(|known| Arc::ptr_eq(known, session)) {
+            sessions.by_tsih.remove(&session.tsih);
+        }
+    }
+
+    /// All sessions but one.
+    fn others(&self, session: &Arc<Session>) -> Vec<Arc<Session>> {
+        let sessions = lock(&self.sessions);
+        sessions.by_tsih.values().filter(|other| !Arc::ptr_eq(other, session)).cloned().collect()
     }
 }
 
@@ -91,7 +158,21 @@ fn lock<T>(mutex: &Mutex<T>) -> MutexGuard<'_, T> {
     mutex.lock().unwrap_or_else(PoisonError::into_inner)
 }
 
-/// Locks, once what is behind the lock has changed so that there is nothing to wait for.
-fn lock_after<'a, T>(mutex: &'a Mutex<T>, changed: &Condvar, waits: impl FnMut(&mut T) -> bool) -> MutexGuard<'a, T> {
-    changed.wait_while(lock(mutex), waits).unwrap_or_else(PoisonError::into_inner)
+/// Waits until what is behind the lock has changed so that there is nothing to wait for.
+fn wait_while<'a, T>(
+    guard: MutexGuard<'a, T>,
+    changed: &Condvar,
+    waits: impl FnMut(&mut T) -> bool,
+) -> MutexGuard<'a, T> {
+    changed.wait_while(guard, waits).unwrap_or_else(PoisonError::into_inner)
+}
+
+/// The same, for so long at the most.
+fn wait_for<'a, T>(
+    guard: MutexGuard<'a, T>,
+    changed: &Condvar,
+    time: Duration,
+    waits: impl FnMut(&mut T) -> bool,
+) -> MutexGuard<'a, T> {
+    changed.wait_timeout_while(guard, time, waits).unwrap_or_else(PoisonError::into_inner).0
 }

@@ -9,6 +9,7 @@ use cundarrix::Numbers;
 use std::io::{Read, Write};
 use std::net::TcpStream;
 use std::sync::Arc;
+use std::time::Instant;
 
 /// Byte 1: the T and C bits, the stage and the next one.
 const TRANSIT: u8 = 0x80;
@@ -20,37 +21,48 @@ const NEXT_STAGE: u8 = 0x03;
 const OPERATIONAL: u8 = 1;
 const FULL_FEATURE: u8 = 3;
 
-/// A login has at most so many requests.
+/// A login has at most so many requests, and none of its texts is longer.
 const MOST_REQUESTS: u32 = 100;
+const LONGEST_TEXT: usize = 8192;
 
 /// Why a login is refused: Status-Class and Status-Detail.
 #[derive(Clone, Copy)]
 enum Refused {
+    Authentication = 0x0201,
     NotFound = 0x0203,
     Version = 0x0205,
     MissingParameter = 0x0207,
     NotIncluded = 0x0208,
+    SessionType = 0x0209,
     NoSession = 0x020a,
     InvalidRequest = 0x020b,
+    Unavailable = 0x0301,
     OutOfResources = 0x0302,
 }
 
 /// A login under way.
 struct Login<'a> {
     target: &'a Arc<Target>,
-    stream: &'a TcpStream,
+    stream: &'a Arc<TcpStream>,
     /// Where the connection reached the target.
     address: String,
     keys: Keys,
     has_declared: bool,
+    /// When it must have ended.
+    until: Instant,
 }
 
 /// Takes a connection to the Full Feature Phase. `None` where the login was refused, or broke off.
-pub fn log_in(requests: &mut impl Read, mut stream: &TcpStream, target: &Arc<Target>) -> Result<Option<Member>, Fault> {
+pub fn log_in(
+    requests: &mut impl Read,
+    stream: &Arc<TcpStream>,
+    target: &Arc<Target>,
+    until: Instant,
+) -> Result<Option<Member>, Fault> {
     let address = stream.local_addr()?.to_string();
-    let mut login = Login { target, stream, address, keys: Keys::default(), has_declared: false };
+    let mut login = Login { target, stream, address, keys: Keys::default(), has_declared: false, until };
     for stat_sn in 0..MOST_REQUESTS {
-        let Some(request) = Pdu::read(requests)? else {
+        let Some(request) = Pdu::read(requests, LONGEST_DATA)? else {
             return Ok(None);
         };
         if request.header.opcode() != opcode::LOGIN {
@@ -61,7 +73,7 @@ pub fn log_in(requests: &mut impl Read, mut stream: &TcpStream, target: &Arc<Tar
         if let Err(why) = taken {
             response.header.0[place::STATUS..][..2].copy_from_slice(&(why as u16).to_be_bytes());
         }
-        stream.write_all(&response.to_bytes())?;
+        (&**stream).write_all(&response.to_bytes())?;
         if !matches!(taken, Ok(None)) {
             return Ok(taken.unwrap_or(None));
         }
@@ -94,6 +106,9 @@ impl Login<'_> {
         if stage > OPERATIONAL || is_odd || flags & CONTINUE != 0 {
             return Err(Refused::InvalidRequest);
         }
+        if request.data.len() > LONGEST_TEXT {
+            return Err(Refused::InvalidRequest);
+        }
         let answers = self.negotiate(stage, &request.data)?;
         let is_end = next == Some(FULL_FEATURE);
         let member = is_end.then(|| self.join(&request.header, &mut response.header)).transpose()?;
@@ -104,6 +119,9 @@ impl Login<'_> {
 
     fn negotiate(&mut self, stage: u8, text: &[u8]) -> Result<Vec<u8>, Refused> {
         let mut answers = self.keys.negotiate(text).ok_or(Refused::InvalidRequest)?;
+        if self.keys.wants_authentication {
+            return Err(Refused::Authentication);
+        }
         if self.keys.initiator.is_empty() || self.keys.target.is_none() && !self.keys.is_discovery {
             return Err(Refused::MissingParameter);
         }
@@ -113,28 +131,37 @@ impl Login<'_> {
         if stage == OPERATIONAL && !std::mem::replace(&mut self.has_declared, true) {
             add_pair(&mut answers, "MaxRecvDataSegmentLength", &LONGEST_DATA.to_string());
         }
-        Ok(answers)
+        // An answer in several PDUs isn't sent.
+        (answers.len() <= LONGEST_TEXT).then_some(answers).ok_or(Refused::InvalidRequest)
     }
 
     /// The connection goes to the Full Feature Phase: in the session that the TSIH names, or in a new one, which takes
     /// the place of the one that the same initiator port has.
     fn join(&self, request: &Header, response: &mut Header) -> Result<Member, Refused> {
-        let tsih = request.short(place::TSIH);
-        let known = self.target.session_of(&self.keys.initiator, request.part(place::ISID), tsih);
-        let session = if tsih == 0 {
-            if let Some(former) = known {
-                former.abandon();
-            }
-            let open = |tsih| Session::open(self.target, tsih, request, self.keys.clone(), self.address.clone()).ok();
-            self.target.add(open).ok_or(Refused::OutOfResources)?
-        } else {
-            known.filter(|session| !session.keys.is_discovery).ok_or(Refused::NoSession)?
+        let (tsih, isid) = (request.short(place::TSIH), request.part(place::ISID));
+        let session = match tsih {
+            0 => self.open(request, isid)?,
+            _ if self.keys.is_discovery => return Err(Refused::SessionType),
+            _ => self.target.session_of(&self.keys, isid, tsih).ok_or(Refused::NoSession)?,
         };
-        let stream = self.stream.try_clone().map_err(|_| Refused::OutOfResources)?;
-        let connection = Connection::new(request.short(place::CID), self.keys.longest_data as usize, stream);
+        let connection =
+            Connection::new(request.short(place::CID), self.keys.longest_data as usize, self.stream.clone());
         let (connection, stat_sn) = (Arc::new(connection), response.number(place::STAT_SN) + 1);
         response.set_numbers(session.attach(&connection, stat_sn).ok_or(Refused::NotIncluded)?);
         response.0[place::TSIH..][..2].copy_from_slice(&session.tsih.to_be_bytes());
         Ok(Member { session, connection })
+    }
+
+    /// Opens a session. The one that the same initiator port has ends first, with all of its commands.
+    fn open(&self, request: &Header, isid: [u8; 6]) -> Result<Arc<Session>, Refused> {
+        let open = |tsih| Session::open(self.target, tsih, request, self.keys.clone(), self.address.clone()).ok();
+        loop {
+            match self.target.add(&self.keys, isid, open) {
+                Ok(session) => return Ok(session),
+                Err(Some(former)) if !former.abandon(self.until) => return Err(Refused::Unavailable),
+                Err(Some(_)) => {}
+                Err(None) => return Err(Refused::OutOfResources),
+            }
+        }
     }
 }

@@ -1,21 +1,30 @@
 //! What a session's lock guards: the library's session, its connections, and what is kept of each request.
 
-use crate::command::{Command, Transfer};
-use crate::connection::{Connection, PATIENCE};
-use crate::pdu::{opcode, place, Header, Pdu, WRITE};
-use crate::scsi::{wanted_length, Outcome};
-use crate::session::Session;
-use crate::unit::Job;
-use cundarrix::{Action, PduKind, Refusal};
+use crate::command::{DataIns, Transfer};
+use crate::connection::{Connection, Fault};
+use crate::keys::FIRST_BURST;
+use crate::outgoing::{Batch, Outgoing};
+use crate::pdu::{opcode, place, Header, Pdu, FINAL, NO_TAG, WRITE};
+use crate::scsi::{read_length, wanted_length, Outcome, Sense, MOST_BYTES};
+use crate::session::{Clearing, Errand, Session};
+use crate::unit::{Job, Unit};
+use cundarrix::{Action, Clearing as Function, PduKind, Refusal};
 use std::collections::{HashMap, VecDeque};
+use std::io;
 use std::sync::Arc;
-use std::time::Instant;
+use std::time::{Duration, Instant};
 
-/// The most Data-Ins that wait on a connection.
-pub const MOST_DATA_INS: u32 = 64;
+/// The most PDUs that are written together.
+pub const UNWRITTEN: u32 = 32;
 
 /// Transfer tags from here on are the library's, for its pings.
 const FIRST_PING: u32 = 0x8000_0000;
+
+/// More data than the window's commands bring may be kept for so many of them.
+const SPARE_REQUESTS: u32 = 16;
+
+/// The cookie of what the target puts by itself: pings. Those of requests count from 1.
+const NO_REQUEST: u64 = 0;
 
 pub struct State {
     pub library: cundarrix::Session,
@@ -24,8 +33,18 @@ pub struct State {
     requests: HashMap<u64, Kept>,
     /// What the library told, and isn't carried out yet.
     actions: VecDeque<Action>,
-    next_cookie: u64,
-    next_transfer_tag: u32,
+    /// Commands that take no time. Who lets the lock go executes them.
+    pub jobs: VecDeque<Job>,
+    last_cookie: u64,
+    /// The unit attentions that the initiator isn't told of yet.
+    attentions: HashMap<u16, Sense>,
+    /// How many bytes are kept for requests that haven't started, and are for commands that have.
+    arrived: usize,
+    moving: usize,
+    /// Commands that were started, and wait until others have moved their data; and how much each of them moves.
+    waiting: VecDeque<(u64, usize)>,
+    /// How many threads wait for the session.
+    pub waiters: u32,
     /// No connection joins any more.
     pub is_over: bool,
 }
@@ -35,41 +54,98 @@ pub struct Attached {
     connection: Arc<Connection>,
     /// The library may have something for it, or nothing any more.
     is_told: bool,
+    /// A thread writes there.
+    is_writing: bool,
+    /// Its reader will write what there is, before it waits for more requests.
+    pub is_taking: bool,
+    /// Its reader waits until the session takes more requests.
+    pub is_held_back: bool,
+    /// Its writer waits for something to write.
+    pub is_idle: bool,
+    /// What was handed out for it, and isn't written yet.
+    unwritten: Option<Batch>,
+    /// Commands that have something to put into the library's queue.
+    putting: VecDeque<u64>,
     /// A Logout closed it.
     pub is_closed: bool,
     /// Its transport broke, or is given up.
     is_broken: bool,
-    data_ins: u32,
-    asked_since: Option<Instant>,
+    clock: Clock,
 }
 
-/// A request, and of a command what has come of it so far.
-struct Kept {
-    pdu: Pdu,
-    connection: Arc<Connection>,
-    command: Option<Arc<Command>>,
-    transfer: Transfer,
-    outcome: Option<Arc<Outcome>>,
-    /// How many of its Data-Ins wait.
-    data_ins: u32,
+/// Whether a connection's initiator is there.
+struct Clock {
+    next_strike: Instant,
+    /// Something arrived since it struck.
+    was_heard: bool,
+    /// A ping of the target's own was put, and didn't go out yet.
+    is_ping_put: bool,
+    /// When a ping went out that isn't answered.
+    asked: Option<Instant>,
 }
 
-/// A PDU on its way out: whole, or the header of a Data-In and where its data is.
-pub enum Outgoing {
-    Whole(Pdu),
-    Part(Header, Arc<Outcome>),
-}
-
-impl Outgoing {
-    pub fn to_bytes(&self) -> Vec<u8> {
-        match self {
-            Outgoing::Whole(pdu) => pdu.to_bytes(),
-            Outgoing::Part(header, outcome) => {
-                let begin = header.number(place::OFFSET) as usize;
-                Pdu { header: *header, data: outcome.data[begin..begin + header.length()].to_vec() }.to_bytes()
-            }
+impl Attached {
+    fn new(connection: Arc<Connection>) -> Attached {
+        let clock = Clock { next_strike: Instant::now(), was_heard: true, is_ping_put: false, asked: None };
+        Attached {
+            connection,
+            is_told: true,
+            is_writing: false,
+            is_taking: false,
+            is_held_back: false,
+            is_idle: false,
+            unwritten: None,
+            putting: VecDeque::new(),
+            is_closed: false,
+            is_broken: false,
+            clock,
         }
     }
+
+    /// Wakes the writer, if it waits. To wake nobody is a call of the system, too.
+    fn wake(&self) {
+        if self.is_idle {
+            self.connection.changed.notify_one();
+        }
+    }
+
+    /// Whether there is nothing for the writer to do.
+    fn is_quiet(&self) -> bool {
+        let has_work = self.unwritten.is_some() || self.is_told && !self.is_taking;
+        !self.is_broken && (self.is_writing || !has_work)
+    }
+}
+
+/// A request, and of a command that was started what has come of it so far.
+#[derive(Default)]
+struct Kept {
+    pdu: Pdu,
+    cid: u16,
+    ticket: u64,
+    unit: Option<Arc<Unit>>,
+    work: Work,
+    transfer: Transfer,
+    /// What it has to put into the library's queue: an R2T, or Data-Ins.
+    r2t: Option<Header>,
+    data_ins: DataIns,
+    outcome: Option<Arc<Outcome>>,
+    /// How much of the session's room it takes: until it is started, and from then on.
+    arrived: usize,
+    moving: usize,
+    /// The resets that wait until its unit has executed it.
+    clearings: Vec<Arc<Clearing>>,
+}
+
+/// How far the unit of a command has come.
+#[derive(Clone, Copy, Debug, Default, PartialEq, Eq)]
+pub enum Work {
+    #[default]
+    NotBegun,
+    Begun,
+    /// It is to stop, and goes on to its end all the same.
+    Stopping,
+    Ended,
+    Stopped,
 }
 
 impl State {
@@ -79,8 +155,13 @@ impl State {
             connections: HashMap::new(),
             requests: HashMap::new(),
             actions: VecDeque::new(),
-            next_cookie: 0,
-            next_transfer_tag: 0,
+            jobs: VecDeque::new(),
+            last_cookie: NO_REQUEST,
+            attentions: HashMap::new(),
+            arrived: 0,
+            moving: 0,
+            waiting: VecDeque::new(),
+            waiters: 0,
             is_over: false,
         }
     }
@@ -99,66 +180,64 @@ impl State {
         while let Some(action) = self.actions.pop_front() {
             match action {
                 Action::Start { ticket, unit, cookie, .. } => self.start(session, ticket, unit, cookie),
-                Action::Stop { ticket, cookie, .. } => self.stop(ticket, cookie),
-                Action::Ready { cid } => self.tell(cid, |_| {}),
-                Action::Close { cid } => self.tell(cid, |attached| attached.is_closed = true),
-                Action::Forget { cookie } => drop(self.requests.remove(&cookie)),
-                // Sessions don't tell each other of resets, so the library isn't asked to.
-                Action::Reset { .. } => {}
+                Action::Stop { ticket, cookie, .. } => self.stop(session, ticket, cookie),
+                Action::Ready { cid } => self.tell(cid),
+                Action::Close { cid } => {
+                    self.change(cid, |attached| attached.is_closed = true);
+                    self.tell(cid);
+                }
+                Action::Forget { cookie } => self.forget(session, cookie),
+                Action::Reset { unit, function } => {
+                    // Also who resets a unit is told that it was reset.
+                    if function == Function::LogicalUnitReset {
+                        self.attentions.insert(unit, Sense::RESET);
+                    }
+                    // The other sessions are told without this one's lock.
+                    session.target.errands.push(Errand::Reset(session.clone(), unit, function));
+                }
             }
         }
     }
 
-    /// Tells the writer of a connection to look again.
-    fn tell(&mut self, cid: u16, change: impl FnOnce(&mut Attached)) {
-        if let Some(attached) = self.connections.get_mut(&cid) {
-            change(attached);
+    /// Tells whoever writes on a connection to look again.
+    fn tell(&mut self, cid: u16) {
+        self.change(cid, |attached| {
             attached.is_told = true;
-            attached.connection.changed.notify_all();
-        }
+            if !attached.is_taking {
+                attached.wake();
+            }
+        });
     }
 
     // ---- connections
+
+    pub fn change(&mut self, cid: u16, change: impl FnOnce(&mut Attached)) {
+        if let Some(attached) = self.connections.get_mut(&cid) {
+            change(attached);
+        }
+    }
 
     /// A connection joins, whose next StatSN is this. Whether it may.
     pub fn join(&mut self, connection: &Arc<Connection>, stat_sn: u32) -> bool {
         let cid = connection.cid;
         let has_joined = self.call(|library, tell| library.join(cid, stat_sn, tell)).is_ok();
         if has_joined {
-            let connection = connection.clone();
-            let (is_told, is_closed, is_broken) = (true, false, false);
-            let attached = Attached { connection, is_told, is_closed, is_broken, data_ins: 0, asked_since: None };
-            self.connections.insert(cid, attached);
+            self.connections.insert(cid, Attached::new(connection.clone()));
         }
         has_joined
     }
 
     /// The transport of a connection is given up. Its threads end, and then it is lost.
     pub fn break_off(&mut self, cid: u16) {
-        self.tell(cid, |attached| {
+        if let Some(attached) = self.connections.get_mut(&cid).filter(|attached| !attached.is_broken) {
             attached.is_broken = true;
             attached.connection.shut_down();
-        });
+            attached.wake();
+        }
     }
 
     pub fn is_broken(&self, cid: u16) -> bool {
         self.connections.get(&cid).is_none_or(|attached| attached.is_broken)
-    }
-
-    /// Whether the writer of a connection has nothing to look at yet. Once it looks, it is told anew.
-    pub fn is_quiet(&mut self, cid: u16) -> bool {
-        self.connections.get_mut(&cid).is_some_and(|attached| !std::mem::take(&mut attached.is_told))
-    }
-
-    /// Whether a connection goes on: it isn't given up, and its initiator hasn't left a ping unanswered for too long.
-    pub fn goes_on(&mut self, cid: u16) -> bool {
-        let is_asked = self.library.is_asked(cid);
-        let Some(attached) = self.connections.get_mut(&cid) else {
-            return false;
-        };
-        let since = attached.asked_since.filter(|_| is_asked).unwrap_or_else(Instant::now);
-        attached.asked_since = is_asked.then_some(since);
-        !attached.is_broken && since.elapsed() < PATIENCE
     }
 
     /// The session is over: no connection joins, and those that are there are given up.
@@ -173,33 +252,124 @@ impl State {
         self.is_over && self.connections.is_empty() && self.requests.is_empty()
     }
 
+    /// Whether there is nothing for the writer of a connection to do.
+    pub fn is_quiet(&self, cid: u16) -> bool {
+        self.connections.get(&cid).is_some_and(Attached::is_quiet)
+    }
+
+    /// How long it is until a connection's clock strikes.
+    pub fn time_left(&self, cid: u16) -> Duration {
+        let strike = self.connections.get(&cid).map(|attached| attached.clock.next_strike);
+        strike.map_or(Duration::ZERO, |strike| strike.saturating_duration_since(Instant::now()))
+    }
+
+    /// A connection's clock strikes: an initiator that was silent is asked. One that doesn't answer is given up.
+    pub fn strike(&mut self, session: &Session, cid: u16) {
+        let patience = session.target.options.ping;
+        let is_asked = self.library.is_asked(cid);
+        let Some(attached) = self.connections.get_mut(&cid) else {
+            return;
+        };
+        let clock = &mut attached.clock;
+        clock.next_strike = Instant::now() + patience / 2;
+        let was_heard = std::mem::take(&mut clock.was_heard) || attached.is_held_back;
+        if was_heard && !is_asked {
+            clock.asked = None;
+        } else if clock.asked.is_some_and(|since| since.elapsed() >= patience) {
+            self.break_off(cid);
+        } else if !was_heard && clock.asked.is_none() && !clock.is_ping_put {
+            // A discovery session knows no pings (RFC 7143 section 4.3): to be silent is enough.
+            match session.keys.is_discovery {
+                true => clock.asked = Some(Instant::now()),
+                false => self.ping(cid),
+            }
+        }
+    }
+
+    fn ping(&mut self, cid: u16) {
+        let mut header = Header::new(opcode::NOP_IN, FINAL, NO_TAG);
+        header.set(place::TRANSFER_TAG, FIRST_PING - 1);
+        let is_put = self.call(|library, tell| library.put(cid, &header.0, NO_REQUEST, tell)).is_ok();
+        self.change(cid, |attached| attached.clock.is_ping_put = is_put);
+    }
+
     // ---- requests
 
-    /// Keeps a request that arrived, and gives its cookie. Data that nothing comes of isn't kept.
-    pub fn keep(&mut self, connection: &Arc<Connection>, mut pdu: Pdu) -> u64 {
-        if ![opcode::SCSI_COMMAND, opcode::NOP_OUT, opcode::TEXT].contains(&pdu.header.opcode()) {
-            pdu.data = Vec::new();
+    /// A PDU arrived on a connection, whose reader is about to take it.
+    pub fn hear(&mut self, cid: u16) {
+        self.change(cid, |attached| (attached.is_taking, attached.clock.was_heard) = (true, true));
+    }
+
+    /// Keeps a request that arrived, and gives its cookie. Data that nothing comes of isn't kept, and more than the
+    /// window lets come isn't borne.
+    pub fn keep(&mut self, session: &Session, connection: &Connection, mut pdu: Pdu) -> Result<u64, Fault> {
+        let most = match pdu.header.opcode() {
+            // One byte more than what may come tells that it is wrong.
+            opcode::SCSI_COMMAND => session.keys.first_burst as usize + 1,
+            opcode::NOP_OUT => connection.longest_data,
+            opcode::TEXT => usize::MAX,
+            _ => 0,
+        };
+        if pdu.data.len() > most {
+            pdu.data.truncate(most);
+            pdu.data.shrink_to_fit();
         }
-        let (connection, transfer) = (connection.clone(), Transfer::default());
-        self.next_cookie += 1;
-        let kept = Kept { pdu, connection, command: None, transfer, outcome: None, data_ins: 0 };
-        self.requests.insert(self.next_cookie, kept);
-        self.next_cookie
+        let arrived = pdu.data.len();
+        if self.arrived + arrived > (session.target.options.window + SPARE_REQUESTS) as usize * FIRST_BURST as usize {
+            return Err("the initiator sends more data ahead than there is room for".into());
+        }
+        self.arrived += arrived;
+        self.last_cookie += 1;
+        self.requests.insert(self.last_cookie, Kept { pdu, cid: connection.cid, arrived, ..Kept::default() });
+        Ok(self.last_cookie)
     }
 
-    /// A request wasn't taken.
-    pub fn discard(&mut self, cookie: u64) {
-        self.requests.remove(&cookie);
+    /// Nothing speaks of a request any more, or it wasn't taken.
+    pub fn forget(&mut self, session: &Arc<Session>, cookie: u64) {
+        if let Some(kept) = self.requests.remove(&cookie) {
+            self.arrived -= kept.arrived;
+            self.moving -= kept.moving;
+            self.admit(session);
+        }
     }
 
-    fn start(&mut self, session: &Arc<Session>, ticket: u64, unit: u16, cookie: u64) {
-        if let (Some(kept), Some(unit)) = (self.requests.get_mut(&cookie), session.target.units.get(unit as usize)) {
-            let (header, data) = (kept.pdu.header, std::mem::take(&mut kept.pdu.data));
-            let wanted = wanted_length(unit, &header.part(place::CDB)).min(header.data_length(WRITE));
-            kept.transfer = Transfer::new(&header, data, wanted, session.keys.first_burst as usize);
-            let command = Command::new(ticket, cookie, unit.clone(), header, kept.connection.clone());
-            kept.command = Some(Arc::new(command));
-            self.advance(session, cookie);
+    fn start(&mut self, session: &Arc<Session>, ticket: u64, number: u16, cookie: u64) {
+        let unit = session.target.units.get(usize::from(number));
+        let (Some(unit), Some(kept)) = (unit, self.requests.get_mut(&cookie)) else {
+            return;
+        };
+        (kept.ticket, kept.unit) = (ticket, Some(unit.clone()));
+        self.arrived -= std::mem::take(&mut kept.arrived);
+        let (header, data) = (kept.pdu.header, std::mem::take(&mut kept.pdu.data));
+        let cdb = header.part(place::CDB);
+        let wanted = wanted_length(unit, &cdb).min(header.data_length(WRITE));
+        kept.transfer = Transfer::new(&header, data, wanted, session.keys.first_burst as usize);
+        // INQUIRY and REPORT LUNS tell no unit attention.
+        let attention = if [0x12, 0xa0].contains(&cdb[0]) { None } else { self.attentions.remove(&number) };
+        if let Some(sense) = attention {
+            return self.conclude(session, cookie, Outcome::failed(Some(sense)));
+        }
+        match wanted.max(read_length(unit, &cdb)) {
+            0 => self.advance(session, cookie),
+            length => {
+                self.waiting.push_back((cookie, length));
+                self.admit(session);
+            }
+        }
+    }
+
+    /// Has the commands go on that wait, in their order, as far as there is room for their data.
+    fn admit(&mut self, session: &Arc<Session>) {
+        while let Some(&(cookie, length)) = self.waiting.front() {
+            if self.moving + length > MOST_BYTES {
+                return;
+            }
+            self.waiting.pop_front();
+            if let Some(kept) = self.requests.get_mut(&cookie).filter(|kept| kept.work == Work::NotBegun) {
+                kept.moving = length;
+                self.moving += length;
+                self.advance(session, cookie);
+            }
         }
     }
 
@@ -208,27 +378,31 @@ impl State {
         let Some(kept) = self.requests.get_mut(&cookie) else {
             return;
         };
-        let Some(command) = kept.command.clone() else {
-            return;
-        };
-        let asked = kept.transfer.ask(&command.header, self.next_transfer_tag, session.keys.max_burst as usize);
-        let Some(header) = asked else {
+        let (ticket, header, transfer_tag) = (kept.ticket, kept.pdu.header, cookie as u32 % FIRST_PING);
+        kept.r2t = kept.transfer.ask(&header, transfer_tag, session.keys.max_burst as usize);
+        if kept.r2t.is_some() {
+            return self.begin_to_put(cookie);
+        }
+        if let Some(unit) = kept.unit.clone() {
             let data = std::mem::take(&mut kept.transfer).data();
-            let unit = command.unit.clone();
-            return unit.push(Job { session: session.clone(), command, data });
-        };
-        self.next_transfer_tag = (self.next_transfer_tag + 1) % FIRST_PING;
-        // There is room for an R2T of each command; and one whose connection is closed doesn't start.
-        let _ = self.call(|library, tell| library.put_data(command.ticket, &header.0, tell));
+            let job = Job { session: session.clone(), ticket, cookie, unit: unit.clone(), header, data };
+            match unit.is_instant() {
+                true => self.jobs.push_back(job),
+                false => unit.push(job),
+            }
+        }
     }
 
     /// A Data-Out arrived. What is for no command any more is discarded.
     pub fn take_data(&mut self, session: &Arc<Session>, cid: u16, pdu: &Pdu) {
+        self.hear(cid);
         let _ = self.call(|library, tell| library.heard(cid, &pdu.header.0, tell));
-        let (tag, transfer_tag) = (pdu.header.tag(), pdu.header.number(place::TRANSFER_TAG));
-        let mut awaiting = self.requests.iter_mut().filter(|(_, kept)| kept.transfer.awaits(transfer_tag));
-        let found = awaiting.find(|(_, kept)| kept.connection.cid == cid && kept.pdu.header.tag() == tag);
-        if let Some((&cookie, kept)) = found {
+        let transfer_tag = pdu.header.number(place::TRANSFER_TAG);
+        // The transfer tag is the lower part of the cookie, and no older request with the same one is kept.
+        let age = (self.last_cookie as u32).wrapping_sub(transfer_tag) % FIRST_PING;
+        let cookie = self.last_cookie.wrapping_sub(age.into());
+        let found = self.requests.get_mut(&cookie).filter(|kept| kept.transfer.awaits(transfer_tag));
+        if let Some(kept) = found.filter(|kept| kept.cid == cid && kept.pdu.header.tag() == pdu.header.tag()) {
             kept.transfer.take(pdu);
             if pdu.header.is_final() {
                 self.advance(session, cookie);
@@ -236,69 +410,196 @@ impl State {
         }
     }
 
-    /// A command is taken out. Where no unit works on it, it has stopped; else its worker says so when it has.
-    fn stop(&mut self, ticket: u64, cookie: u64) {
+    /// A command is taken out. Where no unit executes it, it has stopped; else its unit says so when it has.
+    fn stop(&mut self, session: &Session, ticket: u64, cookie: u64) {
         let Some(kept) = self.requests.get_mut(&cookie) else {
             return;
         };
         kept.transfer = Transfer::default();
-        let (cid, data_ins) = (kept.connection.cid, std::mem::take(&mut kept.data_ins));
-        let has_stopped = kept.command.as_ref().is_none_or(|command| command.stop());
-        self.tell(cid, |attached| attached.data_ins -= data_ins);
-        if has_stopped {
-            let _ = self.call(|library, tell| library.stopped(ticket, tell));
+        if [Work::Begun, Work::Stopping].contains(&kept.work) {
+            kept.work = Work::Stopping;
+            return;
+        }
+        kept.work = Work::Stopped;
+        session.stopped.notify_all();
+        let _ = self.call(|library, tell| library.stopped(ticket, tell));
+    }
+
+    /// How far the unit of a command has come, which has stopped if it isn't kept any more.
+    pub fn work(&self, cookie: u64) -> Work {
+        self.requests.get(&cookie).map_or(Work::Stopped, |kept| kept.work)
+    }
+
+    /// A unit begins to execute a command. Whether it may.
+    pub fn begin(&mut self, cookie: u64) -> bool {
+        let kept = self.requests.get_mut(&cookie).filter(|kept| kept.work == Work::NotBegun);
+        kept.map(|kept| kept.work = Work::Begun).is_some()
+    }
+
+    /// A unit has executed a command. Whether it is answered.
+    pub fn finish(&mut self, session: &Session, job: &Job, outcome: Outcome) -> bool {
+        let Some(kept) = self.requests.get_mut(&job.cookie) else {
+            return false;
+        };
+        kept.clearings.drain(..).for_each(|clearing| session.target.errands.push(Errand::Cleared(clearing)));
+        let is_answered = kept.work == Work::Begun;
+        kept.work = if is_answered { Work::Ended } else { Work::Stopped };
+        if is_answered {
+            self.conclude(session, job.cookie, outcome);
+        } else {
+            let _ = self.call(|library, tell| library.stopped(job.ticket, tell));
+        }
+        is_answered
+    }
+
+    /// Another session reset or cleared a unit. It waits for what the unit executes for this one.
+    pub fn clear(&mut self, unit: u16, sense: Sense, clearing: &Arc<Clearing>) {
+        let _ = self.call(|library, tell| library.clear(unit, tell));
+        self.attentions.insert(unit, sense);
+        for kept in self.requests.values_mut().filter(|kept| [Work::Begun, Work::Stopping].contains(&kept.work)) {
+            if kept.unit.as_ref().is_some_and(|its| u16::from(its.number) == unit) {
+                kept.clearings.push(clearing.clone());
+            }
         }
     }
 
     // ---- what goes out
 
-    /// A unit executed a command: what came of it is kept for the PDUs that tell it.
-    pub fn keep_outcome(&mut self, cookie: u64, outcome: &Arc<Outcome>) {
-        if let Some(kept) = self.requests.get_mut(&cookie) {
-            kept.outcome = Some(outcome.clone());
+    /// A command is answered: what came of it is kept for the PDUs that tell it.
+    fn conclude(&mut self, session: &Session, cookie: u64, outcome: Outcome) {
+        let Some(kept) = self.requests.get_mut(&cookie) else {
+            return;
+        };
+        let longest_data = self.connections.get(&kept.cid).map_or(0, |attached| attached.connection.longest_data);
+        kept.data_ins = DataIns::new(&kept.pdu.header, outcome.data_length(), &session.keys, longest_data);
+        kept.outcome = Some(Arc::new(outcome));
+        self.begin_to_put(cookie);
+    }
+
+    /// A command has something to put. What asks for data doesn't wait for what brings some.
+    fn begin_to_put(&mut self, cookie: u64) {
+        let Some((cid, is_r2t)) = self.requests.get(&cookie).map(|kept| (kept.cid, kept.r2t.is_some())) else {
+            return;
+        };
+        self.change(cid, |attached| match is_r2t {
+            true => attached.putting.push_front(cookie),
+            false => attached.putting.push_back(cookie),
+        });
+        self.put(cid);
+    }
+
+    /// Puts what waits for room in the library's queue, as far as there is some. Whether there was.
+    fn put(&mut self, cid: u16) -> bool {
+        let mut had_room = false;
+        while let Some(cookie) = self.connections.get(&cid).and_then(|attached| attached.putting.front().copied()) {
+            let Some(has_more) = self.put_next(cookie) else {
+                break;
+            };
+            had_room = true;
+            if let Some(attached) = self.connections.get_mut(&cid).filter(|_| !has_more) {
+                attached.putting.pop_front();
+            }
         }
+        had_room
     }
 
-    /// Whether one more Data-In may wait on a connection.
-    pub fn has_room(&self, cid: u16) -> bool {
-        self.connections.get(&cid).is_none_or(|attached| attached.data_ins < MOST_DATA_INS)
+    /// Puts the next PDU of a command; behind its last Data-In it is complete. Whether there is more of it. `None` where
+    /// there is no room.
+    fn put_next(&mut self, cookie: u64) -> Option<bool> {
+        let Some(kept) = self.requests.get(&cookie).filter(|kept| kept.work != Work::Stopped) else {
+            return Some(false);
+        };
+        let ticket = kept.ticket;
+        let Some(header) = kept.r2t.or_else(|| kept.data_ins.peek()) else {
+            let status = kept.outcome.as_ref().map_or(0, |outcome| outcome.status);
+            let _ = self.call(|library, tell| library.complete(ticket, status, tell));
+            return Some(false);
+        };
+        match self.call(|library, tell| library.put_data(ticket, &header.0, tell)) {
+            Err(Refusal::Full) => return None,
+            // It is taken out.
+            Err(_) => return Some(false),
+            Ok(()) => {}
+        }
+        let kept = self.requests.get_mut(&cookie)?;
+        let was_r2t = kept.r2t.take().is_some();
+        if !was_r2t {
+            kept.data_ins.advance();
+        }
+        Some(!was_r2t)
     }
 
-    /// A Data-In of a command goes out as soon as it may.
-    pub fn put_data_in(&mut self, command: &Command, header: &Header) -> Result<(), Refusal> {
-        self.call(|library, tell| library.put_data(command.ticket, &header.0, tell))?;
-        self.count_data_ins(command.connection.cid, command.cookie, |count| *count += 1);
-        Ok(())
+    /// What is to be written on a connection now, unless another thread writes there: what wasn't written yet, or else
+    /// what the library hands out. `None` where there is nothing.
+    pub fn take_batch(&mut self, session: &Arc<Session>, connection: &Connection, is_writer: bool) -> Option<Batch> {
+        self.carry_out(session);
+        let attached = self.connections.get_mut(&connection.cid)?;
+        // What the socket didn't take at once is the writer's.
+        if attached.is_writing || attached.is_broken || attached.unwritten.is_some() && !is_writer {
+            return None;
+        }
+        let mut batch = attached.unwritten.take().unwrap_or_default();
+        if batch.is_empty() && std::mem::take(&mut attached.is_told) {
+            self.fill(session, connection, &mut batch);
+        }
+        let attached = self.connections.get_mut(&connection.cid).filter(|_| !batch.is_empty())?;
+        attached.is_writing = true;
+        Some(batch)
     }
 
-    fn count_data_ins(&mut self, cid: u16, cookie: u64, change: impl Fn(&mut u32)) {
-        if let (Some(attached), Some(kept)) = (self.connections.get_mut(&cid), self.requests.get_mut(&cookie)) {
-            change(&mut attached.data_ins);
-            change(&mut kept.data_ins);
+    /// Takes what the library hands out for a connection. Behind the last PDU of all it is given up.
+    fn fill(&mut self, session: &Session, connection: &Connection, batch: &mut Batch) {
+        let cid = connection.cid;
+        loop {
+            match self.call(|library, tell| library.next(cid, tell)) {
+                Ok(handed) => batch.push(self.outgoing(session, connection, &handed)),
+                Err(Refusal::Nothing) if self.put(cid) => {}
+                Err(Refusal::Nothing) => return,
+                Err(Refusal::Over) if batch.is_empty() => return self.break_off(cid),
+                // As much as may be written together. There may be more behind it.
+                Err(_) => return self.change(cid, |attached| attached.is_told = true),
+            }
         }
     }
 
     /// A PDU that the library hands out, with what the target puts into it.
-    pub fn outgoing(&mut self, session: &Session, connection: &Connection, handed: &cundarrix::Pdu) -> Outgoing {
+    fn outgoing(&mut self, session: &Session, connection: &Connection, handed: &cundarrix::Pdu) -> Outgoing {
         let mut pdu = Pdu { header: Header(*handed.header()), data: handed.data().to_vec() };
-        let cookie = handed.cookie().unwrap_or_default();
-        let Some(kept) = self.requests.get(&cookie) else {
-            return Outgoing::Whole(pdu);
-        };
-        let outcome = kept.outcome.clone();
-        match (handed.kind(), outcome) {
-            (PduKind::Own, Some(outcome)) if pdu.header.opcode() == opcode::DATA_IN => {
-                self.count_data_ins(connection.cid, cookie, |count| *count -= 1);
-                connection.changed.notify_all();
-                return Outgoing::Part(pdu.header, outcome);
+        let kept = handed.cookie().and_then(|cookie| self.requests.get_mut(&cookie));
+        match (handed.kind(), kept) {
+            (PduKind::Own, Some(Kept { outcome: Some(outcome), .. })) if pdu.header.opcode() == opcode::DATA_IN => {
+                return Outgoing::part(pdu.header, outcome.clone());
             }
-            (PduKind::Reply, outcome) => {
-                let failed = Outcome::failed(None);
-                session.complete_reply(&mut pdu, &kept.pdu, outcome.as_deref().unwrap_or(&failed));
-                pdu.data.truncate(connection.longest_data);
+            (PduKind::Reply, Some(kept)) => {
+                session.complete_reply(&mut pdu, &mut kept.pdu, kept.outcome.as_deref(), connection.longest_data);
             }
             _ => {}
         }
-        Outgoing::Whole(pdu)
+        Outgoing::whole(pdu)
+    }
+
+    /// A thread has written on a connection. Whether the socket took all that it was given.
+    pub fn end_batch(&mut self, cid: u16, mut batch: Batch, written: &io::Result<usize>) -> bool {
+        let mut has_asked = false;
+        while let Some(header) = batch.take_written() {
+            has_asked |= header.is_ping();
+            let _ = self.call(|library, tell| library.written(cid, tell));
+        }
+        let is_whole = batch.is_empty();
+        if let Some(attached) = self.connections.get_mut(&cid) {
+            attached.is_writing = false;
+            attached.unwritten = Some(batch).filter(|_| !is_whole);
+            if has_asked {
+                attached.clock.is_ping_put = false;
+                attached.clock.asked = attached.clock.asked.or(Some(Instant::now()));
+            }
+            if !is_whole {
+                attached.wake();
+            }
+        }
+        if written.is_err() {
+            self.break_off(cid);
+        }
+        is_whole
     }
 }

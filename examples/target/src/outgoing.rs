@@ -1,0 +1,96 @@
+//! PDUs on their way out: many of them with one call of the system.
+
+use crate::pdu::{place, Header, Pdu};
+use crate::scsi::Outcome;
+use std::collections::VecDeque;
+use std::io::{self, ErrorKind, IoSlice, Write};
+use std::sync::Arc;
+
+/// The bytes that pad a data segment.
+const PADDING: [u8; 3] = [0; 3];
+
+/// A PDU on its way out, with its data where it lies.
+pub struct Outgoing {
+    header: Header,
+    data: Data,
+}
+
+enum Data {
+    Own(Vec<u8>),
+    /// That of a Data-In, by its buffer offset.
+    Part(Arc<Outcome>),
+}
+
+impl Outgoing {
+    pub fn whole(pdu: Pdu) -> Outgoing {
+        let Pdu { mut header, data } = pdu;
+        header.set_length(data.len());
+        Outgoing { header, data: Data::Own(data) }
+    }
+
+    /// A Data-In.
+    pub fn part(header: Header, outcome: Arc<Outcome>) -> Outgoing {
+        Outgoing { header, data: Data::Part(outcome) }
+    }
+
+    fn data(&self) -> &[u8] {
+        match &self.data {
+            Data::Own(data) => data,
+            Data::Part(outcome) => outcome.part(self.header.number(place::OFFSET) as usize, self.header.length()),
+        }
+    }
+
+    fn slices(&self) -> [IoSlice<'_>; 3] {
+        let data = self.data();
+        let padding = &PADDING[..data.len().next_multiple_of(4) - data.len()];
+        [IoSlice::new(&self.header.0), IoSlice::new(data), IoSlice::new(padding)]
+    }
+
+    fn length(&self) -> usize {
+        self.header.0.len() + self.header.length().next_multiple_of(4)
+    }
+}
+
+/// PDUs that go out together, in their order.
+#[derive(Default)]
+pub struct Batch {
+    pdus: VecDeque<Outgoing>,
+    /// How much of the first one is written.
+    written: usize,
+}
+
+impl Batch {
+    pub fn push(&mut self, pdu: Outgoing) {
+        self.pdus.push_back(pdu);
+    }
+
+    pub fn is_empty(&self) -> bool {
+        self.pdus.is_empty()
+    }
+
+    /// Writes as much as the stream takes at once. How many bytes that was: none, where it takes none for now.
+    pub fn write(&mut self, mut stream: impl Write) -> io::Result<usize> {
+        let mut slices: Vec<IoSlice> = self.pdus.iter().flat_map(Outgoing::slices).collect();
+        let mut rest = &mut slices[..];
+        IoSlice::advance_slices(&mut rest, self.written);
+        loop {
+            match stream.write_vectored(rest) {
+                Ok(0) => return Err(ErrorKind::WriteZero.into()),
+                Ok(count) => {
+                    self.written += count;
+                    return Ok(count);
+                }
+                Err(why) if why.kind() == ErrorKind::Interrupted => {}
+                Err(why) if [ErrorKind::WouldBlock, ErrorKind::TimedOut].contains(&why.kind()) => return Ok(0),
+                Err(why) => return Err(why),
+            }
+        }
+    }
+
+    /// Takes out the next PDU that is written to its end, and gives its header.
+    pub fn take_written(&mut self) -> Option<Header> {
+        let length = self.pdus.front()?.length();
+        self.written = self.written.checked_sub(length)?;
+        self.pdus.pop_front().map(|pdu| pdu.header)
+    }
+}
