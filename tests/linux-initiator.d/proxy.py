@@ -54,6 +54,7 @@ class Proxy(threading.Thread):
             return
         for one, other in ((came, on), (on, came)):
             one.setblocking(False)
+            one.setsockopt(socket.IPPROTO_TCP, socket.TCP_NODELAY, 1)
             self.others[one], self.waiting[one] = other, b""
         self.initiators.add(came)
 
