@@ -9,6 +9,7 @@ from loopback import TOP, WAIT_BUILD, Failed, last_line, run
 
 HERE = os.path.dirname(os.path.realpath(__file__))
 USE = re.compile(r"^use std::sync::", re.MULTILINE)
+PATH = re.compile(r'path = "(\.\./[^"]*)"')
 
 
 def build_over_pthreads(folder):
@@ -20,7 +21,9 @@ def build_over_pthreads(folder):
         rewrite(os.path.join(copy, "src", name), lambda text: USE.sub("use crate::pthreads::", text))
     rewrite(os.path.join(copy, "src", "lib.rs"),
             lambda text: text.replace("\npub mod pdu;", "\npub mod pdu;\nmod pthreads;"))
-    rewrite(os.path.join(copy, "Cargo.toml"), lambda text: text.replace("../../bindings", f"{TOP}/bindings"))
+    source = os.path.join(TOP, "examples", "target")
+    rewrite(os.path.join(copy, "Cargo.toml"),
+            lambda text: PATH.sub(lambda found: f'path = "{os.path.join(source, found[1])}"', text))
     shutil.copy(os.path.join(HERE, "pthreads.rs"), os.path.join(copy, "src"))
     done = run(["cargo", "build", "--release", "--offline"], WAIT_BUILD, cwd=copy,
                env={**os.environ, "CARGO_PROFILE_RELEASE_DEBUG": "1"})
