@@ -2,7 +2,7 @@
 
 use crate::keys::Keys;
 use crate::pdu::{opcode, place, Header, Pdu, FINAL, NO_TAG, READ, WRITE};
-use crate::scsi::{Outcome, Sense, PART};
+use disk::{Outcome, Sense, PART};
 
 /// The residual's bits in byte 1 of a SCSI Response.
 const OVERFLOW: u8 = 0x04;

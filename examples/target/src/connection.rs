@@ -77,7 +77,7 @@ impl Member {
     fn read(&self, requests: &mut BufReader<Incoming>) -> Result<(), Fault> {
         loop {
             if !Pdu::is_whole(requests.buffer()) {
-                self.session.flush(&self.connection);
+                self.session.write(&self.connection, false);
             }
             let Some(request) = Pdu::read(requests, LONGEST_DATA)? else {
                 return Ok(());
@@ -92,7 +92,7 @@ impl Member {
         let patience = self.session.target.options.patience;
         let mut moved = Instant::now();
         while self.session.await_turn(&self.connection) {
-            if self.session.write(&self.connection) {
+            if self.session.write(&self.connection, true) {
                 moved = Instant::now();
             } else if moved.elapsed() >= patience {
                 break;

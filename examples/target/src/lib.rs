@@ -9,12 +9,12 @@ pub mod options;
 mod outgoing;
 pub mod pdu;
 mod queue;
-pub mod scsi;
 mod session;
 mod state;
 mod trace;
 pub mod unit;
 
+use disk::Disk;
 use keys::Keys;
 use log::Log;
 use options::Options;
@@ -84,14 +84,14 @@ pub fn run(options: Options) -> io::Result<()> {
 impl Target {
     fn new(options: Options) -> io::Result<Target> {
         let trace = Trace::open(options.trace.as_deref())?;
-        let mut units: Vec<_> = (0..UNITS).map(|number| Unit::in_memory(number, options.size, options.delay)).collect();
+        let mut disks: Vec<_> = (0..UNITS).map(|number| Disk::in_memory(number, options.size)).collect();
         if let Some(path) = &options.disk {
-            units.push(Unit::on_disk(UNITS, path, options.size, options.delay)?);
+            disks.push(Disk::on_file(UNITS, path, options.size)?);
         }
-        let count = units.len() as u8;
-        units.iter_mut().for_each(|unit| unit.unit_count = count);
-        let (units, sessions, errands) =
-            (units.into_iter().map(Arc::new).collect(), Mutex::default(), Queue::default());
+        let count = disks.len() as u8;
+        disks.iter_mut().for_each(|disk| disk.count = count);
+        let units = disks.into_iter().map(|disk| Arc::new(Unit::new(disk, options.delay))).collect();
+        let (sessions, errands) = (Mutex::default(), Queue::default());
         Ok(Target { options, units, sessions, errands, trace, log: Log::default() })
     }
 
@@ -140,10 +140,7 @@ impl Target {
 
     /// Nothing is left of a session.
     fn remove(&self, session: &Arc<Session>) {
-        let mut sessions = lock(&self.sessions);
-        if sessions.by_tsih.get(&session.tsih).is_some_and(|known| Arc::ptr_eq(known, session)) {
-            sessions.by_tsih.remove(&session.tsih);
-        }
+        lock(&self.sessions).by_tsih.retain(|_, known| !Arc::ptr_eq(known, session));
     }
 
     /// All sessions but one.
@@ -158,16 +155,7 @@ fn lock<T>(mutex: &Mutex<T>) -> MutexGuard<'_, T> {
     mutex.lock().unwrap_or_else(PoisonError::into_inner)
 }
 
-/// Waits until what is behind the lock has changed so that there is nothing to wait for.
-fn wait_while<'a, T>(
-    guard: MutexGuard<'a, T>,
-    changed: &Condvar,
-    waits: impl FnMut(&mut T) -> bool,
-) -> MutexGuard<'a, T> {
-    changed.wait_while(guard, waits).unwrap_or_else(PoisonError::into_inner)
-}
-
-/// The same, for so long at the most.
+/// Waits until what is behind the lock has changed so that there is nothing to wait for, and so long at the most.
 fn wait_for<'a, T>(
     guard: MutexGuard<'a, T>,
     changed: &Condvar,

@@ -1,7 +1,7 @@
 //! PDUs on their way out: many of them with one call of the system.
 
 use crate::pdu::{place, Header, Pdu};
-use crate::scsi::Outcome;
+use disk::Outcome;
 use std::collections::VecDeque;
 use std::io::{self, ErrorKind, IoSlice, Write};
 use std::sync::Arc;
@@ -87,10 +87,14 @@ impl Batch {
         }
     }
 
-    /// Takes out the next PDU that is written to its end, and gives its header.
-    pub fn take_written(&mut self) -> Option<Header> {
-        let length = self.pdus.front()?.length();
-        self.written = self.written.checked_sub(length)?;
-        self.pdus.pop_front().map(|pdu| pdu.header)
+    /// Takes out the next PDU, if it is written to its end.
+    pub fn take_written(&mut self) -> bool {
+        let length = self.pdus.front().map_or(usize::MAX, Outgoing::length);
+        let is_written = self.written >= length;
+        if is_written {
+            self.written -= length;
+            self.pdus.pop_front();
+        }
+        is_written
     }
 }

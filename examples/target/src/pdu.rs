@@ -111,11 +111,6 @@ impl Header {
         usize::from(is_meant) * self.number(place::EXPECTED_LENGTH) as usize
     }
 
-    /// Whether it is a NOP-In that is to be answered.
-    pub fn is_ping(&self) -> bool {
-        self.opcode() == opcode::NOP_IN && self.number(place::TRANSFER_TAG) != NO_TAG
-    }
-
     pub fn short(&self, at: usize) -> u16 {
         u16::from_be_bytes(self.part(at))
     }

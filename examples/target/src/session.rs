@@ -8,13 +8,13 @@ use crate::command::complete_response;
 use crate::connection::{Connection, Fault};
 use crate::keys::{add_pair, pairs, Keys};
 use crate::pdu::{opcode, place, Header, Pdu, FINAL, NO_TAG};
-use crate::scsi::{Outcome, Sense};
 use crate::state::{State, Work, UNWRITTEN};
 use crate::trace::now;
 use crate::unit::Job;
-use crate::{lock, wait_for, wait_while, Target};
+use crate::{lock, wait_for, Target};
 use cundarrix::{Clearing as Function, Numbers, Options, Refusal};
-use std::sync::{Arc, Condvar, Mutex, MutexGuard};
+use disk::{Outcome, Sense};
+use std::sync::{Arc, Condvar, Mutex, MutexGuard, PoisonError};
 use std::time::Instant;
 
 /// A session's connections are fixed when the library opens it. One that may have several is opened with the CID of the
@@ -147,12 +147,13 @@ impl Session {
         let cid = connection.cid;
         let _ = state.call(|library, tell| library.heard(cid, &header.0, tell));
         self.let_go(state);
-        self.flush(connection);
+        self.write(connection, false);
         let mut state = lock(&self.state);
         state.change(cid, |attached| attached.is_held_back = true);
         state.waiters += 1;
         let is_busy = |state: &mut State| !state.library.may_take() && !state.is_broken(cid);
-        let mut state = wait_while(state, &self.changed, is_busy);
+        let waited = self.changed.wait_while(state, is_busy);
+        let mut state = waited.unwrap_or_else(PoisonError::into_inner);
         state.waiters -= 1;
         state.change(cid, |attached| attached.is_held_back = false);
         state
@@ -204,30 +205,17 @@ impl Session {
         goes_on
     }
 
-    /// The reader of a connection writes what there is, before it waits for more.
-    pub fn flush(self: &Arc<Session>, connection: &Connection) {
+    /// Writes what there is for a connection: its writer does, or its reader, before it waits for more. Whether the
+    /// socket took something.
+    pub fn write(self: &Arc<Session>, connection: &Connection, is_writer: bool) -> bool {
+        let (cid, mut written) = (connection.cid, Ok(1));
         let mut state = lock(&self.state);
-        state.change(connection.cid, |attached| attached.is_taking = false);
-        self.write_batches(state, connection, false);
-    }
-
-    /// The writer of a connection writes what there is. Whether the socket took something.
-    pub fn write(self: &Arc<Session>, connection: &Connection) -> bool {
-        self.write_batches(lock(&self.state), connection, true)
-    }
-
-    fn write_batches<'a>(
-        self: &'a Arc<Session>,
-        mut state: MutexGuard<'a, State>,
-        connection: &Connection,
-        is_writer: bool,
-    ) -> bool {
-        let mut written = Ok(1);
+        state.change(cid, |attached| attached.is_taking &= is_writer);
         while let Some(mut batch) = state.take_batch(self, connection, is_writer) {
             self.let_go(state);
             written = batch.write(&*connection.stream);
             state = lock(&self.state);
-            if !state.end_batch(connection.cid, batch, &written) {
+            if !state.end_batch(cid, batch, &written) {
                 break;
             }
         }

@@ -5,10 +5,10 @@ use crate::connection::{Connection, Fault};
 use crate::keys::FIRST_BURST;
 use crate::outgoing::{Batch, Outgoing};
 use crate::pdu::{opcode, place, Header, Pdu, FINAL, NO_TAG, WRITE};
-use crate::scsi::{read_length, wanted_length, Outcome, Sense, MOST_BYTES};
 use crate::session::{Clearing, Errand, Session};
 use crate::unit::{Job, Unit};
 use cundarrix::{Action, Clearing as Function, PduKind, Refusal};
+use disk::{Outcome, Sense, MOST_BYTES};
 use std::collections::{HashMap, VecDeque};
 use std::io;
 use std::sync::Arc;
@@ -70,23 +70,14 @@ pub struct Attached {
     pub is_closed: bool,
     /// Its transport broke, or is given up.
     is_broken: bool,
-    clock: Clock,
-}
-
-/// Whether a connection's initiator is there.
-struct Clock {
+    /// When its clock strikes next, whether something arrived since it did, and since when a ping is unanswered.
     next_strike: Instant,
-    /// Something arrived since it struck.
     was_heard: bool,
-    /// A ping of the target's own was put, and didn't go out yet.
-    is_ping_put: bool,
-    /// When a ping went out that isn't answered.
     asked: Option<Instant>,
 }
 
 impl Attached {
     fn new(connection: Arc<Connection>) -> Attached {
-        let clock = Clock { next_strike: Instant::now(), was_heard: true, is_ping_put: false, asked: None };
         Attached {
             connection,
             is_told: true,
@@ -98,7 +89,9 @@ impl Attached {
             putting: VecDeque::new(),
             is_closed: false,
             is_broken: false,
-            clock,
+            next_strike: Instant::now(),
+            was_heard: true,
+            asked: None,
         }
     }
 
@@ -107,12 +100,6 @@ impl Attached {
         if self.is_idle {
             self.connection.changed.notify_one();
         }
-    }
-
-    /// Whether there is nothing for the writer to do.
-    fn is_quiet(&self) -> bool {
-        let has_work = self.unwritten.is_some() || self.is_told && !self.is_taking;
-        !self.is_broken && (self.is_writing || !has_work)
     }
 }
 
@@ -254,12 +241,15 @@ impl State {
 
     /// Whether there is nothing for the writer of a connection to do.
     pub fn is_quiet(&self, cid: u16) -> bool {
-        self.connections.get(&cid).is_some_and(Attached::is_quiet)
+        self.connections.get(&cid).is_some_and(|attached| {
+            let has_work = attached.unwritten.is_some() || attached.is_told && !attached.is_taking;
+            !attached.is_broken && (attached.is_writing || !has_work)
+        })
     }
 
     /// How long it is until a connection's clock strikes.
     pub fn time_left(&self, cid: u16) -> Duration {
-        let strike = self.connections.get(&cid).map(|attached| attached.clock.next_strike);
+        let strike = self.connections.get(&cid).map(|attached| attached.next_strike);
         strike.map_or(Duration::ZERO, |strike| strike.saturating_duration_since(Instant::now()))
     }
 
@@ -270,34 +260,28 @@ impl State {
         let Some(attached) = self.connections.get_mut(&cid) else {
             return;
         };
-        let clock = &mut attached.clock;
-        clock.next_strike = Instant::now() + patience / 2;
-        let was_heard = std::mem::take(&mut clock.was_heard) || attached.is_held_back;
+        attached.next_strike = Instant::now() + patience / 2;
+        let was_heard = std::mem::take(&mut attached.was_heard) || attached.is_held_back;
         if was_heard && !is_asked {
-            clock.asked = None;
-        } else if clock.asked.is_some_and(|since| since.elapsed() >= patience) {
+            attached.asked = None;
+        } else if attached.asked.is_some_and(|since| since.elapsed() >= patience) {
             self.break_off(cid);
-        } else if !was_heard && clock.asked.is_none() && !clock.is_ping_put {
+        } else if attached.asked.is_none() {
+            attached.asked = Some(Instant::now());
             // A discovery session knows no pings (RFC 7143 section 4.3): to be silent is enough.
-            match session.keys.is_discovery {
-                true => clock.asked = Some(Instant::now()),
-                false => self.ping(cid),
+            if !is_asked && !session.keys.is_discovery {
+                let mut header = Header::new(opcode::NOP_IN, FINAL, NO_TAG);
+                header.set(place::TRANSFER_TAG, FIRST_PING - 1);
+                let _ = self.call(|library, tell| library.put(cid, &header.0, NO_REQUEST, tell));
             }
         }
-    }
-
-    fn ping(&mut self, cid: u16) {
-        let mut header = Header::new(opcode::NOP_IN, FINAL, NO_TAG);
-        header.set(place::TRANSFER_TAG, FIRST_PING - 1);
-        let is_put = self.call(|library, tell| library.put(cid, &header.0, NO_REQUEST, tell)).is_ok();
-        self.change(cid, |attached| attached.clock.is_ping_put = is_put);
     }
 
     // ---- requests
 
     /// A PDU arrived on a connection, whose reader is about to take it.
     pub fn hear(&mut self, cid: u16) {
-        self.change(cid, |attached| (attached.is_taking, attached.clock.was_heard) = (true, true));
+        self.change(cid, |attached| (attached.is_taking, attached.was_heard) = (true, true));
     }
 
     /// Keeps a request that arrived, and gives its cookie. Data that nothing comes of isn't kept, and more than the
@@ -342,14 +326,14 @@ impl State {
         self.arrived -= std::mem::take(&mut kept.arrived);
         let (header, data) = (kept.pdu.header, std::mem::take(&mut kept.pdu.data));
         let cdb = header.part(place::CDB);
-        let wanted = wanted_length(unit, &cdb).min(header.data_length(WRITE));
+        let wanted = unit.disk.wanted_length(&cdb).min(header.data_length(WRITE));
         kept.transfer = Transfer::new(&header, data, wanted, session.keys.first_burst as usize);
         // INQUIRY and REPORT LUNS tell no unit attention.
         let attention = if [0x12, 0xa0].contains(&cdb[0]) { None } else { self.attentions.remove(&number) };
         if let Some(sense) = attention {
             return self.conclude(session, cookie, Outcome::failed(Some(sense)));
         }
-        match wanted.max(read_length(unit, &cdb)) {
+        match wanted.max(unit.disk.read_length(&cdb)) {
             0 => self.advance(session, cookie),
             length => {
                 self.waiting.push_back((cookie, length));
@@ -457,7 +441,7 @@ impl State {
         let _ = self.call(|library, tell| library.clear(unit, tell));
         self.attentions.insert(unit, sense);
         for kept in self.requests.values_mut().filter(|kept| [Work::Begun, Work::Stopping].contains(&kept.work)) {
-            if kept.unit.as_ref().is_some_and(|its| u16::from(its.number) == unit) {
+            if kept.unit.as_ref().is_some_and(|its| u16::from(its.disk.number) == unit) {
                 kept.clearings.push(clearing.clone());
             }
         }
@@ -492,41 +476,36 @@ impl State {
     fn put(&mut self, cid: u16) -> bool {
         let mut had_room = false;
         while let Some(cookie) = self.connections.get(&cid).and_then(|attached| attached.putting.front().copied()) {
-            let Some(has_more) = self.put_next(cookie) else {
-                break;
-            };
-            had_room = true;
-            if let Some(attached) = self.connections.get_mut(&cid).filter(|_| !has_more) {
-                attached.putting.pop_front();
+            match self.put_next(cookie) {
+                Ok(()) => {}
+                Err(Refusal::Full) => break,
+                Err(_) => self.change(cid, |attached| {
+                    attached.putting.pop_front();
+                }),
             }
+            had_room = true;
         }
         had_room
     }
 
-    /// Puts the next PDU of a command; behind its last Data-In it is complete. Whether there is more of it. `None` where
-    /// there is no room.
-    fn put_next(&mut self, cookie: u64) -> Option<bool> {
-        let Some(kept) = self.requests.get(&cookie).filter(|kept| kept.work != Work::Stopped) else {
-            return Some(false);
+    /// Puts the next PDU of a command; behind its last Data-In it is complete. `Full`: there is no room; any other
+    /// error: nothing more of it is put.
+    fn put_next(&mut self, cookie: u64) -> Result<(), Refusal> {
+        let live = self.requests.get(&cookie).filter(|kept| kept.work != Work::Stopped);
+        let kept = live.ok_or(Refusal::Gone)?;
+        let (ticket, header) = (kept.ticket, kept.r2t.or_else(|| kept.data_ins.peek()));
+        let Some(header) = header else {
+            let status = kept.outcome.as_ref().map(|outcome| outcome.status).ok_or(Refusal::Gone)?;
+            return self.call(|library, tell| library.complete(ticket, status, tell)).and(Err(Refusal::Gone));
         };
-        let ticket = kept.ticket;
-        let Some(header) = kept.r2t.or_else(|| kept.data_ins.peek()) else {
-            let status = kept.outcome.as_ref().map_or(0, |outcome| outcome.status);
-            let _ = self.call(|library, tell| library.complete(ticket, status, tell));
-            return Some(false);
-        };
-        match self.call(|library, tell| library.put_data(ticket, &header.0, tell)) {
-            Err(Refusal::Full) => return None,
-            // It is taken out.
-            Err(_) => return Some(false),
-            Ok(()) => {}
+        self.call(|library, tell| library.put_data(ticket, &header.0, tell))?;
+        if let Some(kept) = self.requests.get_mut(&cookie) {
+            match kept.r2t.take() {
+                Some(_) => {}
+                None => kept.data_ins.advance(),
+            }
         }
-        let kept = self.requests.get_mut(&cookie)?;
-        let was_r2t = kept.r2t.take().is_some();
-        if !was_r2t {
-            kept.data_ins.advance();
-        }
-        Some(!was_r2t)
+        Ok(())
     }
 
     /// What is to be written on a connection now, unless another thread writes there: what wasn't written yet, or else
@@ -580,23 +559,19 @@ impl State {
 
     /// A thread has written on a connection. Whether the socket took all that it was given.
     pub fn end_batch(&mut self, cid: u16, mut batch: Batch, written: &io::Result<usize>) -> bool {
-        let mut has_asked = false;
-        while let Some(header) = batch.take_written() {
-            has_asked |= header.is_ping();
+        while batch.take_written() {
             let _ = self.call(|library, tell| library.written(cid, tell));
         }
         let is_whole = batch.is_empty();
-        if let Some(attached) = self.connections.get_mut(&cid) {
+        self.change(cid, |attached| {
             attached.is_writing = false;
-            attached.unwritten = Some(batch).filter(|_| !is_whole);
-            if has_asked {
-                attached.clock.is_ping_put = false;
-                attached.clock.asked = attached.clock.asked.or(Some(Instant::now()));
-            }
             if !is_whole {
+                // A socket that takes more, if slowly, is as good as an answer.
+                attached.was_heard |= !matches!(written, Ok(0));
+                attached.unwritten = Some(batch);
                 attached.wake();
             }
-        }
+        });
         if written.is_err() {
             self.break_off(cid);
         }

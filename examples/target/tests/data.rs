@@ -1,9 +1,9 @@
 //! The data of a command: how it comes, and the residuals.
 
+use disk::{Outcome, PART};
 use target::command::{complete_response, DataIns, Transfer};
 use target::keys::Keys;
 use target::pdu::{opcode, place, Header, Pdu, FINAL};
-use target::scsi::{Outcome, PART};
 
 fn write_of(length: u32, flags: u8) -> Header {
     let mut header = Header::new(opcode::SCSI_COMMAND, 0x20 | flags, 9);

@@ -3,10 +3,10 @@
 mod common;
 
 use common::{blocks, Target, TEST_UNIT_READY};
+use disk::BLOCK;
 use std::thread::sleep;
 use std::time::{Duration, Instant};
 use target::pdu::{opcode, place, NO_TAG};
-use target::unit::BLOCK;
 
 const GOOD: u8 = 0x00;
 const CHECK_CONDITION: u8 = 0x02;
@@ -103,10 +103,10 @@ fn a_silent_initiator_is_asked_and_given_up() {
     let target = Target::start("--ping 1");
     let (mut alive, mut gone) = (target.log_in(1), target.log_in(2));
     let ping = gone.receive().expect("a ping").header;
-    assert_eq!((ping.opcode(), ping.tag(), ping.is_ping()), (opcode::NOP_IN, NO_TAG, true));
+    assert_eq!((ping.opcode(), ping.tag()), (opcode::NOP_IN, NO_TAG));
     for _ in 0..4 {
         let ping = alive.receive().expect("a ping").header;
-        assert!(ping.is_ping() && ping.number(place::TRANSFER_TAG) < 0x8000_0000);
+        assert!(ping.number(place::TRANSFER_TAG) < 0x8000_0000);
         alive.answer_ping(&ping);
     }
     assert_eq!(gone.receive(), None);

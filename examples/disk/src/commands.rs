@@ -1,6 +1,6 @@
-//! What a CDB means (SPC-4, SBC-3), and what the units answer to it.
+//! What a CDB means (SPC-4, SBC-3), and what a disk answers to it.
 
-use crate::unit::{Unit, BLOCK};
+use crate::{Disk, BLOCK};
 use std::ops::Range;
 
 /// The most blocks that a command may move.
@@ -90,9 +90,9 @@ fn access(opcode: u8) -> Option<Access> {
     }
 }
 
-/// The bytes of a unit that a CDB is about, by the group of its opcode. Its protection field must be zero, as the units
+/// The bytes of a disk that a CDB is about, by the group of its opcode. Its protection field must be zero, as the units
 /// have no protection information.
-fn range_of(unit: &Unit, cdb: &[u8; 16]) -> Result<Range<usize>, Sense> {
+fn range_of(disk: &Disk, cdb: &[u8; 16]) -> Result<Range<usize>, Sense> {
     let (first, count) = match cdb[0] >> 5 {
         // In 6 bytes no blocks are 256.
         0 => (number(&cdb[1..4]) & 0x1f_ffff, (u64::from(cdb[4]) + 255) % 256 + 1),
@@ -101,7 +101,7 @@ fn range_of(unit: &Unit, cdb: &[u8; 16]) -> Result<Range<usize>, Sense> {
         _ => (number(&cdb[2..6]), number(&cdb[7..9])),
     };
     let end = first.checked_add(count).ok_or(Sense::OUT_OF_RANGE)?;
-    if end > unit.block_count() || first >= unit.block_count() {
+    if end > disk.block_count() || first >= disk.block_count() {
         return Err(Sense::OUT_OF_RANGE);
     }
     if cdb[1] & 0xe0 != 0 || count > MOST_BLOCKS {
@@ -118,57 +118,59 @@ fn is_compared(cdb: &[u8; 16]) -> Result<bool, Sense> {
     }
 }
 
-/// How many bytes of data a command takes from the initiator: none, where it will fail.
-pub fn wanted_length(unit: &Unit, cdb: &[u8; 16]) -> usize {
-    match access(cdb[0]) {
-        None | Some(Access::Read) => 0,
-        Some(Access::Verify) if is_compared(cdb) != Ok(true) => 0,
-        Some(_) => range_of(unit, cdb).map_or(0, |range| range.len()),
-    }
-}
-
-/// How many bytes of data a command has for the initiator, if it is a READ.
-pub fn read_length(unit: &Unit, cdb: &[u8; 16]) -> usize {
-    let is_read = access(cdb[0]) == Some(Access::Read);
-    if is_read {
-        range_of(unit, cdb).map_or(0, |range| range.len())
-    } else {
-        0
-    }
-}
-
-/// Executes a command with the data that came for it.
-pub fn execute(unit: &Unit, cdb: &[u8; 16], data: &[Vec<u8>]) -> Outcome {
-    let answer = match access(cdb[0]) {
-        Some(access) => move_blocks(unit, cdb, access, data),
-        None => answer(unit, cdb).map(|answer| if answer.is_empty() { Vec::new() } else { vec![answer] }),
-    };
-    match answer {
-        Ok(data) => {
-            let mut outcome = Outcome { status: GOOD, sense: None, data, length: 0 };
-            outcome.length = wanted_length(unit, cdb).max(outcome.data_length());
-            outcome
+impl Disk {
+    /// How many bytes of data a command takes from the initiator: none, where it will fail.
+    pub fn wanted_length(&self, cdb: &[u8; 16]) -> usize {
+        match access(cdb[0]) {
+            None | Some(Access::Read) => 0,
+            Some(Access::Verify) if is_compared(cdb) != Ok(true) => 0,
+            Some(_) => range_of(self, cdb).map_or(0, |range| range.len()),
         }
-        Err(sense) => Outcome::failed(Some(sense)),
+    }
+
+    /// How many bytes of data a command has for the initiator, if it is a READ.
+    pub fn read_length(&self, cdb: &[u8; 16]) -> usize {
+        let is_read = access(cdb[0]) == Some(Access::Read);
+        if is_read {
+            range_of(self, cdb).map_or(0, |range| range.len())
+        } else {
+            0
+        }
+    }
+
+    /// Executes a command with the data that came for it.
+    pub fn execute(&self, cdb: &[u8; 16], data: &[Vec<u8>]) -> Outcome {
+        let answer = match access(cdb[0]) {
+            Some(access) => move_blocks(self, cdb, access, data),
+            None => answer(self, cdb).map(|answer| if answer.is_empty() { Vec::new() } else { vec![answer] }),
+        };
+        match answer {
+            Ok(data) => {
+                let mut outcome = Outcome { status: GOOD, sense: None, data, length: 0 };
+                outcome.length = self.wanted_length(cdb).max(outcome.data_length());
+                outcome
+            }
+            Err(sense) => Outcome::failed(Some(sense)),
+        }
     }
 }
 
 /// Reads, writes or compares. Gives what is read.
-fn move_blocks(unit: &Unit, cdb: &[u8; 16], access: Access, data: &[Vec<u8>]) -> Result<Vec<Vec<u8>>, Sense> {
-    let range = range_of(unit, cdb)?;
+fn move_blocks(disk: &Disk, cdb: &[u8; 16], access: Access, data: &[Vec<u8>]) -> Result<Vec<Vec<u8>>, Sense> {
+    let range = range_of(disk, cdb)?;
     let is_verify = matches!(access, Access::Verify | Access::WriteAndVerify);
     let is_compared = is_verify && is_compared(cdb)?;
     if access == Access::Read {
         let begins = range.clone().step_by(PART);
-        return begins.map(|begin| unit.read(begin..range.end.min(begin + PART))).collect();
+        return begins.map(|begin| disk.read(begin..range.end.min(begin + PART))).collect();
     }
     if access != Access::Verify {
-        whole_blocks(&range, data).try_for_each(|(at, part)| unit.write(at, part))?;
-        unit.flush()?;
+        whole_blocks(&range, data).try_for_each(|(at, part)| disk.write(at, part))?;
+        disk.flush()?;
     }
     if is_compared {
         for (at, part) in whole_blocks(&range, data) {
-            if unit.read(at..at + part.len())? != part {
+            if disk.read(at..at + part.len())? != part {
                 return Err(Sense::MISCOMPARE);
             }
         }
@@ -188,10 +190,10 @@ fn whole_blocks<'a>(range: &Range<usize>, data: &'a [Vec<u8>]) -> impl Iterator<
 }
 
 /// The data with which a command is answered that moves no blocks, no more of it than the CDB allows.
-fn answer(unit: &Unit, cdb: &[u8; 16]) -> Result<Vec<u8>, Sense> {
-    let (last, block) = (unit.block_count() - 1, (BLOCK as u32).to_be_bytes());
+fn answer(disk: &Disk, cdb: &[u8; 16]) -> Result<Vec<u8>, Sense> {
+    let (last, block) = (disk.block_count() - 1, (BLOCK as u32).to_be_bytes());
     let (mut answer, most) = match (cdb[0], cdb[1] & 0x1f) {
-        (0x12, _) => (inquiry(unit, cdb)?, number(&cdb[3..5])),
+        (0x12, _) => (inquiry(disk, cdb)?, number(&cdb[3..5])),
         // MODE SENSE, of 6 bytes and of 10. The header says that DPO and FUA are taken.
         (0x1a, _) => ([&[15, 0, 0x10, 0], &control_page(cdb)?[..]].concat(), cdb[4].into()),
         (0x5a, _) => ([&[0, 18, 0, 0x10, 0, 0, 0, 0], &control_page(cdb)?[..]].concat(), number(&cdb[7..9])),
@@ -200,7 +202,7 @@ fn answer(unit: &Unit, cdb: &[u8; 16]) -> Result<Vec<u8>, Sense> {
         (0x9e, 0x10) => ([&last.to_be_bytes()[..], &block, &[0; 20]].concat(), number(&cdb[10..14])),
         // TEST UNIT READY, and SYNCHRONIZE CACHE: the units have none.
         (0x00 | 0x35 | 0x91, _) => (Vec::new(), 0),
-        (0xa0, _) => (luns(unit), number(&cdb[6..10])),
+        (0xa0, _) => (luns(disk), number(&cdb[6..10])),
         (0xa3, 0x0c) => (supported_commands(cdb)?, number(&cdb[6..10])),
         _ => return Err(Sense::INVALID_OPCODE),
     };
@@ -210,9 +212,9 @@ fn answer(unit: &Unit, cdb: &[u8; 16]) -> Result<Vec<u8>, Sense> {
 
 /// The standard INQUIRY data of a disk with command queueing (SAM-5, SPC-4, SBC-3, iSCSI), or a page of vital product
 /// data.
-fn inquiry(unit: &Unit, cdb: &[u8; 16]) -> Result<Vec<u8>, Sense> {
+fn inquiry(disk: &Disk, cdb: &[u8; 16]) -> Result<Vec<u8>, Sense> {
     let page = cdb[2];
-    let serial = [b"RAM0000", &[b'0' + unit.number][..]].concat();
+    let serial = [b"RAM0000", &[b'0' + disk.number][..]].concat();
     let body = match (cdb[1] & 0x01, page) {
         (0, 0) => {
             let (head, text) = ([0x00, 0x00, 0x06, 0x02, 91, 0x00, 0x00, 0x02], b"CUNDARRXRAM unit        0001");
@@ -225,7 +227,7 @@ fn inquiry(unit: &Unit, cdb: &[u8; 16]) -> Result<Vec<u8>, Sense> {
         (1, 0xb0) => [&[0; 4], &(MOST_BLOCKS as u32).to_be_bytes()[..], &[0; 52]].concat(),
         // The names of the unit: one by its vendor, in ASCII, and one of NAA's locally assigned form.
         (1, 0x83) => {
-            let naa = [0x01, 0x03, 0x00, 8, 0x30, 0x00, 0x00, 0x00, 0xc0, 0xda, 0x00, unit.number];
+            let naa = [0x01, 0x03, 0x00, 8, 0x30, 0x00, 0x00, 0x00, 0xc0, 0xda, 0x00, disk.number];
             [&[0x02, 0x01, 0x00, 16], &b"CUNDARRX"[..], &serial, &naa].concat()
         }
         _ => return Err(Sense::INVALID_FIELD),
@@ -244,13 +246,13 @@ fn control_page(cdb: &[u8; 16]) -> Result<[u8; 12], Sense> {
 }
 
 /// The LUNs of all units.
-fn luns(unit: &Unit) -> Vec<u8> {
-    let mut data = (u64::from(unit.unit_count) << 35).to_be_bytes().to_vec();
-    data.extend((0..unit.unit_count).flat_map(|number| [0, number, 0, 0, 0, 0, 0, 0]));
+fn luns(disk: &Disk) -> Vec<u8> {
+    let mut data = (u64::from(disk.count) << 35).to_be_bytes().to_vec();
+    data.extend((0..disk.count).flat_map(|number| [0, number, 0, 0, 0, 0, 0, 0]));
     data
 }
 
-/// The commands that the units know: the opcode and then, with the service action where there is one, the bits of the
+/// The commands that disks know: the opcode and then, with the service action where there is one, the bits of the
 /// CDB that are looked at.
 const COMMANDS: [&[u8]; 24] = [
     &[0x00, 0, 0, 0, 0, 0],

@@ -1,8 +1,6 @@
 //! What CDBs mean.
 
-use std::time::Duration;
-use target::scsi::{execute, read_length, wanted_length, Sense, PART};
-use target::unit::{Unit, BLOCK};
+use disk::{Disk, Sense, BLOCK, PART};
 
 fn cdb(bytes: &[u8]) -> [u8; 16] {
     let mut cdb = [0; 16];
@@ -10,13 +8,13 @@ fn cdb(bytes: &[u8]) -> [u8; 16] {
     cdb
 }
 
-fn unit() -> Unit {
-    Unit::in_memory(1, 4 * BLOCK, Duration::ZERO)
+fn unit() -> Disk {
+    Disk::in_memory(1, 4 * BLOCK)
 }
 
 /// What a command answers that ends well.
-fn answered(unit: &Unit, bytes: &[u8]) -> Vec<u8> {
-    let outcome = execute(unit, &cdb(bytes), &[]);
+fn answered(unit: &Disk, bytes: &[u8]) -> Vec<u8> {
+    let outcome = unit.execute(&cdb(bytes), &[]);
     assert_eq!((outcome.status, outcome.sense), (0, None), "{bytes:x?}");
     outcome.data.concat()
 }
@@ -25,11 +23,11 @@ fn answered(unit: &Unit, bytes: &[u8]) -> Vec<u8> {
 fn what_was_written_is_read() {
     let unit = unit();
     let write = cdb(&[0x2a, 0, 0, 0, 0, 2, 0, 0, 1, 0]);
-    assert_eq!((wanted_length(&unit, &write), read_length(&unit, &write)), (BLOCK, 0));
-    assert_eq!(execute(&unit, &write, &[vec![9; BLOCK]]).status, 0);
+    assert_eq!((unit.wanted_length(&write), unit.read_length(&write)), (BLOCK, 0));
+    assert_eq!(unit.execute(&write, &[vec![9; BLOCK]]).status, 0);
     let read = cdb(&[0x88, 0, 0, 0, 0, 0, 0, 0, 0, 1, 0, 0, 0, 2]);
-    assert_eq!((wanted_length(&unit, &read), read_length(&unit, &read)), (0, 2 * BLOCK));
-    let outcome = execute(&unit, &read, &[]);
+    assert_eq!((unit.wanted_length(&read), unit.read_length(&read)), (0, 2 * BLOCK));
+    let outcome = unit.execute(&read, &[]);
     assert_eq!((outcome.length, outcome.data.concat()), (2 * BLOCK, [[0; BLOCK], [9; BLOCK]].concat()));
     assert_eq!(answered(&unit, &[0x08, 0, 0, 2, 1, 0]), [9; BLOCK]);
 }
@@ -38,21 +36,21 @@ fn what_was_written_is_read() {
 fn data_is_written_by_whole_blocks_wherever_it_is_parted() {
     let unit = unit();
     let write = cdb(&[0x8a, 0, 0, 0, 0, 0, 0, 0, 0, 0, 0, 0, 0, 3]);
-    assert_eq!(execute(&unit, &write, &[vec![1; 700], vec![2; 300], vec![3; 200]]).status, 0);
+    assert_eq!(unit.execute(&write, &[vec![1; 700], vec![2; 300], vec![3; 200]]).status, 0);
     let is = answered(&unit, &[0x28, 0, 0, 0, 0, 0, 0, 0, 4, 0]);
     assert_eq!(is, [&[1; 700][..], &[2; 300], &[3; 24], &[0; 2 * BLOCK]].concat());
     // More than the CDB says isn't written.
-    assert_eq!(execute(&unit, &cdb(&[0x2a, 0, 0, 0, 0, 0, 0, 0, 1, 0]), &[vec![7; 700], vec![7; 700]]).status, 0);
+    assert_eq!(unit.execute(&cdb(&[0x2a, 0, 0, 0, 0, 0, 0, 0, 1, 0]), &[vec![7; 700], vec![7; 700]]).status, 0);
     assert_eq!(answered(&unit, &[0x28, 0, 0, 0, 0, 1, 0, 0, 1, 0])[..188], [1; 188]);
 }
 
 #[test]
 fn what_is_read_lies_in_parts() {
-    let unit = Unit::in_memory(0, 2 * PART, Duration::ZERO);
-    unit.write(PART, &[5; 4]).expect("it is written");
-    let outcome = execute(&unit, &cdb(&[0x28, 0, 0, 0, 0, 1, 0, 2, 0, 0]), &[]);
+    let unit = Disk::in_memory(0, 2 * PART);
+    assert_eq!(unit.execute(&cdb(&[0x2a, 0, 0, 0, 2, 0, 0, 0, 1, 0]), &[vec![5; BLOCK]]).status, 0);
+    let outcome = unit.execute(&cdb(&[0x28, 0, 0, 0, 0, 1, 0, 2, 0, 0]), &[]);
     assert_eq!(outcome.data.iter().map(Vec::len).collect::<Vec<_>>(), [PART]);
-    let outcome = execute(&unit, &cdb(&[0x28, 0, 0, 0, 0, 1, 0, 2, 1, 0]), &[]);
+    let outcome = unit.execute(&cdb(&[0x28, 0, 0, 0, 0, 1, 0, 2, 1, 0]), &[]);
     assert_eq!(outcome.data.iter().map(Vec::len).collect::<Vec<_>>(), [PART, BLOCK]);
     assert_eq!(outcome.part(PART - BLOCK, 4), [5; 4]);
     assert_eq!(outcome.part(PART, BLOCK), [0; BLOCK]);
@@ -66,36 +64,39 @@ fn verify_compares_where_it_is_asked_to() {
     for (verify, of_blocks) in [(0x2f, 8), (0xaf, 9), (0x8f, 13)] {
         let mut bytes = [verify, 0x02, 0, 0, 0, 0, 0, 0, 0, 0, 0, 0, 0, 0, 0, 0];
         bytes[of_blocks] = 2;
-        assert_eq!(wanted_length(&unit, &bytes), 2 * BLOCK);
-        assert_eq!(execute(&unit, &bytes, &same).status, 0);
-        assert_eq!(execute(&unit, &bytes, &other).sense, Some(Sense::MISCOMPARE));
+        assert_eq!(unit.wanted_length(&bytes), 2 * BLOCK);
+        assert_eq!(unit.execute(&bytes, &same).status, 0);
+        assert_eq!(unit.execute(&bytes, &other).sense, Some(Sense::MISCOMPARE));
         bytes[1] = 0;
-        assert_eq!((wanted_length(&unit, &bytes), execute(&unit, &bytes, &[]).status), (0, 0));
+        assert_eq!((unit.wanted_length(&bytes), unit.execute(&bytes, &[]).status), (0, 0));
         bytes[1] = 0x06;
-        assert_eq!(execute(&unit, &bytes, &same).sense, Some(Sense::INVALID_FIELD));
+        assert_eq!(unit.execute(&bytes, &same).sense, Some(Sense::INVALID_FIELD));
         bytes[of_blocks] = 5;
-        assert_eq!(execute(&unit, &bytes, &same).sense, Some(Sense::OUT_OF_RANGE));
+        assert_eq!(unit.execute(&bytes, &same).sense, Some(Sense::OUT_OF_RANGE));
     }
 }
 
 #[test]
 fn write_and_verify_writes() {
     let unit = unit();
-    assert_eq!(execute(&unit, &cdb(&[0x2e, 0x02, 0, 0, 0, 1, 0, 0, 1, 0]), &[vec![6; BLOCK]]).status, 0);
+    assert_eq!(unit.execute(&cdb(&[0x2e, 0x02, 0, 0, 0, 1, 0, 0, 1, 0]), &[vec![6; BLOCK]]).status, 0);
     assert_eq!(answered(&unit, &[0x28, 0, 0, 0, 0, 1, 0, 0, 1, 0]), [6; BLOCK]);
 }
 
 #[test]
 fn a_unit_on_a_file_keeps_what_is_written() {
     let path = std::env::temp_dir().join(format!("cundarrix-unit-{}", std::process::id()));
-    let open = || Unit::on_disk(2, &path, 8 * BLOCK, Duration::ZERO).expect("a file");
+    let open = || Disk::on_file(2, &path, 8 * BLOCK).expect("a file");
     let write = cdb(&[0x2a, 0, 0, 0, 0, 3, 0, 0, 1, 0]);
-    assert_eq!(execute(&open(), &write, &[vec![8; BLOCK]]).status, 0);
-    assert_eq!((open().block_count(), answered(&open(), &[0x28, 0, 0, 0, 0, 3, 0, 0, 1, 0])), (8, vec![8; BLOCK]));
+    assert_eq!(open().execute(&write, &[vec![8; BLOCK]]).status, 0);
+    assert_eq!(
+        (answered(&open(), &[0x25])[..4].to_vec(), answered(&open(), &[0x28, 0, 0, 0, 0, 3, 0, 0, 1, 0])),
+        (vec![0, 0, 0, 7], vec![8; BLOCK])
+    );
     // What is cut off meanwhile can't be read.
     let unit = open();
     std::fs::File::create(&path).expect("a file");
-    assert_eq!(execute(&unit, &cdb(&[0x28, 0, 0, 0, 0, 3, 0, 0, 1, 0]), &[]).sense, Some(Sense::READ_ERROR));
+    assert_eq!(unit.execute(&cdb(&[0x28, 0, 0, 0, 0, 3, 0, 0, 1, 0]), &[]).sense, Some(Sense::READ_ERROR));
     std::fs::remove_file(&path).expect("it is there");
 }
 
@@ -120,7 +121,7 @@ fn supported_commands_are_reported() {
         let one = answered(&unit, &[0xa3, 0x0c, option, descriptor[0], 0, descriptor[3], 0, 0, 0, 255]);
         assert_eq!((one[1], one[3], one[4]), (3, descriptor[7], descriptor[0]));
         assert_eq!(one.len() - 4, usize::from(descriptor[7]));
-        let known = execute(&unit, &cdb(&[descriptor[0], descriptor[3]]), &[]);
+        let known = unit.execute(&cdb(&[descriptor[0], descriptor[3]]), &[]);
         assert_ne!(known.sense, Some(Sense::INVALID_OPCODE), "{descriptor:x?}");
     }
     assert_eq!(answered(&unit, &[0xa3, 0x0c, 1, 0xff, 0, 0, 0, 0, 0, 255]), [0, 1, 0, 0]);
@@ -128,7 +129,7 @@ fn supported_commands_are_reported() {
     let timed = answered(&unit, &[0xa3, 0x0c, 0x80, 0, 0, 0, 0, 0, 255, 255]);
     assert_eq!(timed.len() - 4, (all.len() - 4) / 8 * 20);
     for wrong in [[0x9e, 1], [0x28, 2], [0, 4]] {
-        let outcome = execute(&unit, &cdb(&[0xa3, 0x0c, wrong[1], wrong[0], 0, 0, 0, 0, 0, 255]), &[]);
+        let outcome = unit.execute(&cdb(&[0xa3, 0x0c, wrong[1], wrong[0], 0, 0, 0, 0, 0, 255]), &[]);
         assert_eq!(outcome.sense, Some(Sense::INVALID_FIELD), "{wrong:x?}");
     }
 }
@@ -140,16 +141,16 @@ fn blocks_outside_the_unit_are_refused() {
         &[0x28, 0, 0, 0, 0, 4, 0, 0, 0, 0],
         &[0x88, 0, 255, 255, 255, 255, 255, 255, 255, 255, 255, 255, 255, 255],
     ] {
-        assert_eq!(execute(&unit(), &cdb(bytes), &[]).sense, Some(Sense::OUT_OF_RANGE), "{bytes:x?}");
+        assert_eq!(unit().execute(&cdb(bytes), &[]).sense, Some(Sense::OUT_OF_RANGE), "{bytes:x?}");
     }
 }
 
 #[test]
 fn what_is_unknown_is_refused() {
-    assert_eq!(execute(&unit(), &cdb(&[0xff]), &[]).sense, Some(Sense::INVALID_OPCODE));
-    assert_eq!(execute(&unit(), &cdb(&[0x28, 0x20]), &[]).sense, Some(Sense::INVALID_FIELD));
-    assert_eq!(execute(&unit(), &cdb(&[0x12, 1, 0x55, 0, 255]), &[]).sense, Some(Sense::INVALID_FIELD));
-    assert_eq!(execute(&unit(), &cdb(&[0x1a, 0, 0xff, 0, 255]), &[]).sense, Some(Sense::INVALID_FIELD));
+    assert_eq!(unit().execute(&cdb(&[0xff]), &[]).sense, Some(Sense::INVALID_OPCODE));
+    assert_eq!(unit().execute(&cdb(&[0x28, 0x20]), &[]).sense, Some(Sense::INVALID_FIELD));
+    assert_eq!(unit().execute(&cdb(&[0x12, 1, 0x55, 0, 255]), &[]).sense, Some(Sense::INVALID_FIELD));
+    assert_eq!(unit().execute(&cdb(&[0x1a, 0, 0xff, 0, 255]), &[]).sense, Some(Sense::INVALID_FIELD));
 }
 
 #[test]
@@ -157,5 +158,5 @@ fn answers_are_cut_to_their_allocation_length() {
     assert_eq!(answered(&unit(), &[0x12, 0, 0, 0, 36]).len(), 36);
     assert_eq!(answered(&unit(), &[0x12, 0, 0, 0, 5]).len(), 5);
     assert_eq!(answered(&unit(), &[0x12, 1, 0x83, 0, 20]).len(), 20);
-    assert!(execute(&unit(), &cdb(&[0x12]), &[]).data.is_empty());
+    assert!(unit().execute(&cdb(&[0x12]), &[]).data.is_empty());
 }
