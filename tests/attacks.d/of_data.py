@@ -169,7 +169,7 @@ def unfinished_writes(victim):
             raise Wrong("WRITEs of another session aren't answered meanwhile")
         if max(seen) > MOST_OF_DATA:
             raise Wrong(f"{max(seen):.0f} MiB more are resident")
-        if not feed_all(sessions, True, lambda _: all(one.is_over() for one in sessions), 30, look):
+        if not feed_all(sessions, True, lambda _: all(one.is_over() for one in sessions), 60, look):
             raise Wrong("the WRITEs aren't answered once their data comes")
         for session in sessions:
             for tag in session.tags:

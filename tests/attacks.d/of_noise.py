@@ -116,5 +116,5 @@ def flood(victim):
         for flooder in flooders:
             flooder.peer.drop()
         other.log_out()
-    if slowest > 1 or most > MOST_OF_FLOOD:
+    if slowest > 2 or most > MOST_OF_FLOOD:
         raise Wrong(f"another session waits for {slowest:.1f} s, and {most:.0f} MiB more are resident")

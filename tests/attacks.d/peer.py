@@ -88,6 +88,8 @@ def words_of(status):
 class Peer(Session):
     """A session in its Full Feature Phase. `None` as the value of a key leaves it out."""
 
+    part = 1 << 16
+
     def __init__(self, port, cids=(1,), receives=0, isid=None, **keys):
         self.port, self.isid, self.tsih = port, isid or new_isid(), bytes(2)
         self.keys = {**KEYS, "MaxConnections": "8" if len(cids) > 1 else "1", **keys}
