@@ -119,10 +119,6 @@ pub struct Connection {
 }
 
 impl Connection {
-    pub fn new(cid: u16, longest_data: usize, stream: Arc<TcpStream>) -> Connection {
-        Connection { cid, longest_data, stream, changed: Condvar::new() }
-    }
-
     /// Closes the socket both ways: a thread that reads or writes there is at its end.
     pub fn shut_down(&self) {
         // Where the initiator has closed it already, there is nothing left to close.

@@ -8,7 +8,7 @@ use crate::Target;
 use cundarrix::Numbers;
 use std::io::{Read, Write};
 use std::net::TcpStream;
-use std::sync::Arc;
+use std::sync::{Arc, Condvar};
 use std::time::Instant;
 
 /// Byte 1: the T and C bits, the stage and the next one.
@@ -103,10 +103,7 @@ impl Login<'_> {
         }
         // A text that goes on in another request isn't taken.
         let is_odd = next.is_some_and(|next| next <= stage || ![OPERATIONAL, FULL_FEATURE].contains(&next));
-        if stage > OPERATIONAL || is_odd || flags & CONTINUE != 0 {
-            return Err(Refused::InvalidRequest);
-        }
-        if request.data.len() > LONGEST_TEXT {
+        if stage > OPERATIONAL || is_odd || flags & CONTINUE != 0 || request.data.len() > LONGEST_TEXT {
             return Err(Refused::InvalidRequest);
         }
         let answers = self.negotiate(stage, &request.data)?;
@@ -144,8 +141,8 @@ impl Login<'_> {
             _ if self.keys.is_discovery => return Err(Refused::SessionType),
             _ => self.target.session_of(&self.keys, isid, tsih).ok_or(Refused::NoSession)?,
         };
-        let connection =
-            Connection::new(request.short(place::CID), self.keys.longest_data as usize, self.stream.clone());
+        let (cid, longest_data) = (request.short(place::CID), self.keys.longest_data as usize);
+        let connection = Connection { cid, longest_data, stream: self.stream.clone(), changed: Condvar::new() };
         let (connection, stat_sn) = (Arc::new(connection), response.number(place::STAT_SN) + 1);
         response.set_numbers(session.attach(&connection, stat_sn).ok_or(Refused::NotIncluded)?);
         response.0[place::TSIH..][..2].copy_from_slice(&session.tsih.to_be_bytes());

@@ -104,7 +104,7 @@ impl Session {
     pub fn attach(self: &Arc<Session>, connection: &Arc<Connection>, stat_sn: u32) -> Option<Numbers> {
         self.with(|state| {
             let has_room = !state.is_over && state.connections.len() < self.keys.connections as usize;
-            (has_room && state.join(connection, stat_sn)).then(|| state.library.numbers())
+            (has_room && state.join(connection, stat_sn).is_ok()).then(|| state.library.numbers())
         })
     }
 
@@ -115,12 +115,13 @@ impl Session {
         if self.keys.is_discovery && !is_talk {
             return Err("a discovery session is for Text and Logout alone".into());
         }
+        let mut state = lock(&self.state);
+        state.change(cid, |attached| (attached.is_taking, attached.was_heard) = (true, true));
         if header.opcode() == opcode::DATA_OUT {
-            self.with(|state| state.take_data(self, cid, &pdu));
+            state.take_data(self, cid, &pdu);
+            self.let_go(state);
             return Ok(());
         }
-        let mut state = lock(&self.state);
-        state.hear(cid);
         let cookie = state.keep(self, connection, pdu)?;
         loop {
             let taken = state.call(|library, tell| library.arrive(cid, &header.0, cookie, tell));
@@ -149,13 +150,11 @@ impl Session {
         self.let_go(state);
         self.write(connection, false);
         let mut state = lock(&self.state);
-        state.change(cid, |attached| attached.is_held_back = true);
         state.waiters += 1;
         let is_busy = |state: &mut State| !state.library.may_take() && !state.is_broken(cid);
         let waited = self.changed.wait_while(state, is_busy);
         let mut state = waited.unwrap_or_else(PoisonError::into_inner);
         state.waiters -= 1;
-        state.change(cid, |attached| attached.is_held_back = false);
         state
     }
 
@@ -178,7 +177,7 @@ impl Session {
             state = lock(&self.state);
             is_answered = state.finish(self, job, outcome);
         }
-        self.target.trace.write(job, begin, end, is_answered, &self.target.log);
+        self.target.trace.write(job, begin, end, is_answered);
         state
     }
 

@@ -20,12 +20,6 @@ pub const UNWRITTEN: u32 = 32;
 /// Transfer tags from here on are the library's, for its pings.
 const FIRST_PING: u32 = 0x8000_0000;
 
-/// More data than the window's commands bring may be kept for so many of them.
-const SPARE_REQUESTS: u32 = 16;
-
-/// The cookie of what the target puts by itself: pings. Those of requests count from 1.
-const NO_REQUEST: u64 = 0;
-
 pub struct State {
     pub library: cundarrix::Session,
     pub connections: HashMap<u16, Attached>,
@@ -58,8 +52,6 @@ pub struct Attached {
     is_writing: bool,
     /// Its reader will write what there is, before it waits for more requests.
     pub is_taking: bool,
-    /// Its reader waits until the session takes more requests.
-    pub is_held_back: bool,
     /// Its writer waits for something to write.
     pub is_idle: bool,
     /// What was handed out for it, and isn't written yet.
@@ -72,7 +64,7 @@ pub struct Attached {
     is_broken: bool,
     /// When its clock strikes next, whether something arrived since it did, and since when a ping is unanswered.
     next_strike: Instant,
-    was_heard: bool,
+    pub was_heard: bool,
     asked: Option<Instant>,
 }
 
@@ -83,7 +75,6 @@ impl Attached {
             is_told: true,
             is_writing: false,
             is_taking: false,
-            is_held_back: false,
             is_idle: false,
             unwritten: None,
             putting: VecDeque::new(),
@@ -143,7 +134,7 @@ impl State {
             requests: HashMap::new(),
             actions: VecDeque::new(),
             jobs: VecDeque::new(),
-            last_cookie: NO_REQUEST,
+            last_cookie: 0,
             attentions: HashMap::new(),
             arrived: 0,
             moving: 0,
@@ -204,14 +195,11 @@ impl State {
         }
     }
 
-    /// A connection joins, whose next StatSN is this. Whether it may.
-    pub fn join(&mut self, connection: &Arc<Connection>, stat_sn: u32) -> bool {
-        let cid = connection.cid;
-        let has_joined = self.call(|library, tell| library.join(cid, stat_sn, tell)).is_ok();
-        if has_joined {
-            self.connections.insert(cid, Attached::new(connection.clone()));
-        }
-        has_joined
+    /// A connection joins, whose next StatSN is this.
+    pub fn join(&mut self, connection: &Arc<Connection>, stat_sn: u32) -> Result<(), Refusal> {
+        self.call(|library, tell| library.join(connection.cid, stat_sn, tell))?;
+        self.connections.insert(connection.cid, Attached::new(connection.clone()));
+        Ok(())
     }
 
     /// The transport of a connection is given up. Its threads end, and then it is lost.
@@ -261,7 +249,7 @@ impl State {
             return;
         };
         attached.next_strike = Instant::now() + patience / 2;
-        let was_heard = std::mem::take(&mut attached.was_heard) || attached.is_held_back;
+        let was_heard = std::mem::take(&mut attached.was_heard);
         if was_heard && !is_asked {
             attached.asked = None;
         } else if attached.asked.is_some_and(|since| since.elapsed() >= patience) {
@@ -272,17 +260,13 @@ impl State {
             if !is_asked && !session.keys.is_discovery {
                 let mut header = Header::new(opcode::NOP_IN, FINAL, NO_TAG);
                 header.set(place::TRANSFER_TAG, FIRST_PING - 1);
-                let _ = self.call(|library, tell| library.put(cid, &header.0, NO_REQUEST, tell));
+                // Its cookie is that of no request: these count from 1.
+                let _ = self.call(|library, tell| library.put(cid, &header.0, 0, tell));
             }
         }
     }
 
     // ---- requests
-
-    /// A PDU arrived on a connection, whose reader is about to take it.
-    pub fn hear(&mut self, cid: u16) {
-        self.change(cid, |attached| (attached.is_taking, attached.was_heard) = (true, true));
-    }
 
     /// Keeps a request that arrived, and gives its cookie. Data that nothing comes of isn't kept, and more than the
     /// window lets come isn't borne.
@@ -299,7 +283,8 @@ impl State {
             pdu.data.shrink_to_fit();
         }
         let arrived = pdu.data.len();
-        if self.arrived + arrived > (session.target.options.window + SPARE_REQUESTS) as usize * FIRST_BURST as usize {
+        // For each place of the window, and for some immediate commands.
+        if self.arrived + arrived > (session.target.options.window + 16) as usize * FIRST_BURST as usize {
             return Err("the initiator sends more data ahead than there is room for".into());
         }
         self.arrived += arrived;
@@ -357,7 +342,8 @@ impl State {
         }
     }
 
-    /// Asks for the data that a command needs next, or gives it to its unit once all is there.
+    /// Asks for the data that a command needs next, ahead of all data that goes out, or gives it to its unit once all is
+    /// there.
     fn advance(&mut self, session: &Arc<Session>, cookie: u64) {
         let Some(kept) = self.requests.get_mut(&cookie) else {
             return;
@@ -365,7 +351,10 @@ impl State {
         let (ticket, header, transfer_tag) = (kept.ticket, kept.pdu.header, cookie as u32 % FIRST_PING);
         kept.r2t = kept.transfer.ask(&header, transfer_tag, session.keys.max_burst as usize);
         if kept.r2t.is_some() {
-            return self.begin_to_put(cookie);
+            let cid = kept.cid;
+            self.change(cid, |attached| attached.putting.push_front(cookie));
+            self.put(cid);
+            return;
         }
         if let Some(unit) = kept.unit.clone() {
             let data = std::mem::take(&mut kept.transfer).data();
@@ -379,7 +368,6 @@ impl State {
 
     /// A Data-Out arrived. What is for no command any more is discarded.
     pub fn take_data(&mut self, session: &Arc<Session>, cid: u16, pdu: &Pdu) {
-        self.hear(cid);
         let _ = self.call(|library, tell| library.heard(cid, &pdu.header.0, tell));
         let transfer_tag = pdu.header.number(place::TRANSFER_TAG);
         // The transfer tag is the lower part of the cookie, and no older request with the same one is kept.
@@ -454,21 +442,13 @@ impl State {
         let Some(kept) = self.requests.get_mut(&cookie) else {
             return;
         };
-        let longest_data = self.connections.get(&kept.cid).map_or(0, |attached| attached.connection.longest_data);
-        kept.data_ins = DataIns::new(&kept.pdu.header, outcome.data_length(), &session.keys, longest_data);
+        let cid = kept.cid;
+        if let Some(attached) = self.connections.get_mut(&cid) {
+            let (header, longest_data) = (&kept.pdu.header, attached.connection.longest_data);
+            kept.data_ins = DataIns::new(header, outcome.data_length(), &session.keys, longest_data);
+            attached.putting.push_back(cookie);
+        }
         kept.outcome = Some(Arc::new(outcome));
-        self.begin_to_put(cookie);
-    }
-
-    /// A command has something to put. What asks for data doesn't wait for what brings some.
-    fn begin_to_put(&mut self, cookie: u64) {
-        let Some((cid, is_r2t)) = self.requests.get(&cookie).map(|kept| (kept.cid, kept.r2t.is_some())) else {
-            return;
-        };
-        self.change(cid, |attached| match is_r2t {
-            true => attached.putting.push_front(cookie),
-            false => attached.putting.push_back(cookie),
-        });
         self.put(cid);
     }
 
@@ -547,14 +527,15 @@ impl State {
         let kept = handed.cookie().and_then(|cookie| self.requests.get_mut(&cookie));
         match (handed.kind(), kept) {
             (PduKind::Own, Some(Kept { outcome: Some(outcome), .. })) if pdu.header.opcode() == opcode::DATA_IN => {
-                return Outgoing::part(pdu.header, outcome.clone());
+                return Outgoing { pdu, outcome: Some(outcome.clone()) };
             }
             (PduKind::Reply, Some(kept)) => {
                 session.complete_reply(&mut pdu, &mut kept.pdu, kept.outcome.as_deref(), connection.longest_data);
             }
             _ => {}
         }
-        Outgoing::whole(pdu)
+        pdu.header.set_length(pdu.data.len());
+        Outgoing { pdu, outcome: None }
     }
 
     /// A thread has written on a connection. Whether the socket took all that it was given.
