@@ -6,9 +6,6 @@ use std::collections::VecDeque;
 use std::io::{self, ErrorKind, IoSlice, Write};
 use std::sync::Arc;
 
-/// The bytes that pad a data segment.
-const PADDING: [u8; 3] = [0; 3];
-
 /// A PDU on its way out. The data of a Data-In is a part of what its command has come to.
 pub struct Outgoing {
     pub pdu: Pdu,
@@ -22,7 +19,7 @@ impl Outgoing {
             Some(outcome) => outcome.part(header.number(place::OFFSET) as usize, header.length()),
             None => data,
         };
-        let padding = &PADDING[..data.len().next_multiple_of(4) - data.len()];
+        let padding = &[0; 3][..data.len().next_multiple_of(4) - data.len()];
         [IoSlice::new(&header.0), IoSlice::new(data), IoSlice::new(padding)]
     }
 

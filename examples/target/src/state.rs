@@ -5,14 +5,15 @@ use crate::connection::{Connection, Fault};
 use crate::keys::FIRST_BURST;
 use crate::outgoing::{Batch, Outgoing};
 use crate::pdu::{opcode, place, Header, Pdu, FINAL, NO_TAG, WRITE};
-use crate::session::{Clearing, Errand, Session};
+use crate::session::{Clearing, Session};
 use crate::unit::{Job, Unit};
 use cundarrix::{Action, Clearing as Function, PduKind, Refusal};
 use disk::{Outcome, Sense, MOST_BYTES};
 use std::collections::{HashMap, VecDeque};
 use std::io;
-use std::sync::Arc;
-use std::time::{Duration, Instant};
+use std::net::Shutdown;
+use std::sync::{Arc, Weak};
+use std::time::Instant;
 
 /// The most PDUs that are written together.
 pub const UNWRITTEN: u32 = 32;
@@ -37,59 +38,39 @@ pub struct State {
     moving: usize,
     /// Commands that were started, and wait until others have moved their data; and how much each of them moves.
     waiting: VecDeque<(u64, usize)>,
-    /// How many threads wait for the session.
+    /// How many threads wait for the session; and no connection joins any more.
     pub waiters: u32,
-    /// No connection joins any more.
     pub is_over: bool,
 }
 
 /// A connection that joined and wasn't lost yet.
+#[derive(Default)]
 pub struct Attached {
-    connection: Arc<Connection>,
-    /// The library may have something for it, or nothing any more.
+    connection: Weak<Connection>,
+    /// The library may have something for it, or nothing any more; and a thread writes there.
     is_told: bool,
-    /// A thread writes there.
     is_writing: bool,
-    /// Its reader will write what there is, before it waits for more requests.
+    /// Its reader will write what there is, before it waits for more requests; and its writer waits.
     pub is_taking: bool,
-    /// Its writer waits for something to write.
     pub is_idle: bool,
     /// What was handed out for it, and isn't written yet.
     unwritten: Option<Batch>,
     /// Commands that have something to put into the library's queue.
     putting: VecDeque<u64>,
-    /// A Logout closed it.
+    /// A Logout closed it; and its transport broke, or is given up.
     pub is_closed: bool,
-    /// Its transport broke, or is given up.
     is_broken: bool,
     /// When its clock strikes next, whether something arrived since it did, and since when a ping is unanswered.
-    next_strike: Instant,
+    pub next_strike: Option<Instant>,
     pub was_heard: bool,
     asked: Option<Instant>,
 }
 
 impl Attached {
-    fn new(connection: Arc<Connection>) -> Attached {
-        Attached {
-            connection,
-            is_told: true,
-            is_writing: false,
-            is_taking: false,
-            is_idle: false,
-            unwritten: None,
-            putting: VecDeque::new(),
-            is_closed: false,
-            is_broken: false,
-            next_strike: Instant::now(),
-            was_heard: true,
-            asked: None,
-        }
-    }
-
     /// Wakes the writer, if it waits. To wake nobody is a call of the system, too.
     fn wake(&self) {
-        if self.is_idle {
-            self.connection.changed.notify_one();
+        if let Some(connection) = self.connection.upgrade().filter(|_| self.is_idle) {
+            connection.changed.notify_one();
         }
     }
 }
@@ -115,7 +96,7 @@ struct Kept {
 }
 
 /// How far the unit of a command has come.
-#[derive(Clone, Copy, Debug, Default, PartialEq, Eq)]
+#[derive(Default, PartialEq, Eq)]
 pub enum Work {
     #[default]
     NotBegun,
@@ -171,7 +152,8 @@ impl State {
                         self.attentions.insert(unit, Sense::RESET);
                     }
                     // The other sessions are told without this one's lock.
-                    session.target.errands.push(Errand::Reset(session.clone(), unit, function));
+                    let session = session.clone();
+                    session.target.clone().errands.push(Box::new(move || Clearing::run(session, unit, function)));
                 }
             }
         }
@@ -187,8 +169,6 @@ impl State {
         });
     }
 
-    // ---- connections
-
     pub fn change(&mut self, cid: u16, change: impl FnOnce(&mut Attached)) {
         if let Some(attached) = self.connections.get_mut(&cid) {
             change(attached);
@@ -198,15 +178,18 @@ impl State {
     /// A connection joins, whose next StatSN is this.
     pub fn join(&mut self, connection: &Arc<Connection>, stat_sn: u32) -> Result<(), Refusal> {
         self.call(|library, tell| library.join(connection.cid, stat_sn, tell))?;
-        self.connections.insert(connection.cid, Attached::new(connection.clone()));
+        let (connection, cid) = (Arc::downgrade(connection), connection.cid);
+        let attached = Attached { connection, is_told: true, was_heard: true, ..Attached::default() };
+        self.connections.insert(cid, attached);
         Ok(())
     }
 
-    /// The transport of a connection is given up. Its threads end, and then it is lost.
+    /// The transport of a connection is given up, both ways. Its threads end, and then it is lost.
     pub fn break_off(&mut self, cid: u16) {
         if let Some(attached) = self.connections.get_mut(&cid).filter(|attached| !attached.is_broken) {
             attached.is_broken = true;
-            attached.connection.shut_down();
+            // Where the initiator has closed it already, there is nothing left to close.
+            let _ = attached.connection.upgrade().map(|connection| connection.stream.shutdown(Shutdown::Both));
             attached.wake();
         }
     }
@@ -235,12 +218,6 @@ impl State {
         })
     }
 
-    /// How long it is until a connection's clock strikes.
-    pub fn time_left(&self, cid: u16) -> Duration {
-        let strike = self.connections.get(&cid).map(|attached| attached.next_strike);
-        strike.map_or(Duration::ZERO, |strike| strike.saturating_duration_since(Instant::now()))
-    }
-
     /// A connection's clock strikes: an initiator that was silent is asked. One that doesn't answer is given up.
     pub fn strike(&mut self, session: &Session, cid: u16) {
         let patience = session.target.options.ping;
@@ -248,7 +225,7 @@ impl State {
         let Some(attached) = self.connections.get_mut(&cid) else {
             return;
         };
-        attached.next_strike = Instant::now() + patience / 2;
+        attached.next_strike = Some(Instant::now() + patience / 2);
         let was_heard = std::mem::take(&mut attached.was_heard);
         if was_heard && !is_asked {
             attached.asked = None;
@@ -266,10 +243,7 @@ impl State {
         }
     }
 
-    // ---- requests
-
-    /// Keeps a request that arrived, and gives its cookie. Data that nothing comes of isn't kept, and more than the
-    /// window lets come isn't borne.
+    /// Keeps a request that arrived, without data that nothing comes of, and gives its cookie.
     pub fn keep(&mut self, session: &Session, connection: &Connection, mut pdu: Pdu) -> Result<u64, Fault> {
         let most = match pdu.header.opcode() {
             // One byte more than what may come tells that it is wrong.
@@ -279,8 +253,7 @@ impl State {
             _ => 0,
         };
         if pdu.data.len() > most {
-            pdu.data.truncate(most);
-            pdu.data.shrink_to_fit();
+            pdu.data = pdu.data[..most].to_vec();
         }
         let arrived = pdu.data.len();
         // For each place of the window, and for some immediate commands.
@@ -303,8 +276,7 @@ impl State {
     }
 
     fn start(&mut self, session: &Arc<Session>, ticket: u64, number: u16, cookie: u64) {
-        let unit = session.target.units.get(usize::from(number));
-        let (Some(unit), Some(kept)) = (unit, self.requests.get_mut(&cookie)) else {
+        let (unit, Some(kept)) = (&session.target.units[usize::from(number)], self.requests.get_mut(&cookie)) else {
             return;
         };
         (kept.ticket, kept.unit) = (ticket, Some(unit.clone()));
@@ -342,8 +314,7 @@ impl State {
         }
     }
 
-    /// Asks for the data that a command needs next, ahead of all data that goes out, or gives it to its unit once all is
-    /// there.
+    /// Asks for the data that a command needs next, ahead of what goes out; or gives it to its unit, once all is there.
     fn advance(&mut self, session: &Arc<Session>, cookie: u64) {
         let Some(kept) = self.requests.get_mut(&cookie) else {
             return;
@@ -361,7 +332,7 @@ impl State {
             let job = Job { session: session.clone(), ticket, cookie, unit: unit.clone(), header, data };
             match unit.is_instant() {
                 true => self.jobs.push_back(job),
-                false => unit.push(job),
+                false => unit.jobs.push(job),
             }
         }
     }
@@ -397,15 +368,9 @@ impl State {
         let _ = self.call(|library, tell| library.stopped(ticket, tell));
     }
 
-    /// How far the unit of a command has come, which has stopped if it isn't kept any more.
-    pub fn work(&self, cookie: u64) -> Work {
-        self.requests.get(&cookie).map_or(Work::Stopped, |kept| kept.work)
-    }
-
-    /// A unit begins to execute a command. Whether it may.
-    pub fn begin(&mut self, cookie: u64) -> bool {
-        let kept = self.requests.get_mut(&cookie).filter(|kept| kept.work == Work::NotBegun);
-        kept.map(|kept| kept.work = Work::Begun).is_some()
+    /// How far the unit of a command has come, unless the command was stopped before it began.
+    pub fn work(&mut self, cookie: u64) -> Option<&mut Work> {
+        self.requests.get_mut(&cookie).map(|kept| &mut kept.work).filter(|work| **work != Work::Stopped)
     }
 
     /// A unit has executed a command. Whether it is answered.
@@ -413,7 +378,7 @@ impl State {
         let Some(kept) = self.requests.get_mut(&job.cookie) else {
             return false;
         };
-        kept.clearings.drain(..).for_each(|clearing| session.target.errands.push(Errand::Cleared(clearing)));
+        kept.clearings.drain(..).for_each(|clearing| session.target.errands.push(Box::new(|| clearing.end())));
         let is_answered = kept.work == Work::Begun;
         kept.work = if is_answered { Work::Ended } else { Work::Stopped };
         if is_answered {
@@ -435,8 +400,6 @@ impl State {
         }
     }
 
-    // ---- what goes out
-
     /// A command is answered: what came of it is kept for the PDUs that tell it.
     fn conclude(&mut self, session: &Session, cookie: u64, outcome: Outcome) {
         let Some(kept) = self.requests.get_mut(&cookie) else {
@@ -444,8 +407,8 @@ impl State {
         };
         let cid = kept.cid;
         if let Some(attached) = self.connections.get_mut(&cid) {
-            let (header, longest_data) = (&kept.pdu.header, attached.connection.longest_data);
-            kept.data_ins = DataIns::new(header, outcome.data_length(), &session.keys, longest_data);
+            let longest_data = attached.connection.upgrade().map_or(0, |connection| connection.longest_data);
+            kept.data_ins = DataIns::new(&kept.pdu.header, outcome.data_length(), &session.keys, longest_data);
             attached.putting.push_back(cookie);
         }
         kept.outcome = Some(Arc::new(outcome));
@@ -468,28 +431,24 @@ impl State {
         had_room
     }
 
-    /// Puts the next PDU of a command; behind its last Data-In it is complete. `Full`: there is no room; any other
-    /// error: nothing more of it is put.
+    /// Puts the next PDU of a command, which is complete behind the last. With an error but `Full` nothing more follows.
     fn put_next(&mut self, cookie: u64) -> Result<(), Refusal> {
-        let live = self.requests.get(&cookie).filter(|kept| kept.work != Work::Stopped);
-        let kept = live.ok_or(Refusal::Gone)?;
+        let kept = self.requests.get(&cookie).filter(|kept| kept.work != Work::Stopped).ok_or(Refusal::Gone)?;
         let (ticket, header) = (kept.ticket, kept.r2t.or_else(|| kept.data_ins.peek()));
         let Some(header) = header else {
             let status = kept.outcome.as_ref().map(|outcome| outcome.status).ok_or(Refusal::Gone)?;
             return self.call(|library, tell| library.complete(ticket, status, tell)).and(Err(Refusal::Gone));
         };
         self.call(|library, tell| library.put_data(ticket, &header.0, tell))?;
-        if let Some(kept) = self.requests.get_mut(&cookie) {
-            match kept.r2t.take() {
-                Some(_) => {}
-                None => kept.data_ins.advance(),
+        if let Some(Kept { r2t, data_ins, .. }) = self.requests.get_mut(&cookie) {
+            if r2t.take().is_none() {
+                data_ins.advance();
             }
         }
         Ok(())
     }
 
-    /// What is to be written on a connection now, unless another thread writes there: what wasn't written yet, or else
-    /// what the library hands out. `None` where there is nothing.
+    /// What is to be written on a connection now, unless another thread writes there. `None` where there is nothing.
     pub fn take_batch(&mut self, session: &Arc<Session>, connection: &Connection, is_writer: bool) -> Option<Batch> {
         self.carry_out(session);
         let attached = self.connections.get_mut(&connection.cid)?;
