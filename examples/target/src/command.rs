@@ -4,10 +4,6 @@ use crate::keys::Keys;
 use crate::pdu::{opcode, place, Header, Pdu, FINAL, NO_TAG, READ, WRITE};
 use disk::{Outcome, Sense, PART};
 
-/// The residual's bits in byte 1 of a SCSI Response.
-const OVERFLOW: u8 = 0x04;
-const UNDERFLOW: u8 = 0x02;
-
 /// The Data-Ins of a command, one after the other. Their headers have no numbers of the session's yet.
 #[derive(Default)]
 pub struct DataIns {
@@ -63,8 +59,8 @@ pub fn complete_response(response: &mut Pdu, command: &Header, outcome: &Outcome
         true => ready,
         false => room,
     };
-    let (over, under) = (u8::from(outcome.length > expected), u8::from(outcome.length < expected));
-    response.header.0[1] |= (over * OVERFLOW) | (under * UNDERFLOW);
+    // The O bit and the U bit.
+    response.header.0[1] |= u8::from(outcome.length > expected) << 2 | u8::from(outcome.length < expected) << 1;
     response.header.set(place::RESIDUAL, outcome.length.abs_diff(expected) as u32);
     if let Some(sense) = outcome.sense {
         let data = sense.data();

@@ -7,16 +7,13 @@ use crate::session::Session;
 use crate::Target;
 use std::error::Error;
 use std::io::{self, BufReader, ErrorKind, Read};
-use std::net::{Shutdown, TcpStream};
+use std::net::TcpStream;
 use std::sync::{Arc, Condvar};
 use std::thread;
 use std::time::{Duration, Instant};
 
 /// So long a write waits for room in the socket. Then its thread looks at what else there is.
 const WRITE_TIME: Duration = Duration::from_millis(10);
-
-/// So many bytes of requests are read at once.
-const READ_LENGTH: usize = 1 << 16;
 
 /// Why a connection is closed by the target: its socket, the library's refusal, or what the initiator must not do.
 pub type Fault = Box<dyn Error + Send + Sync>;
@@ -26,7 +23,7 @@ pub fn serve(stream: &Arc<TcpStream>, target: &Arc<Target>) -> Result<(), Fault>
     stream.set_nodelay(true)?;
     stream.set_write_timeout(Some(WRITE_TIME))?;
     let until = Instant::now() + target.options.patience;
-    let mut requests = BufReader::with_capacity(READ_LENGTH, Incoming { stream, until: Some(until) });
+    let mut requests = BufReader::with_capacity(1 << 16, Incoming { stream, until: Some(until) });
     let Some(member) = login::log_in(&mut requests, stream, target, until)? else {
         return Ok(());
     };
@@ -35,7 +32,7 @@ pub fn serve(stream: &Arc<TcpStream>, target: &Arc<Target>) -> Result<(), Fault>
     thread::scope(|scope| {
         thread::Builder::new().spawn_scoped(scope, || member.write())?;
         let read = member.read(&mut requests);
-        member.session.break_off(member.connection.cid);
+        member.session.with(|state| state.break_off(member.connection.cid));
         read
     })
 }
@@ -65,8 +62,7 @@ impl Read for Incoming<'_> {
     }
 }
 
-/// A connection, and the session that it is part of. It is lost when this is dropped, once both of its threads have
-/// ended.
+/// A connection, and the session that it is part of. It is lost when this is dropped, behind both of its threads.
 pub struct Member {
     pub session: Arc<Session>,
     pub connection: Arc<Connection>,
@@ -86,8 +82,7 @@ impl Member {
         }
     }
 
-    /// Writes what the other thread doesn't, until nothing goes out any more or the socket has taken nothing for too
-    /// long, and then closes the socket.
+    /// Writes what the reader doesn't, until nothing goes out any more, or the socket has taken nothing for too long.
     fn write(&self) {
         let patience = self.session.target.options.patience;
         let mut moved = Instant::now();
@@ -98,7 +93,7 @@ impl Member {
                 break;
             }
         }
-        self.session.break_off(self.connection.cid);
+        self.session.with(|state| state.break_off(self.connection.cid));
     }
 }
 
@@ -116,16 +111,4 @@ pub struct Connection {
     pub stream: Arc<TcpStream>,
     /// Beside the lock of its session: there is something for the writer.
     pub changed: Condvar,
-}
-
-impl Connection {
-    pub fn new(cid: u16, longest_data: usize, stream: Arc<TcpStream>) -> Connection {
-        Connection { cid, longest_data, stream, changed: Condvar::new() }
-    }
-
-    /// Closes the socket both ways: a thread that reads or writes there is at its end.
-    pub fn shut_down(&self) {
-        // Where the initiator has closed it already, there is nothing left to close.
-        let _ = self.stream.shutdown(Shutdown::Both);
-    }
 }

@@ -3,29 +3,27 @@
 pub mod command;
 mod connection;
 pub mod keys;
-mod log;
 mod login;
 pub mod options;
 mod outgoing;
 pub mod pdu;
-mod queue;
 mod session;
 mod state;
+mod threads;
 mod trace;
 pub mod unit;
 
 use disk::Disk;
 use keys::Keys;
-use log::Log;
 use options::Options;
-use queue::Queue;
-use session::{Errand, Session};
+use session::Session;
 use std::collections::HashMap;
 use std::io::{self, ErrorKind, Write};
 use std::net::{TcpListener, TcpStream};
-use std::sync::{Arc, Condvar, Mutex, MutexGuard, PoisonError};
+use std::sync::{Arc, Mutex};
 use std::thread;
 use std::time::Duration;
+use threads::{lock, Log, Queue};
 use trace::Trace;
 use unit::Unit;
 
@@ -40,8 +38,8 @@ pub struct Target {
     options: Options,
     units: Vec<Arc<Unit>>,
     sessions: Mutex<Sessions>,
-    /// What sessions have each other do.
-    errands: Queue<Errand>,
+    /// What sessions have each other do. It isn't done by a thread that has a session's lock.
+    errands: Queue<Box<dyn FnOnce() + Send>>,
     trace: Trace,
     log: Log,
 }
@@ -59,12 +57,15 @@ pub fn run(options: Options) -> io::Result<()> {
     for unit in target.units.iter().filter(|unit| !unit.is_instant()) {
         for _ in 0..target.options.workers {
             let unit = unit.clone();
-            thread::Builder::new().spawn(move || unit.work())?;
+            thread::Builder::new().spawn(move || loop {
+                let job = unit.jobs.pop();
+                job.session.perform(&job);
+            })?;
         }
     }
     let errands = target.clone();
     thread::Builder::new().spawn(move || loop {
-        errands.errands.pop().run();
+        errands.errands.pop()();
     })?;
     // Whoever began the program needn't read what it says.
     let _ = writeln!(io::stdout(), "{} at {}, without authentication", target.options.name, listener.local_addr()?);
@@ -91,8 +92,7 @@ impl Target {
         let count = disks.len() as u8;
         disks.iter_mut().for_each(|disk| disk.count = count);
         let units = disks.into_iter().map(|disk| Arc::new(Unit::new(disk, options.delay))).collect();
-        let (sessions, errands) = (Mutex::default(), Queue::default());
-        Ok(Target { options, units, sessions, errands, trace, log: Log::default() })
+        Ok(Target { options, units, sessions: Mutex::default(), errands: Queue::new(), trace, log: Log::default() })
     }
 
     /// Serves a connection in a thread of its own. Where there is none, the connection is closed.
@@ -108,15 +108,8 @@ impl Target {
         }
     }
 
-    /// The session of an initiator's port, which is its name and the ISID, with this TSIH.
-    fn session_of(&self, keys: &Keys, isid: [u8; 6], tsih: u16) -> Option<Arc<Session>> {
-        let sessions = lock(&self.sessions);
-        sessions.by_tsih.get(&tsih).filter(|session| session.is_of(keys, isid)).cloned()
-    }
-
-    /// Adds the session that is opened for a new TSIH. Else the one that the initiator's port has already, which must
-    /// end first; none where there is no room, or the session can't be opened. All of it under one lock, so that a port
-    /// never has two.
+    /// Adds the session that is opened for a new TSIH. An error is the one that the initiator's port has already, or none
+    /// where there is no room. All of it under one lock, so that a port never has two.
     fn add(
         &self,
         keys: &Keys,
@@ -137,30 +130,4 @@ impl Target {
         sessions.by_tsih.insert(tsih, session.clone());
         Ok(session)
     }
-
-    /// Nothing is left of a session.
-    fn remove(&self, session: &Arc<Session>) {
-        lock(&self.sessions).by_tsih.retain(|_, known| !Arc::ptr_eq(known, session));
-    }
-
-    /// All sessions but one.
-    fn others(&self, session: &Arc<Session>) -> Vec<Arc<Session>> {
-        let sessions = lock(&self.sessions);
-        sessions.by_tsih.values().filter(|other| !Arc::ptr_eq(other, session)).cloned().collect()
-    }
-}
-
-/// Locks. A holder leaves no half-made state behind: a thread that panicked with one doesn't spoil it.
-fn lock<T>(mutex: &Mutex<T>) -> MutexGuard<'_, T> {
-    mutex.lock().unwrap_or_else(PoisonError::into_inner)
-}
-
-/// Waits until what is behind the lock has changed so that there is nothing to wait for, and so long at the most.
-fn wait_for<'a, T>(
-    guard: MutexGuard<'a, T>,
-    changed: &Condvar,
-    time: Duration,
-    waits: impl FnMut(&mut T) -> bool,
-) -> MutexGuard<'a, T> {
-    changed.wait_timeout_while(guard, time, waits).unwrap_or_else(PoisonError::into_inner).0
 }

@@ -4,11 +4,11 @@ use crate::connection::{Connection, Fault, Member};
 use crate::keys::{add_pair, Keys};
 use crate::pdu::{opcode, place, Header, Pdu, LONGEST_DATA};
 use crate::session::Session;
+use crate::threads::lock;
 use crate::Target;
-use cundarrix::Numbers;
 use std::io::{Read, Write};
 use std::net::TcpStream;
-use std::sync::Arc;
+use std::sync::{Arc, Condvar};
 use std::time::Instant;
 
 /// Byte 1: the T and C bits, the stage and the next one.
@@ -88,8 +88,8 @@ impl Login<'_> {
         header.0[8..16].copy_from_slice(&request.0[8..16]);
         header.set(place::STAT_SN, stat_sn);
         let exp_cmd_sn = request.number(place::CMD_SN);
-        let max_cmd_sn = exp_cmd_sn.wrapping_add(self.target.options.window - 1);
-        header.set_numbers(Numbers { exp_cmd_sn, max_cmd_sn });
+        header.set(place::EXP_CMD_SN, exp_cmd_sn);
+        header.set(place::MAX_CMD_SN, exp_cmd_sn.wrapping_add(self.target.options.window - 1));
         Pdu { header, data: Vec::new() }
     }
 
@@ -103,10 +103,7 @@ impl Login<'_> {
         }
         // A text that goes on in another request isn't taken.
         let is_odd = next.is_some_and(|next| next <= stage || ![OPERATIONAL, FULL_FEATURE].contains(&next));
-        if stage > OPERATIONAL || is_odd || flags & CONTINUE != 0 {
-            return Err(Refused::InvalidRequest);
-        }
-        if request.data.len() > LONGEST_TEXT {
+        if stage > OPERATIONAL || is_odd || flags & CONTINUE != 0 || request.data.len() > LONGEST_TEXT {
             return Err(Refused::InvalidRequest);
         }
         let answers = self.negotiate(stage, &request.data)?;
@@ -139,15 +136,18 @@ impl Login<'_> {
     /// the place of the one that the same initiator port has.
     fn join(&self, request: &Header, response: &mut Header) -> Result<Member, Refused> {
         let (tsih, isid) = (request.short(place::TSIH), request.part(place::ISID));
+        let known = |tsih| lock(&self.target.sessions).by_tsih.get(&tsih).cloned();
         let session = match tsih {
             0 => self.open(request, isid)?,
             _ if self.keys.is_discovery => return Err(Refused::SessionType),
-            _ => self.target.session_of(&self.keys, isid, tsih).ok_or(Refused::NoSession)?,
+            _ => known(tsih).filter(|session| session.is_of(&self.keys, isid)).ok_or(Refused::NoSession)?,
         };
-        let connection =
-            Connection::new(request.short(place::CID), self.keys.longest_data as usize, self.stream.clone());
+        let (cid, longest_data) = (request.short(place::CID), self.keys.longest_data as usize);
+        let connection = Connection { cid, longest_data, stream: self.stream.clone(), changed: Condvar::new() };
         let (connection, stat_sn) = (Arc::new(connection), response.number(place::STAT_SN) + 1);
-        response.set_numbers(session.attach(&connection, stat_sn).ok_or(Refused::NotIncluded)?);
+        let numbers = session.attach(&connection, stat_sn).ok_or(Refused::NotIncluded)?;
+        response.set(place::EXP_CMD_SN, numbers.exp_cmd_sn);
+        response.set(place::MAX_CMD_SN, numbers.max_cmd_sn);
         response.0[place::TSIH..][..2].copy_from_slice(&session.tsih.to_be_bytes());
         Ok(Member { session, connection })
     }

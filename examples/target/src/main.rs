@@ -5,14 +5,12 @@ use std::process::ExitCode;
 use target::options::{Options, HELP};
 
 fn main() -> ExitCode {
-    match run() {
-        Ok(()) => ExitCode::SUCCESS,
-        Err(why) => {
-            // Where the standard error is closed, the exit status says it alone.
-            let _ = writeln!(io::stderr(), "target: {why}");
-            ExitCode::FAILURE
-        }
-    }
+    let Err(why) = run() else {
+        return ExitCode::SUCCESS;
+    };
+    // Where the standard error is closed, the exit status says it alone.
+    let _ = writeln!(io::stderr(), "target: {why}");
+    ExitCode::FAILURE
 }
 
 fn run() -> Result<(), String> {

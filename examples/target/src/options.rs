@@ -8,9 +8,6 @@ target [--listen ADDRESS:PORT] [--size MIB] [--disk FILE] [--workers N] [--delay
        [--sessions N] [--patience SECONDS] [--ping SECONDS] [--trace FILE]
 ";
 
-/// The longest name that iSCSI has (RFC 7143 section 4.2.7.1).
-const LONGEST_NAME: usize = 223;
-
 #[derive(Debug, PartialEq, Eq)]
 pub struct Options {
     pub listen: String,
@@ -20,7 +17,6 @@ pub struct Options {
     pub delay: Duration,
     pub window: u32,
     pub name: String,
-    /// The most sessions.
     pub sessions: usize,
     /// So long a login may take, and so long a socket may take no byte.
     pub patience: Duration,
@@ -77,8 +73,8 @@ fn number(word: &str, value: &str, least: u32, most: u32) -> Result<u32, String>
     number.ok_or_else(|| format!("{word} takes {least} to {most}"))
 }
 
-/// A name as it may stand in a text: without blanks, and no longer than names are.
+/// A name as it may stand in a text, and no longer than names are (RFC 7143 section 4.2.7.1).
 fn name(value: String) -> Result<String, String> {
-    let is_fit = (1..=LONGEST_NAME).contains(&value.len()) && value.bytes().all(|byte| byte.is_ascii_graphic());
-    is_fit.then_some(value).ok_or_else(|| format!("--name takes 1 to {LONGEST_NAME} letters without blanks"))
+    let is_fit = (1..=223).contains(&value.len()) && value.bytes().all(|byte| byte.is_ascii_graphic());
+    is_fit.then_some(value).ok_or("--name takes 1 to 223 letters without blanks".to_string())
 }

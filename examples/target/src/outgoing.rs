@@ -1,53 +1,30 @@
 //! PDUs on their way out: many of them with one call of the system.
 
-use crate::pdu::{place, Header, Pdu};
+use crate::pdu::{place, Pdu};
 use disk::Outcome;
 use std::collections::VecDeque;
 use std::io::{self, ErrorKind, IoSlice, Write};
 use std::sync::Arc;
 
-/// The bytes that pad a data segment.
-const PADDING: [u8; 3] = [0; 3];
-
-/// A PDU on its way out, with its data where it lies.
+/// A PDU on its way out. The data of a Data-In is a part of what its command has come to.
 pub struct Outgoing {
-    header: Header,
-    data: Data,
-}
-
-enum Data {
-    Own(Vec<u8>),
-    /// That of a Data-In, by its buffer offset.
-    Part(Arc<Outcome>),
+    pub pdu: Pdu,
+    pub outcome: Option<Arc<Outcome>>,
 }
 
 impl Outgoing {
-    pub fn whole(pdu: Pdu) -> Outgoing {
-        let Pdu { mut header, data } = pdu;
-        header.set_length(data.len());
-        Outgoing { header, data: Data::Own(data) }
-    }
-
-    /// A Data-In.
-    pub fn part(header: Header, outcome: Arc<Outcome>) -> Outgoing {
-        Outgoing { header, data: Data::Part(outcome) }
-    }
-
-    fn data(&self) -> &[u8] {
-        match &self.data {
-            Data::Own(data) => data,
-            Data::Part(outcome) => outcome.part(self.header.number(place::OFFSET) as usize, self.header.length()),
-        }
-    }
-
     fn slices(&self) -> [IoSlice<'_>; 3] {
-        let data = self.data();
-        let padding = &PADDING[..data.len().next_multiple_of(4) - data.len()];
-        [IoSlice::new(&self.header.0), IoSlice::new(data), IoSlice::new(padding)]
+        let Pdu { header, data } = &self.pdu;
+        let data = match &self.outcome {
+            Some(outcome) => outcome.part(header.number(place::OFFSET) as usize, header.length()),
+            None => data,
+        };
+        let padding = &[0; 3][..data.len().next_multiple_of(4) - data.len()];
+        [IoSlice::new(&header.0), IoSlice::new(data), IoSlice::new(padding)]
     }
 
     fn length(&self) -> usize {
-        self.header.0.len() + self.header.length().next_multiple_of(4)
+        self.pdu.header.0.len() + self.pdu.header.length().next_multiple_of(4)
     }
 }
 

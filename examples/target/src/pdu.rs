@@ -114,11 +114,6 @@ impl Header {
     pub fn short(&self, at: usize) -> u16 {
         u16::from_be_bytes(self.part(at))
     }
-
-    pub fn set_numbers(&mut self, numbers: cundarrix::Numbers) {
-        self.set(place::EXP_CMD_SN, numbers.exp_cmd_sn);
-        self.set(place::MAX_CMD_SN, numbers.max_cmd_sn);
-    }
 }
 
 /// A PDU: its header, and its data segment without the bytes that pad it.

@@ -1,30 +1,27 @@
-//! A session in its Full Feature Phase: the library decides, and this carries out.
-//!
-//! Which request executes when, what starts, what stops, and which PDU goes out when with which numbers comes from the
-//! library alone. The target's own part is the data of commands (immediate data, Data-Out, R2T and Data-In), what its
-//! units answer, and four things that it puts into the library's replies (`complete_reply`).
+//! A session in its Full Feature Phase. Which request executes when, what starts, what stops, and which PDU goes out when
+//! with which numbers comes from the library alone. The target's own part is the data of commands, what its units
+//! answer, and four things that it puts into the library's replies (`complete_reply`).
 
 use crate::command::complete_response;
 use crate::connection::{Connection, Fault};
 use crate::keys::{add_pair, pairs, Keys};
 use crate::pdu::{opcode, place, Header, Pdu, FINAL, NO_TAG};
 use crate::state::{State, Work, UNWRITTEN};
+use crate::threads::{lock, wait_for};
 use crate::trace::now;
 use crate::unit::Job;
-use crate::{lock, wait_for, Target};
+use crate::Target;
 use cundarrix::{Clearing as Function, Numbers, Options, Refusal};
 use disk::{Outcome, Sense};
 use std::sync::{Arc, Condvar, Mutex, MutexGuard, PoisonError};
-use std::time::Instant;
+use std::time::{Duration, Instant};
 
 /// A session's connections are fixed when the library opens it. One that may have several is opened with the CID of the
 /// first one and so many of 0, 1, 2 .. that there are 16, and a connection that joins has one of these.
 const MOST_CONNECTIONS: usize = 16;
 
-/// The most commands of a unit's task set.
+/// The most commands of a unit's task set; and the most R2Ts, Data-Ins and pings that wait on a connection.
 const DEPTH: u32 = 256;
-
-/// The most R2Ts, Data-Ins and pings that wait on a connection.
 const MOST_OWN: u32 = 64;
 
 pub struct Session {
@@ -41,33 +38,26 @@ pub struct Session {
     pub stopped: Condvar,
 }
 
-/// What a session has the others do. It isn't done by a thread that has a session's lock.
-pub enum Errand {
-    /// It reset or cleared a unit.
-    Reset(Arc<Session>, u16, Function),
-    /// A command of another one has stopped, for which a reset waits.
-    Cleared(Arc<Clearing>),
-}
-
 /// A reset of a unit: each command of another session that it waits for has this, too.
 pub struct Clearing {
     session: Arc<Session>,
     unit: u16,
 }
 
-impl Errand {
-    pub fn run(self) {
-        let clearing = match self {
-            Errand::Reset(session, unit, function) => {
-                let sense = if function == Function::ClearTaskSet { Sense::CLEARED } else { Sense::RESET };
-                let (others, clearing) = (session.target.others(&session), Arc::new(Clearing { session, unit }));
-                others.iter().for_each(|other| other.with(|state| state.clear(unit, sense, &clearing)));
-                clearing
-            }
-            Errand::Cleared(clearing) => clearing,
-        };
-        // The last one of them says that nothing is waited for any more.
-        if let Some(Clearing { session, unit }) = Arc::into_inner(clearing) {
+impl Clearing {
+    /// Has all other sessions clear a unit.
+    pub fn run(session: Arc<Session>, unit: u16, function: Function) {
+        let sense = if function == Function::ClearTaskSet { Sense::CLEARED } else { Sense::RESET };
+        let mut others: Vec<_> = lock(&session.target.sessions).by_tsih.values().cloned().collect();
+        others.retain(|other| !Arc::ptr_eq(other, &session));
+        let clearing = Arc::new(Clearing { session, unit });
+        others.iter().for_each(|other| other.with(|state| state.clear(unit, sense, &clearing)));
+        clearing.end();
+    }
+
+    /// One has done so, or a command has stopped. The last one says that nothing is waited for any more.
+    pub fn end(self: Arc<Clearing>) {
+        if let Some(Clearing { session, unit }) = Arc::into_inner(self) {
             let _ = session.with(|state| state.call(|library, tell| library.cleared(unit, tell)));
         }
     }
@@ -104,23 +94,23 @@ impl Session {
     pub fn attach(self: &Arc<Session>, connection: &Arc<Connection>, stat_sn: u32) -> Option<Numbers> {
         self.with(|state| {
             let has_room = !state.is_over && state.connections.len() < self.keys.connections as usize;
-            (has_room && state.join(connection, stat_sn)).then(|| state.library.numbers())
+            (has_room && state.join(connection, stat_sn).is_ok()).then(|| state.library.numbers())
         })
     }
 
     /// A PDU arrived. It waits while the library can't take it.
     pub fn take(self: &Arc<Session>, connection: &Arc<Connection>, pdu: Pdu) -> Result<(), Fault> {
         let (cid, header) = (connection.cid, pdu.header);
-        let is_talk = [opcode::NOP_OUT, opcode::TEXT, opcode::LOGOUT].contains(&header.opcode());
-        if self.keys.is_discovery && !is_talk {
+        if self.keys.is_discovery && ![opcode::NOP_OUT, opcode::TEXT, opcode::LOGOUT].contains(&header.opcode()) {
             return Err("a discovery session is for Text and Logout alone".into());
         }
+        let mut state = lock(&self.state);
+        state.change(cid, |attached| (attached.is_taking, attached.was_heard) = (true, true));
         if header.opcode() == opcode::DATA_OUT {
-            self.with(|state| state.take_data(self, cid, &pdu));
+            state.take_data(self, cid, &pdu);
+            self.let_go(state);
             return Ok(());
         }
-        let mut state = lock(&self.state);
-        state.hear(cid);
         let cookie = state.keep(self, connection, pdu)?;
         loop {
             let taken = state.call(|library, tell| library.arrive(cid, &header.0, cookie, tell));
@@ -136,8 +126,7 @@ impl Session {
         }
     }
 
-    /// The library can't take a request: what goes out on its connection may be what all wait for, and what the request
-    /// acknowledges.
+    /// The library can't take a request. What it acknowledges, and what goes out, may be what all wait for.
     fn wait_for_room<'a>(
         self: &'a Arc<Session>,
         mut state: MutexGuard<'a, State>,
@@ -149,13 +138,10 @@ impl Session {
         self.let_go(state);
         self.write(connection, false);
         let mut state = lock(&self.state);
-        state.change(cid, |attached| attached.is_held_back = true);
         state.waiters += 1;
         let is_busy = |state: &mut State| !state.library.may_take() && !state.is_broken(cid);
-        let waited = self.changed.wait_while(state, is_busy);
-        let mut state = waited.unwrap_or_else(PoisonError::into_inner);
+        let mut state = self.changed.wait_while(state, is_busy).unwrap_or_else(PoisonError::into_inner);
         state.waiters -= 1;
-        state.change(cid, |attached| attached.is_held_back = false);
         state
     }
 
@@ -168,27 +154,28 @@ impl Session {
     fn execute<'a>(self: &'a Arc<Session>, mut state: MutexGuard<'a, State>, job: &Job) -> MutexGuard<'a, State> {
         let (begin, delay) = (now(), job.unit.delay_before());
         if !delay.is_zero() {
-            state = wait_for(state, &self.stopped, delay, |state| state.work(job.cookie) == Work::NotBegun);
+            state = wait_for(state, &self.stopped, delay, |state| state.work(job.cookie).is_some());
         }
         let (mut end, mut is_answered) = (begin, false);
-        if state.begin(job.cookie) {
+        if let Some(work) = state.work(job.cookie) {
+            *work = Work::Begun;
             drop(state);
             let outcome = job.execute();
             end = now();
             state = lock(&self.state);
             is_answered = state.finish(self, job, outcome);
         }
-        self.target.trace.write(job, begin, end, is_answered, &self.target.log);
+        self.target.trace.write(job, begin, end, is_answered);
         state
     }
 
-    /// Waits until there is something for the writer of a connection, and has its clock strike meanwhile. Whether the
-    /// connection goes on.
+    /// Waits for something to write on a connection, whose clock strikes meanwhile. Whether it goes on.
     pub fn await_turn(self: &Arc<Session>, connection: &Connection) -> bool {
         let cid = connection.cid;
         let mut state = lock(&self.state);
         loop {
-            let left = state.time_left(cid);
+            let strike = state.connections.get(&cid).and_then(|attached| attached.next_strike);
+            let left = strike.map_or(Duration::ZERO, |strike| strike.saturating_duration_since(Instant::now()));
             if left.is_zero() {
                 state.strike(self, cid);
                 state.carry_out(self);
@@ -205,8 +192,7 @@ impl Session {
         goes_on
     }
 
-    /// Writes what there is for a connection: its writer does, or its reader, before it waits for more. Whether the
-    /// socket took something.
+    /// Its writer, or its reader, writes what there is for a connection. Whether the socket took something.
     pub fn write(self: &Arc<Session>, connection: &Connection, is_writer: bool) -> bool {
         let (cid, mut written) = (connection.cid, Ok(1));
         let mut state = lock(&self.state);
@@ -221,11 +207,6 @@ impl Session {
         }
         self.let_go(state);
         !matches!(written, Ok(0))
-    }
-
-    /// A connection's reader is at its end: what is still to be written there isn't.
-    pub fn break_off(self: &Arc<Session>, cid: u16) {
-        self.with(|state| state.break_off(cid));
     }
 
     /// A connection is gone, with its threads. Where that wasn't by a Logout, the session ends with it, as it does
@@ -252,7 +233,7 @@ impl Session {
     }
 
     /// Makes calls under the lock, and does what comes of them.
-    fn with<T>(self: &Arc<Session>, act: impl FnOnce(&mut State) -> T) -> T {
+    pub fn with<T>(self: &Arc<Session>, act: impl FnOnce(&mut State) -> T) -> T {
         let mut state = lock(&self.state);
         let done = act(&mut state);
         self.let_go(state);
@@ -269,7 +250,7 @@ impl Session {
             state = self.execute(state, &job);
         }
         if state.is_left() {
-            self.target.remove(self);
+            lock(&self.target.sessions).by_tsih.retain(|_, known| !Arc::ptr_eq(known, self));
         }
         if state.waiters > 0 {
             self.changed.notify_all();
@@ -299,11 +280,10 @@ impl Session {
         }
     }
 
-    /// The answer to a text of one PDU. `None` where it is longer, or no text: it is rejected then, as is one whose
-    /// answer is longer.
+    /// The answer to a text of one PDU. `None` where it is longer, or no text: it is rejected then.
     fn text_answer(&self, header: &Header, text: &[u8]) -> Option<Vec<u8>> {
-        const CONTINUES: u8 = 0x40;
-        if !header.is_final() || header.0[1] & CONTINUES != 0 {
+        // The F bit, and not the C bit.
+        if header.0[1] & 0xc0 != FINAL {
             return None;
         }
         let mut answer = Vec::new();

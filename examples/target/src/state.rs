@@ -5,26 +5,21 @@ use crate::connection::{Connection, Fault};
 use crate::keys::FIRST_BURST;
 use crate::outgoing::{Batch, Outgoing};
 use crate::pdu::{opcode, place, Header, Pdu, FINAL, NO_TAG, WRITE};
-use crate::session::{Clearing, Errand, Session};
+use crate::session::{Clearing, Session};
 use crate::unit::{Job, Unit};
 use cundarrix::{Action, Clearing as Function, PduKind, Refusal};
 use disk::{Outcome, Sense, MOST_BYTES};
 use std::collections::{HashMap, VecDeque};
 use std::io;
-use std::sync::Arc;
-use std::time::{Duration, Instant};
+use std::net::Shutdown;
+use std::sync::{Arc, Weak};
+use std::time::Instant;
 
 /// The most PDUs that are written together.
 pub const UNWRITTEN: u32 = 32;
 
 /// Transfer tags from here on are the library's, for its pings.
 const FIRST_PING: u32 = 0x8000_0000;
-
-/// More data than the window's commands bring may be kept for so many of them.
-const SPARE_REQUESTS: u32 = 16;
-
-/// The cookie of what the target puts by itself: pings. Those of requests count from 1.
-const NO_REQUEST: u64 = 0;
 
 pub struct State {
     pub library: cundarrix::Session,
@@ -43,62 +38,39 @@ pub struct State {
     moving: usize,
     /// Commands that were started, and wait until others have moved their data; and how much each of them moves.
     waiting: VecDeque<(u64, usize)>,
-    /// How many threads wait for the session.
+    /// How many threads wait for the session; and no connection joins any more.
     pub waiters: u32,
-    /// No connection joins any more.
     pub is_over: bool,
 }
 
 /// A connection that joined and wasn't lost yet.
+#[derive(Default)]
 pub struct Attached {
-    connection: Arc<Connection>,
-    /// The library may have something for it, or nothing any more.
+    connection: Weak<Connection>,
+    /// The library may have something for it, or nothing any more; and a thread writes there.
     is_told: bool,
-    /// A thread writes there.
     is_writing: bool,
-    /// Its reader will write what there is, before it waits for more requests.
+    /// Its reader will write what there is, before it waits for more requests; and its writer waits.
     pub is_taking: bool,
-    /// Its reader waits until the session takes more requests.
-    pub is_held_back: bool,
-    /// Its writer waits for something to write.
     pub is_idle: bool,
     /// What was handed out for it, and isn't written yet.
     unwritten: Option<Batch>,
     /// Commands that have something to put into the library's queue.
     putting: VecDeque<u64>,
-    /// A Logout closed it.
+    /// A Logout closed it; and its transport broke, or is given up.
     pub is_closed: bool,
-    /// Its transport broke, or is given up.
     is_broken: bool,
     /// When its clock strikes next, whether something arrived since it did, and since when a ping is unanswered.
-    next_strike: Instant,
-    was_heard: bool,
+    pub next_strike: Option<Instant>,
+    pub was_heard: bool,
     asked: Option<Instant>,
 }
 
 impl Attached {
-    fn new(connection: Arc<Connection>) -> Attached {
-        Attached {
-            connection,
-            is_told: true,
-            is_writing: false,
-            is_taking: false,
-            is_held_back: false,
-            is_idle: false,
-            unwritten: None,
-            putting: VecDeque::new(),
-            is_closed: false,
-            is_broken: false,
-            next_strike: Instant::now(),
-            was_heard: true,
-            asked: None,
-        }
-    }
-
     /// Wakes the writer, if it waits. To wake nobody is a call of the system, too.
     fn wake(&self) {
-        if self.is_idle {
-            self.connection.changed.notify_one();
+        if let Some(connection) = self.connection.upgrade().filter(|_| self.is_idle) {
+            connection.changed.notify_one();
         }
     }
 }
@@ -124,7 +96,7 @@ struct Kept {
 }
 
 /// How far the unit of a command has come.
-#[derive(Clone, Copy, Debug, Default, PartialEq, Eq)]
+#[derive(Default, PartialEq, Eq)]
 pub enum Work {
     #[default]
     NotBegun,
@@ -143,7 +115,7 @@ impl State {
             requests: HashMap::new(),
             actions: VecDeque::new(),
             jobs: VecDeque::new(),
-            last_cookie: NO_REQUEST,
+            last_cookie: 0,
             attentions: HashMap::new(),
             arrived: 0,
             moving: 0,
@@ -180,7 +152,8 @@ impl State {
                         self.attentions.insert(unit, Sense::RESET);
                     }
                     // The other sessions are told without this one's lock.
-                    session.target.errands.push(Errand::Reset(session.clone(), unit, function));
+                    let session = session.clone();
+                    session.target.clone().errands.push(Box::new(move || Clearing::run(session, unit, function)));
                 }
             }
         }
@@ -196,29 +169,27 @@ impl State {
         });
     }
 
-    // ---- connections
-
     pub fn change(&mut self, cid: u16, change: impl FnOnce(&mut Attached)) {
         if let Some(attached) = self.connections.get_mut(&cid) {
             change(attached);
         }
     }
 
-    /// A connection joins, whose next StatSN is this. Whether it may.
-    pub fn join(&mut self, connection: &Arc<Connection>, stat_sn: u32) -> bool {
-        let cid = connection.cid;
-        let has_joined = self.call(|library, tell| library.join(cid, stat_sn, tell)).is_ok();
-        if has_joined {
-            self.connections.insert(cid, Attached::new(connection.clone()));
-        }
-        has_joined
+    /// A connection joins, whose next StatSN is this.
+    pub fn join(&mut self, connection: &Arc<Connection>, stat_sn: u32) -> Result<(), Refusal> {
+        self.call(|library, tell| library.join(connection.cid, stat_sn, tell))?;
+        let (connection, cid) = (Arc::downgrade(connection), connection.cid);
+        let attached = Attached { connection, is_told: true, was_heard: true, ..Attached::default() };
+        self.connections.insert(cid, attached);
+        Ok(())
     }
 
-    /// The transport of a connection is given up. Its threads end, and then it is lost.
+    /// The transport of a connection is given up, both ways. Its threads end, and then it is lost.
     pub fn break_off(&mut self, cid: u16) {
         if let Some(attached) = self.connections.get_mut(&cid).filter(|attached| !attached.is_broken) {
             attached.is_broken = true;
-            attached.connection.shut_down();
+            // Where the initiator has closed it already, there is nothing left to close.
+            let _ = attached.connection.upgrade().map(|connection| connection.stream.shutdown(Shutdown::Both));
             attached.wake();
         }
     }
@@ -247,12 +218,6 @@ impl State {
         })
     }
 
-    /// How long it is until a connection's clock strikes.
-    pub fn time_left(&self, cid: u16) -> Duration {
-        let strike = self.connections.get(&cid).map(|attached| attached.next_strike);
-        strike.map_or(Duration::ZERO, |strike| strike.saturating_duration_since(Instant::now()))
-    }
-
     /// A connection's clock strikes: an initiator that was silent is asked. One that doesn't answer is given up.
     pub fn strike(&mut self, session: &Session, cid: u16) {
         let patience = session.target.options.ping;
@@ -260,8 +225,8 @@ impl State {
         let Some(attached) = self.connections.get_mut(&cid) else {
             return;
         };
-        attached.next_strike = Instant::now() + patience / 2;
-        let was_heard = std::mem::take(&mut attached.was_heard) || attached.is_held_back;
+        attached.next_strike = Some(Instant::now() + patience / 2);
+        let was_heard = std::mem::take(&mut attached.was_heard);
         if was_heard && !is_asked {
             attached.asked = None;
         } else if attached.asked.is_some_and(|since| since.elapsed() >= patience) {
@@ -272,20 +237,13 @@ impl State {
             if !is_asked && !session.keys.is_discovery {
                 let mut header = Header::new(opcode::NOP_IN, FINAL, NO_TAG);
                 header.set(place::TRANSFER_TAG, FIRST_PING - 1);
-                let _ = self.call(|library, tell| library.put(cid, &header.0, NO_REQUEST, tell));
+                // Its cookie is that of no request: these count from 1.
+                let _ = self.call(|library, tell| library.put(cid, &header.0, 0, tell));
             }
         }
     }
 
-    // ---- requests
-
-    /// A PDU arrived on a connection, whose reader is about to take it.
-    pub fn hear(&mut self, cid: u16) {
-        self.change(cid, |attached| (attached.is_taking, attached.was_heard) = (true, true));
-    }
-
-    /// Keeps a request that arrived, and gives its cookie. Data that nothing comes of isn't kept, and more than the
-    /// window lets come isn't borne.
+    /// Keeps a request that arrived, without data that nothing comes of, and gives its cookie.
     pub fn keep(&mut self, session: &Session, connection: &Connection, mut pdu: Pdu) -> Result<u64, Fault> {
         let most = match pdu.header.opcode() {
             // One byte more than what may come tells that it is wrong.
@@ -295,11 +253,11 @@ impl State {
             _ => 0,
         };
         if pdu.data.len() > most {
-            pdu.data.truncate(most);
-            pdu.data.shrink_to_fit();
+            pdu.data = pdu.data[..most].to_vec();
         }
         let arrived = pdu.data.len();
-        if self.arrived + arrived > (session.target.options.window + SPARE_REQUESTS) as usize * FIRST_BURST as usize {
+        // For each place of the window, and for some immediate commands.
+        if self.arrived + arrived > (session.target.options.window + 16) as usize * FIRST_BURST as usize {
             return Err("the initiator sends more data ahead than there is room for".into());
         }
         self.arrived += arrived;
@@ -318,8 +276,7 @@ impl State {
     }
 
     fn start(&mut self, session: &Arc<Session>, ticket: u64, number: u16, cookie: u64) {
-        let unit = session.target.units.get(usize::from(number));
-        let (Some(unit), Some(kept)) = (unit, self.requests.get_mut(&cookie)) else {
+        let (unit, Some(kept)) = (&session.target.units[usize::from(number)], self.requests.get_mut(&cookie)) else {
             return;
         };
         (kept.ticket, kept.unit) = (ticket, Some(unit.clone()));
@@ -357,7 +314,7 @@ impl State {
         }
     }
 
-    /// Asks for the data that a command needs next, or gives it to its unit once all is there.
+    /// Asks for the data that a command needs next, ahead of what goes out; or gives it to its unit, once all is there.
     fn advance(&mut self, session: &Arc<Session>, cookie: u64) {
         let Some(kept) = self.requests.get_mut(&cookie) else {
             return;
@@ -365,21 +322,23 @@ impl State {
         let (ticket, header, transfer_tag) = (kept.ticket, kept.pdu.header, cookie as u32 % FIRST_PING);
         kept.r2t = kept.transfer.ask(&header, transfer_tag, session.keys.max_burst as usize);
         if kept.r2t.is_some() {
-            return self.begin_to_put(cookie);
+            let cid = kept.cid;
+            self.change(cid, |attached| attached.putting.push_front(cookie));
+            self.put(cid);
+            return;
         }
         if let Some(unit) = kept.unit.clone() {
             let data = std::mem::take(&mut kept.transfer).data();
             let job = Job { session: session.clone(), ticket, cookie, unit: unit.clone(), header, data };
             match unit.is_instant() {
                 true => self.jobs.push_back(job),
-                false => unit.push(job),
+                false => unit.jobs.push(job),
             }
         }
     }
 
     /// A Data-Out arrived. What is for no command any more is discarded.
     pub fn take_data(&mut self, session: &Arc<Session>, cid: u16, pdu: &Pdu) {
-        self.hear(cid);
         let _ = self.call(|library, tell| library.heard(cid, &pdu.header.0, tell));
         let transfer_tag = pdu.header.number(place::TRANSFER_TAG);
         // The transfer tag is the lower part of the cookie, and no older request with the same one is kept.
@@ -409,15 +368,9 @@ impl State {
         let _ = self.call(|library, tell| library.stopped(ticket, tell));
     }
 
-    /// How far the unit of a command has come, which has stopped if it isn't kept any more.
-    pub fn work(&self, cookie: u64) -> Work {
-        self.requests.get(&cookie).map_or(Work::Stopped, |kept| kept.work)
-    }
-
-    /// A unit begins to execute a command. Whether it may.
-    pub fn begin(&mut self, cookie: u64) -> bool {
-        let kept = self.requests.get_mut(&cookie).filter(|kept| kept.work == Work::NotBegun);
-        kept.map(|kept| kept.work = Work::Begun).is_some()
+    /// How far the unit of a command has come, unless the command was stopped before it began.
+    pub fn work(&mut self, cookie: u64) -> Option<&mut Work> {
+        self.requests.get_mut(&cookie).map(|kept| &mut kept.work).filter(|work| **work != Work::Stopped)
     }
 
     /// A unit has executed a command. Whether it is answered.
@@ -425,7 +378,7 @@ impl State {
         let Some(kept) = self.requests.get_mut(&job.cookie) else {
             return false;
         };
-        kept.clearings.drain(..).for_each(|clearing| session.target.errands.push(Errand::Cleared(clearing)));
+        kept.clearings.drain(..).for_each(|clearing| session.target.errands.push(Box::new(|| clearing.end())));
         let is_answered = kept.work == Work::Begun;
         kept.work = if is_answered { Work::Ended } else { Work::Stopped };
         if is_answered {
@@ -447,28 +400,18 @@ impl State {
         }
     }
 
-    // ---- what goes out
-
     /// A command is answered: what came of it is kept for the PDUs that tell it.
     fn conclude(&mut self, session: &Session, cookie: u64, outcome: Outcome) {
         let Some(kept) = self.requests.get_mut(&cookie) else {
             return;
         };
-        let longest_data = self.connections.get(&kept.cid).map_or(0, |attached| attached.connection.longest_data);
-        kept.data_ins = DataIns::new(&kept.pdu.header, outcome.data_length(), &session.keys, longest_data);
+        let cid = kept.cid;
+        if let Some(attached) = self.connections.get_mut(&cid) {
+            let longest_data = attached.connection.upgrade().map_or(0, |connection| connection.longest_data);
+            kept.data_ins = DataIns::new(&kept.pdu.header, outcome.data_length(), &session.keys, longest_data);
+            attached.putting.push_back(cookie);
+        }
         kept.outcome = Some(Arc::new(outcome));
-        self.begin_to_put(cookie);
-    }
-
-    /// A command has something to put. What asks for data doesn't wait for what brings some.
-    fn begin_to_put(&mut self, cookie: u64) {
-        let Some((cid, is_r2t)) = self.requests.get(&cookie).map(|kept| (kept.cid, kept.r2t.is_some())) else {
-            return;
-        };
-        self.change(cid, |attached| match is_r2t {
-            true => attached.putting.push_front(cookie),
-            false => attached.putting.push_back(cookie),
-        });
         self.put(cid);
     }
 
@@ -488,28 +431,24 @@ impl State {
         had_room
     }
 
-    /// Puts the next PDU of a command; behind its last Data-In it is complete. `Full`: there is no room; any other
-    /// error: nothing more of it is put.
+    /// Puts the next PDU of a command, which is complete behind the last. With an error but `Full` nothing more follows.
     fn put_next(&mut self, cookie: u64) -> Result<(), Refusal> {
-        let live = self.requests.get(&cookie).filter(|kept| kept.work != Work::Stopped);
-        let kept = live.ok_or(Refusal::Gone)?;
+        let kept = self.requests.get(&cookie).filter(|kept| kept.work != Work::Stopped).ok_or(Refusal::Gone)?;
         let (ticket, header) = (kept.ticket, kept.r2t.or_else(|| kept.data_ins.peek()));
         let Some(header) = header else {
             let status = kept.outcome.as_ref().map(|outcome| outcome.status).ok_or(Refusal::Gone)?;
             return self.call(|library, tell| library.complete(ticket, status, tell)).and(Err(Refusal::Gone));
         };
         self.call(|library, tell| library.put_data(ticket, &header.0, tell))?;
-        if let Some(kept) = self.requests.get_mut(&cookie) {
-            match kept.r2t.take() {
-                Some(_) => {}
-                None => kept.data_ins.advance(),
+        if let Some(Kept { r2t, data_ins, .. }) = self.requests.get_mut(&cookie) {
+            if r2t.take().is_none() {
+                data_ins.advance();
             }
         }
         Ok(())
     }
 
-    /// What is to be written on a connection now, unless another thread writes there: what wasn't written yet, or else
-    /// what the library hands out. `None` where there is nothing.
+    /// What is to be written on a connection now, unless another thread writes there. `None` where there is nothing.
     pub fn take_batch(&mut self, session: &Arc<Session>, connection: &Connection, is_writer: bool) -> Option<Batch> {
         self.carry_out(session);
         let attached = self.connections.get_mut(&connection.cid)?;
@@ -547,14 +486,15 @@ impl State {
         let kept = handed.cookie().and_then(|cookie| self.requests.get_mut(&cookie));
         match (handed.kind(), kept) {
             (PduKind::Own, Some(Kept { outcome: Some(outcome), .. })) if pdu.header.opcode() == opcode::DATA_IN => {
-                return Outgoing::part(pdu.header, outcome.clone());
+                return Outgoing { pdu, outcome: Some(outcome.clone()) };
             }
             (PduKind::Reply, Some(kept)) => {
                 session.complete_reply(&mut pdu, &mut kept.pdu, kept.outcome.as_deref(), connection.longest_data);
             }
             _ => {}
         }
-        Outgoing::whole(pdu)
+        pdu.header.set_length(pdu.data.len());
+        Outgoing { pdu, outcome: None }
     }
 
     /// A thread has written on a connection. Whether the socket took all that it was given.

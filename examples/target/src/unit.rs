@@ -1,8 +1,8 @@
-//! The logical units: disks, and threads that work on the commands that are enabled.
+//! The logical units: disks, and commands that are enabled.
 
 use crate::pdu::{place, Header};
-use crate::queue::Queue;
 use crate::session::Session;
+use crate::threads::Queue;
 use disk::{Disk, Outcome, Sense};
 use std::sync::Arc;
 use std::thread;
@@ -12,7 +12,6 @@ use std::time::Duration;
 pub struct Job {
     pub session: Arc<Session>,
     pub ticket: u64,
-    /// Under which its request is kept.
     pub cookie: u64,
     pub unit: Arc<Unit>,
     pub header: Header,
@@ -23,30 +22,18 @@ pub struct Unit {
     pub disk: Disk,
     /// How much longer each command takes.
     delay: Duration,
-    jobs: Queue<Job>,
+    /// The commands that are enabled.
+    pub jobs: Queue<Job>,
 }
 
 impl Unit {
     pub fn new(disk: Disk, delay: Duration) -> Unit {
-        Unit { disk, delay, jobs: Queue::default() }
+        Unit { disk, delay, jobs: Queue::new() }
     }
 
     /// Whether a command takes no time but that of a copy: then the thread that may execute it does, and no worker.
     pub fn is_instant(&self) -> bool {
         self.disk.is_in_memory() && self.delay.is_zero()
-    }
-
-    /// Gives the unit a command that is enabled.
-    pub fn push(&self, job: Job) {
-        self.jobs.push(job);
-    }
-
-    /// Works on one command after another, for ever.
-    pub fn work(&self) {
-        loop {
-            let job = self.jobs.pop();
-            job.session.perform(&job);
-        }
     }
 
     /// How long a command waits before it begins, when it can still be stopped. A file is slow with the work itself,

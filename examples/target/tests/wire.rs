@@ -146,6 +146,7 @@ fn logins_are_refused_for_their_reasons() {
 
 #[test]
 fn of_two_logins_of_one_port_one_is_left() {
+    // One that the other takes the place of is refused, or closed before its response or behind it.
     let target = Target::start("");
     for _ in 0..50 {
         let mut logins: Vec<_> = std::thread::scope(|scope| {

@@ -9,6 +9,7 @@ use target::pdu::{opcode, place, Header, Pdu, FINAL, LONGEST_DATA, NO_TAG};
 const NAME: &str = "iqn.2026-01.example.cundarrix:ram";
 const TASK_MANAGEMENT: u8 = 0x02;
 const IMMEDIATE: u8 = 0x40;
+const CLOSED: u16 = 0xffff;
 
 /// The target on a port of its own. It ends with this.
 pub struct Target {
@@ -44,7 +45,7 @@ impl Target {
         initiator
     }
 
-    /// A login in one request, and the status of its response.
+    /// A login in one request, and the status of its response: `CLOSED` where none came.
     pub fn try_log_in(&self, port: u8, tsih: u16, keys: &str) -> (Initiator, u16) {
         let mut header = Header::new(opcode::LOGIN | IMMEDIATE, 0x87, 0);
         header.0[place::ISID + 5] = port;
@@ -53,7 +54,9 @@ impl Target {
         let data = format!("InitiatorName=iqn.2026-01.example:test\0{keys}").into_bytes();
         let mut initiator = Initiator { stream: self.connect(), next_cmd_sn: 1, exp_stat_sn: 0, tsih: 0 };
         initiator.send(&mut header, &data);
-        let response = initiator.receive().expect("a Login Response").header;
+        let Some(Pdu { header: response, .. }) = initiator.receive() else {
+            return (initiator, CLOSED);
+        };
         assert_eq!(response.opcode(), opcode::LOGIN_RESPONSE);
         initiator.exp_stat_sn = response.number(place::STAT_SN) + 1;
         initiator.tsih = response.short(place::TSIH);
