@@ -85,13 +85,11 @@ impl Member {
     /// Writes what the reader doesn't, until nothing goes out any more, or the socket has taken nothing for too long.
     fn write(&self) {
         let patience = self.session.target.options.patience;
-        let mut moved = Instant::now();
-        while self.session.await_turn(&self.connection) {
-            if self.session.write(&self.connection, true) {
-                moved = Instant::now();
-            } else if moved.elapsed() >= patience {
-                break;
-            }
+        let mut stuck = None;
+        while self.session.await_turn(&self.connection) && stuck.is_none_or(|since: Instant| since.elapsed() < patience)
+        {
+            let since = stuck.unwrap_or_else(Instant::now);
+            stuck = Some(since).filter(|_| !self.session.write(&self.connection, true));
         }
         self.session.with(|state| state.break_off(self.connection.cid));
     }

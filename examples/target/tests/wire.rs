@@ -87,9 +87,11 @@ fn a_session_that_reads_nothing_stops_no_other() {
 
 #[test]
 fn a_read_that_is_larger_than_a_socket_arrives_whole() {
-    let target = Target::start("");
+    let target = Target::start("--patience 1");
     let mut initiator = target.log_in(1);
     for tag in [1, 3] {
+        // That nothing went out for long is no reason to lose patience at once.
+        sleep(Duration::from_millis(1200));
         initiator.command(tag, 1, &blocks(0x28, 16_384), 16_384 * BLOCK as u32, &[]);
         initiator.command(tag + 1, 1, &blocks(0x28, 1), BLOCK as u32, &[]);
         sleep(Duration::from_millis(300));
