@@ -3,12 +3,11 @@
 import select
 import time
 
-from initiator import ABORT_TASK, BLOCK, FINAL, NO_TAG, RESET, WRITES, Wrong, word
+from initiator import ABORT_TASK, BLOCK, FINAL, RESET, WRITES, Wrong, word
 from peer import MOST_BLOCKS, Peer
 
 OURS, EVIL = b"A" * BLOCK, b"B" * BLOCK
 ABORT_TASK_SET = 2
-MIB = 1 << 20
 REJECTED, REJECTED_LENGTH = 4000, 1 << 18
 # What may become resident while an attack goes on, beyond what was before it.
 MOST_OF_REJECTED, MOST_OF_DATA = 32, 96

@@ -7,11 +7,11 @@ import sys
 import time
 
 sys.path.insert(0, os.path.join(os.path.dirname(os.path.realpath(__file__)), "..", "small-target.d"))
-from initiator import COMMAND, FINAL, FUNCTION, IMMEDIATE, LOGIN, LOGIN_RESPONSE, NO_TAG, NOP_IN, NOP_OUT, READS, SIMPLE, WRITES, BLOCK, \
+from initiator import COMMAND, FINAL, FUNCTION, IMMEDIATE, LOGIN, LOGIN_RESPONSE, NO_TAG, NOP_IN, SIMPLE, WRITES, BLOCK, \
     Connection, Session, Wrong, word  # noqa: E402
 
 TEXT, TEXT_RESPONSE, REJECT = 0x04, 0x24, 0x3f
-CONTINUE, TRANSIT = 0x40, 0x80
+CONTINUE = 0x40
 OPERATIONAL_TO_FULL, SECURITY_TO_OPERATIONAL = 0x87, 0x81
 TARGET = "iqn.2026-01.example.cundarrix:ram"
 KEYS = {"InitiatorName": "iqn.2026-01.example:attacks", "SessionType": "Normal", "TargetName": TARGET, "HeaderDigest": "None",
@@ -172,10 +172,6 @@ class Peer(Session):
         """A WRITE whose data comes with it."""
         cdb = bytes((0x2a, 0)) + block.to_bytes(4, "big") + b"\0" + (len(data) // BLOCK).to_bytes(2, "big") + bytes(7)
         return self.command_with(cid, WRITES, cdb, len(data), data, **more)
-
-    def read_late(self, cid, block, count, **more):
-        cdb = bytes((0x28, 0)) + block.to_bytes(4, "big") + b"\0" + count.to_bytes(2, "big") + bytes(7)
-        return self.command_with(cid, READS, cdb, count * BLOCK, **more)
 
     def unknown(self, cid, cmd_sn, data=b"", opcode=0x1c):
         """A request that no target knows."""
