@@ -16,6 +16,7 @@ ABORT_TASK, ABORT_TASK_SET, CLEAR_TASK_SET, LOGICAL_UNIT_RESET = 1, 2, 4, 5
 OF_SET = (ABORT_TASK_SET, CLEAR_TASK_SET, LOGICAL_UNIT_RESET)
 COMPLETE = 0
 ORDERED, HEAD_OF_QUEUE = 2, 3
+TASK_ABORTED = 0x40
 NEVER = float("inf")
 
 
@@ -258,10 +259,11 @@ def by_attribute(session):
 
 
 def by_outcome(session):
-    """No command that a worker stopped is answered, and none starts that was aborted before it came."""
+    """No command that a worker stopped is answered, but with TASK ABORTED where another session reset its unit; and none
+    starts that was aborted before it came."""
     for command in session.commands:
         for work in command.works:
-            if not work.is_completed and command.answers:
+            if not work.is_completed and any(item.reply.header[3] != TASK_ABORTED for item in command.answers):
                 yield (f"line {work.line} of the trace: {command.name} was stopped, and is answered in frame "
                        f"{command.answers[0].frame}")
             if command.is_aborted_late:
