@@ -217,9 +217,10 @@ fn inquiry(disk: &Disk, cdb: &[u8; 16]) -> Result<Vec<u8>, Sense> {
     let serial = [b"RAM0000", &[b'0' + disk.number][..]].concat();
     let body = match (cdb[1] & 0x01, page) {
         (0, 0) => {
-            let (head, text) = ([0x00, 0x00, 0x06, 0x02, 91, 0x00, 0x00, 0x02], b"CUNDARRXRAM unit        0001");
+            let head = [0x00, 0x00, 0x06, 0x02, 91, 0x00, 0x00, 0x02];
+            let product = if disk.is_in_memory() { b"RAM unit        " } else { b"file unit       " };
             let versions = [0x00, 0xa0, 0x04, 0x60, 0x04, 0xc0, 0x09, 0x60];
-            return Ok([&head, &text[..], &[0; 22], &versions, &[0; 30]].concat());
+            return Ok([&head, &b"CUNDARRX"[..], product, b"0001", &[0; 22], &versions, &[0; 30]].concat());
         }
         (1, 0x00) => vec![0x00, 0x80, 0x83, 0xb0],
         (1, 0x80) => serial,

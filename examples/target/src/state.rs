@@ -4,7 +4,7 @@ use crate::command::{DataIns, Transfer};
 use crate::connection::{Connection, Fault};
 use crate::keys::FIRST_BURST;
 use crate::outgoing::{Batch, Outgoing};
-use crate::pdu::{opcode, place, Header, Pdu, FINAL, NO_TAG, WRITE};
+use crate::pdu::{opcode, place, Header, Pdu, FINAL, LONGEST_DATA, NO_TAG, WRITE};
 use crate::session::{Clearing, Session};
 use crate::unit::{Job, Unit};
 use cundarrix::{Action, Clearing as Function, PduKind, Refusal};
@@ -407,7 +407,7 @@ impl State {
         };
         let cid = kept.cid;
         if let Some(attached) = self.connections.get_mut(&cid) {
-            let longest_data = attached.connection.upgrade().map_or(0, |connection| connection.longest_data);
+            let longest_data = attached.connection.upgrade().map_or(LONGEST_DATA, |connection| connection.longest_data);
             kept.data_ins = DataIns::new(&kept.pdu.header, outcome.data_length(), &session.keys, longest_data);
             attached.putting.push_back(cookie);
         }
