@@ -294,17 +294,17 @@ def by_abort(session, disks):
 def by_reset(sessions, disks):
     """A LOGICAL UNIT RESET is of the unit: as it is answered, no command of another session is worked on that was
     begun before the reset came."""
+    works = [(session, command, work) for session in sessions for command in session.commands for work in command.works]
+    works.sort(key=lambda one: one[2].began)
+    longest = max((work.ended - work.began for _, _, work in works), default=0)
     for session in sessions:
-        others = [(command, work) for other in sessions if other is not session for command in other.commands
-                  for work in command.works]
-        others.sort(key=lambda one: one[1].began)
-        longest = max((work.ended - work.began for _, work in others), default=0)
         for function, item in session.resets:
             came, answered = session.moment(function), session.moment(item)
-            first = bisect_left(others, answered - longest, key=lambda one: one[1].began)
-            last = bisect_left(others, came - MOMENT, key=lambda one: one[1].began)
-            for command, work in others[first:last]:
-                if work.unit == function.request.unit and not is_over(work, disks, answered):
+            first = bisect_left(works, answered - longest, key=lambda one: one[2].began)
+            last = bisect_left(works, came - MOMENT, key=lambda one: one[2].began)
+            for other, command, work in works[first:last]:
+                is_of_unit = other is not session and work.unit == function.request.unit
+                if is_of_unit and not is_over(work, disks, answered):
                     yield (f"line {work.line} of the trace: {command.name} of another session was worked on when a "
                            f"LOGICAL UNIT RESET was answered in frame {item.frame}, session {session.tsih:04x}")
 
@@ -324,10 +324,12 @@ def summary(session):
 def judge(sessions, begin, works, has_fence, disks=(), is_shared=False):
     """A line for each session, and the faults of all. With `has_fence` also what was overtaken is one. `disks` are the
     units whose work can't be called back. With `is_shared` a reset is of all sessions."""
-    summaries, faults, judged = [], [], []
+    summaries, faults, judged, of_session = [], [], [], {}
+    for work in works:
+        of_session.setdefault(work.tsih, []).append(work)
     for observed in sessions:
         session = Session(observed, begin)
-        faults += check(session, [work for work in works if work.tsih == session.tsih], disks)
+        faults += check(session, of_session.get(session.tsih, []), disks)
         faults += session.overtaken if has_fence else []
         summaries.append(summary(session))
         judged.append(session)
