@@ -108,8 +108,8 @@ impl Target {
         }
     }
 
-    /// Adds the session that is opened for a new TSIH. An error is the one that the initiator's port has already, or none
-    /// where there is no room. All of it under one lock, so that a port never has two.
+    /// Adds the session that is opened for a new TSIH. An error is the one that the initiator's port has already, or
+    /// none, where there is no room. All of it under one lock, so that a port never has two.
     fn add(
         &self,
         keys: &Keys,

@@ -1,5 +1,5 @@
-//! A session in its Full Feature Phase. Which request executes when, what starts, what stops, and which PDU goes out when
-//! with which numbers comes from the library alone. The target's own part is the data of commands, what its units
+//! A session in its Full Feature Phase. Which request executes when, what starts, what stops, and which PDU goes out
+//! when with which numbers comes from the library alone. The target's own part is the data of commands, what its units
 //! answer, and four things that it puts into the library's replies (`complete_reply`).
 
 use crate::command::complete_response;

@@ -431,7 +431,7 @@ impl State {
         had_room
     }
 
-    /// Puts the next PDU of a command, which is complete behind the last. With an error but `Full` nothing more follows.
+    /// Puts the next PDU of a command, which is complete behind its last. At an error but `Full` nothing more follows.
     fn put_next(&mut self, cookie: u64) -> Result<(), Refusal> {
         let kept = self.requests.get(&cookie).filter(|kept| kept.work != Work::Stopped).ok_or(Refusal::Gone)?;
         let (ticket, header) = (kept.ticket, kept.r2t.or_else(|| kept.data_ins.peek()));
