@@ -49,8 +49,7 @@ impl DataIns {
     }
 }
 
-/// Completes the library's SCSI Response by what the library doesn't know: the residual count, and the unit's sense
-/// data in place of the library's. The status, the numbers and the tag stay as they are.
+/// Puts into the library's SCSI Response what the library doesn't know: the residual count, and the unit's sense data.
 pub fn complete_response(response: &mut Pdu, command: &Header, outcome: &Outcome) {
     // Data that the CDB moves in a direction that the command's bits don't allow isn't moved at all.
     let (room, ready) = (command.data_length(READ), command.data_length(WRITE));
@@ -117,8 +116,7 @@ impl Transfer {
         self.burst = self.burst.filter(|_| !header.is_final());
     }
 
-    /// Begins the next burst of a command, by this transfer tag. Gives the header of the R2T, which has no numbers of
-    /// the session's yet. `None`: the command needs no more data.
+    /// Begins the next burst of a command, and gives the header of its R2T. `None`: it needs no more data.
     pub fn ask(&mut self, command: &Header, transfer_tag: u32, max_burst: usize) -> Option<Header> {
         let offset = self.received;
         if self.is_wrong || offset >= self.wanted {

@@ -1,5 +1,4 @@
-//! A connection: a thread takes its requests, and writes what comes of them; another one writes what the socket didn't
-//! take at once, and what comes of other connections and of the units' workers. It also has the connection's clock.
+//! A connection: its reader takes requests, and writes what comes of them; its writer writes the rest.
 
 use crate::login;
 use crate::pdu::{Pdu, LONGEST_DATA};

@@ -16,8 +16,7 @@ use disk::{Outcome, Sense};
 use std::sync::{Arc, Condvar, Mutex, MutexGuard, PoisonError};
 use std::time::{Duration, Instant};
 
-/// A session's connections are fixed when the library opens it. One that may have several is opened with the CID of the
-/// first one and so many of 0, 1, 2 .. that there are 16, and a connection that joins has one of these.
+/// The CIDs of a session that may have several connections: that of the first one, and so many of 0, 1, 2 and so on.
 const MOST_CONNECTIONS: usize = 16;
 
 /// The most commands of a unit's task set; and the most R2Ts, Data-Ins and pings that wait on a connection.
@@ -257,9 +256,8 @@ impl Session {
         }
     }
 
-    /// Puts into a reply of the library's what the library doesn't know: the residual count and the unit's sense data
-    /// of a SCSI Response, the ping's data of a NOP-In, and the Text Response in place of the Reject, as the library
-    /// has no negotiation. Its numbers, its tag, its status and its place in the order stay the library's.
+    /// Puts into a reply of the library's what the library doesn't know: what `complete_response` does, the ping's data
+    /// of a NOP-In, and the Text Response in place of the Reject. All else of it stays the library's.
     pub fn complete_reply(&self, pdu: &mut Pdu, request: &mut Pdu, outcome: Option<&Outcome>, longest_data: usize) {
         match (request.header.opcode(), pdu.header.opcode()) {
             (opcode::SCSI_COMMAND, opcode::SCSI_RESPONSE) => {

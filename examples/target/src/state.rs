@@ -392,7 +392,14 @@ impl State {
     /// Another session reset or cleared a unit. It waits for what the unit executes for this one.
     pub fn clear(&mut self, unit: u16, sense: Sense, clearing: &Arc<Clearing>) {
         let _ = self.call(|library, tell| library.clear(unit, tell));
-        self.attentions.insert(unit, sense);
+        // Whose commands were none isn't told that they were cleared.
+        let is_cleared = |kept: &Kept| {
+            let header = &kept.pdu.header;
+            (header.opcode(), header.0[9].into()) == (opcode::SCSI_COMMAND, unit) && kept.outcome.is_none()
+        };
+        if sense == Sense::RESET || self.requests.values().any(is_cleared) {
+            self.attentions.insert(unit, sense);
+        }
         for kept in self.requests.values_mut().filter(|kept| [Work::Begun, Work::Stopping].contains(&kept.work)) {
             if kept.unit.as_ref().is_some_and(|its| u16::from(its.disk.number) == unit) {
                 kept.clearings.push(clearing.clone());

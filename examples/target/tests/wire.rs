@@ -12,6 +12,7 @@ const GOOD: u8 = 0x00;
 const CHECK_CONDITION: u8 = 0x02;
 const TASK_ABORTED: u8 = 0x40;
 const ABORT_TASK: u8 = 1;
+const CLEAR_TASK_SET: u8 = 4;
 const LOGICAL_UNIT_RESET: u8 = 5;
 const DELAY: Duration = Duration::from_millis(400);
 
@@ -60,6 +61,23 @@ fn a_reset_of_one_session_reaches_the_others() {
         assert_eq!(initiator.answer(4), (CHECK_CONDITION, Some([6, 0x29, 0])));
         initiator.command(5, disk, &TEST_UNIT_READY, 0, &[]);
         assert_eq!(initiator.answer(5).0, GOOD);
+    }
+}
+
+#[test]
+fn a_clear_task_set_is_told_to_those_whose_commands_it_cleared() {
+    let (target, disk) = slow_disk("clear");
+    let (mut one, mut other, mut third) = (target.log_in(1), target.log_in(2), target.log_in(3));
+    other.command(1, disk, &blocks(0x2a, 1), 0, &[b'X'; BLOCK]);
+    sleep(DELAY / 4);
+    one.function(1, disk, CLEAR_TASK_SET, NO_TAG);
+    assert_eq!(one.answer(1), (0, None));
+    assert_eq!(other.answer(1).0, TASK_ABORTED);
+    other.command(2, disk, &TEST_UNIT_READY, 0, &[]);
+    assert_eq!(other.answer(2), (CHECK_CONDITION, Some([6, 0x2f, 0])));
+    for initiator in [&mut one, &mut other, &mut third] {
+        initiator.command(3, disk, &TEST_UNIT_READY, 0, &[]);
+        assert_eq!(initiator.answer(3).0, GOOD);
     }
 }
 
