@@ -4,6 +4,7 @@ tests/trace."""
 import glob
 import os
 
+import qemu
 from loopback import TOP, Capture, Target, last_line, run
 from scripts import play as play_lines
 
@@ -26,14 +27,28 @@ CONNECTIONS, DELAY = 3, "400"
 
 
 def play(folder, tally):
-    """The session and its three readings, each of which counts."""
+    """The session and its three readings, each of which counts; and QEMU's, where its tools are there."""
     with Target(folder, "--delay", DELAY) as target, Capture(folder, target.port) as capture:
         tally.attempt("a captured session", lambda: why_incomplete(play_lines(target, CONNECTIONS, LINES, 40)))
         capture.finish()
     port = str(target.port)
-    tally.attempt("tools/capture of the session", lambda: why_not_read(capture.path, port, folder))
-    tally.attempt("tools/compare of the session", lambda: why_different(os.path.join(folder, "run-1")))
+    tally.attempt("tools/capture of the session", lambda: why_not_read(capture.path, port, folder, 1, CONNECTIONS))
+    tally.attempt("tools/compare of the session", lambda: why_different(folder))
     tally.attempt("tests/trace of the session", lambda: why_at_fault(target.trace, capture.path, port))
+    if why := qemu.why_absent():
+        tally.say("skipped", "tools/compare of QEMU's session", why)
+    else:
+        tally.attempt("tools/compare of QEMU's session", lambda: of_qemu(folder))
+
+
+def of_qemu(folder):
+    """Why QEMU's reads and writes, each with a session of its own, don't go as they must, or aren't read as they were."""
+    with Target(folder) as target, Capture(folder, target.port) as capture:
+        why = qemu.patterns(target.url())
+        capture.finish()
+    port = str(target.port)
+    return (why or why_not_read(capture.path, port, folder, 2, 1) or why_different(folder)
+            or why_at_fault(target.trace, capture.path, port))
 
 
 def why_incomplete(output):
@@ -43,18 +58,28 @@ def why_incomplete(output):
     return f"its output: {absent[0]}" if absent else None
 
 
-def why_not_read(path, port, folder):
+def recordings(folder):
+    return sorted(glob.glob(os.path.join(folder, "run-*.recording")))
+
+
+def why_not_read(path, port, folder, sessions, connections):
+    for former in recordings(folder):
+        os.remove(former)
     done = run([os.path.join(TOP, "tools", "capture"), path, "--port", port, "-o", folder], 60)
-    sessions = glob.glob(os.path.join(folder, "run-*.recording"))
-    if done.returncode or len(sessions) != 1 or "left out" in done.stdout:
+    if done.returncode or len(recordings(folder)) != sessions or "left out" in done.stdout:
         return last_line(done.stdout)
-    return None if f"{CONNECTIONS} connection(s), " in done.stdout else last_line(done.stdout)
+    is_whole = done.stdout.count(f"{connections} connection(s), ") == sessions
+    return None if is_whole else last_line(done.stdout)
 
 
-def why_different(base):
-    """What tools/compare says, unless it says that there is no difference."""
-    done = run([os.path.join(TOP, "tools", "compare"), base, "--all", "--by-moment"], 60)
-    return None if not done.returncode and last_line(done.stdout) == "No difference." else done.stdout.strip()
+def why_different(folder):
+    """What tools/compare says of a session, unless it says that there is no difference."""
+    for path in recordings(folder):
+        base = path.removesuffix(".recording")
+        done = run([os.path.join(TOP, "tools", "compare"), base, "--all", "--by-moment"], 60)
+        if done.returncode or last_line(done.stdout) != "No difference.":
+            return done.stdout.strip()
+    return None
 
 
 def why_at_fault(trace, path, port):

@@ -7,6 +7,7 @@ from loopback import INITIATOR, NAME, Failed, last_line, run
 LINE = re.compile(r"(\d) (.+): tag ([0-9a-f]{8}), StatSN")
 GOOD, COMPLETE, NO_TASK = "SCSI Response GOOD", "Task Management Function Response function complete", \
     "Task Management Function Response task does not exist"
+RESET = "SCSI Response CHECK CONDITION (UNIT ATTENTION, 29/00)"
 
 # Each: how many connections, the lines, and the replies by tag, in any order. R2Ts aren't looked at: one of a command
 # that is taken out in the same moment may go out or not. A line that sends data needs one.
@@ -28,8 +29,8 @@ SCRIPTS = {
          (1, "Logout Response closed", 13)}),
     "a LOGICAL UNIT RESET with writes that wait for their data": (2, (
         "1 write sn=0 tag=1 lun=0", "2 write sn=1 tag=2 lun=0", "pause 0.3", "1 reset now=1 tag=3 lun=0", "wait 3",
-        "2 test sn=2 tag=4 lun=0", "wait 4", "1 logout tag=5", "wait 5"),
-        {(1, COMPLETE, 3), (2, GOOD, 4), (1, "Logout Response closed", 5)}),
+        "2 test sn=2 tag=4 lun=0", "wait 4", "2 test sn=3 tag=5 lun=0", "wait 5", "1 logout tag=6", "wait 6"),
+        {(1, COMPLETE, 3), (2, RESET, 4), (2, GOOD, 5), (1, "Logout Response closed", 6)}),
     "an ABORT TASK SET that waits for a lower number": (2, (
         "2 write sn=1 tag=2 lun=1", "1 abort-task-set now=1 sn=2 tag=3 lun=1", "pause 0.3", "1 write sn=0 tag=1 lun=1",
         "wait 3", "1 logout tag=4 sn=2", "wait 4"),

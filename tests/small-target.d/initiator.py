@@ -60,6 +60,9 @@ class Connection:
 class Session:
     """A session: what it sent, and what came, in the order in which it was read."""
 
+    # The most data that a Data-Out brings.
+    part = 8192
+
     def __init__(self, port, cids=(1, 2), receives=0):
         self.cmd_sn, self.tag = 1, 0
         self.replies, self.data, self.written, self.asked, self.came = {}, {}, {}, {}, []
@@ -201,8 +204,8 @@ class Session:
         """Sends what the R2T for a tag asks for."""
         asked = self.asked[tag]
         begin, end = word(asked, 40), word(asked, 40) + word(asked, 44)
-        for number, offset in enumerate(range(begin, end, 8192)):
-            part = data[offset:min(offset + 8192, end)]
+        for number, offset in enumerate(range(begin, end, self.part)):
+            part = data[offset:min(offset + self.part, end)]
             header = self.header(DATA_OUT, FINAL if offset + len(part) == end else 0, tag)
             header[8:16], header[20:24] = asked[8:16], asked[20:24]
             header[36:40], header[40:44] = number.to_bytes(4, "big"), offset.to_bytes(4, "big")

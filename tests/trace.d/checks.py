@@ -6,6 +6,7 @@ covers, is said by RFC 7143 (4.2.2.1, 11.5, 11.6) and SAM-5 (the attributes).
 
 import os
 import sys
+from bisect import bisect_left
 from dataclasses import dataclass, field
 
 sys.path.insert(0, os.path.join(os.path.dirname(os.path.realpath(__file__)), "..", "..", "tools"))
@@ -14,7 +15,10 @@ from lib.pdu import DATA_IN, NOP_IN, R2T, REJECT, SCSI_COMMAND, SCSI_RESPONSE, T
 
 ABORT_TASK, ABORT_TASK_SET, CLEAR_TASK_SET, LOGICAL_UNIT_RESET = 1, 2, 4, 5
 OF_SET = (ABORT_TASK_SET, CLEAR_TASK_SET, LOGICAL_UNIT_RESET)
-COMPLETE = 0
+# A worker that takes a command which was stopped before has a line, too, of no work: it begins and ends in a moment. So
+# what began less than so many nanoseconds before isn't judged.
+MOMENT = 5_000_000
+COMPLETE, TASK_ABORTED = 0, 0x40
 ORDERED, HEAD_OF_QUEUE = 2, 3
 NEVER = float("inf")
 
@@ -44,7 +48,7 @@ class Session:
     def __init__(self, session, begin):
         self.first, self.tsih, self.begin = session.first, session.tsih, begin
         self.commands, self.of_tag, self.functions, self.faults, self.overtaken = [], {}, {}, [], []
-        self.arrivals, self.completed, self.tasks, self.limits = {}, 0, {}, {}
+        self.arrivals, self.completed, self.tasks, self.limits, self.resets = {}, 0, {}, {}, []
         self.next_stat_sns, self.shown = dict(session.connections), {}
         for item in session.items:
             if item.request:
@@ -130,6 +134,8 @@ class Session:
             for command in self.covered(function):
                 command.abort = command.abort or item
             self.note(function, item)
+            if function.request.function == LOGICAL_UNIT_RESET:
+                self.resets.append((function, item))
 
     def note(self, function, item):
         """Notes a complete function for what comes later."""
@@ -181,7 +187,6 @@ class Session:
         if item.reply.ends_command:
             command.answers.append(item)
 
-
     def is_overtaken(self, item, abort):
         """Whether an answer on another connection was made before the answer to the abort, and overtaken by it on the
         way: ExpCmdSN and MaxCmdSN never go back, and the answer to a numbered command is made with a higher MaxCmdSN
@@ -190,10 +195,10 @@ class Session:
         return item.cid != abort.cid and all(made <= then for made, then in zip(*numbers))
 
 
-def check(session, works):
+def check(session, works, disks):
     """The faults of a session by its capture and the lines of its trace, which must all be of it."""
     return [*session.faults, *tickets(works), *matched(session, works), *in_order(session), *by_attribute(session),
-            *by_outcome(session)]
+            *by_outcome(session), *by_abort(session, disks)]
 
 
 def tickets(works):
@@ -258,15 +263,50 @@ def by_attribute(session):
 
 
 def by_outcome(session):
-    """No command that a worker stopped is answered, and none starts that was aborted before it came."""
+    """No command that a worker stopped is answered, but with TASK ABORTED, where another session's reset took it out; and
+    none starts that was aborted before it came."""
     for command in session.commands:
         for work in command.works:
-            if not work.is_completed and command.answers:
+            if not work.is_completed and any(item.reply.status != TASK_ABORTED for item in command.answers):
                 yield (f"line {work.line} of the trace: {command.name} was stopped, and is answered in frame "
                        f"{command.answers[0].frame}")
             if command.is_aborted_late:
                 yield (f"line {work.line} of the trace: {command.name} was started, and came after the abort of it was "
                        f"answered in frame {command.abort.frame}")
+
+
+def is_over(work, disks, moment):
+    """Whether what a worker did was over at this moment. What a worker waits with in RAM may be called back at once, so
+    there only what was completed counts; the work of a disk can't be called back."""
+    return work.ended <= moment or not work.is_completed and work.unit not in disks
+
+
+def by_abort(session, disks):
+    """What was aborted is worked on no more once its abort was answered: else it changes the medium behind that."""
+    for command in session.commands:
+        answered = session.moment(command.abort) if command.abort else NEVER
+        for work in command.works:
+            if work.began + MOMENT < answered and not is_over(work, disks, answered):
+                yield (f"line {work.line} of the trace: {command.name} was worked on when the abort of it was answered "
+                       f"in frame {command.abort.frame}")
+
+
+def by_reset(sessions, disks):
+    """A LOGICAL UNIT RESET is of the unit: as it is answered, no command of another session is worked on that was
+    begun before the reset came."""
+    works = [(session, command, work) for session in sessions for command in session.commands for work in command.works]
+    works.sort(key=lambda one: one[2].began)
+    longest = max((work.ended - work.began for _, _, work in works), default=0)
+    for session in sessions:
+        for function, item in session.resets:
+            came, answered = session.moment(function), session.moment(item)
+            first = bisect_left(works, answered - longest, key=lambda one: one[2].began)
+            last = bisect_left(works, came - MOMENT, key=lambda one: one[2].began)
+            for other, command, work in works[first:last]:
+                is_of_unit = other is not session and work.unit == function.request.unit
+                if is_of_unit and not is_over(work, disks, answered):
+                    yield (f"line {work.line} of the trace: {command.name} of another session was worked on when a "
+                           f"LOGICAL UNIT RESET was answered in frame {item.frame}, session {session.tsih:04x}")
 
 
 def summary(session):
@@ -281,14 +321,19 @@ def summary(session):
             f"{len(session.overtaken)} PDUs overtaken by the answer to an abort")
 
 
-def judge(sessions, begin, works, has_fence):
-    """A line for each session, and the faults of all. With `has_fence` also what was overtaken is one."""
-    summaries, faults = [], []
+def judge(sessions, begin, works, has_fence, disks=(), is_shared=False):
+    """A line for each session, and the faults of all. With `has_fence` also what was overtaken is one. `disks` are the
+    units whose work can't be called back. With `is_shared` a reset is of all sessions."""
+    summaries, faults, judged, of_session = [], [], [], {}
+    for work in works:
+        of_session.setdefault(work.tsih, []).append(work)
     for observed in sessions:
         session = Session(observed, begin)
-        faults += check(session, [work for work in works if work.tsih == session.tsih])
+        faults += check(session, of_session.get(session.tsih, []), disks)
         faults += session.overtaken if has_fence else []
         summaries.append(summary(session))
+        judged.append(session)
+    faults += by_reset(judged, disks) if is_shared else []
     known = {observed.tsih for observed in sessions}
     faults += [f"line {work.line} of the trace: no session {work.tsih:04x} is in the capture"
                for work in works if work.tsih not in known]

@@ -19,7 +19,7 @@ from checks import judge  # noqa: E402
 from observed import read_trace  # noqa: E402
 
 PROGRAM = os.path.join(TOP, "tests", "trace")
-PORT, FIRST, TSIH, BEGIN = 3260, 0xfffffffe, 7, 1_700_000_000
+PORT, FIRST, TSIH, OTHER, BEGIN = 3260, 0xfffffffe, 7, 8, 1_700_000_000
 COMPLETE, NO_TASK = 0, 1
 ABORT_TASK, ABORT_TASK_SET, LOGICAL_UNIT_RESET = 1, 2, 5
 SIMPLE, ORDERED, HEAD = 1, 2, 3
@@ -40,12 +40,13 @@ def four(number):
 
 
 class Run:
-    """A capture and a trace, put together event by event. Each event takes a millisecond."""
+    """A capture and a trace, put together event by event. Each event takes a millisecond. Connection 3 is another
+    session's."""
 
     def __init__(self):
         self.frames, self.segments, self.milliseconds, self.lines, self.sides = [], [], 0, ["# a trace"], {}
-        self.stat_sns = {1: 1, 2: 1}
-        for cid in (1, 2):
+        self.stat_sns = {1: 1, 2: 1, 3: 1}
+        for cid in (1, 2, 3):
             self.sides[cid] = (Side(b"\2" * 6, b"\x7f\0\0\1", 40000 + cid), Side(b"\3" * 6, b"\x7f\0\0\1", PORT))
             for content in handshake(*self.sides[cid]):
                 self.add(content)
@@ -64,11 +65,10 @@ class Run:
                                      content))
 
     def log_in(self, cid):
-        tsih = (0 if cid == 1 else TSIH).to_bytes(2, "big")
-        isid = b"\x80\0\0\0\0\1"
-        self.put(cid, header(0x43, 0x87, 1, at_8=isid + tsih, at_20=cid.to_bytes(2, "big"), at_24=four(FIRST)), True)
-        self.put(cid, header(0x23, 0x87, 1, at_8=isid + TSIH.to_bytes(2, "big"), at_28=four(FIRST),
-                             at_32=four(FIRST + 31)), False)
+        asked, given = (TSIH if cid == 2 else 0).to_bytes(2, "big"), (OTHER if cid == 3 else TSIH).to_bytes(2, "big")
+        isid = b"\x80\0\0\0\0" + given[1:]
+        self.put(cid, header(0x43, 0x87, 1, at_8=isid + asked, at_20=cid.to_bytes(2, "big"), at_24=four(FIRST)), True)
+        self.put(cid, header(0x23, 0x87, 1, at_8=isid + given, at_28=four(FIRST), at_32=four(FIRST + 31)), False)
 
     def command(self, cid, number, tag, attribute=SIMPLE, unit=0, opcode=0x01):
         self.put(cid, header(opcode, 0xc0 | attribute, tag, at_8=lun_of(unit), at_24=four(FIRST + number),
@@ -78,9 +78,9 @@ class Run:
         self.put(cid, header(0x42, 0x80 | function, tag, at_8=lun_of(unit), at_20=four(ref),
                              at_24=four(FIRST + number), at_32=four(FIRST + refsn)), True)
 
-    def reply(self, cid, opcode, tag, response=0, flags=0x80, exp=1, greatest=32):
+    def reply(self, cid, opcode, tag, response=0, flags=0x80, exp=1, greatest=32, status=0):
         """A reply with the next StatSN, which all but a Data-In, an R2T and a NOP-In of the target's own take."""
-        self.put(cid, header(opcode, flags, tag, at_2=bytes((response,)), at_24=four(self.stat_sns[cid]),
+        self.put(cid, header(opcode, flags, tag, at_2=bytes((response, status)), at_24=four(self.stat_sns[cid]),
                              at_28=four(FIRST + exp), at_32=four(FIRST + greatest)), False)
         self.stat_sns[cid] += opcode not in (0x25, 0x31) and tag != 0xffffffff
 
@@ -93,11 +93,11 @@ class Run:
     def complete(self, cid, tag, response=COMPLETE, **numbers):
         self.reply(cid, 0x22, tag, response=response, **numbers)
 
-    def work(self, ticket, tag, number, unit=0, outcome="completed", took=1, before=0):
+    def work(self, ticket, tag, number, unit=0, outcome="completed", took=1, before=0, tsih=TSIH):
         """A worker takes a command now, or so many milliseconds before."""
         began = BEGIN * 10**9 + (self.milliseconds - before) * 10**6
         self.lines.append(f"{ticket} {tag:08x} {(FIRST + number) % 2**32:08x} {unit} {began} {began + took * 10**6} "
-                          f"{outcome} {TSIH:04x}")
+                          f"{outcome} {tsih:04x}")
         self.milliseconds += took
 
     @property
@@ -108,9 +108,9 @@ class Run:
     def trace(self):
         return "".join(f"{line}\n" for line in self.lines)
 
-    def faults(self, has_fence=False):
+    def faults(self, *more):
         """What the checks find of it, without tshark."""
-        return judge(find(self.segments)[0], BEGIN * 10**9, read_trace(self.trace), has_fence)[1]
+        return judge(find(self.segments)[0], BEGIN * 10**9, read_trace(self.trace), *(more or (False,)))[1]
 
 
 def good_run():
@@ -149,7 +149,7 @@ class Checks(unittest.TestCase):
         self.assertRegex("\n".join(run.faults(has_fence)), why)
 
     def test_no_fault(self):
-        self.assertEqual([], good_run().faults(has_fence=True))
+        self.assertEqual([], good_run().faults(True))
 
     def test_a_line_twice(self):
         run = good_run()
@@ -163,8 +163,8 @@ class Checks(unittest.TestCase):
         run.work(6, 0x99, 9)
         self.found(run, r"tag 00000099, CmdSN 00000007 and unit 0 isn't in the capture")
         run = good_run()
-        run.lines[1] = run.lines[1].replace(f" {TSIH:04x}", " 0008")
-        self.found(run, r"line 2 of the trace: no session 0008 is in the capture")
+        run.lines[1] = run.lines[1].replace(f" {TSIH:04x}", " 0009")
+        self.found(run, r"line 2 of the trace: no session 0009 is in the capture")
 
     def test_started_before_it_came(self):
         run = Run()
@@ -216,7 +216,7 @@ class Checks(unittest.TestCase):
     def test_an_answer_that_was_overtaken(self):
         run = self.aborted(answer_on=2, function=ABORT_TASK_SET, greatest=33)
         self.assertEqual([], run.faults())
-        self.assertEqual(2, len(run.faults(has_fence=True)))
+        self.assertEqual(2, len(run.faults(True)))
         self.found(run, r"SCSI Response .* after the abort of it was answered", has_fence=True)
 
     def test_a_command_that_comes_after_its_abort(self):
@@ -269,6 +269,41 @@ class Checks(unittest.TestCase):
         run.work(1, 0x10, 0, outcome="stopped")
         run.answer(1, 0x10)
         self.found(run, r"tag 00000010 .* was stopped, and is answered in frame")
+        run = Run()
+        run.command(1, 0, 0x10)
+        run.work(1, 0x10, 0, outcome="stopped")
+        run.answer(1, 0x10, status=0x40)
+        self.assertEqual([], run.faults())
+
+    def worked_on(self, function, outcome, took=20, tsih=TSIH):
+        """A command of one session or the other is worked on for so long, from before a function to behind its answer."""
+        run, cid = Run(), 1 if tsih == TSIH else 3
+        run.command(cid, 0, 0x10)
+        run.milliseconds += 10
+        run.function(1, 1 if cid == 1 else 0, 0x20, function, ref=0x10)
+        run.complete(1, 0x20)
+        run.work(1, 0x10, 0, outcome=outcome, took=took, before=10, tsih=tsih)
+        return run
+
+    def test_work_behind_the_answer_to_an_abort(self):
+        for function in (ABORT_TASK, ABORT_TASK_SET, LOGICAL_UNIT_RESET):
+            why = r"tag 00000010 .* was worked on when the abort of it was answered in frame"
+            run = self.worked_on(function, "stopped")
+            self.assertEqual([], run.faults())
+            self.assertRegex("".join(run.faults(True, (0,))), why)
+            self.assertEqual([], run.faults(True, (1,)))
+            self.assertEqual([], self.worked_on(function, "stopped", took=9).faults(True, (0,)))
+            self.found(self.worked_on(function, "completed"), why)
+
+    def test_work_behind_the_reset_of_another_session(self):
+        why = r"tag 00000010 .* of another session was worked on when a LOGICAL UNIT RESET was answered in frame"
+        for outcome, disks in (("completed", ()), ("stopped", (0,))):
+            run = self.worked_on(LOGICAL_UNIT_RESET, outcome, tsih=OTHER)
+            self.assertEqual([], run.faults(True, disks))
+            self.assertRegex("".join(run.faults(True, disks, True)), why)
+            run = self.worked_on(LOGICAL_UNIT_RESET, outcome, took=9, tsih=OTHER)
+            self.assertEqual([], run.faults(True, disks, True))
+        self.assertEqual([], self.worked_on(ABORT_TASK_SET, "completed", tsih=OTHER).faults(True, (0,), True))
 
     def overlapping(self, *attributes):
         run = Run()

@@ -1,65 +1,96 @@
-//! A connection: a thread takes its requests, and another one writes the PDUs that the library hands out for it.
+//! A connection: its reader takes requests, and writes what comes of them; its writer writes the rest.
 
-use crate::pdu::Pdu;
+use crate::login;
+use crate::pdu::{Pdu, LONGEST_DATA};
 use crate::session::Session;
-use crate::{login, Target};
+use crate::Target;
 use std::error::Error;
-use std::io::{BufReader, Read, Write};
-use std::net::{Shutdown, TcpStream};
+use std::io::{self, BufReader, ErrorKind, Read};
+use std::net::TcpStream;
 use std::sync::{Arc, Condvar};
 use std::thread;
-use std::time::Duration;
+use std::time::{Duration, Instant};
 
-/// So long a login may be silent, a socket may take no byte, and a ping of the library's may be unanswered.
-pub const PATIENCE: Duration = Duration::from_secs(30);
+/// So long a write waits for room in the socket. Then its thread looks at what else there is.
+const WRITE_TIME: Duration = Duration::from_millis(10);
 
 /// Why a connection is closed by the target: its socket, the library's refusal, or what the initiator must not do.
 pub type Fault = Box<dyn Error + Send + Sync>;
 
 /// Serves a connection to its end.
-pub fn serve(stream: &TcpStream, target: &Arc<Target>) -> Result<(), Fault> {
+pub fn serve(stream: &Arc<TcpStream>, target: &Arc<Target>) -> Result<(), Fault> {
     stream.set_nodelay(true)?;
-    stream.set_read_timeout(Some(PATIENCE))?;
-    stream.set_write_timeout(Some(PATIENCE))?;
-    let mut requests = BufReader::with_capacity(1 << 16, stream);
-    let Some(member) = login::log_in(&mut requests, stream, target)? else {
+    stream.set_write_timeout(Some(WRITE_TIME))?;
+    let until = Instant::now() + target.options.patience;
+    let mut requests = BufReader::with_capacity(1 << 16, Incoming { stream, until: Some(until) });
+    let Some(member) = login::log_in(&mut requests, stream, target, until)? else {
         return Ok(());
     };
+    requests.get_mut().until = None;
     stream.set_read_timeout(None)?;
     thread::scope(|scope| {
         thread::Builder::new().spawn_scoped(scope, || member.write())?;
         let read = member.read(&mut requests);
-        member.session.break_off(member.connection.cid);
+        member.session.with(|state| state.break_off(member.connection.cid));
         read
     })
 }
 
-/// A connection, and the session that it is part of. It is lost when this is dropped, once both of its threads have
-/// ended.
+/// What arrives on a socket, until the moment at which the login must have ended.
+pub struct Incoming<'a> {
+    stream: &'a TcpStream,
+    until: Option<Instant>,
+}
+
+impl Read for Incoming<'_> {
+    fn read(&mut self, buffer: &mut [u8]) -> io::Result<usize> {
+        loop {
+            if let Some(until) = self.until {
+                let left = until.saturating_duration_since(Instant::now());
+                if left.is_zero() {
+                    return Err(io::Error::new(ErrorKind::TimedOut, "the login took too long"));
+                }
+                self.stream.set_read_timeout(Some(left))?;
+            }
+            match self.stream.read(buffer) {
+                // A signal, or the time is over.
+                Err(why) if [ErrorKind::Interrupted, ErrorKind::WouldBlock].contains(&why.kind()) => {}
+                read => return read,
+            }
+        }
+    }
+}
+
+/// A connection, and the session that it is part of. It is lost when this is dropped, behind both of its threads.
 pub struct Member {
     pub session: Arc<Session>,
     pub connection: Arc<Connection>,
 }
 
 impl Member {
-    /// Takes requests until the socket is at its end.
-    fn read(&self, requests: &mut impl Read) -> Result<(), Fault> {
-        while let Some(request) = Pdu::read(requests)? {
+    /// Takes requests until the socket is at its end. What comes of them is written before more is waited for.
+    fn read(&self, requests: &mut BufReader<Incoming>) -> Result<(), Fault> {
+        loop {
+            if !Pdu::is_whole(requests.buffer()) {
+                self.session.write(&self.connection, false);
+            }
+            let Some(request) = Pdu::read(requests, LONGEST_DATA)? else {
+                return Ok(());
+            };
             self.session.take(&self.connection, request)?;
         }
-        Ok(())
     }
 
-    /// Writes what goes out until nothing does any more, and then closes the socket.
+    /// Writes what the reader doesn't, until nothing goes out any more, or the socket has taken nothing for too long.
     fn write(&self) {
-        let mut has_written = false;
-        while let Some(bytes) = self.session.next(&self.connection, has_written) {
-            has_written = (&self.connection.stream).write_all(&bytes).is_ok();
-            if !has_written {
-                break;
-            }
+        let patience = self.session.target.options.patience;
+        let mut stuck = None;
+        while self.session.await_turn(&self.connection) && stuck.is_none_or(|since: Instant| since.elapsed() < patience)
+        {
+            let since = stuck.unwrap_or_else(Instant::now);
+            stuck = Some(since).filter(|_| !self.session.write(&self.connection, true));
         }
-        self.connection.shut_down();
+        self.session.with(|state| state.break_off(self.connection.cid));
     }
 }
 
@@ -74,19 +105,7 @@ pub struct Connection {
     pub cid: u16,
     /// The longest data segment that the initiator takes on it.
     pub longest_data: usize,
-    stream: TcpStream,
-    /// Beside the lock of its session: something may go out, data has room, or a command was stopped.
+    pub stream: Arc<TcpStream>,
+    /// Beside the lock of its session: there is something for the writer.
     pub changed: Condvar,
-}
-
-impl Connection {
-    pub fn new(cid: u16, longest_data: usize, stream: TcpStream) -> Connection {
-        Connection { cid, longest_data, stream, changed: Condvar::new() }
-    }
-
-    /// Closes the socket both ways: a thread that reads or writes there is at its end.
-    pub fn shut_down(&self) {
-        // Where the initiator has closed it already, there is nothing left to close.
-        let _ = self.stream.shutdown(Shutdown::Both);
-    }
 }

@@ -3,7 +3,7 @@
 /// What the target accepts at most.
 const MOST_CONNECTIONS: u32 = 8;
 const LONGEST_BURST: u32 = 262_144;
-const FIRST_BURST: u32 = 65_536;
+pub const FIRST_BURST: u32 = 65_536;
 const LEAST_LENGTH: u32 = 512;
 const GREATEST_LEVEL: u32 = 2;
 
@@ -20,6 +20,8 @@ pub struct Keys {
     pub first_burst: u32,
     pub connections: u32,
     pub level: u32,
+    /// The initiator asks for an authentication that the target doesn't have.
+    pub wants_authentication: bool,
 }
 
 impl Default for Keys {
@@ -33,6 +35,7 @@ impl Default for Keys {
             first_burst: FIRST_BURST,
             connections: 1,
             level: 1,
+            wants_authentication: false,
         }
     }
 }
@@ -77,7 +80,8 @@ impl Keys {
 
     /// The answer to a key with a number, a word, or a list of words.
     fn choose(&mut self, key: &str, value: &str) -> String {
-        let only = |word: &str| if value.split(',').any(|one| one == word) { word } else { "Reject" }.to_string();
+        let has_none = value.split(',').any(|one| one == "None");
+        self.wants_authentication |= key == "AuthMethod" && !has_none;
         let (kept, chosen) = match (key, number(value)) {
             ("MaxConnections", Some(offered)) => (&mut self.connections, offered.clamp(1, MOST_CONNECTIONS)),
             ("MaxBurstLength", Some(offered @ LEAST_LENGTH..)) => (&mut self.max_burst, offered.min(LONGEST_BURST)),
@@ -86,8 +90,9 @@ impl Keys {
             ("DefaultTime2Wait", Some(offered)) => return offered.to_string(),
             ("MaxOutstandingR2T", Some(_)) => return "1".to_string(),
             ("ErrorRecoveryLevel" | "DefaultTime2Retain", Some(_)) => return "0".to_string(),
-            ("AuthMethod" | "HeaderDigest" | "DataDigest", _) => return only("None"),
-            ("TaskReporting", _) => return only("RFC3720"),
+            ("AuthMethod" | "HeaderDigest" | "DataDigest", _) if has_none => return "None".to_string(),
+            ("AuthMethod" | "HeaderDigest" | "DataDigest", _) => return "Reject".to_string(),
+            ("TaskReporting", _) => return if value.contains("RFC3720") { "RFC3720" } else { "Reject" }.to_string(),
             ("DataPDUInOrder" | "DataSequenceInOrder" | "InitialR2T", _) => return "Yes".to_string(),
             ("ImmediateData", _) => return if value == "Yes" { "Yes" } else { "No" }.to_string(),
             ("IFMarker" | "OFMarker", _) => return "No".to_string(),

@@ -4,11 +4,12 @@ use crate::connection::{Connection, Fault, Member};
 use crate::keys::{add_pair, Keys};
 use crate::pdu::{opcode, place, Header, Pdu, LONGEST_DATA};
 use crate::session::Session;
+use crate::threads::lock;
 use crate::Target;
-use cundarrix::Numbers;
 use std::io::{Read, Write};
 use std::net::TcpStream;
-use std::sync::Arc;
+use std::sync::{Arc, Condvar};
+use std::time::Instant;
 
 /// Byte 1: the T and C bits, the stage and the next one.
 const TRANSIT: u8 = 0x80;
@@ -20,37 +21,48 @@ const NEXT_STAGE: u8 = 0x03;
 const OPERATIONAL: u8 = 1;
 const FULL_FEATURE: u8 = 3;
 
-/// A login has at most so many requests.
+/// A login has at most so many requests, and none of its texts is longer.
 const MOST_REQUESTS: u32 = 100;
+const LONGEST_TEXT: usize = 8192;
 
 /// Why a login is refused: Status-Class and Status-Detail.
 #[derive(Clone, Copy)]
 enum Refused {
+    Authentication = 0x0201,
     NotFound = 0x0203,
     Version = 0x0205,
     MissingParameter = 0x0207,
     NotIncluded = 0x0208,
+    SessionType = 0x0209,
     NoSession = 0x020a,
     InvalidRequest = 0x020b,
+    Unavailable = 0x0301,
     OutOfResources = 0x0302,
 }
 
 /// A login under way.
 struct Login<'a> {
     target: &'a Arc<Target>,
-    stream: &'a TcpStream,
+    stream: &'a Arc<TcpStream>,
     /// Where the connection reached the target.
     address: String,
     keys: Keys,
     has_declared: bool,
+    /// When it must have ended.
+    until: Instant,
 }
 
 /// Takes a connection to the Full Feature Phase. `None` where the login was refused, or broke off.
-pub fn log_in(requests: &mut impl Read, mut stream: &TcpStream, target: &Arc<Target>) -> Result<Option<Member>, Fault> {
+pub fn log_in(
+    requests: &mut impl Read,
+    stream: &Arc<TcpStream>,
+    target: &Arc<Target>,
+    until: Instant,
+) -> Result<Option<Member>, Fault> {
     let address = stream.local_addr()?.to_string();
-    let mut login = Login { target, stream, address, keys: Keys::default(), has_declared: false };
+    let mut login = Login { target, stream, address, keys: Keys::default(), has_declared: false, until };
     for stat_sn in 0..MOST_REQUESTS {
-        let Some(request) = Pdu::read(requests)? else {
+        let Some(request) = Pdu::read(requests, LONGEST_DATA)? else {
             return Ok(None);
         };
         if request.header.opcode() != opcode::LOGIN {
@@ -61,7 +73,7 @@ pub fn log_in(requests: &mut impl Read, mut stream: &TcpStream, target: &Arc<Tar
         if let Err(why) = taken {
             response.header.0[place::STATUS..][..2].copy_from_slice(&(why as u16).to_be_bytes());
         }
-        stream.write_all(&response.to_bytes())?;
+        (&**stream).write_all(&response.to_bytes())?;
         if !matches!(taken, Ok(None)) {
             return Ok(taken.unwrap_or(None));
         }
@@ -76,8 +88,8 @@ impl Login<'_> {
         header.0[8..16].copy_from_slice(&request.0[8..16]);
         header.set(place::STAT_SN, stat_sn);
         let exp_cmd_sn = request.number(place::CMD_SN);
-        let max_cmd_sn = exp_cmd_sn.wrapping_add(self.target.options.window - 1);
-        header.set_numbers(Numbers { exp_cmd_sn, max_cmd_sn });
+        header.set(place::EXP_CMD_SN, exp_cmd_sn);
+        header.set(place::MAX_CMD_SN, exp_cmd_sn.wrapping_add(self.target.options.window - 1));
         Pdu { header, data: Vec::new() }
     }
 
@@ -91,7 +103,7 @@ impl Login<'_> {
         }
         // A text that goes on in another request isn't taken.
         let is_odd = next.is_some_and(|next| next <= stage || ![OPERATIONAL, FULL_FEATURE].contains(&next));
-        if stage > OPERATIONAL || is_odd || flags & CONTINUE != 0 {
+        if stage > OPERATIONAL || is_odd || flags & CONTINUE != 0 || request.data.len() > LONGEST_TEXT {
             return Err(Refused::InvalidRequest);
         }
         let answers = self.negotiate(stage, &request.data)?;
@@ -104,6 +116,9 @@ impl Login<'_> {
 
     fn negotiate(&mut self, stage: u8, text: &[u8]) -> Result<Vec<u8>, Refused> {
         let mut answers = self.keys.negotiate(text).ok_or(Refused::InvalidRequest)?;
+        if self.keys.wants_authentication {
+            return Err(Refused::Authentication);
+        }
         if self.keys.initiator.is_empty() || self.keys.target.is_none() && !self.keys.is_discovery {
             return Err(Refused::MissingParameter);
         }
@@ -113,28 +128,40 @@ impl Login<'_> {
         if stage == OPERATIONAL && !std::mem::replace(&mut self.has_declared, true) {
             add_pair(&mut answers, "MaxRecvDataSegmentLength", &LONGEST_DATA.to_string());
         }
-        Ok(answers)
+        // An answer in several PDUs isn't sent.
+        (answers.len() <= LONGEST_TEXT).then_some(answers).ok_or(Refused::InvalidRequest)
     }
 
     /// The connection goes to the Full Feature Phase: in the session that the TSIH names, or in a new one, which takes
     /// the place of the one that the same initiator port has.
     fn join(&self, request: &Header, response: &mut Header) -> Result<Member, Refused> {
-        let tsih = request.short(place::TSIH);
-        let known = self.target.session_of(&self.keys.initiator, request.part(place::ISID), tsih);
-        let session = if tsih == 0 {
-            if let Some(former) = known {
-                former.abandon();
-            }
-            let open = |tsih| Session::open(self.target, tsih, request, self.keys.clone(), self.address.clone()).ok();
-            self.target.add(open).ok_or(Refused::OutOfResources)?
-        } else {
-            known.filter(|session| !session.keys.is_discovery).ok_or(Refused::NoSession)?
+        let (tsih, isid) = (request.short(place::TSIH), request.part(place::ISID));
+        let known = |tsih| lock(&self.target.sessions).by_tsih.get(&tsih).cloned();
+        let session = match tsih {
+            0 => self.open(request, isid)?,
+            _ if self.keys.is_discovery => return Err(Refused::SessionType),
+            _ => known(tsih).filter(|session| session.is_of(&self.keys, isid)).ok_or(Refused::NoSession)?,
         };
-        let stream = self.stream.try_clone().map_err(|_| Refused::OutOfResources)?;
-        let connection = Connection::new(request.short(place::CID), self.keys.longest_data as usize, stream);
+        let (cid, longest_data) = (request.short(place::CID), self.keys.longest_data as usize);
+        let connection = Connection { cid, longest_data, stream: self.stream.clone(), changed: Condvar::new() };
         let (connection, stat_sn) = (Arc::new(connection), response.number(place::STAT_SN) + 1);
-        response.set_numbers(session.attach(&connection, stat_sn).ok_or(Refused::NotIncluded)?);
+        let numbers = session.attach(&connection, stat_sn).ok_or(Refused::NotIncluded)?;
+        response.set(place::EXP_CMD_SN, numbers.exp_cmd_sn);
+        response.set(place::MAX_CMD_SN, numbers.max_cmd_sn);
         response.0[place::TSIH..][..2].copy_from_slice(&session.tsih.to_be_bytes());
         Ok(Member { session, connection })
+    }
+
+    /// Opens a session. The one that the same initiator port has ends first, with all of its commands.
+    fn open(&self, request: &Header, isid: [u8; 6]) -> Result<Arc<Session>, Refused> {
+        let open = |tsih| Session::open(self.target, tsih, request, self.keys.clone(), self.address.clone()).ok();
+        loop {
+            match self.target.add(&self.keys, isid, open) {
+                Ok(session) => return Ok(session),
+                Err(Some(former)) if !former.abandon(self.until) => return Err(Refused::Unavailable),
+                Err(Some(_)) => {}
+                Err(None) => return Err(Refused::OutOfResources),
+            }
+        }
     }
 }

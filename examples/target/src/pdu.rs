@@ -56,6 +56,12 @@ pub const LONGEST_DATA: usize = 262_144;
 #[derive(Clone, Copy, Debug, PartialEq, Eq)]
 pub struct Header(pub [u8; 48]);
 
+impl Default for Header {
+    fn default() -> Header {
+        Header([0; 48])
+    }
+}
+
 impl Header {
     pub fn new(opcode: u8, flags: u8, tag: u32) -> Header {
         let mut header = Header([0; 48]);
@@ -94,6 +100,11 @@ impl Header {
         (self.number(place::LENGTHS) & 0x00ff_ffff) as usize
     }
 
+    /// With a data segment that is so long, and no additional header segments.
+    pub fn set_length(&mut self, length: usize) {
+        self.set(place::LENGTHS, length as u32 & 0x00ff_ffff);
+    }
+
     /// How much data the initiator of a SCSI Command with this bit, `READ` or `WRITE`, has room for or has ready.
     pub fn data_length(&self, bit: u8) -> usize {
         let is_meant = self.opcode() == opcode::SCSI_COMMAND && self.0[1] & bit != 0;
@@ -103,30 +114,35 @@ impl Header {
     pub fn short(&self, at: usize) -> u16 {
         u16::from_be_bytes(self.part(at))
     }
-
-    pub fn set_numbers(&mut self, numbers: cundarrix::Numbers) {
-        self.set(place::EXP_CMD_SN, numbers.exp_cmd_sn);
-        self.set(place::MAX_CMD_SN, numbers.max_cmd_sn);
-    }
 }
 
 /// A PDU: its header, and its data segment without the bytes that pad it.
-#[derive(Clone, Debug, PartialEq, Eq)]
+#[derive(Clone, Debug, Default, PartialEq, Eq)]
 pub struct Pdu {
     pub header: Header,
     pub data: Vec<u8>,
 }
 
 impl Pdu {
-    /// The next PDU of a stream. `None` at its end. Additional header segments are passed over.
-    pub fn read(stream: &mut impl Read) -> io::Result<Option<Pdu>> {
+    /// Whether these bytes begin with a whole PDU.
+    pub fn is_whole(bytes: &[u8]) -> bool {
+        let header = bytes.first_chunk().copied().map(Header);
+        header.is_some_and(|header| {
+            let additional = usize::from(header.0[place::LENGTHS]) * 4;
+            bytes.len() >= header.0.len() + additional + header.length().next_multiple_of(4)
+        })
+    }
+
+    /// The next PDU of a stream, with a data segment that is no longer than this. `None` at the stream's end.
+    /// Additional header segments are passed over.
+    pub fn read(stream: &mut impl Read, longest_data: usize) -> io::Result<Option<Pdu>> {
         let mut header = Header([0; 48]);
         if stream.read(&mut header.0[..1])? == 0 {
             return Ok(None);
         }
         stream.read_exact(&mut header.0[1..])?;
         let length = header.length();
-        if length > LONGEST_DATA {
+        if length > longest_data {
             return Err(io::Error::new(ErrorKind::InvalidData, "a data segment that is too long"));
         }
         stream.read_exact(&mut vec![0; usize::from(header.0[place::LENGTHS]) * 4])?;
@@ -138,8 +154,9 @@ impl Pdu {
 
     /// What goes on the wire, with the length of the data segment in the header.
     pub fn to_bytes(&self) -> Vec<u8> {
-        let mut bytes = [&self.header.0[..], &self.data].concat();
-        bytes[4..8].copy_from_slice(&(self.data.len() as u32 & 0x00ff_ffff).to_be_bytes());
+        let mut header = self.header;
+        header.set_length(self.data.len());
+        let mut bytes = [&header.0[..], &self.data].concat();
         bytes.resize(bytes.len().next_multiple_of(4), 0);
         bytes
     }

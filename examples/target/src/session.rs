@@ -1,32 +1,31 @@
-//! A session in its Full Feature Phase: the library decides, and this carries out.
-//!
-//! Which request executes when, what starts, what stops, and which PDU goes out when with which numbers comes from the
-//! library alone. The target's own part is the data of commands (immediate data, Data-Out, R2T and Data-In), what its
-//! units answer, and four things that it puts into the library's replies (`complete_reply`).
+//! A session in its Full Feature Phase. Which request executes when, what starts, what stops, and which PDU goes out
+//! when with which numbers comes from the library alone. The target's own part is the data of commands, what its units
+//! answer, and four things that it puts into the library's replies (`complete_reply`).
 
-use crate::command::{complete_response, data_ins, Command};
-use crate::connection::{Connection, Fault, PATIENCE};
+use crate::command::complete_response;
+use crate::connection::{Connection, Fault};
 use crate::keys::{add_pair, pairs, Keys};
 use crate::pdu::{opcode, place, Header, Pdu, FINAL, NO_TAG};
-use crate::scsi::Outcome;
-use crate::state::{State, MOST_DATA_INS};
-use crate::{lock, Target};
-use cundarrix::{Numbers, Options, Refusal};
+use crate::state::{State, Work, UNWRITTEN};
+use crate::threads::{lock, wait_for};
+use crate::trace::now;
+use crate::unit::Job;
+use crate::Target;
+use cundarrix::{Clearing as Function, Numbers, Options, Refusal};
+use disk::{Outcome, Sense};
 use std::sync::{Arc, Condvar, Mutex, MutexGuard, PoisonError};
+use std::time::{Duration, Instant};
 
-/// A session's connections are fixed when the library opens it. One that may have several is opened with the CID of the
-/// first one and so many of 0, 1, 2 .. that there are 16, and a connection that joins has one of these.
+/// The CIDs of a session that may have several connections: that of the first one, and so many of 0, 1, 2 and so on.
 const MOST_CONNECTIONS: usize = 16;
 
-/// The most commands of a unit's task set.
+/// The most commands of a unit's task set; and the most R2Ts, Data-Ins and pings that wait on a connection.
 const DEPTH: u32 = 256;
-
-/// The most immediate commands of a connection that are live. Each command has one R2T that waits, at the most.
-const MOST_IMMEDIATE: u32 = 8;
+const MOST_OWN: u32 = 64;
 
 pub struct Session {
     pub tsih: u16,
-    pub isid: [u8; 6],
+    isid: [u8; 6],
     pub keys: Keys,
     /// Where the target is reached, as SendTargets tells it.
     address: String,
@@ -34,193 +33,241 @@ pub struct Session {
     state: Mutex<State>,
     /// A request may be taken that had to wait, or nothing is left of the session.
     changed: Condvar,
+    /// A command was stopped, which a worker may be about to begin.
+    pub stopped: Condvar,
+}
+
+/// A reset of a unit: each command of another session that it waits for has this, too.
+pub struct Clearing {
+    session: Arc<Session>,
+    unit: u16,
+}
+
+impl Clearing {
+    /// Has all other sessions clear a unit.
+    pub fn run(session: Arc<Session>, unit: u16, function: Function) {
+        let sense = if function == Function::ClearTaskSet { Sense::CLEARED } else { Sense::RESET };
+        let mut others: Vec<_> = lock(&session.target.sessions).by_tsih.values().cloned().collect();
+        others.retain(|other| !Arc::ptr_eq(other, &session));
+        let clearing = Arc::new(Clearing { session, unit });
+        others.iter().for_each(|other| other.with(|state| state.clear(unit, sense, &clearing)));
+        clearing.end();
+    }
+
+    /// One has done so, or a command has stopped. The last one says that nothing is waited for any more.
+    pub fn end(self: Arc<Clearing>) {
+        if let Some(Clearing { session, unit }) = Arc::into_inner(self) {
+            let _ = session.with(|state| state.call(|library, tell| library.cleared(unit, tell)));
+        }
+    }
 }
 
 impl Session {
     /// Opens the library's session by its first login, for all connections that may come.
     pub fn open(target: &Arc<Target>, tsih: u16, login: &Header, keys: Keys, address: String) -> Result<Self, Refusal> {
-        let window = target.options.window;
         let options = Options::new()
             .first_cmd_sn(login.number(place::CMD_SN))
-            .window(window)
+            .window(target.options.window)
             .units(target.units.len() as u32)
             .depth(DEPTH)
             .level(keys.level)
-            .own(MOST_DATA_INS + window + MOST_IMMEDIATE)
-            .unwritten(1);
+            .own(MOST_OWN)
+            .unwritten(UNWRITTEN)
+            .shared(true);
         let first = login.short(place::CID);
         let others = (0..=u16::MAX).filter(|cid| *cid != first);
         let count = if keys.connections == 1 { 1 } else { MOST_CONNECTIONS };
         let cids: Vec<u16> = std::iter::once(first).chain(others).take(count).collect();
         let state = Mutex::new(State::new(cundarrix::Session::open(&options, &cids)?));
         let (isid, target) = (login.part(place::ISID), target.clone());
-        Ok(Session { tsih, isid, keys, address, target, state, changed: Condvar::new() })
+        Ok(Session { tsih, isid, keys, address, target, state, changed: Condvar::new(), stopped: Condvar::new() })
+    }
+
+    /// Whether it is the session of such an initiator port, for discovery or not.
+    pub fn is_of(&self, keys: &Keys, isid: [u8; 6]) -> bool {
+        let has_name = self.keys.initiator == keys.initiator && self.keys.is_discovery == keys.is_discovery;
+        has_name && self.isid == isid
     }
 
     /// A connection joins, whose next StatSN is this. `None` where the session can't take it.
     pub fn attach(self: &Arc<Session>, connection: &Arc<Connection>, stat_sn: u32) -> Option<Numbers> {
-        let mut state = lock(&self.state);
-        let has_room = !state.is_over && state.connections.len() < self.keys.connections as usize;
-        let has_joined = has_room && state.join(connection, stat_sn);
-        state.carry_out(self);
-        has_joined.then(|| state.library.numbers())
+        self.with(|state| {
+            let has_room = !state.is_over && state.connections.len() < self.keys.connections as usize;
+            (has_room && state.join(connection, stat_sn).is_ok()).then(|| state.library.numbers())
+        })
     }
 
     /// A PDU arrived. It waits while the library can't take it.
     pub fn take(self: &Arc<Session>, connection: &Arc<Connection>, pdu: Pdu) -> Result<(), Fault> {
         let (cid, header) = (connection.cid, pdu.header);
-        let is_talk = [opcode::NOP_OUT, opcode::TEXT, opcode::LOGOUT].contains(&header.opcode());
-        if self.keys.is_discovery && !is_talk {
+        if self.keys.is_discovery && ![opcode::NOP_OUT, opcode::TEXT, opcode::LOGOUT].contains(&header.opcode()) {
             return Err("a discovery session is for Text and Logout alone".into());
         }
         let mut state = lock(&self.state);
+        state.change(cid, |attached| (attached.is_taking, attached.was_heard) = (true, true));
         if header.opcode() == opcode::DATA_OUT {
             state.take_data(self, cid, &pdu);
             self.let_go(state);
             return Ok(());
         }
-        let cookie = state.keep(connection, pdu);
+        let cookie = state.keep(self, connection, pdu)?;
         loop {
             let taken = state.call(|library, tell| library.arrive(cid, &header.0, cookie, tell));
-            match taken {
-                Err(Refusal::Busy) if !state.is_broken(cid) => {
-                    // What it acknowledges may be what others wait for.
-                    let _ = state.call(|library, tell| library.heard(cid, &header.0, tell));
-                    state.carry_out(self);
-                    let wait = |state: &mut State| !state.library.may_take() && !state.is_broken(cid);
-                    state = self.changed.wait_while(state, wait).unwrap_or_else(PoisonError::into_inner);
-                }
-                Err(why) => {
-                    state.discard(cookie);
-                    self.let_go(state);
-                    return Err(why.into());
-                }
-                Ok(()) => {
-                    self.let_go(state);
-                    return Ok(());
-                }
+            if taken == Err(Refusal::Busy) && !state.is_broken(cid) {
+                state = self.wait_for_room(state, connection, &header);
+                continue;
             }
+            if taken.is_err() {
+                state.forget(self, cookie);
+            }
+            self.let_go(state);
+            return taken.map_err(Fault::from);
         }
     }
 
-    /// A unit ends a command that it executed, or that was stopped before (`None`): its data and its response go out.
-    /// Whether it is answered.
-    pub fn end_command(self: &Arc<Session>, command: &Command, outcome: Option<Outcome>) -> bool {
-        let outcome = outcome.map(Arc::new);
-        let mut state = lock(&self.state);
-        if let Some(outcome) = &outcome {
-            state.keep_outcome(command.cookie, outcome);
-            state = self.put_data(state, command, outcome);
-        }
-        let ended = match &outcome {
-            Some(outcome) if !command.is_stopped() => {
-                state.call(|library, tell| library.complete(command.ticket, outcome.status, tell)).is_ok()
-            }
-            _ => {
-                // Of a command that no worker had begun it was said before.
-                let _ = state.call(|library, tell| library.stopped(command.ticket, tell));
-                false
-            }
-        };
-        self.let_go(state);
-        ended
-    }
-
-    /// Puts the data of a READ, and waits for room where need be, until the command is stopped.
-    fn put_data<'a>(
+    /// The library can't take a request. What it acknowledges, and what goes out, may be what all wait for.
+    fn wait_for_room<'a>(
         self: &'a Arc<Session>,
         mut state: MutexGuard<'a, State>,
-        command: &Command,
-        outcome: &Outcome,
+        connection: &Connection,
+        header: &Header,
     ) -> MutexGuard<'a, State> {
-        let connection = &command.connection;
-        for header in data_ins(&command.header, outcome.data.len(), &self.keys, connection.longest_data) {
-            let is_full = |state: &mut State| !state.has_room(connection.cid) && !command.is_stopped();
-            state = connection.changed.wait_while(state, is_full).unwrap_or_else(PoisonError::into_inner);
-            if command.is_stopped() || state.put_data_in(command, &header).is_err() {
-                break;
-            }
-            state.carry_out(self);
-        }
+        let cid = connection.cid;
+        let _ = state.call(|library, tell| library.heard(cid, &header.0, tell));
+        self.let_go(state);
+        self.write(connection, false);
+        let mut state = lock(&self.state);
+        state.waiters += 1;
+        let is_busy = |state: &mut State| !state.library.may_take() && !state.is_broken(cid);
+        let mut state = self.changed.wait_while(state, is_busy).unwrap_or_else(PoisonError::into_inner);
+        state.waiters -= 1;
         state
     }
 
-    /// The bytes of the next PDU of a connection, once there is one; `has_written`: the last one is written. `None`
-    /// where nothing goes out there any more.
-    pub fn next(self: &Arc<Session>, connection: &Connection, has_written: bool) -> Option<Vec<u8>> {
-        let cid = connection.cid;
-        let mut state = lock(&self.state);
-        if has_written {
-            let _ = state.call(|library, tell| library.written(cid, tell));
-        }
-        loop {
-            let next = state.call(|library, tell| library.next(cid, tell));
-            let goes_on = state.goes_on(cid);
-            match next {
-                Ok(handed) if goes_on => {
-                    let outgoing = state.outgoing(self, connection, &handed);
-                    self.let_go(state);
-                    return Some(outgoing.to_bytes());
-                }
-                Err(Refusal::Nothing) if goes_on => state.carry_out(self),
-                _ => {
-                    self.let_go(state);
-                    return None;
-                }
-            }
-            self.changed.notify_all();
-            let waited = connection.changed.wait_timeout_while(state, PATIENCE, |state| state.is_quiet(cid));
-            state = waited.unwrap_or_else(PoisonError::into_inner).0;
-        }
+    /// A worker executes a command, unless it was stopped.
+    pub fn perform(self: &Arc<Session>, job: &Job) {
+        self.let_go(self.execute(lock(&self.state), job));
     }
 
-    /// A connection's reader is at its end: what is still to be written there isn't.
-    pub fn break_off(self: &Arc<Session>, cid: u16) {
+    /// Executes a command without the lock, unless it was stopped.
+    fn execute<'a>(self: &'a Arc<Session>, mut state: MutexGuard<'a, State>, job: &Job) -> MutexGuard<'a, State> {
+        let (begin, delay) = (now(), job.unit.delay_before());
+        if !delay.is_zero() {
+            state = wait_for(state, &self.stopped, delay, |state| state.work(job.cookie).is_some());
+        }
+        let (mut end, mut is_answered) = (begin, false);
+        if let Some(work) = state.work(job.cookie) {
+            *work = Work::Begun;
+            drop(state);
+            let outcome = job.execute();
+            end = now();
+            state = lock(&self.state);
+            is_answered = state.finish(self, job, outcome);
+        }
+        self.target.trace.write(job, begin, end, is_answered);
+        state
+    }
+
+    /// Waits for something to write on a connection, whose clock strikes meanwhile. Whether it goes on.
+    pub fn await_turn(self: &Arc<Session>, connection: &Connection) -> bool {
+        let cid = connection.cid;
         let mut state = lock(&self.state);
-        state.break_off(cid);
+        loop {
+            let strike = state.connections.get(&cid).and_then(|attached| attached.next_strike);
+            let left = strike.map_or(Duration::ZERO, |strike| strike.saturating_duration_since(Instant::now()));
+            if left.is_zero() {
+                state.strike(self, cid);
+                state.carry_out(self);
+            }
+            if !state.is_quiet(cid) {
+                break;
+            }
+            state.change(cid, |attached| attached.is_idle = true);
+            state = wait_for(state, &connection.changed, left, |state| state.is_quiet(cid));
+            state.change(cid, |attached| attached.is_idle = false);
+        }
+        let goes_on = !state.is_broken(cid);
         self.let_go(state);
+        goes_on
+    }
+
+    /// Its writer, or its reader, writes what there is for a connection. Whether the socket took something.
+    pub fn write(self: &Arc<Session>, connection: &Connection, is_writer: bool) -> bool {
+        let (cid, mut written) = (connection.cid, Ok(1));
+        let mut state = lock(&self.state);
+        state.change(cid, |attached| attached.is_taking &= is_writer);
+        while let Some(mut batch) = state.take_batch(self, connection, is_writer) {
+            self.let_go(state);
+            written = batch.write(&*connection.stream);
+            state = lock(&self.state);
+            if !state.end_batch(cid, batch, &written) {
+                break;
+            }
+        }
+        self.let_go(state);
+        !matches!(written, Ok(0))
     }
 
     /// A connection is gone, with its threads. Where that wasn't by a Logout, the session ends with it, as it does
     /// without error recovery; it also ends with its last connection.
     pub fn lose(self: &Arc<Session>, cid: u16) {
-        let mut state = lock(&self.state);
-        let was_closed = state.connections.remove(&cid).is_some_and(|attached| attached.is_closed);
-        let _ = state.call(|library, tell| library.lose(cid, tell));
-        if !was_closed || state.connections.is_empty() {
-            state.end();
-        }
-        self.let_go(state);
+        self.with(|state| {
+            let was_closed = state.connections.remove(&cid).is_some_and(|attached| attached.is_closed);
+            let _ = state.call(|library, tell| library.lose(cid, tell));
+            if !was_closed || state.connections.is_empty() {
+                state.end();
+            }
+        });
     }
 
-    /// Another login takes the session's place, once all of its commands have stopped.
-    pub fn abandon(self: &Arc<Session>) {
+    /// Another login takes the session's place. Whether all of its commands have stopped, until when at the latest.
+    pub fn abandon(self: &Arc<Session>, until: Instant) -> bool {
+        self.with(State::end);
         let mut state = lock(&self.state);
-        state.end();
-        state.carry_out(self);
-        self.changed.notify_all();
-        let waited = self.changed.wait_while(state, |state| !state.is_left());
-        self.let_go(waited.unwrap_or_else(PoisonError::into_inner));
+        state.waiters += 1;
+        let left = until.saturating_duration_since(Instant::now());
+        let mut state = wait_for(state, &self.changed, left, |state| !state.is_left());
+        state.waiters -= 1;
+        state.is_left()
+    }
+
+    /// Makes calls under the lock, and does what comes of them.
+    pub fn with<T>(self: &Arc<Session>, act: impl FnOnce(&mut State) -> T) -> T {
+        let mut state = lock(&self.state);
+        let done = act(&mut state);
+        self.let_go(state);
+        done
     }
 
     /// Carries out what was told, and lets the lock go. A session of which nothing is left is the target's no more.
-    fn let_go(self: &Arc<Session>, mut state: MutexGuard<State>) {
-        state.carry_out(self);
-        if state.is_left() {
-            lock(&self.target.sessions).by_tsih.remove(&self.tsih);
+    fn let_go<'a>(self: &'a Arc<Session>, mut state: MutexGuard<'a, State>) {
+        loop {
+            state.carry_out(self);
+            let Some(job) = state.jobs.pop_front() else {
+                break;
+            };
+            state = self.execute(state, &job);
         }
-        self.changed.notify_all();
+        if state.is_left() {
+            lock(&self.target.sessions).by_tsih.retain(|_, known| !Arc::ptr_eq(known, self));
+        }
+        if state.waiters > 0 {
+            self.changed.notify_all();
+        }
     }
 
-    /// Puts into a reply of the library's what the library doesn't know: the residual count and the unit's sense data
-    /// of a SCSI Response, the ping's data of a NOP-In, and the Text Response in place of the Reject, as the library
-    /// has no negotiation. Its numbers, its tag, its status and its place in the order stay the library's.
-    pub fn complete_reply(&self, pdu: &mut Pdu, request: &Pdu, outcome: &Outcome) {
+    /// Puts into a reply of the library's what the library doesn't know: what `complete_response` does, the ping's data
+    /// of a NOP-In, and the Text Response in place of the Reject. All else of it stays the library's.
+    pub fn complete_reply(&self, pdu: &mut Pdu, request: &mut Pdu, outcome: Option<&Outcome>, longest_data: usize) {
         match (request.header.opcode(), pdu.header.opcode()) {
-            (opcode::SCSI_COMMAND, opcode::SCSI_RESPONSE) => complete_response(pdu, &request.header, outcome),
-            (opcode::NOP_OUT, opcode::NOP_IN) => pdu.data = request.data.clone(),
+            (opcode::SCSI_COMMAND, opcode::SCSI_RESPONSE) => {
+                let failed = Outcome::failed(None);
+                complete_response(pdu, &request.header, outcome.unwrap_or(&failed));
+            }
+            (opcode::NOP_OUT, opcode::NOP_IN) => pdu.data = std::mem::take(&mut request.data),
             (opcode::TEXT, opcode::REJECT) if request.header.tag() != NO_TAG => {
-                if let Some(data) = self.text_answer(&request.header, &request.data) {
+                let answer = self.text_answer(&request.header, &request.data);
+                if let Some(data) = answer.filter(|data| data.len() <= longest_data) {
                     let mut header = Header::new(opcode::TEXT_RESPONSE, FINAL, request.header.tag());
                     header.set(place::TRANSFER_TAG, NO_TAG);
                     header.0[place::STAT_SN..][..12].copy_from_slice(&pdu.header.0[place::STAT_SN..][..12]);
@@ -233,8 +280,8 @@ impl Session {
 
     /// The answer to a text of one PDU. `None` where it is longer, or no text: it is rejected then.
     fn text_answer(&self, header: &Header, text: &[u8]) -> Option<Vec<u8>> {
-        const CONTINUES: u8 = 0x40;
-        if !header.is_final() || header.0[1] & CONTINUES != 0 {
+        // The F bit, and not the C bit.
+        if header.0[1] & 0xc0 != FINAL {
             return None;
         }
         let mut answer = Vec::new();

@@ -1,18 +1,22 @@
 //! What a session's lock guards: the library's session, its connections, and what is kept of each request.
 
-use crate::command::{Command, Transfer};
-use crate::connection::{Connection, PATIENCE};
-use crate::pdu::{opcode, place, Header, Pdu, WRITE};
-use crate::scsi::{wanted_length, Outcome};
-use crate::session::Session;
-use crate::unit::Job;
-use cundarrix::{Action, PduKind, Refusal};
+use crate::command::{DataIns, Transfer};
+use crate::connection::{Connection, Fault};
+use crate::keys::FIRST_BURST;
+use crate::outgoing::{Batch, Outgoing};
+use crate::pdu::{opcode, place, Header, Pdu, FINAL, LONGEST_DATA, NO_TAG, WRITE};
+use crate::session::{Clearing, Session};
+use crate::unit::{Job, Unit};
+use cundarrix::{Action, Clearing as Function, PduKind, Refusal};
+use disk::{Outcome, Sense, MOST_BYTES};
 use std::collections::{HashMap, VecDeque};
-use std::sync::Arc;
+use std::io;
+use std::net::Shutdown;
+use std::sync::{Arc, Weak};
 use std::time::Instant;
 
-/// The most Data-Ins that wait on a connection.
-pub const MOST_DATA_INS: u32 = 64;
+/// The most PDUs that are written together.
+pub const UNWRITTEN: u32 = 32;
 
 /// Transfer tags from here on are the library's, for its pings.
 const FIRST_PING: u32 = 0x8000_0000;
@@ -24,52 +28,83 @@ pub struct State {
     requests: HashMap<u64, Kept>,
     /// What the library told, and isn't carried out yet.
     actions: VecDeque<Action>,
-    next_cookie: u64,
-    next_transfer_tag: u32,
-    /// No connection joins any more.
+    /// Commands that take no time. Who lets the lock go executes them.
+    pub jobs: VecDeque<Job>,
+    last_cookie: u64,
+    /// The unit attentions that the initiator isn't told of yet.
+    attentions: HashMap<u16, Sense>,
+    /// How many bytes are kept for requests that haven't started, and are for commands that have.
+    arrived: usize,
+    moving: usize,
+    /// Commands that were started, and wait until others have moved their data; and how much each of them moves.
+    waiting: VecDeque<(u64, usize)>,
+    /// How many threads wait for the session; and no connection joins any more.
+    pub waiters: u32,
     pub is_over: bool,
 }
 
 /// A connection that joined and wasn't lost yet.
+#[derive(Default)]
 pub struct Attached {
-    connection: Arc<Connection>,
-    /// The library may have something for it, or nothing any more.
+    connection: Weak<Connection>,
+    /// The library may have something for it, or nothing any more; and a thread writes there.
     is_told: bool,
-    /// A Logout closed it.
+    is_writing: bool,
+    /// Its reader will write what there is, before it waits for more requests; and its writer waits.
+    pub is_taking: bool,
+    pub is_idle: bool,
+    /// What was handed out for it, and isn't written yet.
+    unwritten: Option<Batch>,
+    /// Commands that have something to put into the library's queue.
+    putting: VecDeque<u64>,
+    /// A Logout closed it; and its transport broke, or is given up.
     pub is_closed: bool,
-    /// Its transport broke, or is given up.
     is_broken: bool,
-    data_ins: u32,
-    asked_since: Option<Instant>,
+    /// When its clock strikes next, whether something arrived since it did, and since when a ping is unanswered.
+    pub next_strike: Option<Instant>,
+    pub was_heard: bool,
+    asked: Option<Instant>,
 }
 
-/// A request, and of a command what has come of it so far.
-struct Kept {
-    pdu: Pdu,
-    connection: Arc<Connection>,
-    command: Option<Arc<Command>>,
-    transfer: Transfer,
-    outcome: Option<Arc<Outcome>>,
-    /// How many of its Data-Ins wait.
-    data_ins: u32,
-}
-
-/// A PDU on its way out: whole, or the header of a Data-In and where its data is.
-pub enum Outgoing {
-    Whole(Pdu),
-    Part(Header, Arc<Outcome>),
-}
-
-impl Outgoing {
-    pub fn to_bytes(&self) -> Vec<u8> {
-        match self {
-            Outgoing::Whole(pdu) => pdu.to_bytes(),
-            Outgoing::Part(header, outcome) => {
-                let begin = header.number(place::OFFSET) as usize;
-                Pdu { header: *header, data: outcome.data[begin..begin + header.length()].to_vec() }.to_bytes()
-            }
+impl Attached {
+    /// Wakes the writer, if it waits. To wake nobody is a call of the system, too.
+    fn wake(&self) {
+        if let Some(connection) = self.connection.upgrade().filter(|_| self.is_idle) {
+            connection.changed.notify_one();
         }
     }
+}
+
+/// A request, and of a command that was started what has come of it so far.
+#[derive(Default)]
+struct Kept {
+    pdu: Pdu,
+    cid: u16,
+    ticket: u64,
+    unit: Option<Arc<Unit>>,
+    work: Work,
+    transfer: Transfer,
+    /// What it has to put into the library's queue: an R2T, or Data-Ins.
+    r2t: Option<Header>,
+    data_ins: DataIns,
+    outcome: Option<Arc<Outcome>>,
+    /// How much of the session's room it takes: until it is started, and from then on.
+    arrived: usize,
+    moving: usize,
+    /// The resets that wait until its unit has executed it.
+    clearings: Vec<Arc<Clearing>>,
+}
+
+/// How far the unit of a command has come.
+#[derive(Default, PartialEq, Eq)]
+pub enum Work {
+    #[default]
+    NotBegun,
+    Begun,
+    /// It is to stop, and goes on to its end all the same.
+    Stopping,
+    Ended,
+    Stopped,
 }
 
 impl State {
@@ -79,8 +114,13 @@ impl State {
             connections: HashMap::new(),
             requests: HashMap::new(),
             actions: VecDeque::new(),
-            next_cookie: 0,
-            next_transfer_tag: 0,
+            jobs: VecDeque::new(),
+            last_cookie: 0,
+            attentions: HashMap::new(),
+            arrived: 0,
+            moving: 0,
+            waiting: VecDeque::new(),
+            waiters: 0,
             is_over: false,
         }
     }
@@ -99,66 +139,63 @@ impl State {
         while let Some(action) = self.actions.pop_front() {
             match action {
                 Action::Start { ticket, unit, cookie, .. } => self.start(session, ticket, unit, cookie),
-                Action::Stop { ticket, cookie, .. } => self.stop(ticket, cookie),
-                Action::Ready { cid } => self.tell(cid, |_| {}),
-                Action::Close { cid } => self.tell(cid, |attached| attached.is_closed = true),
-                Action::Forget { cookie } => drop(self.requests.remove(&cookie)),
-                // Sessions don't tell each other of resets, so the library isn't asked to.
-                Action::Reset { .. } => {}
+                Action::Stop { ticket, cookie, .. } => self.stop(session, ticket, cookie),
+                Action::Ready { cid } => self.tell(cid),
+                Action::Close { cid } => {
+                    self.change(cid, |attached| attached.is_closed = true);
+                    self.tell(cid);
+                }
+                Action::Forget { cookie } => self.forget(session, cookie),
+                Action::Reset { unit, function } => {
+                    // Also who resets a unit is told that it was reset.
+                    if function == Function::LogicalUnitReset {
+                        self.attentions.insert(unit, Sense::RESET);
+                    }
+                    // The other sessions are told without this one's lock.
+                    let session = session.clone();
+                    session.target.clone().errands.push(Box::new(move || Clearing::run(session, unit, function)));
+                }
             }
         }
     }
 
-    /// Tells the writer of a connection to look again.
-    fn tell(&mut self, cid: u16, change: impl FnOnce(&mut Attached)) {
+    /// Tells whoever writes on a connection to look again.
+    fn tell(&mut self, cid: u16) {
+        self.change(cid, |attached| {
+            attached.is_told = true;
+            if !attached.is_taking {
+                attached.wake();
+            }
+        });
+    }
+
+    pub fn change(&mut self, cid: u16, change: impl FnOnce(&mut Attached)) {
         if let Some(attached) = self.connections.get_mut(&cid) {
             change(attached);
-            attached.is_told = true;
-            attached.connection.changed.notify_all();
         }
     }
 
-    // ---- connections
-
-    /// A connection joins, whose next StatSN is this. Whether it may.
-    pub fn join(&mut self, connection: &Arc<Connection>, stat_sn: u32) -> bool {
-        let cid = connection.cid;
-        let has_joined = self.call(|library, tell| library.join(cid, stat_sn, tell)).is_ok();
-        if has_joined {
-            let connection = connection.clone();
-            let (is_told, is_closed, is_broken) = (true, false, false);
-            let attached = Attached { connection, is_told, is_closed, is_broken, data_ins: 0, asked_since: None };
-            self.connections.insert(cid, attached);
-        }
-        has_joined
+    /// A connection joins, whose next StatSN is this.
+    pub fn join(&mut self, connection: &Arc<Connection>, stat_sn: u32) -> Result<(), Refusal> {
+        self.call(|library, tell| library.join(connection.cid, stat_sn, tell))?;
+        let (connection, cid) = (Arc::downgrade(connection), connection.cid);
+        let attached = Attached { connection, is_told: true, was_heard: true, ..Attached::default() };
+        self.connections.insert(cid, attached);
+        Ok(())
     }
 
-    /// The transport of a connection is given up. Its threads end, and then it is lost.
+    /// The transport of a connection is given up, both ways. Its threads end, and then it is lost.
     pub fn break_off(&mut self, cid: u16) {
-        self.tell(cid, |attached| {
+        if let Some(attached) = self.connections.get_mut(&cid).filter(|attached| !attached.is_broken) {
             attached.is_broken = true;
-            attached.connection.shut_down();
-        });
+            // Where the initiator has closed it already, there is nothing left to close.
+            let _ = attached.connection.upgrade().map(|connection| connection.stream.shutdown(Shutdown::Both));
+            attached.wake();
+        }
     }
 
     pub fn is_broken(&self, cid: u16) -> bool {
         self.connections.get(&cid).is_none_or(|attached| attached.is_broken)
-    }
-
-    /// Whether the writer of a connection has nothing to look at yet. Once it looks, it is told anew.
-    pub fn is_quiet(&mut self, cid: u16) -> bool {
-        self.connections.get_mut(&cid).is_some_and(|attached| !std::mem::take(&mut attached.is_told))
-    }
-
-    /// Whether a connection goes on: it isn't given up, and its initiator hasn't left a ping unanswered for too long.
-    pub fn goes_on(&mut self, cid: u16) -> bool {
-        let is_asked = self.library.is_asked(cid);
-        let Some(attached) = self.connections.get_mut(&cid) else {
-            return false;
-        };
-        let since = attached.asked_since.filter(|_| is_asked).unwrap_or_else(Instant::now);
-        attached.asked_since = is_asked.then_some(since);
-        !attached.is_broken && since.elapsed() < PATIENCE
     }
 
     /// The session is over: no connection joins, and those that are there are given up.
@@ -173,62 +210,142 @@ impl State {
         self.is_over && self.connections.is_empty() && self.requests.is_empty()
     }
 
-    // ---- requests
+    /// Whether there is nothing for the writer of a connection to do.
+    pub fn is_quiet(&self, cid: u16) -> bool {
+        self.connections.get(&cid).is_some_and(|attached| {
+            let has_work = attached.unwritten.is_some() || attached.is_told && !attached.is_taking;
+            !attached.is_broken && (attached.is_writing || !has_work)
+        })
+    }
 
-    /// Keeps a request that arrived, and gives its cookie. Data that nothing comes of isn't kept.
-    pub fn keep(&mut self, connection: &Arc<Connection>, mut pdu: Pdu) -> u64 {
-        if ![opcode::SCSI_COMMAND, opcode::NOP_OUT, opcode::TEXT].contains(&pdu.header.opcode()) {
-            pdu.data = Vec::new();
+    /// A connection's clock strikes: an initiator that was silent is asked. One that doesn't answer is given up.
+    pub fn strike(&mut self, session: &Session, cid: u16) {
+        let patience = session.target.options.ping;
+        let is_asked = self.library.is_asked(cid);
+        let Some(attached) = self.connections.get_mut(&cid) else {
+            return;
+        };
+        attached.next_strike = Some(Instant::now() + patience / 2);
+        let was_heard = std::mem::take(&mut attached.was_heard);
+        if was_heard && !is_asked {
+            attached.asked = None;
+        } else if attached.asked.is_some_and(|since| since.elapsed() >= patience) {
+            self.break_off(cid);
+        } else if attached.asked.is_none() {
+            attached.asked = Some(Instant::now());
+            // A discovery session knows no pings (RFC 7143 section 4.3): to be silent is enough.
+            if !is_asked && !session.keys.is_discovery {
+                let mut header = Header::new(opcode::NOP_IN, FINAL, NO_TAG);
+                header.set(place::TRANSFER_TAG, FIRST_PING - 1);
+                // Its cookie is that of no request: these count from 1.
+                let _ = self.call(|library, tell| library.put(cid, &header.0, 0, tell));
+            }
         }
-        let (connection, transfer) = (connection.clone(), Transfer::default());
-        self.next_cookie += 1;
-        let kept = Kept { pdu, connection, command: None, transfer, outcome: None, data_ins: 0 };
-        self.requests.insert(self.next_cookie, kept);
-        self.next_cookie
     }
 
-    /// A request wasn't taken.
-    pub fn discard(&mut self, cookie: u64) {
-        self.requests.remove(&cookie);
+    /// Keeps a request that arrived, without data that nothing comes of, and gives its cookie.
+    pub fn keep(&mut self, session: &Session, connection: &Connection, mut pdu: Pdu) -> Result<u64, Fault> {
+        let most = match pdu.header.opcode() {
+            // One byte more than what may come tells that it is wrong.
+            opcode::SCSI_COMMAND => session.keys.first_burst as usize + 1,
+            opcode::NOP_OUT => connection.longest_data,
+            opcode::TEXT => usize::MAX,
+            _ => 0,
+        };
+        if pdu.data.len() > most {
+            pdu.data = pdu.data[..most].to_vec();
+        }
+        let arrived = pdu.data.len();
+        // For each place of the window, and for some immediate commands.
+        if self.arrived + arrived > (session.target.options.window + 16) as usize * FIRST_BURST as usize {
+            return Err("the initiator sends more data ahead than there is room for".into());
+        }
+        self.arrived += arrived;
+        self.last_cookie += 1;
+        self.requests.insert(self.last_cookie, Kept { pdu, cid: connection.cid, arrived, ..Kept::default() });
+        Ok(self.last_cookie)
     }
 
-    fn start(&mut self, session: &Arc<Session>, ticket: u64, unit: u16, cookie: u64) {
-        if let (Some(kept), Some(unit)) = (self.requests.get_mut(&cookie), session.target.units.get(unit as usize)) {
-            let (header, data) = (kept.pdu.header, std::mem::take(&mut kept.pdu.data));
-            let wanted = wanted_length(unit, &header.part(place::CDB)).min(header.data_length(WRITE));
-            kept.transfer = Transfer::new(&header, data, wanted, session.keys.first_burst as usize);
-            let command = Command::new(ticket, cookie, unit.clone(), header, kept.connection.clone());
-            kept.command = Some(Arc::new(command));
-            self.advance(session, cookie);
+    /// Nothing speaks of a request any more, or it wasn't taken.
+    pub fn forget(&mut self, session: &Arc<Session>, cookie: u64) {
+        if let Some(kept) = self.requests.remove(&cookie) {
+            self.arrived -= kept.arrived;
+            self.moving -= kept.moving;
+            self.admit(session);
         }
     }
 
-    /// Asks for the data that a command needs next, or gives it to its unit once all is there.
+    fn start(&mut self, session: &Arc<Session>, ticket: u64, number: u16, cookie: u64) {
+        let (unit, Some(kept)) = (&session.target.units[usize::from(number)], self.requests.get_mut(&cookie)) else {
+            return;
+        };
+        (kept.ticket, kept.unit) = (ticket, Some(unit.clone()));
+        self.arrived -= std::mem::take(&mut kept.arrived);
+        let (header, data) = (kept.pdu.header, std::mem::take(&mut kept.pdu.data));
+        let cdb = header.part(place::CDB);
+        let wanted = unit.disk.wanted_length(&cdb).min(header.data_length(WRITE));
+        kept.transfer = Transfer::new(&header, data, wanted, session.keys.first_burst as usize);
+        // INQUIRY and REPORT LUNS tell no unit attention.
+        let attention = if [0x12, 0xa0].contains(&cdb[0]) { None } else { self.attentions.remove(&number) };
+        if let Some(sense) = attention {
+            return self.conclude(session, cookie, Outcome::failed(Some(sense)));
+        }
+        match wanted.max(unit.disk.read_length(&cdb)) {
+            0 => self.advance(session, cookie),
+            length => {
+                self.waiting.push_back((cookie, length));
+                self.admit(session);
+            }
+        }
+    }
+
+    /// Has the commands go on that wait, in their order, as far as there is room for their data.
+    fn admit(&mut self, session: &Arc<Session>) {
+        while let Some(&(cookie, length)) = self.waiting.front() {
+            if self.moving + length > MOST_BYTES {
+                return;
+            }
+            self.waiting.pop_front();
+            if let Some(kept) = self.requests.get_mut(&cookie).filter(|kept| kept.work == Work::NotBegun) {
+                kept.moving = length;
+                self.moving += length;
+                self.advance(session, cookie);
+            }
+        }
+    }
+
+    /// Asks for the data that a command needs next, ahead of what goes out; or gives it to its unit, once all is there.
     fn advance(&mut self, session: &Arc<Session>, cookie: u64) {
         let Some(kept) = self.requests.get_mut(&cookie) else {
             return;
         };
-        let Some(command) = kept.command.clone() else {
+        let (ticket, header, transfer_tag) = (kept.ticket, kept.pdu.header, cookie as u32 % FIRST_PING);
+        kept.r2t = kept.transfer.ask(&header, transfer_tag, session.keys.max_burst as usize);
+        if kept.r2t.is_some() {
+            let cid = kept.cid;
+            self.change(cid, |attached| attached.putting.push_front(cookie));
+            self.put(cid);
             return;
-        };
-        let asked = kept.transfer.ask(&command.header, self.next_transfer_tag, session.keys.max_burst as usize);
-        let Some(header) = asked else {
+        }
+        if let Some(unit) = kept.unit.clone() {
             let data = std::mem::take(&mut kept.transfer).data();
-            let unit = command.unit.clone();
-            return unit.push(Job { session: session.clone(), command, data });
-        };
-        self.next_transfer_tag = (self.next_transfer_tag + 1) % FIRST_PING;
-        // There is room for an R2T of each command; and one whose connection is closed doesn't start.
-        let _ = self.call(|library, tell| library.put_data(command.ticket, &header.0, tell));
+            let job = Job { session: session.clone(), ticket, cookie, unit: unit.clone(), header, data };
+            match unit.is_instant() {
+                true => self.jobs.push_back(job),
+                false => unit.jobs.push(job),
+            }
+        }
     }
 
     /// A Data-Out arrived. What is for no command any more is discarded.
     pub fn take_data(&mut self, session: &Arc<Session>, cid: u16, pdu: &Pdu) {
         let _ = self.call(|library, tell| library.heard(cid, &pdu.header.0, tell));
-        let (tag, transfer_tag) = (pdu.header.tag(), pdu.header.number(place::TRANSFER_TAG));
-        let mut awaiting = self.requests.iter_mut().filter(|(_, kept)| kept.transfer.awaits(transfer_tag));
-        let found = awaiting.find(|(_, kept)| kept.connection.cid == cid && kept.pdu.header.tag() == tag);
-        if let Some((&cookie, kept)) = found {
+        let transfer_tag = pdu.header.number(place::TRANSFER_TAG);
+        // The transfer tag is the lower part of the cookie, and no older request with the same one is kept.
+        let age = (self.last_cookie as u32).wrapping_sub(transfer_tag) % FIRST_PING;
+        let cookie = self.last_cookie.wrapping_sub(age.into());
+        let found = self.requests.get_mut(&cookie).filter(|kept| kept.transfer.awaits(transfer_tag));
+        if let Some(kept) = found.filter(|kept| kept.cid == cid && kept.pdu.header.tag() == pdu.header.tag()) {
             kept.transfer.take(pdu);
             if pdu.header.is_final() {
                 self.advance(session, cookie);
@@ -236,69 +353,175 @@ impl State {
         }
     }
 
-    /// A command is taken out. Where no unit works on it, it has stopped; else its worker says so when it has.
-    fn stop(&mut self, ticket: u64, cookie: u64) {
+    /// A command is taken out. Where no unit executes it, it has stopped; else its unit says so when it has.
+    fn stop(&mut self, session: &Session, ticket: u64, cookie: u64) {
         let Some(kept) = self.requests.get_mut(&cookie) else {
             return;
         };
         kept.transfer = Transfer::default();
-        let (cid, data_ins) = (kept.connection.cid, std::mem::take(&mut kept.data_ins));
-        let has_stopped = kept.command.as_ref().is_none_or(|command| command.stop());
-        self.tell(cid, |attached| attached.data_ins -= data_ins);
-        if has_stopped {
-            let _ = self.call(|library, tell| library.stopped(ticket, tell));
+        if [Work::Begun, Work::Stopping].contains(&kept.work) {
+            kept.work = Work::Stopping;
+            return;
+        }
+        kept.work = Work::Stopped;
+        session.stopped.notify_all();
+        let _ = self.call(|library, tell| library.stopped(ticket, tell));
+    }
+
+    /// How far the unit of a command has come, unless the command was stopped before it began.
+    pub fn work(&mut self, cookie: u64) -> Option<&mut Work> {
+        self.requests.get_mut(&cookie).map(|kept| &mut kept.work).filter(|work| **work != Work::Stopped)
+    }
+
+    /// A unit has executed a command. Whether it is answered.
+    pub fn finish(&mut self, session: &Session, job: &Job, outcome: Outcome) -> bool {
+        let Some(kept) = self.requests.get_mut(&job.cookie) else {
+            return false;
+        };
+        kept.clearings.drain(..).for_each(|clearing| session.target.errands.push(Box::new(|| clearing.end())));
+        let is_answered = kept.work == Work::Begun;
+        kept.work = if is_answered { Work::Ended } else { Work::Stopped };
+        if is_answered {
+            self.conclude(session, job.cookie, outcome);
+        } else {
+            let _ = self.call(|library, tell| library.stopped(job.ticket, tell));
+        }
+        is_answered
+    }
+
+    /// Another session reset or cleared a unit. It waits for what the unit executes for this one.
+    pub fn clear(&mut self, unit: u16, sense: Sense, clearing: &Arc<Clearing>) {
+        let _ = self.call(|library, tell| library.clear(unit, tell));
+        // Whose commands were none isn't told that they were cleared.
+        let is_cleared = |kept: &Kept| {
+            let header = &kept.pdu.header;
+            (header.opcode(), header.0[9].into()) == (opcode::SCSI_COMMAND, unit) && kept.outcome.is_none()
+        };
+        if sense == Sense::RESET || self.requests.values().any(is_cleared) {
+            self.attentions.insert(unit, sense);
+        }
+        for kept in self.requests.values_mut().filter(|kept| [Work::Begun, Work::Stopping].contains(&kept.work)) {
+            if kept.unit.as_ref().is_some_and(|its| u16::from(its.disk.number) == unit) {
+                kept.clearings.push(clearing.clone());
+            }
         }
     }
 
-    // ---- what goes out
-
-    /// A unit executed a command: what came of it is kept for the PDUs that tell it.
-    pub fn keep_outcome(&mut self, cookie: u64, outcome: &Arc<Outcome>) {
-        if let Some(kept) = self.requests.get_mut(&cookie) {
-            kept.outcome = Some(outcome.clone());
+    /// A command is answered: what came of it is kept for the PDUs that tell it.
+    fn conclude(&mut self, session: &Session, cookie: u64, outcome: Outcome) {
+        let Some(kept) = self.requests.get_mut(&cookie) else {
+            return;
+        };
+        let cid = kept.cid;
+        if let Some(attached) = self.connections.get_mut(&cid) {
+            let longest_data = attached.connection.upgrade().map_or(LONGEST_DATA, |connection| connection.longest_data);
+            kept.data_ins = DataIns::new(&kept.pdu.header, outcome.data_length(), &session.keys, longest_data);
+            attached.putting.push_back(cookie);
         }
+        kept.outcome = Some(Arc::new(outcome));
+        self.put(cid);
     }
 
-    /// Whether one more Data-In may wait on a connection.
-    pub fn has_room(&self, cid: u16) -> bool {
-        self.connections.get(&cid).is_none_or(|attached| attached.data_ins < MOST_DATA_INS)
+    /// Puts what waits for room in the library's queue, as far as there is some. Whether there was.
+    fn put(&mut self, cid: u16) -> bool {
+        let mut had_room = false;
+        while let Some(cookie) = self.connections.get(&cid).and_then(|attached| attached.putting.front().copied()) {
+            match self.put_next(cookie) {
+                Ok(()) => {}
+                Err(Refusal::Full) => break,
+                Err(_) => self.change(cid, |attached| {
+                    attached.putting.pop_front();
+                }),
+            }
+            had_room = true;
+        }
+        had_room
     }
 
-    /// A Data-In of a command goes out as soon as it may.
-    pub fn put_data_in(&mut self, command: &Command, header: &Header) -> Result<(), Refusal> {
-        self.call(|library, tell| library.put_data(command.ticket, &header.0, tell))?;
-        self.count_data_ins(command.connection.cid, command.cookie, |count| *count += 1);
+    /// Puts the next PDU of a command, which is complete behind its last. At an error but `Full` nothing more follows.
+    fn put_next(&mut self, cookie: u64) -> Result<(), Refusal> {
+        let kept = self.requests.get(&cookie).filter(|kept| kept.work != Work::Stopped).ok_or(Refusal::Gone)?;
+        let (ticket, header) = (kept.ticket, kept.r2t.or_else(|| kept.data_ins.peek()));
+        let Some(header) = header else {
+            let status = kept.outcome.as_ref().map(|outcome| outcome.status).ok_or(Refusal::Gone)?;
+            return self.call(|library, tell| library.complete(ticket, status, tell)).and(Err(Refusal::Gone));
+        };
+        self.call(|library, tell| library.put_data(ticket, &header.0, tell))?;
+        if let Some(Kept { r2t, data_ins, .. }) = self.requests.get_mut(&cookie) {
+            if r2t.take().is_none() {
+                data_ins.advance();
+            }
+        }
         Ok(())
     }
 
-    fn count_data_ins(&mut self, cid: u16, cookie: u64, change: impl Fn(&mut u32)) {
-        if let (Some(attached), Some(kept)) = (self.connections.get_mut(&cid), self.requests.get_mut(&cookie)) {
-            change(&mut attached.data_ins);
-            change(&mut kept.data_ins);
+    /// What is to be written on a connection now, unless another thread writes there. `None` where there is nothing.
+    pub fn take_batch(&mut self, session: &Arc<Session>, connection: &Connection, is_writer: bool) -> Option<Batch> {
+        self.carry_out(session);
+        let attached = self.connections.get_mut(&connection.cid)?;
+        // What the socket didn't take at once is the writer's.
+        if attached.is_writing || attached.is_broken || attached.unwritten.is_some() && !is_writer {
+            return None;
+        }
+        let mut batch = attached.unwritten.take().unwrap_or_default();
+        if batch.is_empty() && std::mem::take(&mut attached.is_told) {
+            self.fill(session, connection, &mut batch);
+        }
+        let attached = self.connections.get_mut(&connection.cid).filter(|_| !batch.is_empty())?;
+        attached.is_writing = true;
+        Some(batch)
+    }
+
+    /// Takes what the library hands out for a connection. Behind the last PDU of all it is given up.
+    fn fill(&mut self, session: &Session, connection: &Connection, batch: &mut Batch) {
+        let cid = connection.cid;
+        loop {
+            match self.call(|library, tell| library.next(cid, tell)) {
+                Ok(handed) => batch.push(self.outgoing(session, connection, &handed)),
+                Err(Refusal::Nothing) if self.put(cid) => {}
+                Err(Refusal::Nothing) => return,
+                Err(Refusal::Over) if batch.is_empty() => return self.break_off(cid),
+                // As much as may be written together. There may be more behind it.
+                Err(_) => return self.change(cid, |attached| attached.is_told = true),
+            }
         }
     }
 
     /// A PDU that the library hands out, with what the target puts into it.
-    pub fn outgoing(&mut self, session: &Session, connection: &Connection, handed: &cundarrix::Pdu) -> Outgoing {
+    fn outgoing(&mut self, session: &Session, connection: &Connection, handed: &cundarrix::Pdu) -> Outgoing {
         let mut pdu = Pdu { header: Header(*handed.header()), data: handed.data().to_vec() };
-        let cookie = handed.cookie().unwrap_or_default();
-        let Some(kept) = self.requests.get(&cookie) else {
-            return Outgoing::Whole(pdu);
-        };
-        let outcome = kept.outcome.clone();
-        match (handed.kind(), outcome) {
-            (PduKind::Own, Some(outcome)) if pdu.header.opcode() == opcode::DATA_IN => {
-                self.count_data_ins(connection.cid, cookie, |count| *count -= 1);
-                connection.changed.notify_all();
-                return Outgoing::Part(pdu.header, outcome);
+        let kept = handed.cookie().and_then(|cookie| self.requests.get_mut(&cookie));
+        match (handed.kind(), kept) {
+            (PduKind::Own, Some(Kept { outcome: Some(outcome), .. })) if pdu.header.opcode() == opcode::DATA_IN => {
+                return Outgoing { pdu, outcome: Some(outcome.clone()) };
             }
-            (PduKind::Reply, outcome) => {
-                let failed = Outcome::failed(None);
-                session.complete_reply(&mut pdu, &kept.pdu, outcome.as_deref().unwrap_or(&failed));
-                pdu.data.truncate(connection.longest_data);
+            (PduKind::Reply, Some(kept)) => {
+                session.complete_reply(&mut pdu, &mut kept.pdu, kept.outcome.as_deref(), connection.longest_data);
             }
             _ => {}
         }
-        Outgoing::Whole(pdu)
+        pdu.header.set_length(pdu.data.len());
+        Outgoing { pdu, outcome: None }
+    }
+
+    /// A thread has written on a connection. Whether the socket took all that it was given.
+    pub fn end_batch(&mut self, cid: u16, mut batch: Batch, written: &io::Result<usize>) -> bool {
+        while batch.take_written() {
+            let _ = self.call(|library, tell| library.written(cid, tell));
+        }
+        let is_whole = batch.is_empty();
+        self.change(cid, |attached| {
+            attached.is_writing = false;
+            if !is_whole {
+                // A socket that takes more, if slowly, is as good as an answer.
+                attached.was_heard |= !matches!(written, Ok(0));
+                attached.unwritten = Some(batch);
+                attached.wake();
+            }
+        });
+        if written.is_err() {
+            self.break_off(cid);
+        }
+        is_whole
     }
 }

@@ -1,7 +1,7 @@
 //! The trace of the workers: a line for each command that one of them took.
 
-use crate::lock;
 use crate::pdu::place;
+use crate::threads::lock;
 use crate::unit::Job;
 use std::fs::File;
 use std::io::{self, Write};
@@ -28,15 +28,12 @@ impl Trace {
 
     /// Writes the line of a command. A trace that can't be written any more stops no command.
     pub fn write(&self, job: &Job, begin: u128, end: u128, is_completed: bool) {
-        let Some(file) = &self.0 else {
-            return;
-        };
-        let (ticket, tsih, header) = (job.command.ticket, job.session.tsih, &job.command.header);
-        let (tag, cmd_sn, lun) = (header.tag(), header.number(place::CMD_SN), header.0[9]);
-        let outcome = if is_completed { "completed" } else { "stopped" };
-        let line = format!("{ticket} {tag:08x} {cmd_sn:08x} {lun} {begin} {end} {outcome} {tsih:04x}\n");
-        if let Err(why) = lock(file).write_all(line.as_bytes()) {
-            eprintln!("target: the trace can't be written: {why}");
+        if let Some(file) = &self.0 {
+            let (ticket, tsih, header) = (job.ticket, job.session.tsih, &job.header);
+            let (tag, cmd_sn, lun) = (header.tag(), header.number(place::CMD_SN), header.0[9]);
+            let outcome = if is_completed { "completed" } else { "stopped" };
+            let line = format!("{ticket} {tag:08x} {cmd_sn:08x} {lun} {begin} {end} {outcome} {tsih:04x}\n");
+            let _ = lock(file).write_all(line.as_bytes());
         }
     }
 }

@@ -1,9 +1,9 @@
 //! The data of a command: how it comes, and the residuals.
 
-use target::command::{complete_response, data_ins, Transfer};
+use disk::{Outcome, PART};
+use target::command::{complete_response, DataIns, Transfer};
 use target::keys::Keys;
 use target::pdu::{opcode, place, Header, Pdu, FINAL};
-use target::scsi::Outcome;
 
 fn write_of(length: u32, flags: u8) -> Header {
     let mut header = Header::new(opcode::SCSI_COMMAND, 0x20 | flags, 9);
@@ -28,7 +28,8 @@ fn asked(transfer: &mut Transfer, transfer_tag: u32) -> Option<(u32, u32, u32)> 
 
 #[test]
 fn residuals_say_what_was_not_moved() {
-    let outcome = |length, data: &[u8]| Outcome { status: 0, sense: None, data: data.to_vec(), length };
+    let parts = |data: &[u8]| if data.is_empty() { Vec::new() } else { vec![data.to_vec()] };
+    let outcome = |length, data: &[u8]| Outcome { status: 0, sense: None, data: parts(data), length };
     let residual = |header: &Header, outcome: &Outcome| {
         let mut response = Pdu { header: Header::new(opcode::SCSI_RESPONSE, FINAL, 9), data: Vec::new() };
         complete_response(&mut response, header, outcome);
@@ -53,7 +54,8 @@ fn data_comes_with_the_command_and_then_as_it_is_asked_for() {
     assert_eq!(asked(&mut transfer, 6), Some((32, 8, 1)));
     transfer.take(&data_out(6, 32, 0, FINAL, 8));
     assert_eq!(asked(&mut transfer, 7), None);
-    assert_eq!(transfer.data().map(|data| data.len()).ok(), Some(40));
+    let lengths = transfer.data().map(|parts| parts.iter().map(Vec::len).collect::<Vec<_>>());
+    assert_eq!(lengths, Ok(vec![16, 16, 8]));
 }
 
 #[test]
@@ -84,20 +86,30 @@ fn immediate_data_is_no_longer_than_the_command_and_the_first_burst_allow() {
 
 #[test]
 fn data_goes_out_in_parts_that_end_with_their_bursts() {
-    let mut read = Header::new(opcode::SCSI_COMMAND, 0x40 | FINAL, 9);
-    read.set(place::EXPECTED_LENGTH, 44);
-    let keys = Keys { max_burst: 32, ..Keys::default() };
-    let parts = |length, longest| -> Vec<(u32, usize, u32, bool)> {
-        let headers = data_ins(&read, length, &keys, longest);
-        headers.iter().for_each(|header| assert_eq!((header.opcode(), header.tag()), (opcode::DATA_IN, 9)));
+    let parts = |length, longest, max_burst, expected| -> Vec<(u32, usize, u32, bool)> {
+        let mut read = Header::new(opcode::SCSI_COMMAND, 0x40 | FINAL, 9);
+        read.set(place::EXPECTED_LENGTH, expected);
+        let keys = Keys { max_burst, ..Keys::default() };
+        let mut data_ins = DataIns::new(&read, length, &keys, longest);
+        let mut headers = Vec::new();
+        while let Some(header) = data_ins.peek() {
+            assert_eq!((header.opcode(), header.tag()), (opcode::DATA_IN, 9));
+            headers.push(header);
+            data_ins.advance();
+        }
         let part = |header: &Header| {
             (header.number(place::OFFSET), header.length(), header.number(place::DATA_SN), header.is_final())
         };
         headers.iter().map(part).collect()
     };
-    assert_eq!(parts(40, 20), [(0, 20, 0, false), (20, 12, 1, true), (32, 8, 2, true)]);
-    assert_eq!(parts(40, 64), [(0, 32, 0, true), (32, 8, 1, true)]);
+    assert_eq!(parts(40, 20, 32, 44), [(0, 20, 0, false), (20, 12, 1, true), (32, 8, 2, true)]);
+    assert_eq!(parts(40, 64, 32, 44), [(0, 32, 0, true), (32, 8, 1, true)]);
     // More than the initiator has room for isn't sent.
-    assert_eq!(parts(50, 64), [(0, 32, 0, true), (32, 12, 1, true)]);
-    assert_eq!(parts(0, 64), []);
+    assert_eq!(parts(50, 64, 32, 44), [(0, 32, 0, true), (32, 12, 1, true)]);
+    assert_eq!(parts(0, 64, 32, 44), []);
+    // Nor does one go beyond a part of the data in memory.
+    let third = 2 * PART / 3;
+    let end = PART + 10;
+    let whole = [(0, third, 0, true), (third as u32, PART - third, 1, false), (PART as u32, 10, 2, true)];
+    assert_eq!(parts(end, 1 << 20, third as u32, end as u32), whole);
 }

@@ -35,6 +35,7 @@ fn what_can_not_be_agreed_on_is_rejected() {
         X-new=NotUnderstood MaxRecvDataSegmentLength=Reject "
     );
     assert_eq!((keys.longest_data, keys.first_burst), (8192, 65_536));
+    assert!(keys.wants_authentication && !answers("AuthMethod=CHAP,None").0.wants_authentication);
 }
 
 #[test]
