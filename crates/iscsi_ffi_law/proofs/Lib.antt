@@ -39,6 +39,8 @@ mod Losing
 mod Opened
 mod AllCalls
 mod Telling
+mod QuietRequests
+mod Asked
 mod DoneShape
 mod Staging
 mod Starting
@@ -48,6 +50,15 @@ mod DoneBox
 mod DoneRoom
 mod DoneWalk
 mod DoneRequests
+mod ReplyQueues
+mod ReplyRequests
+mod QuietBox
+mod QuietSends
+mod QuietItems
+mod ArriveOpens
+mod QuietEvents
+mod QuietWalks
+mod ArriveCalls
 mod DoneRules
 mod Doing
 mod Ascending

@@ -1,16 +1,17 @@
 //! What the steps have in common with the rules: laws of the definitions, which no code is needed for.
 
-ghost use Rattle.std.specs.Prelude.{◌≡◌, ◌<◌, ◌≤◌, ◌&&◌, ◌+◌, ◌*◌, ◌^◌, ℕ, List, cond, false, is_some, length, true};
+ghost use Rattle.std.specs.Prelude.{◌≡◌, ◌<◌, ◌≤◌, ◌&&◌, ◌+◌, ◌*◌, ◌^◌, ℕ, List, None, cond, false, is_some, length, true};
 ghost use Rattle.iscsi_ffi_law.specs.Alike.{GoesAlike};
+ghost use Rattle.iscsi_ffi_law.specs.Arrived.{IsArrivalFit, IsTaken};
 ghost use Rattle.iscsi_ffi_law.specs.Done.{AllDone};
 ghost use Rattle.iscsi_ffi_law.specs.Fit.{IsFit, IsOrderly};
 ghost use Rattle.iscsi_history.specs.rules.Settings.{is_known};
 ghost use Rattle.iscsi_history.specs.rules.Trace.{is_closed};
 ghost use Rattle.iscsi_ffi_law.specs.Lists.{AreAlike, MeetFrom};
 ghost use Rattle.iscsi_ffi_law.specs.Stands.{Stands};
-ghost use Rattle.iscsi_ffi_rules.specs.rules.Calls.{Call, Cleared, Clears, Completes, Hears, Interface, Joins, Loses, Nexts, Puts, Stops, Writes};
+ghost use Rattle.iscsi_ffi_rules.specs.rules.Calls.{Arrives, Call, Cleared, Clears, Completes, Hears, Interface, Joins, Loses, Nexts, Puts, Stops, Writes};
 ghost use Rattle.iscsi_ffi_rules.specs.rules.Clearing.{TASK_ABORTED};
-ghost use Rattle.iscsi_ffi_rules.specs.rules.Run.{cids, is_going, is_lost};
+ghost use Rattle.iscsi_ffi_rules.specs.rules.Run.{cids, heard_in, is_going, is_lost, refusal_of};
 ghost use Rattle.iscsi_ffi_rules.specs.rules.Sides.{Side, opened};
 ghost use Rattle.iscsi_ffi_steps.specs.Steps.{Side as StepsSide, begun};
 ghost use Rattle.iscsi_outbox_rules.specs.declared.own_pdu.OwnPdu.{OwnPdu};
@@ -84,9 +85,15 @@ pub fn done_law()
     ensures stops { (i : Interface) (s : StepsSide) (r : Side) → Stands i s r → (ticket : ℕ) → (is_going r ticket && contains r.marked ticket) ≡ true → AllDone i r ticket TASK_ABORTED → GoesAlike i s r (Stops ticket) }
 {}
 
+/// A request is taken, and is passed over, rejected for its opcode, or an immediate one that executes: it is answered at once, or not at all, and
+/// no command enters or leaves by it. What is premised of the rules' side is said in `IsArrivalFit`; one premise more: a place for a word.
+pub fn arrives_law()
+    ensures alike { (i : Interface) (s : StepsSide) (r : Side) → Stands i s r → (cid : ℕ) (header : List ℕ) (cookie : ℕ) → IsArrivalFit i r cid header → refusal_of i r cid ≡ None → is_some (next_place s.state.cookies) ≡ true → IsTaken i (heard_in i r cid header) cid header → GoesAlike i s r (Arrives cid header cookie) }
+{}
+
 /// A list of calls: each is answered by the steps as by the rules, and tells the same in the same order, but for what is forgotten, which is
-/// the same in any order. What is asked of each call is said in `Meets`. It is still a premise there that two calls by which the session takes an
-/// event go alike: a request that isn't refused, and the loss of a connection that isn't closed.
+/// the same in any order. What is asked of each call is said in `Meets`. It is still a premise there that two kinds of calls by which the session
+/// takes an event go alike: a request that becomes none of what `IsTaken` says, and the loss of a connection that isn't closed.
 pub fn lists_law()
     ensures alike { (i : Interface) (calls : List Call) → MeetFrom i (begun i) (opened i) calls → AreAlike i (begun i) (opened i) calls }
 {}

@@ -1,0 +1,163 @@
+-- An item by which no command enters or leaves, and no number is received: what becomes of the session, and of its box.
+use Rattle.std.proofs.Common.{◌≡◌, ℕ, ◌+◌, ◌==◌, ◌&&◌, ◌||◌, not, cond, Bool, true, false, List, [], ◌∷◌, ◌++◌, map, filter, filter_map, find, Option, Some, None, is_some, refl, ap, sym, ◌∙◌}
+use Rattle.std.specs.List.{flat_map, list_any}
+use Rattle.std.proofs.lemmas.List.{append-nil}
+use Rattle.std.proofs.lemmas.List.Elements.{filter_agree}
+use Rattle.iscsi_wire.specs.declared.reply.Reply.{Reply}
+use Rattle.iscsi_wire.specs.declared.request.Request.{Request}
+use Rattle.iscsi_wire.specs.Serial.{lift}
+use Rattle.iscsi_history.specs.declared.effect.Effect.{Effect}
+use Rattle.iscsi_history.specs.declared.effect.Numbers.{Numbers}
+use Rattle.iscsi_history.specs.declared.entry.Entry.{Entry}
+use Rattle.iscsi_history.specs.declared.event.Event.TheVariants.{Arrive}
+use Rattle.iscsi_history.specs.promises.Replies.{executed_in}
+use Rattle.iscsi_history.specs.rules.Run.{effects_of, effects_of_item, entry_of, numbers_of}
+use Rattle.iscsi_history.specs.rules.Trace.{Arrival, Command as RulesCommand, Mark, Trace, admits_at, after_items as items_after, delivers_number, empties_number, first_of, held, is_delivered, is_emptied, is_free_at, is_among, live, queued_of, shown, was_free}
+use Rattle.iscsi_tasks.specs.Rules.{is_free}
+use Rattle.iscsi_history.proofs.MomentLemmas.{free_now}
+use Rattle.iscsi_history.proofs.NewlyLemmas.{Untouched, live-untouched}
+use Rattle.iscsi_outbox_rules.specs.rules.Boxes.{Box, Task}
+use Rattle.iscsi_outbox_rules.specs.rules.Due.{settle}
+use Rattle.iscsi_outbox_rules.specs.rules.Items.{after_event, phase_told, send, ticket_enabled}
+use Rattle.iscsi_outbox_rules.specs.rules.Words.{contains}
+use Rattle.iscsi_outbox_law.specs.Sound.{IsSound}
+use Rattle.iscsi_ffi_rules.specs.declared.action.Action.{Action}
+use Rattle.iscsi_ffi_rules.specs.rules.Calls.{Interface}
+use Rattle.iscsi_ffi_rules.specs.rules.Clearing.{is_withheld, next_withheld}
+use Rattle.iscsi_ffi_rules.specs.rules.Happening.{Told, answers_in, happening, is_started, leaving, live_with, reason_of, resets_in, start, starting, stop, stops_in}
+use Rattle.iscsi_ffi_rules.specs.rules.Needs.{admitted_by, is_held, is_of_event}
+use Rattle.iscsi_ffi_rules.specs.rules.Sides.{Side}
+use Rattle.iscsi_ffi_law.specs.Arrived.{items_then}
+use Rattle.iscsi_ffi_law.proofs.QuietBox.{IsOnePart, IsQuietPart, one_item, quiet_item}
+
+-- ---- the session
+
+-- nothing is received by it, or taken out of what is held
+pub record IsUnheld (item : List Mark) : Type 0 where
+  pub admits : filter_map admitted_by item ≡ []
+  pub admits_none : (n : ℕ) → filter_map (admits_at n) item ≡ []
+  pub delivers : (n : ℕ) → list_any (delivers_number n) item ≡ false
+  pub empties : (n : ℕ) → list_any (empties_number n) item ≡ false
+
+module _ (t : Trace) (item : List Mark) (u : IsUnheld item) where
+  held_on : (n : ℕ) → held (item ∷ t) n ≡ held t n
+  held_on n =
+      ap (λ v. cond ((v || is_delivered t n) || (list_any (empties_number n) item || is_emptied t n)) None (first_of (shown (admits_at n) t ++ filter_map (admits_at n) item))) (u.delivers n)
+      ∙ ap (λ v. cond (is_delivered t n || (v || is_emptied t n)) None (first_of (shown (admits_at n) t ++ filter_map (admits_at n) item))) (u.empties n)
+      ∙ ap (λ xs. cond (is_delivered t n || is_emptied t n) None (first_of (shown (admits_at n) t ++ xs))) (u.admits_none n)
+      ∙ ap (λ xs. cond (is_delivered t n || is_emptied t n) None (first_of xs)) (append-nil (shown (admits_at n) t))
+
+  pub is_held_on : (event : ℕ) → is_held event (item ∷ t) ≡ is_held event t
+  is_held_on event = ap (λ xs. by_shown (shown admitted_by t ++ xs)) u.admits ∙ ap by_shown (append-nil (shown admitted_by t)) ∙ by_found (find (is_of_event event) (shown admitted_by t))
+    where
+      by_shown : List Arrival → Bool
+      by_shown xs = elim (find (is_of_event event) xs) [ Some a ↦ is_some (held (item ∷ t) a.number) | None ↦ false ]
+
+      by_found : (x : Option Arrival) → ◌≡◌ {A = Bool} (elim x [ Some a ↦ is_some (held (item ∷ t) a.number) | None ↦ false ]) (elim x [ Some a ↦ is_some (held t a.number) | None ↦ false ])
+      by_found None = refl
+      by_found (Some a) = ap is_some (held_on a.number)
+
+module _ (t : Trace) (item : List Mark) (u : Untouched item) where
+  free_at_on : (c : RulesCommand) → is_free_at c (item ∷ t) ≡ is_free_at c t
+  free_at_on c = ap by_live (live-untouched item t u)
+    where
+      by_live : List RulesCommand → Bool
+      by_live cs = let here = filter (λ (d : RulesCommand). d.unit == c.unit) cs in is_among c.ticket here && is_free (queued_of c) (map queued_of here)
+
+  was_free_on : (c : RulesCommand) → was_free c (item ∷ t) ≡ was_free c t
+  was_free_on c = ap (λ v. v || was_free c t) (free_at_on c) ∙ by_test (is_free_at c t) refl
+    where
+      by_test : (v : Bool) → is_free_at c t ≡ v → (v || was_free c t) ≡ was_free c t
+      by_test false is = refl
+      by_test true is = sym (free_now c t is)
+
+  -- the same commands are withheld
+  pub withheld_on : (told : List ℕ) → filter (λ (c : RulesCommand). was_free c (item ∷ t) && not (contains told c.ticket)) (live (item ∷ t)) ≡ filter (λ (c : RulesCommand). was_free c t && not (contains told c.ticket)) (live t)
+  withheld_on told =
+      filter_agree (λ (c : RulesCommand). was_free c (item ∷ t) && not (contains told c.ticket)) (λ (c : RulesCommand). was_free c t && not (contains told c.ticket)) (λ c. ap (λ v. v && not (contains told c.ticket)) (was_free_on c)) (live (item ∷ t))
+      ∙ ap (filter (λ (c : RulesCommand). was_free c t && not (contains told c.ticket))) (live-untouched item t u)
+
+-- ---- the event
+
+abbrev pub answered_by : ℕ → Option (ℕ × Reply) → List ℕ
+answered_by event (Some sent) = event ∷ []
+answered_by event None = []
+
+-- an event of one such item
+pub record IsQuietEvent (i : Interface) (r : Side) (cid : ℕ) (header : List ℕ) (item : List Mark) (es : List Effect) (x : Option Request) (y : Option (ℕ × Reply)) : Type 0 where
+  pub items : items_then i r cid header ≡ item ∷ []
+  pub untouched : Untouched item
+  pub unheld : IsUnheld item
+  pub effects : effects_of_item i.outbox.session r.both.trace item ≡ es
+  pub part : IsQuietPart es x y
+  pub one : IsOnePart es
+  pub leaves : filter_map leaving item ≡ []
+  pub answers : answers_in r.both.event item ≡ answered_by r.both.event y
+
+module _ (i : Interface) (r : Side) (cid : ℕ) (header : List ℕ) (item : List Mark) (es : List Effect) (x : Option Request) (y : Option (ℕ × Reply)) (q : IsQuietEvent i r cid header item es x y) (sound : IsSound i.outbox r.both.box) where
+  abbrev pub numbers_on : Numbers
+  numbers_on = numbers_of i.outbox.session (item ∷ r.both.trace)
+
+  abbrev pub entry_on : Entry
+  entry_on = record { numbers = numbers_of i.outbox.session (item ∷ r.both.trace); effects = es }
+
+  pub entry_then : entry_of i.outbox.session r.both.event r.both.trace (Arrive cid header) ≡ entry_on
+  entry_then =
+      ap (λ (items : List (List Mark)). record { numbers = numbers_of i.outbox.session (items_after items r.both.trace); effects = effects_of i.outbox.session r.both.trace items }) q.items
+      ∙ ap (λ (xs : List Effect). record { numbers = numbers_of i.outbox.session (item ∷ r.both.trace); effects = xs ++ [] }) q.effects
+      ∙ ap (λ (xs : List Effect). record { numbers = numbers_of i.outbox.session (item ∷ r.both.trace); effects = xs }) (append-nil es)
+
+  abbrev pub over : Box → Box
+  over b = record b { tasks = map (λ (t : Task). record t { phase = phase_told t.phase }) b.tasks; exp = (numbers_of i.outbox.session (item ∷ r.both.trace)).exp; max = lift b.max (numbers_of i.outbox.session (item ∷ r.both.trace)).max }
+
+  abbrev pub box_on : Box
+  box_on = over (settle i.outbox (send i.outbox x [] [] [] y r.both.box))
+
+  pub box_is : after_event i.outbox r.both.box es (numbers_of i.outbox.session (item ∷ r.both.trace)) ≡ box_on
+  box_is = ap over (one_item i.outbox r.both.box es sound q.one ∙ quiet_item i.outbox r.both.box es x y q.part)
+
+  abbrev pub side_then : Side
+  side_then = record r { both = record { event = r.both.event + 1; trace = item ∷ r.both.trace; box = box_on }; answers = r.answers ++ answered_by r.both.event y }
+
+  pub still_calm : next_withheld r ≡ None → next_withheld side_then ≡ None
+  still_calm calm = ap first_of (withheld_on r.both.trace item q.untouched r.told) ∙ calm
+
+  stops_none : stops_in r item ≡ []
+  stops_none = ap (λ cs. elim (executed_in item) as (λ (z : Option Arrival). List Action) [ Some a ↦ map (stop r (reason_of r.asked a)) (filter (is_started r) cs) | None ↦ [] ]) q.leaves ∙ by_executed (executed_in item)
+    where
+      by_executed : (z : Option Arrival) → ◌≡◌ {A = List Action} (elim z [ Some a ↦ map (stop r (reason_of r.asked a)) (filter (is_started r) []) | None ↦ [] ]) []
+      by_executed None = refl
+      by_executed (Some a) = refl
+
+  pub rules_are : happening i r (Arrive cid header) ≡ record { side = side_then; actions = resets_in i.outbox item }
+  rules_are =
+      ap by_items q.items
+      ∙ ap (λ (xs : List Effect). by_effects (xs ++ [])) q.effects
+      ∙ ap by_effects (append-nil es)
+      ∙ ap (λ b. by_box b (filter_map ticket_enabled es) (answers_in r.both.event item ++ []) (stops_in r item)) box_is
+      ∙ ap (λ ks. by_box box_on ks (answers_in r.both.event item ++ []) (stops_in r item)) q.part.enables
+      ∙ ap (λ xs. by_box box_on [] xs (stops_in r item)) (append-nil (answers_in r.both.event item) ∙ q.answers)
+      ∙ ap (by_box box_on [] (answered_by r.both.event y)) stops_none
+      ∙ ap (λ (xs : List Action). record { side = record side_then { told = r.told ++ [] }; actions = xs }) (append-nil (resets_in i.outbox item ++ []) ∙ append-nil (resets_in i.outbox item))
+      ∙ ap (λ (ks : List ℕ). record { side = record side_then { told = ks }; actions = resets_in i.outbox item }) (append-nil r.told)
+    where
+      by_items : List (List Mark) → Told
+      by_items items =
+          let all = effects_of i.outbox.session r.both.trace items in
+          let b = after_event i.outbox r.both.box all (numbers_of i.outbox.session (items_after items r.both.trace)) in
+          let s' = record r { both = record { event = r.both.event + 1; trace = items_after items r.both.trace; box = b }; answers = r.answers ++ flat_map (answers_in r.both.event) items } in
+          let started = starting s' all in
+          record { side = record s' { told = r.told ++ map (λ (c : RulesCommand). c.ticket) started }; actions = flat_map (stops_in r) items ++ flat_map (resets_in i.outbox) items ++ map (start s') started }
+
+      by_box : Box → List ℕ → List ℕ → List Action → Told
+      by_box b ks answers stops =
+          let s' = record r { both = record { event = r.both.event + 1; trace = item ∷ r.both.trace; box = b }; answers = r.answers ++ answers } in
+          let started = filter (λ c. not (is_withheld s' c)) (filter_map (live_with (item ∷ r.both.trace)) ks) in
+          record { side = record s' { told = r.told ++ map (λ (c : RulesCommand). c.ticket) started }; actions = (stops ++ []) ++ (resets_in i.outbox item ++ []) ++ map (start s') started }
+
+      by_effects : List Effect → Told
+      by_effects all =
+          let b = after_event i.outbox r.both.box all (numbers_of i.outbox.session (item ∷ r.both.trace)) in
+          let s' = record r { both = record { event = r.both.event + 1; trace = item ∷ r.both.trace; box = b }; answers = r.answers ++ (answers_in r.both.event item ++ []) } in
+          let started = starting s' all in
+          record { side = record s' { told = r.told ++ map (λ (c : RulesCommand). c.ticket) started }; actions = (stops_in r item ++ []) ++ (resets_in i.outbox item ++ []) ++ map (start s') started }

@@ -1,0 +1,107 @@
+-- What is premised of a request that is taken: of the rules' side alone.
+use Rattle.std.specs.Prelude.{◌≡◌, ◌<◌, ◌-◌, ◌^◌, ◌==◌, ◌&&◌, ◌⊎◌, ℕ, true, List, [], ◌∷◌}
+use Rattle.std.specs.List.{list_any}
+use Rattle.iscsi_wire.specs.declared.reply.Reply.{Reply}
+use Rattle.iscsi_wire.specs.Fields.{is_immediate, request_of}
+use Rattle.iscsi_history.specs.declared.effect.Effect.{Effect}
+use Rattle.iscsi_history.specs.declared.effect.Why.{Why}
+use Rattle.iscsi_history.specs.declared.event.Event.TheVariants.{Arrive}
+use Rattle.iscsi_history.specs.promises.Order.{in_parts}
+use Rattle.iscsi_history.specs.rules.Agenda.{arrival_of, items_of}
+use Rattle.iscsi_history.specs.rules.Execution.{reply_on}
+use Rattle.iscsi_history.specs.rules.Run.{entry_of}
+use Rattle.iscsi_history.specs.rules.Trace.{Arrival, Command, Executes, Ignores, Mark, entered, shown, waiting}
+use Rattle.iscsi_outbox_rules.specs.promises.Room.{Fits, places}
+use Rattle.iscsi_outbox_rules.specs.rules.Boxes.{Box, Handed, Link}
+use Rattle.iscsi_outbox_rules.specs.rules.Calls as outbox
+use Rattle.iscsi_outbox_rules.specs.rules.Calls.{Opening}
+use Rattle.iscsi_outbox_rules.specs.rules.Items.{after_item}
+use Rattle.iscsi_outbox_rules.specs.rules.Queues.{takes_more}
+use Rattle.iscsi_outbox_rules.specs.rules.Run.{after_call}
+use Rattle.iscsi_outbox_rules.specs.rules.Words.{replies_waiting}
+use Rattle.iscsi_outbox_law.specs.Pairs.{EachOf}
+use Rattle.iscsi_outbox_law.specs.Sound.{IsItemSound, IsSound, NoneIsFresh}
+use Rattle.iscsi_ffi_rules.specs.rules.Calls.{Interface}
+use Rattle.iscsi_ffi_rules.specs.rules.Needs.{admitted_by}
+use Rattle.iscsi_ffi_rules.specs.rules.Run.{heard_in, tag_heard, word_at}
+use Rattle.iscsi_ffi_rules.specs.rules.Sides.{Asked, Side}
+use Rattle.iscsi_ffi_law.specs.Fit.{IsFit}
+use Rattle.iscsi_ffi_law.specs.Parts.{IsBefore}
+
+-- all that the session had so far is of events before the next one
+pub record AreBefore (r : Side) : Type 0 where
+  pub asked : EachOf (λ (a : Asked). a.event < r.both.event) r.asked
+  pub answers : EachOf (λ (e : ℕ). e < r.both.event) r.answers
+  pub entered : EachOf (λ (c : Command). c.arrival.event < r.both.event) (entered r.both.trace)
+  pub admitted : EachOf (λ (a : Arrival). a.event < r.both.event) (shown admitted_by r.both.trace)
+  pub waiting : EachOf (λ (a : Arrival). a.event < r.both.event) (waiting r.both.trace)
+
+-- ---- the event
+
+-- before each item of an event, and behind it
+pub record IsItemFit (o : Opening) (b : Box) (item : List Effect) : Type 0 where
+  pub sound : IsSound o b
+  pub item_sound : IsItemSound o b item
+  pub fits : Fits o (after_item o b item)
+  pub time : (after_item o b item).time < 2 ^ 64 - 1
+
+abbrev pub AreItemsFit : Opening → Box → List (List Effect) → Type 0
+AreItemsFit o b [] = Unit {0}
+AreItemsFit o b (item ∷ items) = IsItemFit o b item × AreItemsFit o (after_item o b item) items
+
+abbrev pub effects_then : Interface → Side → ℕ → List ℕ → List Effect
+effects_then i r cid header = (entry_of i.outbox.session r.both.event r.both.trace (Arrive cid header)).effects
+
+-- what the outbox is called with as this header arrives
+abbrev pub arrive_call : Interface → Side → ℕ → List ℕ → outbox.Call
+arrive_call i r cid header = let entry = entry_of i.outbox.session r.both.event r.both.trace (Arrive cid header) in outbox.Takes entry.effects entry.numbers
+
+-- so it is before each event of a session in which a header arrives
+pub record IsEventFit (i : Interface) (r : Side) (cid : ℕ) (header : List ℕ) : Type 0 where
+  pub fit : IsFit i r.both.box (after_call i.outbox r.both.box (arrive_call i r cid header))
+  pub items : AreItemsFit i.outbox r.both.box (in_parts (effects_then i r cid header))
+  pub stale : NoneIsFresh r.both.box
+  -- the session takes one event more, and one reply more has a number and a place
+  pub events : r.both.event < i.outbox.session.events
+  pub sent : r.both.box.sent < 2 ^ 64 - 1
+  pub replies : replies_waiting r.both.box < places i.outbox
+  -- what was handed out has its place in the log
+  pub handed : EachOf (λ (l : Link). EachOf (λ (h : Handed). IsBefore r.both.box.sent h.out.sent) l.handed) r.both.box.links
+
+-- .. where its numbers are heard first
+pub record IsArrivalFit (i : Interface) (r : Side) (cid : ℕ) (header : List ℕ) : Type 0 where
+  pub before : AreBefore r
+  pub heard : IsFit i r.both.box (after_call i.outbox r.both.box (outbox.Hears cid (word_at 28 header) (tag_heard header)))
+  pub event : IsEventFit i (heard_in i r cid header) cid header
+
+-- ---- what becomes of it
+
+abbrev pub items_then : Interface → Side → ℕ → List ℕ → List (List Mark)
+items_then i r cid header = items_of i.outbox.session r.both.event r.both.trace (Arrive cid header)
+
+abbrev pub arrived : Interface → Side → ℕ → List ℕ → Arrival
+arrived i r cid header = arrival_of i.outbox.session r.both.event r.both.trace (request_of cid header)
+
+abbrev pub takes_there : Side → ℕ → Type 0
+takes_there r cid = list_any (λ (l : Link). l.conn == cid && takes_more l) r.both.box.links ≡ true
+
+-- it is passed over
+abbrev pub IsPassedOver : Interface → Side → ℕ → List ℕ → Type 0
+IsPassedOver i r cid header = (why : Why) × (items_then i r cid header ≡ (Ignores why ∷ []) ∷ [])
+
+-- it is rejected for its opcode
+abbrev pub IsRejected : Interface → Side → ℕ → List ℕ → Type 0
+IsRejected i r cid header = (reply : Reply) × (items_then i r cid header ≡ reply_on (arrived i r cid header) reply ∷ []) × takes_there r cid
+
+-- an immediate request executes, and isn't answered
+abbrev pub IsDoneWith : Interface → Side → ℕ → List ℕ → Type 0
+IsDoneWith i r cid header = (is_immediate (request_of cid header) ≡ true) × (items_then i r cid header ≡ (Executes (arrived i r cid header) ∷ []) ∷ [])
+
+-- an immediate request executes, and is answered at once: no command enters or leaves, and nothing is closed
+abbrev pub IsAnsweredAtOnce : Interface → Side → ℕ → List ℕ → Type 0
+IsAnsweredAtOnce i r cid header =
+    (is_immediate (request_of cid header) ≡ true) × ((reply : Reply) × (items_then i r cid header ≡ (Executes (arrived i r cid header) ∷ reply_on (arrived i r cid header) reply) ∷ []) × takes_there r cid)
+
+-- a request that one of these becomes
+abbrev pub IsTaken : Interface → Side → ℕ → List ℕ → Type 0
+IsTaken i r cid header = IsPassedOver i r cid header ⊎ IsRejected i r cid header ⊎ IsDoneWith i r cid header ⊎ IsAnsweredAtOnce i r cid header
