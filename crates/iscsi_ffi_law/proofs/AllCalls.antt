@@ -9,7 +9,7 @@ use Rattle.iscsi_ffi_steps.specs.Steps.{Side as StepsSide, after, begun, called,
 use Rattle.iscsi_ffi_law.specs.Alike.{GoesAlike}
 use Rattle.iscsi_ffi_law.specs.Lists.{AreAlike, MeetFrom, Meets}
 use Rattle.iscsi_ffi_law.specs.Stands.{Stands}
-use Rattle.iscsi_ffi_law.proofs.ArriveCalls.{arrives_alike}
+use Rattle.iscsi_ffi_law.proofs.Arrivals.{arrives_alike}
 use Rattle.iscsi_ffi_law.proofs.DoneCalls.{done_alike, stopped_alike}
 use Rattle.iscsi_ffi_law.proofs.Ends.{found_fit}
 use Rattle.iscsi_ffi_law.proofs.Losing.{loses_closed}

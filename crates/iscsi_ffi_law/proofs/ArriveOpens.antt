@@ -73,7 +73,7 @@ module _ (i : Interface) (s : StepsSide) (r : Side) (h : Stands i s r) (cid : â„
       record {
         requests = requests;
         outbox = stands_heard;
-        sizes = record { room = h.sizes.room; functions = h.sizes.functions; replies = h.sizes.replies; noted = h.sizes.noted; unwritten = h.sizes.unwritten; noted_room = h.sizes.noted_room; unwritten_room = h.sizes.unwritten_room; replies_room = h.sizes.replies_room; few = h.sizes.few };
+        sizes = record { room = h.sizes.room; functions = h.sizes.functions; replies = h.sizes.replies; noted = h.sizes.noted; unwritten = h.sizes.unwritten; noted_room = h.sizes.noted_room; unwritten_room = h.sizes.unwritten_room; replies_room = h.sizes.replies_room; slots = h.sizes.slots; few = h.sizes.few };
         flags = record { awake = h.flags.awake; over = h.flags.over };
         named = name_place names_open h.notes requests.apart (record { place = place; event = r.both.event; cookie = cookie }) (last_in h.names (record { place = place; event = r.both.event; cookie = cookie }));
         withheld = h.withheld;

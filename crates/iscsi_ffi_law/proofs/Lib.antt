@@ -58,7 +58,11 @@ mod QuietItems
 mod ArriveOpens
 mod QuietEvents
 mod QuietWalks
+mod HeldItems
+mod HeldRequests
 mod ArriveCalls
+mod ArriveHeld
+mod Arrivals
 mod DoneRules
 mod Doing
 mod Ascending

@@ -11,7 +11,7 @@ use Rattle.iscsi_history.specs.declared.effect.Numbers.{Numbers}
 use Rattle.iscsi_history.specs.declared.entry.Entry.{Entry}
 use Rattle.iscsi_history.specs.declared.event.Event.TheVariants.{Arrive}
 use Rattle.iscsi_history.specs.promises.Replies.{executed_in}
-use Rattle.iscsi_history.specs.rules.Run.{effects_of, effects_of_item, entry_of, numbers_of}
+use Rattle.iscsi_history.specs.rules.Run.{effects_of, entry_of, numbers_of}
 use Rattle.iscsi_history.specs.rules.Trace.{Arrival, Command as RulesCommand, Mark, Trace, admits_at, after_items as items_after, delivers_number, empties_number, first_of, held, is_delivered, is_emptied, is_free_at, is_among, live, queued_of, shown, was_free}
 use Rattle.iscsi_tasks.specs.Rules.{is_free}
 use Rattle.iscsi_history.proofs.MomentLemmas.{free_now}
@@ -83,81 +83,84 @@ abbrev pub answered_by : ℕ → Option (ℕ × Reply) → List ℕ
 answered_by event (Some sent) = event ∷ []
 answered_by event None = []
 
--- an event of one such item
-pub record IsQuietEvent (i : Interface) (r : Side) (cid : ℕ) (header : List ℕ) (item : List Mark) (es : List Effect) (x : Option Request) (y : Option (ℕ × Reply)) : Type 0 where
-  pub items : items_then i r cid header ≡ item ∷ []
-  pub untouched : Untouched item
-  pub unheld : IsUnheld item
-  pub effects : effects_of_item i.outbox.session r.both.trace item ≡ es
+-- nothing stops by an item by which no command leaves
+pub stops_none : (r : Side) (item : List Mark) → filter_map leaving item ≡ [] → stops_in r item ≡ []
+stops_none r item none = ap (λ cs. elim (executed_in item) as (λ (z : Option Arrival). List Action) [ Some a ↦ map (stop r (reason_of r.asked a)) (filter (is_started r) cs) | None ↦ [] ]) none ∙ by_executed (executed_in item)
+  where
+    by_executed : (z : Option Arrival) → ◌≡◌ {A = List Action} (elim z [ Some a ↦ map (stop r (reason_of r.asked a)) (filter (is_started r) []) | None ↦ [] ]) []
+    by_executed None = refl
+    by_executed (Some a) = refl
+
+-- an event by which no command enters or leaves, and that sends one reply at the most, of the item that comes last; `t`: the trace then,
+-- `acts`: what it tells
+pub record IsQuietEvent (i : Interface) (r : Side) (cid : ℕ) (header : List ℕ) (items : List (List Mark)) (t : Trace) (es : List Effect) (x : Option Request) (y : Option (ℕ × Reply)) (acts : List Action) : Type 0 where
+  pub items_are : items_then i r cid header ≡ items
+  pub after : items_after items r.both.trace ≡ t
+  pub effects : effects_of i.outbox.session r.both.trace items ≡ es
   pub part : IsQuietPart es x y
   pub one : IsOnePart es
-  pub leaves : filter_map leaving item ≡ []
-  pub answers : answers_in r.both.event item ≡ answered_by r.both.event y
+  pub stops : flat_map (stops_in r) items ≡ []
+  pub resets : flat_map (resets_in i.outbox) items ≡ acts
+  pub answers : flat_map (answers_in r.both.event) items ≡ answered_by r.both.event y
+  pub withheld : filter (λ (c : RulesCommand). was_free c t && not (contains r.told c.ticket)) (live t) ≡ filter (λ (c : RulesCommand). was_free c r.both.trace && not (contains r.told c.ticket)) (live r.both.trace)
 
-module _ (i : Interface) (r : Side) (cid : ℕ) (header : List ℕ) (item : List Mark) (es : List Effect) (x : Option Request) (y : Option (ℕ × Reply)) (q : IsQuietEvent i r cid header item es x y) (sound : IsSound i.outbox r.both.box) where
+module _ (i : Interface) (r : Side) (cid : ℕ) (header : List ℕ) (items : List (List Mark)) (t : Trace) (es : List Effect) (x : Option Request) (y : Option (ℕ × Reply)) (acts : List Action) (q : IsQuietEvent i r cid header items t es x y acts) (sound : IsSound i.outbox r.both.box) where
   abbrev pub numbers_on : Numbers
-  numbers_on = numbers_of i.outbox.session (item ∷ r.both.trace)
+  numbers_on = numbers_of i.outbox.session t
 
   abbrev pub entry_on : Entry
-  entry_on = record { numbers = numbers_of i.outbox.session (item ∷ r.both.trace); effects = es }
+  entry_on = record { numbers = numbers_of i.outbox.session t; effects = es }
 
   pub entry_then : entry_of i.outbox.session r.both.event r.both.trace (Arrive cid header) ≡ entry_on
   entry_then =
-      ap (λ (items : List (List Mark)). record { numbers = numbers_of i.outbox.session (items_after items r.both.trace); effects = effects_of i.outbox.session r.both.trace items }) q.items
-      ∙ ap (λ (xs : List Effect). record { numbers = numbers_of i.outbox.session (item ∷ r.both.trace); effects = xs ++ [] }) q.effects
-      ∙ ap (λ (xs : List Effect). record { numbers = numbers_of i.outbox.session (item ∷ r.both.trace); effects = xs }) (append-nil es)
+      ap (λ (ms : List (List Mark)). record { numbers = numbers_of i.outbox.session (items_after ms r.both.trace); effects = effects_of i.outbox.session r.both.trace ms }) q.items_are
+      ∙ ap (λ (u : Trace). record { numbers = numbers_of i.outbox.session u; effects = effects_of i.outbox.session r.both.trace items }) q.after
+      ∙ ap (λ (xs : List Effect). record { numbers = numbers_of i.outbox.session t; effects = xs }) q.effects
 
   abbrev pub over : Box → Box
-  over b = record b { tasks = map (λ (t : Task). record t { phase = phase_told t.phase }) b.tasks; exp = (numbers_of i.outbox.session (item ∷ r.both.trace)).exp; max = lift b.max (numbers_of i.outbox.session (item ∷ r.both.trace)).max }
+  over b = record b { tasks = map (λ (k : Task). record k { phase = phase_told k.phase }) b.tasks; exp = (numbers_of i.outbox.session t).exp; max = lift b.max (numbers_of i.outbox.session t).max }
 
   abbrev pub box_on : Box
   box_on = over (settle i.outbox (send i.outbox x [] [] [] y r.both.box))
 
-  pub box_is : after_event i.outbox r.both.box es (numbers_of i.outbox.session (item ∷ r.both.trace)) ≡ box_on
+  pub box_is : after_event i.outbox r.both.box es (numbers_of i.outbox.session t) ≡ box_on
   box_is = ap over (one_item i.outbox r.both.box es sound q.one ∙ quiet_item i.outbox r.both.box es x y q.part)
 
   abbrev pub side_then : Side
-  side_then = record r { both = record { event = r.both.event + 1; trace = item ∷ r.both.trace; box = box_on }; answers = r.answers ++ answered_by r.both.event y }
+  side_then = record r { both = record { event = r.both.event + 1; trace = t; box = box_on }; answers = r.answers ++ answered_by r.both.event y }
 
   pub still_calm : next_withheld r ≡ None → next_withheld side_then ≡ None
-  still_calm calm = ap first_of (withheld_on r.both.trace item q.untouched r.told) ∙ calm
+  still_calm calm = ap first_of q.withheld ∙ calm
 
-  stops_none : stops_in r item ≡ []
-  stops_none = ap (λ cs. elim (executed_in item) as (λ (z : Option Arrival). List Action) [ Some a ↦ map (stop r (reason_of r.asked a)) (filter (is_started r) cs) | None ↦ [] ]) q.leaves ∙ by_executed (executed_in item)
-    where
-      by_executed : (z : Option Arrival) → ◌≡◌ {A = List Action} (elim z [ Some a ↦ map (stop r (reason_of r.asked a)) (filter (is_started r) []) | None ↦ [] ]) []
-      by_executed None = refl
-      by_executed (Some a) = refl
-
-  pub rules_are : happening i r (Arrive cid header) ≡ record { side = side_then; actions = resets_in i.outbox item }
+  pub rules_are : happening i r (Arrive cid header) ≡ record { side = side_then; actions = acts }
   rules_are =
-      ap by_items q.items
-      ∙ ap (λ (xs : List Effect). by_effects (xs ++ [])) q.effects
-      ∙ ap by_effects (append-nil es)
-      ∙ ap (λ b. by_box b (filter_map ticket_enabled es) (answers_in r.both.event item ++ []) (stops_in r item)) box_is
-      ∙ ap (λ ks. by_box box_on ks (answers_in r.both.event item ++ []) (stops_in r item)) q.part.enables
-      ∙ ap (λ xs. by_box box_on [] xs (stops_in r item)) (append-nil (answers_in r.both.event item) ∙ q.answers)
-      ∙ ap (by_box box_on [] (answered_by r.both.event y)) stops_none
-      ∙ ap (λ (xs : List Action). record { side = record side_then { told = r.told ++ [] }; actions = xs }) (append-nil (resets_in i.outbox item ++ []) ∙ append-nil (resets_in i.outbox item))
-      ∙ ap (λ (ks : List ℕ). record { side = record side_then { told = ks }; actions = resets_in i.outbox item }) (append-nil r.told)
+      ap by_items q.items_are
+      ∙ ap (λ u. by_trace u (effects_of i.outbox.session r.both.trace items)) q.after
+      ∙ ap (by_trace t) q.effects
+      ∙ ap (λ b. by_box b (filter_map ticket_enabled es) (flat_map (answers_in r.both.event) items) (flat_map (stops_in r) items)) box_is
+      ∙ ap (λ ks. by_box box_on ks (flat_map (answers_in r.both.event) items) (flat_map (stops_in r) items)) q.part.enables
+      ∙ ap (λ xs. by_box box_on [] xs (flat_map (stops_in r) items)) q.answers
+      ∙ ap (by_box box_on [] (answered_by r.both.event y)) q.stops
+      ∙ ap (λ (xs : List Action). record { side = record side_then { told = r.told ++ [] }; actions = xs }) (append-nil (flat_map (resets_in i.outbox) items) ∙ q.resets)
+      ∙ ap (λ (ks : List ℕ). record { side = record side_then { told = ks }; actions = acts }) (append-nil r.told)
     where
       by_items : List (List Mark) → Told
-      by_items items =
-          let all = effects_of i.outbox.session r.both.trace items in
-          let b = after_event i.outbox r.both.box all (numbers_of i.outbox.session (items_after items r.both.trace)) in
-          let s' = record r { both = record { event = r.both.event + 1; trace = items_after items r.both.trace; box = b }; answers = r.answers ++ flat_map (answers_in r.both.event) items } in
+      by_items ms =
+          let all = effects_of i.outbox.session r.both.trace ms in
+          let b = after_event i.outbox r.both.box all (numbers_of i.outbox.session (items_after ms r.both.trace)) in
+          let s' = record r { both = record { event = r.both.event + 1; trace = items_after ms r.both.trace; box = b }; answers = r.answers ++ flat_map (answers_in r.both.event) ms } in
           let started = starting s' all in
-          record { side = record s' { told = r.told ++ map (λ (c : RulesCommand). c.ticket) started }; actions = flat_map (stops_in r) items ++ flat_map (resets_in i.outbox) items ++ map (start s') started }
+          record { side = record s' { told = r.told ++ map (λ (c : RulesCommand). c.ticket) started }; actions = flat_map (stops_in r) ms ++ flat_map (resets_in i.outbox) ms ++ map (start s') started }
 
       by_box : Box → List ℕ → List ℕ → List Action → Told
       by_box b ks answers stops =
-          let s' = record r { both = record { event = r.both.event + 1; trace = item ∷ r.both.trace; box = b }; answers = r.answers ++ answers } in
-          let started = filter (λ c. not (is_withheld s' c)) (filter_map (live_with (item ∷ r.both.trace)) ks) in
-          record { side = record s' { told = r.told ++ map (λ (c : RulesCommand). c.ticket) started }; actions = (stops ++ []) ++ (resets_in i.outbox item ++ []) ++ map (start s') started }
+          let s' = record r { both = record { event = r.both.event + 1; trace = t; box = b }; answers = r.answers ++ answers } in
+          let started = filter (λ c. not (is_withheld s' c)) (filter_map (live_with t) ks) in
+          record { side = record s' { told = r.told ++ map (λ (c : RulesCommand). c.ticket) started }; actions = stops ++ flat_map (resets_in i.outbox) items ++ map (start s') started }
 
-      by_effects : List Effect → Told
-      by_effects all =
-          let b = after_event i.outbox r.both.box all (numbers_of i.outbox.session (item ∷ r.both.trace)) in
-          let s' = record r { both = record { event = r.both.event + 1; trace = item ∷ r.both.trace; box = b }; answers = r.answers ++ (answers_in r.both.event item ++ []) } in
+      by_trace : Trace → List Effect → Told
+      by_trace u all =
+          let b = after_event i.outbox r.both.box all (numbers_of i.outbox.session u) in
+          let s' = record r { both = record { event = r.both.event + 1; trace = u; box = b }; answers = r.answers ++ flat_map (answers_in r.both.event) items } in
           let started = starting s' all in
-          record { side = record s' { told = r.told ++ map (λ (c : RulesCommand). c.ticket) started }; actions = (stops_in r item ++ []) ++ (resets_in i.outbox item ++ []) ++ map (start s') started }
+          record { side = record s' { told = r.told ++ map (λ (c : RulesCommand). c.ticket) started }; actions = flat_map (stops_in r) items ++ flat_map (resets_in i.outbox) items ++ map (start s') started }

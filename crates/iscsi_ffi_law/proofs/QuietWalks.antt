@@ -9,7 +9,7 @@ use Rattle.iscsi_history.specs.declared.effect.Effect.{Effect}
 use Rattle.iscsi_history.specs.declared.entry.Entry.{Entry}
 use Rattle.iscsi_history.specs.declared.event.Event.TheVariants.{Arrive}
 use Rattle.iscsi_history.specs.rules.Run.{after_event, entry_of}
-use Rattle.iscsi_history.specs.rules.Trace.{Mark, after_items as items_after}
+use Rattle.iscsi_history.specs.rules.Trace.{Mark, Trace, after_items as items_after}
 use Rattle.iscsi_arrivals.specs.Standing.{StandsFor}
 use Rattle.iscsi_outbox_rules.specs.rules.Items.{ticket_enabled}
 use Rattle.iscsi_outbox_law.specs.Commands.{is_under_way, link_in}
@@ -20,10 +20,10 @@ use Rattle.iscsi_requests.specs.Cookies.{has_place}
 use Rattle.iscsi_requests.specs.Replies.{pushed}
 use Rattle.iscsi_ffi_rules.specs.declared.action.Action.{Action}
 use Rattle.iscsi_ffi_rules.specs.declared.action.StopReason.{StopReason}
+use Rattle.iscsi_requests.specs.Numbers.{HeldNumbers}
 use Rattle.iscsi_ffi_rules.specs.rules.Calls.{Interface}
 use Rattle.iscsi_ffi_rules.specs.rules.Clearing.{next_withheld}
-use Rattle.iscsi_ffi_rules.specs.rules.Happening.{Told, happens as happens_there, resets_in as resets_there, withheld}
-use Rattle.iscsi_ffi_rules.specs.rules.Needs.{is_waiting}
+use Rattle.iscsi_ffi_rules.specs.rules.Happening.{Told, happens as happens_there, withheld}
 use Rattle.iscsi_ffi_rules.specs.rules.Run as rules
 use Rattle.iscsi_ffi_rules.specs.rules.Run.{cids}
 use Rattle.iscsi_ffi_rules.specs.rules.Sides.{Side}
@@ -32,6 +32,8 @@ use Rattle.iscsi_ffi_steps.specs.Steps.{Going, done, happening, happens, resets_
 use Rattle.iscsi_ffi_steps.specs.Walk.{Doing, Walk, drop_waiting, end_item, in_state, keeps, may_wait, on_effects, release_if, release_one, send, send_as, sweep, tell_all, touched_by, walking}
 use Rattle.iscsi_ffi_law.specs.Arrived.{takes_there}
 use Rattle.iscsi_ffi_law.specs.Names.{Name, Note}
+use Rattle.iscsi_ffi_law.specs.Stands.{AreRequests}
+use Rattle.iscsi_history.proofs.CountLemmas.{one}
 use Rattle.iscsi_ffi_law.proofs.ArriveOpens.{IsFoundAt}
 use Rattle.iscsi_ffi_law.proofs.Doing.{idle}
 use Rattle.iscsi_ffi_law.proofs.DoneRoom.{may_wait_more}
@@ -74,74 +76,90 @@ released_out (Some place) o d =
     (λ has. sym (ap (λ v. cond v (release_one place (in_state (λ s. record s { outbox = o }) d)) (in_state (λ s. record s { outbox = o }) d)) has))
     (λ none. sym (ap (λ v. cond v (release_one place (in_state (λ s. record s { outbox = o }) d)) (in_state (λ s. record s { outbox = o }) d)) none))
 
+released_same : (x : Option ℕ) (d : Doing) → (release_if x d).state.outbox ≡ d.state.outbox
+released_same None d = refl
+released_same (Some k) d = cond_both (has_place k d.state.cookies) (release_one k d) d (λ (e : Doing). e.state.outbox ≡ d.state.outbox) (λ has. refl) (λ isnt. refl)
+
+released_held : (x : Option ℕ) (d : Doing) → (release_if x d).state.withheld ≡ d.state.withheld
+released_held None d = refl
+released_held (Some k) d = cond_both (has_place k d.state.cookies) (release_one k d) d (λ (e : Doing). e.state.withheld ≡ d.state.withheld) (λ has. refl) (λ isnt. refl)
+
+pub all_released_out : (xs : List (Option ℕ)) (o : OutboxState) (d : Doing) → in_state (λ s. record s { outbox = o }) (releases xs d) ≡ releases xs (in_state (λ s. record s { outbox = o }) d)
+all_released_out [] o d = refl
+all_released_out (x ∷ xs) o d = all_released_out xs o (release_if x d) ∙ ap (releases xs) (released_out x o d)
+
+pub all_released_same : (xs : List (Option ℕ)) (d : Doing) → (releases xs d).state.outbox ≡ d.state.outbox
+all_released_same [] d = refl
+all_released_same (x ∷ xs) d = all_released_same xs (release_if x d) ∙ released_same x d
+
+pub all_released_held : (xs : List (Option ℕ)) (d : Doing) → (releases xs d).state.withheld ≡ d.state.withheld
+all_released_held [] d = refl
+all_released_held (x ∷ xs) d = all_released_held xs (release_if x d) ∙ released_held x d
+
 module _ (i : Interface) (names : List Name) (notes : List Note) (s : State) (r : Side) (cid : ℕ) (header : List ℕ) (place : ℕ) (f : IsFoundAt i names notes s r cid header place)
-    (item : List Mark) (es : List Effect) (x : Option Request) (y : Option (ℕ × Reply)) (q : IsQuietEvent i r cid header item es x y) (waits : (e : ℕ) → is_waiting e (item ∷ r.both.trace) ≡ is_waiting e r.both.trace) where
+    (items : List (List Mark)) (t : Trace) (es : List Effect) (x : Option Request) (y : Option (ℕ × Reply)) (acts : List Action) (q : IsQuietEvent i r cid header items t es x y acts) (held : HeldNumbers) (slots : 0 < length held.places) (pending : ℕ → ℕ)
+    (requests1 : AreRequests names notes pending (λ k. []) (record s { held = held }) (record r { both = record r.both { event = r.both.event + 1; trace = t } })) (own : Option ℕ) (first : HeldNumbers) where
+  -- what the walk begins with
   abbrev pub found : Doing
-  found = record { state = s; actions = []; forgets = [] }
+  found = record { state = record s { held = first }; actions = []; forgets = [] }
 
   abbrev pub before : Going
-  before = record { event = r.both.event; trace = r.both.trace; doing = record { state = s; actions = []; forgets = [] } }
+  before = record { event = r.both.event; trace = r.both.trace; doing = record { state = record s { held = first }; actions = []; forgets = [] } }
 
   abbrev side' : Side
-  side' = side_then i r cid header item es x y q f.fit.fit.sound
+  side' = side_then i r cid header items t es x y acts q f.fit.fit.sound
 
   -- the event, by its effects
-  happening_to : happening i (Some place) (Arrive cid header) before ≡ record { event = r.both.event + 1; trace = item ∷ r.both.trace; doing = takes (Some place) (entry_on i r cid header item es x y q f.fit.fit.sound) found }
+  happening_to : happening i own (Arrive cid header) before ≡ record { event = r.both.event + 1; trace = t; doing = takes own (entry_on i r cid header items t es x y acts q f.fit.fit.sound) found }
   happening_to =
       ap (λ v. cond v next before) (lt-ltb r.both.event i.outbox.session.events f.fit.events)
-      ∙ ap (λ (items : List (List Mark)). record { event = r.both.event + 1; trace = items_after items r.both.trace; doing = takes (Some place) (entry_of i.outbox.session r.both.event r.both.trace (Arrive cid header)) found }) q.items
-      ∙ ap (λ (e : Entry). record { event = r.both.event + 1; trace = item ∷ r.both.trace; doing = takes (Some place) e found }) (entry_then i r cid header item es x y q f.fit.fit.sound)
+      ∙ ap (λ (ms : List (List Mark)). record { event = r.both.event + 1; trace = items_after ms r.both.trace; doing = takes own (entry_of i.outbox.session r.both.event r.both.trace (Arrive cid header)) found }) q.items_are
+      ∙ ap (λ (u : Trace). record { event = r.both.event + 1; trace = u; doing = takes own (entry_of i.outbox.session r.both.event r.both.trace (Arrive cid header)) found }) q.after
+      ∙ ap (λ (e : Entry). record { event = r.both.event + 1; trace = t; doing = takes own e found }) (entry_then i r cid header items t es x y acts q f.fit.fit.sound)
     where
       next : Going
-      next = record { event = r.both.event + 1; trace = after_event i.outbox.session r.both.event r.both.trace (Arrive cid header); doing = takes (Some place) (entry_of i.outbox.session r.both.event r.both.trace (Arrive cid header)) found }
+      next = record { event = r.both.event + 1; trace = after_event i.outbox.session r.both.event r.both.trace (Arrive cid header); doing = takes own (entry_of i.outbox.session r.both.event r.both.trace (Arrive cid header)) found }
 
   room_enough : 0 < length (cids i) → 3 + 2 * length (cids i) ≤ s.room
   room_enough some = let all = f.sizes.room in let conns = length-map i.outbox.session.conns (λ (c : ℕ × ℕ). c.0) in omega (arith, all, conns, some)
 
   -- both, where what the steps come to ends like the rules
-  goes_by : (d : Doing) → takes (Some place) (entry_on i r cid header item es x y q f.fit.fit.sound) found ≡ d → d.state.withheld ≡ [] → next_withheld side' ≡ None
-      → EndsAlike i (record { event = r.both.event + 1; trace = item ∷ r.both.trace; doing = d }) side' (resets_there i.outbox item)
-      → GoesTo i (done (happens i (Some place) (Arrive cid header) before)) (rules.done (happens_there i r (Arrive cid header)))
+  goes_by : (d : Doing) → takes own (entry_on i r cid header items t es x y acts q f.fit.fit.sound) found ≡ d → d.state.withheld ≡ [] → next_withheld side' ≡ None
+      → EndsAlike i (record { event = r.both.event + 1; trace = t; doing = d }) side' acts
+      → GoesTo i (done (happens i own (Arrive cid header) before)) (rules.done (happens_there i r (Arrive cid header)))
   goes_by d is none still e =
-      subst (λ (g : Going). GoesTo i (done (withholding i (length g.doing.state.commands.items) g)) (rules.done (happens_there i r (Arrive cid header)))) (sym (happening_to ∙ ap (λ (c : Doing). record { event = r.both.event + 1; trace = item ∷ r.both.trace; doing = c }) is))
-      (subst (λ (g : Going). GoesTo i (done g) (rules.done (happens_there i r (Arrive cid header)))) (sym (idle i (length d.state.commands.items) (record { event = r.both.event + 1; trace = item ∷ r.both.trace; doing = d }) none))
-      (subst (λ (w : Told). GoesTo i (done (record { event = r.both.event + 1; trace = item ∷ r.both.trace; doing = d })) (rules.done w))
-      (sym (ap (withheld i) (rules_are i r cid header item es x y q f.fit.fit.sound) ∙ calm i _ (record { side = side'; actions = resets_there i.outbox item }) still))
+      subst (λ (g : Going). GoesTo i (done (withholding i (length g.doing.state.commands.items) g)) (rules.done (happens_there i r (Arrive cid header)))) (sym (happening_to ∙ ap (λ (c : Doing). record { event = r.both.event + 1; trace = t; doing = c }) is))
+      (subst (λ (g : Going). GoesTo i (done g) (rules.done (happens_there i r (Arrive cid header)))) (sym (idle i (length d.state.commands.items) (record { event = r.both.event + 1; trace = t; doing = d }) none))
+      (subst (λ (w : Told). GoesTo i (done (record { event = r.both.event + 1; trace = t; doing = d })) (rules.done w))
+      (sym (ap (withheld i) (rules_are i r cid header items t es x y acts q f.fit.fit.sound) ∙ calm i _ (record { side = side'; actions = acts }) still))
       (record { answer = refl; tells = e.tells; stands = e.stands })))
 
   still : next_withheld side' ≡ None
-  still = still_calm i r cid header item es x y q f.fit.fit.sound f.calm
+  still = still_calm i r cid header items t es x y acts q f.fit.fit.sound f.calm
 
   abbrev pub out1 : OutboxState
-  out1 = outbox_on i names notes s r cid header place f item es x y q waits
+  out1 = outbox_on i names notes s r cid header place f items t es x y acts q held slots pending requests1
 
   some : 0 < length (cids i)
   some = f.fit.fit.some
 
   -- ---- nothing is answered: the request is over
 
-  module _ (none : y ≡ None) (walked : (on_effects true es (walk_from (Some place) found)).doing ≡ release_if (Some place) found) (touched : (t : State) → flat_map (touched_by t) es ≡ []) (resets : (t : State) → resets_in t es ≡ []) (resets_too : resets_there i.outbox item ≡ []) where
+  module _ (none : y ≡ None) (xs : List (Option ℕ)) (same_uses : (n : ℕ) → pending n ≡ endings xs n) (few : length xs ≤ 1) (walked : (on_effects true es (walk_from own found)).doing ≡ releases xs (record { state = record s { held = held }; actions = []; forgets = [] }))
+      (touched : (u : State) → flat_map (touched_by u) es ≡ []) (resets : (u : State) → resets_in u es ≡ []) (none_told : acts ≡ []) where
+    abbrev walked_to : Doing
+    walked_to = record { state = record s { held = held }; actions = []; forgets = [] }
+
     abbrev silent : Doing
-    silent = record { state = record s { outbox = out1 }; actions = []; forgets = [] }
+    silent = record { state = record s { outbox = out1; held = held }; actions = []; forgets = [] }
 
-    with_taken : (d0 : Doing) → d0.state.outbox ≡ s.outbox → in_state (λ t. record t { outbox = taken es (numbers_on i r cid header item es x y q f.fit.fit.sound) t.outbox }) d0 ≡ in_state (λ t. record t { outbox = out1 }) d0
-    with_taken d0 same = ap (λ o. in_state (λ t. record t { outbox = taken es (numbers_on i r cid header item es x y q f.fit.fit.sound) o }) d0) same
-
-    released_same : (x' : Option ℕ) (d0 : Doing) → (release_if x' d0).state.outbox ≡ d0.state.outbox
-    released_same None d0 = refl
-    released_same (Some k) d0 = cond_both (has_place k d0.state.cookies) (release_one k d0) d0 (λ (e : Doing). e.state.outbox ≡ d0.state.outbox) (λ has. refl) (λ isnt. refl)
-
-    released_held : (x' : Option ℕ) (d0 : Doing) → (release_if x' d0).state.withheld ≡ d0.state.withheld
-    released_held None d0 = refl
-    released_held (Some k) d0 = cond_both (has_place k d0.state.cookies) (release_one k d0) d0 (λ (e : Doing). e.state.withheld ≡ d0.state.withheld) (λ has. refl) (λ isnt. refl)
-
-    takes_silent : takes (Some place) (entry_on i r cid header item es x y q f.fit.fit.sound) found ≡ release_if (Some place) silent
+    takes_silent : takes own (entry_on i r cid header items t es x y acts q f.fit.fit.sound) found ≡ releases xs silent
     takes_silent =
         ap behind walked
-        ∙ ap (λ d'. from_there d') (with_taken (release_if (Some place) found) (released_same (Some place) found) ∙ released_out (Some place) out1 found)
-        ∙ ap (λ conns. from_swept (sweep conns (release_if (Some place) silent))) (touched (release_if (Some place) silent).state)
-        ∙ ap (λ acts. start_each (filter_map ticket_enabled es) (tell_all acts (release_if (Some place) silent))) (resets (release_if (Some place) silent).state)
-        ∙ ap (λ ks. start_each ks (release_if (Some place) silent)) q.part.enables
+        ∙ ap from_there (ap (λ o. in_state (λ u. record u { outbox = taken es (numbers_on i r cid header items t es x y acts q f.fit.fit.sound) o }) (releases xs walked_to)) (all_released_same xs walked_to) ∙ all_released_out xs out1 walked_to)
+        ∙ ap (λ conns. from_swept (sweep conns (releases xs silent))) (touched (releases xs silent).state)
+        ∙ ap (λ told. start_each (filter_map ticket_enabled es) (tell_all told (releases xs silent))) (resets (releases xs silent).state)
+        ∙ ap (λ ks. start_each ks (releases xs silent)) q.part.enables
       where
         from_swept : Doing → Doing
         from_swept swept = start_each (filter_map ticket_enabled es) (tell_all (resets_in swept.state es) swept)
@@ -150,21 +168,21 @@ module _ (i : Interface) (names : List Name) (notes : List Note) (s : State) (r 
         from_there d' = from_swept (sweep (flat_map (touched_by d'.state) es) d')
 
         behind : Doing → Doing
-        behind d0 = from_there (in_state (λ t. record t { outbox = taken es (numbers_on i r cid header item es x y q f.fit.fit.sound) t.outbox }) d0)
+        behind d0 = from_there (in_state (λ u. record u { outbox = taken es (numbers_on i r cid header items t es x y acts q f.fit.fit.sound) u.outbox }) d0)
 
-    pub silent_goes : GoesTo i (done (happens i (Some place) (Arrive cid header) before)) (rules.done (happens_there i r (Arrive cid header)))
+    pub silent_goes : GoesTo i (done (happens i own (Arrive cid header) before)) (rules.done (happens_there i r (Arrive cid header)))
     silent_goes =
         let room = room_enough some in
-        goes_by (release_if (Some place) silent) takes_silent (released_held (Some place) silent ∙ f.withheld) still
-        (subst (λ acts. EndsAlike i (record { event = r.both.event + 1; trace = item ∷ r.both.trace; doing = release_if (Some place) silent }) side' acts) (sym resets_too)
-        (ends_with i names notes (λ k. []) (Some place ∷ []) [] (record s { outbox = out1 }) side' (ends_silent i names notes s r cid header place f item es x y q waits none) (omega (arith, room)) (omega (arith, room))
-        (record { event = r.both.event + 1; trace = item ∷ r.both.trace; doing = release_if (Some place) silent }) refl refl refl))
+        goes_by (releases xs silent) takes_silent (all_released_held xs silent ∙ f.withheld) still
+        (subst (λ told. EndsAlike i (record { event = r.both.event + 1; trace = t; doing = releases xs silent }) side' told) (sym none_told)
+        (ends_with i names notes (λ k. []) xs [] (record s { outbox = out1; held = held }) side' (ends_silent i names notes s r cid header place f items t es x y acts q held slots pending requests1 none xs same_uses) (omega (arith, room, few)) (omega (arith, room))
+        (record { event = r.both.event + 1; trace = t; doing = releases xs silent }) refl refl refl))
 
   -- ---- it is answered
 
-  module _ (reply : Reply) (is_sent : y ≡ Some (cid, reply)) (takes_them : takes_there r cid) where
+  module _ (reply : Reply) (is_sent : y ≡ Some (cid, reply)) (takes_them : takes_there r cid) (whole : (n : ℕ) → pending n ≡ one (place == n)) where
     abbrev p' : ℕ
-    p' = p i names notes s r cid header place f item es x y q waits reply is_sent takes_them
+    p' = p i names notes s r cid header place f items t es x y acts q held slots pending requests1 reply is_sent takes_them whole
 
     sent_is : s.outbox.sent ≡ r.both.box.sent
     sent_is = let e = f.outbox.numbers.sent in let lt = f.fit.sent in omega (arith, e, lt)
@@ -173,18 +191,21 @@ module _ (i : Interface) (names : List Name) (notes : List Note) (s : State) (r 
     room_there = ap (λ n. may_wait n s.replies) sent_is ∙ may_wait_more i names notes (ending (Some place)) (λ k. []) s r f.requests f.outbox f.sizes f.fit.sent f.fit.replies
 
     abbrev pub replied_now : Doing
-    replied_now = record { state = record s { replies = pushed p' (record { log_place = r.both.box.sent; request = place }) s.replies }; actions = []; forgets = [] }
+    replied_now = record { state = record s { held = held; replies = pushed p' (record { log_place = r.both.box.sent; request = place }) s.replies }; actions = []; forgets = [] }
 
     -- one reply is sent, of the request that executes, or of the one that arrives
-    pub send_is : (c o : Option ℕ) (why : Option StopReason) → ◌≡◌ {A = Option ℕ} (elim c [ Some k ↦ Some k | None ↦ o ]) (Some place) → (end_item (send cid (record { doing = found; current = c; own = o; by = why; sent = s.outbox.sent }))).doing ≡ replied_now
+    abbrev pub executed : Doing
+    executed = record { state = record s { held = held }; actions = []; forgets = [] }
+
+    pub send_is : (c o : Option ℕ) (why : Option StopReason) → ◌≡◌ {A = Option ℕ} (elim c [ Some k ↦ Some k | None ↦ o ]) (Some place) → (end_item (send cid (record { doing = executed; current = c; own = o; by = why; sent = s.outbox.sent }))).doing ≡ replied_now
     send_is c o why of_it =
-        ap by_place (place_is i names notes s r cid header place f item es x y q waits reply is_sent takes_them)
+        ap by_place (place_is i names notes s r cid header place f items t es x y acts q held slots pending requests1 reply is_sent takes_them whole)
         ∙ ap by_request of_it
         ∙ ap by_room room_there
-        ∙ ap (λ n. record { state = record s { replies = pushed p' (record { log_place = n; request = place }) s.replies }; actions = []; forgets = [] }) sent_is
+        ∙ ap (λ n. record { state = record s { held = held; replies = pushed p' (record { log_place = n; request = place }) s.replies }; actions = []; forgets = [] }) sent_is
       where
         w : Walk
-        w = record { doing = found; current = c; own = o; by = why; sent = s.outbox.sent }
+        w = record { doing = executed; current = c; own = o; by = why; sent = s.outbox.sent }
 
         finish : Walk → Doing
         finish w' = (end_item (record w' { sent = (s.outbox.sent + 1) % 2 ^ 64 })).doing
@@ -198,44 +219,44 @@ module _ (i : Interface) (names : List Name) (notes : List Note) (s : State) (r 
         by_room : Bool → Doing
         by_room v = finish (cond v (walking (in_state (λ t. record t { replies = pushed p' (record { log_place = s.outbox.sent; request = place }) t.replies })) (record w { current = None; own = None })) w)
 
-    module _ (walked : (on_effects true es (walk_from (Some place) found)).doing ≡ replied_now) (touched : (t : State) → flat_map (touched_by t) es ≡ as_list (place_of t.outbox cid) ++ [])
-        (resets : (t : State) → t.outbox.limits ≡ limits_of i.outbox → resets_in t es ≡ resets_there i.outbox item) (few : length (resets_there i.outbox item) ≤ 1) where
+    module _ (walked : (on_effects true es (walk_from own found)).doing ≡ replied_now) (touched : (u : State) → flat_map (touched_by u) es ≡ as_list (place_of u.outbox cid) ++ [])
+        (resets : (u : State) → u.outbox.limits ≡ limits_of i.outbox → resets_in u es ≡ acts) (few : length acts ≤ 1) where
       abbrev state2 : State
-      state2 = state_answered i names notes s r cid header place f item es x y q waits reply is_sent takes_them
+      state2 = state_answered i names notes s r cid header place f items t es x y acts q held slots pending requests1 reply is_sent takes_them whole
 
       abbrev answered_now : Doing
       answered_now = record { state = state2; actions = []; forgets = [] }
 
       place_after : place_of out1 cid ≡ Some p'
       place_after =
-          ap (λ (l : Limits). position (λ (c : ℕ). c == cid) l.cids) ((stands_on i names notes s r cid header place f item es x y q waits).sizes.limits ∙ sym f.outbox.sizes.limits)
-          ∙ place_is i names notes s r cid header place f item es x y q waits reply is_sent takes_them
+          ap (λ (l : Limits). position (λ (c : ℕ). c == cid) l.cids) ((stands_on i names notes s r cid header place f items t es x y acts q held slots pending requests1).sizes.limits ∙ sym f.outbox.sizes.limits)
+          ∙ place_is i names notes s r cid header place f items t es x y acts q held slots pending requests1 reply is_sent takes_them whole
 
       -- its connection keeps what waits there
       kept_there : keeps (link_at out1 p') ≡ true
       kept_there =
-          let done_box : IsReplied names s _ r.both.event p' place (box' i names notes s r cid header place f item es x y q waits) = replied i names notes s r cid header place f item es x y q waits reply is_sent takes_them in
-          let inside : p' < length r.both.box.links = within i names notes s r cid header place f item es x y q waits reply is_sent takes_them in
-          let short : p' < length (box' i names notes s r cid header place f item es x y q waits).links = (let m = done_box.long in omega (arith, inside, m)) in
-          let st : StandsFor (link_at out1 p') (link_in (box' i names notes s r cid header place f item es x y q waits).links p')
-          = counts_at (is_under_way i.outbox (box' i names notes s r cid header place f item es x y q waits).links) i.outbox out1 (box' i names notes s r cid header place f item es x y q waits) (stands_on i names notes s r cid header place f item es x y q waits) p' short in
-          let same : SameOut (link_in r.both.box.links p') (link_in (box' i names notes s r cid header place f item es x y q waits).links p') = done_box.same p' inside in
+          let done_box : IsReplied names (record s { held = held }) (record r { both = record r.both { event = r.both.event + 1; trace = t } }) r.both.event p' place (box' i names notes s r cid header place f items t es x y acts q held slots pending requests1) = replied i names notes s r cid header place f items t es x y acts q held slots pending requests1 reply is_sent takes_them whole in
+          let inside : p' < length r.both.box.links = within i names notes s r cid header place f items t es x y acts q held slots pending requests1 reply is_sent takes_them whole in
+          let short : p' < length (box' i names notes s r cid header place f items t es x y acts q held slots pending requests1).links = (let m = done_box.long in omega (arith, inside, m)) in
+          let st : StandsFor (link_at out1 p') (link_in (box' i names notes s r cid header place f items t es x y acts q held slots pending requests1).links p')
+          = counts_at (is_under_way i.outbox (box' i names notes s r cid header place f items t es x y acts q held slots pending requests1).links) i.outbox out1 (box' i names notes s r cid header place f items t es x y acts q held slots pending requests1) (stands_on i names notes s r cid header place f items t es x y acts q held slots pending requests1) p' short in
+          let same : SameOut (link_in r.both.box.links p') (link_in (box' i names notes s r cid header place f items t es x y acts q held slots pending requests1).links p') = done_box.same p' inside in
           ap (λ v. (v && not (link_at out1 p').lost) && not (link_at out1 p').cut) st.joined
-          ∙ ap (λ v. ((link_in (box' i names notes s r cid header place f item es x y q waits).links p').joined && not v) && not (link_at out1 p').cut) st.lost
-          ∙ ap (λ v. ((link_in (box' i names notes s r cid header place f item es x y q waits).links p').joined && not (link_in (box' i names notes s r cid header place f item es x y q waits).links p').lost) && not v) st.cut
-          ∙ same.takes ∙ takes_it i names notes s r cid header place f item es x y q waits reply is_sent takes_them
+          ∙ ap (λ v. ((link_in (box' i names notes s r cid header place f items t es x y acts q held slots pending requests1).links p').joined && not v) && not (link_at out1 p').cut) st.lost
+          ∙ ap (λ v. ((link_in (box' i names notes s r cid header place f items t es x y acts q held slots pending requests1).links p').joined && not (link_in (box' i names notes s r cid header place f items t es x y acts q held slots pending requests1).links p').lost) && not v) st.cut
+          ∙ same.takes ∙ takes_it i names notes s r cid header place f items t es x y acts q held slots pending requests1 reply is_sent takes_them whole
 
       enough : 3 + 2 * length (cids i) ≤ s.room
       enough = room_enough some
 
-      takes_answered : takes (Some place) (entry_on i r cid header item es x y q f.fit.fit.sound) found ≡ record answered_now { actions = resets_there i.outbox item }
+      takes_answered : takes own (entry_on i r cid header items t es x y acts q f.fit.fit.sound) found ≡ record answered_now { actions = acts }
       takes_answered =
-          ap from_there (ap (in_state (λ t. record t { outbox = taken es (numbers_on i r cid header item es x y q f.fit.fit.sound) t.outbox })) walked)
+          ap from_there (ap (in_state (λ u. record u { outbox = taken es (numbers_on i r cid header items t es x y acts q f.fit.fit.sound) u.outbox })) walked)
           ∙ ap (λ conns. from_swept (sweep conns answered_now)) (touched state2 ∙ ap (λ z. as_list z ++ []) place_after)
           ∙ ap (λ v. from_swept (cond v answered_now (drop_waiting p' answered_now))) kept_there
-          ∙ ap (λ acts. start_each (filter_map ticket_enabled es) (tell_all acts answered_now)) (resets state2 (stands_on i names notes s r cid header place f item es x y q waits).sizes.limits)
-          ∙ ap (start_each (filter_map ticket_enabled es)) (told_all (resets_there i.outbox item) answered_now (omega (arith, few, enough)))
-          ∙ ap (λ ks. start_each ks (record answered_now { actions = resets_there i.outbox item })) q.part.enables
+          ∙ ap (λ told. start_each (filter_map ticket_enabled es) (tell_all told answered_now)) (resets state2 (stands_on i names notes s r cid header place f items t es x y acts q held slots pending requests1).sizes.limits)
+          ∙ ap (start_each (filter_map ticket_enabled es)) (told_all acts answered_now (omega (arith, few, enough)))
+          ∙ ap (λ ks. start_each ks (record answered_now { actions = acts })) q.part.enables
         where
           from_swept : Doing → Doing
           from_swept swept = start_each (filter_map ticket_enabled es) (tell_all (resets_in swept.state es) swept)
@@ -243,8 +264,8 @@ module _ (i : Interface) (names : List Name) (notes : List Note) (s : State) (r 
           from_there : Doing → Doing
           from_there d' = from_swept (sweep (flat_map (touched_by d'.state) es) d')
 
-      pub answered_goes : GoesTo i (done (happens i (Some place) (Arrive cid header) before)) (rules.done (happens_there i r (Arrive cid header)))
+      pub answered_goes : GoesTo i (done (happens i own (Arrive cid header) before)) (rules.done (happens_there i r (Arrive cid header)))
       answered_goes =
-          goes_by (record answered_now { actions = resets_there i.outbox item }) takes_answered f.withheld still
-          (ends_with i names notes (λ k. []) [] (resets_there i.outbox item) state2 side' (ends_answered i names notes s r cid header place f item es x y q waits reply is_sent takes_them) (omega arith) (omega (arith, few, enough))
-          (record { event = r.both.event + 1; trace = item ∷ r.both.trace; doing = record answered_now { actions = resets_there i.outbox item } }) refl refl refl)
+          goes_by (record answered_now { actions = acts }) takes_answered f.withheld still
+          (ends_with i names notes (λ k. []) [] acts state2 side' (ends_answered i names notes s r cid header place f items t es x y acts q held slots pending requests1 reply is_sent takes_them whole) (omega arith) (omega (arith, few, enough))
+          (record { event = r.both.event + 1; trace = t; doing = record answered_now { actions = acts } }) refl refl refl)

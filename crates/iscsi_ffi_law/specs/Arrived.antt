@@ -1,5 +1,5 @@
 -- What is premised of a request that is taken: of the rules' side alone.
-use Rattle.std.specs.Prelude.{◌≡◌, ◌<◌, ◌-◌, ◌^◌, ◌==◌, ◌&&◌, ◌⊎◌, ℕ, true, List, [], ◌∷◌}
+use Rattle.std.specs.Prelude.{◌≡◌, ◌<◌, ◌-◌, ◌^◌, ◌==◌, ◌&&◌, ◌||◌, ◌⊎◌, ℕ, true, false, is_some, List, [], ◌∷◌}
 use Rattle.std.specs.List.{list_any}
 use Rattle.iscsi_wire.specs.declared.reply.Reply.{Reply}
 use Rattle.iscsi_wire.specs.Fields.{is_immediate, request_of}
@@ -10,7 +10,7 @@ use Rattle.iscsi_history.specs.promises.Order.{in_parts}
 use Rattle.iscsi_history.specs.rules.Agenda.{arrival_of, items_of}
 use Rattle.iscsi_history.specs.rules.Execution.{reply_on}
 use Rattle.iscsi_history.specs.rules.Run.{entry_of}
-use Rattle.iscsi_history.specs.rules.Trace.{Arrival, Command, Executes, Ignores, Mark, entered, shown, waiting}
+use Rattle.iscsi_history.specs.rules.Trace.{Admits, Arrival, Command, Delivers, Executes, Ignores, Mark, Trace, entered, held, is_delivered, is_emptied, shown, waiting}
 use Rattle.iscsi_outbox_rules.specs.promises.Room.{Fits, places}
 use Rattle.iscsi_outbox_rules.specs.rules.Boxes.{Box, Handed, Link}
 use Rattle.iscsi_outbox_rules.specs.rules.Calls as outbox
@@ -102,6 +102,33 @@ abbrev pub IsAnsweredAtOnce : Interface → Side → ℕ → List ℕ → Type 0
 IsAnsweredAtOnce i r cid header =
     (is_immediate (request_of cid header) ≡ true) × ((reply : Reply) × (items_then i r cid header ≡ (Executes (arrived i r cid header) ∷ reply_on (arrived i r cid header) reply) ∷ []) × takes_there r cid)
 
+-- ---- a numbered request, where nothing is held
+
+-- a number that is a new one, where nothing is held
+pub record IsFirstHeld (t : Trace) (number : ℕ) : Type 0 where
+  pub unreceived : list_any (λ (b : Arrival). b.number == number) (shown admitted_by t) ≡ false
+  pub untaken : (is_delivered t number || is_emptied t number) ≡ false
+  pub nothing : list_any (λ (b : Arrival). is_some (held t b.number)) (shown admitted_by t) ≡ false
+
+-- it is held
+abbrev pub IsHeldNow : Interface → Side → ℕ → List ℕ → Type 0
+IsHeldNow i r cid header =
+    (is_immediate (request_of cid header) ≡ false) × IsFirstHeld r.both.trace (arrived i r cid header).number × (items_then i r cid header ≡ (Admits (arrived i r cid header) ∷ []) ∷ [])
+
+-- its turn comes at once, and it isn't answered
+abbrev pub IsDeliveredOnly : Interface → Side → ℕ → List ℕ → Type 0
+IsDeliveredOnly i r cid header =
+    (is_immediate (request_of cid header) ≡ false) × IsFirstHeld r.both.trace (arrived i r cid header).number
+    × (items_then i r cid header ≡ (Admits (arrived i r cid header) ∷ []) ∷ (Delivers (arrived i r cid header) ∷ []) ∷ [])
+
+-- .. and it is answered at once: no command enters or leaves, and nothing is closed
+abbrev pub IsDeliveredAnswered : Interface → Side → ℕ → List ℕ → Type 0
+IsDeliveredAnswered i r cid header =
+    (is_immediate (request_of cid header) ≡ false) × IsFirstHeld r.both.trace (arrived i r cid header).number
+    × ((reply : Reply) × (items_then i r cid header ≡ (Admits (arrived i r cid header) ∷ []) ∷ (Delivers (arrived i r cid header) ∷ reply_on (arrived i r cid header) reply) ∷ []) × takes_there r cid)
+
 -- a request that one of these becomes
 abbrev pub IsTaken : Interface → Side → ℕ → List ℕ → Type 0
-IsTaken i r cid header = IsPassedOver i r cid header ⊎ IsRejected i r cid header ⊎ IsDoneWith i r cid header ⊎ IsAnsweredAtOnce i r cid header
+IsTaken i r cid header =
+    IsPassedOver i r cid header ⊎ IsRejected i r cid header ⊎ IsDoneWith i r cid header ⊎ IsAnsweredAtOnce i r cid header
+    ⊎ IsHeldNow i r cid header ⊎ IsDeliveredOnly i r cid header ⊎ IsDeliveredAnswered i r cid header

@@ -85,8 +85,9 @@ pub fn done_law()
     ensures stops { (i : Interface) (s : StepsSide) (r : Side) → Stands i s r → (ticket : ℕ) → (is_going r ticket && contains r.marked ticket) ≡ true → AllDone i r ticket TASK_ABORTED → GoesAlike i s r (Stops ticket) }
 {}
 
-/// A request is taken, and is passed over, rejected for its opcode, or an immediate one that executes: it is answered at once, or not at all, and
-/// no command enters or leaves by it. What is premised of the rules' side is said in `IsArrivalFit`; one premise more: a place for a word.
+/// A request is taken, and is passed over, rejected for its opcode, or executes as it arrives: it is answered at once, or not at all, and no
+/// command enters or leaves by it. A numbered one comes while nothing is held, and may be held. What is premised of the rules' side is said in
+/// `IsArrivalFit` and `IsTaken`; one premise more: a place for a word.
 pub fn arrives_law()
     ensures alike { (i : Interface) (s : StepsSide) (r : Side) → Stands i s r → (cid : ℕ) (header : List ℕ) (cookie : ℕ) → IsArrivalFit i r cid header → refusal_of i r cid ≡ None → is_some (next_place s.state.cookies) ≡ true → IsTaken i (heard_in i r cid header) cid header → GoesAlike i s r (Arrives cid header cookie) }
 {}
