@@ -14,11 +14,12 @@ use Rattle.iscsi_ffi_steps.specs.Steps.{Answered, Going, Side as StepsSide, arri
 use Rattle.iscsi_ffi_steps.specs.Steps as steps
 use Rattle.iscsi_ffi_steps.specs.Walk.{in_state}
 use Rattle.iscsi_ffi_law.specs.Alike.{GoesAlike}
-use Rattle.iscsi_ffi_law.specs.Arrived.{IsArrivalFit, IsTaken}
+use Rattle.iscsi_ffi_law.specs.Arrived.{IsArrivalFit, IsCounted, IsEntered, IsTaken}
 use Rattle.iscsi_ffi_law.specs.Stands.{Stands}
 use Rattle.iscsi_ffi_law.proofs.ArriveOpens.{IsFoundAt, names_open, opens_at, side_open, state_open}
 use Rattle.iscsi_ffi_law.proofs.Ends.{GoesTo, found_fit}
 use Rattle.iscsi_ffi_law.proofs.Refusing.{refused_same}
+use Rattle.iscsi_ffi_law.proofs.EnterWalks.{goes_entered}
 use Rattle.iscsi_ffi_law.proofs.ArriveCalls.{goes_answered, goes_done, goes_over, goes_rejected}
 use Rattle.iscsi_ffi_law.proofs.ArriveHeld.{goes_delivered, goes_delivered_answered, goes_held}
 
@@ -97,3 +98,24 @@ module _ (i : Interface) (s : StepsSide) (r : Side) (h : Stands i s r) (cid : �
       (λ sixth. ⊎_elim
       (λ delivers. goes_delivered i _ h.notes s1 r1 cid header place found_there delivers)
       (λ answers. goes_delivered_answered i _ h.notes s1 r1 cid header place found_there answers) sixth) fifth) fourth) more) others) k)
+
+  -- a command enters
+  pub enters_alike : IsEntered i (rules.heard_in i r cid header) cid header → ((place : ℕ) → next_place s.state.cookies ≡ Some place → IsCounted i (heard_first cid header s.state) (rules.heard_in i r cid header) place) → GoesAlike i s r (Arrives cid header cookie)
+  enters_alike k counted =
+      let n : IsCounted i (heard_first cid header s.state) (rules.heard_in i r cid header) free_place.place = counted free_place.place free_place.is in
+      arrives_as (goes_entered i _ h.notes s1 r1 cid header place found_there
+      (record {
+        numbered = k.numbered;
+        first = k.first;
+        command = k.command;
+        arrival = k.arrival;
+        next = k.next;
+        unit = k.unit;
+        items = k.items;
+        fresh = record { unentered = k.fresh.unentered; unleft = k.fresh.unleft; untold = k.fresh.untold; unmarked = k.fresh.unmarked };
+        idle = k.idle;
+        few = k.few;
+        started = k.started;
+        calm = k.calm;
+      })
+      (record { last = n.last; units = n.units; tracked = n.tracked; low = n.low; high = n.high }))

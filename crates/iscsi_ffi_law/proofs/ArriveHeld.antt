@@ -39,7 +39,7 @@ module _ (i : Interface) (names : List Name) (notes : List Note) (s : State) (r 
   abbrev a : Arrival
   a = arrived i r cid header
 
-  abbrev request : Request
+  abbrev pub request : Request
   request = request_of cid header
 
   abbrev received : Trace
@@ -52,7 +52,7 @@ module _ (i : Interface) (names : List Name) (notes : List Note) (s : State) (r 
   none_enabled t item u = ap (map (λ (c : RulesCommand). Enable c.ticket c.unit)) (newly-untouched i.outbox.session t item u)
 
   -- it is held first
-  holds_first : (first : IsFirstHeld r.both.trace (arrived i r cid header).number) (e : Entry) → entry_of i.outbox.session r.both.event r.both.trace (Arrive cid header) ≡ e → is_held_first request e.effects ≡ true
+  pub holds_first : (first : IsFirstHeld r.both.trace (arrived i r cid header).number) (e : Entry) → entry_of i.outbox.session r.both.event r.both.trace (Arrive cid header) ≡ e → is_held_first request e.effects ≡ true
       → GoesTo i (done (happens i None (Arrive cid header) (record { event = r.both.event; trace = r.both.trace; doing = record { state = record s { held = held_with i names notes s r cid header place f first }; actions = []; forgets = [] } })))
       (rules.done (happens_there i r (Arrive cid header))) → ArrivesTo i names notes s r cid header place f
   holds_first first e is holds goes =
@@ -126,7 +126,7 @@ module _ (i : Interface) (names : List Name) (notes : List Note) (s : State) (r 
   goes_delivered k =
       holds_first first _ (entry_then i r cid header ((Admits a ∷ []) ∷ (Delivers a ∷ []) ∷ []) ((Delivers a ∷ []) ∷ received) (Deliver request ∷ []) (Some request) None [] (only_event k.2) f.fit.fit.sound) (ap not k.0)
       (silent_goes i names notes s r cid header place f ((Admits a ∷ []) ∷ (Delivers a ∷ []) ∷ []) ((Delivers a ∷ []) ∷ received) (Deliver request ∷ []) (Some request) None [] (only_event k.2) held2 (slots_then i names notes s r cid header place f k.1)
-      (ending (Some place)) (requests_delivered i names notes s r cid header place f k.1 [] only_turn none_received refl) None (held_with i names notes s r cid header place f k.1) refl (Some place ∷ []) (λ n. omega arith) (omega arith)
+      (ending (Some place)) (requests_delivered i names notes s r cid header place f k.1 [] none_received refl only_turn) None (held_with i names notes s r cid header place f k.1) refl (Some place ∷ []) (λ n. omega arith) (omega arith)
       (ap (λ (z : Option ℕ). release_if z (record { state = record s { held = held2 }; actions = []; forgets = [] })) (held_is i names notes s r cid header place f k.1))
       (λ u. refl) (λ u. none_both i names notes s r cid header place f u.outbox.limits.shared (is_reset request) (reset u.outbox.limits.units request)) refl)
     where
@@ -176,7 +176,7 @@ module _ (i : Interface) (names : List Name) (notes : List Note) (s : State) (r 
     slots = slots_then i names notes s r cid header place f k.1
 
     kept : AreRequests names notes (ending (Some place)) (λ n. []) (record s { held = held2 }) (record r { both = record r.both { event = r.both.event + 1; trace = item ∷ received } })
-    kept = requests_delivered i names notes s r cid header place f k.1 (Sends cid k.2.0 ∷ []) (answered_turn k.2.0) (sends_only k.2.0) refl
+    kept = requests_delivered i names notes s r cid header place f k.1 (Sends cid k.2.0 ∷ []) (sends_only k.2.0) refl (answered_turn k.2.0)
 
     pub goes_delivered_answered : ArrivesTo i names notes s r cid header place f
     goes_delivered_answered =

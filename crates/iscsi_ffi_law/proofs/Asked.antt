@@ -52,7 +52,7 @@ find_more : {A : Type 0} (p : A → Bool) (xs : List A) (y : A) → p y ≡ fals
 find_more p [] y isnt = ap (λ v. cond v (Some y) None) isnt
 find_more p (x ∷ xs) y isnt = ap (λ z. cond (p x) (Some x) z) (find_more p xs y isnt)
 
-find_still : {A : Type 0} (p : A → Bool) (xs : List A) (y x : A) → find p xs ≡ Some x → find p (xs ++ y ∷ []) ≡ Some x
+pub find_still : {A : Type 0} (p : A → Bool) (xs : List A) (y x : A) → find p xs ≡ Some x → find p (xs ++ y ∷ []) ≡ Some x
 find_still p [] y x is = absurd cc
 find_still p (z ∷ xs) y x is = by_test (find_still p xs y x) (p z) is
   where

@@ -27,7 +27,7 @@ use Rattle.iscsi_ffi_law.proofs.Queued.{SameOut}
 use Rattle.iscsi_ffi_law.proofs.Staging.{restaged}
 
 -- what is enabled changes nothing yet
-enables_walked : (ns : List RulesCommand) (first : Bool) (w : Walk) → on_effects first (enables ns) w ≡ end_item w
+pub enables_walked : (ns : List RulesCommand) (first : Bool) (w : Walk) → on_effects first (enables ns) w ≡ end_item w
 enables_walked [] first w = refl
 enables_walked (n ∷ ns) first w = enables_walked ns false w
 

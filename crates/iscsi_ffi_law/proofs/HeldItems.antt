@@ -25,7 +25,7 @@ use Rattle.iscsi_ffi_law.proofs.Members.{Passing, counted_in, each_in, find_in, 
 
 -- ---- the session
 
-none_of : {A : Type 0} (p : A → Bool) (xs : List A) → list_any p xs ≡ false → (x : A) → In x xs → p x ≡ false
+pub none_of : {A : Type 0} (p : A → Bool) (xs : List A) → list_any p xs ≡ false → (x : A) → In x xs → p x ≡ false
 none_of p xs none x there = by_test (p x) refl
   where
     by_test : (v : Bool) → p x ≡ v → v ≡ false

@@ -12,6 +12,7 @@ use Rattle.iscsi_ffi_rules.specs.rules.Calls.{Interface}
 use Rattle.iscsi_ffi_rules.specs.rules.Needs.{is_held, is_of_event}
 use Rattle.iscsi_ffi_rules.specs.rules.Sides.{Side}
 use Rattle.iscsi_ffi_steps.specs.State.{State}
+use Rattle.iscsi_outbox_law.specs.Pairs.{EachOf}
 use Rattle.iscsi_ffi_law.specs.Arrived.{IsFirstHeld, arrived}
 use Rattle.iscsi_ffi_law.specs.Names.{Name, Note}
 use Rattle.iscsi_ffi_law.specs.Parts.{IsNote, IsRequest}
@@ -118,18 +119,26 @@ module _ (i : Interface) (names : List Name) (notes : List Note) (s : State) (r 
           ∙ sym (le-ltb 0 (count_by (is_place n.place) held_with.places) (omega (arith, elsewhere, none, count_with n.place)))
 
   -- its turn comes
-  module _ (ms : List Mark) (u : Untouched (Delivers a ∷ ms)) (v : IsUnheld ms) (waits : waiting ((Delivers a ∷ ms) ∷ (Admits a ∷ []) ∷ r.both.trace) ≡ waiting r.both.trace) where
-    pub requests_delivered : AreRequests names notes (ending (Some place)) (λ k. []) (record s { held = held_then }) (record r { both = record r.both { event = r.both.event + 1; trace = (Delivers a ∷ ms) ∷ (Admits a ∷ []) ∷ r.both.trace } })
-    requests_delivered = requests_on names notes (λ n. 0) (λ k. []) (record s { held = held_with }) (record r { both = record r.both { event = r.both.event; trace = (Admits a ∷ []) ∷ r.both.trace } }) (requests_held_now r.both.event)
-        (Delivers a ∷ ms) u (r.both.event + 1) held_then (ending (Some place))
-        (λ p. omega (arith, count_with p, count_then p))
-        (in_each (IsRequest (record s { held = held_then }) ((Delivers a ∷ ms) ∷ (Admits a ∷ []) ∷ r.both.trace)) names (λ n at.
+  module _ (ms : List Mark) (v : IsUnheld ms) (waits : waiting ((Delivers a ∷ ms) ∷ (Admits a ∷ []) ∷ r.both.trace) ≡ waiting r.both.trace) where
+    pub uses_delivered : (p : ℕ) → count_by (is_place p) held_then.places + ending (Some place) p ≡ count_held p (record s { held = held_with }) + 0
+    uses_delivered p = omega (arith, count_with p, count_then p)
+
+    pub named_delivered : EachOf (IsRequest (record s { held = held_then }) ((Delivers a ∷ ms) ∷ (Admits a ∷ []) ∷ r.both.trace)) names
+    named_delivered = in_each (IsRequest (record s { held = held_then }) ((Delivers a ∷ ms) ∷ (Admits a ∷ []) ∷ r.both.trace)) names
+        (λ n at.
         let none : count_held n.place s ≡ 0 = held_nowhere names notes (ending (Some place)) (λ k. []) s r f.requests none_held n at in
         record {
           held = none_behind r.both.trace a first f.before.admitted ms v n.event ∙ sym (le-ltb 0 (count_by (is_place n.place) held_then.places) (omega (arith, none, count_then n.place)));
           waiting = ap (list_any (is_of_event n.event)) waits ∙ (each_in (IsRequest s r.both.trace) names n at f.requests.named).waiting;
-        }))
-        (in_each (IsNote (record s { held = held_then }) r.both.box.links) notes (λ n at.
+        })
+
+    pub noted_delivered : EachOf (IsNote (record s { held = held_then }) r.both.box.links) notes
+    noted_delivered = in_each (IsNote (record s { held = held_then }) r.both.box.links) notes
+        (λ n at.
         let k : IsNote s r.both.box.links n = each_in (IsNote s r.both.box.links) notes n at f.requests.noted_apart in
         let none = k.held in
-        record { held = omega (arith, none, count_then n.place); waiting = k.waiting; home = k.home }))
+        record { held = omega (arith, none, count_then n.place); waiting = k.waiting; home = k.home })
+
+    pub requests_delivered : Untouched (Delivers a ∷ ms) → AreRequests names notes (ending (Some place)) (λ k. []) (record s { held = held_then }) (record r { both = record r.both { event = r.both.event + 1; trace = (Delivers a ∷ ms) ∷ (Admits a ∷ []) ∷ r.both.trace } })
+    requests_delivered u = requests_on names notes (λ n. 0) (λ k. []) (record s { held = held_with }) (record r { both = record r.both { event = r.both.event; trace = (Admits a ∷ []) ∷ r.both.trace } }) (requests_held_now r.both.event)
+        (Delivers a ∷ ms) u (r.both.event + 1) held_then (ending (Some place)) uses_delivered named_delivered noted_delivered

@@ -62,6 +62,10 @@ mod HeldItems
 mod HeldRequests
 mod ArriveCalls
 mod ArriveHeld
+mod EnterRequests
+mod EnterBox
+mod EnterEvents
+mod EnterWalks
 mod Arrivals
 mod DoneRules
 mod Doing

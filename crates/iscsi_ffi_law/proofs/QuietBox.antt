@@ -67,7 +67,7 @@ none_dropped b = ap (λ ls. record b { links = ls }) (all b.links)
     all [] = refl
     all (l ∷ ls) = ap (λ q. record l { queue = q } ∷ map (λ (m : Link). record m { queue = filter (λ (out : Outgoing). not (is_of (contains []) out)) m.queue }) ls) (filter_all (λ (out : Outgoing). not (is_of (contains []) out)) l.queue (λ out there. stays out)) ∙ ap (λ ms. l ∷ ms) (all ls)
 
-none_leaves : (x : Option Request) (b : Box) → leave x [] b ≡ b
+pub none_leaves : (x : Option Request) (b : Box) → leave x [] b ≡ b
 none_leaves None b = none_turned phase_completed b
 none_leaves (Some r) b = ap (drop_of (contains [])) (none_turned phase_taken_out b) ∙ none_dropped b
 

@@ -1,5 +1,5 @@
 -- What is premised of a request that is taken: of the rules' side alone.
-use Rattle.std.specs.Prelude.{◌≡◌, ◌<◌, ◌-◌, ◌^◌, ◌==◌, ◌&&◌, ◌||◌, ◌⊎◌, ℕ, true, false, is_some, List, [], ◌∷◌}
+use Rattle.std.specs.Prelude.{◌≡◌, ◌<◌, ◌≤◌, ◌+◌, ◌-◌, ◌^◌, ◌==◌, ◌&&◌, ◌||◌, ◌⊎◌, ℕ, true, false, is_some, length, None, List, [], ◌∷◌}
 use Rattle.std.specs.List.{list_any}
 use Rattle.iscsi_wire.specs.declared.reply.Reply.{Reply}
 use Rattle.iscsi_wire.specs.Fields.{is_immediate, request_of}
@@ -9,8 +9,8 @@ use Rattle.iscsi_history.specs.declared.event.Event.TheVariants.{Arrive}
 use Rattle.iscsi_history.specs.promises.Order.{in_parts}
 use Rattle.iscsi_history.specs.rules.Agenda.{arrival_of, items_of}
 use Rattle.iscsi_history.specs.rules.Execution.{reply_on}
-use Rattle.iscsi_history.specs.rules.Run.{entry_of}
-use Rattle.iscsi_history.specs.rules.Trace.{Admits, Arrival, Command, Delivers, Executes, Ignores, Mark, Trace, entered, held, is_delivered, is_emptied, shown, waiting}
+use Rattle.iscsi_history.specs.rules.Run.{entry_of, newly_enabled}
+use Rattle.iscsi_history.specs.rules.Trace.{Admits, Arrival, Command, Delivers, Enters, Executes, Ignores, Mark, Trace, entered, has, held, is_among, is_delivered, is_emptied, leaves_ticket, live, shown, waiting}
 use Rattle.iscsi_outbox_rules.specs.promises.Room.{Fits, places}
 use Rattle.iscsi_outbox_rules.specs.rules.Boxes.{Box, Handed, Link}
 use Rattle.iscsi_outbox_rules.specs.rules.Calls as outbox
@@ -18,13 +18,16 @@ use Rattle.iscsi_outbox_rules.specs.rules.Calls.{Opening}
 use Rattle.iscsi_outbox_rules.specs.rules.Items.{after_item}
 use Rattle.iscsi_outbox_rules.specs.rules.Queues.{takes_more}
 use Rattle.iscsi_outbox_rules.specs.rules.Run.{after_call}
-use Rattle.iscsi_outbox_rules.specs.rules.Words.{replies_waiting}
+use Rattle.iscsi_outbox_rules.specs.rules.Words.{contains, is_running, replies_waiting}
 use Rattle.iscsi_outbox_law.specs.Pairs.{EachOf}
 use Rattle.iscsi_outbox_law.specs.Sound.{IsItemSound, IsSound, NoneIsFresh}
 use Rattle.iscsi_ffi_rules.specs.rules.Calls.{Interface}
+use Rattle.iscsi_ffi_rules.specs.rules.Clearing.{is_withheld, next_withheld}
+use Rattle.iscsi_ffi_rules.specs.rules.Happening.{happening}
 use Rattle.iscsi_ffi_rules.specs.rules.Needs.{admitted_by}
 use Rattle.iscsi_ffi_rules.specs.rules.Run.{heard_in, tag_heard, word_at}
 use Rattle.iscsi_ffi_rules.specs.rules.Sides.{Asked, Side}
+use Rattle.iscsi_ffi_steps.specs.State.{State}
 use Rattle.iscsi_ffi_law.specs.Fit.{IsFit}
 use Rattle.iscsi_ffi_law.specs.Parts.{IsBefore}
 
@@ -126,6 +129,49 @@ abbrev pub IsDeliveredAnswered : Interface → Side → ℕ → List ℕ → Typ
 IsDeliveredAnswered i r cid header =
     (is_immediate (request_of cid header) ≡ false) × IsFirstHeld r.both.trace (arrived i r cid header).number
     × ((reply : Reply) × (items_then i r cid header ≡ (Admits (arrived i r cid header) ∷ []) ∷ (Delivers (arrived i r cid header) ∷ reply_on (arrived i r cid header) reply) ∷ []) × takes_there r cid)
+
+-- ---- a command that enters
+
+-- no command had its ticket, and none of that was told or marked
+pub record IsFreshCommand (r : Side) (c : Command) : Type 0 where
+  pub unentered : is_among c.ticket (entered r.both.trace) ≡ false
+  pub unleft : has (leaves_ticket c.ticket) r.both.trace ≡ false
+  pub untold : contains r.told c.ticket ≡ false
+  pub unmarked : contains r.marked c.ticket ≡ false
+
+-- the item of its turn
+abbrev pub entering_item : Interface → Side → ℕ → List ℕ → Command → List Mark
+entering_item i r cid header c = Delivers (arrived i r cid header) ∷ Enters c ∷ []
+
+abbrev pub entering_trace : Interface → Side → ℕ → List ℕ → Command → Trace
+entering_trace i r cid header c = entering_item i r cid header c ∷ (Admits (arrived i r cid header) ∷ []) ∷ r.both.trace
+
+-- the commands that it enables
+abbrev pub enabled_by : Interface → Side → ℕ → List ℕ → Command → List Command
+enabled_by i r cid header c = newly_enabled i.outbox.session ((Admits (arrived i r cid header) ∷ []) ∷ r.both.trace) (entering_item i r cid header c)
+
+-- a numbered SCSI Command whose turn comes at once, where nothing is held, enters, and none is withheld then
+pub record IsEntered (i : Interface) (r : Side) (cid : ℕ) (header : List ℕ) : Type 0 where
+  pub numbered : is_immediate (request_of cid header) ≡ false
+  pub first : IsFirstHeld r.both.trace (arrived i r cid header).number
+  pub command : Command
+  pub arrival : command.arrival ≡ arrived i r cid header
+  pub next : command.ticket ≡ length (entered r.both.trace) + 1
+  pub unit : command.unit < i.outbox.session.units
+  pub items : items_then i r cid header ≡ (Admits (arrived i r cid header) ∷ []) ∷ entering_item i r cid header command ∷ []
+  pub fresh : IsFreshCommand r command
+  pub idle : is_running r.both.box command.ticket ≡ false
+  pub few : length (live (entering_trace i r cid header command)) ≤ places i.outbox
+  pub started : list_any (is_withheld (record r { both = record r.both { trace = entering_trace i r cid header command } })) (enabled_by i r cid header command) ≡ false
+  pub calm : next_withheld (happening i r (Arrive cid header)).side ≡ None
+
+-- what the steps count, as a command enters: tickets, units, and a place for its request
+pub record IsCounted (i : Interface) (s : State) (r : Side) (place : ℕ) : Type 0 where
+  pub last : s.commands.last ≤ length (entered r.both.trace)
+  pub units : s.commands.units ≡ i.outbox.session.units
+  pub tracked : s.outbox.tracked.last ≤ length r.both.box.tasks
+  pub low : 1 ≤ place
+  pub high : place ≤ s.commands.room
 
 -- a request that one of these becomes
 abbrev pub IsTaken : Interface → Side → ℕ → List ℕ → Type 0
