@@ -162,6 +162,7 @@ module _ (i : Interface) (names : List Name) (notes : List Note) (s : State) (r 
       noted_room = f.sizes.noted_room;
       unwritten_room = f.sizes.unwritten_room;
       replies_room = f.sizes.replies_room;
+      slots = f.sizes.slots;
       few = f.sizes.few;
     };
     flags = record { awake = flags.awake; over = flags.over };

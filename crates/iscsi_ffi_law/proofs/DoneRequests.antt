@@ -44,7 +44,7 @@ use Rattle.iscsi_ffi_law.proofs.Replies.{AnswersIt, answers_it}
 use Rattle.iscsi_ffi_law.proofs.Staging.{HaveCommands, one_over, restaged, restaged_ticket}
 use Rattle.iscsi_ffi_law.proofs.Stopping.{count_sum}
 
-pairs_each : {A B : Type 0} (R S : A → B → Type 0) (P : B → Type 0) (xs : List A) (ys : List B) → ((x : A) (y : B) → P y → R x y → S x y) → EachOf P ys → PairsOf R xs ys → PairsOf S xs ys
+pub pairs_each : {A B : Type 0} (R S : A → B → Type 0) (P : B → Type 0) (xs : List A) (ys : List B) → ((x : A) (y : B) → P y → R x y → S x y) → EachOf P ys → PairsOf R xs ys → PairsOf S xs ys
 pairs_each R S P [] [] turns each h = tt
 pairs_each R S P (x ∷ xs) (y ∷ ys) turns each h = (turns x y each.0 h.0, pairs_each R S P xs ys turns each.1 h.1)
 pairs_each R S P [] (y ∷ ys) turns each h = absurd h
@@ -55,7 +55,7 @@ each_drop P zero xs each = each
 each_drop P (suc n) [] each = tt
 each_drop P (suc n) (x ∷ xs) each = each_drop P n xs each.1
 
-each_left : (P : Handed → Type 0) (l : Link) → EachOf P l.handed → EachOf P (left_to_write l)
+pub each_left : (P : Handed → Type 0) (l : Link) → EachOf P l.handed → EachOf P (left_to_write l)
 each_left P l each = by_lost l.lost
   where
     by_lost : (v : Bool) → EachOf P (cond v [] (drop l.written l.handed))

@@ -50,7 +50,7 @@ sent_there p (l ∷ links) (suc q) within =
     let here : count_by p (sent_in (link_in (l ∷ links) (suc q))) ≡ count_by p (sent_in (link_in links q)) = refl in
     omega (arith, rest, here, sum_by-append (λ (x : Option ℕ). cond (p x) 1 0) (sent_in l) (all_sent links))
 
-module _ (i : Interface) (names : List Name) (notes : List Note) (s : State) (r : Side) (a : AreRequests names notes (λ place. 0) (λ p. []) s r) (h : OutboxStands i.outbox s.outbox r.both.box) (z : AreSizes i s) where
+module _ (i : Interface) (names : List Name) (notes : List Note) (pending : ℕ → ℕ) (gone : ℕ → List (Option ℕ)) (s : State) (r : Side) (a : AreRequests names notes pending gone s r) (h : OutboxStands i.outbox s.outbox r.both.box) (z : AreSizes i s) where
   abbrev undue : List (Option ℕ)
   undue = map (λ (x : Answer). x.out.sent) r.both.box.undue
 

@@ -80,7 +80,7 @@ pub none_is : (p : Effect → Bool) (ns : List Command) → ((ticket unit : ℕ)
 none_is p [] none = refl
 none_is p (n ∷ ns) none = ap (λ v. v || list_any p (enables ns)) (none n.ticket n.unit) ∙ none_is p ns none
 
-parts_enabled : (ns : List Command) → in_parts (enables ns) ≡ enables ns ∷ []
+pub parts_enabled : (ns : List Command) → in_parts (enables ns) ≡ enables ns ∷ []
 parts_enabled [] = refl
 parts_enabled (n ∷ ns) = ap (onto_first (Enable n.ticket n.unit)) (parts_enabled ns)
 

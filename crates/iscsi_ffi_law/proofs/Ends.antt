@@ -68,7 +68,7 @@ moved_ends i s r h o b fit stands runs moved =
       sound = fit.sound;
       few = fit.few;
       distinct = fit.distinct;
-      sizes = record { room = h.sizes.room; functions = h.sizes.functions; replies = h.sizes.replies; noted = h.sizes.noted; unwritten = h.sizes.unwritten; noted_room = h.sizes.noted_room; unwritten_room = h.sizes.unwritten_room; replies_room = h.sizes.replies_room; few = h.sizes.few };
+      sizes = record { room = h.sizes.room; functions = h.sizes.functions; replies = h.sizes.replies; noted = h.sizes.noted; unwritten = h.sizes.unwritten; noted_room = h.sizes.noted_room; unwritten_room = h.sizes.unwritten_room; replies_room = h.sizes.replies_room; slots = h.sizes.slots; few = h.sizes.few };
       flags = record { awake = h.flags.awake; over = h.flags.over };
       requests = requests_moved h.names h.notes (λ place. 0) (λ p. []) s.state r h.requests o b runs moved;
       withheld = h.withheld;

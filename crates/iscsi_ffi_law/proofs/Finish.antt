@@ -232,7 +232,7 @@ module _ (i : Interface) (names : List Name) (notes : List Note) (pending : ℕ 
         event = event;
         trace = trace;
         outbox = e.outbox;
-        sizes = record { room = e.sizes.room; functions = e.sizes.functions; replies = e.sizes.replies; noted = e.sizes.noted; unwritten = e.sizes.unwritten; noted_room = e.sizes.noted_room; unwritten_room = e.sizes.unwritten_room; replies_room = e.sizes.replies_room; few = e.sizes.few };
+        sizes = record { room = e.sizes.room; functions = e.sizes.functions; replies = e.sizes.replies; noted = e.sizes.noted; unwritten = e.sizes.unwritten; noted_room = e.sizes.noted_room; unwritten_room = e.sizes.unwritten_room; replies_room = e.sizes.replies_room; slots = e.sizes.slots; few = e.sizes.few };
         flags = record { awake = refl; over = refl };
         requests = requests_left names notes pending gone s r e.requests have_conns links_are_apart runs_alike v forgets rel (map (contains (r.awake ++ newly_ready i r)) (cids i)) (map (contains (r.over ++ newly_over i r)) (cids i))
             (r.awake ++ newly_ready i r) (r.over ++ newly_over i r);

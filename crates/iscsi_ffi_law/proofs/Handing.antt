@@ -201,6 +201,7 @@ module _ (i : Interface) (s : StepsSide) (r : Side) (h : Stands i s r) (p : ℕ)
             noted_room = c.noted_room ∙ h.sizes.noted_room;
             unwritten_room = h.sizes.unwritten_room;
             replies_room = c.replies_room ∙ h.sizes.replies_room;
+            slots = h.sizes.slots;
             few = each-set (λ (ys : List (Option ℕ)). length ys ≤ i.unwritten) s.state.unwritten.handed p (of_conn p s.state.unwritten.handed ++ x ∷ [])
                 (let e = length-append (of_conn p s.state.unwritten.handed) (x ∷ []) in let less : length (of_conn p s.state.unwritten.handed ++ x ∷ []) ≤ i.unwritten = omega (arith, e, free) in less) h.sizes.few;
           };

@@ -297,6 +297,7 @@ module _ (i : Interface) (s : StepsSide) (r : Side) (h : Stands i s r) (cid : �
           noted_room = h.sizes.noted_room;
           unwritten_room = h.sizes.unwritten_room;
           replies_room = h.sizes.replies_room;
+          slots = h.sizes.slots;
           few = each-set (λ (ys : List (Option ℕ)). length ys ≤ i.unwritten) s.state.unwritten.handed p [] (omega arith) h.sizes.few;
         };
         flags = record { awake = h.flags.awake; over = h.flags.over };

@@ -1,10 +1,11 @@
 -- What the steps begin with.
-use Rattle.std.proofs.Common.{◌≡◌, ℕ, ◌+◌, ◌<◌, ◌==◌, Bool, false, List, [], ◌∷◌, ◌++◌, length, map, count_by, replicate, get_or, Option, refl, ap, sym, subst, arith, ◌≤◌, zero, suc}
+use Rattle.std.proofs.Common.{◌≡◌, ℕ, ◌+◌, ◌<◌, ◌==◌, cond, find, nat_le, unwrap_or, Bool, true, false, List, [], ◌∷◌, ◌++◌, length, map, count_by, replicate, get_or, Option, Some, None, refl, ap, sym, subst, arith, ◌≤◌, zero, suc}
 use Rattle.std.proofs.lemmas.List.{get_or-map, length-map, length-replicate}
 use Rattle.iscsi_outbox_rules.specs.rules.Run.{new_link}
 use Rattle.iscsi_outbox_law.specs.Pairs.{EachOf, PairsOf}
 use Rattle.iscsi_outbox_law.proofs.Opened.{stands_opened}
 use Rattle.iscsi_requests.specs.Conns.{of_conn}
+use Rattle.iscsi_requests.specs.Numbers as numbers
 use Rattle.iscsi_requests.specs.Numbers.{size_for}
 use Rattle.iscsi_requests.specs.Replies.{has_log_place}
 use Rattle.iscsi_requests.specs.declared.functions.WaitingFunction.{WaitingFunction}
@@ -26,6 +27,21 @@ none_told (x ∷ xs) = ap (λ (bs : List Bool). false ∷ bs) (none_told xs)
 noted_none : (xs ys : List (Option ℕ)) → ys ≡ [] → noted_in xs [] ++ ys ≡ []
 noted_none [] ys none = none
 noted_none (x ∷ xs) ys none = none
+
+-- there is a place for a number
+some_size : (sizes : List ℕ) (window : ℕ) → EachOf (λ (n : ℕ). 0 < n) sizes → 0 < unwrap_or (find (λ n. nat_le window n) sizes) 1024
+some_size [] window each = omega arith
+some_size (n ∷ sizes) window each = by_test (some_size sizes window each.1) (nat_le window n)
+  where
+    by_test : 0 < unwrap_or (find (λ m. nat_le window m) sizes) 1024 → (v : Bool) → 0 < unwrap_or (cond v (Some n) (find (λ m. nat_le window m) sizes)) 1024
+    by_test rest true = each.0
+    by_test rest false = rest
+
+some_slots : (window : ℕ) → 0 < length (numbers.opened window).places
+some_slots window =
+    let some = some_size numbers.SIZES window (omega arith, (omega arith, (omega arith, (omega arith, (omega arith, (omega arith, (omega arith, (omega arith, (omega arith, (omega arith, (omega arith, tt))))))))))) in
+    let long = length-replicate {A = Option ℕ} (numbers.size_for window) None in
+    omega (arith, some, long)
 
 module _ (i : Interface) where
   unused : (place : ℕ) → 0 ≡ uses_of place (opened_state i) + 0
@@ -74,6 +90,7 @@ module _ (i : Interface) where
       noted_room = refl;
       unwritten_room = refl;
       replies_room = refl;
+      slots = some_slots i.outbox.session.window;
       few = none_many (length (cids i));
     };
     flags = record { awake = none_told (cids i); over = none_told (cids i) };

@@ -354,6 +354,7 @@ module _ (i : Interface) (s : StepsSide) (r : Side) (h : Stands i s r) (p : OwnP
             noted_room = h.sizes.noted_room;
             unwritten_room = h.sizes.unwritten_room;
             replies_room = h.sizes.replies_room;
+            slots = h.sizes.slots;
             few = h.sizes.few;
           };
           flags = record { awake = h.flags.awake; over = h.flags.over };

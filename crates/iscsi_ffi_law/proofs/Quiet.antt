@@ -150,14 +150,14 @@ moved_settled o names s r f same left all =
     let k : IsSettledBy names s r f (settle o (record r.both.box { links = map f r.both.box.links })) = settled_by o names s r f same all in
     record { long = k.long; sent = k.sent; queued = k.all.queued; undue = k.all.undue_are; conn = k.conn; left = λ p within. k.left p within ∙ left (link_in r.both.box.links p) }
 
-same_heard : (cid exp_stat_sn tag : ℕ) (l : Link) → SameQueue l (cond (l.conn == cid) (link_heard exp_stat_sn tag l) l)
+pub same_heard : (cid exp_stat_sn tag : ℕ) (l : Link) → SameQueue l (cond (l.conn == cid) (link_heard exp_stat_sn tag l) l)
 same_heard cid exp_stat_sn tag l =
     cond_both (l.conn == cid) (link_heard exp_stat_sn tag l) l (SameQueue l)
     (λ is. cond_both (is_open l) (record l { arrived = max l.arrived (max (arrived_by_stat_sn l exp_stat_sn) (arrived_by_ping l tag)) }) l (SameQueue l)
     (λ opens. record { conn = refl; takes = refl; queue = refl }) (λ shut. record { conn = refl; takes = refl; queue = refl }))
     (λ isnt. record { conn = refl; takes = refl; queue = refl })
 
-left_heard : (cid exp_stat_sn tag : ℕ) (l : Link) → left_to_write (cond (l.conn == cid) (link_heard exp_stat_sn tag l) l) ≡ left_to_write l
+pub left_heard : (cid exp_stat_sn tag : ℕ) (l : Link) → left_to_write (cond (l.conn == cid) (link_heard exp_stat_sn tag l) l) ≡ left_to_write l
 left_heard cid exp_stat_sn tag l =
     cond_both (l.conn == cid) (link_heard exp_stat_sn tag l) l (λ (m : Link). left_to_write m ≡ left_to_write l)
     (λ is. cond_both (is_open l) (record l { arrived = max l.arrived (max (arrived_by_stat_sn l exp_stat_sn) (arrived_by_ping l tag)) }) l (λ (m : Link). left_to_write m ≡ left_to_write l) (λ opens. refl) (λ shut. refl))

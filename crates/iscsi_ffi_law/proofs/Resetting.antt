@@ -153,7 +153,7 @@ module _ (i : Interface) (s : StepsSide) (r : Side) (h : Stands i s r) (unit : â
     sound = fit.sound;
     few = fit.few;
     distinct = fit.distinct;
-    sizes = record { room = h.sizes.room; functions = h.sizes.functions; replies = h.sizes.replies; noted = h.sizes.noted; unwritten = h.sizes.unwritten; noted_room = h.sizes.noted_room; unwritten_room = h.sizes.unwritten_room; replies_room = h.sizes.replies_room; few = h.sizes.few };
+    sizes = record { room = h.sizes.room; functions = h.sizes.functions; replies = h.sizes.replies; noted = h.sizes.noted; unwritten = h.sizes.unwritten; noted_room = h.sizes.noted_room; unwritten_room = h.sizes.unwritten_room; replies_room = h.sizes.replies_room; slots = h.sizes.slots; few = h.sizes.few };
     flags = record { awake = h.flags.awake; over = h.flags.over };
     requests = requests_now;
     withheld = h.withheld;

@@ -114,7 +114,7 @@ module _ (i : Interface) (s : StepsSide) (r : Side) (h : Stands i s r) (left : I
         sound = left.sound;
         few = left.few;
         distinct = left.distinct;
-        sizes = record { room = h.sizes.room; functions = h.sizes.functions; replies = h.sizes.replies; noted = h.sizes.noted; unwritten = h.sizes.unwritten; noted_room = h.sizes.noted_room; unwritten_room = h.sizes.unwritten_room; replies_room = h.sizes.replies_room; few = h.sizes.few };
+        sizes = record { room = h.sizes.room; functions = h.sizes.functions; replies = h.sizes.replies; noted = h.sizes.noted; unwritten = h.sizes.unwritten; noted_room = h.sizes.noted_room; unwritten_room = h.sizes.unwritten_room; replies_room = h.sizes.replies_room; slots = h.sizes.slots; few = h.sizes.few };
         flags = record { awake = are; over = h.flags.over };
         requests = requests_asleep h.names h.notes (λ place. 0) (λ p. []) s.state r flags awake h.requests;
         withheld = h.withheld;

@@ -162,7 +162,7 @@ module _ (i : Interface) (s : StepsSide) (r : Side) (h : Stands i s r) (ticket :
           sound = fit'.sound_after;
           few = fit'.short.handed;
           distinct = fit.distinct;
-          sizes = record { room = h.sizes.room; functions = h.sizes.functions; replies = h.sizes.replies; noted = h.sizes.noted; unwritten = h.sizes.unwritten; noted_room = h.sizes.noted_room; unwritten_room = h.sizes.unwritten_room; replies_room = h.sizes.replies_room; few = h.sizes.few };
+          sizes = record { room = h.sizes.room; functions = h.sizes.functions; replies = h.sizes.replies; noted = h.sizes.noted; unwritten = h.sizes.unwritten; noted_room = h.sizes.noted_room; unwritten_room = h.sizes.unwritten_room; replies_room = h.sizes.replies_room; slots = h.sizes.slots; few = h.sizes.few };
           flags = record { awake = h.flags.awake; over = h.flags.over };
           requests = requests_changed h.names h.notes (λ place. 0) (ending x) (λ p. []) (λ p. []) s.state r h.requests (stopped ticket s.state.outbox) s.state.cookies s.state.replies s.state.noted s.state.unwritten settled (changed_now x uses);
           withheld = h.withheld;

@@ -233,7 +233,7 @@ module _ (i : Interface) (s : StepsSide) (r : Side) (h : Stands i s r) (cid : �
           sound = fit.sound_after;
           few = fit.short.handed;
           distinct = fit.distinct;
-          sizes = record { room = h.sizes.room; functions = h.sizes.functions; replies = h.sizes.replies; noted = h.sizes.noted; unwritten = length-set s.state.unwritten.handed p (behind_oldest (of_conn p s.state.unwritten.handed)) ∙ h.sizes.unwritten; noted_room = h.sizes.noted_room; unwritten_room = h.sizes.unwritten_room; replies_room = h.sizes.replies_room; few = few_left };
+          sizes = record { room = h.sizes.room; functions = h.sizes.functions; replies = h.sizes.replies; noted = h.sizes.noted; unwritten = length-set s.state.unwritten.handed p (behind_oldest (of_conn p s.state.unwritten.handed)) ∙ h.sizes.unwritten; noted_room = h.sizes.noted_room; unwritten_room = h.sizes.unwritten_room; replies_room = h.sizes.replies_room; slots = h.sizes.slots; few = few_left };
           flags = record { awake = h.flags.awake; over = h.flags.over };
           requests = requests_changed h.names h.notes (λ place. 0) (ending x) (λ q. []) gone s.state r h.requests (written cid s.state.outbox) s.state.cookies s.state.replies s.state.noted (popped p s.state.unwritten) (after_call i.outbox r.both.box (outbox.Writes cid)) changed_now;
           withheld = h.withheld;

@@ -4,5 +4,6 @@ pub mod Parts
 pub mod Stands
 pub mod Fit
 pub mod Done
+pub mod Arrived
 pub mod Alike
 pub mod Lists

@@ -1,5 +1,5 @@
 -- All calls of a list, one after the other.
-use Rattle.std.specs.Prelude.{◌≡◌, ◌<◌, ◌≤◌, ◌+◌, ◌*◌, ◌&&◌, ◌⊎◌, ◌^◌, ℕ, true, false, List, [], ◌∷◌, Some, is_some, length, if◌then◌else◌}
+use Rattle.std.specs.Prelude.{◌≡◌, ◌<◌, ◌≤◌, ◌+◌, ◌*◌, ◌&&◌, ◌⊎◌, ◌^◌, ℕ, true, false, List, [], ◌∷◌, Some, None, is_some, length, if◌then◌else◌}
 use Rattle.iscsi_outbox_rules.specs.rules.Calls as outbox
 use Rattle.iscsi_outbox_rules.specs.rules.Run.{after_call as after_box_call}
 use Rattle.iscsi_outbox_rules.specs.rules.Words.{contains}
@@ -9,10 +9,11 @@ use Rattle.iscsi_requests.specs.Cookies.{next_place, uses_at}
 use Rattle.iscsi_ffi_rules.specs.declared.refusal.Refusal.{Refusal}
 use Rattle.iscsi_ffi_rules.specs.rules.Calls.{Interface, Call, Arrives, Completes, Stops, Nexts, Puts, Writes, Hears, Joins, Loses, Clears, Cleared}
 use Rattle.iscsi_ffi_rules.specs.rules.Clearing.{TASK_ABORTED}
-use Rattle.iscsi_ffi_rules.specs.rules.Run.{after_call, cids, is_going, is_lost, refusal_of}
+use Rattle.iscsi_ffi_rules.specs.rules.Run.{after_call, cids, heard_in, is_going, is_lost, refusal_of}
 use Rattle.iscsi_ffi_rules.specs.rules.Sides.{Side}
-use Rattle.iscsi_ffi_steps.specs.Steps.{Side as StepsSide, after, called, ended, told}
+use Rattle.iscsi_ffi_steps.specs.Steps.{Side as StepsSide, after, called, ended, heard_first, told}
 use Rattle.iscsi_ffi_law.specs.Alike.{GoesAlike, TellAlike, said}
+use Rattle.iscsi_ffi_law.specs.Arrived.{IsArrivalFit, IsCounted, IsEntered, IsTaken}
 use Rattle.iscsi_ffi_law.specs.Done.{AllDone}
 use Rattle.iscsi_ffi_law.specs.Fit.{IsFit, IsOrderly}
 use Rattle.iscsi_ffi_law.specs.Stands.{Stands}
@@ -53,9 +54,24 @@ pub record HasRoom (i : Interface) (s : StepsSide) (r : Side) : Type 0 where
   pub fit : IsFit i r.both.box r.both.box
   pub room : length s.state.commands.items + 2 * length (cids i) ≤ s.state.room
 
--- what is asked of each call. Of those that take events of the session it is premised that they go alike, but for the end of a command
+-- a request is taken, and becomes one of what is proved; there is a place for it
+pub record IsArrival (i : Interface) (s : StepsSide) (r : Side) (cid : ℕ) (header : List ℕ) : Type 0 where
+  pub fit : IsArrivalFit i r cid header
+  pub taken : refusal_of i r cid ≡ None
+  pub room : is_some (next_place s.state.cookies) ≡ true
+  pub is : IsTaken i (heard_in i r cid header) cid header
+
+-- .. or is a command that enters; the steps count as the rules
+pub record IsEntry (i : Interface) (s : StepsSide) (r : Side) (cid : ℕ) (header : List ℕ) : Type 0 where
+  pub fit : IsArrivalFit i r cid header
+  pub taken : refusal_of i r cid ≡ None
+  pub room : is_some (next_place s.state.cookies) ≡ true
+  pub is : IsEntered i (heard_in i r cid header) cid header
+  pub counted : (place : ℕ) → next_place s.state.cookies ≡ Some place → IsCounted i (heard_first cid header s.state) (heard_in i r cid header) place
+
+-- what is asked of each call. Of a request that becomes another thing, and of a connection that is lost and isn't closed, it is premised that they go alike
 abbrev pub Meets : Interface → StepsSide → Side → Call → Type 0
-Meets i s r (Arrives cid header cookie) = (Leaves i r (outbox.Hears cid 0 0) × IsRefused i r cid) ⊎ Goes i s r (Arrives cid header cookie)
+Meets i s r (Arrives cid header cookie) = (Leaves i r (outbox.Hears cid 0 0) × IsRefused i r cid) ⊎ IsArrival i s r cid header ⊎ IsEntry i s r cid header ⊎ Goes i s r (Arrives cid header cookie)
 Meets i s r (Completes ticket status) = (Leaves i r (outbox.Stops ticket) × (is_going r ticket ≡ false))
     ⊎ ((is_going r ticket ≡ true) × AllDone i r ticket (if contains r.marked ticket then TASK_ABORTED else status))
 Meets i s r (Stops ticket) = (Leaves i r (outbox.Stops ticket) × ((is_going r ticket && contains r.marked ticket) ≡ false))

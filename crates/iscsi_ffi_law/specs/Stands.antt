@@ -29,6 +29,7 @@ pub record AreSizes (i : Interface) (s : State) : Type 0 where
   pub unwritten_room : s.unwritten.room ≡ i.unwritten * length (cids i)
   pub replies_room : s.replies.room ≡ 3 * most_at_once (limits_of i.outbox)
   pub few : EachOf (λ (xs : List (Option ℕ)). length xs ≤ i.unwritten) s.unwritten.handed
+  pub slots : 0 < length s.held.places
 
 -- who was told to be ready, or to be closed
 pub record AreFlags (i : Interface) (s : State) (r : Side) : Type 0 where

@@ -1,18 +1,19 @@
 //! What the steps have in common with the rules: laws of the definitions, which no code is needed for.
 
-ghost use Rattle.std.specs.Prelude.{◌≡◌, ◌<◌, ◌≤◌, ◌&&◌, ◌+◌, ◌*◌, ◌^◌, ℕ, List, cond, false, is_some, length, true};
+ghost use Rattle.std.specs.Prelude.{◌≡◌, ◌<◌, ◌≤◌, ◌&&◌, ◌+◌, ◌*◌, ◌^◌, ℕ, List, None, Some, cond, false, is_some, length, true};
 ghost use Rattle.iscsi_ffi_law.specs.Alike.{GoesAlike};
+ghost use Rattle.iscsi_ffi_law.specs.Arrived.{IsArrivalFit, IsCounted, IsEntered, IsTaken};
 ghost use Rattle.iscsi_ffi_law.specs.Done.{AllDone};
 ghost use Rattle.iscsi_ffi_law.specs.Fit.{IsFit, IsOrderly};
 ghost use Rattle.iscsi_history.specs.rules.Settings.{is_known};
 ghost use Rattle.iscsi_history.specs.rules.Trace.{is_closed};
 ghost use Rattle.iscsi_ffi_law.specs.Lists.{AreAlike, MeetFrom};
 ghost use Rattle.iscsi_ffi_law.specs.Stands.{Stands};
-ghost use Rattle.iscsi_ffi_rules.specs.rules.Calls.{Call, Cleared, Clears, Completes, Hears, Interface, Joins, Loses, Nexts, Puts, Stops, Writes};
+ghost use Rattle.iscsi_ffi_rules.specs.rules.Calls.{Arrives, Call, Cleared, Clears, Completes, Hears, Interface, Joins, Loses, Nexts, Puts, Stops, Writes};
 ghost use Rattle.iscsi_ffi_rules.specs.rules.Clearing.{TASK_ABORTED};
-ghost use Rattle.iscsi_ffi_rules.specs.rules.Run.{cids, is_going, is_lost};
+ghost use Rattle.iscsi_ffi_rules.specs.rules.Run.{cids, heard_in, is_going, is_lost, refusal_of};
 ghost use Rattle.iscsi_ffi_rules.specs.rules.Sides.{Side, opened};
-ghost use Rattle.iscsi_ffi_steps.specs.Steps.{Side as StepsSide, begun};
+ghost use Rattle.iscsi_ffi_steps.specs.Steps.{Side as StepsSide, begun, heard_first};
 ghost use Rattle.iscsi_outbox_rules.specs.declared.own_pdu.OwnPdu.{OwnPdu};
 ghost use Rattle.iscsi_outbox_rules.specs.rules.Calls.{Clears as ClearsBox, Hears as HearsBox, Joins as JoinsBox, Loses as LosesBox, Nexts as NextsBox, Puts as PutsBox, Stops as StopsBox, Writes as WritesBox};
 ghost use Rattle.iscsi_outbox_rules.specs.rules.Run.{after_call};
@@ -84,9 +85,23 @@ pub fn done_law()
     ensures stops { (i : Interface) (s : StepsSide) (r : Side) → Stands i s r → (ticket : ℕ) → (is_going r ticket && contains r.marked ticket) ≡ true → AllDone i r ticket TASK_ABORTED → GoesAlike i s r (Stops ticket) }
 {}
 
+/// A request is taken, and is passed over, rejected for its opcode, or executes as it arrives: it is answered at once, or not at all, and no
+/// command enters or leaves by it. A numbered one comes while nothing is held, and may be held. What is premised of the rules' side is said in
+/// `IsArrivalFit` and `IsTaken`; one premise more: a place for a word.
+pub fn arrives_law()
+    ensures alike { (i : Interface) (s : StepsSide) (r : Side) → Stands i s r → (cid : ℕ) (header : List ℕ) (cookie : ℕ) → IsArrivalFit i r cid header → refusal_of i r cid ≡ None → is_some (next_place s.state.cookies) ≡ true → IsTaken i (heard_in i r cid header) cid header → GoesAlike i s r (Arrives cid header cookie) }
+{}
+
+/// A numbered SCSI Command is taken while nothing is held, and enters at once: it is told to start if it is enabled. None is withheld then. What is
+/// premised of the rules' side is said in `IsArrivalFit` and `IsEntered`; two premises more: a place for a word, and that the steps count tickets,
+/// units and places as the rules do.
+pub fn enters_law()
+    ensures alike { (i : Interface) (s : StepsSide) (r : Side) → Stands i s r → (cid : ℕ) (header : List ℕ) (cookie : ℕ) → IsArrivalFit i r cid header → refusal_of i r cid ≡ None → is_some (next_place s.state.cookies) ≡ true → IsEntered i (heard_in i r cid header) cid header → ((place : ℕ) → next_place s.state.cookies ≡ Some place → IsCounted i (heard_first cid header s.state) (heard_in i r cid header) place) → GoesAlike i s r (Arrives cid header cookie) }
+{}
+
 /// A list of calls: each is answered by the steps as by the rules, and tells the same in the same order, but for what is forgotten, which is
-/// the same in any order. What is asked of each call is said in `Meets`. It is still a premise there that two calls by which the session takes an
-/// event go alike: a request that isn't refused, and the loss of a connection that isn't closed.
+/// the same in any order. What is asked of each call is said in `Meets`. It is still a premise there that two kinds of calls by which the session
+/// takes an event go alike: a request that becomes none of what `IsTaken` and `IsEntered` say, and the loss of a connection that isn't closed.
 pub fn lists_law()
     ensures alike { (i : Interface) (calls : List Call) → MeetFrom i (begun i) (opened i) calls → AreAlike i (begun i) (opened i) calls }
 {}

@@ -64,7 +64,7 @@ mod TakesAims
 mod TakesSending
 pub mod TurningFresh
 mod TurningLast
-mod TurningCount
+pub mod TurningCount
 pub mod CallsGo
 mod EventGoes
 pub mod StepsGo

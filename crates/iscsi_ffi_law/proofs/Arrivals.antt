@@ -1,0 +1,121 @@
+-- A request is taken: what becomes of it goes alike.
+use Rattle.std.proofs.Common.{◌≡◌, ℕ, ⊎_elim, true, List, [], ◌∷◌, ◌++◌, Option, Some, None, is_some, refl, ap, sym, subst, ◌∙◌}
+use Rattle.std.proofs.lemmas.Bool.{false≢true}
+use Rattle.iscsi_history.specs.declared.event.Event.TheVariants.{Arrive}
+use Rattle.iscsi_history.specs.rules.Trace.{Trace}
+use Rattle.iscsi_requests.specs.Cookies.{next_place}
+use Rattle.iscsi_ffi_rules.specs.declared.refusal.Refusal.{Refusal}
+use Rattle.iscsi_ffi_rules.specs.rules.Calls.{Interface, Arrives}
+use Rattle.iscsi_ffi_rules.specs.rules.Happening.{happens as happens_there}
+use Rattle.iscsi_ffi_rules.specs.rules.Run as rules
+use Rattle.iscsi_ffi_rules.specs.rules.Sides.{Side}
+use Rattle.iscsi_ffi_steps.specs.State.{State}
+use Rattle.iscsi_ffi_steps.specs.Steps.{Answered, Going, Side as StepsSide, arrive, arriving, changed, done, going, happens, heard_first, hold, is_held_first, known, reset_in, resets_in, says}
+use Rattle.iscsi_ffi_steps.specs.Steps as steps
+use Rattle.iscsi_ffi_steps.specs.Walk.{in_state}
+use Rattle.iscsi_ffi_law.specs.Alike.{GoesAlike}
+use Rattle.iscsi_ffi_law.specs.Arrived.{IsArrivalFit, IsCounted, IsEntered, IsTaken}
+use Rattle.iscsi_ffi_law.specs.Stands.{Stands}
+use Rattle.iscsi_ffi_law.proofs.ArriveOpens.{IsFoundAt, names_open, opens_at, side_open, state_open}
+use Rattle.iscsi_ffi_law.proofs.Ends.{GoesTo, found_fit}
+use Rattle.iscsi_ffi_law.proofs.Refusing.{refused_same}
+use Rattle.iscsi_ffi_law.proofs.EnterWalks.{goes_entered}
+use Rattle.iscsi_ffi_law.proofs.ArriveCalls.{goes_answered, goes_done, goes_over, goes_rejected}
+use Rattle.iscsi_ffi_law.proofs.ArriveHeld.{goes_delivered, goes_delivered_answered, goes_held}
+
+-- ---- the call
+
+-- what becomes of a request that is taken, as far as this is proved
+module _ (i : Interface) (s : StepsSide) (r : Side) (h : Stands i s r) (cid : ℕ) (header : List ℕ) (cookie : ℕ) (fit : IsArrivalFit i r cid header) (none : rules.refusal_of i r cid ≡ None) (room : is_some (next_place s.state.cookies) ≡ true) where
+  pub record Free : Type 0 where
+    pub place : ℕ
+    pub is : next_place s.state.cookies ≡ Some place
+
+  free_place : Free
+  free_place = by_place (next_place s.state.cookies) refl room
+    where
+      by_place : (y : Option ℕ) → next_place s.state.cookies ≡ y → is_some y ≡ true → Free
+      by_place None is k = absurd (false≢true k)
+      by_place (Some place) is k = record { place = place; is = is }
+
+  abbrev place : ℕ
+  place = free_place.place
+
+  abbrev s1 : State
+  s1 = state_open i s r h cid header cookie fit free_place.place free_place.is
+
+  abbrev r1 : Side
+  r1 = side_open i s r h cid header cookie fit free_place.place free_place.is
+
+  abbrev opened : Going
+  opened = record { event = r.both.event; trace = r.both.trace; doing = record { state = s1; actions = []; forgets = [] } }
+
+  by_steps : arrive i cid header cookie s ≡ done (arriving i cid header (Some free_place.place) opened)
+  by_steps =
+      ap arriving_by (refused_same i s r h (found_fit i r.both.box _ fit.heard) cid ∙ none)
+      ∙ ap (λ (z : Option ℕ). done (arriving i cid header z (known cookie z (changed (in_state (heard_first cid header)) (going s))))) free_place.is
+      ∙ ap (λ (n : ℕ). done (arriving i cid header (Some free_place.place) (record { event = n; trace = s.trace; doing = record { state = s1; actions = []; forgets = [] } }))) h.event
+      ∙ ap (λ (t : Trace). done (arriving i cid header (Some free_place.place) (record { event = r.both.event; trace = t; doing = record { state = s1; actions = []; forgets = [] } }))) h.trace
+    where
+      arriving_by : Option Refusal → Answered
+      arriving_by x = elim x [
+        | Some refusal ↦ says s (steps.Refused refusal)
+        | None ↦ let z = next_place s.state.cookies in done (arriving i cid header z (known cookie z (changed (in_state (heard_first cid header)) (going s))))
+      ]
+
+  by_rules : rules.arrive i r cid header cookie ≡ rules.done (happens_there i r1 (Arrive cid header))
+  by_rules = ap arriving_by none
+    where
+      arriving_by : Option Refusal → rules.Answered
+      arriving_by x = elim x [
+        | Some refusal ↦ rules.answers r (rules.Refused refusal)
+        | None ↦
+            let s' = rules.heard_in i r cid header in
+            rules.done (happens_there i (record s' { asked = s'.asked ++ record { event = s'.both.event; cookie = cookie } ∷ [] }) (Arrive cid header))
+      ]
+
+  arrives_as : GoesTo i (done (arriving i cid header (Some free_place.place) opened)) (rules.done (happens_there i r1 (Arrive cid header))) → GoesAlike i s r (Arrives cid header cookie)
+  arrives_as g =
+      let e : GoesTo i (arrive i cid header cookie s) (rules.arrive i r cid header cookie)
+      = subst (λ (x : Answered). GoesTo i x (rules.arrive i r cid header cookie)) (sym by_steps) (subst (GoesTo i (done (arriving i cid header (Some free_place.place) opened))) (sym by_rules) g) in
+      record { answer = e.answer; tells = e.tells; stands = e.stands }
+
+  found_there : IsFoundAt i (names_open i s r h cid header cookie fit free_place.place free_place.is) h.notes s1 r1 cid header free_place.place
+  found_there = opens_at i s r h cid header cookie fit free_place.place free_place.is
+
+  pub arrives_alike : IsTaken i (rules.heard_in i r cid header) cid header → GoesAlike i s r (Arrives cid header cookie)
+  arrives_alike k =
+      arrives_as (⊎_elim
+      (λ over. goes_over i _ h.notes s1 r1 cid header place found_there over)
+      (λ others. ⊎_elim
+      (λ reject. goes_rejected i _ h.notes s1 r1 cid header place found_there reject)
+      (λ more. ⊎_elim
+      (λ over. goes_done i _ h.notes s1 r1 cid header place found_there over)
+      (λ fourth. ⊎_elim
+      (λ answer. goes_answered i _ h.notes s1 r1 cid header place found_there answer)
+      (λ fifth. ⊎_elim
+      (λ holds. goes_held i _ h.notes s1 r1 cid header place found_there holds)
+      (λ sixth. ⊎_elim
+      (λ delivers. goes_delivered i _ h.notes s1 r1 cid header place found_there delivers)
+      (λ answers. goes_delivered_answered i _ h.notes s1 r1 cid header place found_there answers) sixth) fifth) fourth) more) others) k)
+
+  -- a command enters
+  pub enters_alike : IsEntered i (rules.heard_in i r cid header) cid header → ((place : ℕ) → next_place s.state.cookies ≡ Some place → IsCounted i (heard_first cid header s.state) (rules.heard_in i r cid header) place) → GoesAlike i s r (Arrives cid header cookie)
+  enters_alike k counted =
+      let n : IsCounted i (heard_first cid header s.state) (rules.heard_in i r cid header) free_place.place = counted free_place.place free_place.is in
+      arrives_as (goes_entered i _ h.notes s1 r1 cid header place found_there
+      (record {
+        numbered = k.numbered;
+        first = k.first;
+        command = k.command;
+        arrival = k.arrival;
+        next = k.next;
+        unit = k.unit;
+        items = k.items;
+        fresh = record { unentered = k.fresh.unentered; unleft = k.fresh.unleft; untold = k.fresh.untold; unmarked = k.fresh.unmarked };
+        idle = k.idle;
+        few = k.few;
+        started = k.started;
+        calm = k.calm;
+      })
+      (record { last = n.last; units = n.units; tracked = n.tracked; low = n.low; high = n.high }))

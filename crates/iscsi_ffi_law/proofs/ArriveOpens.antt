@@ -1,0 +1,87 @@
+-- A request is taken: its numbers are heard, and it has a place and a word.
+use Rattle.std.proofs.Common.{◌≡◌, ℕ, ◌==◌, cond, inl, inr, List, [], ◌∷◌, ◌++◌, Some, None, refl}
+use Rattle.iscsi_history.proofs.ElementLemmas.{In}
+use Rattle.iscsi_outbox_rules.specs.rules.Boxes.{Box, Link}
+use Rattle.iscsi_outbox_rules.specs.rules.Calls as outbox
+use Rattle.iscsi_outbox_rules.specs.rules.Queues.{at_link}
+use Rattle.iscsi_outbox_rules.specs.rules.Run.{after_call, link_heard}
+use Rattle.iscsi_outbox_law.specs.Stands.{Stands as OutboxStands}
+use Rattle.iscsi_outbox_law.proofs.Hearing.{hears_stands}
+use Rattle.iscsi_outbox_steps.specs.State.{State as OutboxState}
+use Rattle.iscsi_outbox_steps.specs.Steps.{heard}
+use Rattle.iscsi_requests.specs.Cookies.{entered, next_place}
+use Rattle.iscsi_ffi_rules.specs.rules.Calls.{Interface}
+use Rattle.iscsi_ffi_rules.specs.rules.Clearing.{next_withheld}
+use Rattle.iscsi_ffi_rules.specs.rules.Run.{heard_in, tag_heard, word_at}
+use Rattle.iscsi_ffi_rules.specs.rules.Sides.{Side}
+use Rattle.iscsi_ffi_steps.specs.State.{State}
+use Rattle.iscsi_ffi_steps.specs.Steps.{Side as StepsSide}
+use Rattle.iscsi_ffi_law.specs.Arrived.{AreBefore, IsArrivalFit, IsEventFit}
+use Rattle.iscsi_ffi_law.specs.Names.{Name, Note, place_named}
+use Rattle.iscsi_ffi_law.specs.Stands.{AreFlags, AreRequests, AreSizes, Stands}
+use Rattle.iscsi_ffi_law.proofs.Asked.{requests_asked}
+use Rattle.iscsi_ffi_law.proofs.Moved.{all_queued, requests_moved, run_same, with_box, with_outbox}
+use Rattle.iscsi_ffi_law.proofs.NameLemmas.{name_place}
+use Rattle.iscsi_ffi_law.proofs.Quiet.{left_heard, moved_settled, runs_by_tasks, same_heard, settled_tasks}
+use Rattle.iscsi_ffi_law.proofs.Releasing.{ending}
+
+-- what is found as an event begins, in which a request arrives that has this place
+pub record IsFoundAt (i : Interface) (names : List Name) (notes : List Note) (s : State) (r : Side) (cid : ℕ) (header : List ℕ) (place : ℕ) : Type 0 where
+  pub requests : AreRequests names notes (ending (Some place)) (λ q. []) s r
+  pub outbox : OutboxStands i.outbox s.outbox r.both.box
+  pub sizes : AreSizes i s
+  pub flags : AreFlags i s r
+  pub named : place_named names r.both.event ≡ Some place
+  pub withheld : s.withheld ≡ []
+  pub calm : next_withheld r ≡ None
+  pub before : AreBefore (record r { asked = [] })
+  pub fit : IsEventFit i r cid header
+
+module _ (i : Interface) (s : StepsSide) (r : Side) (h : Stands i s r) (cid : ℕ) (header : List ℕ) (cookie : ℕ) (fit : IsArrivalFit i r cid header) (place : ℕ) (free : next_place s.state.cookies ≡ Some place) where
+  abbrev pub box_heard : Box
+  box_heard = after_call i.outbox r.both.box (outbox.Hears cid (word_at 28 header) (tag_heard header))
+
+  abbrev pub outbox_heard : OutboxState
+  outbox_heard = heard cid (word_at 28 header) (tag_heard header) s.state.outbox
+
+  abbrev pub state_open : State
+  state_open = record s.state { outbox = heard cid (word_at 28 header) (tag_heard header) s.state.outbox; cookies = entered cookie place s.state.cookies }
+
+  abbrev pub side_open : Side
+  side_open = record (heard_in i r cid header) { asked = r.asked ++ record { event = r.both.event; cookie = cookie } ∷ [] }
+
+  abbrev pub names_open : List Name
+  names_open = h.names ++ record { place = place; event = r.both.event; cookie = cookie } ∷ []
+
+  stands_heard : OutboxStands i.outbox outbox_heard box_heard
+  stands_heard = hears_stands i.outbox s.state.outbox r.both.box h.outbox fit.heard.sound fit.heard.distinct fit.heard.fits cid (word_at 28 header) (tag_heard header) fit.heard.short.time
+
+  tasks_heard : box_heard.tasks ≡ r.both.box.tasks
+  tasks_heard = settled_tasks i.outbox [] r.both.box.undue (record r.both.box { links = at_link cid (link_heard (word_at 28 header) (tag_heard header)) r.both.box.links })
+
+  requests_heard : AreRequests h.names h.notes (λ q. 0) (λ q. []) (with_outbox s.state outbox_heard) (with_box r box_heard)
+  requests_heard = requests_moved h.names h.notes (λ q. 0) (λ q. []) s.state r h.requests outbox_heard box_heard
+      (run_same i s.state r outbox_heard box_heard h.outbox fit.heard.sound stands_heard fit.heard.sound_after fit.heard.distinct (runs_by_tasks r.both.box box_heard tasks_heard))
+      (moved_settled i.outbox h.names s.state r (λ (l : Link). cond (l.conn == cid) (link_heard (word_at 28 header) (tag_heard header) l) l) (same_heard cid (word_at 28 header) (tag_heard header)) (left_heard cid (word_at 28 header) (tag_heard header))
+      (all_queued i h.names h.notes (λ q. 0) (λ q. []) s.state r h.requests h.outbox fit.heard.distinct fit.heard.sound))
+
+  pub opens_at : IsFoundAt i names_open h.notes state_open side_open cid header place
+  opens_at =
+      let requests : AreRequests names_open h.notes (ending (Some place)) (λ q. []) state_open side_open
+      = requests_asked h.names h.notes (with_outbox s.state outbox_heard) (with_box r box_heard) requests_heard
+      (record { asked = fit.before.asked; answers = fit.before.answers; entered = fit.before.entered; admitted = fit.before.admitted; waiting = fit.before.waiting }) place cookie free in
+      record {
+        requests = requests;
+        outbox = stands_heard;
+        sizes = record { room = h.sizes.room; functions = h.sizes.functions; replies = h.sizes.replies; noted = h.sizes.noted; unwritten = h.sizes.unwritten; noted_room = h.sizes.noted_room; unwritten_room = h.sizes.unwritten_room; replies_room = h.sizes.replies_room; slots = h.sizes.slots; few = h.sizes.few };
+        flags = record { awake = h.flags.awake; over = h.flags.over };
+        named = name_place names_open h.notes requests.apart (record { place = place; event = r.both.event; cookie = cookie }) (last_in h.names (record { place = place; event = r.both.event; cookie = cookie }));
+        withheld = h.withheld;
+        calm = h.calm;
+        before = record { asked = tt; answers = fit.before.answers; entered = fit.before.entered; admitted = fit.before.admitted; waiting = fit.before.waiting };
+        fit = record { fit = fit.event.fit; items = fit.event.items; stale = fit.event.stale; events = fit.event.events; sent = fit.event.sent; replies = fit.event.replies; handed = fit.event.handed };
+      }
+    where
+      last_in : (ns : List Name) (n : Name) → In n (ns ++ n ∷ [])
+      last_in [] n = inl refl
+      last_in (m ∷ ns) n = inr (last_in ns n)

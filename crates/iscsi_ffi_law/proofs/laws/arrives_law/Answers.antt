@@ -1,0 +1,5 @@
+use Rattle.iscsi_ffi_law.proofs.Arrivals.{arrives_alike}
+use Rattle.iscsi_ffi_law.proofs.laws.arrives_law.Goals as goal
+
+pub returns : goal.returns
+returns c = record { alike = arrives_alike }
