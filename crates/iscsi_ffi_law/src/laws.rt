@@ -13,7 +13,7 @@ ghost use Rattle.iscsi_ffi_rules.specs.rules.Calls.{Arrives, Call, Cleared, Clea
 ghost use Rattle.iscsi_ffi_rules.specs.rules.Clearing.{TASK_ABORTED};
 ghost use Rattle.iscsi_ffi_rules.specs.rules.Run.{cids, heard_in, is_going, is_lost, refusal_of};
 ghost use Rattle.iscsi_ffi_rules.specs.rules.Sides.{Side, opened};
-ghost use Rattle.iscsi_ffi_steps.specs.Steps.{Side as StepsSide, begun, heard_first};
+ghost use Rattle.iscsi_ffi_steps.specs.Steps.{Side as StepsSide, begun};
 ghost use Rattle.iscsi_outbox_rules.specs.declared.own_pdu.OwnPdu.{OwnPdu};
 ghost use Rattle.iscsi_outbox_rules.specs.rules.Calls.{Clears as ClearsBox, Hears as HearsBox, Joins as JoinsBox, Loses as LosesBox, Nexts as NextsBox, Puts as PutsBox, Stops as StopsBox, Writes as WritesBox};
 ghost use Rattle.iscsi_outbox_rules.specs.rules.Run.{after_call};
