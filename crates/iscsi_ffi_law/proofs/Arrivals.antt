@@ -14,7 +14,7 @@ use Rattle.iscsi_ffi_steps.specs.Steps.{Answered, Going, Side as StepsSide, arri
 use Rattle.iscsi_ffi_steps.specs.Steps as steps
 use Rattle.iscsi_ffi_steps.specs.Walk.{in_state}
 use Rattle.iscsi_ffi_law.specs.Alike.{GoesAlike}
-use Rattle.iscsi_ffi_law.specs.Arrived.{IsArrivalFit, IsCounted, IsEntered, IsTaken}
+use Rattle.iscsi_ffi_law.specs.Arrived.{IsArrivalFit, IsEntered, IsPlaced, IsTaken}
 use Rattle.iscsi_ffi_law.specs.Stands.{Stands}
 use Rattle.iscsi_ffi_law.proofs.ArriveOpens.{IsFoundAt, names_open, opens_at, side_open, state_open}
 use Rattle.iscsi_ffi_law.proofs.Ends.{GoesTo, found_fit}
@@ -100,9 +100,9 @@ module _ (i : Interface) (s : StepsSide) (r : Side) (h : Stands i s r) (cid : �
       (λ answers. goes_delivered_answered i _ h.notes s1 r1 cid header place found_there answers) sixth) fifth) fourth) more) others) k)
 
   -- a command enters
-  pub enters_alike : IsEntered i (rules.heard_in i r cid header) cid header → ((place : ℕ) → next_place s.state.cookies ≡ Some place → IsCounted i (heard_first cid header s.state) (rules.heard_in i r cid header) place) → GoesAlike i s r (Arrives cid header cookie)
+  pub enters_alike : IsEntered i (rules.heard_in i r cid header) cid header → ((place : ℕ) → next_place s.state.cookies ≡ Some place → IsPlaced s.state place) → GoesAlike i s r (Arrives cid header cookie)
   enters_alike k counted =
-      let n : IsCounted i (heard_first cid header s.state) (rules.heard_in i r cid header) free_place.place = counted free_place.place free_place.is in
+      let n : IsPlaced s.state free_place.place = counted free_place.place free_place.is in
       arrives_as (goes_entered i _ h.notes s1 r1 cid header place found_there
       (record {
         numbered = k.numbered;
@@ -118,4 +118,4 @@ module _ (i : Interface) (s : StepsSide) (r : Side) (h : Stands i s r) (cid : �
         started = k.started;
         calm = k.calm;
       })
-      (record { last = n.last; units = n.units; tracked = n.tracked; low = n.low; high = n.high }))
+      (record { low = n.low; high = n.high }))

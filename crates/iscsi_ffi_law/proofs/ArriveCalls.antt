@@ -33,7 +33,7 @@ use Rattle.iscsi_ffi_law.proofs.Ends.{GoesTo}
 use Rattle.iscsi_ffi_law.proofs.Kept.{filter_all}
 use Rattle.iscsi_ffi_law.proofs.Members.{each_in}
 use Rattle.iscsi_ffi_law.proofs.QuietItems.{IsQuietEvent, IsUnheld, answered_by, entry_then, is_held_on, stops_none, withheld_on}
-use Rattle.iscsi_ffi_law.proofs.QuietRequests.{requests_on}
+use Rattle.iscsi_ffi_law.proofs.QuietRequests.{entered_on, requests_on}
 use Rattle.iscsi_ffi_law.proofs.QuietBox.{IsOnePart, IsQuietPart}
 use Rattle.iscsi_ffi_law.proofs.Releasing.{ending}
 use Rattle.iscsi_outbox_law.proofs.PairLemmas.{each-weaken}
@@ -122,7 +122,7 @@ module _ (i : Interface) (names : List Name) (notes : List Note) (s : State) (r 
   goes_over k =
       let e = over_quiet k.0 k.1 in
       not_held _ (entry_then i r cid header ((Ignores k.0 ∷ []) ∷ []) ((Ignores k.0 ∷ []) ∷ r.both.trace) (Ignore k.0 ∷ []) None None (resets_there i.outbox (Ignores k.0 ∷ [])) (quiet_one (Ignores k.0 ∷ []) (Ignore k.0 ∷ []) None None (over_quiet k.0 k.1)) f.fit.fit.sound) refl
-      (silent_goes i names notes s r cid header place f ((Ignores k.0 ∷ []) ∷ []) ((Ignores k.0 ∷ []) ∷ r.both.trace) (Ignore k.0 ∷ []) None None (resets_there i.outbox (Ignores k.0 ∷ [])) (quiet_one (Ignores k.0 ∷ []) (Ignore k.0 ∷ []) None None (over_quiet k.0 k.1)) s.held f.sizes.slots (ending (Some place)) (requests_one (Ignores k.0 ∷ []) (Ignore k.0 ∷ []) None None (over_quiet k.0 k.1)) (Some place) s.held refl (Some place ∷ []) (λ n. omega arith) (omega arith) refl (λ t. refl) (λ t. none_reset t k.0) refl)
+      (silent_goes i names notes s r cid header place f ((Ignores k.0 ∷ []) ∷ []) ((Ignores k.0 ∷ []) ∷ r.both.trace) (Ignore k.0 ∷ []) None None (resets_there i.outbox (Ignores k.0 ∷ [])) (quiet_one (Ignores k.0 ∷ []) (Ignore k.0 ∷ []) None None (over_quiet k.0 k.1)) s.held (entered_on r.both.trace (Ignores k.0 ∷ []) (over_quiet k.0 k.1).untouched) f.sizes.slots (ending (Some place)) (requests_one (Ignores k.0 ∷ []) (Ignore k.0 ∷ []) None None (over_quiet k.0 k.1)) (Some place) s.held refl (Some place ∷ []) (λ n. omega arith) (omega arith) refl (λ t. refl) (λ t. none_reset t k.0) refl)
 
   abbrev stat_sn : ℕ
   stat_sn = stat_sn_of i.outbox.session r.both.trace cid
@@ -152,8 +152,8 @@ module _ (i : Interface) (names : List Name) (notes : List Note) (s : State) (r 
   pub goes_rejected : IsRejected i r cid header → ArrivesTo
   goes_rejected k =
       not_held _ (entry_then i r cid header ((Sends cid k.0 ∷ []) ∷ []) ((Sends cid k.0 ∷ []) ∷ r.both.trace) (Send cid stat_sn k.0 ∷ []) None (Some (cid, k.0)) (resets_there i.outbox (Sends cid k.0 ∷ [])) (quiet_one (Sends cid k.0 ∷ []) (Send cid stat_sn k.0 ∷ []) None (Some (cid, k.0)) (rejected_quiet k.0 k.1)) f.fit.fit.sound) refl
-      (answered_goes i names notes s r cid header place f ((Sends cid k.0 ∷ []) ∷ []) ((Sends cid k.0 ∷ []) ∷ r.both.trace) (Send cid stat_sn k.0 ∷ []) None (Some (cid, k.0)) (resets_there i.outbox (Sends cid k.0 ∷ [])) (quiet_one (Sends cid k.0 ∷ []) (Send cid stat_sn k.0 ∷ []) None (Some (cid, k.0)) (rejected_quiet k.0 k.1)) s.held f.sizes.slots (ending (Some place)) (requests_one (Sends cid k.0 ∷ []) (Send cid stat_sn k.0 ∷ []) None (Some (cid, k.0)) (rejected_quiet k.0 k.1)) (Some place) s.held k.0 refl k.2 (λ n. refl)
-      (send_is i names notes s r cid header place f ((Sends cid k.0 ∷ []) ∷ []) ((Sends cid k.0 ∷ []) ∷ r.both.trace) (Send cid stat_sn k.0 ∷ []) None (Some (cid, k.0)) (resets_there i.outbox (Sends cid k.0 ∷ [])) (quiet_one (Sends cid k.0 ∷ []) (Send cid stat_sn k.0 ∷ []) None (Some (cid, k.0)) (rejected_quiet k.0 k.1)) s.held f.sizes.slots (ending (Some place)) (requests_one (Sends cid k.0 ∷ []) (Send cid stat_sn k.0 ∷ []) None (Some (cid, k.0)) (rejected_quiet k.0 k.1)) (Some place) s.held k.0 refl k.2 (λ n. refl) None (Some place) None refl)
+      (answered_goes i names notes s r cid header place f ((Sends cid k.0 ∷ []) ∷ []) ((Sends cid k.0 ∷ []) ∷ r.both.trace) (Send cid stat_sn k.0 ∷ []) None (Some (cid, k.0)) (resets_there i.outbox (Sends cid k.0 ∷ [])) (quiet_one (Sends cid k.0 ∷ []) (Send cid stat_sn k.0 ∷ []) None (Some (cid, k.0)) (rejected_quiet k.0 k.1)) s.held (entered_on r.both.trace (Sends cid k.0 ∷ []) (rejected_quiet k.0 k.1).untouched) f.sizes.slots (ending (Some place)) (requests_one (Sends cid k.0 ∷ []) (Send cid stat_sn k.0 ∷ []) None (Some (cid, k.0)) (rejected_quiet k.0 k.1)) (Some place) s.held k.0 refl k.2 (λ n. refl)
+      (send_is i names notes s r cid header place f ((Sends cid k.0 ∷ []) ∷ []) ((Sends cid k.0 ∷ []) ∷ r.both.trace) (Send cid stat_sn k.0 ∷ []) None (Some (cid, k.0)) (resets_there i.outbox (Sends cid k.0 ∷ [])) (quiet_one (Sends cid k.0 ∷ []) (Send cid stat_sn k.0 ∷ []) None (Some (cid, k.0)) (rejected_quiet k.0 k.1)) s.held (entered_on r.both.trace (Sends cid k.0 ∷ []) (rejected_quiet k.0 k.1).untouched) f.sizes.slots (ending (Some place)) (requests_one (Sends cid k.0 ∷ []) (Send cid stat_sn k.0 ∷ []) None (Some (cid, k.0)) (rejected_quiet k.0 k.1)) (Some place) s.held k.0 refl k.2 (λ n. refl) None (Some place) None refl)
       (λ t. refl) (λ t limits. sent_reset t stat_sn k.0) (omega arith))
 
   -- ---- it executes
@@ -195,7 +195,7 @@ module _ (i : Interface) (names : List Name) (notes : List Note) (s : State) (r 
   pub goes_done : IsDoneWith i r cid header → ArrivesTo
   goes_done k =
       not_held _ (entry_then i r cid header ((Executes a ∷ []) ∷ []) ((Executes a ∷ []) ∷ r.both.trace) (Immediate q ∷ []) (Some q) None (resets_there i.outbox (Executes a ∷ [])) (quiet_one (Executes a ∷ []) (Immediate q ∷ []) (Some q) None (done_quiet k.1)) f.fit.fit.sound) (ap not k.0)
-      (silent_goes i names notes s r cid header place f ((Executes a ∷ []) ∷ []) ((Executes a ∷ []) ∷ r.both.trace) (Immediate q ∷ []) (Some q) None (resets_there i.outbox (Executes a ∷ [])) (quiet_one (Executes a ∷ []) (Immediate q ∷ []) (Some q) None (done_quiet k.1)) s.held f.sizes.slots (ending (Some place)) (requests_one (Executes a ∷ []) (Immediate q ∷ []) (Some q) None (done_quiet k.1)) (Some place) s.held refl (Some place ∷ []) (λ n. omega arith) (omega arith) refl (λ t. refl)
+      (silent_goes i names notes s r cid header place f ((Executes a ∷ []) ∷ []) ((Executes a ∷ []) ∷ r.both.trace) (Immediate q ∷ []) (Some q) None (resets_there i.outbox (Executes a ∷ [])) (quiet_one (Executes a ∷ []) (Immediate q ∷ []) (Some q) None (done_quiet k.1)) s.held (entered_on r.both.trace (Executes a ∷ []) (done_quiet k.1).untouched) f.sizes.slots (ending (Some place)) (requests_one (Executes a ∷ []) (Immediate q ∷ []) (Some q) None (done_quiet k.1)) (Some place) s.held refl (Some place ∷ []) (λ n. omega arith) (omega arith) refl (λ t. refl)
       (λ t. none_both t.outbox.limits.shared (is_reset q) (reset t.outbox.limits.units q)) (none_all i.outbox.shared (is_reset q) (reset i.outbox.session.units q)))
 
   -- ---- .. and is answered
@@ -239,8 +239,8 @@ module _ (i : Interface) (names : List Name) (notes : List Note) (s : State) (r 
   goes_answered k =
       let reply : Reply = k.1.0 in
       not_held _ (entry_then i r cid header ((Executes a ∷ Sends cid k.1.0 ∷ []) ∷ []) ((Executes a ∷ Sends cid k.1.0 ∷ []) ∷ r.both.trace) (Immediate q ∷ Send cid stat_sn k.1.0 ∷ []) (Some q) (Some (cid, k.1.0)) (resets_there i.outbox (Executes a ∷ Sends cid k.1.0 ∷ [])) (quiet_one (Executes a ∷ Sends cid k.1.0 ∷ []) (Immediate q ∷ Send cid stat_sn k.1.0 ∷ []) (Some q) (Some (cid, k.1.0)) (answered_quiet k.1.0 k.1.1)) f.fit.fit.sound) (ap not k.0)
-      (answered_goes i names notes s r cid header place f ((Executes a ∷ Sends cid k.1.0 ∷ []) ∷ []) ((Executes a ∷ Sends cid k.1.0 ∷ []) ∷ r.both.trace) (Immediate q ∷ Send cid stat_sn k.1.0 ∷ []) (Some q) (Some (cid, k.1.0)) (resets_there i.outbox (Executes a ∷ Sends cid k.1.0 ∷ [])) (quiet_one (Executes a ∷ Sends cid k.1.0 ∷ []) (Immediate q ∷ Send cid stat_sn k.1.0 ∷ []) (Some q) (Some (cid, k.1.0)) (answered_quiet k.1.0 k.1.1)) s.held f.sizes.slots (ending (Some place)) (requests_one (Executes a ∷ Sends cid k.1.0 ∷ []) (Immediate q ∷ Send cid stat_sn k.1.0 ∷ []) (Some q) (Some (cid, k.1.0)) (answered_quiet k.1.0 k.1.1)) (Some place) s.held k.1.0 refl k.1.2 (λ n. refl)
-      (send_is i names notes s r cid header place f ((Executes a ∷ Sends cid k.1.0 ∷ []) ∷ []) ((Executes a ∷ Sends cid k.1.0 ∷ []) ∷ r.both.trace) (Immediate q ∷ Send cid stat_sn k.1.0 ∷ []) (Some q) (Some (cid, k.1.0)) (resets_there i.outbox (Executes a ∷ Sends cid k.1.0 ∷ [])) (quiet_one (Executes a ∷ Sends cid k.1.0 ∷ []) (Immediate q ∷ Send cid stat_sn k.1.0 ∷ []) (Some q) (Some (cid, k.1.0)) (answered_quiet k.1.0 k.1.1)) s.held f.sizes.slots (ending (Some place)) (requests_one (Executes a ∷ Sends cid k.1.0 ∷ []) (Immediate q ∷ Send cid stat_sn k.1.0 ∷ []) (Some q) (Some (cid, k.1.0)) (answered_quiet k.1.0 k.1.1)) (Some place) s.held k.1.0 refl k.1.2 (λ n. refl)
+      (answered_goes i names notes s r cid header place f ((Executes a ∷ Sends cid k.1.0 ∷ []) ∷ []) ((Executes a ∷ Sends cid k.1.0 ∷ []) ∷ r.both.trace) (Immediate q ∷ Send cid stat_sn k.1.0 ∷ []) (Some q) (Some (cid, k.1.0)) (resets_there i.outbox (Executes a ∷ Sends cid k.1.0 ∷ [])) (quiet_one (Executes a ∷ Sends cid k.1.0 ∷ []) (Immediate q ∷ Send cid stat_sn k.1.0 ∷ []) (Some q) (Some (cid, k.1.0)) (answered_quiet k.1.0 k.1.1)) s.held (entered_on r.both.trace (Executes a ∷ Sends cid k.1.0 ∷ []) (answered_quiet k.1.0 k.1.1).untouched) f.sizes.slots (ending (Some place)) (requests_one (Executes a ∷ Sends cid k.1.0 ∷ []) (Immediate q ∷ Send cid stat_sn k.1.0 ∷ []) (Some q) (Some (cid, k.1.0)) (answered_quiet k.1.0 k.1.1)) (Some place) s.held k.1.0 refl k.1.2 (λ n. refl)
+      (send_is i names notes s r cid header place f ((Executes a ∷ Sends cid k.1.0 ∷ []) ∷ []) ((Executes a ∷ Sends cid k.1.0 ∷ []) ∷ r.both.trace) (Immediate q ∷ Send cid stat_sn k.1.0 ∷ []) (Some q) (Some (cid, k.1.0)) (resets_there i.outbox (Executes a ∷ Sends cid k.1.0 ∷ [])) (quiet_one (Executes a ∷ Sends cid k.1.0 ∷ []) (Immediate q ∷ Send cid stat_sn k.1.0 ∷ []) (Some q) (Some (cid, k.1.0)) (answered_quiet k.1.0 k.1.1)) s.held (entered_on r.both.trace (Executes a ∷ Sends cid k.1.0 ∷ []) (answered_quiet k.1.0 k.1.1).untouched) f.sizes.slots (ending (Some place)) (requests_one (Executes a ∷ Sends cid k.1.0 ∷ []) (Immediate q ∷ Send cid stat_sn k.1.0 ∷ []) (Some q) (Some (cid, k.1.0)) (answered_quiet k.1.0 k.1.1)) (Some place) s.held k.1.0 refl k.1.2 (λ n. refl)
       (Some place) None (Some (reason_by q (Some place))) refl)
       (λ t. refl)
       (λ t limits. ap (λ (l : Limits). cond l.shared (cond (is_reset q && (is_complete k.1.0 || false)) (reset l.units q) [] ++ []) []) limits ∙ same_reset i.outbox.shared (is_reset q) (is_complete k.1.0 || false) (reset i.outbox.session.units q))

@@ -30,6 +30,7 @@ use Rattle.iscsi_ffi_law.proofs.ArriveCalls.{ArrivesTo, begins, few_reset, none_
 use Rattle.iscsi_ffi_law.proofs.ArriveOpens.{IsFoundAt}
 use Rattle.iscsi_ffi_law.proofs.Ends.{GoesTo}
 use Rattle.iscsi_ffi_law.proofs.HeldRequests.{held_is, held_then, held_with, requests_delivered, requests_held_now, slots_then, slots_with}
+use Rattle.iscsi_ffi_law.proofs.QuietRequests.{entered_on}
 use Rattle.iscsi_ffi_law.proofs.QuietBox.{IsQuietPart}
 use Rattle.iscsi_ffi_law.proofs.QuietItems.{IsQuietEvent, IsUnheld, answered_by, entry_then, stops_none, withheld_on}
 use Rattle.iscsi_ffi_law.proofs.QuietWalks.{answered_goes, send_is, silent_goes}
@@ -85,7 +86,7 @@ module _ (i : Interface) (names : List Name) (notes : List Note) (s : State) (r 
   pub goes_held : IsHeldNow i r cid header → ArrivesTo i names notes s r cid header place f
   goes_held k =
       holds_first k.1 _ (entry_then i r cid header ((Admits a ∷ []) ∷ []) received [] None None [] (held_event k.2) f.fit.fit.sound) (ap not k.0)
-      (silent_goes i names notes s r cid header place f ((Admits a ∷ []) ∷ []) received [] None None [] (held_event k.2) (held_with i names notes s r cid header place f k.1) (slots_with i names notes s r cid header place f k.1) (λ n. 0)
+      (silent_goes i names notes s r cid header place f ((Admits a ∷ []) ∷ []) received [] None None [] (held_event k.2) (held_with i names notes s r cid header place f k.1) (entered_on r.both.trace (Admits a ∷ []) received_only) (slots_with i names notes s r cid header place f k.1) (λ n. 0)
       (requests_held_now i names notes s r cid header place f k.1 (r.both.event + 1)) None (held_with i names notes s r cid header place f k.1) refl [] (λ n. refl) (omega arith) refl (λ u. refl) none_reset refl)
 
   -- ---- its turn comes at once
@@ -125,7 +126,7 @@ module _ (i : Interface) (names : List Name) (notes : List Note) (s : State) (r 
   pub goes_delivered : IsDeliveredOnly i r cid header → ArrivesTo i names notes s r cid header place f
   goes_delivered k =
       holds_first first _ (entry_then i r cid header ((Admits a ∷ []) ∷ (Delivers a ∷ []) ∷ []) ((Delivers a ∷ []) ∷ received) (Deliver request ∷ []) (Some request) None [] (only_event k.2) f.fit.fit.sound) (ap not k.0)
-      (silent_goes i names notes s r cid header place f ((Admits a ∷ []) ∷ (Delivers a ∷ []) ∷ []) ((Delivers a ∷ []) ∷ received) (Deliver request ∷ []) (Some request) None [] (only_event k.2) held2 (slots_then i names notes s r cid header place f k.1)
+      (silent_goes i names notes s r cid header place f ((Admits a ∷ []) ∷ (Delivers a ∷ []) ∷ []) ((Delivers a ∷ []) ∷ received) (Deliver request ∷ []) (Some request) None [] (only_event k.2) held2 (entered_on received (Delivers a ∷ []) only_turn ∙ entered_on r.both.trace (Admits a ∷ []) received_only) (slots_then i names notes s r cid header place f k.1)
       (ending (Some place)) (requests_delivered i names notes s r cid header place f k.1 [] none_received refl only_turn) None (held_with i names notes s r cid header place f k.1) refl (Some place ∷ []) (λ n. omega arith) (omega arith)
       (ap (λ (z : Option ℕ). release_if z (record { state = record s { held = held2 }; actions = []; forgets = [] })) (held_is i names notes s r cid header place f k.1))
       (λ u. refl) (λ u. none_both i names notes s r cid header place f u.outbox.limits.shared (is_reset request) (reset u.outbox.limits.units request)) refl)
@@ -181,9 +182,9 @@ module _ (i : Interface) (names : List Name) (notes : List Note) (s : State) (r 
     pub goes_delivered_answered : ArrivesTo i names notes s r cid header place f
     goes_delivered_answered =
         holds_first k.1 _ (entry_then i r cid header ((Admits a ∷ []) ∷ item ∷ []) (item ∷ received) es (Some request) (Some (cid, k.2.0)) acts event f.fit.fit.sound) (ap not k.0)
-        (answered_goes i names notes s r cid header place f ((Admits a ∷ []) ∷ item ∷ []) (item ∷ received) es (Some request) (Some (cid, k.2.0)) acts event held2 slots (ending (Some place)) kept None held1 k.2.0 refl k.2.2 (λ n. refl)
+        (answered_goes i names notes s r cid header place f ((Admits a ∷ []) ∷ item ∷ []) (item ∷ received) es (Some request) (Some (cid, k.2.0)) acts event held2 (entered_on received item (answered_turn k.2.0) ∙ entered_on r.both.trace (Admits a ∷ []) received_only) slots (ending (Some place)) kept None held1 k.2.0 refl k.2.2 (λ n. refl)
         (ap by_request (held_is i names notes s r cid header place f k.1)
-        ∙ send_is i names notes s r cid header place f ((Admits a ∷ []) ∷ item ∷ []) (item ∷ received) es (Some request) (Some (cid, k.2.0)) acts event held2 slots (ending (Some place)) kept None held1 k.2.0 refl k.2.2 (λ n. refl)
+        ∙ send_is i names notes s r cid header place f ((Admits a ∷ []) ∷ item ∷ []) (item ∷ received) es (Some request) (Some (cid, k.2.0)) acts event held2 (entered_on received item (answered_turn k.2.0) ∙ entered_on r.both.trace (Admits a ∷ []) received_only) slots (ending (Some place)) kept None held1 k.2.0 refl k.2.2 (λ n. refl)
         (Some place) None (Some (reason_by request (Some place))) refl)
         (λ u. refl)
         (λ u limits. ap (λ (l : Limits). cond l.shared (cond (is_reset request && (is_complete k.2.0 || false)) (reset l.units request) [] ++ []) []) limits

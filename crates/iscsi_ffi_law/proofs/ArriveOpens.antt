@@ -7,6 +7,7 @@ use Rattle.iscsi_outbox_rules.specs.rules.Queues.{at_link}
 use Rattle.iscsi_outbox_rules.specs.rules.Run.{after_call, link_heard}
 use Rattle.iscsi_outbox_law.specs.Stands.{Stands as OutboxStands}
 use Rattle.iscsi_outbox_law.proofs.Hearing.{hears_stands}
+use Rattle.iscsi_outbox_law.proofs.TurningCount.{call_last}
 use Rattle.iscsi_outbox_steps.specs.State.{State as OutboxState}
 use Rattle.iscsi_outbox_steps.specs.Steps.{heard}
 use Rattle.iscsi_requests.specs.Cookies.{entered, next_place}
@@ -18,7 +19,7 @@ use Rattle.iscsi_ffi_steps.specs.State.{State}
 use Rattle.iscsi_ffi_steps.specs.Steps.{Side as StepsSide}
 use Rattle.iscsi_ffi_law.specs.Arrived.{AreBefore, IsArrivalFit, IsEventFit}
 use Rattle.iscsi_ffi_law.specs.Names.{Name, Note, place_named}
-use Rattle.iscsi_ffi_law.specs.Stands.{AreFlags, AreRequests, AreSizes, Stands}
+use Rattle.iscsi_ffi_law.specs.Stands.{AreCounts, AreFlags, AreRequests, AreSizes, Stands}
 use Rattle.iscsi_ffi_law.proofs.Asked.{requests_asked}
 use Rattle.iscsi_ffi_law.proofs.Moved.{all_queued, requests_moved, run_same, with_box, with_outbox}
 use Rattle.iscsi_ffi_law.proofs.NameLemmas.{name_place}
@@ -31,6 +32,7 @@ pub record IsFoundAt (i : Interface) (names : List Name) (notes : List Note) (s 
   pub outbox : OutboxStands i.outbox s.outbox r.both.box
   pub sizes : AreSizes i s
   pub flags : AreFlags i s r
+  pub counts : AreCounts i s r
   pub named : place_named names r.both.event ≡ Some place
   pub withheld : s.withheld ≡ []
   pub calm : next_withheld r ≡ None
@@ -76,6 +78,7 @@ module _ (i : Interface) (s : StepsSide) (r : Side) (h : Stands i s r) (cid : �
         sizes = record { room = h.sizes.room; functions = h.sizes.functions; replies = h.sizes.replies; noted = h.sizes.noted; unwritten = h.sizes.unwritten; noted_room = h.sizes.noted_room; unwritten_room = h.sizes.unwritten_room; replies_room = h.sizes.replies_room; slots = h.sizes.slots; few = h.sizes.few };
         flags = record { awake = h.flags.awake; over = h.flags.over };
         named = name_place names_open h.notes requests.apart (record { place = place; event = r.both.event; cookie = cookie }) (last_in h.names (record { place = place; event = r.both.event; cookie = cookie }));
+        counts = record { units = h.counts.units; last = h.counts.last; tracked = call_last i.outbox s.state.outbox r.both.box (outbox.Hears cid (word_at 28 header) (tag_heard header)) h.counts.tracked tt };
         withheld = h.withheld;
         calm = h.calm;
         before = record { asked = tt; answers = fit.before.answers; entered = fit.before.entered; admitted = fit.before.admitted; waiting = fit.before.waiting };

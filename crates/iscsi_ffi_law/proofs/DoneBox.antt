@@ -1,5 +1,5 @@
 -- The end of a command in the outbox: it completes, and its reply enters the queue of its connection.
-use Rattle.std.proofs.Common.{◌≡◌, ℕ, ◌+◌, ◌-◌, ◌<◌, ◌==◌, ◌&&◌, ◌^◌, ⊎_elim, not, cond, Bool, true, false, List, [], ◌∷◌, ◌++◌, length, map, filter, filter_map, find, Option, Some, None, refl, ap, sym, subst, ◌∙◌, arith, ne_eqb}
+use Rattle.std.proofs.Common.{◌≡◌, ℕ, ◌≤◌, ◌+◌, ◌-◌, ◌<◌, ◌==◌, ◌&&◌, ◌^◌, ⊎_elim, not, cond, Bool, true, false, List, [], ◌∷◌, ◌++◌, length, map, filter, filter_map, find, Option, Some, None, refl, ap, sym, subst, ◌∙◌, arith, ne_eqb}
 use Rattle.std.specs.List.{list_any}
 use Rattle.std.proofs.lemmas.Bool.{and_from, cases_eq, cond_both, eqb-true, eq-eqb, false≢true, not-true}
 use Rattle.std.proofs.lemmas.List.{get_or-set_same, get_or-set_other, length-map}
@@ -36,7 +36,9 @@ use Rattle.iscsi_outbox_law.proofs.PairLemmas.{each-at, each-weaken}
 use Rattle.iscsi_outbox_law.proofs.PlaceLemmas.{AreApart as LinksApart, IsPlace, conns_of, known_any, none_here, one_place}
 use Rattle.iscsi_outbox_law.proofs.Standing.{cids_are, links_apart, stands_nowhere, stands_there}
 use Rattle.iscsi_outbox_law.proofs.TakesItem.{item_stands}
+use Rattle.iscsi_outbox_law.proofs.TurningCount.{item_last}
 use Rattle.iscsi_outbox_law.proofs.TurningEach.{event_stands}
+use Rattle.iscsi_outbox_law.proofs.TurningLast.{tell_last}
 use Rattle.iscsi_outbox_law.proofs.TurningFresh.{event_fresh}
 use Rattle.iscsi_outbox_steps.specs.State.{place_of}
 use Rattle.iscsi_outbox_steps.specs.Steps.{after_item as steps_after_item, after_items as steps_after_items, is_running_ticket, taken}
@@ -50,7 +52,7 @@ use Rattle.iscsi_ffi_law.specs.Done.{IsDoneFit, done_call, home_of}
 use Rattle.iscsi_ffi_law.specs.Fit.{IsFit}
 use Rattle.iscsi_ffi_law.specs.Names.{Name, Note}
 use Rattle.iscsi_ffi_law.specs.Parts.{IsKnownOut, IsLiveNamed, IsNamedEvent, IsQueued, is_named}
-use Rattle.iscsi_ffi_law.specs.Stands.{AreRequests, AreSizes}
+use Rattle.iscsi_ffi_law.specs.Stands.{AreCounts, AreRequests, AreSizes}
 use Rattle.iscsi_ffi_law.proofs.Commands.{one_command}
 use Rattle.iscsi_ffi_law.proofs.DonePhases.{running_completed, running_enabled, runs_at, told_runs, turned, turned_runs}
 use Rattle.iscsi_ffi_law.proofs.DoneQueue.{apart_on, nth_last, queued_apart, queued_reply, undue_more}
@@ -67,6 +69,7 @@ pub record IsFound (i : Interface) (names : List Name) (notes : List Note) (s : 
   pub requests : AreRequests names notes (λ place. 0) (λ p. []) s r
   pub outbox : OutboxStands i.outbox s.outbox r.both.box
   pub sizes : AreSizes i s
+  pub counts : AreCounts i s r
   pub command : command_of r.both.trace d.ticket ≡ Some d
   pub fit : IsDoneFit i r d.ticket status
 
@@ -201,6 +204,15 @@ module _ (i : Interface) (names : List Name) (notes : List Note) (s : State) (r 
       (event_stands i.outbox s.outbox r.both.box (done_effects i.outbox.session r.both.trace d status) (numbers_of i.outbox.session (done_trace r.both.trace d status))
       (subst (λ items. OutboxStands i.outbox (steps_after_items items s.outbox) (after_items i.outbox r.both.box items)) (sym (one_part i.outbox.session r.both.trace d status)) stands_item)
       (event_fresh i.outbox r.both.box (done_effects i.outbox.session r.both.trace d status) f.fit.stale) fit_event.short.max)
+
+  -- the steps count no ticket more
+  pub last_after : (taken (done_effects i.outbox.session r.both.trace d status) (numbers_of i.outbox.session (done_trace r.both.trace d status)) s.outbox).tracked.last ≤ length box_after.tasks
+  last_after =
+      let told = tell_last (filter_map ticket_enabled (done_effects i.outbox.session r.both.trace d status)) (steps_after_items (in_parts (done_effects i.outbox.session r.both.trace d status)) s.outbox) in
+      let one = ap (λ items. (steps_after_items items s.outbox).tracked.last) (one_part i.outbox.session r.both.trace d status) in
+      let item = item_last i.outbox s.outbox r.both.box (done_effects i.outbox.session r.both.trace d status) f.counts.tracked item_ok.next in
+      let long = length-map (after_item i.outbox r.both.box (done_effects i.outbox.session r.both.trace d status)).tasks (λ (t : Task). record t { phase = phase_told t.phase }) in
+      omega (arith, told, one, item, long)
 
   -- no command begins to run, or stops
   pub runs_after : (ticket : ℕ) → is_running_ticket ticket (taken (done_effects i.outbox.session r.both.trace d status) (numbers_of i.outbox.session (done_trace r.both.trace d status)) s.outbox) ≡ is_running_ticket ticket s.outbox

@@ -105,6 +105,7 @@ module _ (i : Interface) (names : List Name) (notes : List Note) (distinct : are
       requests = requests_held names notes (λ place. 0) (λ q. []) s r (tickets_of cs) mid.requests;
       outbox = mid.outbox;
       sizes = record { room = mid.sizes.room; functions = mid.sizes.functions; replies = mid.sizes.replies; noted = mid.sizes.noted; unwritten = mid.sizes.unwritten; noted_room = mid.sizes.noted_room; unwritten_room = mid.sizes.unwritten_room; replies_room = mid.sizes.replies_room; slots = mid.sizes.slots; few = mid.sizes.few };
+      counts = record { units = mid.counts.units; last = mid.counts.last; tracked = mid.counts.tracked };
       command = found_by r c mid.requests.tickets parts.0 (and_parts (was_free c r.both.trace) (not (contains r.told c.ticket)) parts.1).0;
       fit = both_fits.0;
     }

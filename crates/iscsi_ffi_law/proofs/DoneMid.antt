@@ -30,9 +30,9 @@ use Rattle.iscsi_ffi_steps.specs.Walk.{Doing}
 use Rattle.iscsi_ffi_law.specs.Done.{IsRegular}
 use Rattle.iscsi_ffi_law.specs.Names.{Name, Note}
 use Rattle.iscsi_ffi_law.specs.Parts.{IsCommand, IsConn, IsNote, IsRequest, is_named}
-use Rattle.iscsi_ffi_law.specs.Stands.{AreFlags, AreRequests, AreSizes}
+use Rattle.iscsi_ffi_law.specs.Stands.{AreCounts, AreFlags, AreRequests, AreSizes}
 use Rattle.iscsi_ffi_law.proofs.Doing.{happening_is, starts_now}
-use Rattle.iscsi_ffi_law.proofs.DoneBox.{IsFound, b, entered_there, fit_after, lives_now, p, stands_after}
+use Rattle.iscsi_ffi_law.proofs.DoneBox.{IsFound, b, entered_there, fit_after, last_after, lives_now, p, stands_after}
 use Rattle.iscsi_ffi_law.proofs.DoneCounts.{fewer_barred}
 use Rattle.iscsi_ffi_law.proofs.DoneHeld.{held_of, merged}
 use Rattle.iscsi_ffi_law.proofs.DoneRequests.{done_side, live_named_done, requests_done}
@@ -54,6 +54,7 @@ pub record IsMid (i : Interface) (names : List Name) (notes : List Note) (s : St
   pub outbox : OutboxStands i.outbox s.outbox r.both.box
   pub sizes : AreSizes i s
   pub flags : AreFlags i s r
+  pub counts : AreCounts i s r
   pub regular : IsRegular i r
   pub held : s.withheld ≡ tickets_of (held_of r)
   pub room : length acts + count_by (λ (c : RulesCommand). not (was_free c r.both.trace)) (live r.both.trace) ≤ places i.outbox
@@ -166,6 +167,7 @@ module _ (i : Interface) (names : List Name) (notes : List Note) (s : State) (r 
       few = f.sizes.few;
     };
     flags = record { awake = flags.awake; over = flags.over };
+    counts = record { units = f.counts.units; last = (let same = ap length (entered_same r.both.trace d status) in let below = f.counts.last in omega (arith, same, below)); tracked = last_after i names notes s r d status f };
     regular = record {
       ascending = subst (InOrder (λ (c e : RulesCommand). c.ticket < e.ticket)) (sym (entered_same r.both.trace d status)) regular.ascending;
       units = subst (EachOf (λ (c : RulesCommand). c.unit < i.outbox.session.units)) (sym (entered_same r.both.trace d status)) regular.units;
@@ -197,6 +199,7 @@ mid_ends i names notes s r acts m distinct none = record {
       sizes = m.sizes;
       flags = m.flags;
       requests = m.requests;
+      counts = m.counts;
       withheld = m.held ∙ ap tickets_of none;
       calm = ap first_of none;
     }

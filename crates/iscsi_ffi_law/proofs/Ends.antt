@@ -59,10 +59,10 @@ pub found_fit : (i : Interface) (b left : Box) → IsFit i b left → IsLeft i b
 found_fit i b left fit = record { distinct = fit.distinct; some = fit.some; sound = fit.sound; few = fit.few }
 
 -- only the outbox is another one
-pub moved_ends : (i : Interface) (s : StepsSide) (r : Side) (h : Stands i s r) (o : OutboxState) (b : Box) → IsLeft i b → OutboxStands i.outbox o b
+pub moved_ends : (i : Interface) (s : StepsSide) (r : Side) (h : Stands i s r) (o : OutboxState) (b : Box) → IsLeft i b → OutboxStands i.outbox o b → o.tracked.last ≤ length b.tasks
     → ((ticket : ℕ) → is_running_ticket ticket o ≡ is_running_ticket ticket s.state.outbox) → IsMoved h.names s.state r b
     → EndsAlike i (record { event = s.event; trace = s.trace; doing = record { state = with_outbox s.state o; actions = []; forgets = [] } }) (with_box r b) []
-moved_ends i s r h o b fit stands runs moved =
+moved_ends i s r h o b fit stands tracked runs moved =
     ends_alike i h.names h.notes (λ p. []) None (with_outbox s.state o) (with_box r b) (record {
       outbox = stands;
       sound = fit.sound;
@@ -71,6 +71,7 @@ moved_ends i s r h o b fit stands runs moved =
       sizes = record { room = h.sizes.room; functions = h.sizes.functions; replies = h.sizes.replies; noted = h.sizes.noted; unwritten = h.sizes.unwritten; noted_room = h.sizes.noted_room; unwritten_room = h.sizes.unwritten_room; replies_room = h.sizes.replies_room; slots = h.sizes.slots; few = h.sizes.few };
       flags = record { awake = h.flags.awake; over = h.flags.over };
       requests = requests_moved h.names h.notes (λ place. 0) (λ p. []) s.state r h.requests o b runs moved;
+      counts = record { units = h.counts.units; last = h.counts.last; tracked = tracked };
       withheld = h.withheld;
       calm = h.calm;
     }) fit.some (record { event = s.event; trace = s.trace; doing = record { state = with_outbox s.state o; actions = []; forgets = [] } }) refl h.event h.trace

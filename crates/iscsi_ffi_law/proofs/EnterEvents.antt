@@ -41,7 +41,7 @@ use Rattle.iscsi_ffi_rules.specs.rules.Clearing.{is_withheld, next_withheld}
 use Rattle.iscsi_ffi_rules.specs.rules.Happening.{Told, answers_in, happening, is_reset, live_with, reset, resets_in, start, starting, stops_in}
 use Rattle.iscsi_ffi_rules.specs.rules.Sides.{Side}
 use Rattle.iscsi_ffi_steps.specs.State.{State}
-use Rattle.iscsi_ffi_law.specs.Arrived.{AreItemsFit, IsCounted, IsEntered, IsFreshCommand, arrived}
+use Rattle.iscsi_ffi_law.specs.Arrived.{AreItemsFit, IsEntered, IsFreshCommand, IsPlaced, arrived}
 use Rattle.iscsi_ffi_law.specs.Fit.{IsFit}
 use Rattle.iscsi_ffi_law.specs.Names.{Name, Note, place_named}
 use Rattle.iscsi_ffi_law.specs.Stands.{AreRequests}
@@ -58,10 +58,10 @@ use Rattle.iscsi_ffi_law.proofs.Members.{Passing, any_in, each_in, find_in, in_f
 use Rattle.iscsi_ffi_law.proofs.Moved.{IsMoved, all_queued, requests_moved, run_same}
 use Rattle.iscsi_ffi_law.proofs.Queued.{AllQueued, SettledTo, settled_to}
 use Rattle.iscsi_ffi_law.proofs.Quiet.{settled_sent}
-use Rattle.iscsi_ffi_law.proofs.QuietBox.{empty_item}
+use Rattle.iscsi_ffi_law.proofs.QuietBox.{empty_item, event_last}
 use Rattle.iscsi_ffi_law.proofs.QuietItems.{IsUnheld}
 
-module _ (i : Interface) (names : List Name) (notes : List Note) (s : State) (r : Side) (cid : ℕ) (header : List ℕ) (place : ℕ) (f : IsFoundAt i names notes s r cid header place) (e : IsEntered i r cid header) (n : IsCounted i s r place) where
+module _ (i : Interface) (names : List Name) (notes : List Note) (s : State) (r : Side) (cid : ℕ) (header : List ℕ) (place : ℕ) (f : IsFoundAt i names notes s r cid header place) (e : IsEntered i r cid header) (n : IsPlaced s place) where
   abbrev pub a : Arrival
   a = arrived i r cid header
 
@@ -120,7 +120,11 @@ module _ (i : Interface) (names : List Name) (notes : List Note) (s : State) (r 
 
   pub stands_then : OutboxStands i.outbox outbox' box'
   stands_then = subst (OutboxStands i.outbox outbox') box_is
-      (event_enters i.outbox f.fit.fit.distinct es numbers s.outbox r.both.box f.outbox (subst (λ (x : Entry). AreItemsFit i.outbox r.both.box (in_parts x.effects)) entry_is f.fit.items) n.tracked f.fit.stale fit_event.short.max)
+      (event_enters i.outbox f.fit.fit.distinct es numbers s.outbox r.both.box f.outbox (subst (λ (x : Entry). AreItemsFit i.outbox r.both.box (in_parts x.effects)) entry_is f.fit.items) f.counts.tracked f.fit.stale fit_event.short.max)
+
+  pub last_then : outbox'.tracked.last ≤ length box'.tasks
+  last_then = subst (λ (b : Box). outbox'.tracked.last ≤ length b.tasks) box_is
+      (event_last i.outbox es numbers s.outbox r.both.box f.counts.tracked (subst (λ (x : Entry). AreItemsFit i.outbox r.both.box (in_parts x.effects)) entry_is f.fit.items))
 
   runs_then : (ticket : ℕ) → is_running_ticket ticket outbox' ≡ is_running_ticket ticket s.outbox
   runs_then = run_same i s r outbox' box' f.outbox f.fit.fit.sound stands_then fit_then.sound_after f.fit.fit.distinct (enters_runs i.outbox r.both.box q c.ticket c.unit c.attr ns)

@@ -1,9 +1,9 @@
 -- A numbered SCSI Command enters as it arrives: what the steps make of it, and both go alike.
-use Rattle.std.proofs.Common.{◌≡◌, ℕ, ◌+◌, ◌*◌, ◌<◌, ◌≤◌, ◌==◌, ◌&&◌, not, cond, nat_le, nat_lt, Bool, true, false, List, [], ◌∷◌, ◌++◌, length, map, count_by, filter, filter_map, Option, Some, None, refl, ap, sym, subst, ◌∙◌, arith, lt-ltb, ne_eqb}
+use Rattle.std.proofs.Common.{◌≡◌, ℕ, ◌+◌, ◌*◌, ◌<◌, ◌≤◌, ◌==◌, ◌&&◌, not, cond, nat_le, nat_lt, Bool, true, false, List, [], ◌∷◌, ◌++◌, length, map, count_by, filter, filter_map, Option, Some, None, refl, ap, sym, subst, ◌∙◌, arith, length-append, lt-ltb, ne_eqb}
 use Rattle.std.specs.List.{flat_map, list_any}
 use Rattle.std.proofs.lemmas.Bool.{eqb-true, eq-eqb}
 use Rattle.std.proofs.lemmas.Bool.Decides.{nat_tests}
-use Rattle.std.proofs.lemmas.List.{length-map}
+use Rattle.std.proofs.lemmas.List.{append-nil, length-map}
 use Rattle.iscsi_wire.specs.declared.reply.Reply.{Reply}
 use Rattle.iscsi_history.specs.declared.effect.Effect.{Effect}
 use Rattle.iscsi_history.specs.declared.entry.Entry.{Entry}
@@ -26,7 +26,7 @@ use Rattle.iscsi_ffi_rules.specs.rules.Sides.{Side}
 use Rattle.iscsi_ffi_steps.specs.State.{State}
 use Rattle.iscsi_ffi_steps.specs.Steps.{Going, done, happening, happens, reset_in, resets_in, start_each, takes, walk_from, withholding}
 use Rattle.iscsi_ffi_steps.specs.Walk.{Doing, Walk, enter, in_state, on_effects, reason_by, sweep, tell_all, touched_by, walking}
-use Rattle.iscsi_ffi_law.specs.Arrived.{IsCounted, IsEntered}
+use Rattle.iscsi_ffi_law.specs.Arrived.{IsEntered, IsPlaced}
 use Rattle.iscsi_ffi_law.specs.Names.{Name, Note}
 use Rattle.iscsi_ffi_law.specs.Parts.{IsAbout, IsCommand, IsConn, IsNote, IsRequest, is_named}
 use Rattle.iscsi_ffi_law.specs.Stands.{AreRequests}
@@ -44,7 +44,7 @@ use Rattle.iscsi_ffi_law.proofs.DoneShape.{IsNew, enabled_tickets, enables, give
 use Rattle.iscsi_ffi_law.proofs.DoneWalk.{enables_walked}
 use Rattle.iscsi_ffi_law.proofs.Ends.{EndsAlike, GoesTo}
 use Rattle.iscsi_ffi_law.proofs.EnterBox.{enters_parts}
-use Rattle.iscsi_ffi_law.proofs.EnterEvents.{acts, apart2, calm_then, command, entry_is, es, few_started, fit_then, held2, held_none, new_one, ns, numbers, outbox', q, requests2, rules_are, side2, side3, stands_then, started_all, state1, state2, t1, t2}
+use Rattle.iscsi_ffi_law.proofs.EnterEvents.{acts, apart2, calm_then, command, entry_is, es, few_started, fit_then, held2, held_none, last_then, new_one, ns, numbers, outbox', q, requests2, rules_are, side2, side3, stands_then, started_all, state1, state2, t1, t2}
 use Rattle.iscsi_ffi_law.proofs.Finish.{IsAtEnd}
 use Rattle.iscsi_ffi_law.proofs.HeldRequests.{held_is, held_with, slots_then}
 use Rattle.iscsi_ffi_law.proofs.Members.{Paired, each_in, pairs_in}
@@ -90,7 +90,7 @@ requests_started names notes s r told before items a same have = record {
   undue = a.undue;
 }
 
-module _ (i : Interface) (names : List Name) (notes : List Note) (s : State) (r : Side) (cid : ℕ) (header : List ℕ) (place : ℕ) (f : IsFoundAt i names notes s r cid header place) (e : IsEntered i r cid header) (n : IsCounted i s r place) where
+module _ (i : Interface) (names : List Name) (notes : List Note) (s : State) (r : Side) (cid : ℕ) (header : List ℕ) (place : ℕ) (f : IsFoundAt i names notes s r cid header place) (e : IsEntered i r cid header) (n : IsPlaced s place) where
   abbrev found : Doing
   found = record { state = record s { held = held_with i names notes s r cid header place f e.first }; actions = []; forgets = [] }
 
@@ -128,8 +128,8 @@ module _ (i : Interface) (names : List Name) (notes : List Note) (s : State) (r 
 
   may : may_enter cmd s.commands ≡ true
   may = five (nat_lt s.commands.last e.command.ticket) (nat_lt e.command.unit s.commands.units) (nat_le 1 place) (nat_le place s.commands.room) (not (list_any (is_of place) s.commands.items))
-      (lt-ltb s.commands.last e.command.ticket (let last = n.last in let next = e.next in omega (arith, last, next)))
-      (lt-ltb e.command.unit s.commands.units (let unit = e.unit in let units = n.units in omega (arith, unit, units)))
+      (lt-ltb s.commands.last e.command.ticket (let last = f.counts.last in let next = e.next in omega (arith, last, next)))
+      (lt-ltb e.command.unit s.commands.units (let unit = e.unit in let units = f.counts.units in omega (arith, unit, units)))
       (le-test 1 place n.low) (le-test place s.commands.room n.high) (ap not none_of_it)
 
   walked : (on_effects true (es i names notes s r cid header place f e n) (walk_from None found)).doing ≡ record { state = state1 i names notes s r cid header place f e n; actions = []; forgets = [] }
@@ -248,6 +248,7 @@ module _ (i : Interface) (names : List Name) (notes : List Note) (s : State) (r 
     flags = record { awake = f.flags.awake; over = f.flags.over };
     requests = requests_started names notes two now (r.told ++ tickets_of news) (s.commands.items ++ cmd ∷ []) k.items two_requests refl
         (subst (λ (ms : List RulesCommand). HaveCommands names (record now { told = r.told ++ tickets_of ms }) (outbox' i names notes s r cid header place f e n) (s.commands.items ++ cmd ∷ []) k.items) (started_all i names notes s r cid header place f e n) k.have);
+    counts = record { units = f.counts.units; last = (let one = ap length (append-nil (entered r.both.trace)) in let more = length-append (entered r.both.trace ++ []) (e.command ∷ []) in let next = e.next in omega (arith, one, more, next)); tracked = last_then i names notes s r cid header place f e n };
     withheld = f.withheld;
     calm = calm_then i names notes s r cid header place f e n;
   }

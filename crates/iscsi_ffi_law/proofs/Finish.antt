@@ -39,7 +39,7 @@ use Rattle.iscsi_ffi_steps.specs.Steps.{Going, after, close_each, ended, gives, 
 use Rattle.iscsi_ffi_steps.specs.Walk.{Doing}
 use Rattle.iscsi_ffi_law.specs.Alike.{AreForgets, SameForgets, TellAlike, is_any_forget}
 use Rattle.iscsi_ffi_law.specs.Names.{Name, Note, asked_of, noted_of}
-use Rattle.iscsi_ffi_law.specs.Stands.{AreFlags, AreRequests, AreSizes, Stands}
+use Rattle.iscsi_ffi_law.specs.Stands.{AreCounts, AreFlags, AreRequests, AreSizes, Stands}
 use Rattle.iscsi_ffi_law.proofs.Ended.{IsReleased, left_of, requests_left, side_left}
 use Rattle.iscsi_ffi_law.proofs.Flags.{is_used_place}
 use Rattle.iscsi_ffi_law.proofs.Kept.{count_nothing}
@@ -57,6 +57,7 @@ pub record IsAtEnd (i : Interface) (names : List Name) (notes : List Note) (pend
   pub distinct : are_distinct i.outbox.session.conns ≡ true
   pub sizes : AreSizes i s
   pub flags : AreFlags i s r
+  pub counts : AreCounts i s r
   pub requests : AreRequests names notes pending gone s r
   pub withheld : s.withheld ≡ []
   pub calm : next_withheld r ≡ None
@@ -236,6 +237,7 @@ module _ (i : Interface) (names : List Name) (notes : List Note) (pending : ℕ 
         flags = record { awake = refl; over = refl };
         requests = requests_left names notes pending gone s r e.requests have_conns links_are_apart runs_alike v forgets rel (map (contains (r.awake ++ newly_ready i r)) (cids i)) (map (contains (r.over ++ newly_over i r)) (cids i))
             (r.awake ++ newly_ready i r) (r.over ++ newly_over i r);
+        counts = record { units = e.counts.units; last = e.counts.last; tracked = e.counts.tracked };
         withheld = e.withheld;
         calm = e.calm;
       })

@@ -117,7 +117,7 @@ module _ (i : Interface) (s : StepsSide) (r : Side) (h : Stands i s r) (p : ℕ)
       ∙ ap (λ v. cond v (record (taken_from g.out (link_in r.both.box.links p)) { handed = (taken_from g.out (link_in r.both.box.links p)).handed ++ g ∷ [] }) (taken_from g.out (link_in r.both.box.links p)))
       (eq-eqb (taken_from g.out (link_in r.both.box.links p)).conn (link_in r.both.box.links p).conn (taken_conn g.out (link_in r.both.box.links p)))
 
-  module _ (left : IsLeft i (after_given i.outbox r.both.box (link_in r.both.box.links p) g)) (o : OutboxState) (stands : OutboxStands i.outbox o (after_given i.outbox r.both.box (link_in r.both.box.links p) g))
+  module _ (left : IsLeft i (after_given i.outbox r.both.box (link_in r.both.box.links p) g)) (o : OutboxState) (stands : OutboxStands i.outbox o (after_given i.outbox r.both.box (link_in r.both.box.links p) g)) (tracked : o.tracked.last ≤ length (after_given i.outbox r.both.box (link_in r.both.box.links p) g).tasks)
       (runs : (ticket : ℕ) → is_running_ticket ticket o ≡ is_running_ticket ticket s.state.outbox) (x : Option ℕ) (v : Cookies) (replies : WaitingReplies) (noted : Unwritten) (c : IsHandedOn x v replies noted)
       (free : length (of_conn p s.state.unwritten.handed) < i.unwritten) where
     abbrev b' : Box
@@ -223,6 +223,7 @@ module _ (i : Interface) (s : StepsSide) (r : Side) (h : Stands i s r) (p : ℕ)
                 (λ (other : q ≡ p → ⊥). now_elsewhere q (omega (arith, short, many)) other) (cases_eq q p);
             undue = h.requests.undue;
           });
+          counts = record { units = h.counts.units; last = h.counts.last; tracked = tracked };
           withheld = h.withheld;
           calm = h.calm;
         }) left.some (record { event = s.event; trace = s.trace; doing = record { state = s'; actions = []; forgets = [] } }) refl h.event h.trace

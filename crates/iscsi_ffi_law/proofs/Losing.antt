@@ -20,6 +20,7 @@ use Rattle.iscsi_outbox_law.proofs.Losing.{loses_stands}
 use Rattle.iscsi_outbox_law.proofs.PairLemmas.{each-at, each-filter, each-set, each-weaken}
 use Rattle.iscsi_outbox_law.proofs.PlaceLemmas.{AreApart as LinksApart, IsPlace, conns_of, found_at, one_place}
 use Rattle.iscsi_outbox_law.proofs.Standing.{counts_at, links_apart, stands_there}
+use Rattle.iscsi_outbox_law.proofs.TurningCount.{call_last}
 use Rattle.iscsi_outbox_steps.specs.State.{link_at, place_of}
 use Rattle.iscsi_outbox_steps.specs.Steps.{is_running_ticket, lost}
 use Rattle.iscsi_requests.specs.Conns.{of_conn}
@@ -302,6 +303,7 @@ module _ (i : Interface) (s : StepsSide) (r : Side) (h : Stands i s r) (cid : �
         };
         flags = record { awake = h.flags.awake; over = h.flags.over };
         requests = requests_changed h.names h.notes (λ place. 0) (endings (all_of p s.state)) (λ q. []) gone s.state r h.requests (lost cid s.state.outbox) s.state.cookies replies' noted' unwritten' b' changed_now;
+        counts = record { units = h.counts.units; last = h.counts.last; tracked = call_last i.outbox s.state.outbox r.both.box (outbox.Loses cid) h.counts.tracked tt };
         withheld = h.withheld;
         calm = h.calm;
       }) (omega (arith, all, others, mapped, room p))

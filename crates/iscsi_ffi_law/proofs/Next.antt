@@ -3,7 +3,7 @@ use Rattle.std.proofs.Common.{◌≡◌, ℕ, zero, suc, ◌+◌, ◌*◌, ◌^�
 use Rattle.std.proofs.lemmas.Bool.{false≢true}
 use Rattle.iscsi_outbox_rules.specs.declared.own_pdu.OwnPdu.TheVariants.{OfCommand, OfConnection}
 use Rattle.iscsi_outbox_rules.specs.rules.Calls as outbox
-use Rattle.iscsi_outbox_rules.specs.rules.Boxes.{Handed, Link, Notices, Outgoing, Owns, Pdu, Pings, Replies}
+use Rattle.iscsi_outbox_rules.specs.rules.Boxes.{Box, Handed, Link, Notices, Outgoing, Owns, Pdu, Pings, Replies}
 use Rattle.iscsi_outbox_rules.specs.rules.Handing.{Given, Hands, IsOver, Nothing, after_given, chosen, given, is_from_queue, link_of, nop_in, ping}
 use Rattle.iscsi_outbox_rules.specs.rules.Run.{after_call}
 use Rattle.iscsi_outbox_rules.specs.rules.Words.{is_open}
@@ -16,6 +16,7 @@ use Rattle.iscsi_outbox_law.specs.Stands.{Stands as OutboxStands}
 use Rattle.iscsi_outbox_law.proofs.NextAfter.{nexts_stands}
 use Rattle.iscsi_outbox_law.proofs.PlaceLemmas.{AreApart as LinksApart, IsPlace, conns_of, found_at}
 use Rattle.iscsi_outbox_law.proofs.Standing.{links_apart}
+use Rattle.iscsi_outbox_law.proofs.TurningCount.{call_last}
 use Rattle.iscsi_outbox_steps.specs.declared.given.Pdu.{Pdu as StepsPdu}
 use Rattle.iscsi_outbox_steps.specs.Steps.{is_running_ticket, next as handed_out}
 use Rattle.iscsi_requests.specs.Conns.{count_all, of_conn, oldest}
@@ -72,7 +73,7 @@ module _ (i : Interface) (s : StepsSide) (r : Side) (h : Stands i s r) (cid : �
 
   -- nothing changes
   pub idle_ends : EndsAlike i (going s) r []
-  idle_ends = moved_ends i s r h s.state.outbox r.both.box (found_fit i r.both.box (after_call i.outbox r.both.box (outbox.Nexts cid)) fit) h.outbox (λ k. refl) (record {
+  idle_ends = moved_ends i s r h s.state.outbox r.both.box (found_fit i r.both.box (after_call i.outbox r.both.box (outbox.Nexts cid)) fit) h.outbox h.counts.tracked (λ k. refl) (record {
     long = refl;
     sent = refl;
     queued = λ p within. (h.requests.conns p within).queued;
@@ -100,6 +101,9 @@ module _ (i : Interface) (s : StepsSide) (r : Side) (h : Stands i s r) (cid : �
     stands : OutboxStands i.outbox (handed_out cid s.state.outbox) (after_given i.outbox r.both.box (link_in r.both.box.links p) g)
     stands = subst (OutboxStands i.outbox (handed_out cid s.state.outbox)) box_is (nexts_stands i.outbox s.state.outbox r.both.box h.outbox fit.sound fit.distinct fit.few cid)
 
+    tracked : (handed_out cid s.state.outbox).tracked.last ≤ length (after_given i.outbox r.both.box (link_in r.both.box.links p) g).tasks
+    tracked = subst (λ (b : Box). (handed_out cid s.state.outbox).tracked.last ≤ length b.tasks) box_is (call_last i.outbox s.state.outbox r.both.box (outbox.Nexts cid) h.counts.tracked tt)
+
     runs : (ticket : ℕ) → is_running_ticket ticket (handed_out cid s.state.outbox) ≡ is_running_ticket ticket s.state.outbox
     runs = run_same i s.state r (handed_out cid s.state.outbox) (after_given i.outbox r.both.box (link_in r.both.box.links p) g) h.outbox fit.sound stands left.sound fit.distinct (λ ticket. refl)
 
@@ -124,7 +128,7 @@ module _ (i : Interface) (s : StepsSide) (r : Side) (h : Stands i s r) (cid : �
     handed_goes : (x : Option ℕ) (v : Cookies) (replies : WaitingReplies) (noted : Unwritten) → IsHandedOn i s r h p at.within opens g x v replies noted → elim x [ Some place ↦ Some (cookie_at place s.state.cookies) | None ↦ None ] ≡ rules.cookie_handed r cid g.out
         → GoesTo i (handing x (changed_to s.state s.state.outbox v replies noted s.state.unwritten)) by_rules
     handed_goes x v replies noted c word =
-        let e = handed_ends i s r h p at.within opens g left (handed_out cid s.state.outbox) stands runs x v replies noted c free in
+        let e = handed_ends i s r h p at.within opens g left (handed_out cid s.state.outbox) stands tracked runs x v replies noted c free in
         subst (λ (u : Unwritten). GoesTo i (record {
           going = record { event = s.event; trace = s.trace; doing = record { state = changed_to s.state (handed_out cid s.state.outbox) v replies noted u; actions = []; forgets = [] } };
           answer = Goes (handed_said g) (elim x [ Some place ↦ Some (cookie_at place s.state.cookies) | None ↦ None ]);

@@ -116,6 +116,7 @@ module _ (i : Interface) where
           subst (IsConn [] [] [] (opened_state i) (opened i) p) (sym (get_or-map (λ (c : ℕ × ℕ). new_link c.0) i.outbox.session.conns p (0, 0) (new_link 0) short)) (conn_opened p (get_or i.outbox.session.conns p (0, 0)).0);
       undue = tt;
     };
+    counts = record { units = refl; last = omega arith; tracked = omega arith };
     withheld = refl;
     calm = refl;
   }

@@ -27,6 +27,7 @@ use Rattle.iscsi_outbox_law.proofs.PairLemmas.{each-append, each-at, each-weaken
 use Rattle.iscsi_outbox_law.proofs.PlaceLemmas.{IsPlace, none_here, one_place}
 use Rattle.iscsi_outbox_law.proofs.PutStands.{puts_answered, puts_stands}
 use Rattle.iscsi_outbox_law.proofs.Standing.{links_apart, stands_nowhere, stands_there}
+use Rattle.iscsi_outbox_law.proofs.TurningCount.{call_last}
 use Rattle.iscsi_outbox_steps.specs.State.{Limits, place_of}
 use Rattle.iscsi_outbox_steps.specs.Steps.{is_running_ticket, put as taken_in}
 use Rattle.iscsi_outbox_steps.specs.Steps as steps_box
@@ -68,7 +69,7 @@ module _ (i : Interface) (s : StepsSide) (r : Side) (h : Stands i s r) (p : OwnP
   stands = puts_stands i.outbox s.state.outbox r.both.box h.outbox fit.sound fit.distinct p fit.fits fit.time
 
   idle : EndsAlike i (going s) r []
-  idle = moved_ends i s r h s.state.outbox r.both.box (found_fit i r.both.box (after_call i.outbox r.both.box (outbox.Puts p)) fit) h.outbox (λ k. refl) (record {
+  idle = moved_ends i s r h s.state.outbox r.both.box (found_fit i r.both.box (after_call i.outbox r.both.box (outbox.Puts p)) fit) h.outbox h.counts.tracked (λ k. refl) (record {
     long = refl;
     sent = refl;
     queued = λ q within. (h.requests.conns q within).queued;
@@ -102,7 +103,7 @@ module _ (i : Interface) (s : StepsSide) (r : Side) (h : Stands i s r) (p : OwnP
     command_ends =
         let kind : own_ticket p ≡ Some k = ap own_ticket is in
         let ran = run_same i s.state r (taken_in p s.state.outbox) (after_call i.outbox r.both.box (outbox.Puts p)) h.outbox fit.sound stands fit.sound_after fit.distinct (λ ticket. ap (λ (b : Box). is_running b ticket) box_is) in
-        moved_ends i s r h (taken_in p s.state.outbox) (after_call i.outbox r.both.box (outbox.Puts p)) (left_fit i r.both.box (after_call i.outbox r.both.box (outbox.Puts p)) fit) stands ran
+        moved_ends i s r h (taken_in p s.state.outbox) (after_call i.outbox r.both.box (outbox.Puts p)) (left_fit i r.both.box (after_call i.outbox r.both.box (outbox.Puts p)) fit) stands (call_last i.outbox s.state.outbox r.both.box (outbox.Puts p) h.counts.tracked tt) ran
         (subst (IsMoved h.names s.state r) (sym box_is) (moved_push i s r h t.conn (own_outgoing p) refl (record {
           of_reply = tt;
           of_command = subst (IsOfCommand h.names r.both.trace) (sym kind) of_it;
@@ -359,6 +360,7 @@ module _ (i : Interface) (s : StepsSide) (r : Side) (h : Stands i s r) (p : OwnP
           };
           flags = record { awake = h.flags.awake; over = h.flags.over };
           requests = requests_now;
+          counts = record { units = h.counts.units; last = h.counts.last; tracked = subst (λ (x : Box). (taken_in p s.state.outbox).tracked.last ≤ length x.tasks) box_is (call_last i.outbox s.state.outbox r.both.box (outbox.Puts p) h.counts.tracked tt) };
           withheld = h.withheld;
           calm = h.calm;
         }) fit'.some (record { event = s.event; trace = s.trace; doing = record { state = s'; actions = []; forgets = [] } }) refl h.event h.trace

@@ -19,6 +19,7 @@ use Rattle.iscsi_outbox_law.proofs.PlaceLemmas.{AreApart as LinksApart}
 use Rattle.iscsi_outbox_law.proofs.Clears.{clears_stands}
 use Rattle.iscsi_outbox_law.proofs.Hearing.{hears_stands}
 use Rattle.iscsi_outbox_law.proofs.Joins.{joins_answered, joins_stands}
+use Rattle.iscsi_outbox_law.proofs.TurningCount.{call_last}
 use Rattle.iscsi_outbox_steps.specs.Steps.{cleared_of, heard, joined}
 use Rattle.iscsi_requests.specs.Conns.{of_conn}
 use Rattle.iscsi_requests.specs.declared.replies.WaitingReply.{WaitingReply}
@@ -181,7 +182,7 @@ module _ (i : Interface) (s : StepsSide) (r : Side) (h : Stands i s r) where
       let b : Box = after_call i.outbox r.both.box (outbox.Hears cid exp_stat_sn tag) in
       let stands = hears_stands i.outbox s.state.outbox r.both.box h.outbox fit.sound fit.distinct fit.fits cid exp_stat_sn tag fit.short.time in
       let tasks : (after_call i.outbox r.both.box (outbox.Hears cid exp_stat_sn tag)).tasks ≡ r.both.box.tasks = settled_tasks i.outbox [] r.both.box.undue (record r.both.box { links = at_link cid (link_heard exp_stat_sn tag) r.both.box.links }) in
-      let e = moved_ends i s r h (heard cid exp_stat_sn tag s.state.outbox) (after_call i.outbox r.both.box (outbox.Hears cid exp_stat_sn tag)) (left_fit i r.both.box (after_call i.outbox r.both.box (outbox.Hears cid exp_stat_sn tag)) fit) stands
+      let e = moved_ends i s r h (heard cid exp_stat_sn tag s.state.outbox) (after_call i.outbox r.both.box (outbox.Hears cid exp_stat_sn tag)) (left_fit i r.both.box (after_call i.outbox r.both.box (outbox.Hears cid exp_stat_sn tag)) fit) stands (call_last i.outbox s.state.outbox r.both.box (outbox.Hears cid exp_stat_sn tag) h.counts.tracked tt)
       (run_same i s.state r (heard cid exp_stat_sn tag s.state.outbox) (after_call i.outbox r.both.box (outbox.Hears cid exp_stat_sn tag)) h.outbox fit.sound stands fit.sound_after fit.distinct (runs_by_tasks r.both.box (after_call i.outbox r.both.box (outbox.Hears cid exp_stat_sn tag)) tasks))
       (moved_settled i.outbox h.names s.state r (λ (l : Link). cond (l.conn == cid) (link_heard exp_stat_sn tag l) l) (same_heard cid exp_stat_sn tag) (left_heard cid exp_stat_sn tag)
       (all_queued i h.names h.notes (λ place. 0) (λ p. []) s.state r h.requests h.outbox fit.distinct fit.sound)) in
@@ -195,7 +196,7 @@ module _ (i : Interface) (s : StepsSide) (r : Side) (h : Stands i s r) where
       = settled_to h.names r.both.trace r.answers (λ p. of_conn p s.state.replies.waiting) (λ p. length (of_conn p s.state.noted.handed)) i.outbox (record r.both.box { undue = cleared unit r.both.box.undue })
       (all_cleared h.names r.both.trace r.answers (λ p. of_conn p s.state.replies.waiting) (λ p. length (of_conn p s.state.noted.handed)) unit r.both.box.links r.both.box.undue
       (all_queued i h.names h.notes (λ place. 0) (λ p. []) s.state r h.requests h.outbox fit.distinct fit.sound)) in
-      let e = moved_ends i s r h (cleared_of unit s.state.outbox) (after_call i.outbox r.both.box (outbox.Clears unit)) (left_fit i r.both.box (after_call i.outbox r.both.box (outbox.Clears unit)) fit) stands
+      let e = moved_ends i s r h (cleared_of unit s.state.outbox) (after_call i.outbox r.both.box (outbox.Clears unit)) (left_fit i r.both.box (after_call i.outbox r.both.box (outbox.Clears unit)) fit) stands (call_last i.outbox s.state.outbox r.both.box (outbox.Clears unit) h.counts.tracked tt)
       (run_same i s.state r (cleared_of unit s.state.outbox) (after_call i.outbox r.both.box (outbox.Clears unit)) h.outbox fit.sound stands fit.sound_after fit.distinct (runs_by_tasks r.both.box (after_call i.outbox r.both.box (outbox.Clears unit)) tasks))
       (record {
         long = k.long;
@@ -240,7 +241,7 @@ module _ (i : Interface) (s : StepsSide) (r : Side) (h : Stands i s r) where
   pub joins_alike : (cid n : ℕ) → IsFit i r.both.box (after_call i.outbox r.both.box (outbox.Joins cid n)) → GoesAlike i s r (Joins cid n)
   joins_alike cid n fit =
       let stands = joins_stands i.outbox s.state.outbox r.both.box h.outbox fit.distinct cid n in
-      let e = moved_ends i s r h (joined cid n s.state.outbox) (after_call i.outbox r.both.box (outbox.Joins cid n)) (left_fit i r.both.box (after_call i.outbox r.both.box (outbox.Joins cid n)) fit) stands
+      let e = moved_ends i s r h (joined cid n s.state.outbox) (after_call i.outbox r.both.box (outbox.Joins cid n)) (left_fit i r.both.box (after_call i.outbox r.both.box (outbox.Joins cid n)) fit) stands (call_last i.outbox s.state.outbox r.both.box (outbox.Joins cid n) h.counts.tracked tt)
       (run_same i s.state r (joined cid n s.state.outbox) (after_call i.outbox r.both.box (outbox.Joins cid n)) h.outbox fit.sound stands fit.sound_after fit.distinct
       (runs_by_tasks r.both.box (after_call i.outbox r.both.box (outbox.Joins cid n)) (joined_tasks cid n (may_join r.both.box cid))))
       (joined_moved cid n (may_join r.both.box cid)) in

@@ -1,5 +1,5 @@
 -- An event of one item by which no command enters or leaves: what is kept then stands for what the rules have.
-use Rattle.std.proofs.Common.{◌≡◌, ℕ, ◌+◌, ◌<◌, ◌==◌, ◌&&◌, ⊎_elim, true, List, [], ◌∷◌, ◌++◌, length, Option, Some, None, refl, ap, sym, subst, ◌∙◌, arith, length-set}
+use Rattle.std.proofs.Common.{◌≡◌, ℕ, ◌≤◌, ◌+◌, ◌<◌, ◌==◌, ◌&&◌, ⊎_elim, true, List, [], ◌∷◌, ◌++◌, length, Option, Some, None, refl, ap, sym, subst, ◌∙◌, arith, length-set}
 use Rattle.std.specs.List.{list_any}
 use Rattle.std.proofs.lemmas.Bool.{eqb-true}
 use Rattle.std.proofs.lemmas.List.{append-nil}
@@ -10,7 +10,7 @@ use Rattle.iscsi_history.specs.declared.entry.Entry.{Entry}
 use Rattle.iscsi_history.specs.promises.Order.{in_parts}
 use Rattle.iscsi_history.specs.declared.event.Event.TheVariants.{Arrive}
 use Rattle.iscsi_history.specs.rules.Run.{entry_of}
-use Rattle.iscsi_history.specs.rules.Trace.{Mark, Trace}
+use Rattle.iscsi_history.specs.rules.Trace.{Mark, Trace, entered}
 use Rattle.iscsi_history.proofs.CountLemmas.{one}
 use Rattle.iscsi_history.proofs.BoolLemmas.{and_parts}
 use Rattle.iscsi_outbox_rules.specs.rules.Boxes.{Box, Link}
@@ -41,7 +41,7 @@ use Rattle.iscsi_ffi_law.proofs.DonePhases.{runs_at, told_runs}
 use Rattle.iscsi_ffi_law.proofs.Finish.{IsAtEnd, as_many_links}
 use Rattle.iscsi_ffi_law.proofs.Members.{PassingAt, any_at}
 use Rattle.iscsi_ffi_law.proofs.Moved.{IsMoved, requests_moved, run_same}
-use Rattle.iscsi_ffi_law.proofs.QuietBox.{IsOnePart, IsQuietPart, NoneEnters, event_out, sent_tasks}
+use Rattle.iscsi_ffi_law.proofs.QuietBox.{IsOnePart, IsQuietPart, NoneEnters, event_last, event_out, sent_tasks}
 use Rattle.iscsi_ffi_law.proofs.Quiet.{settled_tasks}
 use Rattle.iscsi_ffi_law.proofs.QuietItems.{IsQuietEvent, answered_by, box_is, box_on, entry_then, numbers_on, over, side_then, still_calm}
 use Rattle.iscsi_ffi_law.proofs.QuietSends.{sends_reply}
@@ -52,7 +52,7 @@ none_enter : (es : List Effect) (x : Option Request) (y : Option (ℕ × Reply))
 none_enter es x y q one = ⊎_elim (λ is. subst NoneEnters (sym is) (q.entries, tt)) (λ is. subst NoneEnters (sym is) (refl, (q.entries, tt))) one
 
 module _ (i : Interface) (names : List Name) (notes : List Note) (s : State) (r : Side) (cid : ℕ) (header : List ℕ) (place : ℕ) (f : IsFoundAt i names notes s r cid header place)
-    (items : List (List Mark)) (t : Trace) (es : List Effect) (x : Option Request) (y : Option (ℕ × Reply)) (acts : List Action) (q : IsQuietEvent i r cid header items t es x y acts) (held : HeldNumbers) (slots : 0 < length held.places) (pending : ℕ → ℕ)
+    (items : List (List Mark)) (t : Trace) (es : List Effect) (x : Option Request) (y : Option (ℕ × Reply)) (acts : List Action) (q : IsQuietEvent i r cid header items t es x y acts) (held : HeldNumbers) (entered_same : entered t ≡ entered r.both.trace) (slots : 0 < length held.places) (pending : ℕ → ℕ)
     (requests1 : AreRequests names notes pending (λ k. []) (record s { held = held }) (record r { both = record r.both { event = r.both.event + 1; trace = t } })) where
   abbrev pub outbox_on : OutboxState
   outbox_on = taken es (numbers_on i r cid header items t es x y acts q f.fit.fit.sound) s.outbox
@@ -73,6 +73,10 @@ module _ (i : Interface) (names : List Name) (notes : List Note) (s : State) (r 
   stands_on = subst (OutboxStands i.outbox outbox_on) (box_is i r cid header items t es x y acts q f.fit.fit.sound)
       (event_out i.outbox f.fit.fit.distinct es (numbers_on i r cid header items t es x y acts q f.fit.fit.sound) s.outbox r.both.box f.outbox
       (subst (λ (e : Entry). AreItemsFit i.outbox r.both.box (in_parts e.effects)) entry_is f.fit.items) (none_enter es x y q.part q.one) f.fit.stale fit_event.short.max)
+
+  last_on : outbox_on.tracked.last ≤ length box'.tasks
+  last_on = subst (λ (b : Box). outbox_on.tracked.last ≤ length b.tasks) (box_is i r cid header items t es x y acts q f.fit.fit.sound)
+      (event_last i.outbox es (numbers_on i r cid header items t es x y acts q f.fit.fit.sound) s.outbox r.both.box f.counts.tracked (subst (λ (e : Entry). AreItemsFit i.outbox r.both.box (in_parts e.effects)) entry_is f.fit.items))
 
   runs_on : (ticket : ℕ) → is_running_ticket ticket outbox_on ≡ is_running_ticket ticket s.outbox
   runs_on = run_same i s r outbox_on box' f.outbox f.fit.fit.sound stands_on fit_on.sound_after f.fit.fit.distinct
@@ -113,6 +117,7 @@ module _ (i : Interface) (names : List Name) (notes : List Note) (s : State) (r 
       sizes = record { room = f.sizes.room; functions = f.sizes.functions; replies = f.sizes.replies; noted = f.sizes.noted; unwritten = f.sizes.unwritten; noted_room = f.sizes.noted_room; unwritten_room = f.sizes.unwritten_room; replies_room = f.sizes.replies_room; slots = slots; few = f.sizes.few };
       flags = record { awake = f.flags.awake; over = f.flags.over };
       requests = pending_more requests_silent;
+      counts = record { units = f.counts.units; last = (let same = ap length entered_same in let below = f.counts.last in omega (arith, same, below)); tracked = last_on };
       withheld = f.withheld;
       calm = still_calm i r cid header items t es x y acts q f.fit.fit.sound f.calm;
     }
@@ -205,6 +210,7 @@ module _ (i : Interface) (names : List Name) (notes : List Note) (s : State) (r 
       };
       flags = record { awake = f.flags.awake; over = f.flags.over };
       requests = requests_answered;
+      counts = record { units = f.counts.units; last = (let same = ap length entered_same in let below = f.counts.last in omega (arith, same, below)); tracked = last_on };
       withheld = f.withheld;
       calm = still_calm i r cid header items t es x y acts q f.fit.fit.sound f.calm;
     }

@@ -9,7 +9,7 @@ use Rattle.iscsi_history.specs.declared.effect.Effect.{Effect}
 use Rattle.iscsi_history.specs.declared.entry.Entry.{Entry}
 use Rattle.iscsi_history.specs.declared.event.Event.TheVariants.{Arrive}
 use Rattle.iscsi_history.specs.rules.Run.{after_event, entry_of}
-use Rattle.iscsi_history.specs.rules.Trace.{Mark, Trace, after_items as items_after}
+use Rattle.iscsi_history.specs.rules.Trace.{Mark, Trace, after_items as items_after, entered}
 use Rattle.iscsi_arrivals.specs.Standing.{StandsFor}
 use Rattle.iscsi_outbox_rules.specs.rules.Items.{ticket_enabled}
 use Rattle.iscsi_outbox_law.specs.Commands.{is_under_way, link_in}
@@ -97,7 +97,7 @@ all_released_held [] d = refl
 all_released_held (x ∷ xs) d = all_released_held xs (release_if x d) ∙ released_held x d
 
 module _ (i : Interface) (names : List Name) (notes : List Note) (s : State) (r : Side) (cid : ℕ) (header : List ℕ) (place : ℕ) (f : IsFoundAt i names notes s r cid header place)
-    (items : List (List Mark)) (t : Trace) (es : List Effect) (x : Option Request) (y : Option (ℕ × Reply)) (acts : List Action) (q : IsQuietEvent i r cid header items t es x y acts) (held : HeldNumbers) (slots : 0 < length held.places) (pending : ℕ → ℕ)
+    (items : List (List Mark)) (t : Trace) (es : List Effect) (x : Option Request) (y : Option (ℕ × Reply)) (acts : List Action) (q : IsQuietEvent i r cid header items t es x y acts) (held : HeldNumbers) (entered_same : entered t ≡ entered r.both.trace) (slots : 0 < length held.places) (pending : ℕ → ℕ)
     (requests1 : AreRequests names notes pending (λ k. []) (record s { held = held }) (record r { both = record r.both { event = r.both.event + 1; trace = t } })) (own : Option ℕ) (first : HeldNumbers) where
   -- what the walk begins with
   abbrev pub found : Doing
@@ -138,7 +138,7 @@ module _ (i : Interface) (names : List Name) (notes : List Note) (s : State) (r 
   still = still_calm i r cid header items t es x y acts q f.fit.fit.sound f.calm
 
   abbrev pub out1 : OutboxState
-  out1 = outbox_on i names notes s r cid header place f items t es x y acts q held slots pending requests1
+  out1 = outbox_on i names notes s r cid header place f items t es x y acts q held entered_same slots pending requests1
 
   some : 0 < length (cids i)
   some = f.fit.fit.some
@@ -175,14 +175,14 @@ module _ (i : Interface) (names : List Name) (notes : List Note) (s : State) (r 
         let room = room_enough some in
         goes_by (releases xs silent) takes_silent (all_released_held xs silent ∙ f.withheld) still
         (subst (λ told. EndsAlike i (record { event = r.both.event + 1; trace = t; doing = releases xs silent }) side' told) (sym none_told)
-        (ends_with i names notes (λ k. []) xs [] (record s { outbox = out1; held = held }) side' (ends_silent i names notes s r cid header place f items t es x y acts q held slots pending requests1 none xs same_uses) (omega (arith, room, few)) (omega (arith, room))
+        (ends_with i names notes (λ k. []) xs [] (record s { outbox = out1; held = held }) side' (ends_silent i names notes s r cid header place f items t es x y acts q held entered_same slots pending requests1 none xs same_uses) (omega (arith, room, few)) (omega (arith, room))
         (record { event = r.both.event + 1; trace = t; doing = releases xs silent }) refl refl refl))
 
   -- ---- it is answered
 
   module _ (reply : Reply) (is_sent : y ≡ Some (cid, reply)) (takes_them : takes_there r cid) (whole : (n : ℕ) → pending n ≡ one (place == n)) where
     abbrev p' : ℕ
-    p' = p i names notes s r cid header place f items t es x y acts q held slots pending requests1 reply is_sent takes_them whole
+    p' = p i names notes s r cid header place f items t es x y acts q held entered_same slots pending requests1 reply is_sent takes_them whole
 
     sent_is : s.outbox.sent ≡ r.both.box.sent
     sent_is = let e = f.outbox.numbers.sent in let lt = f.fit.sent in omega (arith, e, lt)
@@ -199,7 +199,7 @@ module _ (i : Interface) (names : List Name) (notes : List Note) (s : State) (r 
 
     pub send_is : (c o : Option ℕ) (why : Option StopReason) → ◌≡◌ {A = Option ℕ} (elim c [ Some k ↦ Some k | None ↦ o ]) (Some place) → (end_item (send cid (record { doing = executed; current = c; own = o; by = why; sent = s.outbox.sent }))).doing ≡ replied_now
     send_is c o why of_it =
-        ap by_place (place_is i names notes s r cid header place f items t es x y acts q held slots pending requests1 reply is_sent takes_them whole)
+        ap by_place (place_is i names notes s r cid header place f items t es x y acts q held entered_same slots pending requests1 reply is_sent takes_them whole)
         ∙ ap by_request of_it
         ∙ ap by_room room_there
         ∙ ap (λ n. record { state = record s { held = held; replies = pushed p' (record { log_place = n; request = place }) s.replies }; actions = []; forgets = [] }) sent_is
@@ -222,29 +222,29 @@ module _ (i : Interface) (names : List Name) (notes : List Note) (s : State) (r 
     module _ (walked : (on_effects true es (walk_from own found)).doing ≡ replied_now) (touched : (u : State) → flat_map (touched_by u) es ≡ as_list (place_of u.outbox cid) ++ [])
         (resets : (u : State) → u.outbox.limits ≡ limits_of i.outbox → resets_in u es ≡ acts) (few : length acts ≤ 1) where
       abbrev state2 : State
-      state2 = state_answered i names notes s r cid header place f items t es x y acts q held slots pending requests1 reply is_sent takes_them whole
+      state2 = state_answered i names notes s r cid header place f items t es x y acts q held entered_same slots pending requests1 reply is_sent takes_them whole
 
       abbrev answered_now : Doing
       answered_now = record { state = state2; actions = []; forgets = [] }
 
       place_after : place_of out1 cid ≡ Some p'
       place_after =
-          ap (λ (l : Limits). position (λ (c : ℕ). c == cid) l.cids) ((stands_on i names notes s r cid header place f items t es x y acts q held slots pending requests1).sizes.limits ∙ sym f.outbox.sizes.limits)
-          ∙ place_is i names notes s r cid header place f items t es x y acts q held slots pending requests1 reply is_sent takes_them whole
+          ap (λ (l : Limits). position (λ (c : ℕ). c == cid) l.cids) ((stands_on i names notes s r cid header place f items t es x y acts q held entered_same slots pending requests1).sizes.limits ∙ sym f.outbox.sizes.limits)
+          ∙ place_is i names notes s r cid header place f items t es x y acts q held entered_same slots pending requests1 reply is_sent takes_them whole
 
       -- its connection keeps what waits there
       kept_there : keeps (link_at out1 p') ≡ true
       kept_there =
-          let done_box : IsReplied names (record s { held = held }) (record r { both = record r.both { event = r.both.event + 1; trace = t } }) r.both.event p' place (box' i names notes s r cid header place f items t es x y acts q held slots pending requests1) = replied i names notes s r cid header place f items t es x y acts q held slots pending requests1 reply is_sent takes_them whole in
-          let inside : p' < length r.both.box.links = within i names notes s r cid header place f items t es x y acts q held slots pending requests1 reply is_sent takes_them whole in
-          let short : p' < length (box' i names notes s r cid header place f items t es x y acts q held slots pending requests1).links = (let m = done_box.long in omega (arith, inside, m)) in
-          let st : StandsFor (link_at out1 p') (link_in (box' i names notes s r cid header place f items t es x y acts q held slots pending requests1).links p')
-          = counts_at (is_under_way i.outbox (box' i names notes s r cid header place f items t es x y acts q held slots pending requests1).links) i.outbox out1 (box' i names notes s r cid header place f items t es x y acts q held slots pending requests1) (stands_on i names notes s r cid header place f items t es x y acts q held slots pending requests1) p' short in
-          let same : SameOut (link_in r.both.box.links p') (link_in (box' i names notes s r cid header place f items t es x y acts q held slots pending requests1).links p') = done_box.same p' inside in
+          let done_box : IsReplied names (record s { held = held }) (record r { both = record r.both { event = r.both.event + 1; trace = t } }) r.both.event p' place (box' i names notes s r cid header place f items t es x y acts q held entered_same slots pending requests1) = replied i names notes s r cid header place f items t es x y acts q held entered_same slots pending requests1 reply is_sent takes_them whole in
+          let inside : p' < length r.both.box.links = within i names notes s r cid header place f items t es x y acts q held entered_same slots pending requests1 reply is_sent takes_them whole in
+          let short : p' < length (box' i names notes s r cid header place f items t es x y acts q held entered_same slots pending requests1).links = (let m = done_box.long in omega (arith, inside, m)) in
+          let st : StandsFor (link_at out1 p') (link_in (box' i names notes s r cid header place f items t es x y acts q held entered_same slots pending requests1).links p')
+          = counts_at (is_under_way i.outbox (box' i names notes s r cid header place f items t es x y acts q held entered_same slots pending requests1).links) i.outbox out1 (box' i names notes s r cid header place f items t es x y acts q held entered_same slots pending requests1) (stands_on i names notes s r cid header place f items t es x y acts q held entered_same slots pending requests1) p' short in
+          let same : SameOut (link_in r.both.box.links p') (link_in (box' i names notes s r cid header place f items t es x y acts q held entered_same slots pending requests1).links p') = done_box.same p' inside in
           ap (λ v. (v && not (link_at out1 p').lost) && not (link_at out1 p').cut) st.joined
-          ∙ ap (λ v. ((link_in (box' i names notes s r cid header place f items t es x y acts q held slots pending requests1).links p').joined && not v) && not (link_at out1 p').cut) st.lost
-          ∙ ap (λ v. ((link_in (box' i names notes s r cid header place f items t es x y acts q held slots pending requests1).links p').joined && not (link_in (box' i names notes s r cid header place f items t es x y acts q held slots pending requests1).links p').lost) && not v) st.cut
-          ∙ same.takes ∙ takes_it i names notes s r cid header place f items t es x y acts q held slots pending requests1 reply is_sent takes_them whole
+          ∙ ap (λ v. ((link_in (box' i names notes s r cid header place f items t es x y acts q held entered_same slots pending requests1).links p').joined && not v) && not (link_at out1 p').cut) st.lost
+          ∙ ap (λ v. ((link_in (box' i names notes s r cid header place f items t es x y acts q held entered_same slots pending requests1).links p').joined && not (link_in (box' i names notes s r cid header place f items t es x y acts q held entered_same slots pending requests1).links p').lost) && not v) st.cut
+          ∙ same.takes ∙ takes_it i names notes s r cid header place f items t es x y acts q held entered_same slots pending requests1 reply is_sent takes_them whole
 
       enough : 3 + 2 * length (cids i) ≤ s.room
       enough = room_enough some
@@ -254,7 +254,7 @@ module _ (i : Interface) (names : List Name) (notes : List Note) (s : State) (r 
           ap from_there (ap (in_state (λ u. record u { outbox = taken es (numbers_on i r cid header items t es x y acts q f.fit.fit.sound) u.outbox })) walked)
           ∙ ap (λ conns. from_swept (sweep conns answered_now)) (touched state2 ∙ ap (λ z. as_list z ++ []) place_after)
           ∙ ap (λ v. from_swept (cond v answered_now (drop_waiting p' answered_now))) kept_there
-          ∙ ap (λ told. start_each (filter_map ticket_enabled es) (tell_all told answered_now)) (resets state2 (stands_on i names notes s r cid header place f items t es x y acts q held slots pending requests1).sizes.limits)
+          ∙ ap (λ told. start_each (filter_map ticket_enabled es) (tell_all told answered_now)) (resets state2 (stands_on i names notes s r cid header place f items t es x y acts q held entered_same slots pending requests1).sizes.limits)
           ∙ ap (start_each (filter_map ticket_enabled es)) (told_all acts answered_now (omega (arith, few, enough)))
           ∙ ap (λ ks. start_each ks (record answered_now { actions = acts })) q.part.enables
         where
@@ -267,5 +267,5 @@ module _ (i : Interface) (names : List Name) (notes : List Note) (s : State) (r 
       pub answered_goes : GoesTo i (done (happens i own (Arrive cid header) before)) (rules.done (happens_there i r (Arrive cid header)))
       answered_goes =
           goes_by (record answered_now { actions = acts }) takes_answered f.withheld still
-          (ends_with i names notes (λ k. []) [] acts state2 side' (ends_answered i names notes s r cid header place f items t es x y acts q held slots pending requests1 reply is_sent takes_them whole) (omega arith) (omega (arith, few, enough))
+          (ends_with i names notes (λ k. []) [] acts state2 side' (ends_answered i names notes s r cid header place f items t es x y acts q held entered_same slots pending requests1 reply is_sent takes_them whole) (omega arith) (omega (arith, few, enough))
           (record { event = r.both.event + 1; trace = t; doing = record answered_now { actions = acts } }) refl refl refl)

@@ -37,7 +37,7 @@ use Rattle.iscsi_requests.specs.Cookies.{next_place}
 module _ (i : Interface) (s : StepsSide) (r : Side) (h : Stands i s r) (left : IsLeft i r.both.box) where
   -- nothing changes
   pub unchanged : EndsAlike i (going s) r []
-  unchanged = moved_ends i s r h s.state.outbox r.both.box left h.outbox (λ k. refl) (record {
+  unchanged = moved_ends i s r h s.state.outbox r.both.box left h.outbox h.counts.tracked (λ k. refl) (record {
     long = refl;
     sent = refl;
     queued = λ q within. (h.requests.conns q within).queued;

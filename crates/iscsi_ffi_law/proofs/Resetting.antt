@@ -156,6 +156,7 @@ module _ (i : Interface) (s : StepsSide) (r : Side) (h : Stands i s r) (unit : â
     sizes = record { room = h.sizes.room; functions = h.sizes.functions; replies = h.sizes.replies; noted = h.sizes.noted; unwritten = h.sizes.unwritten; noted_room = h.sizes.noted_room; unwritten_room = h.sizes.unwritten_room; replies_room = h.sizes.replies_room; slots = h.sizes.slots; few = h.sizes.few };
     flags = record { awake = h.flags.awake; over = h.flags.over };
     requests = requests_now;
+    counts = record { units = h.counts.units; last = h.counts.last; tracked = h.counts.tracked };
     withheld = h.withheld;
     calm = h.calm;
   }

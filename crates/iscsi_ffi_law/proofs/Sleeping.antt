@@ -117,6 +117,7 @@ module _ (i : Interface) (s : StepsSide) (r : Side) (h : Stands i s r) (left : I
         sizes = record { room = h.sizes.room; functions = h.sizes.functions; replies = h.sizes.replies; noted = h.sizes.noted; unwritten = h.sizes.unwritten; noted_room = h.sizes.noted_room; unwritten_room = h.sizes.unwritten_room; replies_room = h.sizes.replies_room; slots = h.sizes.slots; few = h.sizes.few };
         flags = record { awake = are; over = h.flags.over };
         requests = requests_asleep h.names h.notes (λ place. 0) (λ p. []) s.state r flags awake h.requests;
+        counts = record { units = h.counts.units; last = h.counts.last; tracked = h.counts.tracked };
         withheld = h.withheld;
         calm = h.calm;
       }) left.some (record { event = s.event; trace = s.trace; doing = record { state = record s.state { awake = flags }; actions = []; forgets = [] } }) refl h.event h.trace

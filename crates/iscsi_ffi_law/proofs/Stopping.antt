@@ -17,6 +17,7 @@ use Rattle.iscsi_outbox_law.specs.Pairs.{EachOf}
 use Rattle.iscsi_outbox_law.specs.Stands.{Stands as OutboxStands}
 use Rattle.iscsi_outbox_law.proofs.PairLemmas.{each-weaken}
 use Rattle.iscsi_outbox_law.proofs.Stops.{stops_answered, stops_stands}
+use Rattle.iscsi_outbox_law.proofs.TurningCount.{call_last}
 use Rattle.iscsi_outbox_steps.specs.Steps.{is_running_ticket, stopped}
 use Rattle.iscsi_requests.specs.Conns.{of_conn}
 use Rattle.iscsi_requests.specs.Cookies.{uses_at}
@@ -165,6 +166,7 @@ module _ (i : Interface) (s : StepsSide) (r : Side) (h : Stands i s r) (ticket :
           sizes = record { room = h.sizes.room; functions = h.sizes.functions; replies = h.sizes.replies; noted = h.sizes.noted; unwritten = h.sizes.unwritten; noted_room = h.sizes.noted_room; unwritten_room = h.sizes.unwritten_room; replies_room = h.sizes.replies_room; slots = h.sizes.slots; few = h.sizes.few };
           flags = record { awake = h.flags.awake; over = h.flags.over };
           requests = requests_changed h.names h.notes (λ place. 0) (ending x) (λ p. []) (λ p. []) s.state r h.requests (stopped ticket s.state.outbox) s.state.cookies s.state.replies s.state.noted s.state.unwritten settled (changed_now x uses);
+          counts = record { units = h.counts.units; last = h.counts.last; tracked = subst (λ (x : Box). (stopped ticket s.state.outbox).tracked.last ≤ length x.tasks) same_box (call_last i.outbox s.state.outbox r.both.box (outbox.Stops ticket) h.counts.tracked tt) };
           withheld = h.withheld;
           calm = h.calm;
         }) fit.some (record { event = s.event; trace = s.trace; doing = release_if x (record { state = with_outbox s.state (stopped ticket s.state.outbox); actions = []; forgets = [] }) }) refl h.event h.trace
@@ -255,7 +257,7 @@ module _ (i : Interface) (s : StepsSide) (r : Side) (h : Stands i s r) (ticket :
   -- ---- either way
 
   idle_ends : is_running r.both.box ticket ≡ false → EndsAlike i (going s) r []
-  idle_ends none = moved_ends i s r h s.state.outbox r.both.box (found_fit i r.both.box (after_call i.outbox r.both.box (outbox.Stops ticket)) fit) h.outbox (λ k. refl) (record {
+  idle_ends none = moved_ends i s r h s.state.outbox r.both.box (found_fit i r.both.box (after_call i.outbox r.both.box (outbox.Stops ticket)) fit) h.outbox h.counts.tracked (λ k. refl) (record {
     long = refl;
     sent = refl;
     queued = λ p within. (h.requests.conns p within).queued;

@@ -14,6 +14,7 @@ use Rattle.iscsi_outbox_law.proofs.Hearing.{writes_stands}
 use Rattle.iscsi_outbox_law.proofs.PlaceLemmas.{IsPlace, none_here, one_place}
 use Rattle.iscsi_outbox_law.proofs.PairLemmas.{each-at, each-set, each-weaken, pairs-weaken}
 use Rattle.iscsi_outbox_law.proofs.Standing.{links_apart, stands_nowhere, stands_there}
+use Rattle.iscsi_outbox_law.proofs.TurningCount.{call_last}
 use Rattle.iscsi_outbox_steps.specs.State.{State as OutboxState, place_of}
 use Rattle.iscsi_outbox_steps.specs.Steps.{is_running_ticket, written}
 use Rattle.iscsi_requests.specs.Conns.{behind_oldest, of_conn, oldest}
@@ -116,7 +117,7 @@ module _ (i : Interface) (s : StepsSide) (r : Side) (h : Stands i s r) (cid : �
   -- nothing is left to write there
   calmly : ((p : ℕ) → p < length r.both.box.links → left_to_write (writes_at cid (link_in r.both.box.links p)) ≡ left_to_write (link_in r.both.box.links p))
       → EndsAlike i (record { event = s.event; trace = s.trace; doing = record { state = record s.state { outbox = written cid s.state.outbox }; actions = []; forgets = [] } }) (with_box r (after_call i.outbox r.both.box (outbox.Writes cid))) []
-  calmly same = moved_ends i s r h (written cid s.state.outbox) (after_call i.outbox r.both.box (outbox.Writes cid)) (left_fit i r.both.box (after_call i.outbox r.both.box (outbox.Writes cid)) fit) stands runs (record {
+  calmly same = moved_ends i s r h (written cid s.state.outbox) (after_call i.outbox r.both.box (outbox.Writes cid)) (left_fit i r.both.box (after_call i.outbox r.both.box (outbox.Writes cid)) fit) stands (call_last i.outbox s.state.outbox r.both.box (outbox.Writes cid) h.counts.tracked tt) runs (record {
     long = settled_now.long;
     sent = settled_now.sent;
     queued = settled_now.all.queued;
@@ -236,6 +237,7 @@ module _ (i : Interface) (s : StepsSide) (r : Side) (h : Stands i s r) (cid : �
           sizes = record { room = h.sizes.room; functions = h.sizes.functions; replies = h.sizes.replies; noted = h.sizes.noted; unwritten = length-set s.state.unwritten.handed p (behind_oldest (of_conn p s.state.unwritten.handed)) ∙ h.sizes.unwritten; noted_room = h.sizes.noted_room; unwritten_room = h.sizes.unwritten_room; replies_room = h.sizes.replies_room; slots = h.sizes.slots; few = few_left };
           flags = record { awake = h.flags.awake; over = h.flags.over };
           requests = requests_changed h.names h.notes (λ place. 0) (ending x) (λ q. []) gone s.state r h.requests (written cid s.state.outbox) s.state.cookies s.state.replies s.state.noted (popped p s.state.unwritten) (after_call i.outbox r.both.box (outbox.Writes cid)) changed_now;
+          counts = record { units = h.counts.units; last = h.counts.last; tracked = call_last i.outbox s.state.outbox r.both.box (outbox.Writes cid) h.counts.tracked tt };
           withheld = h.withheld;
           calm = h.calm;
         }) fit.some (record { event = s.event; trace = s.trace; doing = release_if x (record { state = s'; actions = []; forgets = [] }) }) refl h.event h.trace

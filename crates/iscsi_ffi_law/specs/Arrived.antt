@@ -165,11 +165,8 @@ pub record IsEntered (i : Interface) (r : Side) (cid : ℕ) (header : List ℕ) 
   pub started : list_any (is_withheld (record r { both = record r.both { trace = entering_trace i r cid header command } })) (enabled_by i r cid header command) ≡ false
   pub calm : next_withheld (happening i r (Arrive cid header)).side ≡ None
 
--- what the steps count, as a command enters: tickets, units, and a place for its request
-pub record IsCounted (i : Interface) (s : State) (r : Side) (place : ℕ) : Type 0 where
-  pub last : s.commands.last ≤ length (entered r.both.trace)
-  pub units : s.commands.units ≡ i.outbox.session.units
-  pub tracked : s.outbox.tracked.last ≤ length r.both.box.tasks
+-- the place of its request is one of those that there are
+pub record IsPlaced (s : State) (place : ℕ) : Type 0 where
   pub low : 1 ≤ place
   pub high : place ≤ s.commands.room
 

@@ -11,9 +11,9 @@ use Rattle.iscsi_ffi_rules.specs.rules.Calls.{Interface, Call, Arrives, Complete
 use Rattle.iscsi_ffi_rules.specs.rules.Clearing.{TASK_ABORTED}
 use Rattle.iscsi_ffi_rules.specs.rules.Run.{after_call, cids, heard_in, is_going, is_lost, refusal_of}
 use Rattle.iscsi_ffi_rules.specs.rules.Sides.{Side}
-use Rattle.iscsi_ffi_steps.specs.Steps.{Side as StepsSide, after, called, ended, heard_first, told}
+use Rattle.iscsi_ffi_steps.specs.Steps.{Side as StepsSide, after, called, ended, told}
 use Rattle.iscsi_ffi_law.specs.Alike.{GoesAlike, TellAlike, said}
-use Rattle.iscsi_ffi_law.specs.Arrived.{IsArrivalFit, IsCounted, IsEntered, IsTaken}
+use Rattle.iscsi_ffi_law.specs.Arrived.{IsArrivalFit, IsEntered, IsPlaced, IsTaken}
 use Rattle.iscsi_ffi_law.specs.Done.{AllDone}
 use Rattle.iscsi_ffi_law.specs.Fit.{IsFit, IsOrderly}
 use Rattle.iscsi_ffi_law.specs.Stands.{Stands}
@@ -61,13 +61,13 @@ pub record IsArrival (i : Interface) (s : StepsSide) (r : Side) (cid : ℕ) (hea
   pub room : is_some (next_place s.state.cookies) ≡ true
   pub is : IsTaken i (heard_in i r cid header) cid header
 
--- .. or is a command that enters; the steps count as the rules
+-- .. or is a command that enters, whose place is one of those that there are
 pub record IsEntry (i : Interface) (s : StepsSide) (r : Side) (cid : ℕ) (header : List ℕ) : Type 0 where
   pub fit : IsArrivalFit i r cid header
   pub taken : refusal_of i r cid ≡ None
   pub room : is_some (next_place s.state.cookies) ≡ true
   pub is : IsEntered i (heard_in i r cid header) cid header
-  pub counted : (place : ℕ) → next_place s.state.cookies ≡ Some place → IsCounted i (heard_first cid header s.state) (heard_in i r cid header) place
+  pub placed : (place : ℕ) → next_place s.state.cookies ≡ Some place → IsPlaced s.state place
 
 -- what is asked of each call. Of a request that becomes another thing, and of a connection that is lost and isn't closed, it is premised that they go alike
 abbrev pub Meets : Interface → StepsSide → Side → Call → Type 0

@@ -58,6 +58,12 @@ pub record AreRequests (names : List Name) (notes : List Note) (pending : ℕ �
   pub conns : (p : ℕ) → p < length r.both.box.links → IsConn names notes (gone p) s r p (link_in r.both.box.links p)
   pub undue : EachOf (IsUndue names r.answers) r.both.box.undue
 
+-- what the steps count as the rules do: units, and the tickets of commands
+pub record AreCounts (i : Interface) (s : State) (r : Side) : Type 0 where
+  pub units : s.commands.units ≡ i.outbox.session.units
+  pub last : s.commands.last ≤ length (entered r.both.trace)
+  pub tracked : s.outbox.tracked.last ≤ length r.both.box.tasks
+
 -- between the calls
 pub record Stands (i : Interface) (s : StepsSide) (r : Side) : Type 0 where
   pub names : List Name
@@ -67,6 +73,7 @@ pub record Stands (i : Interface) (s : StepsSide) (r : Side) : Type 0 where
   pub outbox : OutboxStands i.outbox s.state.outbox r.both.box
   pub sizes : AreSizes i s.state
   pub flags : AreFlags i s.state r
+  pub counts : AreCounts i s.state r
   pub requests : AreRequests names notes (λ place. 0) (λ p. []) s.state r
   pub withheld : s.state.withheld ≡ []
   -- no command waits to be completed that never starts

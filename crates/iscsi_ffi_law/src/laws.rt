@@ -2,7 +2,7 @@
 
 ghost use Rattle.std.specs.Prelude.{◌≡◌, ◌<◌, ◌≤◌, ◌&&◌, ◌+◌, ◌*◌, ◌^◌, ℕ, List, None, Some, cond, false, is_some, length, true};
 ghost use Rattle.iscsi_ffi_law.specs.Alike.{GoesAlike};
-ghost use Rattle.iscsi_ffi_law.specs.Arrived.{IsArrivalFit, IsCounted, IsEntered, IsTaken};
+ghost use Rattle.iscsi_ffi_law.specs.Arrived.{IsArrivalFit, IsEntered, IsPlaced, IsTaken};
 ghost use Rattle.iscsi_ffi_law.specs.Done.{AllDone};
 ghost use Rattle.iscsi_ffi_law.specs.Fit.{IsFit, IsOrderly};
 ghost use Rattle.iscsi_history.specs.rules.Settings.{is_known};
@@ -13,7 +13,7 @@ ghost use Rattle.iscsi_ffi_rules.specs.rules.Calls.{Arrives, Call, Cleared, Clea
 ghost use Rattle.iscsi_ffi_rules.specs.rules.Clearing.{TASK_ABORTED};
 ghost use Rattle.iscsi_ffi_rules.specs.rules.Run.{cids, heard_in, is_going, is_lost, refusal_of};
 ghost use Rattle.iscsi_ffi_rules.specs.rules.Sides.{Side, opened};
-ghost use Rattle.iscsi_ffi_steps.specs.Steps.{Side as StepsSide, begun, heard_first};
+ghost use Rattle.iscsi_ffi_steps.specs.Steps.{Side as StepsSide, begun};
 ghost use Rattle.iscsi_outbox_rules.specs.declared.own_pdu.OwnPdu.{OwnPdu};
 ghost use Rattle.iscsi_outbox_rules.specs.rules.Calls.{Clears as ClearsBox, Hears as HearsBox, Joins as JoinsBox, Loses as LosesBox, Nexts as NextsBox, Puts as PutsBox, Stops as StopsBox, Writes as WritesBox};
 ghost use Rattle.iscsi_outbox_rules.specs.rules.Run.{after_call};
@@ -93,10 +93,10 @@ pub fn arrives_law()
 {}
 
 /// A numbered SCSI Command is taken while nothing is held, and enters at once: it is told to start if it is enabled. None is withheld then. What is
-/// premised of the rules' side is said in `IsArrivalFit` and `IsEntered`; two premises more: a place for a word, and that the steps count tickets,
-/// units and places as the rules do.
+/// premised of the rules' side is said in `IsArrivalFit` and `IsEntered`; two premises more: a place for a word, which is one of those
+/// that there are.
 pub fn enters_law()
-    ensures alike { (i : Interface) (s : StepsSide) (r : Side) → Stands i s r → (cid : ℕ) (header : List ℕ) (cookie : ℕ) → IsArrivalFit i r cid header → refusal_of i r cid ≡ None → is_some (next_place s.state.cookies) ≡ true → IsEntered i (heard_in i r cid header) cid header → ((place : ℕ) → next_place s.state.cookies ≡ Some place → IsCounted i (heard_first cid header s.state) (heard_in i r cid header) place) → GoesAlike i s r (Arrives cid header cookie) }
+    ensures alike { (i : Interface) (s : StepsSide) (r : Side) → Stands i s r → (cid : ℕ) (header : List ℕ) (cookie : ℕ) → IsArrivalFit i r cid header → refusal_of i r cid ≡ None → is_some (next_place s.state.cookies) ≡ true → IsEntered i (heard_in i r cid header) cid header → ((place : ℕ) → next_place s.state.cookies ≡ Some place → IsPlaced s.state place) → GoesAlike i s r (Arrives cid header cookie) }
 {}
 
 /// A list of calls: each is answered by the steps as by the rules, and tells the same in the same order, but for what is forgotten, which is

@@ -63,7 +63,7 @@ mod TakesClosed
 mod TakesAims
 mod TakesSending
 pub mod TurningFresh
-mod TurningLast
+pub mod TurningLast
 pub mod TurningCount
 pub mod CallsGo
 mod EventGoes
