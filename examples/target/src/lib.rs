@@ -92,7 +92,7 @@ impl Target {
         let count = disks.len() as u8;
         disks.iter_mut().for_each(|disk| disk.count = count);
         let units = disks.into_iter().map(|disk| Arc::new(Unit::new(disk, options.delay))).collect();
-        Ok(Target { options, units, sessions: Mutex::default(), errands: Queue::new(), trace, log: Log::default() })
+        Ok(Target { options, units, sessions: Mutex::default(), errands: Queue::new(), trace, log: Log::new()? })
     }
 
     /// Serves a connection in a thread of its own. Where there is none, the connection is closed.

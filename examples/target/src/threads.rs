@@ -3,7 +3,8 @@
 use std::collections::VecDeque;
 use std::fmt::Display;
 use std::io::{self, Write};
-use std::sync::{Condvar, Mutex, MutexGuard, PoisonError};
+use std::sync::{Arc, Condvar, Mutex, MutexGuard, PoisonError};
+use std::thread;
 use std::time::{Duration, Instant};
 
 /// Locks. A holder leaves no half-made state behind: a thread that panicked with one doesn't spoil it.
@@ -56,19 +57,34 @@ impl<T> Queue<T> {
     }
 }
 
-/// What the target says of its troubles, and when it did last.
-#[derive(Default)]
-pub struct Log(Mutex<Option<Instant>>);
+/// What the target says of its troubles. A thread of its own writes it: where standard error is a pipe that is full,
+/// nobody else waits.
+pub struct Log(Arc<Lines>);
+
+struct Lines {
+    /// When the last one was said, and whether it isn't written yet.
+    last: Mutex<(Option<Instant>, bool)>,
+    queue: Queue<String>,
+}
 
 impl Log {
-    /// Writes a line on the standard error, once a second at most, as whoever connects may bring lines about. Where it
-    /// can't be written, nobody wants to know.
+    pub fn new() -> io::Result<Log> {
+        let lines = Arc::new(Lines { last: Mutex::new((None, false)), queue: Queue::new() });
+        let log = Log(lines.clone());
+        thread::Builder::new().spawn(move || loop {
+            // Where it can't be written, nobody wants to know.
+            let _ = io::stderr().write_all(lines.queue.pop().as_bytes());
+            lock(&lines.last).1 = false;
+        })?;
+        Ok(log)
+    }
+
+    /// Says a line, once a second at most, as whoever connects may bring lines about.
     pub fn say(&self, words: impl Display) {
-        let mut last = lock(&self.0);
-        if last.is_none_or(|last| last.elapsed() >= Duration::from_secs(1)) {
-            *last = Some(Instant::now());
-            drop(last);
-            let _ = io::stderr().write_all(format!("target: {words}\n").as_bytes());
+        let mut last = lock(&self.0.last);
+        if !last.1 && last.0.is_none_or(|said| said.elapsed() >= Duration::from_secs(1)) {
+            *last = (Some(Instant::now()), true);
+            self.0.queue.push(format!("target: {words}\n"));
         }
     }
 }
