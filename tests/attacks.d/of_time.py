@@ -62,6 +62,8 @@ def vanished(victim):
         if not peer.asking:
             raise Wrong(f"no ping comes in {limit} s")
         wait_with(other, lambda: peer.pump(lambda: peer.connections[1].is_closed, 0.2), limit)
+        # The socket is closed first, and then the session ends.
+        wait_with(other, lambda: not peer.is_known(), 1)
         if not peer.connections[1].is_closed or peer.is_known():
             raise Wrong(f"its session goes on {limit} s after a ping that it didn't answer")
         if other.connections[1].is_closed or not other.answers_pings():

@@ -15,8 +15,8 @@ use std::net::Shutdown;
 use std::sync::{Arc, Weak};
 use std::time::Instant;
 
-/// The most PDUs that are written together. With more, an initiator has nothing to do while they are made.
-pub const UNWRITTEN: u32 = 8;
+/// The most PDUs that are written together.
+pub const UNWRITTEN: u32 = 32;
 
 /// Transfer tags from here on are the library's, for its pings.
 const FIRST_PING: u32 = 0x8000_0000;
