@@ -70,6 +70,7 @@ class Victim(Target):
         return len(os.listdir(f"/proc/{self.process.pid}/task"))
 
     def descriptors(self):
+        """How many the target has, which is this test's own child."""
         return len(os.listdir(f"/proc/{self.process.pid}/fd"))
 
     def seconds_of_processor(self):
