@@ -75,3 +75,10 @@ mod DoneHeld
 mod DoneMid
 mod DoneChain
 mod DoneCalls
+mod FitReached
+mod FitLinks
+mod FitNumbers
+mod FitHeard
+mod FitSides
+mod FitWalks
+mod FitAll

@@ -7,3 +7,4 @@ pub mod Done
 pub mod Arrived
 pub mod Alike
 pub mod Lists
+pub mod Sides
