@@ -184,15 +184,25 @@ IsPlain (Takes effects numbers) = ⊥
 IsPlain (Nexts conn) = ⊥
 IsPlain _ = Unit {0}
 
+-- .. and loses no connection
+abbrev pub IsKept : Call → Type 0
+IsKept (Takes effects numbers) = ⊥
+IsKept (Nexts conn) = ⊥
+IsKept (Loses conn) = ⊥
+IsKept _ = Unit {0}
+
 -- what each of these calls makes of the one connection that it is of
-pub record IsCallRule (R : Link → Link → Type 0) : Type 0 where
+pub record IsKeptRule (R : Link → Link → Type 0) : Type 0 where
   pub queue : IsQueueRule R
   pub written : (l : Link) → R l (one_written l)
   pub heard : (exp_stat_sn tag : ℕ) (l : Link) → R l (link_heard exp_stat_sn tag l)
   pub joined : (stat_sn : ℕ) (l : Link) → R l (link_joined stat_sn l)
+
+pub record IsCallRule (R : Link → Link → Type 0) : Type 0 where
+  pub kept : IsKeptRule R
   pub lost : (l : Link) → R l (link_lost l)
 
-module _ (o : Opening) (R : Link → Link → Type 0) (rule : IsCallRule R) where
+module _ (o : Opening) (R : Link → Link → Type 0) (rule : IsKeptRule R) where
   abbrev q : IsQueueRule R
   q = rule.queue
 
@@ -207,26 +217,46 @@ module _ (o : Opening) (R : Link → Link → Type 0) (rule : IsCallRule R) wher
       by_refusal (Some refusal) = moved_none o R q b.links
       by_refusal None = by_conn (own_conn b p)
 
-  pub moved_call : (b : Box) (c : Call) → IsPlain c → Moves R b.links (after_call o b c).links
-  moved_call b (Takes effects numbers) none = absurd none
-  moved_call b (Puts p) none = moved_put b p
-  moved_call b (Stops ticket) none =
+  pub moved_kept : (b : Box) (c : Call) → IsKept c → Moves R b.links (after_call o b c).links
+  moved_kept b (Takes effects numbers) none = absurd none
+  moved_kept b (Puts p) none = moved_put b p
+  moved_kept b (Stops ticket) none =
       cond_both (is_running b ticket) (settle o (in_phase phase_stopped (ticket ∷ []) b)) b (λ (x : Box). Moves R b.links x.links) (λ is. moved_settled o R q (in_phase phase_stopped (ticket ∷ []) b)) (λ is. moved_none o R q b.links)
-  moved_call b (Nexts conn) none = absurd none
-  moved_call b (Writes conn) none =
+  moved_kept b (Nexts conn) none = absurd none
+  moved_kept b (Writes conn) none =
       let b' : Box = record b { links = at_link conn one_written b.links } in
       moved_by o R q b.links b'.links (settle o b').links (moved_at o R q conn one_written b.links rule.written) (moved_settled o R q b')
-  moved_call b (Hears conn exp_stat_sn tag) none =
+  moved_kept b (Hears conn exp_stat_sn tag) none =
       let b' : Box = record b { links = at_link conn (link_heard exp_stat_sn tag) b.links } in
       moved_by o R q b.links b'.links (settle o b').links (moved_at o R q conn (link_heard exp_stat_sn tag) b.links (rule.heard exp_stat_sn tag)) (moved_settled o R q b')
-  moved_call b (Joins conn stat_sn) none =
+  moved_kept b (Joins conn stat_sn) none =
       cond_both (may_join b conn) (record b { links = at_link conn (link_joined stat_sn) b.links }) b (λ (x : Box). Moves R b.links x.links) (λ is. moved_at o R q conn (link_joined stat_sn) b.links (rule.joined stat_sn)) (λ is. moved_none o R q b.links)
-  moved_call b (Loses conn) none =
-      let lost : Box = record b { links = at_link conn link_lost b.links; reached = 0 } in
-      let dropped : Box = drop_on conn lost in
-      moved_by o R q b.links dropped.links (settle o dropped).links
-      (moved_by o R q b.links lost.links dropped.links (moved_at o R q conn link_lost b.links rule.lost) (moved_dropped o R q conn lost)) (moved_settled o R q dropped)
-  moved_call b (Clears unit) none = moved_settled o R q (record b { undue = cleared unit b.undue })
+  moved_kept b (Loses conn) none = absurd none
+  moved_kept b (Clears unit) none = moved_settled o R q (record b { undue = cleared unit b.undue })
+
+-- a connection is lost
+pub moved_lost : (o : Opening) (R T : Link → Link → Type 0) → IsQueueRule R → (conn : ℕ) → ((l m : Link) → (l.conn == conn) ≡ true → R (link_lost l) m → T l m) → ((l m : Link) → R l m → T l m) → (b : Box) → Moves T b.links (after_call o b (Loses conn)).links
+moved_lost o R T queue conn here there b =
+    let lost : Box = record b { links = at_link conn link_lost b.links; reached = 0 } in
+    let dropped : Box = drop_on conn lost in
+    let v : Moves R lost.links (settle o dropped).links = moved_by o R queue lost.links dropped.links (settle o dropped).links (moved_dropped o R queue conn lost) (moved_settled o R queue dropped) in
+    record {
+      by = λ l. v.by (cond (l.conn == conn) (link_lost l) l);
+      is = v.is ∙ map_twice (λ l. cond (l.conn == conn) (link_lost l) l) v.by b.links;
+      each = λ l. cond_both (l.conn == conn) (link_lost l) l (λ (x : Link). T l (v.by x)) (λ is. here l (v.by (link_lost l)) is (v.each (link_lost l))) (λ is. there l (v.by l) (v.each l));
+    }
+
+module _ (o : Opening) (R : Link → Link → Type 0) (rule : IsCallRule R) where
+  pub moved_call : (b : Box) (c : Call) → IsPlain c → Moves R b.links (after_call o b c).links
+  moved_call b (Takes effects numbers) none = absurd none
+  moved_call b (Puts p) none = moved_kept o R rule.kept b (Puts p) tt
+  moved_call b (Stops ticket) none = moved_kept o R rule.kept b (Stops ticket) tt
+  moved_call b (Nexts conn) none = absurd none
+  moved_call b (Writes conn) none = moved_kept o R rule.kept b (Writes conn) tt
+  moved_call b (Hears conn exp_stat_sn tag) none = moved_kept o R rule.kept b (Hears conn exp_stat_sn tag) tt
+  moved_call b (Joins conn stat_sn) none = moved_kept o R rule.kept b (Joins conn stat_sn) tt
+  moved_call b (Loses conn) none = moved_lost o R R rule.kept.queue conn (λ l m is r. rule.kept.queue.then l (link_lost l) m (rule.lost l) r) (λ l m r. r) b
+  moved_call b (Clears unit) none = moved_kept o R rule.kept b (Clears unit) tt
 
 -- a PDU is handed out, or none
 module _ (o : Opening) (R T : Link → Link → Type 0) (q : IsQueueRule R) (hands : (l m : Link) (h : Handed) → R l m → T l (record m { handed = m.handed ++ h ∷ [] })) (stays : (l m : Link) → R l m → T l m) where

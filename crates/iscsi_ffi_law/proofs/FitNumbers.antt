@@ -132,6 +132,14 @@ module _ (o : Opening) where
         max_is = g4.max_is ∙ g3.max_is ∙ g2.max_is ∙ g1.max_is;
       }
 
+  pub closed_sent : (b : Box) (item : List Effect) → (behind_close b item).sent ≡ b.sent
+  closed_sent b item =
+      let g1 = gone_before b item in
+      let g2 = gone_closed (executing item) (newly_closed b (closed_in b item)) (before_close b item) in
+      let a = g1.sent_is in
+      let c = g2.sent_is in
+      omega (arith, a, c)
+
   gone_items : (b : Box) (items : List (List Effect)) → Gone b (after_items o b items) (all_sends items) (all_sends items)
   gone_items b [] = gone_none b
   gone_items b (item ∷ items) = gone_then b (after_item o b item) (after_items o (after_item o b item) items) (sends item) (all_sends items) (sends item) (all_sends items) (gone_item b item) (gone_items (after_item o b item) items)

@@ -49,7 +49,7 @@ module _ (o : Opening) where
       by_first (Some sent) = refl
       by_first None = refl
 
-  event_sends : (now : ℕ) (t : Trace) (e : Event) → all_sends (in_parts (entry_of o.session now t e).effects) + at_once (after_items (items_of o.session now t e) t) ≤ at_once t + 1
+  pub event_sends : (now : ℕ) (t : Trace) (e : Event) → all_sends (in_parts (entry_of o.session now t e).effects) + at_once (after_items (items_of o.session now t e) t) ≤ at_once t + 1
   event_sends now t e = omega (arith, by_lead parts.lead (in_parts (entry_of o.session now t e).effects) parts.are, all_sent (effects_each o.session t (items_of o.session now t e)), less)
     where
       going : Going o.session never 1 t (items_of o.session now t e)
@@ -88,12 +88,14 @@ stays_queue = record { same = λ l. (refl, refl); queued = λ l queue. (refl, re
 pub stays_close : IsCloseRule Stays
 stays_close = record { queue = stays_queue; closed = λ l. (refl, refl); cut = λ l. (refl, refl) }
 
-stays_call : IsCallRule Stays
+pub stays_call : IsCallRule Stays
 stays_call = record {
-  queue = stays_queue;
-  written = λ l. cond_both (nat_lt l.written (length l.handed)) (record l { written = l.written + 1 }) l (Stays l) (λ may. (refl, refl)) (λ may. (refl, refl));
-  heard = λ exp_stat_sn tag l. cond_both (is_open l) (record l { arrived = max l.arrived (max (arrived_by_stat_sn l exp_stat_sn) (arrived_by_ping l tag)) }) l (Stays l) (λ may. (refl, refl)) (λ may. (refl, refl));
-  joined = λ stat_sn l. (refl, refl);
+  kept = record {
+    queue = stays_queue;
+    written = λ l. cond_both (nat_lt l.written (length l.handed)) (record l { written = l.written + 1 }) l (Stays l) (λ may. (refl, refl)) (λ may. (refl, refl));
+    heard = λ exp_stat_sn tag l. cond_both (is_open l) (record l { arrived = max l.arrived (max (arrived_by_stat_sn l exp_stat_sn) (arrived_by_ping l tag)) }) l (Stays l) (λ may. (refl, refl)) (λ may. (refl, refl));
+    joined = λ stat_sn l. (refl, refl);
+  };
   lost = λ l. (refl, refl);
 }
 

@@ -1,5 +1,5 @@
 -- What each part of a call keeps, every call keeps, with one call more.
-use Rattle.std.proofs.Common.{◌≡◌, ℕ, zero, suc, ◌+◌, ◌==◌, ◌&&◌, not, cond, Bool, true, false, List, [], ◌∷◌, ◌++◌, map, filter, length, Option, Some, None, refl, ap, sym, ◌∙◌}
+use Rattle.std.proofs.Common.{◌≡◌, ℕ, zero, suc, ◌+◌, ◌==◌, ◌&&◌, not, cond, Bool, true, false, List, [], ◌∷◌, ◌++◌, map, filter, length, Option, Some, None, refl, ap, sym, ◌∙◌, ◌≤◌, arith}
 use Rattle.std.proofs.lemmas.Bool.{cond_both, false≢true, and_parts}
 use Rattle.iscsi_history.specs.declared.event.Event.TheVariants.{Arrive, Done}
 use Rattle.iscsi_history.specs.rules.Agenda.{command_of}
@@ -20,12 +20,10 @@ use Rattle.iscsi_ffi_rules.specs.rules.Clearing.{TASK_ABORTED, next_withheld, st
 use Rattle.iscsi_ffi_rules.specs.rules.Happening.{Told, happening, happens, is_started, other, quiet, stop, withheld, withholding}
 use Rattle.iscsi_ffi_rules.specs.rules.Run.{Answered, Blocked, Goes, NoneGoes, NoneIsLeft, Refused, Stale, after_call, answers, arrive, asleep, called, clear, complete, cookie_handed, done, ended, heard_in, is_blocked, is_going, is_lost, lose, next, noted_with, parting, put, refusal_of, stopped, stops}
 use Rattle.iscsi_ffi_rules.specs.rules.Sides.{Asked, Noted, Side}
+use Rattle.iscsi_ffi_rules.specs.promises.Deeds.{side_after}
 use Rattle.iscsi_ffi_rules.proofs.SideWalks.{left_to_clear}
+use Rattle.iscsi_ffi_law.specs.Sides.{asking}
 use Rattle.std.proofs.Common.{eq-eqb}
-
--- the request that arrives now is asked for
-abbrev pub asking : Side → ℕ → Side
-asking s cookie = record s { asked = s.asked ++ record { event = s.both.event; cookie = cookie } ∷ [] }
 
 -- a call of the outbox that takes no event, and loses no connection
 abbrev pub IsSimple : outbox.Call → Type 0
@@ -174,3 +172,25 @@ module _ (i : Interface) (P : ℕ → Side → Type 0) (w : SideWalk i P) where
       let t : Told = (called i s c).told in
       let left : Side = (ended i t).side in
       w.beside (k + 1) (record t.side { asked = left.asked }) left.noted left.awake left.over (w.forgets (k + 1) t.side _ (on_called k s c h))
+
+-- ---- events don't come to fewer
+
+pub later_walk : (i : Interface) (m : ℕ) → SideWalk i (λ k s. m ≤ s.both.event)
+later_walk i m = record {
+  completes = λ k s ticket status c is h. omega (arith, h);
+  arrives = λ k s cid header cookie is h. omega (arith, h);
+  loses = λ k s cid known kept unclosed h. omega (arith, h);
+  loses_closed = λ k s cid known kept closed h. h;
+  calls = λ k s c simple h. h;
+  clears = λ k s unit h. h;
+  forgets = λ k s p h. h;
+  beside = λ k s noted awake over h. h;
+  more = λ k s h. h;
+}
+
+pub no_fewer : (i : Interface) (r : Side) (c : Call) → r.both.event ≤ (after_call i r c).told.side.both.event
+no_fewer i r c = on_call i (λ k s. r.both.event ≤ s.both.event) (later_walk i r.both.event) 0 r c (omega arith)
+
+pub no_fewer_then : (i : Interface) (r : Side) (cs : List Call) → r.both.event ≤ (side_after i r cs).both.event
+no_fewer_then i r [] = omega arith
+no_fewer_then i r (c ∷ cs) = omega (arith, no_fewer i r c, no_fewer_then i (after_call i r c).told.side cs)

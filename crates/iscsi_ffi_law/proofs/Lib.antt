@@ -81,4 +81,16 @@ mod FitNumbers
 mod FitHeard
 mod FitSides
 mod FitWalks
+mod FitClosed
+mod FitLives
+mod FitArrivals
+mod FitFollows
+mod FitPlaces
+mod FitParting
+mod FitJoined
+mod FitReplies
+mod FitRefusals
+mod FitHolds
+mod FitFacts
+mod FitPremises
 mod FitAll

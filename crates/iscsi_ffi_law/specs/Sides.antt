@@ -1,14 +1,26 @@
 -- What holds of the rules' side, whatever calls come: where its options are valid, and the list isn't longer than words count.
-use Rattle.std.specs.Prelude.{◌≡◌, ◌<◌, ◌≤◌, ◌^◌, true, List, [], ◌∷◌, length}
-use Rattle.iscsi_history.specs.rules.Settings.{is_valid}
-use Rattle.iscsi_outbox_rules.specs.promises.Room.{is_other}
+use Rattle.std.specs.Prelude.{◌≡◌, ◌<◌, ◌≤◌, ◌-◌, ◌^◌, ◌&&◌, ◌++◌, ℕ, true, false, List, [], ◌∷◌, length, None, if◌then◌else◌}
+use Rattle.iscsi_history.specs.declared.event.Event.TheVariants.{Arrive}
+use Rattle.iscsi_history.specs.promises.Order.{in_parts}
+use Rattle.iscsi_history.specs.rules.Settings.{is_known, is_valid}
+use Rattle.iscsi_history.specs.rules.Trace.{is_closed, live}
+use Rattle.iscsi_outbox_rules.specs.promises.Room.{is_other, places}
+use Rattle.iscsi_outbox_rules.specs.rules.Boxes.{Handed, Link}
 use Rattle.iscsi_outbox_rules.specs.rules.Calls as outbox
 use Rattle.iscsi_outbox_rules.specs.rules.Run.{after_call as after_box_call}
+use Rattle.iscsi_outbox_rules.specs.rules.Words.{contains, replies_waiting}
+use Rattle.iscsi_outbox_law.specs.Pairs.{EachOf}
+use Rattle.iscsi_outbox_law.specs.Sound.{NoneIsFresh}
 use Rattle.iscsi_ffi_rules.specs.promises.Deeds.{side_of}
-use Rattle.iscsi_ffi_rules.specs.rules.Calls.{Call, Interface}
-use Rattle.iscsi_ffi_rules.specs.rules.Run.{after_call}
+use Rattle.iscsi_ffi_rules.specs.rules.Calls.{Arrives, Call, Completes, Interface, Loses, Stops}
+use Rattle.iscsi_ffi_rules.specs.rules.Clearing.{TASK_ABORTED}
+use Rattle.iscsi_ffi_rules.specs.rules.Happening.{happening, other}
+use Rattle.iscsi_ffi_rules.specs.rules.Run.{after_call, heard_in, is_going, is_lost, parting, refusal_of}
 use Rattle.iscsi_ffi_rules.specs.rules.Sides.{Side}
-use Rattle.iscsi_ffi_law.specs.Fit.{IsFit}
+use Rattle.iscsi_ffi_law.specs.Arrived.{AreBefore, AreItemsFit, IsArrivalFit, arrive_call, effects_then}
+use Rattle.iscsi_ffi_law.specs.Done.{AllDone, AreDoneFit, IsRegular}
+use Rattle.iscsi_ffi_law.specs.Fit.{IsFit, IsOrderly}
+use Rattle.iscsi_ffi_law.specs.Parts.{IsBefore}
 
 -- the options that a side is opened with are within their limits
 pub record IsOpening (i : Interface) : Type 0 where
@@ -21,14 +33,51 @@ pub record IsShort (i : Interface) (calls : List Call) : Type 0 where
   pub few : (side_of i calls).both.event ≤ 2 ^ 30
   pub events : (side_of i calls).both.event ≤ i.outbox.session.events
 
--- between the calls
+-- ---- between the calls
+
 pub record IsSideFit (i : Interface) (r : Side) : Type 0 where
   pub fit : IsFit i r.both.box r.both.box
   -- whichever call of the outbox comes that takes no event
   pub leaves : (c : outbox.Call) → is_other c ≡ true → IsFit i r.both.box (after_box_call i.outbox r.both.box c)
   pub sent : r.both.box.sent < 2 ^ 64
+  pub orderly : IsOrderly r
+  pub regular : IsRegular i r
+  pub before : AreBefore r
 
--- before each call, and behind the last one
+-- ---- in a call
+
+-- the request that arrives now is asked for
+abbrev pub asking : Side → ℕ → Side
+asking s cookie = record s { asked = s.asked ++ record { event = s.both.event; cookie = cookie } ∷ [] }
+
+-- a request that isn't refused arrives, and behind it commands that are withheld then complete
+pub record IsTakenFit (i : Interface) (r : Side) (cid : ℕ) (header : List ℕ) (cookie : ℕ) : Type 0 where
+  pub fit : IsArrivalFit i r cid header
+  pub withheld : let w = happening i (asking (heard_in i r cid header) cookie) (Arrive cid header) in AreDoneFit i (length (live w.side.both.trace)) w
+
+-- so it is as the session hears that a connection was lost. All places for replies may be taken: its answer goes nowhere
+pub record IsPartingFit (i : Interface) (r : Side) (cid : ℕ) : Type 0 where
+  pub fit : IsFit i r.both.box (after_box_call i.outbox r.both.box (arrive_call i r cid (parting cid)))
+  pub items : AreItemsFit i.outbox r.both.box (in_parts (effects_then i r cid (parting cid)))
+  pub stale : NoneIsFresh r.both.box
+  pub events : r.both.event < i.outbox.session.events
+  pub sent : r.both.box.sent < 2 ^ 64 - 1
+  pub replies : replies_waiting r.both.box ≤ places i.outbox
+  pub handed : EachOf (λ (l : Link). EachOf (λ (h : Handed). IsBefore r.both.box.sent h.out.sent) l.handed) r.both.box.links
+
+-- a connection is lost that isn't closed
+pub record IsLossFit (i : Interface) (r : Side) (cid : ℕ) : Type 0 where
+  pub fit : IsPartingFit i (other i r (outbox.Loses cid)) cid
+  pub withheld : let w = happening i (other i r (outbox.Loses cid)) (Arrive cid (parting cid)) in AreDoneFit i (length (live w.side.both.trace)) w
+
+abbrev pub IsCallFit : Interface → Side → Call → Type 0
+IsCallFit i r (Arrives cid header cookie) = refusal_of i r cid ≡ None → IsTakenFit i r cid header cookie
+IsCallFit i r (Completes ticket status) = is_going r ticket ≡ true → AllDone i r ticket (if contains r.marked ticket then TASK_ABORTED else status)
+IsCallFit i r (Stops ticket) = (is_going r ticket && contains r.marked ticket) ≡ true → AllDone i r ticket TASK_ABORTED
+IsCallFit i r (Loses cid) = is_known cid i.outbox.session.conns ≡ true → is_lost r cid ≡ false → is_closed cid r.both.trace ≡ false → IsLossFit i r cid
+IsCallFit i r _ = Unit {0}
+
+-- before each call, in it, and behind the last one
 abbrev pub AreFitFrom : Interface → Side → List Call → Type 0
 AreFitFrom i r [] = IsSideFit i r
-AreFitFrom i r (c ∷ cs) = IsSideFit i r × AreFitFrom i (after_call i r c).told.side cs
+AreFitFrom i r (c ∷ cs) = IsSideFit i r × IsCallFit i r c × AreFitFrom i (after_call i r c).told.side cs

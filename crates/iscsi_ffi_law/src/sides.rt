@@ -5,7 +5,9 @@ ghost use Rattle.iscsi_ffi_law.specs.Sides.{AreFitFrom, IsOpening, IsShort};
 ghost use Rattle.iscsi_ffi_rules.specs.rules.Calls.{Call, Interface};
 ghost use Rattle.iscsi_ffi_rules.specs.rules.Sides.{opened};
 
-/// Whatever calls come: the box of a side holds together and has room before each of them, and behind each call of the outbox that takes no event.
+/// What the laws of the calls premise of the rules' side alone holds of each call, whatever calls came before, where the options are within their
+/// limits and the list isn't too long (`IsShort`): before each call its box holds together and has room, also behind each call of the outbox that
+/// takes no event, and the session and the outbox go together (`IsSideFit`); and so it is at each event of the call (`IsCallFit`).
 pub fn fits_law()
     ensures fits { (i : Interface) (calls : List Call) → IsOpening i → IsShort i calls → AreFitFrom i (opened i) calls }
 {}
