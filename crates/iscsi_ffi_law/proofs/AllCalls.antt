@@ -23,7 +23,7 @@ use Rattle.iscsi_ffi_law.proofs.Stopping.{completes_alike, stops_alike}
 use Rattle.iscsi_ffi_law.proofs.Writing.{writes_alike}
 
 module _ (i : Interface) where
-  goes : (s : StepsSide) (r : Side) (c : Call) → Stands i s r → Meets i s r c → GoesAlike i s r c
+  pub goes : (s : StepsSide) (r : Side) (c : Call) → Stands i s r → Meets i s r c → GoesAlike i s r c
   goes s r (Arrives cid header cookie) h m =
       ⊎_elim
       (λ k. arrives_refused i s r h (found_fit i r.both.box (after_box_call i.outbox r.both.box (outbox.Hears cid 0 0)) k.0) cid header cookie k.1.0 k.1.1)

@@ -30,6 +30,7 @@ use Rattle.iscsi_ffi_law.proofs.Members.{Passing, any_in, each_in, in_any, two_c
 
 pub record AreLimits (o : Setting) : Type 0 where
   pub window : o.window ≤ 1024
+  pub least : 1 ≤ o.window
   pub conns : length o.conns ≤ 64
   pub some : 1 ≤ length o.conns
   pub distinct : are_distinct o.conns ≡ true
@@ -45,7 +46,7 @@ limits i opening =
     let v = and_parts (is_within o.window 1024) (is_within o.units 256) u.0 in
     let w = and_parts (nat_le 1 o.window) (nat_le o.window 1024) v.0 in
     let x = and_parts (nat_le 1 (length o.conns)) (nat_le (length o.conns) 64) q.1 in
-    record { window = leb-true o.window 1024 w.1; conns = leb-true (length o.conns) 64 x.1; some = leb-true 1 (length o.conns) x.0; distinct = p.1 }
+    record { window = leb-true o.window 1024 w.1; least = leb-true 1 o.window w.0; conns = leb-true (length o.conns) 64 x.1; some = leb-true 1 (length o.conns) x.0; distinct = p.1 }
 
 -- ---- where a command is
 

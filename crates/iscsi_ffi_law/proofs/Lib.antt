@@ -93,4 +93,13 @@ mod FitRefusals
 mod FitHolds
 mod FitFacts
 mod FitPremises
+mod FitSteps
+mod FitStepCalls
+mod FitPlaced
+mod FitSizes
+mod FitSized
+mod FitUsed
+mod FitFree
+mod FitRoom
 mod FitAll
+mod FitAlike

@@ -8,3 +8,4 @@ pub mod Arrived
 pub mod Alike
 pub mod Lists
 pub mod Sides
+pub mod Left

@@ -26,6 +26,8 @@ use Rattle.iscsi_ffi_law.specs.Parts.{IsBefore}
 pub record IsOpening (i : Interface) : Type 0 where
   pub session : is_valid i.outbox.session ≡ true
   pub first : i.outbox.session.first < 2 ^ 32
+  pub own : i.outbox.own ≤ 1024
+  pub unwritten : i.unwritten ≤ 1024
 
 -- not too many calls come, and the session takes not too many events by them: no more than its options allow, and 2^30 at the most
 pub record IsShort (i : Interface) (calls : List Call) : Type 0 where

@@ -1,0 +1,73 @@
+-- The calls of a list go alike, by what holds of both sides.
+use Rattle.std.proofs.Common.{◌≡◌, ℕ, ◌+◌, ◌&&◌, inl, inr, ⊎_elim, Bool, true, false, List, [], ◌∷◌, Option, Some, None, refl}
+use Rattle.iscsi_history.specs.rules.Settings.{is_known}
+use Rattle.iscsi_history.specs.rules.Trace.{is_closed}
+use Rattle.iscsi_outbox_rules.specs.rules.Calls as outbox
+use Rattle.iscsi_outbox_rules.specs.rules.Words.{contains}
+use Rattle.iscsi_ffi_rules.specs.declared.refusal.Refusal.{Refusal}
+use Rattle.iscsi_ffi_rules.specs.rules.Calls.{Arrives, Call, Cleared, Clears, Completes, Hears, Interface, Joins, Loses, Nexts, Puts, Stops, Writes}
+use Rattle.iscsi_ffi_rules.specs.rules.Run.{after_call, is_going, is_lost, refusal_of}
+use Rattle.iscsi_ffi_rules.specs.rules.Sides.{Side, opened}
+use Rattle.iscsi_ffi_steps.specs.Steps.{Side as StepsSide, after, begun, called, ended}
+use Rattle.iscsi_ffi_law.specs.Alike.{GoesAlike}
+use Rattle.iscsi_ffi_law.specs.Left.{Left, LeftFrom}
+use Rattle.iscsi_ffi_law.specs.Lists.{AreAlike, Meets}
+use Rattle.iscsi_ffi_law.specs.Sides.{AreFitFrom, IsCallFit, IsOpening, IsShort, IsSideFit}
+use Rattle.iscsi_ffi_law.specs.Stands.{Stands}
+use Rattle.iscsi_ffi_law.proofs.AllCalls.{goes}
+use Rattle.iscsi_ffi_law.proofs.FitAll.{all_fit}
+use Rattle.iscsi_ffi_law.proofs.FitFacts.{limits}
+use Rattle.iscsi_ffi_law.proofs.FitHolds.{Holds, holds_begun, holds_walk}
+use Rattle.iscsi_ffi_law.proofs.FitRoom.{free_always, free_taken, placed, room_to_tell, uses_few}
+use Rattle.iscsi_ffi_law.proofs.FitSized.{AreSized, sized_begun, sized_step}
+use Rattle.iscsi_ffi_law.proofs.FitWalks.{on_call}
+use Rattle.iscsi_ffi_law.proofs.Opened.{stands_begun}
+
+module _ (i : Interface) (opening : IsOpening i) where
+  module _ (n : ℕ) (s : StepsSide) (r : Side) (st : Stands i s r) (z : AreSized i s.state) (h : Holds i n r) (fit : IsSideFit i r) where
+    meets_arrival : (cid : ℕ) (header : List ℕ) (cookie : ℕ) → IsCallFit i r (Arrives cid header cookie) → Left i s r (Arrives cid header cookie) → (x : Option Refusal) → refusal_of i r cid ≡ x → Meets i s r (Arrives cid header cookie)
+    meets_arrival cid header cookie call left (Some why) is = inl (fit.leaves (outbox.Hears cid 0 0) refl, (why, is))
+    meets_arrival cid header cookie call left None is =
+        let room = free_taken i opening n s r st z h cid is in
+        ⊎_elim (λ k. inr (inl (record { fit = (call is).fit; taken = is; room = room; is = k })))
+        (λ more. ⊎_elim (λ k. inr (inr (inl (record { fit = (call is).fit; taken = is; room = room; is = k; placed = placed i opening n s r st z h }))))
+        (λ k. inr (inr (inr k))) more) (left is)
+
+    meets_completed : (ticket status : ℕ) → IsCallFit i r (Completes ticket status) → (v : Bool) → is_going r ticket ≡ v → Meets i s r (Completes ticket status)
+    meets_completed ticket status call true is = inr (is, call is)
+    meets_completed ticket status call false is = inl (fit.leaves (outbox.Stops ticket) refl, is)
+
+    meets_stopped : (ticket : ℕ) → IsCallFit i r (Stops ticket) → (v : Bool) → (is_going r ticket && contains r.marked ticket) ≡ v → Meets i s r (Stops ticket)
+    meets_stopped ticket call true is = inr (is, call is)
+    meets_stopped ticket call false is = inl (fit.leaves (outbox.Stops ticket) refl, is)
+
+    meets_loss : (cid : ℕ) → Left i s r (Loses cid) → (u v w : Bool) → is_known cid i.outbox.session.conns ≡ u → is_lost r cid ≡ v → is_closed cid r.both.trace ≡ w → Meets i s r (Loses cid)
+    meets_loss cid left false v w known lost closed = inl (fit.leaves (outbox.Hears cid 0 0) refl, inl known)
+    meets_loss cid left true true w known lost closed = inl (fit.leaves (outbox.Hears cid 0 0) refl, inr lost)
+    meets_loss cid left true false true known lost closed = inr (inl (record { leaves = fit.leaves (outbox.Loses cid) refl; orderly = fit.orderly; closed = closed; known = known; kept = lost }))
+    meets_loss cid left true false false known lost closed = inr (inr (left known lost closed))
+
+    meets : (c : Call) → IsCallFit i r c → Left i s r c → Meets i s r c
+    meets (Arrives cid header cookie) call left = meets_arrival cid header cookie call left (refusal_of i r cid) refl
+    meets (Completes ticket status) call left = meets_completed ticket status call (is_going r ticket) refl
+    meets (Stops ticket) call left = meets_stopped ticket call (is_going r ticket && contains r.marked ticket) refl
+    meets (Nexts cid) call left = (fit.leaves (outbox.Nexts cid) refl, uses_few i opening n s r st z h, fit.sent)
+    meets (Puts p cookie) call left = (fit.leaves (outbox.Puts p) refl, fit.orderly, ⊎_elim (λ spare. free_always i opening n s r st z h spare) (λ free. free) left)
+    meets (Writes cid) call left = fit.leaves (outbox.Writes cid) refl
+    meets (Hears cid exp_stat_sn tag) call left = fit.leaves (outbox.Hears cid exp_stat_sn tag) refl
+    meets (Joins cid stat_sn) call left = fit.leaves (outbox.Joins cid stat_sn) refl
+    meets (Loses cid) call left = meets_loss cid left (is_known cid i.outbox.session.conns) (is_lost r cid) (is_closed cid r.both.trace) refl refl refl
+    meets (Clears unit) call left = record { fit = fit.fit; room = room_to_tell i opening n s r st z h }
+    meets (Cleared unit) call left = fit.leaves (outbox.Clears unit) refl
+
+  alike_from : (n : ℕ) (s : StepsSide) (r : Side) (calls : List Call) → Stands i s r → AreSized i s.state → Holds i n r → AreFitFrom i r calls → LeftFrom i s r calls → AreAlike i s r calls
+  alike_from n s r [] st z h fit left = tt
+  alike_from n s r (c ∷ cs) st z h fit left =
+      let g : GoesAlike i s r c = goes i s r c st (meets n s r st z h fit.0 c fit.1 left.0) in (
+        g.answer,
+        g.tells,
+        alike_from (n + 1) (after (ended (called i c s).going)) (after_call i r c).told.side cs g.stands (sized_step i s c z) (on_call i (Holds i) (holds_walk i (limits i opening).distinct) n r c h) fit.2 left.1,
+      )
+
+pub all_alike : (i : Interface) (calls : List Call) → IsOpening i → IsShort i calls → LeftFrom i (begun i) (opened i) calls → AreAlike i (begun i) (opened i) calls
+all_alike i calls opening short left = alike_from i opening 0 (begun i) (opened i) calls (stands_begun i) (sized_begun i) (holds_begun i) (all_fit i calls opening short) left
