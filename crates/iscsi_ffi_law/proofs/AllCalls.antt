@@ -9,7 +9,7 @@ use Rattle.iscsi_ffi_steps.specs.Steps.{Side as StepsSide, after, begun, called,
 use Rattle.iscsi_ffi_law.specs.Alike.{GoesAlike}
 use Rattle.iscsi_ffi_law.specs.Lists.{AreAlike, MeetFrom, Meets}
 use Rattle.iscsi_ffi_law.specs.Stands.{Stands}
-use Rattle.iscsi_ffi_law.proofs.Arrivals.{arrives_alike, enters_alike}
+use Rattle.iscsi_ffi_law.proofs.Arrivals.{arrives_alike}
 use Rattle.iscsi_ffi_law.proofs.DoneCalls.{done_alike, stopped_alike}
 use Rattle.iscsi_ffi_law.proofs.Ends.{found_fit}
 use Rattle.iscsi_ffi_law.proofs.Losing.{loses_closed}
@@ -27,7 +27,7 @@ module _ (i : Interface) where
   goes s r (Arrives cid header cookie) h m =
       ⊎_elim
       (λ k. arrives_refused i s r h (found_fit i r.both.box (after_box_call i.outbox r.both.box (outbox.Hears cid 0 0)) k.0) cid header cookie k.1.0 k.1.1)
-      (λ m'. ⊎_elim (λ k. arrives_alike i s r h cid header cookie k.fit k.taken k.room k.is) (λ m''. ⊎_elim (λ k. enters_alike i s r h cid header cookie k.fit k.taken k.room k.is k.placed) (λ k. k h) m'') m') m
+      (λ m'. ⊎_elim (λ k. arrives_alike i s r h cid header cookie k.fit k.taken k.room k.placed k.plain) (λ k. k h) m') m
   goes s r (Completes ticket status) h m = ⊎_elim (λ k. completes_alike i s r h ticket k.0 status k.1) (λ k. done_alike i s r h ticket status k.0 k.1) m
   goes s r (Stops ticket) h m = ⊎_elim (λ k. stops_alike i s r h ticket k.0 k.1) (λ k. stopped_alike i s r h ticket k.0 k.1) m
   goes s r (Nexts cid) h m = nexts_alike i s r h cid m.0 m.1 m.2

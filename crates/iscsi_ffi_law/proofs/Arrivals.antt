@@ -1,5 +1,5 @@
 -- A request is taken: what becomes of it goes alike.
-use Rattle.std.proofs.Common.{◌≡◌, ℕ, ⊎_elim, true, List, [], ◌∷◌, ◌++◌, Option, Some, None, is_some, refl, ap, sym, subst, ◌∙◌}
+use Rattle.std.proofs.Common.{◌≡◌, ℕ, true, List, [], ◌∷◌, ◌++◌, Option, Some, None, is_some, refl, ap, sym, subst, ◌∙◌}
 use Rattle.std.proofs.lemmas.Bool.{false≢true}
 use Rattle.iscsi_history.specs.declared.event.Event.TheVariants.{Arrive}
 use Rattle.iscsi_history.specs.rules.Trace.{Trace}
@@ -14,19 +14,17 @@ use Rattle.iscsi_ffi_steps.specs.Steps.{Answered, Going, Side as StepsSide, arri
 use Rattle.iscsi_ffi_steps.specs.Steps as steps
 use Rattle.iscsi_ffi_steps.specs.Walk.{in_state}
 use Rattle.iscsi_ffi_law.specs.Alike.{GoesAlike}
-use Rattle.iscsi_ffi_law.specs.Arrived.{IsArrivalFit, IsEntered, IsPlaced, IsTaken}
+use Rattle.iscsi_ffi_law.specs.Arrived.{IsArrivalFit, IsPlaced, IsPlainArrival}
 use Rattle.iscsi_ffi_law.specs.Stands.{Stands}
 use Rattle.iscsi_ffi_law.proofs.ArriveOpens.{IsFoundAt, names_open, opens_at, side_open, state_open}
 use Rattle.iscsi_ffi_law.proofs.Ends.{GoesTo, found_fit}
 use Rattle.iscsi_ffi_law.proofs.Refusing.{refused_same}
-use Rattle.iscsi_ffi_law.proofs.EnterWalks.{goes_entered}
-use Rattle.iscsi_ffi_law.proofs.ArriveCalls.{goes_answered, goes_done, goes_over, goes_rejected}
-use Rattle.iscsi_ffi_law.proofs.ArriveHeld.{goes_delivered, goes_delivered_answered, goes_held}
+use Rattle.iscsi_ffi_law.proofs.ArriveLaw.{arrives_to}
 
 -- ---- the call
 
--- what becomes of a request that is taken, as far as this is proved
-module _ (i : Interface) (s : StepsSide) (r : Side) (h : Stands i s r) (cid : ℕ) (header : List ℕ) (cookie : ℕ) (fit : IsArrivalFit i r cid header) (none : rules.refusal_of i r cid ≡ None) (room : is_some (next_place s.state.cookies) ≡ true) where
+module _ (i : Interface) (s : StepsSide) (r : Side) (h : Stands i s r) (cid : ℕ) (header : List ℕ) (cookie : ℕ) (fit : IsArrivalFit i r cid header) (none : rules.refusal_of i r cid ≡ None) (room : is_some (next_place s.state.cookies) ≡ true)
+    (placed : (place : ℕ) → next_place s.state.cookies ≡ Some place → IsPlaced s.state place) where
   pub record Free : Type 0 where
     pub place : ℕ
     pub is : next_place s.state.cookies ≡ Some place
@@ -41,11 +39,14 @@ module _ (i : Interface) (s : StepsSide) (r : Side) (h : Stands i s r) (cid : �
   abbrev place : ℕ
   place = free_place.place
 
+  within : IsPlaced s.state free_place.place
+  within = placed free_place.place free_place.is
+
   abbrev s1 : State
-  s1 = state_open i s r h cid header cookie fit free_place.place free_place.is
+  s1 = state_open i s r h cid header cookie fit free_place.place free_place.is within
 
   abbrev r1 : Side
-  r1 = side_open i s r h cid header cookie fit free_place.place free_place.is
+  r1 = side_open i s r h cid header cookie fit free_place.place free_place.is within
 
   abbrev opened : Going
   opened = record { event = r.both.event; trace = r.both.trace; doing = record { state = s1; actions = []; forgets = [] } }
@@ -80,42 +81,8 @@ module _ (i : Interface) (s : StepsSide) (r : Side) (h : Stands i s r) (cid : �
       = subst (λ (x : Answered). GoesTo i x (rules.arrive i r cid header cookie)) (sym by_steps) (subst (GoesTo i (done (arriving i cid header (Some free_place.place) opened))) (sym by_rules) g) in
       record { answer = e.answer; tells = e.tells; stands = e.stands }
 
-  found_there : IsFoundAt i (names_open i s r h cid header cookie fit free_place.place free_place.is) h.notes s1 r1 cid header free_place.place
-  found_there = opens_at i s r h cid header cookie fit free_place.place free_place.is
+  found_there : IsFoundAt i (names_open i s r h cid header cookie fit free_place.place free_place.is within) h.notes s1 r1 cid header free_place.place
+  found_there = opens_at i s r h cid header cookie fit free_place.place free_place.is within
 
-  pub arrives_alike : IsTaken i (rules.heard_in i r cid header) cid header → GoesAlike i s r (Arrives cid header cookie)
-  arrives_alike k =
-      arrives_as (⊎_elim
-      (λ over. goes_over i _ h.notes s1 r1 cid header place found_there over)
-      (λ others. ⊎_elim
-      (λ reject. goes_rejected i _ h.notes s1 r1 cid header place found_there reject)
-      (λ more. ⊎_elim
-      (λ over. goes_done i _ h.notes s1 r1 cid header place found_there over)
-      (λ fourth. ⊎_elim
-      (λ answer. goes_answered i _ h.notes s1 r1 cid header place found_there answer)
-      (λ fifth. ⊎_elim
-      (λ holds. goes_held i _ h.notes s1 r1 cid header place found_there holds)
-      (λ sixth. ⊎_elim
-      (λ delivers. goes_delivered i _ h.notes s1 r1 cid header place found_there delivers)
-      (λ answers. goes_delivered_answered i _ h.notes s1 r1 cid header place found_there answers) sixth) fifth) fourth) more) others) k)
-
-  -- a command enters
-  pub enters_alike : IsEntered i (rules.heard_in i r cid header) cid header → ((place : ℕ) → next_place s.state.cookies ≡ Some place → IsPlaced s.state place) → GoesAlike i s r (Arrives cid header cookie)
-  enters_alike k counted =
-      let n : IsPlaced s.state free_place.place = counted free_place.place free_place.is in
-      arrives_as (goes_entered i _ h.notes s1 r1 cid header place found_there
-      (record {
-        numbered = k.numbered;
-        first = k.first;
-        command = k.command;
-        arrival = k.arrival;
-        next = k.next;
-        unit = k.unit;
-        items = k.items;
-        fresh = record { unentered = k.fresh.unentered; unleft = k.fresh.unleft; untold = k.fresh.untold; unmarked = k.fresh.unmarked };
-        idle = k.idle;
-        few = k.few;
-        started = k.started;
-        calm = k.calm;
-      })
-      (record { low = n.low; high = n.high }))
+  pub arrives_alike : IsPlainArrival i (rules.heard_in i r cid header) cid header → GoesAlike i s r (Arrives cid header cookie)
+  arrives_alike k = arrives_as (arrives_to i _ h.notes s1 r1 cid header place found_there (record { plain = k.plain; started = k.started; calm = k.calm }))

@@ -29,15 +29,18 @@ use Rattle.iscsi_ffi_steps.specs.Steps.{Going, happening, start_each}
 use Rattle.iscsi_ffi_steps.specs.Walk.{Doing}
 use Rattle.iscsi_ffi_law.specs.Done.{IsRegular}
 use Rattle.iscsi_ffi_law.specs.Names.{Name, Note}
-use Rattle.iscsi_ffi_law.specs.Parts.{IsCommand, IsConn, IsNote, IsRequest, is_named}
+use Rattle.iscsi_requests.specs.Numbers.{size_for}
+use Rattle.iscsi_ffi_law.specs.Parts.{AreHeld, IsCommand, IsConn, IsNote, IsRequest, is_named}
 use Rattle.iscsi_ffi_law.specs.Stands.{AreCounts, AreFlags, AreRequests, AreSizes}
+use Rattle.iscsi_ffi_law.proofs.Between.{held_same}
+use Rattle.iscsi_ffi_law.proofs.Slots.{slots_same}
 use Rattle.iscsi_ffi_law.proofs.Doing.{happening_is, starts_now}
 use Rattle.iscsi_ffi_law.proofs.DoneBox.{IsFound, b, entered_there, fit_after, last_after, lives_now, p, stands_after}
 use Rattle.iscsi_ffi_law.proofs.DoneCounts.{fewer_barred}
 use Rattle.iscsi_ffi_law.proofs.DoneHeld.{held_of, merged}
 use Rattle.iscsi_ffi_law.proofs.DoneRequests.{done_side, live_named_done, requests_done}
 use Rattle.iscsi_ffi_law.proofs.DoneRules.{side_after}
-use Rattle.iscsi_ffi_law.proofs.DoneShape.{done_trace, entered_same, filter_counted, left_too, news, tickets_of}
+use Rattle.iscsi_ffi_law.proofs.DoneShape.{done_item, done_trace, entered_same, filter_counted, left_too, news, tickets_of}
 use Rattle.iscsi_ffi_law.proofs.DoneWalk.{outbox_after, state_done}
 use Rattle.iscsi_ffi_law.proofs.Ends.{EndsAlike}
 use Rattle.iscsi_ffi_law.proofs.Finish.{IsAtEnd, stands_ended, tells_alike}
@@ -56,6 +59,7 @@ pub record IsMid (i : Interface) (names : List Name) (notes : List Note) (s : St
   pub flags : AreFlags i s r
   pub counts : AreCounts i s r
   pub regular : IsRegular i r
+  pub slots : AreHeld (size_for i.outbox.session.window) s.commands.room names s.held r.both.trace
   pub held : s.withheld ≡ tickets_of (held_of r)
   pub room : length acts + count_by (λ (c : RulesCommand). not (was_free c r.both.trace)) (live r.both.trace) ≤ places i.outbox
   pub sound : IsSound i.outbox r.both.box
@@ -149,8 +153,9 @@ module _ (i : Interface) (names : List Name) (notes : List Note) (s : State) (r 
       (ap not (lives_now i names notes s r d status f)) in
       omega (arith, after, same, before, lost)
 
-  pub mid_then : IsMid i names notes state_then (side_after i names notes s r d status f) acts_then
-  mid_then = record {
+  pub mid_then : AreHeld (size_for i.outbox.session.window) s.commands.room names s.held r.both.trace → IsMid i names notes state_then (side_after i names notes s r d status f) acts_then
+  mid_then slots = record {
+    slots = slots_same (size_for i.outbox.session.window) s.commands.room names s.held r.both.trace (done_trace r.both.trace d status) (held_same r.both.trace (done_item d status) (record { admits = refl; admits_none = λ n. refl; delivers = λ n. refl; empties = λ n. refl })) slots;
     requests = requests_done i names notes s r d status f (r.told ++ tickets_of (starting_of (done_side i names notes s r d status f) (news i.outbox.session r.both.trace d status)))
         (all_inserted (tickets_of (withheld_of (done_side i names notes s r d status f) (news i.outbox.session r.both.trace d status))) s.withheld) k.items k.have;
     outbox = stands_after i names notes s r d status f;
@@ -200,6 +205,7 @@ mid_ends i names notes s r acts m distinct none = record {
       flags = m.flags;
       requests = m.requests;
       counts = m.counts;
+      slots = m.slots;
       withheld = m.held ∙ ap tickets_of none;
       calm = ap first_of none;
     }

@@ -74,6 +74,7 @@ moved_ends i s r h o b fit stands tracked runs moved =
       counts = record { units = h.counts.units; last = h.counts.last; tracked = tracked };
       withheld = h.withheld;
       calm = h.calm;
+      slots = h.slots;
     }) fit.some (record { event = s.event; trace = s.trace; doing = record { state = with_outbox s.state o; actions = []; forgets = [] } }) refl h.event h.trace
 
 -- several uses have ended

@@ -1,5 +1,5 @@
 -- From the end of what a call does to its end.
-use Rattle.std.proofs.Common.{◌≡◌, ℕ, ◌+◌, ◌*◌, ◌≤◌, ◌==◌, ◌&&◌, not, cond, Bool, true, false, List, [], ◌++◌, length, map, count_by, filter, Option, refl, ap, sym, subst, ◌∙◌, arith, length-append, None}
+use Rattle.std.proofs.Common.{◌≡◌, ℕ, ◌+◌, ◌*◌, ◌≤◌, ◌==◌, ◌&&◌, not, cond, Bool, true, false, List, [], ◌++◌, length, map, count_by, filter, Option, refl, ap, sym, subst, ◌∙◌, arith, length-append, None, lt-ltb}
 use Rattle.std.specs.List.{list_any}
 use Rattle.std.proofs.lemmas.List.{length-map}
 use Rattle.std.proofs.lemmas.List.Elements.{filter_agree}
@@ -23,6 +23,7 @@ use Rattle.iscsi_outbox_law.proofs.Giving.{gives_answered}
 use Rattle.iscsi_outbox_steps.specs.State.{Limits}
 use Rattle.iscsi_outbox_steps.specs.Steps.{is_running_ticket}
 use Rattle.iscsi_requests.specs.Cookies.{Cookies}
+use Rattle.iscsi_requests.specs.Numbers.{size_for}
 use Rattle.iscsi_ffi_rules.specs.declared.action.Action.{Action}
 use Rattle.iscsi_ffi_rules.specs.declared.action.Action.TheVariants.{Ready, Close, Forget}
 use Rattle.iscsi_ffi_rules.specs.promises.Words.{is_forget}
@@ -39,6 +40,8 @@ use Rattle.iscsi_ffi_steps.specs.Steps.{Going, after, close_each, ended, gives, 
 use Rattle.iscsi_ffi_steps.specs.Walk.{Doing}
 use Rattle.iscsi_ffi_law.specs.Alike.{AreForgets, SameForgets, TellAlike, is_any_forget}
 use Rattle.iscsi_ffi_law.specs.Names.{Name, Note, asked_of, noted_of}
+use Rattle.iscsi_ffi_law.specs.Parts.{AreHeld}
+use Rattle.iscsi_ffi_law.specs.Uses.{uses_of}
 use Rattle.iscsi_ffi_law.specs.Stands.{AreCounts, AreFlags, AreRequests, AreSizes, Stands}
 use Rattle.iscsi_ffi_law.proofs.Ended.{IsReleased, left_of, requests_left, side_left}
 use Rattle.iscsi_ffi_law.proofs.Flags.{is_used_place}
@@ -46,6 +49,7 @@ use Rattle.iscsi_ffi_law.proofs.Kept.{count_nothing}
 use Rattle.iscsi_ffi_law.proofs.Members.{Passing, any_in, in_any}
 use Rattle.iscsi_ffi_law.proofs.Needs.{map_in}
 use Rattle.iscsi_ffi_law.proofs.Replies.{HaveConns}
+use Rattle.iscsi_ffi_law.proofs.Slots.{slots_used}
 use Rattle.iscsi_ffi_law.proofs.Telling.{flags_after, gives_alike, gives_to, is_over_to, over_alike, told_over, told_ready}
 use Rattle.iscsi_ffi_law.proofs.Words.{words_kept}
 
@@ -59,6 +63,7 @@ pub record IsAtEnd (i : Interface) (names : List Name) (notes : List Note) (pend
   pub flags : AreFlags i s r
   pub counts : AreCounts i s r
   pub requests : AreRequests names notes pending gone s r
+  pub slots : AreHeld (size_for i.outbox.session.window) s.commands.room names s.held r.both.trace
   pub withheld : s.withheld ≡ []
   pub calm : next_withheld r ≡ None
 
@@ -238,6 +243,7 @@ module _ (i : Interface) (names : List Name) (notes : List Note) (pending : ℕ 
         requests = requests_left names notes pending gone s r e.requests have_conns links_are_apart runs_alike v forgets rel (map (contains (r.awake ++ newly_ready i r)) (cids i)) (map (contains (r.over ++ newly_over i r)) (cids i))
             (r.awake ++ newly_ready i r) (r.over ++ newly_over i r);
         counts = record { units = e.counts.units; last = e.counts.last; tracked = e.counts.tracked };
+        slots = slots_used (size_for i.outbox.session.window) s.commands.room names notes e.requests.apart s.held r.both.trace e.slots (is_used_place s) (λ p some. lt-ltb 0 (uses_of p s) (omega (arith, some))) e.sizes.slots;
         withheld = e.withheld;
         calm = e.calm;
       })

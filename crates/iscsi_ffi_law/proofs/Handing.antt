@@ -226,4 +226,5 @@ module _ (i : Interface) (s : StepsSide) (r : Side) (h : Stands i s r) (p : ℕ)
           counts = record { units = h.counts.units; last = h.counts.last; tracked = tracked };
           withheld = h.withheld;
           calm = h.calm;
+          slots = h.slots;
         }) left.some (record { event = s.event; trace = s.trace; doing = record { state = s'; actions = []; forgets = [] } }) refl h.event h.trace

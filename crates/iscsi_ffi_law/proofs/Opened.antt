@@ -117,6 +117,12 @@ module _ (i : Interface) where
       undue = tt;
     };
     counts = record { units = refl; last = omega arith; tracked = omega arith };
+    slots = record {
+      placed = tt;
+      size_is = length-replicate (size_for i.outbox.session.window) None;
+      there = λ n a is. absurd (let none : ⊥ = cc in none);
+      once = λ place. omega (arith, none_placed place (size_for i.outbox.session.window));
+    };
     withheld = refl;
     calm = refl;
   }

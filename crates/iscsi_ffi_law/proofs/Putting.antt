@@ -363,6 +363,7 @@ module _ (i : Interface) (s : StepsSide) (r : Side) (h : Stands i s r) (p : OwnP
           counts = record { units = h.counts.units; last = h.counts.last; tracked = subst (λ (x : Box). (taken_in p s.state.outbox).tracked.last ≤ length x.tasks) box_is (call_last i.outbox s.state.outbox r.both.box (outbox.Puts p) h.counts.tracked tt) };
           withheld = h.withheld;
           calm = h.calm;
+          slots = h.slots;
         }) fit'.some (record { event = s.event; trace = s.trace; doing = record { state = s'; actions = []; forgets = [] } }) refl h.event h.trace
 
     -- there is room for it

@@ -1,62 +1,21 @@
 -- An item by which no command enters or leaves, in the outbox: it sends one reply at the most.
-use Rattle.std.proofs.Common.{◌≡◌, ℕ, arith, ◌≤◌, length, ◌<◌, ◌==◌, ◌&&◌, ◌^◌, ◌⊎◌, ⊎_elim, not, true, false, List, [], ◌∷◌, ◌++◌, map, filter, filter_map, Option, Some, None, refl, ap, sym, subst, ◌∙◌}
+use Rattle.std.proofs.Common.{◌≡◌, ℕ, ◌==◌, ◌&&◌, not, true, false, List, [], ◌∷◌, ◌++◌, map, filter, filter_map, Option, Some, None, refl, ap, ◌∙◌}
 use Rattle.std.specs.List.{flat_map, list_any}
 use Rattle.std.proofs.lemmas.Bool.{cond_both}
-use Rattle.std.proofs.lemmas.List.{append-nil, length-map}
+use Rattle.std.proofs.lemmas.List.{append-nil}
 use Rattle.iscsi_wire.specs.declared.reply.Reply.{Reply}
 use Rattle.iscsi_wire.specs.declared.request.Request.{Request}
 use Rattle.iscsi_history.specs.declared.effect.Effect.{Effect}
-use Rattle.iscsi_history.specs.declared.effect.Numbers.{Numbers}
-use Rattle.iscsi_history.specs.promises.Order.{in_parts}
 use Rattle.iscsi_history.specs.rules.Trace.{first_of}
 use Rattle.iscsi_outbox_rules.specs.rules.Boxes.{Aim, Answer, Box, Link, Outgoing, Phase, Task}
 use Rattle.iscsi_outbox_rules.specs.rules.Calls.{Opening}
 use Rattle.iscsi_outbox_rules.specs.rules.Due.{settle}
-use Rattle.iscsi_outbox_rules.specs.rules.Items.{after_event, after_item, after_items, aim, answer, await, close, conns_closed, enter_tasks, executing, in_phase, leave, newly_closed, outgoing, phase_completed, phase_enabled, phase_taken_out, phase_told, reply_sent, send, send_as, task_entered, ticket_enabled, tickets_left}
+use Rattle.iscsi_outbox_rules.specs.rules.Items.{after_item, aim, answer, await, close, conns_closed, enter_tasks, executing, in_phase, leave, newly_closed, outgoing, phase_completed, phase_enabled, phase_taken_out, reply_sent, send, send_as, task_entered, ticket_enabled, tickets_left}
 use Rattle.iscsi_outbox_rules.specs.rules.Queues.{drop_of, takes_more}
 use Rattle.iscsi_outbox_rules.specs.rules.Words.{contains, is_of}
-use Rattle.iscsi_outbox_law.specs.Pairs.{EachOf}
-use Rattle.iscsi_outbox_law.specs.Sound.{IsSound, NoneIsFresh, entries_of}
-use Rattle.iscsi_outbox_law.specs.Stands.{Stands as OutboxStands}
-use Rattle.iscsi_outbox_law.proofs.TakesItem.{item_stands}
-use Rattle.iscsi_outbox_law.proofs.TurningCount.{item_last}
-use Rattle.iscsi_outbox_law.proofs.TurningEach.{event_stands}
-use Rattle.iscsi_outbox_law.proofs.TurningLast.{tell_last}
-use Rattle.iscsi_outbox_law.proofs.TurningFresh.{event_fresh}
-use Rattle.iscsi_outbox_steps.specs.State.{State as OutboxState}
-use Rattle.iscsi_outbox_steps.specs.Steps.{after_item as steps_after_item, after_items as steps_after_items, taken}
-use Rattle.iscsi_history.specs.rules.Settings.{are_distinct}
-use Rattle.iscsi_ffi_law.specs.Arrived.{AreItemsFit}
+use Rattle.iscsi_outbox_law.specs.Sound.{IsSound, entries_of}
 use Rattle.iscsi_ffi_law.proofs.Kept.{filter_all}
 use Rattle.iscsi_ffi_law.proofs.Quiet.{settled_tasks}
-
--- ---- the outbox of the steps
-
--- no command enters in these items
-abbrev pub NoneEnters : List (List Effect) → Type 0
-NoneEnters items = EachOf (λ (es : List Effect). entries_of es ≡ []) items
-
-pub items_stand : (o : Opening) → are_distinct o.session.conns ≡ true → (items : List (List Effect)) (s : OutboxState) (b : Box) → OutboxStands o s b → AreItemsFit o b items → NoneEnters items → OutboxStands o (steps_after_items items s) (after_items o b items)
-items_stand o distinct [] s b h fit none = h
-items_stand o distinct (item ∷ items) s b h fit none =
-    items_stand o distinct items _ (after_item o b item)
-    (item_stands o s b h fit.0.sound distinct item fit.0.item_sound (subst (EachOf (λ (e : ℕ × ℕ). s.tracked.last < e.0)) (sym none.0) tt) fit.0.fits fit.0.time) fit.1 none.1
-
-pub event_out : (o : Opening) → are_distinct o.session.conns ≡ true → (effects : List Effect) (n : Numbers) (s : OutboxState) (b : Box) → OutboxStands o s b → AreItemsFit o b (in_parts effects) → NoneEnters (in_parts effects) → NoneIsFresh b
-    → (after_event o b effects n).max < 2 ^ 63 → OutboxStands o (taken effects n s) (after_event o b effects n)
-event_out o distinct effects n s b h fit none stale small = event_stands o s b effects n (items_stand o distinct (in_parts effects) s b h fit none) (event_fresh o b effects stale) small
-
--- .. count no ticket more than there are
-items_last : (o : Opening) (items : List (List Effect)) (s : OutboxState) (b : Box) → s.tracked.last ≤ length b.tasks → AreItemsFit o b items → (steps_after_items items s).tracked.last ≤ length (after_items o b items).tasks
-items_last o [] s b below fit = below
-items_last o (item ∷ items) s b below fit = items_last o items (steps_after_item item s) (after_item o b item) (item_last o s b item below fit.0.item_sound.next) fit.1
-
-pub event_last : (o : Opening) (effects : List Effect) (n : Numbers) (s : OutboxState) (b : Box) → s.tracked.last ≤ length b.tasks → AreItemsFit o b (in_parts effects) → (taken effects n s).tracked.last ≤ length (after_event o b effects n).tasks
-event_last o effects n s b below fit =
-    let told = tell_last (filter_map ticket_enabled effects) (steps_after_items (in_parts effects) s) in
-    let items = items_last o (in_parts effects) s b below fit in
-    let long = length-map (after_items o b (in_parts effects)).tasks (λ (t : Task). record t { phase = phase_told t.phase }) in
-    omega (arith, told, items, long)
 
 -- ---- an item
 
@@ -119,13 +78,6 @@ quiet_item o b es x y q =
 -- nothing at all
 pub empty_item : (o : Opening) (b : Box) → IsSound o b → after_item o b [] ≡ b
 empty_item o b sound = quiet_item o b [] None None (record { enables = refl; left = refl; entries = refl; entering = λ r. refl; closing = λ links. refl; executes = refl; sends = refl }) ∙ sound.settled
-
--- an event of one item
-abbrev pub IsOnePart : List Effect → Type 0
-IsOnePart es = (in_parts es ≡ es ∷ []) ⊎ (in_parts es ≡ [] ∷ es ∷ [])
-
-pub one_item : (o : Opening) (b : Box) (es : List Effect) → IsSound o b → IsOnePart es → after_items o b (in_parts es) ≡ after_item o b es
-one_item o b es sound one = ⊎_elim (λ is. ap (after_items o b) is) (λ is. ap (after_items o b) is ∙ ap (λ c. after_item o c es) (empty_item o b sound)) one
 
 -- ---- commands stay as they are
 

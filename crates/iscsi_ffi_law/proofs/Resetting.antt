@@ -159,6 +159,7 @@ module _ (i : Interface) (s : StepsSide) (r : Side) (h : Stands i s r) (unit : â
     counts = record { units = h.counts.units; last = h.counts.last; tracked = h.counts.tracked };
     withheld = h.withheld;
     calm = h.calm;
+    slots = h.slots;
   }
 
   clear_ends : EndsAlike i (clear unit s).going r' acts

@@ -169,6 +169,7 @@ module _ (i : Interface) (s : StepsSide) (r : Side) (h : Stands i s r) (ticket :
           counts = record { units = h.counts.units; last = h.counts.last; tracked = subst (λ (x : Box). (stopped ticket s.state.outbox).tracked.last ≤ length x.tasks) same_box (call_last i.outbox s.state.outbox r.both.box (outbox.Stops ticket) h.counts.tracked tt) };
           withheld = h.withheld;
           calm = h.calm;
+          slots = h.slots;
         }) fit.some (record { event = s.event; trace = s.trace; doing = release_if x (record { state = with_outbox s.state (stopped ticket s.state.outbox); actions = []; forgets = [] }) }) refl h.event h.trace
 
     -- its request is used once less

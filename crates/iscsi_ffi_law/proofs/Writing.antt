@@ -240,6 +240,7 @@ module _ (i : Interface) (s : StepsSide) (r : Side) (h : Stands i s r) (cid : â„
           counts = record { units = h.counts.units; last = h.counts.last; tracked = call_last i.outbox s.state.outbox r.both.box (outbox.Writes cid) h.counts.tracked tt };
           withheld = h.withheld;
           calm = h.calm;
+          slots = h.slots;
         }) fit.some (record { event = s.event; trace = s.trace; doing = release_if x (record { state = s'; actions = []; forgets = [] }) }) refl h.event h.trace
 
   -- ---- all of it

@@ -1,21 +1,22 @@
 -- What is premised of a request that is taken: of the rules' side alone.
-use Rattle.std.specs.Prelude.{◌≡◌, ◌<◌, ◌≤◌, ◌+◌, ◌-◌, ◌^◌, ◌==◌, ◌&&◌, ◌||◌, ◌⊎◌, ℕ, true, false, is_some, length, None, List, [], ◌∷◌}
-use Rattle.std.specs.List.{list_any}
+use Rattle.std.specs.Prelude.{◌≡◌, ◌<◌, ◌≤◌, ◌-◌, ◌^◌, ◌==◌, ◌&&◌, ◌||◌, ℕ, Bool, true, false, count_by, length, Some, None, List, [], ◌∷◌, ◌++◌}
+use Rattle.std.specs.List.{filter_map, list_all, list_any}
 use Rattle.iscsi_wire.specs.declared.reply.Reply.{Reply}
-use Rattle.iscsi_wire.specs.Fields.{is_immediate, request_of}
+use Rattle.iscsi_wire.specs.Fields.{cmd_sn, request_of}
+use Rattle.iscsi_wire.specs.Serial.{wire}
 use Rattle.iscsi_history.specs.declared.effect.Effect.{Effect}
-use Rattle.iscsi_history.specs.declared.effect.Why.{Why}
 use Rattle.iscsi_history.specs.declared.event.Event.TheVariants.{Arrive}
-use Rattle.iscsi_history.specs.promises.Order.{in_parts}
 use Rattle.iscsi_history.specs.rules.Agenda.{arrival_of, items_of}
-use Rattle.iscsi_history.specs.rules.Execution.{reply_on}
-use Rattle.iscsi_history.specs.rules.Run.{entry_of, newly_enabled}
-use Rattle.iscsi_history.specs.rules.Trace.{Admits, Arrival, Command, Delivers, Enters, Executes, Ignores, Mark, Trace, entered, has, held, is_among, is_delivered, is_emptied, leaves_ticket, live, shown, waiting}
+use Rattle.iscsi_history.specs.rules.Execution.{exp_of}
+use Rattle.iscsi_history.specs.rules.Settings.{Setting}
+use Rattle.iscsi_requests.specs.Numbers.{IsInWindow, size_for}
+use Rattle.iscsi_history.specs.rules.Run.{effects_of_item, entry_of}
+use Rattle.iscsi_history.specs.rules.Trace.{Admits, Arrival, ClosesConn, ClosesSession, Command, Empties, Executes, Leaves, Mark, Trace, Waits, enters, entered, first_of, has, held, is_among, is_delivered, is_emptied, leaves_ticket, shown, waiting}
 use Rattle.iscsi_outbox_rules.specs.promises.Room.{Fits, places}
 use Rattle.iscsi_outbox_rules.specs.rules.Boxes.{Box, Handed, Link}
 use Rattle.iscsi_outbox_rules.specs.rules.Calls as outbox
 use Rattle.iscsi_outbox_rules.specs.rules.Calls.{Opening}
-use Rattle.iscsi_outbox_rules.specs.rules.Items.{after_item}
+use Rattle.iscsi_outbox_rules.specs.rules.Items.{after_item, reply_sent, ticket_enabled}
 use Rattle.iscsi_outbox_rules.specs.rules.Queues.{takes_more}
 use Rattle.iscsi_outbox_rules.specs.rules.Run.{after_call}
 use Rattle.iscsi_outbox_rules.specs.rules.Words.{contains, is_running, replies_waiting}
@@ -23,7 +24,7 @@ use Rattle.iscsi_outbox_law.specs.Pairs.{EachOf}
 use Rattle.iscsi_outbox_law.specs.Sound.{IsItemSound, IsSound, NoneIsFresh}
 use Rattle.iscsi_ffi_rules.specs.rules.Calls.{Interface}
 use Rattle.iscsi_ffi_rules.specs.rules.Clearing.{is_withheld, next_withheld}
-use Rattle.iscsi_ffi_rules.specs.rules.Happening.{happening}
+use Rattle.iscsi_ffi_rules.specs.rules.Happening.{answers_in, happening, live_with, stepped}
 use Rattle.iscsi_ffi_rules.specs.rules.Needs.{admitted_by}
 use Rattle.iscsi_ffi_rules.specs.rules.Run.{heard_in, tag_heard, word_at}
 use Rattle.iscsi_ffi_rules.specs.rules.Sides.{Asked, Side}
@@ -39,6 +40,17 @@ pub record AreBefore (r : Side) : Type 0 where
   pub admitted : EachOf (λ (a : Arrival). a.event < r.both.event) (shown admitted_by r.both.trace)
   pub waiting : EachOf (λ (a : Arrival). a.event < r.both.event) (waiting r.both.trace)
 
+-- no number is received twice, and no event has two arrivals
+pub record AreDistinct (t : Trace) : Type 0 where
+  pub numbers : (n : ℕ) → count_by (λ (a : Arrival). a.number == n) (shown admitted_by t) ≤ 1
+  pub events : (e : ℕ) → count_by (λ (a : Arrival). a.event == e) (shown admitted_by t) ≤ 1
+
+-- a request that is received: its number lies in the window, as those of the others that are held, and was never taken
+pub record IsReceivable (o : Setting) (t : Trace) (a : Arrival) : Type 0 where
+  pub untaken : (is_delivered t a.number || is_emptied t a.number) ≡ false
+  pub lies : IsInWindow (size_for o.window) (wire (exp_of o t)) (cmd_sn a.request)
+  pub others : (n : ℕ) (b : Arrival) → held t n ≡ Some b → IsInWindow (size_for o.window) (wire (exp_of o t)) (cmd_sn b.request) × (cmd_sn b.request ≡ cmd_sn a.request → ⊥)
+
 -- ---- the event
 
 -- before each item of an event, and behind it
@@ -48,9 +60,41 @@ pub record IsItemFit (o : Opening) (b : Box) (item : List Effect) : Type 0 where
   pub fits : Fits o (after_item o b item)
   pub time : (after_item o b item).time < 2 ^ 64 - 1
 
-abbrev pub AreItemsFit : Opening → Box → List (List Effect) → Type 0
-AreItemsFit o b [] = Unit {0}
-AreItemsFit o b (item ∷ items) = IsItemFit o b item × AreItemsFit o (after_item o b item) items
+-- a reply goes out on a connection that takes it, and has a number and a place; what was handed out has its place in the log
+pub record IsSendFit (o : Opening) (b : Box) (conn : ℕ) : Type 0 where
+  pub takes : list_any (λ (l : Link). l.conn == conn && takes_more l) b.links ≡ true
+  pub sent : b.sent < 2 ^ 64 - 1
+  pub replies : replies_waiting b < places o
+  pub handed : EachOf (λ (l : Link). EachOf (λ (h : Handed). IsBefore b.sent h.out.sent) l.handed) b.links
+
+-- no command had its ticket or came in its event, and none of that was told or marked
+pub record IsFreshCommand (r : Side) (c : Command) : Type 0 where
+  pub unentered : is_among c.ticket (entered r.both.trace) ≡ false
+  pub unleft : has (leaves_ticket c.ticket) r.both.trace ≡ false
+  pub untold : contains r.told c.ticket ≡ false
+  pub unmarked : contains r.marked c.ticket ≡ false
+  pub idle : is_running r.both.box c.ticket ≡ false
+  pub unarrived : EachOf (λ (d : Command). (d.arrival.event == c.arrival.event) ≡ false) (entered r.both.trace)
+
+abbrev pub effects_by : Interface → Side → List Mark → List Effect
+effects_by i r item = effects_of_item i.outbox.session r.both.trace item
+
+-- so it is before each item, with the trace and the box that the items before it left
+pub record IsStepFit (i : Interface) (r : Side) (item : List Mark) : Type 0 where
+  pub fit : IsItemFit i.outbox r.both.box (effects_by i r item)
+  pub sends : (conn : ℕ) (reply : Reply) → first_of (filter_map reply_sent (effects_by i r item)) ≡ Some (conn, reply) → IsSendFit i.outbox r.both.box conn
+  pub enters : (c : Command) → filter_map enters item ≡ c ∷ [] → IsFreshCommand r c
+
+-- the side behind an item
+abbrev pub side_behind : Interface → Side → List Mark → Side
+side_behind i r item = record r {
+  both = record r.both { trace = item ∷ r.both.trace; box = after_item i.outbox r.both.box (effects_of_item i.outbox.session r.both.trace item) };
+  answers = r.answers ++ answers_in r.both.event item;
+}
+
+abbrev pub AreStepsFit : Interface → Side → List (List Mark) → Type 0
+AreStepsFit i r [] = IsSound i.outbox r.both.box
+AreStepsFit i r (item ∷ items) = IsStepFit i r item × AreStepsFit i (side_behind i r item) items
 
 abbrev pub effects_then : Interface → Side → ℕ → List ℕ → List Effect
 effects_then i r cid header = (entry_of i.outbox.session r.both.event r.both.trace (Arrive cid header)).effects
@@ -59,17 +103,24 @@ effects_then i r cid header = (entry_of i.outbox.session r.both.event r.both.tra
 abbrev pub arrive_call : Interface → Side → ℕ → List ℕ → outbox.Call
 arrive_call i r cid header = let entry = entry_of i.outbox.session r.both.event r.both.trace (Arrive cid header) in outbox.Takes entry.effects entry.numbers
 
+abbrev pub items_then : Interface → Side → ℕ → List ℕ → List (List Mark)
+items_then i r cid header = items_of i.outbox.session r.both.event r.both.trace (Arrive cid header)
+
+abbrev pub arrived : Interface → Side → ℕ → List ℕ → Arrival
+arrived i r cid header = arrival_of i.outbox.session r.both.event r.both.trace (request_of cid header)
+
 -- so it is before each event of a session in which a header arrives
 pub record IsEventFit (i : Interface) (r : Side) (cid : ℕ) (header : List ℕ) : Type 0 where
   pub fit : IsFit i r.both.box (after_call i.outbox r.both.box (arrive_call i r cid header))
-  pub items : AreItemsFit i.outbox r.both.box (in_parts (effects_then i r cid header))
+  pub steps : AreStepsFit i r (items_of i.outbox.session r.both.event r.both.trace (Arrive cid header))
   pub stale : NoneIsFresh r.both.box
-  -- the session takes one event more, and one reply more has a number and a place
+  -- the session takes one event more; it has no more items, and enables no more commands, than there are places for
   pub events : r.both.event < i.outbox.session.events
   pub sent : r.both.box.sent < 2 ^ 64 - 1
-  pub replies : replies_waiting r.both.box < places i.outbox
-  -- what was handed out has its place in the log
-  pub handed : EachOf (λ (l : Link). EachOf (λ (h : Handed). IsBefore r.both.box.sent h.out.sent) l.handed) r.both.box.links
+  pub short : length (items_of i.outbox.session r.both.event r.both.trace (Arrive cid header)) ≤ places i.outbox
+  pub enabled : length (filter_map ticket_enabled (effects_then i r cid header)) ≤ places i.outbox
+  pub distinct : AreDistinct r.both.trace
+  pub received : (rest : List (List Mark)) → items_of i.outbox.session r.both.event r.both.trace (Arrive cid header) ≡ (Admits (arrived i r cid header) ∷ []) ∷ rest → IsReceivable i.outbox.session r.both.trace (arrived i r cid header)
 
 -- .. where its numbers are heard first
 pub record IsArrivalFit (i : Interface) (r : Side) (cid : ℕ) (header : List ℕ) : Type 0 where
@@ -79,99 +130,30 @@ pub record IsArrivalFit (i : Interface) (r : Side) (cid : ℕ) (header : List �
 
 -- ---- what becomes of it
 
-abbrev pub items_then : Interface → Side → ℕ → List ℕ → List (List Mark)
-items_then i r cid header = items_of i.outbox.session r.both.event r.both.trace (Arrive cid header)
+-- nothing is taken out by it or closed, and no function waits, or has waited
+abbrev pub is_plain : ℕ → Mark → Bool
+is_plain now (Executes a) = a.event == now
+is_plain now (Empties a) = false
+is_plain now (Waits a) = false
+is_plain now (Leaves c) = false
+is_plain now (ClosesConn conn) = false
+is_plain now ClosesSession = false
+is_plain now _ = true
 
-abbrev pub arrived : Interface → Side → ℕ → List ℕ → Arrival
-arrived i r cid header = arrival_of i.outbox.session r.both.event r.both.trace (request_of cid header)
+abbrev pub are_plain : ℕ → List (List Mark) → Bool
+are_plain now items = list_all (list_all (is_plain now)) items
 
-abbrev pub takes_there : Side → ℕ → Type 0
-takes_there r cid = list_any (λ (l : Link). l.conn == cid && takes_more l) r.both.box.links ≡ true
+-- the commands that it enables, and that are live then
+abbrev pub enabled_then : Interface → Side → ℕ → List ℕ → List Command
+enabled_then i r cid header = filter_map (live_with (stepped i r (Arrive cid header)).both.trace) (filter_map ticket_enabled (effects_then i r cid header))
 
--- it is passed over
-abbrev pub IsPassedOver : Interface → Side → ℕ → List ℕ → Type 0
-IsPassedOver i r cid header = (why : Why) × (items_then i r cid header ≡ (Ignores why ∷ []) ∷ [])
-
--- it is rejected for its opcode
-abbrev pub IsRejected : Interface → Side → ℕ → List ℕ → Type 0
-IsRejected i r cid header = (reply : Reply) × (items_then i r cid header ≡ reply_on (arrived i r cid header) reply ∷ []) × takes_there r cid
-
--- an immediate request executes, and isn't answered
-abbrev pub IsDoneWith : Interface → Side → ℕ → List ℕ → Type 0
-IsDoneWith i r cid header = (is_immediate (request_of cid header) ≡ true) × (items_then i r cid header ≡ (Executes (arrived i r cid header) ∷ []) ∷ [])
-
--- an immediate request executes, and is answered at once: no command enters or leaves, and nothing is closed
-abbrev pub IsAnsweredAtOnce : Interface → Side → ℕ → List ℕ → Type 0
-IsAnsweredAtOnce i r cid header =
-    (is_immediate (request_of cid header) ≡ true) × ((reply : Reply) × (items_then i r cid header ≡ (Executes (arrived i r cid header) ∷ reply_on (arrived i r cid header) reply) ∷ []) × takes_there r cid)
-
--- ---- a numbered request, where nothing is held
-
--- a number that is a new one, where nothing is held
-pub record IsFirstHeld (t : Trace) (number : ℕ) : Type 0 where
-  pub unreceived : list_any (λ (b : Arrival). b.number == number) (shown admitted_by t) ≡ false
-  pub untaken : (is_delivered t number || is_emptied t number) ≡ false
-  pub nothing : list_any (λ (b : Arrival). is_some (held t b.number)) (shown admitted_by t) ≡ false
-
--- it is held
-abbrev pub IsHeldNow : Interface → Side → ℕ → List ℕ → Type 0
-IsHeldNow i r cid header =
-    (is_immediate (request_of cid header) ≡ false) × IsFirstHeld r.both.trace (arrived i r cid header).number × (items_then i r cid header ≡ (Admits (arrived i r cid header) ∷ []) ∷ [])
-
--- its turn comes at once, and it isn't answered
-abbrev pub IsDeliveredOnly : Interface → Side → ℕ → List ℕ → Type 0
-IsDeliveredOnly i r cid header =
-    (is_immediate (request_of cid header) ≡ false) × IsFirstHeld r.both.trace (arrived i r cid header).number
-    × (items_then i r cid header ≡ (Admits (arrived i r cid header) ∷ []) ∷ (Delivers (arrived i r cid header) ∷ []) ∷ [])
-
--- .. and it is answered at once: no command enters or leaves, and nothing is closed
-abbrev pub IsDeliveredAnswered : Interface → Side → ℕ → List ℕ → Type 0
-IsDeliveredAnswered i r cid header =
-    (is_immediate (request_of cid header) ≡ false) × IsFirstHeld r.both.trace (arrived i r cid header).number
-    × ((reply : Reply) × (items_then i r cid header ≡ (Admits (arrived i r cid header) ∷ []) ∷ (Delivers (arrived i r cid header) ∷ reply_on (arrived i r cid header) reply) ∷ []) × takes_there r cid)
-
--- ---- a command that enters
-
--- no command had its ticket, and none of that was told or marked
-pub record IsFreshCommand (r : Side) (c : Command) : Type 0 where
-  pub unentered : is_among c.ticket (entered r.both.trace) ≡ false
-  pub unleft : has (leaves_ticket c.ticket) r.both.trace ≡ false
-  pub untold : contains r.told c.ticket ≡ false
-  pub unmarked : contains r.marked c.ticket ≡ false
-
--- the item of its turn
-abbrev pub entering_item : Interface → Side → ℕ → List ℕ → Command → List Mark
-entering_item i r cid header c = Delivers (arrived i r cid header) ∷ Enters c ∷ []
-
-abbrev pub entering_trace : Interface → Side → ℕ → List ℕ → Command → Trace
-entering_trace i r cid header c = entering_item i r cid header c ∷ (Admits (arrived i r cid header) ∷ []) ∷ r.both.trace
-
--- the commands that it enables
-abbrev pub enabled_by : Interface → Side → ℕ → List ℕ → Command → List Command
-enabled_by i r cid header c = newly_enabled i.outbox.session ((Admits (arrived i r cid header) ∷ []) ∷ r.both.trace) (entering_item i r cid header c)
-
--- a numbered SCSI Command whose turn comes at once, where nothing is held, enters, and none is withheld then
-pub record IsEntered (i : Interface) (r : Side) (cid : ℕ) (header : List ℕ) : Type 0 where
-  pub numbered : is_immediate (request_of cid header) ≡ false
-  pub first : IsFirstHeld r.both.trace (arrived i r cid header).number
-  pub command : Command
-  pub arrival : command.arrival ≡ arrived i r cid header
-  pub next : command.ticket ≡ length (entered r.both.trace) + 1
-  pub unit : command.unit < i.outbox.session.units
-  pub items : items_then i r cid header ≡ (Admits (arrived i r cid header) ∷ []) ∷ entering_item i r cid header command ∷ []
-  pub fresh : IsFreshCommand r command
-  pub idle : is_running r.both.box command.ticket ≡ false
-  pub few : length (live (entering_trace i r cid header command)) ≤ places i.outbox
-  pub started : list_any (is_withheld (record r { both = record r.both { trace = entering_trace i r cid header command } })) (enabled_by i r cid header command) ≡ false
+-- its items are plain, and no command is withheld then
+pub record IsPlainArrival (i : Interface) (r : Side) (cid : ℕ) (header : List ℕ) : Type 0 where
+  pub plain : are_plain r.both.event (items_then i r cid header) ≡ true
+  pub started : list_any (is_withheld (stepped i r (Arrive cid header))) (enabled_then i r cid header) ≡ false
   pub calm : next_withheld (happening i r (Arrive cid header)).side ≡ None
 
 -- the place of its request is one of those that there are
 pub record IsPlaced (s : State) (place : ℕ) : Type 0 where
   pub low : 1 ≤ place
   pub high : place ≤ s.commands.room
-
--- a request that one of these becomes
-abbrev pub IsTaken : Interface → Side → ℕ → List ℕ → Type 0
-IsTaken i r cid header =
-    IsPassedOver i r cid header ⊎ IsRejected i r cid header ⊎ IsDoneWith i r cid header ⊎ IsAnsweredAtOnce i r cid header
-    ⊎ IsHeldNow i r cid header ⊎ IsDeliveredOnly i r cid header ⊎ IsDeliveredAnswered i r cid header

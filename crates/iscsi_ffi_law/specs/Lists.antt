@@ -13,7 +13,7 @@ use Rattle.iscsi_ffi_rules.specs.rules.Run.{after_call, cids, heard_in, is_going
 use Rattle.iscsi_ffi_rules.specs.rules.Sides.{Side}
 use Rattle.iscsi_ffi_steps.specs.Steps.{Side as StepsSide, after, called, ended, told}
 use Rattle.iscsi_ffi_law.specs.Alike.{GoesAlike, TellAlike, said}
-use Rattle.iscsi_ffi_law.specs.Arrived.{IsArrivalFit, IsEntered, IsPlaced, IsTaken}
+use Rattle.iscsi_ffi_law.specs.Arrived.{IsArrivalFit, IsPlaced, IsPlainArrival}
 use Rattle.iscsi_ffi_law.specs.Done.{AllDone}
 use Rattle.iscsi_ffi_law.specs.Fit.{IsFit, IsOrderly}
 use Rattle.iscsi_ffi_law.specs.Stands.{Stands}
@@ -54,24 +54,17 @@ pub record HasRoom (i : Interface) (s : StepsSide) (r : Side) : Type 0 where
   pub fit : IsFit i r.both.box r.both.box
   pub room : length s.state.commands.items + 2 * length (cids i) ≤ s.state.room
 
--- a request is taken, and becomes one of what is proved; there is a place for it
+-- a request is taken, by whose items nothing is taken out or closed, and no function waits; there is a place for it, one of those that there are
 pub record IsArrival (i : Interface) (s : StepsSide) (r : Side) (cid : ℕ) (header : List ℕ) : Type 0 where
   pub fit : IsArrivalFit i r cid header
   pub taken : refusal_of i r cid ≡ None
   pub room : is_some (next_place s.state.cookies) ≡ true
-  pub is : IsTaken i (heard_in i r cid header) cid header
-
--- .. or is a command that enters, whose place is one of those that there are
-pub record IsEntry (i : Interface) (s : StepsSide) (r : Side) (cid : ℕ) (header : List ℕ) : Type 0 where
-  pub fit : IsArrivalFit i r cid header
-  pub taken : refusal_of i r cid ≡ None
-  pub room : is_some (next_place s.state.cookies) ≡ true
-  pub is : IsEntered i (heard_in i r cid header) cid header
   pub placed : (place : ℕ) → next_place s.state.cookies ≡ Some place → IsPlaced s.state place
+  pub plain : IsPlainArrival i (heard_in i r cid header) cid header
 
 -- what is asked of each call. Of a request that becomes another thing, and of a connection that is lost and isn't closed, it is premised that they go alike
 abbrev pub Meets : Interface → StepsSide → Side → Call → Type 0
-Meets i s r (Arrives cid header cookie) = (Leaves i r (outbox.Hears cid 0 0) × IsRefused i r cid) ⊎ IsArrival i s r cid header ⊎ IsEntry i s r cid header ⊎ Goes i s r (Arrives cid header cookie)
+Meets i s r (Arrives cid header cookie) = (Leaves i r (outbox.Hears cid 0 0) × IsRefused i r cid) ⊎ IsArrival i s r cid header ⊎ Goes i s r (Arrives cid header cookie)
 Meets i s r (Completes ticket status) = (Leaves i r (outbox.Stops ticket) × (is_going r ticket ≡ false))
     ⊎ ((is_going r ticket ≡ true) × AllDone i r ticket (if contains r.marked ticket then TASK_ABORTED else status))
 Meets i s r (Stops ticket) = (Leaves i r (outbox.Stops ticket) × ((is_going r ticket && contains r.marked ticket) ≡ false))

@@ -1,7 +1,8 @@
 -- The parts of what the steps keep, and what they stand for in the rules.
 use Rattle.std.specs.Prelude.{◌≡◌, ◌<◌, ◌≤◌, ℕ, ◌+◌, ◌==◌, ◌&&◌, ◌||◌, not, Bool, true, false, List, [], ◌∷◌, ◌++◌, length, map, filter, count_by, nat_lt, Option, Some, None, is_some, if◌then◌else◌}
 use Rattle.std.specs.List.{find, list_any}
-use Rattle.iscsi_history.specs.rules.Trace.{Command as RulesCommand, Trace, entered, has, leaves_ticket, was_free}
+use Rattle.iscsi_wire.specs.Fields.{cmd_sn}
+use Rattle.iscsi_history.specs.rules.Trace.{Arrival, Command as RulesCommand, Trace, entered, has, held, leaves_ticket, was_free}
 use Rattle.iscsi_outbox_rules.specs.rules.Boxes.{Answer, Handed, Link, Notices, Outgoing, Owns, Pdu, Pings, Replies}
 use Rattle.iscsi_outbox_rules.specs.rules.Words.{contains, is_reply}
 use Rattle.iscsi_outbox_rules.specs.rules.Own.{own_ticket}
@@ -11,6 +12,7 @@ use Rattle.iscsi_outbox_law.specs.Pairs.{PairsOf, EachOf}
 use Rattle.iscsi_requests.specs.Conns.{of_conn}
 use Rattle.iscsi_requests.specs.Cookies as cookies
 use Rattle.iscsi_requests.specs.Cookies.{Cookies}
+use Rattle.iscsi_requests.specs.Numbers.{HeldNumbers, held_at}
 use Rattle.iscsi_requests.specs.Replies.{has_log_place}
 use Rattle.iscsi_requests.specs.declared.replies.WaitingReply.{WaitingReply}
 use Rattle.iscsi_ffi_commands.specs.declared.command.Command.{Command}
@@ -52,6 +54,24 @@ pub record IsNote (s : State) (links : List Link) (n : Note) : Type 0 where
 pub record IsRequest (s : State) (t : Trace) (n : Name) : Type 0 where
   pub held : is_held n.event t ≡ nat_lt 0 (count_held n.place s)
   pub waiting : is_waiting n.event t ≡ nat_lt 0 (count_functions n.place s)
+
+-- a request that is held stands in the slot of its number
+pub record IsHeldAt (names : List Name) (v : HeldNumbers) (a : Arrival) : Type 0 where
+  pub place : ℕ
+  pub named : place_named names a.event ≡ Some place
+  pub slot : held_at (cmd_sn a.request) v ≡ Some place
+
+-- a place is one of so many
+pub record IsWithin (room : ℕ) (n : Name) : Type 0 where
+  pub low : 1 ≤ n.place
+  pub high : n.place ≤ room
+
+-- so do all that are held, in so many slots, and no place stands in two
+pub record AreHeld (size room : ℕ) (names : List Name) (v : HeldNumbers) (t : Trace) : Type 0 where
+  pub placed : EachOf (IsWithin room) names
+  pub size_is : length v.places ≡ size
+  pub there : (n : ℕ) (a : Arrival) → held t n ≡ Some a → IsHeldAt names v a
+  pub once : (place : ℕ) → count_by (is_place place) v.places ≤ 1
 
 -- a command by both
 pub record IsCommand (names : List Name) (r : Side) (c : Command) (d : RulesCommand) : Type 0 where

@@ -8,6 +8,7 @@ use Rattle.iscsi_outbox_law.specs.Stands.{Stands as OutboxStands}
 use Rattle.iscsi_outbox_steps.specs.State.{limits_of, most_at_once}
 use Rattle.iscsi_ffi_commands.specs.Commands.{has_ticket}
 use Rattle.iscsi_requests.specs.Cookies.{uses_at}
+use Rattle.iscsi_requests.specs.Numbers.{size_for}
 use Rattle.iscsi_requests.specs.Replies.{has_log_place}
 use Rattle.iscsi_ffi_rules.specs.rules.Calls.{Interface}
 use Rattle.iscsi_ffi_rules.specs.rules.Run.{cids}
@@ -17,7 +18,7 @@ use Rattle.iscsi_ffi_steps.specs.State.{State, actions_room}
 use Rattle.iscsi_ffi_steps.specs.Steps.{Side as StepsSide}
 use Rattle.iscsi_ffi_law.specs.Names.{Name, Note, asked_of, noted_of}
 use Rattle.iscsi_ffi_law.specs.Uses.{count_lists, uses_of}
-use Rattle.iscsi_ffi_law.specs.Parts.{AreApart, AreCommands, AreCounted, AreKept, IsBefore, IsConn, IsLiveNamed, IsNote, IsOneUse, IsRequest, IsUndue}
+use Rattle.iscsi_ffi_law.specs.Parts.{AreApart, AreCommands, AreCounted, AreHeld, AreKept, IsBefore, IsConn, IsLiveNamed, IsNote, IsOneUse, IsRequest, IsUndue}
 
 pub record AreSizes (i : Interface) (s : State) : Type 0 where
   pub room : s.room ≡ actions_room i.unwritten (limits_of i.outbox)
@@ -75,6 +76,7 @@ pub record Stands (i : Interface) (s : StepsSide) (r : Side) : Type 0 where
   pub flags : AreFlags i s.state r
   pub counts : AreCounts i s.state r
   pub requests : AreRequests names notes (λ place. 0) (λ p. []) s.state r
+  pub slots : AreHeld (size_for i.outbox.session.window) s.state.commands.room names s.state.held r.both.trace
   pub withheld : s.state.withheld ≡ []
   -- no command waits to be completed that never starts
   pub calm : next_withheld r ≡ None

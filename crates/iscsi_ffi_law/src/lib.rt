@@ -5,7 +5,7 @@ mod laws;
 mod sides;
 
 pub use laws::{
-    arrives_law, cleared_law, clears_law, completes_law, done_law, enters_law, hears_law,
-    joins_law, lists_law, loses_law, nexts_law, opened_law, puts_law, stops_law, writes_law,
+    arrives_law, cleared_law, clears_law, completes_law, done_law, hears_law, joins_law, lists_law,
+    loses_law, nexts_law, opened_law, puts_law, stops_law, writes_law,
 };
 pub use sides::{alike_law, fits_law};

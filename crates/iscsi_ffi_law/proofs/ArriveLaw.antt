@@ -1,0 +1,190 @@
+-- A request arrives that has a place: both go on alike.
+use Rattle.std.proofs.Common.{◌≡◌, ℕ, ◌+◌, ◌<◌, ◌==◌, not, cond, Bool, true, false, List, [], ◌∷◌, ◌++◌, Some, None, refl, ap, sym, subst, ◌∙◌, arith, ne_eqb}
+use Rattle.std.specs.List.{list_all}
+use Rattle.std.proofs.lemmas.Bool.{and_from, eqb-true, false≢true}
+use Rattle.iscsi_wire.specs.Fields.{connection_of, header_of, is_immediate, request_of}
+use Rattle.iscsi_wire.specs.declared.reply.Reply.TheVariants.{Reject}
+use Rattle.iscsi_wire.specs.declared.request.Request.{Request}
+use Rattle.iscsi_history.specs.declared.effect.Why.{Why}
+use Rattle.iscsi_history.specs.declared.event.Event.{Event}
+use Rattle.iscsi_history.specs.declared.event.Event.TheVariants.{Arrive}
+use Rattle.iscsi_history.specs.rules.Execution.{rejected}
+use Rattle.iscsi_history.specs.rules.Items.{is_waiting}
+use Rattle.iscsi_history.specs.rules.Run.{effects_of, effects_of_item}
+use Rattle.iscsi_history.specs.rules.Trace.{Admits, Arrival, Executes, Ignores, Mark, Trace, Waits, is_received, waiting}
+use Rattle.iscsi_history.proofs.BoolLemmas.{and_parts}
+use Rattle.iscsi_history.proofs.Forms.{AfterWaiting, AtArrival, AtTurn, Deeds, IsDone, Start, marks_done, start_mark}
+use Rattle.iscsi_history.proofs.NewlyLemmas.{newly-untouched}
+use Rattle.iscsi_outbox_rules.specs.rules.Run.{after_call}
+use Rattle.iscsi_outbox_rules.proofs.ClosedParts.{EachOn}
+use Rattle.iscsi_outbox_law.specs.Sound.{IsSound}
+use Rattle.iscsi_ffi_rules.specs.rules.Calls.{Interface}
+use Rattle.iscsi_ffi_rules.specs.rules.Happening.{happens as happens_there}
+use Rattle.iscsi_ffi_rules.specs.rules.Run as rules
+use Rattle.iscsi_ffi_rules.specs.rules.Sides.{Side}
+use Rattle.iscsi_ffi_steps.specs.State.{State}
+use Rattle.iscsi_ffi_steps.specs.Steps.{Going, arriving, changed, done, happens, hold, is_held_first}
+use Rattle.iscsi_ffi_law.specs.Arrived.{AreStepsFit, IsPlainArrival, arrive_call, arrived, is_plain, items_then, side_behind}
+use Rattle.iscsi_ffi_law.specs.Names.{Name, Note}
+use Rattle.iscsi_ffi_law.proofs.ArriveItems.{arrived_unheld, executed_go, held_now, ignored_go, received_go, rejected_go}
+use Rattle.iscsi_ffi_law.proofs.ArriveOpens.{IsFoundAt}
+use Rattle.iscsi_ffi_law.proofs.Between.{IsBetween, pending_as}
+use Rattle.iscsi_ffi_law.proofs.DoneShape.{enables}
+use Rattle.iscsi_ffi_law.proofs.Ends.{GoesTo}
+use Rattle.iscsi_ffi_law.proofs.EventEnds.{IsEventOf}
+use Rattle.iscsi_ffi_law.proofs.EventGoes.{first_between, outbox_first, parts}
+use Rattle.iscsi_ffi_law.proofs.EventLaw.{event_goes}
+use Rattle.iscsi_ffi_law.proofs.EventRules.{admits_alone}
+use Rattle.iscsi_ffi_law.proofs.ItemsGo.{AllGo, side_after}
+use Rattle.iscsi_ffi_law.proofs.Members.{Passing, any_in, each_in}
+use Rattle.iscsi_ffi_law.proofs.Releases.{endings}
+use Rattle.iscsi_ffi_law.proofs.Releasing.{ending}
+use Rattle.iscsi_ffi_law.proofs.Turns.{Becomes, IsDue, IsExecuted, IsIgnored, IsPostponed, IsReceived, IsRejected, becomes}
+
+-- behind the last item the box is sound
+last_sound : (i : Interface) (items : List (List Mark)) (r : Side) → AreStepsFit i r items → IsSound i.outbox (side_after i r items).both.box
+last_sound i [] r h = h
+last_sound i (item ∷ items) r h = last_sound i items (side_behind i r item) h.1
+
+due_alone : (i : Interface) (items : List (List Mark)) (t : Trace) → EachOn (IsDue i.outbox.session) t items → list_all admits_alone items ≡ true
+due_alone i [] t due = refl
+due_alone i (item ∷ items) t due = and_from (admits_alone item) (list_all admits_alone items) (ap admits_alone due.0.is ∙ by_start due.0.start due.0.a (marks_done due.0.a due.0.deeds)) (due_alone i items (item ∷ t) due.1)
+  where
+    by_start : (start : Start) (a : Arrival) (ms : List Mark) → admits_alone (start_mark start a ∷ ms) ≡ true
+    by_start AtTurn a ms = refl
+    by_start AtArrival a ms = refl
+    by_start AfterWaiting a ms = refl
+
+module _ (i : Interface) (names : List Name) (notes : List Note) (s : State) (r : Side) (cid : ℕ) (header : List ℕ) (place : ℕ) (f : IsFoundAt i names notes s r cid header place) (p : IsPlainArrival i r cid header) where
+  abbrev e : Event
+  e = Arrive cid header
+
+  abbrev a : Arrival
+  a = arrived i r cid header
+
+  abbrev request : Request
+  request = request_of cid header
+
+  abbrev begins : Going
+  begins = record { event = r.both.event; trace = r.both.trace; doing = record { state = s; actions = []; forgets = [] } }
+
+  -- both go on with what arrived
+  abbrev pub ArrivesTo : Type 0
+  ArrivesTo = GoesTo i (done (arriving i cid header (Some place) (record { event = r.both.event; trace = r.both.trace; doing = record { state = s; actions = []; forgets = [] } }))) (rules.done (happens_there i r (Arrive cid header)))
+
+  begun : IsBetween i names notes s r (Some place) []
+  begun = record {
+    requests = pending_as names notes (ending (Some place)) (λ n. ending (Some place) n + endings [] n) (λ q. []) s r (λ n. omega arith) f.requests;
+    slots = f.slots;
+    outbox = f.outbox;
+    sizes = f.sizes;
+    flags = f.flags;
+    counts = f.counts;
+    withheld = f.withheld;
+    distinct = f.fit.distinct;
+    over = λ n some. absurd (let no : ⊥ = omega (arith, some) in no);
+    own_named = λ n is. f.named ∙ is;
+    own_unheld = λ n is. arrived_unheld names notes (ending (Some place)) (λ q. []) s r f.requests f.before.admitted n (f.named ∙ is);
+    own_first = λ n is. refl;
+  }
+
+  abbrev lead : Bool
+  lead = (parts i r e).lead
+
+  abbrev s0 : State
+  s0 = record s { outbox = outbox_first i r e lead s.outbox }
+
+  first : IsBetween i names notes s0 r (Some place) []
+  first = first_between i names notes s r (Some place) (after_call i.outbox r.both.box (arrive_call i r cid header)) f.fit.fit lead begun
+
+  event_of : list_all admits_alone (items_then i r cid header) ≡ true → IsEventOf i r e
+  event_of alone = record {
+    fit = f.fit.fit;
+    stale = f.fit.stale;
+    events = f.fit.events;
+    sent = f.fit.sent;
+    short = f.fit.short;
+    enabled = f.fit.enabled;
+    plain = p.plain;
+    alone = alone;
+    behind = last_sound i (items_then i r cid header) r f.fit.steps;
+  }
+
+  -- it isn't held first
+  not_held : is_held_first request (effects_of i.outbox.session r.both.trace (items_then i r cid header)) ≡ false → list_all admits_alone (items_then i r cid header) ≡ true → AllGo i names notes s0 r (Some place) [] (items_then i r cid header) → ArrivesTo
+  not_held isnt alone go =
+      subst (λ v. GoesTo i (done (cond v (happens i None e (changed (hold request place) begins)) (happens i (Some place) e begins))) (rules.done (happens_there i r e))) (sym isnt)
+      (event_goes i names notes s r (Some place) e (event_of alone) f.outbox go p.started p.calm)
+
+  over : (why : Why) → items_then i r cid header ≡ (Ignores why ∷ []) ∷ [] → ArrivesTo
+  over why is =
+      not_held (ap (λ ms. is_held_first request (effects_of i.outbox.session r.both.trace ms)) is) (ap (list_all admits_alone) is)
+      (subst (AllGo i names notes s0 r (Some place) []) (sym is) (ignored_go i names notes f.fit.fit.distinct s0 r place first why (subst (AreStepsFit i r) is f.fit.steps)))
+
+  rejects : items_then i r cid header ≡ rejected a ∷ [] → ArrivesTo
+  rejects is =
+      not_held (ap (λ ms. is_held_first request (effects_of i.outbox.session r.both.trace ms)) is) (ap (list_all admits_alone) is)
+      (subst (AllGo i names notes s0 r (Some place) []) (sym is) (rejected_go i names notes f.fit.fit.distinct s0 r place first (connection_of a.request) (Reject 5 (header_of a.request)) (subst (AreStepsFit i r) is f.fit.steps)))
+
+  executes : (d : Deeds) (rest : List (List Mark)) → is_immediate a.request ≡ true → IsDone i.outbox.session r.both.trace AtArrival a d → items_then i r cid header ≡ (Executes a ∷ marks_done a d) ∷ rest → EachOn (IsDue i.outbox.session) ((Executes a ∷ marks_done a d) ∷ r.both.trace) rest → ArrivesTo
+  executes d rest immediate does is due =
+      not_held (ap (λ ms. is_held_first request (effects_of i.outbox.session r.both.trace ms)) is ∙ ap not immediate) (ap (list_all admits_alone) is ∙ due_alone i rest ((Executes a ∷ marks_done a d) ∷ r.both.trace) due)
+      (subst (AllGo i names notes s0 r (Some place) []) (sym is)
+      (executed_go i names notes f.fit.fit.distinct s0 r place first a refl f.before.waiting d rest does due (subst (λ ms. list_all (list_all (is_plain r.both.event)) ms ≡ true) is p.plain) (subst (AreStepsFit i r) is f.fit.steps)))
+
+  -- ---- it is held first
+
+  waited : (b : Arrival) → is_waiting b r.both.trace ≡ true → (b.event == r.both.event) ≡ false
+  waited b is =
+      let x : Passing (λ (c : Arrival). c.event == b.event) (waiting r.both.trace) = any_in (λ (c : Arrival). c.event == b.event) (waiting r.both.trace) is in
+      ne_eqb b.event r.both.event (λ same. let lt : x.x.event < r.both.event = each_in (λ (c : Arrival). c.event < r.both.event) (waiting r.both.trace) x.x x.there f.before.waiting in let at = eqb-true x.x.event b.event x.passes in let none : ⊥ = omega (arith, lt, at, same) in none)
+
+  module _ (rest : List (List Mark)) (numbered : is_immediate a.request ≡ false) (new : is_received r.both.trace a.number ≡ false) (is : items_then i r cid header ≡ (Admits a ∷ []) ∷ rest) (due : EachOn (IsDue i.outbox.session) ((Admits a ∷ []) ∷ r.both.trace) rest) where
+    steps : AreStepsFit i r ((Admits a ∷ []) ∷ rest)
+    steps = subst (AreStepsFit i r) is f.fit.steps
+
+    plain_rest : list_all (list_all (is_plain r.both.event)) rest ≡ true
+    plain_rest = (and_parts (list_all (is_plain r.both.event) (Admits a ∷ [])) (list_all (list_all (is_plain r.both.event)) rest) (subst (λ ms. list_all (list_all (is_plain r.both.event)) ms ≡ true) is p.plain)).1
+
+    behind_first : (items : List (List Mark)) → AreStepsFit i (side_behind i r (Admits a ∷ [])) items → IsSound i.outbox (side_behind i r (Admits a ∷ [])).both.box
+    behind_first [] h = h
+    behind_first (item ∷ items) h = h.0.fit.sound
+
+    abbrev held_state : State
+    held_state = record s { held = held_now i names notes f.fit.fit.distinct s0 r place first a refl f.before.admitted new (f.fit.received rest is) steps.0 (behind_first rest steps.1) }
+
+    held_first : is_held_first request (effects_of i.outbox.session r.both.trace ((Admits a ∷ []) ∷ rest)) ≡ true
+    held_first =
+        ap (λ es. is_held_first request (enables es ++ effects_of i.outbox.session ((Admits a ∷ []) ∷ r.both.trace) rest)) (newly-untouched i.outbox.session r.both.trace (Admits a ∷ []) (record { enters_none = refl; leaves_no = λ n. refl }))
+        ∙ by_rest rest ((Admits a ∷ []) ∷ r.both.trace) due
+      where
+        by_start : (items : List (List Mark)) (t : Trace) (item : List Mark) (start : Start) (b : Arrival) (ms : List Mark) → is_held_first request (effects_of_item i.outbox.session t (start_mark start b ∷ ms) ++ effects_of i.outbox.session (item ∷ t) items) ≡ true
+        by_start items t item AtTurn b ms = ap not numbered
+        by_start items t item AtArrival b ms = ap not numbered
+        by_start items t item AfterWaiting b ms = ap not numbered
+
+        by_rest : (items : List (List Mark)) (t : Trace) → EachOn (IsDue i.outbox.session) t items → is_held_first request (effects_of i.outbox.session t items) ≡ true
+        by_rest [] t h = ap not numbered
+        by_rest (item ∷ items) t h = ap (λ ms. is_held_first request (effects_of_item i.outbox.session t ms ++ effects_of i.outbox.session (item ∷ t) items)) h.0.is ∙ by_start items t item h.0.start h.0.a (marks_done h.0.a h.0.deeds)
+
+    pub holds : ArrivesTo
+    holds =
+        subst (λ v. GoesTo i (done (cond v (happens i None e (changed (hold request place) begins)) (happens i (Some place) e begins))) (rules.done (happens_there i r e)))
+        (sym (ap (λ ms. is_held_first request (effects_of i.outbox.session r.both.trace ms)) is ∙ held_first))
+        (event_goes i names notes held_state r None e (event_of (ap (list_all admits_alone) is ∙ due_alone i rest ((Admits a ∷ []) ∷ r.both.trace) due)) f.outbox
+        (subst (AllGo i names notes (record held_state { outbox = outbox_first i r e lead s.outbox }) r None []) (sym is)
+        (received_go i names notes f.fit.fit.distinct s0 r place first a refl f.before.admitted new (f.fit.received rest is) steps.0 (behind_first rest steps.1) rest due waited plain_rest steps.1)) p.started p.calm)
+
+  -- a request that waits isn't one of what is proved
+  postponed : (rest : List (List Mark)) → items_then i r cid header ≡ (Waits a ∷ []) ∷ rest → ArrivesTo
+  postponed rest is = absurd (false≢true (subst (λ ms. list_all (list_all (is_plain r.both.event)) ms ≡ true) is p.plain))
+
+  pub arrives_to : ArrivesTo
+  arrives_to = by_becomes (becomes i.outbox.session r.both.trace a)
+    where
+      by_becomes : Becomes i.outbox.session r.both.trace a (items_then i r cid header) → ArrivesTo
+      by_becomes (IsIgnored why is) = over why is
+      by_becomes (IsRejected is) = rejects is
+      by_becomes (IsReceived rest numbered new is due) = holds rest numbered new is due
+      by_becomes (IsExecuted d rest immediate does is due) = executes d rest immediate does is due
+      by_becomes (IsPostponed rest immediate is due) = postponed rest is

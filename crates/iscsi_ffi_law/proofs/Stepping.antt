@@ -1,0 +1,115 @@
+-- From between two items of an event to between the next two: the outbox, and what is asked of all that is kept.
+use Rattle.std.proofs.Common.{◌≡◌, ℕ, ◌+◌, ◌<◌, ◌≤◌, ◌==◌, ◌&&◌, Bool, true, false, List, ◌++◌, length, Option, None, refl, ap, sym, subst, ◌∙◌, arith}
+use Rattle.std.specs.List.{list_any, position}
+use Rattle.iscsi_history.specs.declared.effect.Effect.{Effect}
+use Rattle.iscsi_history.specs.declared.effect.Effect.TheVariants.{CloseConn, CloseSession, Deliver, Empty, Enable, Enter, Ignore, Immediate, Leave, Send, Void, Wait}
+use Rattle.iscsi_history.specs.rules.Settings.{are_distinct}
+use Rattle.iscsi_history.specs.rules.Trace.{Mark}
+use Rattle.iscsi_outbox_rules.specs.rules.Boxes.{Box, Link}
+use Rattle.iscsi_outbox_rules.specs.rules.Items.{after_item}
+use Rattle.iscsi_outbox_rules.specs.rules.Words.{is_running}
+use Rattle.iscsi_outbox_rules.specs.rules.Queues.{takes_more}
+use Rattle.iscsi_outbox_rules.specs.rules.Run.{new_link}
+use Rattle.iscsi_outbox_law.specs.Commands.{link_in}
+use Rattle.iscsi_outbox_law.specs.Pairs.{EachOf}
+use Rattle.iscsi_outbox_law.proofs.PairLemmas.{each-weaken}
+use Rattle.iscsi_ffi_law.proofs.Members.{PassingAt, any_at, at_any}
+use Rattle.iscsi_ffi_law.proofs.Queued.{SameOut}
+use Rattle.iscsi_outbox_law.specs.Sound.{IsSound}
+use Rattle.iscsi_outbox_law.specs.Stands.{Stands as OutboxStands}
+use Rattle.iscsi_outbox_law.proofs.TakesItem.{item_stands}
+use Rattle.iscsi_outbox_law.proofs.TurningCount.{item_last, newest_item}
+use Rattle.iscsi_outbox_steps.specs.State.{Limits, State as OutboxState, limits_of, place_of}
+use Rattle.iscsi_outbox_steps.specs.Steps.{after_item as steps_after_item, is_running_ticket}
+use Rattle.iscsi_ffi_rules.specs.declared.action.Action.{Action}
+use Rattle.iscsi_ffi_rules.specs.rules.Calls.{Interface}
+use Rattle.iscsi_ffi_rules.specs.rules.Sides.{Side}
+use Rattle.iscsi_ffi_steps.specs.State.{State}
+use Rattle.iscsi_ffi_steps.specs.Walk.{on_effects}
+use Rattle.iscsi_ffi_law.specs.Arrived.{IsStepFit, effects_by, side_behind}
+use Rattle.iscsi_ffi_law.specs.Names.{Name, Note}
+use Rattle.iscsi_ffi_law.proofs.Between.{IsBetween}
+use Rattle.iscsi_ffi_law.proofs.Moved.{run_same}
+use Rattle.iscsi_ffi_law.proofs.Walking.{is_led, walk_at}
+
+-- a reply goes out on a connection that takes it, and nothing is closed
+abbrev pub IsCalm : Box → Effect → Type 0
+IsCalm b (Send cid sn reply) = list_any (λ (l : Link). l.conn == cid && takes_more l) b.links ≡ true
+IsCalm b (CloseConn cid) = ⊥
+IsCalm b CloseSession = ⊥
+IsCalm b _ = Unit {0}
+
+-- each connection goes out as before
+pub record SameLinks (b b' : Box) : Type 0 where
+  pub long : length b'.links ≡ length b.links
+  pub same : (p : ℕ) → p < length b.links → SameOut (link_in b.links p) (link_in b'.links p)
+
+pub links_unmoved : (b b' : Box) → b' ≡ b → SameLinks b b'
+links_unmoved b b' is = subst (SameLinks b) (sym is) (record { long = refl; same = λ p within. record { conn = refl; takes = refl; left = refl } })
+
+pub links_then : (b c d : Box) → SameLinks b c → SameLinks c d → SameLinks b d
+links_then b c d h k = record {
+  long = k.long ∙ h.long;
+  same = λ p within.
+      let x : SameOut (link_in b.links p) (link_in c.links p) = h.same p within in
+      let y : SameOut (link_in c.links p) (link_in d.links p) = k.same p (let l = h.long in omega (arith, within, l)) in
+      record { conn = y.conn ∙ x.conn; takes = y.takes ∙ x.takes; left = y.left ∙ x.left };
+}
+
+calm_on : (b c : Box) → SameLinks b c → (e : Effect) → IsCalm b e → IsCalm c e
+calm_on b c h (Send cid sn reply) k =
+    let at : PassingAt (λ (l : Link). l.conn == cid && takes_more l) b.links (new_link 0) = any_at (λ (l : Link). l.conn == cid && takes_more l) b.links (new_link 0) k in
+    let within : at.place < length c.links = (let l = h.long in let w = at.within in omega (arith, l, w)) in
+    let same : SameOut (link_in b.links at.place) (link_in c.links at.place) = h.same at.place at.within in
+    at_any (λ (l : Link). l.conn == cid && takes_more l) c.links at.place (new_link 0) within (ap (λ n. n == cid && takes_more (link_in c.links at.place)) same.conn ∙ ap (λ v. (link_in b.links at.place).conn == cid && v) same.takes ∙ at.passes)
+calm_on b c h (CloseConn cid) k = k
+calm_on b c h CloseSession k = k
+calm_on b c h (Deliver r) k = tt
+calm_on b c h (Immediate r) k = tt
+calm_on b c h (Wait r) k = tt
+calm_on b c h (Void n) k = tt
+calm_on b c h (Empty n) k = tt
+calm_on b c h (Enter t u a) k = tt
+calm_on b c h (Enable t u) k = tt
+calm_on b c h (Leave t u) k = tt
+calm_on b c h (Ignore why) k = tt
+
+pub all_calm_on : (b c : Box) → SameLinks b c → (es : List Effect) → EachOf (IsCalm b) es → EachOf (IsCalm c) es
+all_calm_on b c h es = each-weaken (IsCalm b) (IsCalm c) es (calm_on b c h)
+
+-- what an item comes to: the walk goes on, and the same holds behind it
+pub record GoesOn (i : Interface) (names : List Name) (notes : List Note) (s : State) (r : Side) (own : Option ℕ) (xs : List (Option ℕ)) (item : List Mark) : Type 0 where
+  pub state : State
+  pub ended : List (Option ℕ)
+  pub between : IsBetween i names notes state (side_behind i r item) None ended
+  pub outbox : state.outbox ≡ steps_after_item (effects_by i r item) s.outbox
+  pub room : state.room ≡ s.room
+  pub few : length ended ≤ length xs + 1
+  pub links : SameLinks r.both.box (side_behind i r item).both.box
+  pub calm : EachOf (IsCalm (side_behind i r item).both.box) (effects_by i r item)
+  pub walk : (o : OutboxState) → o.limits ≡ limits_of i.outbox → (acts : List Action) (first : Bool) (rest : List Effect) → is_led rest ≡ true
+      → on_effects first (effects_by i r item ++ rest) (walk_at o s acts xs own r.both.box.sent) ≡ on_effects false rest (walk_at o state acts ended None (side_behind i r item).both.box.sent)
+
+module _ (i : Interface) (names : List Name) (notes : List Note) (s : State) (r : Side) (own : Option ℕ) (xs : List (Option ℕ)) (k : IsBetween i names notes s r own xs) (item : List Mark) (fit : IsStepFit i r item) (distinct : are_distinct i.outbox.session.conns ≡ true)
+    (sound : IsSound i.outbox (side_behind i r item).both.box) where
+  abbrev pub es : List Effect
+  es = effects_by i r item
+
+  abbrev pub box_then : Box
+  box_then = after_item i.outbox r.both.box (effects_by i r item)
+
+  abbrev pub outbox_then : OutboxState
+  outbox_then = steps_after_item (effects_by i r item) s.outbox
+
+  pub stands_then : OutboxStands i.outbox (steps_after_item (effects_by i r item) s.outbox) (after_item i.outbox r.both.box (effects_by i r item))
+  stands_then = item_stands i.outbox s.outbox r.both.box k.outbox fit.fit.sound distinct (effects_by i r item) fit.fit.item_sound (newest_item s.outbox r.both.box (effects_by i r item) k.counts.tracked fit.fit.item_sound.next) fit.fit.fits fit.fit.time
+
+  pub last_then : (steps_after_item (effects_by i r item) s.outbox).tracked.last ≤ length (after_item i.outbox r.both.box (effects_by i r item)).tasks
+  last_then = item_last i.outbox s.outbox r.both.box (effects_by i r item) k.counts.tracked fit.fit.item_sound.next
+
+  pub runs_then : ((ticket : ℕ) → is_running (after_item i.outbox r.both.box (effects_by i r item)) ticket ≡ is_running r.both.box ticket) → (ticket : ℕ) → is_running_ticket ticket (steps_after_item (effects_by i r item) s.outbox) ≡ is_running_ticket ticket s.outbox
+  runs_then same = run_same i s r (steps_after_item (effects_by i r item) s.outbox) (after_item i.outbox r.both.box (effects_by i r item)) k.outbox fit.fit.sound stands_then sound distinct same
+
+  -- a connection has the same place in the outbox that the event found
+  pub places_same : (o : OutboxState) → o.limits ≡ limits_of i.outbox → (cid : ℕ) → place_of o cid ≡ place_of s.outbox cid
+  places_same o limits cid = ap (λ (l : Limits). position (λ (c : ℕ). c == cid) l.cids) (limits ∙ sym k.outbox.sizes.limits)

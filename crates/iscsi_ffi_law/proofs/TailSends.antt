@@ -1,0 +1,312 @@
+-- A request executes, and is answered: its use is that of the reply that waits.
+use Rattle.std.proofs.Common.{◌≡◌, ℕ, ◌+◌, ◌≤◌, ◌==◌, ◌&&◌, Bool, true, false, List, [], ◌∷◌, ◌++◌, length, count_by, Option, Some, None, refl, ap, sym, subst, ◌∙◌, arith, length-set}
+use Rattle.std.specs.List.{filter_map, list_any}
+use Rattle.std.proofs.lemmas.Bool.{eqb-true}
+use Rattle.std.proofs.lemmas.List.{append_assoc}
+use Rattle.iscsi_wire.specs.declared.reply.Reply.{Reply}
+use Rattle.iscsi_wire.specs.Fields.{connection_of}
+use Rattle.iscsi_history.specs.declared.effect.Effect.{Effect}
+use Rattle.iscsi_history.specs.declared.effect.Effect.TheVariants.{Send}
+use Rattle.iscsi_history.specs.rules.Settings.{are_distinct}
+use Rattle.iscsi_history.specs.rules.Trace.{Arrival, Mark, Sends, first_of}
+use Rattle.iscsi_history.specs.rules.Run.{stat_sn_of}
+use Rattle.iscsi_history.proofs.BoolLemmas.{and_parts}
+use Rattle.iscsi_history.proofs.CountLemmas.{one}
+use Rattle.iscsi_history.proofs.Forms.{AfterWaiting, AtArrival, AtTurn, Start}
+use Rattle.iscsi_history.proofs.NewlyLemmas.{Untouched, newly-untouched}
+use Rattle.iscsi_outbox_rules.specs.rules.Boxes.{Box, Link}
+use Rattle.iscsi_outbox_rules.specs.rules.Due.{settle}
+use Rattle.iscsi_outbox_rules.specs.rules.Items.{after_item, reply_sent, send}
+use Rattle.iscsi_outbox_rules.specs.rules.Queues.{takes_more}
+use Rattle.iscsi_outbox_rules.specs.rules.Run.{new_link}
+use Rattle.iscsi_outbox_rules.specs.rules.Words.{is_running}
+use Rattle.iscsi_outbox_law.specs.Commands.{is_under_way, link_in}
+use Rattle.iscsi_outbox_law.specs.Sound.{IsSound}
+use Rattle.iscsi_outbox_law.proofs.PlaceLemmas.{AreApart as LinksApart, IsPlace, conns_of, none_here, one_place}
+use Rattle.iscsi_outbox_law.proofs.Standing.{links_apart, stands_nowhere, stands_there}
+use Rattle.iscsi_outbox_steps.specs.State.{State as OutboxState, limits_of, place_of}
+use Rattle.iscsi_outbox_steps.specs.Steps.{after_item as steps_after_item}
+use Rattle.iscsi_requests.specs.Conns.{of_conn}
+use Rattle.iscsi_requests.specs.Replies.{pushed}
+use Rattle.iscsi_ffi_rules.specs.declared.action.Action.{Action}
+use Rattle.iscsi_ffi_rules.specs.rules.Calls.{Interface}
+use Rattle.iscsi_ffi_rules.specs.rules.Sides.{Side}
+use Rattle.iscsi_ffi_steps.specs.State.{State}
+use Rattle.iscsi_ffi_steps.specs.Walk.{Walk, may_wait, on_effect, on_effects}
+use Rattle.iscsi_ffi_law.specs.Arrived.{AreDistinct, IsSendFit, IsStepFit, effects_by, side_behind}
+use Rattle.iscsi_ffi_law.specs.Names.{Name, Note, place_named}
+use Rattle.iscsi_ffi_law.specs.Stands.{AreRequests}
+use Rattle.iscsi_ffi_law.specs.Uses.{count_held, is_place}
+use Rattle.iscsi_ffi_law.proofs.Between.{IsBetween, IsHeaded, distinct_same, held_same}
+use Rattle.iscsi_ffi_law.proofs.DoneShape.{enables}
+use Rattle.iscsi_ffi_law.proofs.QuietItems.{IsUnheld, is_held_on}
+use Rattle.iscsi_ffi_law.proofs.Slots.{slots_same}
+use Rattle.iscsi_outbox_law.specs.Pairs.{EachOf}
+use Rattle.iscsi_outbox_law.proofs.PairLemmas.{each-weaken}
+use Rattle.iscsi_requests.specs.Numbers.{HeldNumbers, size_for}
+use Rattle.iscsi_wire.specs.declared.request.Request.{Request}
+use Rattle.iscsi_ffi_law.specs.Parts.{AreHeld, IsNote, IsRequest}
+use Rattle.iscsi_ffi_rules.specs.rules.Happening.{answers_in}
+use Rattle.iscsi_ffi_rules.specs.declared.action.StopReason.{StopReason}
+use Rattle.iscsi_ffi_law.proofs.QuietBox.{IsQuietPart}
+use Rattle.iscsi_ffi_law.proofs.DoneRoom.{may_wait_more}
+use Rattle.iscsi_ffi_law.proofs.Finish.{as_many_links}
+use Rattle.iscsi_ffi_law.proofs.Members.{PassingAt, any_at}
+use Rattle.iscsi_ffi_law.proofs.Plain.{answers_plain, each_plain, effects_plain, plain_effects, plain_item, quiet_plain, start_effect, untouched_plain, void_effects}
+use Rattle.iscsi_ffi_law.proofs.Quiet.{settled_tasks}
+use Rattle.iscsi_ffi_law.proofs.QuietBox.{quiet_item, sent_tasks}
+use Rattle.iscsi_ffi_law.proofs.QuietRequests.{entered_on, requests_on}
+use Rattle.iscsi_ffi_law.proofs.QuietSends.{sends_reply}
+use Rattle.iscsi_ffi_law.proofs.Releases.{endings}
+use Rattle.iscsi_ffi_law.proofs.Releasing.{ending}
+use Rattle.iscsi_ffi_law.proofs.ReplyRequests.{IsReplied, requests_replied}
+use Rattle.iscsi_ffi_law.proofs.Stepping.{GoesOn, IsCalm, SameLinks, all_calm_on, last_then, places_same, runs_then, stands_then}
+use Rattle.iscsi_ffi_law.proofs.TailOver.{voids_past}
+use Rattle.iscsi_ffi_law.proofs.Walking.{is_led, led_end, sends_walk, walk_at, walk_in}
+
+-- uses that have ended in an event are of requests that aren't held, also where the one that executes isn't any more
+pub over_still : (i : Interface) (names : List Name) (notes : List Note) (s : State) (r : Side) (own : Option ℕ) (xs : List (Option ℕ)) (k : IsBetween i names notes s r own xs) (item : List Mark) (start : Start) (a : Arrival) (h : IsHeaded i names notes s r own xs item start a)
+    → (p : ℕ) → 1 ≤ endings xs p → count_by (is_place p) h.held.places ≡ 0
+over_still i names notes s r own xs k item start a h p some = by_own own refl
+  where
+    by_own : (x : Option ℕ) → own ≡ x → count_by (is_place p) h.held.places ≡ 0
+    by_own None is = let nothing : ending own p ≡ 0 = ap (λ z. ending z p) is in let before = k.over p some in omega (arith, h.uses p, nothing, before)
+    by_own (Some q) is = absurd (let first : endings xs p ≡ 0 = ap (λ ys. endings ys p) (k.own_first q is) in let no : ⊥ = omega (arith, some, first) in no)
+
+-- a request is answered by the item: it has a use that isn't any yet, which comes to be that of its reply
+pub record IsAnswering (i : Interface) (names : List Name) (notes : List Note) (s : State) (r : Side) (own : Option ℕ) (xs : List (Option ℕ)) (item : List Mark) (x : Option Request) (cid event : ℕ) (reply : Reply) : Type 0 where
+  pub held : HeldNumbers
+  pub place : ℕ
+  pub sn : ℕ
+  pub effects : List Effect
+  pub current : Option ℕ
+  pub own_then : Option ℕ
+  pub by : Option StopReason
+  pub untouched : Untouched item
+  pub effects_are : effects_by i r item ≡ effects
+  pub part : IsQuietPart effects x (Some (cid, reply))
+  pub answers : answers_in r.both.event item ≡ event ∷ []
+  pub long : length held.places ≡ length s.held.places
+  pub named : place_named names event ≡ Some place
+  pub uses : (p : ℕ) → count_by (is_place p) held.places + (one (place == p) + endings xs p) ≡ count_held p s + (ending own p + endings xs p)
+  pub requests : EachOf (IsRequest (record s { held = held }) (item ∷ r.both.trace)) names
+  pub noted : EachOf (IsNote (record s { held = held }) r.both.box.links) notes
+  pub slots : AreHeld (size_for i.outbox.session.window) s.commands.room names held (item ∷ r.both.trace)
+  pub distinct : AreDistinct (item ∷ r.both.trace)
+  pub over : (p : ℕ) → 1 ≤ endings xs p → count_by (is_place p) held.places ≡ 0
+  pub calm : (b : Box) → list_any (λ (l : Link). l.conn == cid && takes_more l) b.links ≡ true → EachOf (IsCalm b) effects
+  pub of_it : ◌≡◌ {A = Option ℕ} (elim current [ Some q ↦ Some q | None ↦ own_then ]) (Some place)
+  pub walk : (o : OutboxState) (acts : List Action) (first : Bool) (rest : List Effect) (sent : ℕ)
+      → on_effects first (effects ++ rest) (walk_at o s acts xs own sent) ≡ on_effects false rest (on_effect false (Send cid sn reply) (walk_in o (record s { held = held }) acts xs current own_then by sent))
+
+module _ (i : Interface) (names : List Name) (notes : List Note) (s : State) (r : Side) (own : Option ℕ) (xs : List (Option ℕ)) (k : IsBetween i names notes s r own xs) (item : List Mark) (x : Option Request) (cid event : ℕ) (reply : Reply)
+    (fit : IsStepFit i r item) (distinct : are_distinct i.outbox.session.conns ≡ true) (sound : IsSound i.outbox (side_behind i r item).both.box) (h : IsAnswering i names notes s r own xs item x cid event reply) where
+  abbrev sent_box : Box
+  sent_box = send i.outbox x [] [] [] (Some (cid, reply)) r.both.box
+
+  box_is : after_item i.outbox r.both.box (effects_by i r item) ≡ settle i.outbox sent_box
+  box_is = ap (after_item i.outbox r.both.box) h.effects_are ∙ quiet_item i.outbox r.both.box h.effects x (Some (cid, reply)) h.part
+
+  sends : IsSendFit i.outbox r.both.box cid
+  sends = fit.sends cid reply (ap (λ (es : List Effect). first_of (filter_map reply_sent es)) h.effects_are ∙ h.part.sends)
+
+  there : PassingAt (λ (l : Link). l.conn == cid && takes_more l) r.both.box.links (new_link 0)
+  there = any_at (λ (l : Link). l.conn == cid && takes_more l) r.both.box.links (new_link 0) sends.takes
+
+  abbrev p : ℕ
+  p = there.place
+
+  conn_is : (link_in r.both.box.links there.place).conn ≡ cid
+  conn_is = eqb-true (link_in r.both.box.links there.place).conn (cid) (and_parts ((link_in r.both.box.links there.place).conn == cid) (takes_more (link_in r.both.box.links there.place)) there.passes).0
+
+  takes_it : takes_more (link_in r.both.box.links there.place) ≡ true
+  takes_it = (and_parts ((link_in r.both.box.links there.place).conn == cid) (takes_more (link_in r.both.box.links there.place)) there.passes).1
+
+  apart_links : LinksApart (conns_of r.both.box.links)
+  apart_links = links_apart (is_under_way i.outbox r.both.box.links) i.outbox s.outbox r.both.box k.outbox distinct
+
+  place_is : place_of s.outbox (cid) ≡ Some (there.place)
+  place_is = by_place (place_of s.outbox cid) refl
+    where
+      by_place : (z : Option ℕ) → place_of s.outbox cid ≡ z → z ≡ Some (there.place)
+      by_place None none = absurd (none_here r.both.box.links cid there.place (stands_nowhere (is_under_way i.outbox r.both.box.links) i.outbox s.outbox r.both.box k.outbox cid none) there.within conn_is)
+      by_place (Some q) found =
+          let at : IsPlace r.both.box.links cid q = stands_there (is_under_way i.outbox r.both.box.links) i.outbox s.outbox r.both.box k.outbox cid q found in
+          ap (λ (v : ℕ). Some v) (one_place r.both.box.links q there.place apart_links at.within there.within (at.is ∙ sym conn_is))
+
+  long : length s.replies.waiting ≡ length r.both.box.links
+  long = k.sizes.replies ∙ sym (as_many_links i s r k.outbox)
+
+  abbrev outbox' : OutboxState
+  outbox' = steps_after_item (effects_by i r item) s.outbox
+
+  abbrev s1 : State
+  s1 = record s { held = h.held }
+
+  abbrev r1 : Side
+  r1 = record r { both = record r.both { trace = item ∷ r.both.trace } }
+
+  abbrev pending1 : ℕ → ℕ
+  pending1 q = one (h.place == q) + endings xs q
+
+  requests1 : AreRequests names notes pending1 (λ q. []) s1 r1
+  requests1 = requests_on names notes (λ q. ending own q + endings xs q) (λ q. []) s r k.requests item h.untouched r.both.event h.held pending1 (λ q. omega (arith, h.uses q)) h.requests h.noted
+
+  replied : IsReplied names s1 r1 event there.place h.place (after_item i.outbox r.both.box (effects_by i r item))
+  replied = subst (IsReplied names s1 r1 event there.place h.place) (sym box_is)
+      (sends_reply i names notes pending1 (λ q. []) s1 r1 requests1 k.outbox fit.fit.sound distinct event there.place h.place cid there.within conn_is takes_it sends.takes long h.named x reply)
+
+  runs : (ticket : ℕ) → is_running (after_item i.outbox r.both.box (effects_by i r item)) ticket ≡ is_running r.both.box ticket
+  runs ticket =
+      ap (λ (b : Box). is_running b ticket) box_is
+      ∙ ap (λ ts. is_running (record r.both.box { tasks = ts }) ticket) (settled_tasks i.outbox [] sent_box.undue sent_box ∙ sent_tasks i.outbox x (Some (cid, reply)) r.both.box)
+
+  abbrev state' : State
+  state' = record s { held = h.held; outbox = steps_after_item (effects_by i r item) s.outbox; replies = pushed there.place (record { log_place = r.both.box.sent; request = h.place }) s.replies }
+
+  requests2 : AreRequests names notes (λ q. ending None q + endings xs q) (λ q. []) state' (side_behind i r item)
+  requests2 = subst (λ as'. AreRequests names notes (λ q. ending None q + endings xs q) (λ q. []) state' (record (side_behind i r item) { answers = r.answers ++ as' })) (sym h.answers)
+      (requests_replied names notes pending1 (λ q. ending None q + endings xs q) (λ q. []) s1 r1 requests1 event there.place h.place (λ q. omega arith) there.within long h.named sends.handed outbox' (after_item i.outbox r.both.box (effects_by i r item))
+      (runs_then i names notes s r own xs k item fit distinct sound runs) replied)
+
+  between : IsBetween i names notes state' (side_behind i r item) None xs
+  between = record {
+    requests = requests2;
+    slots = h.slots;
+    outbox = stands_then i names notes s r own xs k item fit distinct sound;
+    sizes = record {
+      room = k.sizes.room;
+      functions = k.sizes.functions;
+      replies = length-set s.replies.waiting there.place (of_conn there.place s.replies.waiting ++ record { log_place = r.both.box.sent; request = h.place } ∷ []) ∙ k.sizes.replies;
+      noted = k.sizes.noted;
+      unwritten = k.sizes.unwritten;
+      noted_room = k.sizes.noted_room;
+      unwritten_room = k.sizes.unwritten_room;
+      replies_room = k.sizes.replies_room;
+      slots = (let l = h.long in let some = k.sizes.slots in omega (arith, l, some));
+      few = k.sizes.few;
+    };
+    flags = record { awake = k.flags.awake; over = k.flags.over };
+    counts = record { units = k.counts.units; last = (let same = ap length (entered_on r.both.trace item h.untouched) in let below = k.counts.last in omega (arith, same, below)); tracked = last_then i names notes s r own xs k item fit distinct sound };
+    withheld = k.withheld;
+    distinct = h.distinct;
+    over = h.over;
+    own_named = λ q none. absurd (let no : ⊥ = cc in no);
+    own_unheld = λ q none. absurd (let no : ⊥ = cc in no);
+    own_first = λ q none. absurd (let no : ⊥ = cc in no);
+  }
+
+  may : may_wait r.both.box.sent s.replies ≡ true
+  may = may_wait_more i names notes pending1 (λ q. []) s1 r1 requests1 k.outbox
+      (record { room = k.sizes.room; functions = k.sizes.functions; replies = k.sizes.replies; noted = k.sizes.noted; unwritten = k.sizes.unwritten; noted_room = k.sizes.noted_room; unwritten_room = k.sizes.unwritten_room; replies_room = k.sizes.replies_room; slots = (let l = h.long in let some = k.sizes.slots in omega (arith, l, some)); few = k.sizes.few })
+      sends.sent sends.replies
+
+  walk : (o : OutboxState) → o.limits ≡ limits_of i.outbox → (acts : List Action) (first : Bool) (rest : List Effect) → is_led rest ≡ true
+      → on_effects first (effects_by i r item ++ rest) (walk_at o s acts xs own r.both.box.sent) ≡ on_effects false rest (walk_at o state' acts xs None (side_behind i r item).both.box.sent)
+  walk o limits acts first rest led =
+      ap (λ es. on_effects first (es ++ rest) (walk_at o s acts xs own r.both.box.sent)) h.effects_are
+      ∙ h.walk o acts first rest r.both.box.sent
+      ∙ ap (on_effects false rest)
+      (sends_walk o s1 acts xs cid h.sn there.place h.place reply h.current h.own_then h.by r.both.box.sent (places_same i names notes s r own xs k item fit distinct sound o limits cid ∙ place_is) h.of_it may
+      (let lt = sends.sent in omega (arith, lt)))
+      ∙ led_end rest led after_send
+      ∙ ap (λ n. on_effects false rest (walk_at o state' acts xs None n)) (sym replied.sent)
+    where
+      after_send : Walk
+      after_send = walk_in o (record s1 { replies = pushed there.place (record { log_place = r.both.box.sent; request = h.place }) s.replies }) acts xs None None h.by (r.both.box.sent + 1)
+
+  same_links : SameLinks r.both.box (side_behind i r item).both.box
+  same_links = record { long = replied.long; same = replied.same }
+
+  pub goes_sent : GoesOn i names notes s r own xs item
+  goes_sent = record {
+    state = state';
+    ended = xs;
+    between = between;
+    outbox = refl;
+    room = refl;
+    few = omega arith;
+    links = same_links;
+    calm = subst (EachOf (IsCalm (side_behind i r item).both.box)) (sym h.effects_are) (h.calm (side_behind i r item).both.box (all_calm_on r.both.box (side_behind i r item).both.box same_links (Send cid h.sn reply ∷ []) (sends.takes, tt)).0);
+    walk = λ o limits acts first rest led. walk o limits acts first rest led;
+  }
+
+-- ---- a request that executes
+
+module _ (i : Interface) (names : List Name) (notes : List Note) (s : State) (r : Side) (own : Option ℕ) (xs : List (Option ℕ)) (k : IsBetween i names notes s r own xs) (start : Start) (a : Arrival) (void : Option ℕ) (reply : Reply)
+    (h : IsHeaded i names notes s r own xs (plain_item start a void None (Some reply)) start a) where
+  abbrev number : ℕ
+  number = stat_sn_of i.outbox.session r.both.trace (connection_of a.request)
+
+  first_calm : (b : Box) (x : Start) → IsCalm b (start_effect x a.request)
+  first_calm b AtTurn = tt
+  first_calm b AtArrival = tt
+  first_calm b AfterWaiting = tt
+
+  pub executed_answering : IsAnswering i names notes s r own xs (plain_item start a void None (Some reply)) (Some (a.request)) (connection_of a.request) a.event reply
+  executed_answering = record {
+    held = h.held;
+    place = h.place;
+    sn = number;
+    effects = plain_effects number start a void None (Some reply) [];
+    current = Some (h.place);
+    own_then = None;
+    by = Some (h.by);
+    untouched = untouched_plain start a void (Some reply);
+    effects_are = effects_plain i.outbox.session r.both.trace start a void None (Some reply)
+        ∙ ap (plain_effects number start a void None (Some reply)) (newly-untouched i.outbox.session r.both.trace (plain_item start a void None (Some reply)) (untouched_plain start a void (Some reply)));
+    part = quiet_plain number start a void (Some reply);
+    answers = answers_plain r.both.event start a void None (Some reply);
+    long = h.long;
+    named = h.named;
+    uses = h.uses;
+    requests = h.requests;
+    noted = h.noted;
+    slots = h.slots;
+    distinct = h.distinct;
+    over = over_still i names notes s r own xs k (plain_item start a void None (Some reply)) start a h;
+    calm = λ b takes. each_plain (IsCalm b) number start a void None (Some reply) [] (first_calm b start) (λ n. tt) (λ c. tt) (λ x is. takes) (λ q u. tt);
+    of_it = refl;
+    walk = λ o acts first rest sent.
+        ap (λ w. on_effects false ((void_effects void ++ (Send (connection_of a.request) number reply ∷ [])) ++ rest) w) (h.walk o acts first sent)
+        ∙ ap (λ es. on_effects false es (walk_in o (record s { held = h.held }) acts xs (Some (h.place)) None (Some (h.by)) sent)) (append_assoc (void_effects void) (Send (connection_of a.request) number reply ∷ []) rest)
+        ∙ voids_past void (Send (connection_of a.request) number reply ∷ rest) (walk_in o (record s { held = h.held }) acts xs (Some (h.place)) None (Some (h.by)) sent);
+  }
+
+-- ---- one that is rejected for its opcode
+
+module _ (i : Interface) (names : List Name) (notes : List Note) (s : State) (r : Side) (place : ℕ) (xs : List (Option ℕ)) (k : IsBetween i names notes s r (Some place) xs) (cid : ℕ) (reply : Reply) where
+  abbrev rejection : List Mark
+  rejection = Sends cid reply ∷ []
+
+  u : Untouched rejection
+  u = record { enters_none = refl; leaves_no = λ n. refl }
+
+  v : IsUnheld rejection
+  v = record { admits = refl; admits_none = λ n. refl; delivers = λ n. refl; empties = λ n. refl }
+
+  pub rejected_answering : IsAnswering i names notes s r (Some place) xs (Sends cid reply ∷ []) None cid r.both.event reply
+  rejected_answering = record {
+    held = s.held;
+    place = place;
+    sn = stat_sn_of i.outbox.session r.both.trace cid;
+    effects = Send cid (stat_sn_of i.outbox.session r.both.trace cid) reply ∷ [];
+    current = None;
+    own_then = Some place;
+    by = None;
+    untouched = u;
+    effects_are = ap (λ ns. Send cid (stat_sn_of i.outbox.session r.both.trace cid) reply ∷ enables ns) (newly-untouched i.outbox.session r.both.trace rejection u);
+    part = record { enables = refl; left = refl; entries = refl; entering = λ x. refl; closing = λ links. refl; executes = refl; sends = refl };
+    answers = refl;
+    long = refl;
+    named = k.own_named place refl;
+    uses = λ p. omega arith;
+    requests = each-weaken (IsRequest s r.both.trace) (IsRequest s (rejection ∷ r.both.trace)) names (λ n e. record { held = is_held_on r.both.trace rejection v n.event ∙ e.held; waiting = e.waiting }) k.requests.named;
+    noted = k.requests.noted_apart;
+    slots = slots_same (size_for i.outbox.session.window) s.commands.room names s.held r.both.trace (rejection ∷ r.both.trace) (held_same r.both.trace rejection v) k.slots;
+    distinct = distinct_same r.both.trace rejection v k.distinct;
+    over = λ p some. k.over p some;
+    calm = λ b takes. (takes, tt);
+    of_it = refl;
+    walk = λ o acts first rest sent. refl;
+  }
