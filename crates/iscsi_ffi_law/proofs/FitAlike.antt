@@ -28,10 +28,20 @@ module _ (i : Interface) (opening : IsOpening i) where
     meets_arrival : (cid : ℕ) (header : List ℕ) (cookie : ℕ) → IsCallFit i r (Arrives cid header cookie) → Left i s r (Arrives cid header cookie) → (x : Option Refusal) → refusal_of i r cid ≡ x → Meets i s r (Arrives cid header cookie)
     meets_arrival cid header cookie call left (Some why) is = inl (fit.leaves (outbox.Hears cid 0 0) refl, (why, is))
     meets_arrival cid header cookie call left None is =
-        let room = free_taken i opening n s r st z h cid is in
-        ⊎_elim (λ k. inr (inl (record { fit = (call is).fit; taken = is; room = room; is = k })))
-        (λ more. ⊎_elim (λ k. inr (inr (inl (record { fit = (call is).fit; taken = is; room = room; is = k; placed = placed i opening n s r st z h }))))
-        (λ k. inr (inr (inr k))) more) (left is)
+        let k = call is in
+        ⊎_elim
+        (λ x. let e = x.0 in let w = k.event in inr (inl (record {
+          fit = record {
+            before = k.before;
+            heard = k.heard;
+            event = record { fit = w.fit; steps = e.steps; stale = w.stale; events = w.events; sent = w.sent; short = e.short; enabled = e.enabled; distinct = e.distinct; received = e.received };
+          };
+          taken = is;
+          room = free_taken i opening n s r st z h cid is;
+          placed = placed i opening n s r st z h;
+          plain = x.1;
+        })))
+        (λ x. inr (inr x)) (left is)
 
     meets_completed : (ticket status : ℕ) → IsCallFit i r (Completes ticket status) → (v : Bool) → is_going r ticket ≡ v → Meets i s r (Completes ticket status)
     meets_completed ticket status call true is = inr (is, call is)

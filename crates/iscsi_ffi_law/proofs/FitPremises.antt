@@ -24,10 +24,10 @@ use Rattle.iscsi_ffi_rules.specs.rules.Clearing.{next_withheld, status_of}
 use Rattle.iscsi_ffi_rules.specs.rules.Happening.{Told, happening, other, withholding}
 use Rattle.iscsi_ffi_rules.specs.rules.Run.{heard_in, is_lost, parting, refusal_of}
 use Rattle.iscsi_ffi_rules.specs.rules.Sides.{Side}
-use Rattle.iscsi_ffi_law.specs.Arrived.{AreBefore, AreItemsFit}
+use Rattle.iscsi_ffi_law.specs.Arrived.{AreBefore}
 use Rattle.iscsi_ffi_law.specs.Done.{AllDone, AreDoneFit, IsDoneFit, IsRegular}
 use Rattle.iscsi_ffi_law.specs.Fit.{IsFit}
-use Rattle.iscsi_ffi_law.specs.Sides.{IsLossFit, IsOpening, IsSideFit, IsTakenFit, asking}
+use Rattle.iscsi_ffi_law.specs.Sides.{AreItemsFit, IsLossFit, IsOpening, IsSideFit, IsTakenFit, asking}
 use Rattle.iscsi_ffi_law.proofs.DoneShape.{done_effects, done_entry, entry_is, one_part}
 use Rattle.iscsi_ffi_law.proofs.FitFacts.{limits, takes_reply, takes_reply_at, there_live, ticket_is}
 use Rattle.iscsi_ffi_law.proofs.FitFollows.{live_there, tickets_up, units_there}
@@ -189,18 +189,16 @@ module _ (i : Interface) (opening : IsOpening i) where
       let g = holds_heard i distinct n r cid header h in
       let read = arrival_read i distinct n r cid header is h in
       record {
-        fit = record {
-          before = record { asked = h.asked; answers = h.answers; entered = h.earlier.entered_by; admitted = h.earlier.admitted; waiting = h.earlier.waits };
-          heard = fit_with n (n + 1) r.both s.both h.good g.good (omega (arith, few)) (omega (arith, few)) (omega (arith, early, later)) (omega (arith, early, later));
-          event = record {
-            fit = fit_with (n + 1) (n + 1) s.both (after_step i.outbox s.both (Happens (Arrive cid header))) g.good (good_event i.outbox (n + 1) s.both (Arrive cid header) read g.good) (omega (arith, few)) (omega (arith, few)) (omega (arith, early, later)) (omega (arith, early, later));
-            items = event_items_fit (n + 1) s (Arrive cid header) read g.good (omega (arith, few)) (omega (arith, early, later));
-            stale = (sound_reached i.outbox distinct s.both g.good.reached).1;
-            events = omega (arith, left, later);
-            sent = (let x = g.good.sent_is in omega (arith, x, early, later));
-            replies = room_left (arrival_room i distinct n r cid header is h);
-            handed = g.placed.handed;
-          };
+        before = record { asked = h.asked; answers = h.answers; entered = h.earlier.entered_by; admitted = h.earlier.admitted; waiting = h.earlier.waits };
+        heard = fit_with n (n + 1) r.both s.both h.good g.good (omega (arith, few)) (omega (arith, few)) (omega (arith, early, later)) (omega (arith, early, later));
+        event = record {
+          fit = fit_with (n + 1) (n + 1) s.both (after_step i.outbox s.both (Happens (Arrive cid header))) g.good (good_event i.outbox (n + 1) s.both (Arrive cid header) read g.good) (omega (arith, few)) (omega (arith, few)) (omega (arith, early, later)) (omega (arith, early, later));
+          items = event_items_fit (n + 1) s (Arrive cid header) read g.good (omega (arith, few)) (omega (arith, early, later));
+          stale = (sound_reached i.outbox distinct s.both g.good.reached).1;
+          events = omega (arith, left, later);
+          sent = (let x = g.good.sent_is in omega (arith, x, early, later));
+          replies = room_left (arrival_room i distinct n r cid header is h);
+          handed = g.placed.handed;
         };
         withheld = withheld_fit (n + 1) w (holds_arrival i distinct n r cid header cookie is h) (omega (arith, few)) early left;
       }

@@ -1,24 +1,35 @@
 -- What is still premised of each call of a list, where the options are within their limits and the list isn't too long.
-use Rattle.std.specs.Prelude.{◌≡◌, ◌<◌, ◌+◌, ◌*◌, ◌⊎◌, true, false, List, [], ◌∷◌, length, None, is_some}
+use Rattle.std.specs.Prelude.{◌≡◌, ◌<◌, ◌≤◌, ◌+◌, ◌*◌, ◌⊎◌, ℕ, true, false, List, [], ◌∷◌, length, None, is_some}
+use Rattle.std.specs.List.{filter_map}
 use Rattle.iscsi_history.specs.rules.Settings.{is_known}
-use Rattle.iscsi_history.specs.rules.Trace.{is_closed}
+use Rattle.iscsi_history.specs.rules.Trace.{Admits, Mark, is_closed}
+use Rattle.iscsi_outbox_rules.specs.promises.Room.{places}
+use Rattle.iscsi_outbox_rules.specs.rules.Items.{ticket_enabled}
 use Rattle.iscsi_requests.specs.Cookies.{next_place}
 use Rattle.iscsi_requests.specs.Numbers.{size_for}
 use Rattle.iscsi_ffi_rules.specs.rules.Calls.{Arrives, Call, Interface, Loses, Puts}
 use Rattle.iscsi_ffi_rules.specs.rules.Run.{after_call, heard_in, is_lost, refusal_of}
 use Rattle.iscsi_ffi_rules.specs.rules.Sides.{Side}
 use Rattle.iscsi_ffi_steps.specs.Steps.{Side as StepsSide, after, called, ended}
-use Rattle.iscsi_ffi_law.specs.Arrived.{IsEntered, IsTaken}
+use Rattle.iscsi_ffi_law.specs.Arrived.{AreDistinct, AreStepsFit, IsPlainArrival, IsReceivable, arrived, effects_then, items_then}
 use Rattle.iscsi_ffi_law.specs.Lists.{Goes}
 
 -- the table of the numbers that are held isn't much longer than the window: so it is with each window that is a power of two
 abbrev pub IsSpare : Interface → Type 0
 IsSpare i = size_for i.outbox.session.window < i.outbox.session.window + 8 * length i.outbox.session.conns
 
--- a request that is taken becomes one of what is proved, or goes alike; a connection that is lost and isn't closed goes alike
+-- what is still premised of the event in which a header arrives
+pub record IsEventLeft (i : Interface) (r : Side) (cid : ℕ) (header : List ℕ) : Type 0 where
+  pub steps : AreStepsFit i r (items_then i r cid header)
+  pub short : length (items_then i r cid header) ≤ places i.outbox
+  pub enabled : length (filter_map ticket_enabled (effects_then i r cid header)) ≤ places i.outbox
+  pub distinct : AreDistinct r.both.trace
+  pub received : (rest : List (List Mark)) → items_then i r cid header ≡ (Admits (arrived i r cid header) ∷ []) ∷ rest → IsReceivable i.outbox.session r.both.trace (arrived i r cid header)
+
+-- a request that is taken is plain, or goes alike; a connection that is lost and isn't closed goes alike
 abbrev pub Left : Interface → StepsSide → Side → Call → Type 0
 Left i s r (Arrives cid header cookie) =
-    refusal_of i r cid ≡ None → IsTaken i (heard_in i r cid header) cid header ⊎ IsEntered i (heard_in i r cid header) cid header ⊎ Goes i s r (Arrives cid header cookie)
+    refusal_of i r cid ≡ None → (IsEventLeft i (heard_in i r cid header) cid header × IsPlainArrival i (heard_in i r cid header) cid header) ⊎ Goes i s r (Arrives cid header cookie)
 Left i s r (Puts p cookie) = IsSpare i ⊎ (is_some (next_place s.state.cookies) ≡ true)
 Left i s r (Loses cid) = is_known cid i.outbox.session.conns ≡ true → is_lost r cid ≡ false → is_closed cid r.both.trace ≡ false → Goes i s r (Loses cid)
 Left i s r _ = Unit {0}

@@ -1,12 +1,15 @@
 -- What holds of the rules' side, whatever calls come: where its options are valid, and the list isn't longer than words count.
 use Rattle.std.specs.Prelude.{◌≡◌, ◌<◌, ◌≤◌, ◌-◌, ◌^◌, ◌&&◌, ◌++◌, ℕ, true, false, List, [], ◌∷◌, length, None, if◌then◌else◌}
+use Rattle.iscsi_history.specs.declared.effect.Effect.{Effect}
 use Rattle.iscsi_history.specs.declared.event.Event.TheVariants.{Arrive}
 use Rattle.iscsi_history.specs.promises.Order.{in_parts}
 use Rattle.iscsi_history.specs.rules.Settings.{is_known, is_valid}
 use Rattle.iscsi_history.specs.rules.Trace.{is_closed, live}
 use Rattle.iscsi_outbox_rules.specs.promises.Room.{is_other, places}
-use Rattle.iscsi_outbox_rules.specs.rules.Boxes.{Handed, Link}
+use Rattle.iscsi_outbox_rules.specs.rules.Boxes.{Box, Handed, Link}
 use Rattle.iscsi_outbox_rules.specs.rules.Calls as outbox
+use Rattle.iscsi_outbox_rules.specs.rules.Calls.{Opening}
+use Rattle.iscsi_outbox_rules.specs.rules.Items.{after_item}
 use Rattle.iscsi_outbox_rules.specs.rules.Run.{after_call as after_box_call}
 use Rattle.iscsi_outbox_rules.specs.rules.Words.{contains, replies_waiting}
 use Rattle.iscsi_outbox_law.specs.Pairs.{EachOf}
@@ -15,9 +18,9 @@ use Rattle.iscsi_ffi_rules.specs.promises.Deeds.{side_of}
 use Rattle.iscsi_ffi_rules.specs.rules.Calls.{Arrives, Call, Completes, Interface, Loses, Stops}
 use Rattle.iscsi_ffi_rules.specs.rules.Clearing.{TASK_ABORTED}
 use Rattle.iscsi_ffi_rules.specs.rules.Happening.{happening, other}
-use Rattle.iscsi_ffi_rules.specs.rules.Run.{after_call, heard_in, is_going, is_lost, parting, refusal_of}
+use Rattle.iscsi_ffi_rules.specs.rules.Run.{after_call, heard_in, is_going, is_lost, parting, refusal_of, tag_heard, word_at}
 use Rattle.iscsi_ffi_rules.specs.rules.Sides.{Side}
-use Rattle.iscsi_ffi_law.specs.Arrived.{AreBefore, AreItemsFit, IsArrivalFit, arrive_call, effects_then}
+use Rattle.iscsi_ffi_law.specs.Arrived.{AreBefore, IsItemFit, arrive_call, effects_then}
 use Rattle.iscsi_ffi_law.specs.Done.{AllDone, AreDoneFit, IsRegular}
 use Rattle.iscsi_ffi_law.specs.Fit.{IsFit, IsOrderly}
 use Rattle.iscsi_ffi_law.specs.Parts.{IsBefore}
@@ -52,9 +55,26 @@ pub record IsSideFit (i : Interface) (r : Side) : Type 0 where
 abbrev pub asking : Side → ℕ → Side
 asking s cookie = record s { asked = s.asked ++ record { event = s.both.event; cookie = cookie } ∷ [] }
 
+-- before each item of an event, and behind it
+abbrev pub AreItemsFit : Opening → Box → List (List Effect) → Type 0
+AreItemsFit o b [] = Unit {0}
+AreItemsFit o b (item ∷ items) = IsItemFit o b item × AreItemsFit o (after_item o b item) items
+
+-- so it is as the session hears a request
+pub record IsHeardFit (i : Interface) (r : Side) (cid : ℕ) (header : List ℕ) : Type 0 where
+  pub fit : IsFit i r.both.box (after_box_call i.outbox r.both.box (arrive_call i r cid header))
+  pub items : AreItemsFit i.outbox r.both.box (in_parts (effects_then i r cid header))
+  pub stale : NoneIsFresh r.both.box
+  pub events : r.both.event < i.outbox.session.events
+  pub sent : r.both.box.sent < 2 ^ 64 - 1
+  pub replies : replies_waiting r.both.box < places i.outbox
+  pub handed : EachOf (λ (l : Link). EachOf (λ (h : Handed). IsBefore r.both.box.sent h.out.sent) l.handed) r.both.box.links
+
 -- a request that isn't refused arrives, and behind it commands that are withheld then complete
 pub record IsTakenFit (i : Interface) (r : Side) (cid : ℕ) (header : List ℕ) (cookie : ℕ) : Type 0 where
-  pub fit : IsArrivalFit i r cid header
+  pub before : AreBefore r
+  pub heard : IsFit i r.both.box (after_box_call i.outbox r.both.box (outbox.Hears cid (word_at 28 header) (tag_heard header)))
+  pub event : IsHeardFit i (heard_in i r cid header) cid header
   pub withheld : let w = happening i (asking (heard_in i r cid header) cookie) (Arrive cid header) in AreDoneFit i (length (live w.side.both.trace)) w
 
 -- so it is as the session hears that a connection was lost. All places for replies may be taken: its answer goes nowhere
