@@ -164,7 +164,7 @@ function drawTop(events, marks, labels) {
         if (!one || width < COLUMN) continue;
         if (one.time !== null) marks.push(text(middle, 15, (one.moved ? "◂ " : "") + one.time, `small middle ${one.moved ? "moved-time" : "quiet"}`));
         if (one.frame !== null) marks.push(text(middle, 28, one.madeUp ? "made up" : `frame ${one.frame}`, "small middle quiet"));
-        if (one.pause) marks.push(box(x(event) - 2, 50, 4, 5000, "pause", 0), text(x(event), 60, `${one.pause.toFixed(2)} s`, "small middle pause-words"));
+        if (one.pause) marks.push(box(x(event) - 2, 50, 4, 5000, "pause", 0), text(x(event), 52, `${one.pause.toFixed(2)} s`, "small middle pause-words"));
     }
 }
 

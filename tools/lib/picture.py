@@ -204,7 +204,7 @@ class Painter:
             self.follow_task(step, now)
         self.follow_numbers(now, steps)
         request = request_of(event) if event.is_arrival else completion_of(event)
-        if event.is_arrival:
+        if event.is_arrival and event.request.opcode not in (pdu.DATA_OUT, pdu.SNACK):
             self.requests[event.cid, event.request.tag] = now
         answers = [self.answer_of(effect) for effect in event.effects if effect.kind == "send"]
         theirs, differences = [], []
