@@ -7,11 +7,8 @@ readonly without_connections="this is a report without the conn lines of its rec
 
 # The reason of a fault line, or nothing.
 why() {
-    local number=0 capture=""
-    case $(first_bytes 12) in
-        d4c3b2a1* | a1b2c3d4* | 4d3cb2a1* | a1b23c4d*) capture=pcap ;;
-        0a0d0d0a????????1a2b3c4d | 0a0d0d0a????????4d3c2b1a) capture=pcapng ;;
-    esac
+    local number=0 capture
+    capture=$(kind_of_capture "$input")
     if [ -n "$capture" ]; then
         echo "the input is a capture of packets ($capture), and no recording"
     elif [[ $1 =~ ^iscsi-replay:\ line\ ([0-9]+):\ (not a line of a recording|longer than 256 bytes)$ ]]; then
@@ -137,9 +134,13 @@ why_no_digits() {
     fi
 }
 
-# The first bytes of the input, in hexadecimal digits.
-first_bytes() {
-    head -c "$1" "$input" | od -An -v -tx1 | tr -d ' \n'
+# Which form of a capture a plain file has, or nothing.
+kind_of_capture() {
+    [ -f "$1" ] || return 0
+    case $(head -c 12 "$1" 2> /dev/null | od -An -v -tx1 | tr -d ' \n') in
+        d4c3b2a1* | a1b2c3d4* | 4d3cb2a1* | a1b23c4d*) echo pcap ;;
+        0a0d0d0a????????1a2b3c4d | 0a0d0d0a????????4d3c2b1a) echo pcapng ;;
+    esac
 }
 
 # A line of the input, of which no more than this many bytes are looked at. Zeros can't be kept: they are bytes 01.

@@ -3,10 +3,45 @@
 #
 # `kept` is the program, `words` are its words, and `input` is the recording's file.
 
-# Becomes the program.
+# Becomes the program; or runs it, where this script has something to say behind it.
 run() {
+    local status
     [ -z "${work-}" ] || rm -rf "$work"
-    exec "$kept" "${words[@]}"
+    if ! asks_help && [ -z "$(kind_of_capture "$named")" ]; then exec "$kept" "${words[@]}"; fi
+    "$kept" "${words[@]}"
+    status=$?
+    say_more "$status" || status=$fault
+    exit "$status"
+}
+
+# Says behind the program's words what this script has to say: its own help, or which tool reads a capture. Its status is 1 where the
+# help can't be written.
+say_more() {
+    if asks_help; then
+        [ "$1" != 0 ] || tell_help 2> /dev/null || { tell "the output could not be written"; return 1; }
+    elif [ "$1" = "$fault" ] && [ -n "$(kind_of_capture "$named")" ]; then
+        tell "${named//[[:cntrl:]]/?} is a capture ($(kind_of_capture "$named")): tools/look makes pages of it, and tools/capture recordings"
+    fi
+}
+
+# Whether the program is asked for its help.
+asks_help() {
+    is_given --help || is_given -h
+}
+
+# The help of this script.
+tell_help() {
+    cat << 'END'
+
+The script iscsi-replay adds to the program:
+
+  FILE                 the recording, in place of standard input; options in its first line, `# iscsi-replay: ..`, hold
+      --explain        say also why the input is refused
+      --version        print the commit, the kit and where the program was proved, and end
+      --cpu x86-64-v3  as the first word: the program for these processors
+      --built          never answer by `rt try`, which proves nothing, where no program is built
+      --prove          prove and build the program, and end
+END
 }
 
 # Runs the program, and then says why it refused its input.
@@ -26,6 +61,7 @@ run_explained() {
         IFS= read -r line < "$work/fault"
         reason=$(why "$line")
         [ -z "$reason" ] || tell "reason: $reason"
+        say_more "$status"
     fi
     exit "$status"
 }

@@ -29,7 +29,7 @@ answer_by_rt() {
 
 # Copies standard input: rt would take a pipe for ended that is silent for two seconds. For the help nothing is read.
 copy_all() {
-    if is_given --help || is_given -h; then
+    if asks_help; then
         : > "$input"
     elif [ ! -e /dev/fd/0 ]; then
         fail "$fault" "the input could not be read"
@@ -69,6 +69,7 @@ give() {
         echo "iscsi-replay: the output could not be written" > "$work/said"
     fi
     own_words >&2
+    say_more "$status" || status=$fault
     tell "not proved here; $to_prove"
     exit "$status"
 }

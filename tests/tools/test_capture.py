@@ -1,5 +1,6 @@
 """Tests of tools/capture: TCP put together, PDUs split, sessions found, recordings that stand still."""
 
+import gzip
 import os
 import shutil
 import struct
@@ -13,14 +14,19 @@ from helpers import TOP, replay, run_tool
 
 sys.path.insert(0, os.path.join(TOP, "tools"))
 from lib import settling  # noqa: E402
+from lib.answers import target_lines  # noqa: E402
+from lib.captures import sessions_of  # noqa: E402
+from lib.frames import Segment  # noqa: E402
+from lib.packets import packets  # noqa: E402
+from lib.pdu import NO_TAG  # noqa: E402
+from lib.repairs import repair  # noqa: E402
 from lib.sessions import find  # noqa: E402
-from lib.streams import Splitter, Stream  # noqa: E402
-from lib.settling import in_taken_order, units_of  # noqa: E402
-from lib.tshark import Segment  # noqa: E402
+from lib.streams import Chunk, Splitter, Stream, is_plausible  # noqa: E402
+from lib.settling import guess, in_taken_order, units_of  # noqa: E402
 
 CAPTURES = os.path.join(TOP, "tests", "tools", "captures")
 HAS_TSHARK = shutil.which("tshark") is not None
-NEEDS_TSHARK = "there is no tshark"
+PORT = 3260
 KEYS = b"InitiatorName=iqn.2026-01.example:i\0TargetName=iqn.2026-01.example:t\0"
 
 
@@ -57,6 +63,12 @@ def response(tag, stat_sn, exp, greatest, status=0, data=b"", digests=0):
     return bytes(reply)
 
 
+def replace_port(one, port):
+    """The segment with another port of the target."""
+    ends = [(address, port if address == b"target" else number) for address, number in (one.source, one.target)]
+    return Segment(one.frame, one.time, *ends, one.sequence, one.begins, one.payload, one.missing, one.acknowledged)
+
+
 class Wire:
     """Segments of connections as they would be captured: one a call, with a frame number each."""
 
@@ -69,13 +81,20 @@ class Wire:
             self.next[stream, side] = sequence
             self.put(stream, side, b"", begins=True)
 
-    def put(self, stream, side, payload, begins=False, at=None):
-        """A segment after the ones before it, or at another place of the stream."""
+    def put(self, stream, side, payload, begins=False, at=None, missing=0):
+        """A segment after the ones before it, or at another place of the stream. Of so many bytes at its end nothing was captured."""
         sequence = self.next[stream, side] if at is None else at
         if at is None:
-            self.next[stream, side] += len(payload)
+            self.next[stream, side] += len(payload) + missing
         frame = len(self.segments) + 1
-        self.segments.append(Segment(frame, frame / 1000, stream, side, sequence % 2**32, begins, payload))
+        ends = (b"initiator", 40000 + stream), (b"target", PORT)
+        acknowledged = None if begins and side else self.next.get((stream, not side), 0) % 2**32
+        self.segments.append(Segment(frame, frame / 1000, *(ends if side else ends[::-1]), sequence % 2**32, begins, payload, missing,
+                                     acknowledged))
+
+    def lose(self, stream, side, payload):
+        """Bytes that were sent, and that the capture lacks."""
+        self.next[stream, side] += len(payload)
 
     def log_in(self, stream, cid=1, asked=0, tsih=7, first=1, **words):
         self.open(stream)
@@ -83,11 +102,17 @@ class Wire:
         self.put(stream, False, login_response(tsih, 0, first, first + 31, **words))
 
 
+def segment(sequence, payload, missing=0):
+    return Segment(1, 0.0, ("i", 1), ("t", 2), sequence % 2**32, False, payload, missing, None)
+
+
 class Streams(unittest.TestCase):
     def take(self, *segments, begin=100):
         stream = Stream()
         stream.begin(begin)
-        return b"".join(stream.take(sequence, payload) for sequence, payload in segments), stream.has_gap
+        chunks = [chunk for one in segments for chunk in stream.take(segment(*one))]
+        self.assertEqual([], [chunk for chunk in chunks if chunk.hole])
+        return b"".join(chunk.payload for chunk in chunks), bool(stream.late)
 
     def test_in_order(self):
         self.assertEqual((b"abcdef", False), self.take((100, b"abc"), (103, b"def")))
@@ -112,15 +137,35 @@ class Streams(unittest.TestCase):
         self.assertEqual((b"abc", True), self.take((100, b"abc"), (104, b"e")))
 
     def test_without_a_beginning(self):
+        self.assertEqual([b"def"], [chunk.payload for chunk in Stream().take(segment(103, b"def"))])
+
+    def test_bytes_that_never_come_are_a_hole(self):
+        """They are given up once the other side has them and more segments came than are out of order, or as the capture ends."""
         stream = Stream()
-        self.assertEqual(b"def", stream.take(103, b"def"))
+        stream.begin(100)
+        found = list(stream.take(segment(103, b"def")))
+        stream.acknowledge(106)
+        places = range(106, 106 + 80)
+        found += [chunk for place in places for chunk in stream.take(segment(place, b"x"))]
+        self.assertEqual([3, 0], [chunk.hole for chunk in found[:2]])
+        self.assertEqual(b"def" + b"x" * 80, b"".join(chunk.payload for chunk in found))
+        ending = Stream()
+        ending.begin(100)
+        self.assertEqual([], list(ending.take(segment(103, b"def"))))
+        self.assertEqual([(3, b""), (0, b"def")], [(chunk.hole, chunk.payload) for chunk in ending.finish()])
+
+    def test_bytes_that_were_cut_off_are_a_hole(self):
+        stream = Stream()
+        stream.begin(100)
+        found = [chunk for one in (segment(100, b"abc", 5), segment(108, b"ijk")) for chunk in stream.take(one)]
+        self.assertEqual([(b"abc", 0), (b"", 5), (b"ijk", 0)], [(chunk.payload, chunk.hole) for chunk in found])
 
 
 class Splitting(unittest.TestCase):
     def test_byte_by_byte(self):
         whole = response(1, 2, 3, 4, data=b"abcde") + response(2, 3, 3, 4) + response(9, 4, 3, 4)
         splitter = Splitter(from_initiator=False)
-        found = [one for place in range(len(whole)) for one in splitter.take(whole[place:place + 1])]
+        found = [one for place in range(len(whole)) for one in splitter.take_bytes(whole[place:place + 1])]
         self.assertEqual([b"abcde", b"", b""], [one.data for one in found])
         self.assertEqual([1, 2, 9], [one.header[19] for one in found])
 
@@ -128,14 +173,43 @@ class Splitting(unittest.TestCase):
         for digests in range(4):
             splitter = Splitter(from_initiator=True)
             splitter.header_digest, splitter.data_digest = bool(digests & 1), bool(digests & 2)
-            whole = command(1, 1, ahs=bytes(8), digests=digests) + pdu(0x05, 0x80, 1, (), b"abc", digests=digests)
+            whole = command(1, 1, ahs=bytes(8), digests=digests) + pdu(0x43, 0x80, 1, (), b"abc", digests=digests)
             whole += command(2, 2, digests=digests)[:40]
-            self.assertEqual([b"", b"abc"], [one.data for one in splitter.take(whole)])
+            self.assertEqual([b"", b"abc"], [one.data for one in splitter.take_bytes(whole)])
 
     def test_a_reply_among_requests(self):
         splitter = Splitter(from_initiator=True)
-        self.assertEqual(1, len(list(splitter.take(command(1, 1) + response(1, 1, 2, 3) + command(2, 2)))))
+        self.assertEqual(1, len(list(splitter.take_bytes(command(1, 1) + response(1, 1, 2, 3) + command(2, 2)))))
         self.assertTrue(splitter.is_lost)
+
+
+    def take(self, splitter, *parts):
+        """The PDUs of these bytes and holes, which are numbers."""
+        chunks = [Chunk(1, 0.0, hole=part) if isinstance(part, int) else Chunk(1, 0.0, part) for part in parts]
+        return [one for chunk in chunks for one in splitter.take(chunk)]
+
+    def test_a_hole_in_data_loses_no_pdu(self):
+        splitter = Splitter(from_initiator=False)
+        whole = pdu(0x25, 0x80, 5, (), b"d" * 1000)
+        found = self.take(splitter, whole[:100], len(whole) - 200, whole[-100:] + response(5, 1, 2, 3))
+        self.assertEqual([5, 5], [one.header[19] for one in found])
+
+    def test_a_hole_in_data_that_are_read_keeps_what_is_before_it(self):
+        splitter = Splitter(from_initiator=False)
+        whole = response(5, 1, 2, 3, status=2, data=b"s" * 64)
+        self.assertEqual([b"s" * 20], [one.data for one in self.take(splitter, whole[:68], len(whole) - 68)])
+
+    def test_a_hole_in_a_header_loses_it_and_those_up_to_the_next_segment(self):
+        splitter = Splitter(from_initiator=True)
+        found = self.take(splitter, command(1, 1) + command(2, 2)[:20], 28, command(3, 3)[1:], command(4, 4), command(5, 5))
+        self.assertEqual([1, 4, 5], [one.header[19] for one in found])
+
+    def test_a_header_is_known_by_what_is_kept_free(self):
+        for header, from_initiator in ((command(1, 1), True), (response(1, 1, 2, 3), False)):
+            self.assertTrue(is_plausible(header, from_initiator))
+            self.assertFalse(is_plausible(header, not from_initiator))
+            self.assertFalse(is_plausible(b"\x80" + header[1:], from_initiator))
+        self.assertFalse(is_plausible(b"\1\x81\1" + command(1, 1)[3:], True))
 
 
 class Finding(unittest.TestCase):
@@ -177,24 +251,91 @@ class Finding(unittest.TestCase):
         (session,), _ = find(wire.segments)
         self.assertEqual([(5, 6), (6, 7)], [(item.tag, item.frame) for item in session.items])
 
-    def test_missing_bytes_cut_the_session(self):
+    def test_a_lost_request_is_made_up_with_the_tag_that_was_answered(self):
         wire = Wire()
         wire.log_in(0)
         wire.put(0, True, command(5, 1))
-        wire.put(0, True, command(7, 3), at=wire.next[0, True] + 48)
-        wire.put(0, False, response(5, 1, 2, 33))
+        wire.lose(0, True, command(6, 2))
+        wire.put(0, True, command(7, 3))
+        for tag in (5, 6, 7):
+            wire.put(0, False, response(tag, tag - 4, 4, 35))
         (session,), _ = find(wire.segments)
-        self.assertEqual([5], [item.tag for item in session.items])
-        self.assertEqual(["the capture lacks bytes of connection 1; what follows frame 5 is left out"], session.notes)
+        self.assertEqual([(5, 6)], [(one.frame, one.again) for one in session.losses])
+        repair(session)
+        requests = [item for item in session.items if item.request]
+        self.assertEqual([(5, 1, False), (6, 2, True), (7, 3, False)],
+                         [(item.tag, item.request.cmd_sn, item.made_up) for item in requests])
+        self.assertEqual("made up: 1 requests and 0 replies that the capture lacks", session.notes[-1])
+
+    def test_a_lost_request_of_which_nothing_is_known_is_one_without_an_answer(self):
+        wire = Wire()
+        wire.log_in(0)
+        wire.lose(0, True, command(6, 1))
+        wire.put(0, True, command(7, 2))
+        wire.put(0, False, response(7, 1, 3, 34))
+        (session,), _ = find(wire.segments)
+        repair(session)
+        made = [item.request for item in session.items if item.made_up]
+        self.assertEqual([(0, NO_TAG, 1)], [(request.opcode, request.tag, request.cmd_sn) for request in made])
+
+    def test_a_lost_reply_is_made_up_for_a_command_without_an_answer(self):
+        wire = Wire()
+        wire.log_in(0)
+        for tag in (5, 6):
+            wire.put(0, True, command(tag, tag - 4))
+        wire.lose(0, False, response(5, 1, 3, 34))
+        wire.put(0, False, response(6, 2, 3, 34))
+        (session,), _ = find(wire.segments)
+        repair(session)
+        self.assertEqual([(5, 1)], [(one.tag, one.stat_sn) for one in session.lost])
+        made = [item for item in session.items if item.made_up]
+        self.assertEqual([(5, 0)], [(item.tag, item.reply.status) for item in made])
+        self.assertEqual(1, sum("lost 00000005 00000001" in line for line in target_lines(session)))
+
+    def test_what_was_outstanding_before_a_late_capture_is_put_in_front(self):
+        wire = Wire()
+        wire.next[0, True] = wire.next[0, False] = 77
+        wire.put(0, True, command(9, 50))
+        wire.put(0, False, response(3, 20, 51, 82))
+        wire.put(0, False, response(9, 21, 51, 83))
+        (session,), unread = find(wire.segments)
+        repair(session)
+        self.assertEqual(({1: 20}, 49, 32, True), (session.connections, session.first, session.window, session.is_late))
+        self.assertEqual([(3, 49, True), (9, 50, False)],
+                         [(item.tag, item.request.cmd_sn, item.made_up) for item in session.items if item.request])
+        self.assertFalse(unread)
+
+    def test_digests_of_a_late_capture(self):
+        wire = Wire()
+        wire.next[0, True] = wire.next[0, False] = 77
+        for tag in range(9, 12):
+            wire.put(0, True, command(tag, tag, digests=3))
+            wire.put(0, False, response(tag, tag, tag + 1, tag + 32, data=b"abcd", digests=3))
+        (session,), _ = find(wire.segments)
+        self.assertEqual([9, 9, 10, 10, 11, 11], [item.tag for item in session.items])
+
+    def test_any_port_and_several_targets(self):
+        wire = Wire()
+        wire.log_in(0)
+        wire.put(0, True, command(5, 1))
+        other = Wire()
+        other.log_in(9)
+        other.put(9, True, command(6, 1))
+        moved = [replace_port(one, 860) for one in other.segments]
+        sessions, _ = find(wire.segments + moved)
+        self.assertEqual([3260, 860], [session.port for session in sessions])
+        (session,), _ = find(wire.segments + moved, 860)
+        self.assertEqual([6], [item.tag for item in session.items])
 
     def test_no_pdu_where_one_begins(self):
         wire = Wire()
         wire.log_in(0)
         wire.put(0, True, command(5, 1))
         wire.put(0, True, b"\xff" * 48)
+        wire.put(0, True, command(6, 2))
         (session,), _ = find(wire.segments)
-        self.assertEqual(([5], 1), ([item.tag for item in session.items], len(session.notes)))
-        self.assertIn("no PDU begins in frame 6", session.notes[0])
+        self.assertEqual([5, 6], [item.tag for item in session.items])
+        self.assertEqual([(6, 7)], [(one.frame, one.again) for one in session.losses])
 
     def test_a_second_login_of_a_connection(self):
         wire = Wire()
@@ -207,18 +348,17 @@ class Finding(unittest.TestCase):
 
     def test_what_is_no_session(self):
         wire = Wire()
-        wire.next[0, True] = 5
-        wire.put(0, True, command(5, 1))
         wire.open(1)
         wire.put(1, True, b"GET / HTTP/1.1\r\nHost: example\r\nAccept: */*\r\nUser-Agent: nobody\r\n\r\n")
         wire.log_in(2, asked=9, tsih=9)
         wire.open(3)
         wire.put(3, True, login(1, 0, 1))
+        wire.next[4, True] = 5
+        wire.put(4, True, bytes(range(200)))
         sessions, unread = find(wire.segments)
         self.assertEqual([], sessions)
-        self.assertEqual({"a connection whose beginning isn't in the capture (start it before the login)",
-                          "a connection that isn't iSCSI", "a login that doesn't succeed",
-                          "a connection of a session whose first login isn't in the capture"}, set(unread))
+        self.assertEqual({"a connection that isn't iSCSI": 2, "a login that doesn't succeed": 1,
+                          "a connection of a session whose first login isn't in the capture": 1}, unread)
 
     def test_units_are_those_that_the_target_has(self):
         wire = Wire()
@@ -242,13 +382,12 @@ class Finding(unittest.TestCase):
                          [(bool(item.request), item.tag) for item in in_taken_order(session.items)])
 
 
-def frame_of(segment, addresses, port=3260):
+def frame_of(segment, addresses):
     """The bytes of an Ethernet frame with a VLAN tag and IPv6."""
-    ports = (40000 + segment.stream, port) if segment.from_initiator else (port, 40000 + segment.stream)
     sequence = (segment.sequence - segment.begins) % 2**32
-    acknowledged = not segment.begins or not segment.from_initiator
-    tcp = struct.pack(">HHIIBBHHH", *ports, sequence, 1, 5 << 4, 2 * segment.begins | 16 * acknowledged, 8192, 0, 0)
-    source, destination = addresses if segment.from_initiator else addresses[::-1]
+    tcp = struct.pack(">HHIIBBHHH", segment.source[1], segment.target[1], sequence, segment.acknowledged or 0, 5 << 4,
+                      2 * segment.begins | 16 * (segment.acknowledged is not None), 8192, 0, 0)
+    source, destination = addresses if segment.source[0] == b"initiator" else addresses[::-1]
     ip = struct.pack(">IHBB", 6 << 28, len(tcp) + len(segment.payload), 6, 64) + source + destination
     return bytes(12) + b"\x81\0\0\x05\x86\xdd" + ip + tcp + segment.payload
 
@@ -264,7 +403,16 @@ def write_pcap(path, segments, linktype=1):
             file.write(struct.pack("<IIII", *time, len(whole), len(whole)) + whole)
 
 
-@unittest.skipUnless(HAS_TSHARK, NEEDS_TSHARK)
+def pcap_of(found, order, magic, unit, link, head):
+    """Packets of Ethernet as a capture of the old form, with links of another type: so many bytes of each are left out."""
+    parts = [struct.pack(f"{order}IHHiIII", magic, 2, 4, 0, 0, 65535, link)]
+    for one in found:
+        content = one.content[head:] if link != 113 else b"\0\0\3\4\0\6" + bytes(8) + one.content[12:]
+        seconds, rest = divmod(one.nanoseconds, 10**9)
+        parts.append(struct.pack(f"{order}IIII", seconds, rest // unit, len(content), len(content)) + content)
+    return b"".join(parts)
+
+
 class Tool(unittest.TestCase):
     def setUp(self):
         folder = tempfile.TemporaryDirectory()
@@ -292,7 +440,7 @@ class Tool(unittest.TestCase):
         self.assertRegex(done.stderr, rf"\Acapture: .*{why}.*\n\Z")
 
     def test_every_capture_gives_recordings_that_stand_still(self):
-        captures = sorted(name for name in os.listdir(CAPTURES) if name != "after-login.pcapng")
+        captures = sorted(os.listdir(CAPTURES))
         self.assertGreater(len(captures), 5)
         for name in captures:
             self.make(os.path.join(CAPTURES, name))
@@ -320,8 +468,9 @@ class Tool(unittest.TestCase):
 
     def test_a_real_session_of_three_connections(self):
         told = self.make(os.path.join(CAPTURES, "istgt-connections.pcapng"))
-        self.assertEqual(f"{self.folder}/istgt-connections-1.recording: 3 connection(s), 13 requests, 8 completions\n",
-                         told)
+        self.assertEqual(f"{self.folder}/istgt-connections-1.recording: 3 connection(s), 13 requests, 8 completions; "
+                         "from iqn.2026-01.example:initiator to port 3260; 0.709 s; 9 commands; 1 x ABORT TASK; "
+                         "1 x CHECK CONDITION (UNIT ATTENTION, 29/00); 8 difference(s): 1 x ExpCmdSN, 7 x MaxCmdSN\n", told)
         lines = [line for line in self.lines("istgt-connections-1.recording") if not line.startswith("#")]
         self.assertEqual([f"conn {cid} 00000001" for cid in (1, 2, 3)], lines[:3])
         # The connection, tag and CmdSN of each request, and the tickets. CmdSN 4 comes before CmdSN 3.
@@ -355,8 +504,13 @@ class Tool(unittest.TestCase):
         self.assertIn("--window 10 ", self.lines("narrow-window-1.recording")[0])
 
     def test_a_capture_that_begins_after_the_login(self):
-        self.refused("no session on port 3260: 1 x a connection whose beginning isn't in the capture",
-                     os.path.join(CAPTURES, "after-login.pcapng"), "-o", self.folder)
+        told = self.make(os.path.join(CAPTURES, "after-login.pcapng"))
+        self.assertIn("begun after the login: its ISID, TSIH and names aren't known; "
+                      "made up: 1 requests and 0 replies that the capture lacks", told)
+        lines = self.lines("after-login-1.recording")
+        self.assertIn("# made up: 1 requests and 0 replies that the capture lacks", lines)
+        made = [line for line in lines if "made up, since the capture lacks it: " in line]
+        self.assertEqual(1, len(made), made)
 
     def test_a_capture_without_iscsi(self):
         wire = Wire()
@@ -364,10 +518,33 @@ class Tool(unittest.TestCase):
         wire.put(0, True, b"GET / HTTP/1.1\r\nHost: example\r\nAccept: */*\r\n\r\n")
         path = os.path.join(self.folder, "web.pcap")
         write_pcap(path, wire.segments)
-        self.refused("a connection that isn't iSCSI", path)
+        self.refused("no session: 1 x a connection that isn't iSCSI", path)
         self.refused("no session on port 3261: no TCP connection", path, "--port", "3261")
         write_pcap(path, [])
-        self.refused("no TCP connection", path)
+        self.refused("no session: no TCP connection", path)
+
+    def test_the_ports_are_listed(self):
+        wire = Wire()
+        wire.log_in(0)
+        wire.put(0, True, command(5, 1))
+        path = os.path.join(self.folder, "other.pcap")
+        write_pcap(path, [replace_port(one, 33260) for one in wire.segments])
+        self.assertIn("\nports: 33260\n", self.make(path))
+
+    def test_forms_of_captures(self):
+        """Other byte orders, nanoseconds, links and a file that tshark alone reads give the same recording."""
+        with open(os.path.join(CAPTURES, "reset.pcapng"), "rb") as file:
+            whole = file.read()
+        self.make(self.file("made.pcapng", whole))
+        wanted = self.lines("made-1.recording")[2:]
+        found = list(packets(os.path.join(self.folder, "made.pcapng")))
+        for order, magic, unit in (("<", 0xa1b2c3d4, 1000), (">", 0xa1b2c3d4, 1000), ("<", 0xa1b23c4d, 1), (">", 0xa1b23c4d, 1)):
+            for link, head in ((1, 0), (101, 14), (113, 0)):
+                self.make(self.file("made.pcap", pcap_of(found, order, magic, unit, link, head)))
+                self.assertEqual(wanted, self.lines("made-1.recording")[2:], (order, hex(magic), link))
+        if HAS_TSHARK:
+            self.make(self.file("made.pcapng", gzip.compress(whole)))
+            self.assertEqual(wanted, self.lines("made-1.recording")[2:])
 
     def test_what_is_no_capture(self):
         self.refused("No such file", os.path.join(self.folder, "none.pcap"))
@@ -382,12 +559,16 @@ class Tool(unittest.TestCase):
         self.assertIn("6 requests, 2 completions", self.make(self.file("cut.pcapng", whole[:3300])))
 
     def test_packets_cut_short(self):
-        wire = Wire()
-        wire.log_in(0)
-        path = os.path.join(self.folder, "short.pcap")
-        write_pcap(path, wire.segments)
-        subprocess.run(["editcap", "-s", "100", path, f"{path}ng"], check=True, capture_output=True)
-        self.refused("capture whole packets", f"{path}ng")
+        """Of each packet of a real session 130 bytes are kept: the headers, and of the logins a part."""
+        found = list(packets(os.path.join(CAPTURES, "abort-live.pcapng")))
+        for one in found:
+            one.content = one.content[:130]
+        content = pcap_of(found, "<", 0xa1b23c4d, 1, 1, 0)
+        told = self.make(self.file("short.pcap", content))
+        self.assertIn("short-1.recording: 1 connection(s), ", told)
+        self.make(os.path.join(CAPTURES, "abort-live.pcapng"))
+        kept = [line for line in self.lines("abort-live-1.recording") if line[:2] in ("C ", "D ")]
+        self.assertEqual(kept, [line for line in self.lines("short-1.recording") if line[:2] in ("C ", "D ")])
 
     def test_a_folder_that_can_t_be_written(self):
         self.refused("exists|directory", os.path.join(CAPTURES, "reset.pcapng"), "-o", self.file("taken"))
@@ -401,12 +582,16 @@ class Tool(unittest.TestCase):
 
 class WithoutTshark(unittest.TestCase):
     def test_it_says_how_to_get_it(self):
+        """It is wanted for a file that is neither pcap nor pcapng."""
         with tempfile.TemporaryDirectory() as folder:
             os.symlink(sys.executable, os.path.join(folder, "python3"))
-            done = subprocess.run([os.path.join(folder, "python3"), os.path.join(TOP, "tools", "capture"), "a.pcap"],
+            path = os.path.join(folder, "a.pcap.gz")
+            with open(path, "wb") as file:
+                file.write(gzip.compress(b"x" * 100))
+            done = subprocess.run([os.path.join(folder, "python3"), os.path.join(TOP, "tools", "capture"), path],
                                   capture_output=True, text=True, env={"PATH": folder})
         self.assertEqual((1, ""), (done.returncode, done.stdout))
-        self.assertRegex(done.stderr, r"\Acapture: tshark is missing: install it with .*\n\Z")
+        self.assertRegex(done.stderr, r"\Acapture: .*, and tshark is missing, which may read it: install it with .*\n\Z")
 
 
 class Missing(unittest.TestCase):

@@ -1,8 +1,8 @@
 """Tests of tools/compare: each kind of difference, and what is left out."""
 
+import json
 import os
 import re
-import shutil
 import subprocess
 import sys
 import tempfile
@@ -15,7 +15,6 @@ from lib.answers import read as read_answers  # noqa: E402
 from lib.differences import Comparison, Place, Replay, longest_rise  # noqa: E402
 
 CAPTURES = os.path.join(TOP, "tests", "tools", "captures")
-HAS_TSHARK = shutil.which("tshark") is not None
 OPTIONS = "--first 00000001 --window 32 --units 1 --depth 1024 --level 1"
 
 
@@ -117,18 +116,37 @@ class Kinds(Session):
 
     def test_a_fixed_window(self):
         told = self.changed(("nop", "00000021", "00000023"), ("one", "00000022", "00000023"))
-        self.assertIn("The target holds MaxCmdSN at ExpCmdSN + 31 in all its replies", told)
-        self.assertIn("Differences: 2 x MaxCmdSN, by the target's fixed window.\n", told)
+        self.assertIn("The target holds MaxCmdSN at ExpCmdSN + 31 in all its replies; the program takes the live commands off. "
+                      "By that alone MaxCmdSN differs in 2 of them.\n", told)
+        self.assertEqual("No other difference.", told.splitlines()[-1])
 
     def test_max_cmd_sn_that_differs_with_exp_cmd_sn(self):
         """The program's window is as wide as the target's fixed one there, so that one doesn't explain it."""
         told = self.changed(("nop", "00000021", "00000023"), ("one", "00000022", "00000023"),
                             ("abort", "00000004 00000023", "00000005 00000024"))
-        self.assertIn("Differences: 1 x ExpCmdSN; 1 x MaxCmdSN; 2 x MaxCmdSN, by the target's fixed window.\n", told)
+        self.assertIn("By that alone MaxCmdSN differs in 2 of them.\n", told)
+        self.assertIn("Differences: 1 x ExpCmdSN; 1 x MaxCmdSN.\n", told)
 
     def test_what_the_fixed_window_makes_is_not_the_first_difference(self):
         self.changed(("nop", "00000021", "00000023"), ("one", "00000022", "00000023"), ("two", "00 GOOD", "08 BUSY"))
         self.assertIn("The first difference: frame 52 ", self.compare())
+
+    def test_json(self):
+        self.changed(("nop", "00000021", "00000023"), ("one", "00000022", "00000023"), ("two", "00 GOOD", "08 BUSY"))
+        told = json.loads(self.compare("--json"))
+        self.assertEqual({"status": 1}, told["counts"])
+        self.assertEqual([("status", 52, 1, 2)], [(one["kind"], one["frame"], one["cid"], one["tag"]) for one in told["differences"]])
+        self.assertEqual({"size": 32, "replies": 2}, told["fixed_window"])
+        self.assertEqual({"target": 4, "program": 4}, told["compared"])
+
+    def test_replies_that_the_capture_lacks(self):
+        """Neither side counts them, and the StatSNs of those behind them stand beside the program's."""
+        answers = dict(ANSWERS, one="52 0.520000 1 lost 00000001 00000002 00000000 00000000 --")
+        self.write(answers.values())
+        told = self.compare("--all")
+        self.assertIn("Left out, since the capture lacks the target's: 1 of the program's replies.\n", told)
+        self.assertIn("Compared: 3 replies of the target, 3 of the program.\n", told)
+        self.assertEqual("No difference.", told.splitlines()[-1])
 
     def test_stat_sn_counts_once_where_it_stays_shifted(self):
         told = self.changed(("two", "00000003 00000004", "00000009 00000004"),
@@ -336,16 +354,15 @@ class Faults(Session):
             self.assertEqual(2, run_tool("compare", *words).returncode, words)
 
 
-@unittest.skipUnless(HAS_TSHARK, "there is no tshark")
 class RealCases(unittest.TestCase):
     """The captures of this repository, with the differences that docs/CAPTURES.md explains."""
     COUNTS = {
         "abort-live-1": "1 x missing reply; 1 x response",
         "abort-write-1": "1 x missing reply; 1 x response",
-        "reset-1": "1 x MaxCmdSN, by the target's fixed window; 2 x missing reply; 1 x order",
-        "out-of-order-1": "1 x ExpCmdSN; 1 x MaxCmdSN; 2 x MaxCmdSN, by the target's fixed window; 1 x missing reply",
-        "attributes-1": "3 x MaxCmdSN, by the target's fixed window; 1 x missing reply",
-        "narrow-window-1": "9 x MaxCmdSN, by the target's fixed window",
+        "reset-1": "2 x missing reply; 1 x order",
+        "out-of-order-1": "1 x ExpCmdSN; 1 x MaxCmdSN; 1 x missing reply",
+        "attributes-1": "1 x missing reply",
+        "narrow-window-1": None, "after-login-1": "2 x missing reply; 1 x order",
         "two-connections-1": None, "two-connections-2": None, "digests-1": None,
         "libiscsi-1": None, "libiscsi-2": None, "libiscsi-3": None,
         "istgt-connections-1": "1 x ExpCmdSN; 7 x MaxCmdSN",
@@ -358,16 +375,22 @@ class RealCases(unittest.TestCase):
         "istgt-libiscsi-2": "1 x ExpCmdSN; 1 x MaxCmdSN", "istgt-libiscsi-3": "1 x ExpCmdSN; 1 x MaxCmdSN",
     }
 
+    # In how many replies MaxCmdSN differs by the target's fixed window alone.
+    BY_FIXED_WINDOW = {"reset-1": 1, "out-of-order-1": 2, "attributes-1": 3, "narrow-window-1": 9, "after-login-1": 1}
+
     def test_counts(self):
         with tempfile.TemporaryDirectory() as folder:
             for name, counts in self.COUNTS.items():
                 capture = os.path.join(CAPTURES, f"{name.rpartition('-')[0]}.pcapng")
                 self.assertEqual(0, run_tool("capture", capture, "-o", folder).returncode)
-                last = run_tool("compare", os.path.join(folder, f"{name}.recording")).stdout.splitlines()[-1]
-                self.assertEqual(f"Differences: {counts}." if counts else "No difference.", last, name)
+                told = run_tool("compare", os.path.join(folder, f"{name}.recording")).stdout
+                window = self.BY_FIXED_WINDOW.get(name)
+                none = "No other difference." if window else "No difference."
+                self.assertEqual(f"Differences: {counts}." if counts else none, told.splitlines()[-1], name)
+                self.assertEqual(bool(window), f"MaxCmdSN differs in {window} of them." in told, name)
 
     def test_every_session_of_every_capture_is_counted(self):
-        captures = {name.removesuffix(".pcapng") for name in os.listdir(CAPTURES)} - {"after-login"}
+        captures = {name.removesuffix(".pcapng") for name in os.listdir(CAPTURES)}
         self.assertEqual(captures, {name.rpartition("-")[0] for name in self.COUNTS})
 
     def test_an_aborted_command_s_place_of_the_window(self):

@@ -77,10 +77,49 @@ class Words(unittest.TestCase):
     def test_dormant_and_attributes(self):
         recording = "\n".join(("conn 1 00000001", command(1, 0xa1), command(2, 0xa2, low=2), "D 2 00", "D 1 00", ""))
         lines = explained(replay(recording))
-        self.assertIn("        ticket 2 enters unit 0 as ORDERED", lines)
+        behind = "ticket 1 (SIMPLE READ(10), tag a1)"
+        self.assertIn(f"        ticket 2 enters unit 0 as ORDERED, and may not start yet: it stands behind {behind}", lines)
         self.assertIn("   3  unit 0 completes ticket 2 (READ(10), tag a2, CID 1) with GOOD: "
                       "ignored: ticket 2 may not start yet", lines)
-        self.assertEqual("        ticket 2 may start", lines[-1])
+        self.assertEqual(f"        ticket 2 may start: it waited behind {behind}", lines[-1])
+
+    def test_what_bars_a_command(self):
+        """A HEAD OF QUEUE command bars those that came before it, too, if they aren't enabled; many are counted."""
+        recording = "\n".join(("conn 1 00000001", *(command(number, 0xa0 + number) for number in range(1, 6)),
+                               command(6, 0xa6, low=2), command(7, 0xa7, low=3), command(8, 0xa8), ""))
+        lines = explained(replay(recording))
+        self.assertIn("        ticket 6 enters unit 0 as ORDERED, and may not start yet: it stands behind ticket 1 (SIMPLE READ(10), tag "
+                      "a1), ticket 2 (SIMPLE READ(10), tag a2), ticket 3 (SIMPLE READ(10), tag a3) and 2 more", lines)
+        self.assertIn("        ticket 8 enters unit 0 as SIMPLE, and may not start yet: it stands behind ticket 6 (ORDERED READ(10), tag "
+                      "a6), ticket 7 (HEAD OF QUEUE READ(10), tag a7)", lines)
+
+    def test_times_frames_and_the_sense_of_the_target(self):
+        recording = "\n".join((
+            "conn 1 00000001", "# time 0.100000 frame 3: READ(10), tag 000000a2", command(2, 0xa2),
+            "# time 0.300000 frame 5: READ(10), tag 000000a1", command(1, 0xa1),
+            "# time 0.400000 frame 7: READ(10), tag 000000a3", command(3, 0xa3, low=2),
+            "# time 1.500000 frame 9: CHECK CONDITION (UNIT ATTENTION, 29/00) for tag 000000a1", "D 1 02",
+            "# time 1.600000 frame 10: made up, since the capture lacks it: GOOD for tag 000000a2", "D 2 00", ""))
+        with tempfile.TemporaryDirectory() as folder:
+            path = os.path.join(folder, "made.recording")
+            with open(path, "w", encoding="ascii") as file:
+                file.write(recording)
+            report = replay(recording)
+            lines = run_tool("explain", "-", "--recording", path, text=report).stdout.splitlines()
+            other = run_tool("explain", "-", "--recording", path, text=report.replace("D 2 00", "D 2 08"))
+        for line in (
+                "   1  [0.100000 s, frame 3] CID 1, READ(10), unit 0, CmdSN 2, tag a2: held, CmdSN 1 is missing",
+                "        CmdSN 2, which was held, executes: READ(10), tag a2, CID 1, held for 0.200000 s",
+                "        answered CHECK CONDITION (UNIT ATTENTION, 29/00) on CID 1, StatSN 1, ExpCmdSN 4, MaxCmdSN 21",
+                "   5  [1.600000 s, frame 10, made up] unit 0 completes ticket 2 (READ(10), tag a2, CID 1) with GOOD:",
+                "        ticket 3 may start: it waited 1.200000 s behind ticket 1 (SIMPLE READ(10), tag a1), "
+                "ticket 2 (SIMPLE READ(10), tag a2)"):
+            self.assertIn(line, lines)
+        self.assertEqual((1, f"explain: {path}: not the recording of this report\n"), (other.returncode, other.stderr))
+
+    def test_the_sense_of_a_completion_is_not_the_program_s_own(self):
+        lines = explained(replay("\n".join(("conn 1 00000001", command(1, 0xa1), "D 1 02", ""))))
+        self.assertIn("        answered CHECK CONDITION on CID 1, StatSN 1, ExpCmdSN 2, MaxCmdSN 21", lines)
 
     def test_sense_and_reject(self):
         recording = "\n".join(("conn 1 00000007", command(1, 0xa1, unit=9), command(2, 0xa2, low=5), ""))
@@ -148,6 +187,16 @@ class Faults(unittest.TestCase):
                 ("> D 1 00\n  ignore outside", "line 2: no event is ignored so"),
                 ("> D 1 00\n  wait 1 00000001 00000001", "line 2: no function arrived")):
             self.assert_fault(pattern, text=text)
+
+    def test_numbers_without_end_and_events_without_end(self):
+        self.assert_fault("line 1: not an event of a report", text="> D " + "7" * 5000 + " 00\n")
+        self.assert_fault("line 65538: an event has no more than 65536 effects", text="> D 1 00\n" + "  enable 1\n" * 70000)
+
+    def test_closed_input_and_output(self):
+        tool = os.path.join(TOP, "tools", "explain")
+        for close, why in (("<&-", "standard input: it is closed"), (">&-", "the output was closed")):
+            done = subprocess.run(["sh", "-c", f'exec "$0" {close}', tool], input="> D 1 00\n", capture_output=True, text=True, check=False)
+            self.assertEqual((1, f"explain: {why}\n"), (done.returncode, done.stderr))
 
     def test_closed_pipe_and_full_disk(self):
         report = example("abort-task", "--window", "4").encode()

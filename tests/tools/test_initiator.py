@@ -48,9 +48,9 @@ class Target:
             threading.Thread(target=self.serve, args=(connection,), daemon=True).start()
 
     def serve(self, connection):
-        splitter, cid = Splitter(from_initiator=True), None
+        splitter, cid = Splitter(from_initiator=True, keeps_all_data=True), None
         while data := connection.recv(65536):
-            for pdu in splitter.take(data):
+            for pdu in splitter.take_bytes(data):
                 if pdu.header[0] & 0x3f == LOGIN:
                     cid = number(pdu.header, 20, 21)
                     splitter.header_digest = splitter.data_digest = b"HeaderDigest=CRC32C" in pdu.data

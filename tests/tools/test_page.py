@@ -9,7 +9,7 @@ import browser
 from helpers import TOP, replay, run_tool
 from test_timeline import long_recording
 
-COLUMN, LEFT = 66, 120
+COLUMN, LEFT = 74, 120
 COMMANDS = 10_000
 STEPS, LONGEST_STEP = 41, 200
 # What the page shows: the texts with their places in the window, the highlighted column, and what stands below.
@@ -24,8 +24,8 @@ return {
     lines: head && document.querySelector("#details pre").textContent, field: document.getElementById("event").value,
     marks: document.getElementById("marks").childElementCount, scrolled: scroller.scrollLeft,
 };"""
-# Two frames: what is drawn soon was drawn in the first one.
-FRAMES = "requestAnimationFrame(() => requestAnimationFrame(() => done(null)));"
+# All that was asked for is unpacked and drawn.
+FRAMES = "settled().then(() => requestAnimationFrame(() => done(null)));"
 SCROLL = f"scroller.scrollLeft = arguments[0]; {FRAMES}"
 # From the change of the place to the end of the frame that draws it, with its layout.
 TIMED_SCROLL = """
@@ -58,6 +58,11 @@ class Page(unittest.TestCase):
         if done.returncode:
             raise AssertionError(done.stderr)
         return path
+
+    def open(self, path):
+        """Loads a page, and waits until it is drawn."""
+        self.browser.open(path)
+        self.browser.wait(FRAMES)
 
     def shown(self):
         self.browser.wait(FRAMES)
@@ -92,7 +97,7 @@ class ShortPage(Page):
         cls.path = cls.make(report)
 
     def setUp(self):
-        self.browser.open(self.path)
+        self.open(self.path)
 
     def test_pointing_shows_the_lines_of_an_event(self):
         self.assertIsNone(self.shown()["head"])
@@ -124,6 +129,55 @@ class ShortPage(Page):
         self.browser.move(*self.place(8))
         self.assert_shows(8)
 
+    def test_the_next_abort_by_a_key(self):
+        """Event 3 aborts a command that is missing, event 5 one that is held, event 7 one that is live."""
+        for key, event in (("a", 3), ("a", 5), ("a", 7), ("a", 7), ("A", 5), ("A", 3), ("A", 3)):
+            self.browser.type(key)
+            self.assert_shows(event)
+        self.assertEqual("no abort before this", self.told())
+
+    def told(self):
+        return self.browser.run("return document.getElementById('told').textContent;")
+
+    def type_into(self, field, text):
+        self.browser.run(f"const field = document.getElementById('{field}'); field.focus(); field.select();")
+        self.browser.type(*text, "Enter")
+
+    def test_finding(self):
+        for text, event in (("tag a4", 2), ("sn 1", 6), ("abort task", 3)):
+            self.open(self.path)
+            self.type_into("find", text)
+            self.assert_shows(event)
+        self.browser.type("n")
+        self.assert_shows(5)
+        self.browser.type("N")
+        self.assert_shows(3)
+        self.type_into("find", "tag 77")
+        self.browser.wait(FRAMES)
+        self.assertEqual("no “tag 77” behind this", self.told())
+
+    def test_showing_some_events_alone(self):
+        self.type_into("only", "functions")
+        self.browser.wait(FRAMES)
+        self.assertEqual("3 of 9 events", self.told())
+        self.assertEqual([3, 5, 7], self.browser.run("return Array.from(shown);"))
+        texts = [text for text, _, _ in self.shown()["texts"] if text.isdecimal() and len(text) == 1]
+        for event in ("3", "5", "7"):
+            self.assertIn(event, texts)
+        self.browser.type("ArrowRight", "ArrowRight")
+        self.assert_shows(5, marked=False)
+        self.browser.run("document.getElementById('only').value = '';")
+        self.type_into("only", "")
+        self.browser.wait(FRAMES)
+        self.assertEqual(9, self.browser.run("return positions();"))
+
+    def test_a_reply_is_joined_to_its_request(self):
+        """Event 9 completes the command that came with event 6, and event 6 leads to its answer."""
+        for event in (6, 9):
+            self.browser.move(*self.place(event))
+            self.assert_shows(event)
+            self.assertEqual(1, self.browser.run("return document.querySelectorAll('#marks .joins').length;"))
+
     def test_arrow_keys_begin_at_the_first_event(self):
         self.browser.type("ArrowRight")
         self.assert_shows(1)
@@ -148,7 +202,7 @@ class LongPage(Page):
         cls.path = cls.make(report)
 
     def setUp(self):
-        self.browser.open(self.path)
+        self.open(self.path)
 
     def test_scrolling_shows_the_right_events(self):
         for first in (1, 12, 5001, 13_000, 2 * COMMANDS):
@@ -156,9 +210,9 @@ class LongPage(Page):
             shown = self.shown()
             first = 1 + int(shown["scrolled"] // COLUMN)
             numbers = [(int(text), left) for text, left, top in shown["texts"]
-                       if top < shown["top"] + 40 and text.isdecimal()]
+                       if top < shown["top"] + 45 and text.isdecimal()]
             self.assertEqual(list(range(first, first + len(numbers))), [event for event, _ in numbers])
-            self.assertGreater(len(numbers), 15)
+            self.assertGreater(len(numbers), 13)
             for event, left in numbers:
                 self.assertAlmostEqual(self.place(event)[0], left, delta=1)
             self.assert_cells(shown, numbers)
@@ -199,9 +253,36 @@ class LongPage(Page):
         self.assert_shows(5001)
 
     def test_the_last_event_by_its_address(self):
-        self.browser.open(f"{self.path}#{2 * COMMANDS}")
+        self.open(f"{self.path}#{2 * COMMANDS}")
         shown = self.assert_shows(2 * COMMANDS)
         self.assertIn(str(2 * COMMANDS), [text for text, _, _ in shown["texts"]])
+
+    def test_zooming(self):
+        before = self.browser.run("return width;")
+        self.browser.type("-")
+        self.browser.wait(FRAMES)
+        self.assertLess(self.browser.run("return width;"), before)
+        self.browser.type("w")
+        self.browser.wait(FRAMES)
+        self.assertAlmostEqual(self.browser.run("return total() / seen();"), 1, delta=0.01)
+        self.browser.type("0")
+        self.browser.wait(FRAMES)
+        self.assertEqual(before, self.browser.run("return width;"))
+
+    def test_from_afar(self):
+        """Stripes of all events, and how many commands are live."""
+        self.browser.type("w")
+        shown = self.shown()
+        self.assertIn(f"events 1 to {2 * COMMANDS}", [text for text, _, _ in shown["texts"]])
+        self.assertGreater(shown["marks"], 200)
+        self.assertLess(shown["marks"], 4000)
+
+    def test_the_strip_leads_to_a_place(self):
+        left, top, wide = self.browser.run("const at = overview.getBoundingClientRect(); return [at.left, at.top, at.width];")
+        self.browser.move(left + wide / 2, top + 20, click=True)
+        shown = self.shown()
+        first = 1 + int(shown["scrolled"] // COLUMN)
+        self.assertAlmostEqual(COMMANDS, first, delta=40)
 
     def test_how_long_a_scroll_step_takes(self):
         times = [self.browser.wait(TIMED_SCROLL, 5 * COLUMN) for _ in range(STEPS)]

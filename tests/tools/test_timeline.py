@@ -1,16 +1,27 @@
 """Tests of tools/timeline."""
 
+import base64
 import html
+import io
 import json
 import os
 import re
 import shutil
 import subprocess
+import sys
 import tempfile
 import unittest
+import unittest.mock
+import zlib
 from xml.etree import ElementTree
 
 from helpers import TOP, replay, run_tool
+
+sys.path.insert(0, os.path.join(TOP, "tools"))
+from lib import page  # noqa: E402
+from lib.page import Page  # noqa: E402
+from lib.picture import paint  # noqa: E402
+from lib.places import with_places  # noqa: E402
 
 SVG = "{http://www.w3.org/2000/svg}"
 SCSI = "C 1 0181" + "00" * 14 + "{tag:08x}" + "00" * 4 + "{cmd_sn:08x}" + "00" * 20
@@ -51,8 +62,26 @@ class Folder(unittest.TestCase):
         with open(self.path(name), encoding="utf-8") as file:
             return file.read()
 
+    def data(self, page):
+        """The data of a page: what it says of itself, and its blocks put together."""
+        found = re.search(r'<script type="application/json" id="data">(.*?)</script>', page, re.DOTALL)
+        data = json.loads(found.group(1))
+        whole = dict(data["about"], fields={})
+        for block in map(unpacked, data["columns"]):
+            for name, values in block.items():
+                whole["fields"].setdefault(name, []).extend(values)
+        for name in ("words", "lines"):
+            whole[name] = [one for block in data[name] if block for one in unpacked(block)]
+        whole["marks"] = [unpacked(block) for block in data["marks"]]
+        whole["index"] = {name: zlib.decompress(base64.b64decode(text)) for name, text in data["index"].items()}
+        return whole
+
     def svg(self, report, *words):
         return ElementTree.fromstring(self.draw("made.svg", report, *words))
+
+
+def unpacked(text):
+    return json.loads(zlib.decompress(base64.b64decode(text)))
 
 
 def shapes(tree, kind):
@@ -84,7 +113,8 @@ class Pictures(Folder):
         self.assertEqual(2, len(shapes(tree, "enabled")))
         self.assertEqual([1, 1], [len(shapes(tree, kind)) for kind in ("completed", "aborted")])
         found = texts(tree)
-        self.assertEqual([3, 1, 2], [found.count(words) for words in ("complete", "✕ ABORTED", "held")])
+        self.assertEqual([1, 1, 1], [found.count(f"complete b{place}") for place in (1, 2, 3)])
+        self.assertEqual([1, 2], [found.count(words) for words in ("✕ ABORTED", "held")])
         for words in ("duplicate", "stale", "#2 simple, tag a4", "connection 2", "task set of unit 0"):
             self.assertIn(words, found)
 
@@ -125,10 +155,49 @@ class Pictures(Folder):
         self.path("made.recording", recording)
         tree = self.svg(replay(recording), "--recording", self.path("made.recording"))
         times = [words for words in texts(tree) if words.endswith(" ms")]
-        self.assertEqual(["250.00 ms", "500.00 ms", "750.00 ms"], times)
+        self.assertEqual(["250.000 ms", "500.000 ms", "750.000 ms"], times)
+        self.assertEqual(["frame 1", "frame 2", "frame 3"], [words for words in texts(tree) if words.startswith("frame ")])
         headed = self.svg("# time 2.5 frame 1\nconn 1 00000001\nconn 9 00000001\n" + replay(recording))
-        self.assertIn("2.500 s", texts(headed))
+        self.assertIn("2.500000 s", texts(headed))
         self.assertIn("connection 9", texts(headed))
+
+    def test_an_event_that_was_moved_a_pause_and_one_that_is_made_up(self):
+        lines = ["conn 1 00000001"]
+        for count, (time, words) in enumerate(((0.2, ""), (0.1, ""), (0.21, "made up, since the capture lacks it: x"), (0.5, "")), 1):
+            lines += [f"# time {time} frame {count}: {words}", SCSI.format(tag=count, cmd_sn=count)]
+        recording = "\n".join(lines) + "\n"
+        found = texts(self.svg(replay(recording), "--recording", self.path("made.recording", recording)))
+        self.assertEqual(["◂ 100.000 ms"], [words for words in found if words.startswith("◂")])
+        self.assertEqual(["0.29 s"], [words for words in found if words.endswith(" s")])
+        self.assertIn("made up", found)
+        self.assertNotIn("frame 3", found)
+
+    def test_what_the_target_said(self):
+        """A target that answers the second of two commands otherwise, and one that the rules take out."""
+        recording = "\n".join(("conn 1 00000001", *(line for count in (1, 2) for line in (
+            f"# time 0.{count}00000 frame {count}: x", SCSI.format(tag=count, cmd_sn=count))),
+            "# time 0.300000 frame 3: x", "D 1 00", "# time 0.400000 frame 4: x", "D 2 00")) + "\n"
+        target = "".join(f"{frame} 0.{frame}00000 1 scsi-response {tag:08x} {tag:08x} 00000003 {greatest:08x} {status:02x} x\n"
+                         for frame, tag, status, greatest in ((3, 1, 0, 0x21), (4, 2, 8, 0x22)))
+        words = ("--recording", self.path("made.recording", recording), "--target", self.path("made.target", target))
+        tree = self.svg(replay(recording), *words)
+        self.assertEqual([2, 1, 1], [texts(tree).count(words) for words in ("GOOD 1", "GOOD 2", "BUSY 2")])
+        self.assertEqual(1, len(shapes(tree, "differs")))
+        for head in ("by the rules", "the target said"):
+            self.assertIn(head, texts(tree))
+        data = self.data(self.draw("made.html", replay(recording), *words))
+        self.assertEqual([[], [], [[1, "GOOD", True, "1", 1, False, 3]], [[1, "BUSY", False, "2", 2, True, 4]]], data["fields"]["theirs"])
+        self.assertEqual(["status: TEST UNIT READY with tag"], [words[:32] for one in data["fields"]["differences"] for words in one])
+
+    def test_a_trace_for_perfetto(self):
+        recording = long_recording(3)
+        events = json.loads(self.draw("made.json", replay(recording), "--recording", self.path("made.recording", recording)))["traceEvents"]
+        begun = [one for one in events if one["ph"] == "b" and one["name"].startswith("TEST UNIT READY")]
+        self.assertEqual([1, 2, 3], [one["args"]["ticket"] for one in begun])
+        self.assertEqual([250_000, 500_000, 750_000], [one["ts"] for one in begun])
+        ends = [one for one in events if one["ph"] == "e"]
+        self.assertEqual(sum(one["ph"] == "b" for one in events), len(ends))
+        self.assertEqual(6, sum(one["ph"] == "i" for one in events))
 
     def test_all_worked_reports(self):
         cases = os.path.join(TOP, "tests", "cases")
@@ -146,29 +215,51 @@ class Pictures(Folder):
 
 
 class Pages(Folder):
-    def data(self, page):
-        found = re.search(r'<script type="application/json" id="data">(.*?)</script>', page, re.DOTALL)
-        return json.loads(found.group(1))
-
     def test_it_needs_no_network(self):
         page = self.draw("made.html", replay(recording_of("logout"), "--window", "4"))
         remote = r"https?:|ftp:|//[a-z0-9]|\bsrc=|\bhref=|@import|url\((?!#)|fetch\(|XMLHttpRequest|<link"
-        self.assertIsNone(re.search(remote, page))
+        # The data are packed, and may have any letters.
+        self.assertIsNone(re.search(remote, re.sub(r'(?s)(<script type="application/json" id="data">).*?</script>', "", page)))
 
     def test_data(self):
         report = replay(long_recording(1500))
         data = self.data(self.draw("made.html", report))
-        self.assertEqual(3000, len(data["columns"]))
-        lines = [line for column in data["columns"] for line in column[5]]
-        self.assertEqual(report.splitlines(), lines)
+        self.assertEqual((3000, 3000, 3000), (data["count"], len(data["fields"]["name"]), len(data["words"])))
+        self.assertEqual(report.splitlines(), [line for lines in data["lines"] for line in lines])
         explained = run_tool("explain", text=report).stdout.splitlines()
-        self.assertIn("        " + data["columns"][2999][6][-1], explained)
-        self.assertEqual(1500, len(data["tasks"]))
-        self.assertEqual({0}, {task[1] for task in data["tasks"]})
+        self.assertIn("        " + data["words"][2999][-1], explained)
+        tickets = {ticket for _, tasks in data["marks"] for ticket in tasks[2]}
+        self.assertEqual(set(range(1, 1501)), tickets)
+        self.assertEqual({0}, {lane for _, tasks in data["marks"] for lane in tasks[1]})
+        self.assertEqual({3000 * 2}, {len(data["index"][name]) for name in ("flags", "cid", "unit", "name", "live")})
+        self.assertEqual({3000 * 4}, {len(data["index"][name]) for name in ("tag", "number", "frame", "answered", "time")})
 
     def test_range(self):
         data = self.data(self.draw("made.html", replay(long_recording(50)), "--from", "11", "--to", "20"))
-        self.assertEqual((11, 10, 5), (data["first"], len(data["columns"]), len(data["tasks"])))
+        self.assertEqual((11, 10, 5), (data["first"], data["count"], len(data["marks"][0][1][2])))
+
+    def test_what_a_page_has_no_room_for_is_left_out_and_said(self):
+        report = replay(long_recording(1500))
+        sizes = []
+        for share, left_out in ((1, []), (0.9, ["lines"]), (0, ["lines", "words"])):
+            room = 10**9 if not sizes else sizes[0] * share
+            made = Page(1, None)
+            paint(with_places(iter(report.splitlines()), None, "made", keeps_lines=True), made)
+            file = io.StringIO()
+            with unittest.mock.patch.object(page, "LARGEST", room):
+                made.write(file, "made", [1])
+            sizes.append(len(re.search(r'id="data">(.*?)</script>', file.getvalue(), re.DOTALL)[1]))
+            data = self.data(file.getvalue())
+            self.assertEqual(left_out, data["leftOut"])
+            self.assertEqual([not name in left_out for name in ("lines", "words")], [bool(data[name]) for name in ("lines", "words")])
+        self.assertEqual(sorted(sizes, reverse=True), sizes)
+
+    def test_a_name_that_is_no_utf_8(self):
+        odd = os.fsencode(self.folder) + b"/x\xff.report"
+        with open(odd, "w", encoding="ascii") as file:
+            file.write(replay(recording_of("logout")))
+        for ending in ("html", "svg"):
+            self.assertEqual(0, run_tool("timeline", os.fsdecode(odd), "-o", self.path(f"odd.{ending}")).returncode)
 
     def test_name_is_escaped(self):
         odd = self.path("<b>&.report", replay(recording_of("logout")))
@@ -183,7 +274,7 @@ class Pages(Folder):
         """The page opened at an event shows its words, and draws no more than what is seen."""
         self.draw("made.html", replay(long_recording(1500)))
         done = subprocess.run(["chromium", "--headless", "--no-sandbox", "--disable-gpu", "--window-size=1200,900",
-                               "--dump-dom", f"--user-data-dir={self.path('profile')}",
+                               "--virtual-time-budget=5000", "--dump-dom", f"--user-data-dir={self.path('profile')}",
                                "file://" + self.path("made.html") + "#2000"],
                               capture_output=True, text=True, timeout=120, check=False)
         details = html.unescape(re.search(r'<div id="details">(.*?)</div>', done.stdout, re.DOTALL).group(1))

@@ -2,17 +2,14 @@
 
 import os
 import re
-import subprocess
 import sys
 from dataclasses import dataclass
 
 TOP = os.path.abspath(os.path.join(os.path.dirname(os.path.realpath(__file__)), "..", ".."))
 sys.path.insert(0, os.path.join(TOP, "tools"))
-from lib.sessions import find  # noqa: E402
-from lib.tshark import BadCapture, segments  # noqa: E402
+from lib.captures import BadCapture, first_moment, sessions_of  # noqa: E402
 
 LINE = re.compile(r"(\d+) ([0-9a-f]{8}) ([0-9a-f]{8}) (\d+) (\d+) (\d+) (completed|stopped) ([0-9a-f]{4})")
-NANOSECONDS = 10**9
 
 
 class BadTrace(Exception):
@@ -49,19 +46,9 @@ def read_trace(text):
     return works
 
 
-def first_moment(path):
-    """The moment of a capture's first frame, in nanoseconds since 1970."""
-    done = subprocess.run(["tshark", "-n", "-r", path, "-c", "1", "-T", "fields", "-e", "frame.time_epoch"],
-                          capture_output=True, text=True)
-    found = re.match(r"(\d+)\.(\d{9})", done.stdout)
-    if not found:
-        raise BadCapture(f"{path}: its first frame has no time")
-    return int(found[1]) * NANOSECONDS + int(found[2])
-
-
 def read_capture(path, port):
     """The sessions of a capture, and the moment from which their items count. `BadCapture` where it isn't whole."""
-    sessions, unread = find(segments(path, port))
+    sessions, unread = sessions_of(path, port)
     for session in sessions:
         if session.notes:
             raise BadCapture(f"{path}: {session.notes[0]}")

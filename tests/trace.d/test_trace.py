@@ -14,7 +14,7 @@ sys.path[:0] = [HERE, os.path.join(TOP, "tools")]
 from lib.pcap import ACK, PUSH, Side, file_header, frame, handshake, record  # noqa: E402
 from lib.pdu import lun_of  # noqa: E402
 from lib.sessions import find  # noqa: E402
-from lib.tshark import Segment  # noqa: E402
+from lib.frames import Segment  # noqa: E402
 from checks import judge  # noqa: E402
 from observed import read_trace  # noqa: E402
 
@@ -61,8 +61,8 @@ class Run:
         ways = (opener, listener) if from_initiator else (listener, opener)
         sequence = ways[0].sequence
         self.add(frame(*ways, PUSH | ACK, content))
-        self.segments.append(Segment(len(self.frames), self.milliseconds / 1000, cid, from_initiator, sequence, False,
-                                     content))
+        ends = [(side.address, side.port) for side in ways]
+        self.segments.append(Segment(len(self.frames), self.milliseconds / 1000, *ends, sequence, False, content, 0, None))
 
     def log_in(self, cid):
         asked, given = (TSIH if cid == 2 else 0).to_bytes(2, "big"), (OTHER if cid == 3 else TSIH).to_bytes(2, "big")

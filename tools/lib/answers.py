@@ -16,8 +16,10 @@ NAMES = {
     "function-response": "Task Management Function Response", "login-response": "Login Response",
     "text-response": "Text Response", "data-in": "Data-In without status", "data-in-status": "Data-In with status",
     "logout-response": "Logout Response", "r2t": "R2T", "async": "Asynchronous Message", "reject": "Reject",
+    "lost": "a reply that the capture lacks",
 }
 LEFT_OUT = ("ping", "login-response", "text-response", "data-in", "r2t", "async", "other")
+LOST = "lost"
 LINE = re.compile(r"(\d+) (\d+\.\d{6}) (\d+) ([a-z0-9-]+) ([0-9a-f]{8}) ([0-9a-f]{8}) ([0-9a-f]{8}) ([0-9a-f]{8}) "
                   r"([0-9a-f]{2}|--)(?: (.*))?")
 HEAD = """# What the target answered, a line a reply:
@@ -75,6 +77,14 @@ def line_of(item):
               f"{reply.stat_sn:08x} {reply.exp_cmd_sn:08x} {reply.max_cmd_sn:08x} "
               f"{'--' if outcome is None else format(outcome, '02x')}")
     return f"{fields} {reply.outcome}".rstrip()
+
+
+def target_lines(session):
+    """Gives the lines of a session: of each reply, and of those that the capture lacks."""
+    replies = [(item.frame, 1, line_of(item)) for item in session.items if item.reply and not item.made_up]
+    lost = [(one.frame, 0, f"{one.frame} {one.time:.6f} {one.cid} {LOST} {one.tag:08x} {one.stat_sn:08x} {0:08x} {0:08x} --")
+            for one in session.lost]
+    return [line for _, _, line in sorted(replies + lost, key=lambda one: one[:2])]
 
 
 def read(lines):

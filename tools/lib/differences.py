@@ -6,7 +6,7 @@ from collections import Counter
 from dataclasses import dataclass
 
 from . import report
-from .answers import NAMES, kind_of, outcome_of
+from .answers import LOST, NAMES, kind_of, outcome_of
 from .moments import Moments, early, may_wait
 from .pdu import DATA_OUT, REJECT, SNACK, TEXT, number
 
@@ -41,12 +41,15 @@ class Sent:
 
 @dataclass(frozen=True)
 class Difference:
-    """One difference: its kind, where it stands in the capture, and in words what differs."""
+    """One difference: its kind, where it stands in the capture, the tag of the request, and in words what differs. `event`: that of a
+    reply of the program's alone, counted from 1."""
     kind: str
     frame: int
     time: float
     cid: int
+    tag: int
     words: str
+    event: int = None
 
 
 def places_of(lines):
@@ -214,16 +217,19 @@ class Comparison:
         self.replay = replay
         self.moments = Moments(replay.events, replay.places, *moment) if moment else None
         self.left_out = Counter(answer.name for answer in answers if answer.is_left_out)
-        self.answers = [answer for answer in answers if not answer.is_left_out]
+        self.answers = [answer for answer in answers if not answer.is_left_out and answer.kind != LOST]
         self.rejected_texts = self.leave_out_texts(answers)
+        self.lost = self.leave_out_lost([answer for answer in answers if answer.kind == LOST])
         self.window = fixed_window(self.answers)
         self.pairs = sorted(pair(replay, self.answers), key=self.frame)
         self.elsewhere = out_of_order(self.pairs, self.waits) if moment else out_of_order(self.pairs)
         self.differences = [found for answer, sent in self.pairs for found in self.compare(answer, sent)]
-        self.differences += (Difference(STAT_SN, answer.frame, answer.time, answer.cid,
+        self.differences += (Difference(STAT_SN, answer.frame, answer.time, answer.cid, answer.tag,
                                         numbers_differ(STAT_SN, answer.stat_sn, stat_sn) + " at this place")
                              for answer, stat_sn in stat_sn_shifts(self.answers, replay.sent))
-        self.differences.sort(key=lambda difference: difference.frame)
+        self.by_fixed_window = sum(difference.kind == FIXED_WINDOW for difference in self.differences)
+        self.differences = sorted((difference for difference in self.differences if difference.kind != FIXED_WINDOW),
+                                  key=lambda difference: difference.frame)
 
     def frame(self, replies):
         """Where a pair stands in the capture: by the target's reply, or by the event of the program's."""
@@ -244,6 +250,12 @@ class Comparison:
         self.replay.sent = kept
         return count
 
+    def leave_out_lost(self, lost):
+        """Leaves out the program's replies of which the capture lacks the target's. How many it left out."""
+        found = {id(sent) for answer, sent in pair(self.replay, lost) if answer and sent}
+        self.replay.sent = [sent for sent in self.replay.sent if id(sent) not in found]
+        return len(found)
+
     def compare(self, answer, sent):
         """Gives the differences of a pair."""
         if not sent:
@@ -257,15 +269,15 @@ class Comparison:
     def missing(self, answer):
         place = self.replay.request_before(answer)
         request = self.replay.name(place) if place is not None else f"tag {answer.tag:08x}"
-        return Difference(MISSING, answer.frame, answer.time, answer.cid,
+        return Difference(MISSING, answer.frame, answer.time, answer.cid, answer.tag,
                           f"{request}: the target answers {told(answer.kind, answer.outcome, answer.words)}, "
                           f"the program nothing: {self.replay.why_silent(answer, place)}")
 
     def additional(self, sent):
         place = self.replay.places[sent.event]
-        return Difference(ADDITIONAL, place.frame, place.time, sent.cid,
+        return Difference(ADDITIONAL, place.frame, place.time, sent.cid, sent.tag,
                           f"{self.replay.name(sent.request)}: the program answers "
-                          f"{told(sent.kind, outcome_of(sent.reply), sent.reply.outcome)}, the target nothing")
+                          f"{told(sent.kind, outcome_of(sent.reply), sent.reply.outcome)}, the target nothing", sent.event + 1)
 
     def outcome(self, answer, sent):
         """Gives the difference in what came of a request."""
@@ -299,13 +311,12 @@ class Comparison:
                               numbers_differ(MAX_CMD_SN, answer.max_cmd_sn, reply.max_cmd_sn))
 
     def differ(self, kind, answer, sent, words):
-        return Difference(kind, answer.frame, answer.time, answer.cid, f"{self.replay.name(sent.request)}: {words}")
+        return Difference(kind, answer.frame, answer.time, answer.cid, answer.tag, f"{self.replay.name(sent.request)}: {words}")
 
     @property
     def first(self):
-        """The first difference. One that the target's fixed window makes counts where there is no other."""
-        rest = (difference for difference in self.differences if difference.kind != FIXED_WINDOW)
-        return next(rest, self.differences[0] if self.differences else None)
+        """The first difference, or None. What the target's fixed window makes is counted apart."""
+        return self.differences[0] if self.differences else None
 
     @property
     def counts(self):

@@ -2,6 +2,7 @@
 
 import os
 import sys
+from contextlib import contextmanager, suppress
 
 
 class Fault(Exception):
@@ -16,6 +17,8 @@ def reason(error):
 def lines_of(path):
     """The lines of a text file, or of standard input for `-`."""
     name = "standard input" if path == "-" else path
+    if path == "-" and sys.stdin is None:
+        raise Fault("standard input: it is closed")
     try:
         with (open(sys.stdin.fileno(), "rb", closefd=False) if path == "-" else open(path, "rb")) as file:
             yield from (line.decode("ascii", "backslashreplace") for line in file)
@@ -32,8 +35,25 @@ def write(path, content):
         raise Fault(f"{path}: {reason(error)}") from None
 
 
+@contextmanager
+def writing(path):
+    """Opens a text file to be written whole. What comes of it before all is written stands beside it."""
+    unfinished = f"{path}.unfinished"
+    try:
+        with open(unfinished, "w", encoding="utf-8") as file:
+            yield file
+        os.replace(unfinished, path)
+    except OSError as error:
+        raise Fault(f"{path}: {reason(error)}") from None
+    finally:
+        with suppress(OSError):
+            os.unlink(unfinished)
+
+
 def run(name, main):
     """Runs a tool: a fault is one line on standard error and status 1."""
+    if sys.stdout is None:
+        sys.exit(fault(name, "the output was closed"))
     try:
         main()
         sys.stdout.flush()
@@ -46,5 +66,6 @@ def run(name, main):
 
 
 def fault(name, text):
-    print(f"{name}: {text}", file=sys.stderr)
+    if sys.stderr is not None:
+        print(f"{name}: {text}", file=sys.stderr)
     return 1

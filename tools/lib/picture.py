@@ -1,13 +1,14 @@
 """What a timeline shows of a report: a column for each event, and bars over columns for CmdSNs and commands."""
 
 import re
-from dataclasses import dataclass, field
+from dataclasses import dataclass, field, replace
+from heapq import heappop, heappush
 
 from . import pdu
-from .state import MODULUS, Session, read_first
+from .places import first_of
+from .state import Session
 from .words import shown, tell
 
-TIME = re.compile(r"# time ([0-9]{1,12}(?:\.[0-9]{1,12})?)(?: |$)")
 SHORT = {
     "TEST UNIT READY": "TUR", "REQUEST SENSE": "SENSE", "FORMAT UNIT": "FORMAT", "MODE SELECT(6)": "MODE SEL",
     "RESERVE(6)": "RESERVE", "RELEASE(6)": "RELEASE", "MODE SENSE(6)": "MODE SNS", "START STOP UNIT": "START ST",
@@ -30,15 +31,16 @@ RESPONSES = {0: "complete", 1: "no task", 2: "no LUN", 3: "allegiant", 4: "no re
              7: "succeeded", 255: "rejected"}
 LOGOUT_RESPONSES = {0: "closed", 1: "no CID", 2: "no recov.", 3: "failed"}
 LONGEST = 9
-LEAST_ROWS, MOST_ROWS = 24, 2048
+MOST_ROWS = 2048
+# A pause of so many seconds between two events is shown.
+LONG_PAUSE = 0.05
 
 
-def time_words(time):
-    """A time in seconds, as it fits into a column."""
-    if time is None:
+def time_words(seconds):
+    """A time in seconds, to the microsecond, as it fits into a column."""
+    if seconds is None:
         return None
-    seconds = float(time)
-    return f"{seconds:.3f} s" if seconds >= 1 else f"{seconds * 1000:.2f} ms"
+    return f"{seconds:.6f} s" if seconds >= 1 else f"{seconds * 1000:.3f} ms"
 
 
 def short(name):
@@ -63,22 +65,39 @@ class Request:
 
 @dataclass(frozen=True)
 class Answer:
+    """A reply of the program's, or of the target's: where it goes, in short, whether it refuses, the tag that it answers, the event of
+    that request, and where it stands in the capture. `differs`: the other side has it otherwise, or not."""
     cid: int
     text: str
     good: bool
+    tag: str = ""
+    request: int = None
+    frame: int = None
+    differs: bool = False
 
 
 @dataclass
 class Column:
-    """An event. `expected` and `greatest` are ExpCmdSN and MaxCmdSN after it, as far as they were told."""
+    """An event. `expected` and `greatest` are ExpCmdSN and MaxCmdSN after it, as far as they were told; `moved`: it came before the
+    event in front of it; `pause`: how long nothing came before it, in seconds, where that is long."""
     event: int
-    time: str
+    seconds: float
+    frame: int
+    moved: bool
+    pause: float
+    made_up: bool
     request: Request
     answers: list
+    theirs: list
     expected: int
     greatest: int
     lines: list
     words: list
+    differences: list
+
+    @property
+    def time(self):
+        return time_words(self.seconds)
 
 
 @dataclass
@@ -96,12 +115,22 @@ class Task:
     unit: int
     lane: int
     ticket: int
-    label: str
+    attribute: str
+    tag: int
     start: int
     enabled: int = None
     end: int = None
     outcome: str = ""
     completed: bool = False
+
+    @property
+    def label(self):
+        return task_label(self.ticket, self.attribute, self.tag)
+
+
+def task_label(ticket, attribute, tag):
+    """A command in its task set, as `#3 ordered, tag a1`."""
+    return f"#{ticket} {attribute}, " + ("no tag" if tag == pdu.NO_TAG else f"tag {tag:x}")
 
 
 @dataclass
@@ -113,20 +142,12 @@ class Picture:
 
 
 def connections(lines):
-    """The CIDs of the `conn` lines."""
-    return [int(text.split()[1]) for text in lines if re.fullmatch(r"conn [0-9]{1,5} [0-9a-fA-F]{8}\n?", text)]
-
-
-def event_texts(lines):
-    """The event lines of a recording or a report, as a recording has them, each with its time or None."""
-    time = None
+    """The CIDs of the `conn` lines, which stand in front of all events."""
     for text in lines:
-        found = TIME.match(text)
-        time = found.group(1) if found else time
-        event = text.rstrip("\n").removeprefix("> ")
-        if event[:2] in ("C ", "D "):
-            yield event[:2] + event[2:].lower(), time
-            time = None
+        if re.fullmatch(r"conn [0-9]{1,5} [0-9a-fA-F]{8}\n?", text):
+            yield int(text.split()[1])
+        elif text[:2] in ("> ", "C ", "D "):
+            return
 
 
 def request_of(event):
@@ -149,40 +170,66 @@ def completion_of(event):
     return Request(None, "other", ignored, f"#{event.ticket % 10**7}", status, "stale" if ignored else "")
 
 
-def answer_of(effect):
-    """What a column shows of a reply."""
-    reply = effect.reply
-    if reply.opcode == pdu.SCSI_RESPONSE:
-        status = pdu.STATUSES.get(reply.status, f"status {reply.status:02x}")
-        return Answer(effect.cid, short(status), reply.status == 0)
-    if reply.opcode == pdu.NOP_IN:
-        return Answer(effect.cid, "NOP-In", True)
-    if reply.opcode == pdu.REJECT:
-        return Answer(effect.cid, f"Reject {reply.response:02x}", False)
-    names = RESPONSES if reply.opcode == pdu.TASK_MANAGEMENT_RESPONSE else LOGOUT_RESPONSES
-    return Answer(effect.cid, names.get(reply.response, f"resp. {reply.response}"), reply.response in (0, 7))
+def answer_words(opcode, outcome):
+    """A reply in short, and whether it refuses nothing. `outcome`: its status, response or reason."""
+    if opcode in (pdu.SCSI_RESPONSE, pdu.DATA_IN):
+        return short(pdu.STATUSES.get(outcome, f"status {outcome:02x}")), outcome == 0
+    if opcode == pdu.NOP_IN:
+        return "NOP-In", True
+    if opcode == pdu.REJECT:
+        return f"Reject {outcome:02x}", False
+    names = RESPONSES if opcode == pdu.TASK_MANAGEMENT_RESPONSE else LOGOUT_RESPONSES
+    return names.get(outcome, f"resp. {outcome}"), outcome in (0, 7)
+
+
+def tag_of(reply):
+    """The tag of the request that a reply answers."""
+    return pdu.number(reply.tail, 16, 19) if reply.opcode == pdu.REJECT and len(reply.tail) >= 20 else reply.tag
 
 
 class Painter:
-    """Follows a session, and collects its picture."""
+    """Follows a session, and gives its columns to a sink, and its bars and tasks as they end. `beside`: what a real target answered."""
 
-    def __init__(self, first):
-        self.session = Session(first)
-        self.picture = Picture()
-        self.numbers = {}
-        self.tasks = {}
+    def __init__(self, first, sink, beside=None):
+        self.session, self.sink, self.beside = Session(first), sink, beside
+        self.numbers, self.tasks, self.requests = {}, {}, {}
+        self.live, self.passing = set(), []
         self.free_lanes, self.lanes = {}, {}
+        self.latest = self.before = None
 
-    def take(self, event, time, lines):
+    def take(self, event, place, lines):
         head, words, steps = tell(self.session, event)
         now = self.session.events
         for step in steps:
             self.follow_task(step, now)
-        self.follow_numbers(now, [step.effect for step in steps if step.effect])
-        answers = [answer_of(effect) for effect in event.effects if effect.kind == "send"]
+        self.follow_numbers(now, steps)
         request = request_of(event) if event.is_arrival else completion_of(event)
-        self.picture.columns.append(Column(now, time_words(time), request, answers, self.session.expected,
-                                           self.session.greatest, lines, [head, *words]))
+        if event.is_arrival and event.request.opcode not in (pdu.DATA_OUT, pdu.SNACK):
+            self.requests[event.cid, event.request.tag] = now
+        answers = [self.answer_of(effect) for effect in event.effects if effect.kind == "send"]
+        theirs, differences = [], []
+        if self.beside:
+            answers = [replace(one, differs=self.beside.is_alone(now, one)) for one in answers]
+            theirs = [replace(one, request=self.requests.get((one.cid, int(one.tag, 16)))) for one in self.beside.answers.get(now, ())]
+            differences = self.beside.differences.get(now, [])
+        self.sink.column(Column(now, *self.when(place), request, answers, theirs, self.session.expected, self.session.greatest, lines,
+                                [head, *words], differences), event)
+
+    def when(self, place):
+        """The time and the frame of an event, whether it was moved, how long nothing came before it, and whether it is made up."""
+        if not place:
+            return None, None, False, None, False
+        seconds, latest = place.seconds, self.latest
+        self.latest = seconds if latest is None else max(latest, seconds)
+        pause = seconds - latest if latest is not None and seconds - latest >= LONG_PAUSE else None
+        return seconds, place.frame, latest is not None and seconds < latest, pause, place.is_made_up
+
+    def answer_of(self, effect):
+        """What a column shows of a reply."""
+        reply = effect.reply
+        text, good = answer_words(reply.opcode, reply.status if reply.ends_command else reply.response)
+        tag = tag_of(reply)
+        return Answer(effect.cid, text, good, f"{tag:x}", self.requests.get((effect.cid, tag)))
 
     def follow_task(self, step, now):
         kind = step.effect.kind if step.effect else None
@@ -198,56 +245,101 @@ class Painter:
         if not free:
             free.append(self.lanes.get(command.unit, 0))
             self.lanes[command.unit] = free[0] + 1
-        lane = min(free)
-        free.remove(lane)
-        tag = "no tag" if command.arrival.request.tag == pdu.NO_TAG else f"tag {command.arrival.request.tag:x}"
-        label = f"#{command.ticket} {command.attribute}, {tag}"
-        task = Task(command.unit, lane, command.ticket, label, now)
-        self.tasks[command.ticket] = task
-        self.picture.tasks.append(task)
+        lane = heappop(free)
+        self.tasks[command.ticket] = Task(command.unit, lane, command.ticket, command.attribute, command.arrival.request.tag, now)
 
     def leave(self, command, now):
         task = self.tasks.pop(command.ticket)
         task.end, task.completed = now, command.completed
         task.outcome = short(command.end) if command.completed else "LOGOUT" if command.end == "Logout" else "ABORTED"
-        self.free_lanes[command.unit].append(task.lane)
+        heappush(self.free_lanes[command.unit], task.lane)
+        self.sink.task(task)
 
-    def follow_numbers(self, now, effects):
+    def touched(self, steps):
+        """The numbers of which these steps may have changed what they are. Notes those of live commands."""
+        for step in steps:
+            kind = step.effect.kind if step.effect else "hold"
+            if kind == "hold":
+                yield self.session.lifted(step.arrival.request.cmd_sn)
+            elif kind in ("deliver", "void", "empty"):
+                yield self.session.lifted(step.effect.cmd_sn)
+            elif kind in ("enter", "leave") and not step.command.arrival.request.immediate:
+                (self.live.add if kind == "enter" else self.live.discard)(step.command.cmd_sn)
+                yield step.command.cmd_sn
+
+    def follow_numbers(self, now, steps):
         """Ends the bars of numbers that changed, and begins new ones."""
-        state = {number: "held" for number in self.session.held}
-        state.update(self.session.gone)
-        state.update((command.cmd_sn, "live") for command in self.session.live.values()
-                     if not command.arrival.request.immediate)
-        for number, bar in list(self.numbers.items()):
-            if state.get(number) != bar.kind:
-                bar.end = now - 1
-                del self.numbers[number]
-        for number in sorted(state.keys() - self.numbers.keys()):
-            self.numbers[number] = Bar(number, state[number], now)
-            self.picture.bars.append(self.numbers[number])
+        session = self.session
+        touched = {*self.touched(steps), *self.passing}
+        for number in sorted(touched):
+            kind = "live" if number in self.live else session.gone.get(number) or ("held" if number in session.held else None)
+            if kind != self.kind_of(number):
+                self.change(number, kind, now)
+        self.passing = [number for number in touched if number in session.gone]
         # A number that ExpCmdSN passed at once is seen in this column alone.
-        gone = [(self.session.lifted(effect.cmd_sn), effect.kind) for effect in effects
-                if effect.kind in ("void", "empty")]
-        self.picture.bars += [Bar(number, kind, now, now) for number, kind in gone if number not in self.session.gone]
+        for step in steps:
+            if step.effect and step.effect.kind in ("void", "empty"):
+                number = session.lifted(step.effect.cmd_sn)
+                if number not in session.gone:
+                    self.sink.bar(Bar(number, step.effect.kind, now, now))
+
+    def kind_of(self, number):
+        return self.numbers[number].kind if number in self.numbers else None
+
+    def change(self, number, kind, now):
+        """A number becomes something else."""
+        bar = self.numbers.pop(number, None)
+        if bar:
+            bar.end = now - 1
+            self.sink.bar(bar)
+        if kind:
+            self.numbers[number] = Bar(number, kind, now)
 
     def finish(self):
         """Ends what is open at the last event."""
         for bar in self.numbers.values():
             bar.end = self.session.events
-        return self.picture
+            self.sink.bar(bar)
+        for task in self.tasks.values():
+            self.sink.task(task)
 
 
-def paint(events, lines, times, cids):
-    """The picture of the events of a report with these lines. `times` has the time of each event, or None."""
-    first, events = read_first(events)
-    painter = Painter(first)
-    for event, time in zip(events, times):
-        end = event.line + len(event.effects)
-        painter.take(event, time, [text.rstrip("\n") for text in lines[event.line - 1:end]])
-    picture = painter.finish()
-    seen = {column.request.cid for column in picture.columns}
-    picture.cids = cids + sorted(seen.difference(cids, {None})) + [None] * (None in seen)
-    return picture
+class Collected:
+    """A sink that keeps all of it, in order."""
+
+    def __init__(self):
+        self.picture = Picture()
+
+    def column(self, column, event):
+        self.picture.columns.append(column)
+
+    def bar(self, bar):
+        self.picture.bars.append(bar)
+
+    def task(self, task):
+        self.picture.tasks.append(task)
+
+    def finish(self, cids):
+        """The picture. Connections that no line names come behind those that one does."""
+        picture = self.picture
+        seen = {column.request.cid for column in picture.columns}
+        picture.cids = cids + sorted(seen.difference(cids, {None})) + [None] * (None in seen)
+        picture.bars.sort(key=lambda bar: (bar.start, bar.number))
+        picture.tasks.sort(key=lambda task: task.ticket)
+        return picture
+
+
+def paint(events, sink, beside=None, also=lambda first: None):
+    """Gives all that a sink is to have of the events of a report, each with its place or None, and its lines. `also` makes, of the first
+    CmdSN, something else that takes the events."""
+    first, events = first_of(events)
+    painter, other = Painter(first, sink, beside), also(first)
+    for event, place in events:
+        painter.take(event, place, event.lines)
+        if other:
+            other.take(event, place)
+    painter.finish()
+    return other
 
 
 def number_range(picture, start, end):
@@ -259,32 +351,6 @@ def number_range(picture, start, end):
         return None
     lowest, highest = min(numbers), max(numbers)
     greatest = max((column.greatest for column in columns if column.greatest is not None), default=highest)
-    highest = max(highest, min(greatest, max(lowest + LEAST_ROWS - 1, highest + 2)))
+    # One row above those that are used shows that there is more.
+    highest = max(highest, min(greatest, highest + 1))
     return lowest, min(highest, lowest + MOST_ROWS - 1)
-
-
-def as_data(picture, start, end):
-    """The picture of these events as data for the page."""
-    numbers = [number for column in picture.columns for number in (column.expected,) if number is not None]
-    base = min(numbers, default=0)
-    return {
-        "first": start, "base": base % MODULUS, "cids": picture.cids,
-        "columns": [column_data(column, base) for column in picture.columns[start - 1:end]],
-        "bars": [[bar.number - base, bar.kind, bar.start, bar.end]
-                 for bar in picture.bars if bar.start <= end and bar.end >= start],
-        "tasks": [[task.unit, task.lane, task.ticket, task.label, task.start, task.enabled, task.end,
-                   task.outcome, task.completed]
-                  for task in picture.tasks if task.start <= end and (task.end is None or task.end >= start)],
-    }
-
-
-def column_data(column, base):
-    request = column.request
-    return [
-        column.time,
-        [request.cid, request.kind, request.ignored, request.name, request.number, request.note],
-        [[answer.cid, answer.text, answer.good] for answer in column.answers],
-        None if column.expected is None else column.expected - base,
-        None if column.greatest is None else column.greatest - base,
-        column.lines, column.words,
-    ]

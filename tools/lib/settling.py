@@ -1,7 +1,7 @@
 """Makes a recording of a session: its options, its events in their order, and the tickets of its completions.
 
 The rules of the session are the program's. It says by its reports which ticket a command got, and which numbers its
-window let in; a recording is replayed until nothing of it changes.
+window let in; a recording is replayed until nothing of it changes. It begins with a guess, which mostly is right.
 """
 
 import os
@@ -47,6 +47,7 @@ class Recording:
     without_ticket: int
     outside: int
     passes: int
+    report: str
 
 
 def run_program(recording, words):
@@ -78,10 +79,14 @@ def answered_place(queue, item):
 def in_taken_order(items):
     """Gives the items in the order in which the target took and sent them.
 
-    A request stands where the capture has it, but behind the replies that by their ExpCmdSN hadn't seen it yet.
+    A request stands where the capture has it, but behind the replies that by their ExpCmdSN hadn't seen it yet. An immediate one
+    that is made up stands where it was put.
     """
     queues = {}
     for item in items:
+        if item.made_up and item.request and item.request.immediate:
+            yield item
+            continue
         if item.request:
             queues.setdefault(item.cid, deque()).append(item)
             continue
@@ -112,7 +117,8 @@ def units_of(items):
 def place_of(item):
     """The comment that stands before an event."""
     what = f"{item.request.name}, tag" if item.request else f"{item.reply.outcome} for tag"
-    return f"# time {item.time:.6f} frame {item.frame}: {what} {item.tag:08x}"
+    made_up = "made up, since the capture lacks it: " if item.made_up else ""
+    return f"# time {item.time:.6f} frame {item.frame}: {made_up}{what} {item.tag:08x}"
 
 
 def event_lines(steps, tickets):
@@ -152,6 +158,28 @@ def tickets_of(steps, tickets, events):
     return found
 
 
+def guess(steps, first):
+    """The tickets of the completions, by their place, where every command enters in the order of CmdSNs."""
+    tickets, waiting, last = {}, {}, {}
+    expected, entered = first, 0
+    for place, item in enumerate(steps):
+        request = item.request
+        if request and request.is_numbered:
+            waiting.setdefault(request.cmd_sn, item)
+            while expected in waiting:
+                turn = waiting.pop(expected)
+                expected = (expected + 1) % 2**32
+                if turn.request.opcode == SCSI_COMMAND:
+                    entered += 1
+                    last[turn.cid, turn.tag] = entered
+        elif request and request.opcode == SCSI_COMMAND:
+            entered += 1
+            last[item.cid, item.tag] = entered
+        elif item.reply and item.reply.ends_command and (item.cid, item.tag) in last:
+            tickets[place] = last.pop((item.cid, item.tag))
+    return tickets
+
+
 def shorten(session):
     """Cuts a session whose events are more than a recording has lines for."""
     room = (MOST_LINES - MOST_HEAD_LINES - len(session.connections)) // 2
@@ -163,7 +191,7 @@ def shorten(session):
 def settle(session, steps, options):
     """The recording of a session with these options, whose tickets are those that the program gives."""
     begin = [f"conn {cid} {stat_sn:08x}" for cid, stat_sn in sorted(session.connections.items())]
-    tickets = {}
+    tickets = guess(steps, options.first)
     for passes in range(1, MOST_PASSES):
         lines = begin + list(event_lines(steps, tickets))
         text = run_program("\n".join(lines) + "\n", options.words)
@@ -171,7 +199,7 @@ def settle(session, steps, options):
         if found == tickets:
             answers = sum(1 for item in steps if item.reply and item.reply.ends_command)
             outside = text.count("\n  ignore outside\n")
-            return Recording(options, lines, len(found), answers - len(found), outside, passes)
+            return Recording(options, lines, len(found), answers - len(found), outside, passes, text)
         tickets = found
     raise BadReplay(f"the tickets don't stand still after {MOST_PASSES} replays")
 

@@ -5,6 +5,7 @@ Only what the lines say is followed. What a session must do is decided by the pr
 
 from dataclasses import dataclass
 from itertools import chain
+from sys import intern
 
 from .pdu import STATUSES, Request
 from .report import BadReport, Effect
@@ -18,7 +19,7 @@ def lift(number, near):
     return near + (number - near + HALF) % MODULUS - HALF
 
 
-@dataclass(frozen=True)
+@dataclass(frozen=True, slots=True)
 class Arrival:
     """A request, and the event and connection that brought it."""
     event: int
@@ -26,7 +27,7 @@ class Arrival:
     request: Request
 
 
-@dataclass
+@dataclass(slots=True)
 class Command:
     """A command of a task set. `entered`, `enabled` and `left` are numbers of events."""
     ticket: int
@@ -41,7 +42,7 @@ class Command:
     completed: bool = False
 
 
-@dataclass(frozen=True)
+@dataclass(frozen=True, slots=True)
 class Step:
     """An effect and what it concerns: the request of its item, a command, functions that a close drops.
 
@@ -208,7 +209,8 @@ class Session:
             command.end = arrival.request.name
         else:
             raise BadReport(f"line {effect.line}: no request arrived that could take a ticket out")
-        self.ended[effect.ticket] = ("was completed with " if command.completed else "was taken out by ") + command.end
+        # There are few such words, and many tickets.
+        self.ended[effect.ticket] = intern(("was completed with " if command.completed else "was taken out by ") + command.end)
         return command
 
     def command(self, effect):

@@ -6,24 +6,30 @@ from html import escape
 from .picture import number_range
 from .words import shown
 
-LEFT, COLUMN, MARGIN = 178, 66, 12
+LEFT, COLUMN, MARGIN = 178, 74, 12
 REQUEST_HEIGHT, ANSWER_HEIGHT = 44, 19
 MOST_ROW, LEAST_ROW, WINDOW_HEIGHT = 17, 3, 340
 TASK_HEIGHT = 20
 CORNER = 6
-LEGEND_GAP = 108
+LEGEND_GAP = 118
+LONGEST_ANSWER = 13
 LEGEND = (
     (("command", "command"), ("function", "function"), ("other", "other event"), ("ignored", "ignored"),
-     ("good", "reply"), ("bad", "reply that refuses")),
+     ("good", "reply"), ("bad", "reply that refuses"), ("differs", "differs")),
     (("live", "live"), ("held", "held"), ("void", "voided"), ("empty", "taken out"), ("open", "may be sent"),
      ("expected", "ExpCmdSN"), ("greatest", "MaxCmdSN")),
-    (("dormant", "dormant"), ("enabled", "enabled"), ("completed", "completed"), ("aborted", "aborted")),
+    (("dormant", "dormant"), ("enabled", "enabled"), ("completed", "completed"), ("aborted", "aborted"),
+     ("pause", "a pause"), ("moved", "came before")),
 )
 PATTERNS = (
     '<pattern id="hatch" width="7" height="7" patternUnits="userSpaceOnUse" patternTransform="rotate(45)">'
     '<rect width="7" height="7" fill="#fdebc8"/><line x1="0" y1="0" x2="0" y2="7" class="stripe"/></pattern>'
     '<pattern id="cross" width="6" height="6" patternUnits="userSpaceOnUse">'
     '<rect width="6" height="6" fill="#e5e8ec"/><path d="M0 0L6 6M6 0L0 6" class="gap"/></pattern>'
+    '<pattern id="waiting" width="5" height="5" patternUnits="userSpaceOnUse" patternTransform="rotate(-45)">'
+    '<rect width="5" height="5" fill="#f6f2fb"/><line x1="0" y1="0" x2="0" y2="5" class="wait"/></pattern>'
+    '<pattern id="passed" width="6" height="6" patternUnits="userSpaceOnUse"><rect width="6" height="6" fill="#ffffff"/>'
+    '<circle cx="2" cy="2" r="0.9" fill="#8a94a0"/></pattern>'
 )
 
 
@@ -61,12 +67,19 @@ def shape(x, y, width, height, kind, ignored=False):
     return box(x, y, width, height, look, 10 if kind == "other" else 2)
 
 
+def most(columns):
+    """Gives, for a connection, the most replies on it among these."""
+    columns = list(columns)
+    return lambda cid: max((sum(answer.cid == cid for answer in answers) for answers in columns), default=0)
+
+
 class Drawing:
     """Draws some events of a picture, panel by panel downwards."""
 
     def __init__(self, picture, start, end, title):
         self.picture, self.start, self.end, self.title = picture, start, end, title
         self.columns = picture.columns[start - 1:end]
+        self.has_target = any(column.theirs for column in picture.columns)
         self.width = max(LEFT + len(self.columns) * COLUMN + MARGIN, LEFT + 4 * LEGEND_GAP)
         self.parts = []
         self.y = 0
@@ -89,6 +102,7 @@ class Drawing:
         for unit in sorted({task.unit for task in self.tasks()}):
             self.task_set(unit)
         grid = [line(self.x(column.event), top, self.x(column.event), self.y, "grid") for column in self.columns]
+        grid += self.pauses(top)
         self.legend()
         size = f'width="{self.width:g}" height="{self.y:g}" viewBox="0 0 {self.width:g} {self.y:g}"'
         ground = '<rect width="100%" height="100%" class="paper"/>'
@@ -99,43 +113,69 @@ class Drawing:
     def top(self):
         self.add(text(MARGIN, 24, self.title, "title"))
         timed = any(column.time for column in self.columns)
-        self.y = 52 if timed else 40
+        framed = any(column.frame is not None for column in self.columns)
+        self.y = (52 if timed else 40) + (13 if framed else 0)
         self.add(text(MARGIN, self.y + 6, "event", "head"))
         for column in self.columns:
             middle = self.x(column.event) + COLUMN / 2
             self.add(text(middle, self.y + 6, str(column.event), "small middle"))
+            if column.frame is not None:
+                words = "made up" if column.made_up else f"frame {column.frame}"
+                self.add(text(middle, self.y - 8, words, "small middle quiet"))
             if column.time:
-                self.add(text(middle, self.y - 8, column.time, "small middle quiet"))
+                words = f"◂ {column.time}" if column.moved else column.time
+                self.add(text(middle, self.y - (21 if framed else 8), words, "small middle " + ("moved-time" if column.moved else "quiet")))
         self.y += 14
+
+    def pauses(self, top):
+        """Where nothing came for a while."""
+        for column in self.columns:
+            if column.pause and column.event > self.start:
+                yield box(self.x(column.event) - 2, top, 4, self.y - top, "pause", 0)
+                yield text(self.x(column.event), top - 2, f"{column.pause:.2f} s", "small middle pause-words")
 
     def connections(self):
         for cid in self.picture.cids:
-            answers = max((sum(answer.cid == cid for answer in column.answers) for column in self.columns), default=0)
+            answers = most(column.answers for column in self.columns)(cid)
+            theirs = most(column.theirs for column in self.columns)(cid)
             self.add(line(MARGIN, self.y, self.width - MARGIN, self.y, "rule"))
             heading, rows = ("units", "completions") if cid is None else (f"connection {cid}", "requests")
             self.add(text(MARGIN, self.y + 20, heading, "head"), text(LEFT - 10, self.y + 32, rows, "small end quiet"))
             answers_at = self.y + REQUEST_HEIGHT + 8
+            theirs_at = answers_at + answers * ANSWER_HEIGHT + (5 if theirs else 0)
             if answers:
-                self.add(text(LEFT - 10, answers_at + 13, "replies", "small end quiet"))
+                words = "by the rules" if self.has_target else "replies"
+                self.add(text(LEFT - 10, answers_at + 13, words, "small end quiet"))
+            if theirs:
+                self.add(text(LEFT - 10, theirs_at + 13, "the target said", "small end quiet"))
             for column in self.columns:
-                self.add(*self.cell(column, cid, answers_at))
-            self.y = answers_at + answers * ANSWER_HEIGHT + 4
+                self.add(*self.cell(column, cid, answers_at, theirs_at))
+            self.y = theirs_at + theirs * ANSWER_HEIGHT + 4
         self.add(line(MARGIN, self.y, self.width - MARGIN, self.y, "rule"))
 
-    def cell(self, column, cid, answers_at):
+    def cell(self, column, cid, answers_at, theirs_at):
         """What one event brings and sends on one connection."""
         x, y, request = self.x(column.event), self.y + 5, column.request
         middle = x + COLUMN / 2
         if request and request.cid == cid:
-            yield f'<g class="request"><title>{escape(chr(10).join(column.words))}</title>'
+            yield f'<g class="request"><title>{escape(chr(10).join((*column.words, *column.differences)))}</title>'
             yield shape(x + 2, y, COLUMN - 4, REQUEST_HEIGHT - 2, request.kind, request.ignored)
             yield text(middle, y + 14, request.name, "name middle")
             yield text(middle, y + 25, request.number, "small middle")
             yield text(middle, y + 37, request.note, "note middle") + "</g>"
-        for place, answer in enumerate(answer for answer in column.answers if answer.cid == cid):
-            top = answers_at + place * ANSWER_HEIGHT
-            yield box(x + 3, top, COLUMN - 6, ANSWER_HEIGHT - 3, "good" if answer.good else "bad", 8)
-            yield text(middle, top + 12, answer.text, "small middle")
+        for top, answers in ((answers_at, column.answers), (theirs_at, column.theirs)):
+            for place, answer in enumerate(answer for answer in answers if answer.cid == cid):
+                yield from self.answer(x, top + place * ANSWER_HEIGHT, answer)
+
+    def answer(self, x, top, answer):
+        """A reply, with the tag that it answers where there is room, and where it stands in the capture."""
+        words = f"{answer.text} {answer.tag}"
+        kind = "differs" if answer.differs else "good" if answer.good else "bad"
+        where = f", frame {answer.frame}" if answer.frame is not None else ""
+        yield f"<g><title>{escape(answer.text)}, tag {answer.tag}{where}</title>"
+        yield box(x + 3, top, COLUMN - 6, ANSWER_HEIGHT - 3, kind, 8)
+        yield text(x + COLUMN / 2, top + 12, words if len(words) <= LONGEST_ANSWER else answer.text,
+                   "small middle" + (" light" if answer.differs else "")) + "</g>"
 
     def window(self):
         """The CmdSNs, the highest one on top."""
@@ -242,10 +282,14 @@ def legend_marks(y, width, left=0):
 def legend_entry(x, y, kind, words):
     if kind in ("expected", "greatest"):
         yield line(x, y + 8, x + 22, y + 8, kind)
+    elif kind == "pause":
+        yield box(x + 9, y + 1, 4, 14, kind, 0)
+    elif kind == "moved":
+        yield text(x + 6, y + 12, "◂", "small moved-time")
     elif kind in ("function", "other"):
         yield shape(x, y + 1, 22, 14, kind)
     elif kind == "aborted":
         yield notched(x, y + 1, 22, 14, kind)
     else:
-        yield box(x, y + 1, 22, 14, kind, 7 if kind in ("good", "bad") else 2)
+        yield box(x, y + 1, 22, 14, kind, 7 if kind in ("good", "bad", "differs") else 2)
     yield text(x + 28, y + 12, words, "small")

@@ -1,0 +1,139 @@
+"""From a capture to pages: for each session its recording, report, comparison and timeline, and an index with its figures."""
+
+import io
+import os
+from html import escape
+
+from .beside import Beside
+from .answers import read
+from .files import write, writing
+from .page import Page
+from .picture import connections, paint
+from .places import events_with_places, with_places
+from .statistics import Figures
+
+MOST_DIFFERENCES = 30
+INDEX = "index.html"
+HEAD = """<!DOCTYPE html>
+<html lang="en">
+<head>
+<meta charset="utf-8">
+<title>{title}</title>
+<style>
+body {{ font: 14px "DejaVu Sans", "Segoe UI", Helvetica, Arial, sans-serif; color: #24292f; margin: 24px; max-width: 1400px; }}
+h1 {{ font-size: 20px; }} h2 {{ font-size: 16px; margin-top: 32px; border-top: 1px solid #d8dee4; padding-top: 16px; }}
+table {{ border-collapse: collapse; margin: 8px 0; }}
+td, th {{ border: 1px solid #d8dee4; padding: 3px 9px; text-align: left; vertical-align: top; }}
+th {{ background: #f6f8fa; }} td.number {{ text-align: right; font-variant-numeric: tabular-nums; }}
+.sick {{ color: #8e2419; font-weight: bold; }} .quiet {{ color: #57606a; }} li {{ margin: 3px 0; }}
+</style>
+</head>
+<body>
+<h1>{title}</h1>
+"""
+
+
+class Looked:
+    """What is shown of one session."""
+
+    def __init__(self, made):
+        self.made = made
+        self.name = os.path.basename(made.base)
+        self.write_report()
+        self.figures = self.write_timeline()
+        self.write_differences()
+
+    def write_report(self):
+        write(f"{self.made.base}.report", self.made.recording.report)
+
+    def write_timeline(self):
+        """Writes the page, and gives the figures, with one reading of the report."""
+        made = self.made
+        frames = [place.frame for _, place in events_with_places(made.recording.lines)]
+        page = Page(1, None)
+        events = with_places(io.StringIO(made.recording.report), iter(made.recording.lines), made.base, keeps_lines=True)
+        figures = paint(events, page, Beside(list(read(made.answers)), frames, made.comparison), Figures)
+        with writing(f"{made.base}.html") as file:
+            page.write(file, f"{self.name}: events 1 to {page.events}", list(connections(made.recording.lines)))
+        return figures
+
+    def write_differences(self):
+        lines = [f"frame {one.frame} ({one.time:.6f} s), connection {one.cid}, {one.kind}:\n  {one.words}\n"
+                 for one in self.made.comparison.differences]
+        write(f"{self.made.base}.differences.txt", "".join(lines) or "no difference\n")
+
+    # ---- the index
+
+    def row(self):
+        """The row of the session in the first table."""
+        session, figures, counts = self.made.session, self.figures, self.made.comparison.counts
+        seconds = "" if figures.seconds is None else f"{figures.seconds:.3f}"
+        sick = ", ".join(f"{count} × {kind}" for kind, count in sorted(counts.items()))
+        statuses = ", ".join(f"{count} × {what.removeprefix('SCSI Response ')}" for what, count in figures.replies.items()
+                             if what.startswith("SCSI Response ") and not what.endswith(" GOOD"))
+        cells = (f'<a href="#{self.name}">{escape(self.name)}</a>', escape(session.names[0] or "not known"), session.port, seconds,
+                 figures.commands, figures.aborted, escape(statuses), f'<span class="sick">{escape(sick)}</span>')
+        return "<tr>" + "".join(f"<td>{cell}</td>" for cell in cells) + "</tr>"
+
+    def section(self):
+        """What the index says of the session."""
+        base = escape(self.name)
+        yield f'<h2 id="{base}">{base}</h2>\n<p>{escape("; ".join(self.made.parts))}</p>\n<p>'
+        yield " · ".join(f'<a href="{base}.{ending}">{words}</a>' for ending, words in (
+            ("html", "timeline"), ("differences.txt", "differences"), ("recording", "recording"), ("report", "report"),
+            ("target", "what the target answered"))) + "</p>\n"
+        yield from self.times()
+        yield from self.commands("Slowest commands", self.figures.longest.all)
+        yield from self.commands("What waited longest", self.figures.waited.all)
+        yield from self.differences()
+
+    def times(self):
+        rows = self.figures.response_times()
+        if rows:
+            heads = ("milliseconds", "number", "p50", "p90", "p99", "max", "longest held", "longest behind others")
+            yield "<table><tr>" + "".join(f"<th>{head}</th>" for head in heads) + "</tr>\n"
+            for name, row in rows.items():
+                cells = [f"{row[key] * 1000:.3f}" for key in ("p50", "p90", "p99", "max", "held", "dormant")]
+                yield f"<tr><td>{escape(name)}</td>" + "".join(f'<td class="number">{cell}</td>' for cell in (row["count"], *cells)) + "</tr>\n"
+            yield "</table>\n"
+
+    def commands(self, title, taken):
+        if not taken:
+            return
+        yield f"<h3>{title}</h3>\n<ol>\n"
+        for one in taken:
+            words = (f'{one.seconds * 1000:.3f} ms: {escape(one.name)}, tag {one.tag}, connection {one.cid}, unit {one.unit}, '
+                     f'<a href="{escape(self.name)}.html#{one.event}">frame {one.frame}</a> to '
+                     f'<a href="{escape(self.name)}.html#{one.answer_event}">{one.answer_frame}</a>')
+            if one.held > 0:
+                words += f"; held {one.held * 1000:.3f} ms for lower CmdSNs"
+            if one.dormant > 0:
+                words += f"; {one.dormant * 1000:.3f} ms behind {escape(one.behind)}"
+            yield f"<li>{words}</li>\n"
+        yield "</ol>\n"
+
+    def differences(self):
+        found = self.made.comparison.differences
+        if not found:
+            return
+        yield "<h3>Where the target and the rules part</h3>\n<ul>\n"
+        for one in found[:MOST_DIFFERENCES]:
+            yield f'<li>frame {one.frame} ({one.time:.6f} s), connection {one.cid}, <b>{escape(one.kind)}</b>: {escape(one.words)}</li>\n'
+        yield "</ul>\n"
+        if len(found) > MOST_DIFFERENCES:
+            yield f'<p class="quiet">and {len(found) - MOST_DIFFERENCES} more, in <a href="{escape(self.name)}.differences.txt">the list</a></p>\n'
+
+
+def write_index(folder, capture, looked, left_out):
+    """Writes the index. Its path."""
+    path = os.path.join(folder, INDEX)
+    heads = ("session", "initiator", "port", "seconds", "commands", "taken out", "statuses other than GOOD", "differences")
+    with writing(path) as file:
+        file.write(HEAD.format(title=escape(os.fsencode(os.path.basename(capture)).decode("utf-8", "backslashreplace"))))
+        file.write("<table><tr>" + "".join(f"<th>{head}</th>" for head in heads) + "</tr>\n")
+        file.writelines(one.row() + "\n" for one in looked)
+        file.write("</table>\n" + "".join(f'<p class="quiet">left out: {escape(words)}</p>\n' for words in left_out))
+        for one in looked:
+            file.writelines(one.section())
+        file.write("</body>\n</html>\n")
+    return path
