@@ -1,6 +1,7 @@
 """Tests of tools/capture: TCP put together, PDUs split, sessions found, recordings that stand still."""
 
 import gzip
+import hashlib
 import os
 import shutil
 import struct
@@ -27,6 +28,7 @@ from lib.settling import guess, in_taken_order, units_of  # noqa: E402
 CAPTURES = os.path.join(TOP, "tests", "tools", "captures")
 HAS_TSHARK = shutil.which("tshark") is not None
 PORT = 3260
+DIGEST = "2f0530ebc246ba721720a2bd77db767c9842605d4210dc516359dfab197c7782"
 KEYS = b"InitiatorName=iqn.2026-01.example:i\0TargetName=iqn.2026-01.example:t\0"
 
 
@@ -454,6 +456,18 @@ class Tool(unittest.TestCase):
             events = [line for line in lines if line[:2] in ("C ", "D ")]
             self.assertEqual(events, [line[2:] for line in report.splitlines() if line.startswith("> ")])
             self.assertLessEqual(max(len(line) for line in lines), 256)
+
+    def test_recordings_are_what_they_were(self):
+        """Those of the captures that are whole, and what their targets answered, byte for byte. The digest is of the files that the
+        tool made as it had tshark read each capture, and began each replay without tickets."""
+        for name in sorted(os.listdir(CAPTURES)):
+            if name != "after-login.pcapng":
+                self.make(os.path.join(CAPTURES, name))
+        whole, names = hashlib.sha256(), sorted(os.listdir(self.folder))
+        for name in names:
+            with open(os.path.join(self.folder, name), "rb") as file:
+                whole.update(name.encode() + b"\0" + file.read())
+        self.assertEqual((42, DIGEST), (len(names), whole.hexdigest()))
 
     def test_the_form_of_both_files(self):
         self.make(os.path.join(CAPTURES, "abort-live.pcapng"))
