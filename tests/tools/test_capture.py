@@ -329,6 +329,18 @@ class Finding(unittest.TestCase):
         (session,), _ = find(wire.segments + moved, 860)
         self.assertEqual([6], [item.tag for item in session.items])
 
+    def test_bytes_that_lack_before_any_segment_of_a_direction(self):
+        wire = Wire()
+        wire.log_in(0)
+        place = wire.next[0, False]
+        wire.segments = [one for one in wire.segments if one.source[0] == b"initiator" or one.begins]
+        wire.put(0, False, response(5, 2, 2, 33), at=place + 48)
+        wire.put(0, True, command(5, 1))
+        sessions, _ = find(wire.segments)
+        for session in sessions:
+            repair(session)
+        self.assertEqual([[5, 5]], [sorted(item.tag for item in session.items) for session in sessions])
+
     def test_no_pdu_where_one_begins(self):
         wire = Wire()
         wire.log_in(0)
@@ -456,6 +468,21 @@ class Tool(unittest.TestCase):
             events = [line for line in lines if line[:2] in ("C ", "D ")]
             self.assertEqual(events, [line[2:] for line in report.splitlines() if line.startswith("> ")])
             self.assertLessEqual(max(len(line) for line in lines), 256)
+
+    def test_a_long_session_with_a_window_of_one(self):
+        """The first guess of its tickets is right, so one replay shows that they stand still."""
+        wire = Wire()
+        wire.open(0)
+        wire.put(0, True, login(1, 0, 1))
+        wire.put(0, False, login_response(7, 0, 1, 1))
+        for number in range(1, 1101):
+            wire.put(0, True, command(number, number))
+            wire.put(0, False, response(number, number, number + 1, number + 1))
+        path = os.path.join(self.folder, "long.pcap")
+        write_pcap(path, wire.segments)
+        self.assertIn("1100 requests, 1100 completions; ", self.make(path))
+        sessions, _ = sessions_of(path)
+        self.assertEqual(1, settling.record(sessions[0]).passes)
 
     def test_recordings_are_what_they_were(self):
         """Those of the captures that are whole, and what their targets answered, byte for byte. The digest is of the files that the

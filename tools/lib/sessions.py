@@ -91,7 +91,7 @@ class Connection:
         self.is_orphan = False
         self.looked_at = 0
         self.has_hole = False
-        self.keys = {}
+        self.keys, self.early = {}, []
         self.login = None
         self.session = None
         self.late_cid = None
@@ -214,6 +214,8 @@ class Sessions:
         if not connection.session and is_late and opcode not in (LOGIN, LOGIN_RESPONSE):
             self.begin_late(connection, target if from_initiator else source)
         if connection.session:
+            while connection.early:
+                self.take_item(connection, True, *connection.early.pop(0))
             self.take_item(connection, from_initiator, chunk, pdu)
         elif from_initiator and opcode == LOGIN:
             connection.login = pdu.header
@@ -225,6 +227,9 @@ class Sessions:
                 connection.is_orphan = connection.session is None
                 connection.is_read = not connection.is_orphan
                 connection.use_digests()
+        elif from_initiator and connection.login:
+            # Its login may have been answered by bytes that the capture lacks.
+            connection.early.append((chunk, pdu))
         elif not is_late:
             connection.is_read = False
 
