@@ -334,8 +334,8 @@ class Finding(unittest.TestCase):
         wire.log_in(0)
         place = wire.next[0, False]
         wire.segments = [one for one in wire.segments if one.source[0] == b"initiator" or one.begins]
-        wire.put(0, False, response(5, 2, 2, 33), at=place + 48)
         wire.put(0, True, command(5, 1))
+        wire.put(0, False, response(5, 2, 2, 33), at=place + 48)
         sessions, _ = find(wire.segments)
         for session in sessions:
             repair(session)
