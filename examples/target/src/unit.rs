@@ -1,9 +1,12 @@
 //! The logical units: disks, and commands that are enabled.
 
+use crate::options::Options;
 use crate::pdu::{place, Header};
 use crate::session::Session;
-use crate::threads::Queue;
+use crate::threads::workers;
 use disk::{Disk, Outcome, Sense};
+use std::io;
+use std::sync::mpsc::Sender;
 use std::sync::Arc;
 use std::thread;
 use std::time::Duration;
@@ -15,25 +18,23 @@ pub struct Job {
     pub cookie: u64,
     pub unit: Arc<Unit>,
     pub header: Header,
-    pub data: Result<Vec<Vec<u8>>, Sense>,
+    pub data: Result<Vec<u8>, Sense>,
 }
 
 pub struct Unit {
     pub disk: Disk,
     /// How much longer each command takes.
     delay: Duration,
-    /// The commands that are enabled.
-    pub jobs: Queue<Job>,
+    /// Its workers. There are none where a command takes no time but that of a copy: then the thread that may execute
+    /// it does.
+    pub workers: Option<Sender<Job>>,
 }
 
 impl Unit {
-    pub fn new(disk: Disk, delay: Duration) -> Unit {
-        Unit { disk, delay, jobs: Queue::new() }
-    }
-
-    /// Whether a command takes no time but that of a copy: then the thread that may execute it does, and no worker.
-    pub fn is_instant(&self) -> bool {
-        self.disk.is_in_memory() && self.delay.is_zero()
+    pub fn new(disk: Disk, options: &Options) -> io::Result<Unit> {
+        let takes_time = !disk.is_in_memory() || !options.delay.is_zero();
+        let start = || workers(options.workers, |job: Job| job.session.perform(&job));
+        Ok(Unit { disk, delay: options.delay, workers: takes_time.then(start).transpose()? })
     }
 
     /// How long a command waits before it begins, when it can still be stopped. A file is slow with the work itself,
