@@ -24,7 +24,7 @@ use std::sync::mpsc::Sender;
 use std::sync::{Arc, Mutex};
 use std::thread;
 use std::time::Duration;
-use threads::{workers, Log};
+use threads::{give_memory_back, workers, Log};
 use trace::Trace;
 use unit::Unit;
 
@@ -55,6 +55,7 @@ struct Sessions {
 
 /// Serves each connection in a thread of its own.
 pub fn run(options: Options) -> io::Result<()> {
+    give_memory_back();
     let listener = TcpListener::bind(&options.listen)?;
     let target = Arc::new(Target::new(options)?);
     // Whoever began the program needn't read what it says.
@@ -92,6 +93,7 @@ impl Target {
             if let Err(why) = connection::serve(&Arc::new(stream), &target) {
                 target.log.say(format_args!("a connection is closed: {why}"));
             }
+            give_memory_back();
         };
         if let Err(why) = thread::Builder::new().spawn(serve) {
             self.log.say(format_args!("a connection isn't served: {why}"));

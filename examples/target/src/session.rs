@@ -110,7 +110,7 @@ impl Session {
 
     /// Executes a command without the lock, unless it was stopped.
     fn execute<'a>(self: &'a Arc<Session>, mut state: MutexGuard<'a, State>, job: &Job) -> MutexGuard<'a, State> {
-        let (begin, delay) = (now(), job.unit.delay_before());
+        let (begin, delay) = (now(), job.unit.delay_before);
         if !delay.is_zero() {
             state = wait_for(state, &self.stopped, delay, |state| state.work(job.cookie).is_some());
         }

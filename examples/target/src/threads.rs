@@ -1,4 +1,4 @@
-//! What threads have in common: locks, workers, and a log.
+//! What threads have in common: locks, workers, a heap, and a log.
 
 use std::fmt::Display;
 use std::io::{self, Write};
@@ -37,6 +37,21 @@ pub fn workers<T: Send + 'static>(count: u32, work: impl Fn(T) + Clone + Send + 
         })?;
     }
     Ok(sender)
+}
+
+/// Gives the system what is free of the heap, and has pieces from 128 KiB on stand apart, which it then has as soon as
+/// they are freed. glibc keeps a heap for each few threads, with what was freed there, and takes ever greater pieces in.
+pub fn give_memory_back() {
+    #[cfg(target_env = "gnu")]
+    {
+        extern "C" {
+            fn mallopt(parameter: i32, value: i32) -> i32;
+            fn malloc_trim(kept: usize) -> i32;
+        }
+        const MMAP_THRESHOLD: i32 = -3;
+        // SAFETY: they take numbers, and touch nothing that is in use.
+        unsafe { (mallopt(MMAP_THRESHOLD, 128 << 10), malloc_trim(0)) };
+    }
 }
 
 /// What the target says of its troubles. A thread of its own writes it: where standard error is a pipe that is full,

@@ -23,8 +23,10 @@ pub struct Job {
 
 pub struct Unit {
     pub disk: Disk,
-    /// How much longer each command takes.
-    delay: Duration,
+    /// How long a command waits before it begins, when it can still be stopped; and how much longer its work takes, which
+    /// nobody can call back.
+    pub delay_before: Duration,
+    delay_within: Duration,
     /// Its workers. There are none where a command takes no time but that of a copy: then the thread that may execute
     /// it does.
     pub workers: Option<Sender<Job>>,
@@ -34,23 +36,14 @@ impl Unit {
     pub fn new(disk: Disk, options: &Options) -> io::Result<Unit> {
         let takes_time = !disk.is_in_memory() || !options.delay.is_zero();
         let start = || workers(options.workers, |job: Job| job.session.perform(&job));
-        Ok(Unit { disk, delay: options.delay, workers: takes_time.then(start).transpose()? })
-    }
-
-    /// How long a command waits before it begins, when it can still be stopped. A file is slow with the work itself,
-    /// which nobody can call back.
-    pub fn delay_before(&self) -> Duration {
-        if self.disk.is_in_memory() {
-            self.delay
-        } else {
-            Duration::ZERO
-        }
+        let (workers, delay_before) = (takes_time.then(start).transpose()?, options.delay * disk.is_in_memory().into());
+        Ok(Unit { disk, delay_before, delay_within: options.delay - delay_before, workers })
     }
 }
 
 impl Job {
     pub fn execute(&self) -> Outcome {
-        thread::sleep(self.unit.delay - self.unit.delay_before());
+        thread::sleep(self.unit.delay_within);
         match &self.data {
             Ok(data) => self.unit.disk.execute(&self.header.part(place::CDB), data),
             Err(sense) => Outcome::failed(Some(*sense)),
