@@ -4,9 +4,9 @@ import os
 import signal
 import time
 
-from initiator import FINAL, IMMEDIATE, Connection, Wrong, word
+from initiator import BLOCK, FINAL, IMMEDIATE, Connection, Wrong, word
 from loopback import TOP
-from peer import CONTINUE, KEYS, SECURITY_TO_OPERATIONAL, Peer, login_header, new_isid, next_pdu, status_of, status_of_login, text_of, \
+from peer import CONTINUE, KEYS, MOST_BLOCKS, SECURITY_TO_OPERATIONAL, Peer, login_header, new_isid, next_pdu, status_of, status_of_login, text_of, \
     whole_login, words_of
 
 ACCEPTED, AUTHENTICATION, NOT_INCLUDED = 0x0000, 0x0201, 0x0208
@@ -201,8 +201,9 @@ def text_in_parts(victim):
 # ---- a process that is stopped and goes on
 
 def interrupted(victim):
-    """SIGSTOP and SIGCONT while logins and sessions wait"""
-    with Peer(victim.port) as peer:
+    """SIGSTOP and SIGCONT while logins wait, and a session whose data isn't read"""
+    with Peer(victim.port) as peer, Peer(victim.port, receives=65536) as slow:
+        tag = slow.read(1, 0, MOST_BLOCKS)
         logins = [(Connection(victim.port, 1, 0), whole_login(new_isid()), length) for length in (0, 1, 48, 100)]
         for connection, whole, length in logins:
             connection.socket.sendall(whole[:length])
@@ -218,7 +219,10 @@ def interrupted(victim):
                 raise Wrong(f"a login of which {length} bytes had come is answered {words_of(status)}")
         if not peer.answers_pings():
             raise Wrong("a session doesn't go on")
+        if len(slow.good(tag)) != MOST_BLOCKS * BLOCK:
+            raise Wrong("a READ whose data was being written isn't whole")
         peer.log_out()
+        slow.log_out()
 
 
 def answer_to_rest(connection, rest):

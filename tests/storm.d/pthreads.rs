@@ -120,6 +120,8 @@ impl Condvar {
         wait: Duration,
         mut is_waiting: impl FnMut(&mut T) -> bool,
     ) -> LockResult<(MutexGuard<'a, T>, ())> {
+        // No wait is as long as a hundred years.
+        let wait = wait.min(Duration::from_secs(100 * 366 * 86_400));
         let until = SystemTime::now().duration_since(UNIX_EPOCH).unwrap_or_default() + wait;
         let time = Timespec { seconds: until.as_secs() as i64, nanoseconds: until.subsec_nanos().into() };
         while is_waiting(&mut guard) {
@@ -145,5 +147,54 @@ impl<T> RwLock<T> {
 
     pub fn write(&self) -> LockResult<MutexGuard<'_, T>> {
         self.0.lock()
+    }
+}
+
+/// The channels of `std::sync::mpsc` that the target uses. Nobody asks how they end, so an error says nothing.
+pub mod mpsc {
+    use super::{Arc, Condvar, Mutex, PoisonError};
+    use std::collections::VecDeque;
+
+    struct Channel<T> {
+        items: Mutex<VecDeque<T>>,
+        is_filled: Condvar,
+        most: usize,
+    }
+
+    pub struct Sender<T>(Arc<Channel<T>>);
+    pub struct Receiver<T>(Arc<Channel<T>>);
+    pub type SyncSender<T> = Sender<T>;
+
+    pub fn channel<T>() -> (Sender<T>, Receiver<T>) {
+        sync_channel(usize::MAX)
+    }
+
+    pub fn sync_channel<T>(most: usize) -> (Sender<T>, Receiver<T>) {
+        let channel = Arc::new(Channel { items: Mutex::default(), is_filled: Condvar::new(), most });
+        (Sender(channel.clone()), Receiver(channel))
+    }
+
+    impl<T> Sender<T> {
+        pub fn send(&self, item: T) -> Result<(), T> {
+            self.try_send(item)
+        }
+
+        pub fn try_send(&self, item: T) -> Result<(), T> {
+            let mut items = self.0.items.lock().unwrap_or_else(PoisonError::into_inner);
+            if items.len() >= self.0.most {
+                return Err(item);
+            }
+            items.push_back(item);
+            self.0.is_filled.notify_one();
+            Ok(())
+        }
+    }
+
+    impl<T> Receiver<T> {
+        pub fn recv(&self) -> Result<T, ()> {
+            let items = self.0.items.lock().unwrap_or_else(PoisonError::into_inner);
+            let mut items = self.0.is_filled.wait_while(items, |items| items.is_empty()).unwrap_or_else(PoisonError::into_inner);
+            items.pop_front().ok_or(())
+        }
     }
 }

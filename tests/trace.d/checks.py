@@ -309,6 +309,26 @@ def by_reset(sessions, disks):
                            f"LOGICAL UNIT RESET was answered in frame {item.frame}, session {session.tsih:04x}")
 
 
+def by_clear(sessions):
+    """A command ends with TASK ABORTED only where another session reset its unit meanwhile. A CLEAR TASK SET is of its own
+    session's task set alone, as the units have one for each session (TST 1)."""
+    resets = {}
+    for session in sessions:
+        for function, item in [*session.resets, *((one, None) for one in session.functions.values())]:
+            if function.request.function == LOGICAL_UNIT_RESET:
+                ended = session.moment(item) if item else NEVER
+                resets.setdefault(function.request.unit, []).append((session, session.moment(function), ended))
+    for session in sessions:
+        for command in session.commands:
+            came, known = session.moment(command.item), resets.get(command.request.unit, ())
+            for item in command.answers:
+                answered = session.moment(item)
+                if item.reply.status == TASK_ABORTED and not any(
+                        other is not session and began <= answered and came <= ended for other, began, ended in known):
+                    yield (f"{command.name} ends with TASK ABORTED in frame {item.frame}, session {session.tsih:04x}, and "
+                           "no other session reset its unit meanwhile")
+
+
 def summary(session):
     """What there is of a session, in a line."""
     commands = session.commands
@@ -333,7 +353,7 @@ def judge(sessions, begin, works, has_fence, disks=(), is_shared=False):
         faults += session.overtaken if has_fence else []
         summaries.append(summary(session))
         judged.append(session)
-    faults += by_reset(judged, disks) if is_shared else []
+    faults += [*by_reset(judged, disks), *by_clear(judged)] if is_shared else []
     known = {observed.tsih for observed in sessions}
     faults += [f"line {work.line} of the trace: no session {work.tsih:04x} is in the capture"
                for work in works if work.tsih not in known]

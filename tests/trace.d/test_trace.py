@@ -21,7 +21,7 @@ from observed import read_trace  # noqa: E402
 PROGRAM = os.path.join(TOP, "tests", "trace")
 PORT, FIRST, TSIH, OTHER, BEGIN = 3260, 0xfffffffe, 7, 8, 1_700_000_000
 COMPLETE, NO_TASK = 0, 1
-ABORT_TASK, ABORT_TASK_SET, LOGICAL_UNIT_RESET = 1, 2, 5
+ABORT_TASK, ABORT_TASK_SET, CLEAR_TASK_SET, LOGICAL_UNIT_RESET = 1, 2, 4, 5
 SIMPLE, ORDERED, HEAD = 1, 2, 3
 
 
@@ -304,6 +304,28 @@ class Checks(unittest.TestCase):
             run = self.worked_on(LOGICAL_UNIT_RESET, outcome, took=9, tsih=OTHER)
             self.assertEqual([], run.faults(True, disks, True))
         self.assertEqual([], self.worked_on(ABORT_TASK_SET, "completed", tsih=OTHER).faults(True, (0,), True))
+
+    def cleared(self, function, unit=0, is_late=False, is_answered=True):
+        """Whether it is a fault that a command ends with TASK ABORTED when another session has sent this function."""
+        run = Run()
+        steps = [lambda: run.command(3, 0, 0x10), lambda: run.function(1, 0, 0x20, function, unit=unit)]
+        for step in steps[:1] * (not is_late) + steps[1:]:
+            step()
+        if is_answered:
+            run.complete(1, 0x20)
+        if is_late:
+            steps[0]()
+        run.answer(3, 0x10, status=0x40)
+        self.assertEqual([], run.faults(True))
+        faults = "".join(run.faults(True, (), True))
+        return bool(re.search(r"tag 00000010 .* ends with TASK ABORTED in frame .* no other session reset its unit", faults))
+
+    def test_a_command_that_no_other_session_reset(self):
+        self.assertFalse(self.cleared(LOGICAL_UNIT_RESET))
+        self.assertFalse(self.cleared(LOGICAL_UNIT_RESET, is_answered=False))
+        self.assertTrue(self.cleared(CLEAR_TASK_SET))
+        self.assertTrue(self.cleared(LOGICAL_UNIT_RESET, unit=1))
+        self.assertTrue(self.cleared(LOGICAL_UNIT_RESET, is_late=True))
 
     def overlapping(self, *attributes):
         run = Run()

@@ -9,9 +9,6 @@ const MOST_BLOCKS: u64 = 16_384;
 /// The most bytes that a command moves.
 pub const MOST_BYTES: usize = MOST_BLOCKS as usize * BLOCK;
 
-/// Data of a command lies in parts of this length, and a last one that may be shorter.
-pub const PART: usize = 262_144;
-
 const GOOD: u8 = 0x00;
 const CHECK_CONDITION: u8 = 0x02;
 
@@ -25,9 +22,8 @@ impl Sense {
     pub const INVALID_OPCODE: Sense = Sense(0x5, 0x20, 0x00);
     pub const OUT_OF_RANGE: Sense = Sense(0x5, 0x21, 0x00);
     pub const INVALID_FIELD: Sense = Sense(0x5, 0x24, 0x00);
-    /// Unit attentions: another session reset the unit, or cleared its task sets.
+    /// The unit attention: the unit was reset.
     pub const RESET: Sense = Sense(0x6, 0x29, 0x00);
-    pub const CLEARED: Sense = Sense(0x6, 0x2f, 0x00);
     /// The amount or the order of a command's data is wrong (RFC 7143 section 11.4.7.2).
     pub const WRONG_DATA: Sense = Sense(0xb, 0x0c, 0x0d);
     pub const MISCOMPARE: Sense = Sense(0xe, 0x1d, 0x00);
@@ -45,8 +41,8 @@ pub struct Outcome {
     pub status: u8,
     /// Where there is none, a CHECK CONDITION has the library's.
     pub sense: Option<Sense>,
-    /// For the initiator, in parts; more of it than it has room for isn't sent.
-    pub data: Vec<Vec<u8>>,
+    /// For the initiator; more of it than it has room for isn't sent.
+    pub data: Vec<u8>,
     /// How many bytes the command moves, in either direction, by its CDB.
     pub length: usize,
 }
@@ -55,15 +51,6 @@ impl Outcome {
     /// Of a command that fails: it moves nothing.
     pub fn failed(sense: Option<Sense>) -> Outcome {
         Outcome { status: CHECK_CONDITION, sense, data: Vec::new(), length: 0 }
-    }
-
-    /// So much of the data, from a place on. It lies within one part.
-    pub fn part(&self, offset: usize, length: usize) -> &[u8] {
-        &self.data[offset / PART][offset % PART..][..length]
-    }
-
-    pub fn data_length(&self) -> usize {
-        self.data.iter().map(Vec::len).sum()
     }
 }
 
@@ -119,74 +106,49 @@ fn is_compared(cdb: &[u8; 16]) -> Result<bool, Sense> {
 }
 
 impl Disk {
-    /// How many bytes of data a command takes from the initiator: none, where it will fail.
-    pub fn wanted_length(&self, cdb: &[u8; 16]) -> usize {
+    /// How many bytes of data a command takes from the initiator, and how many it has for it if it is a READ: none,
+    /// where it will fail.
+    pub fn lengths(&self, cdb: &[u8; 16]) -> (usize, usize) {
+        let length = || range_of(self, cdb).map_or(0, |range| range.len());
         match access(cdb[0]) {
-            None | Some(Access::Read) => 0,
-            Some(Access::Verify) if is_compared(cdb) != Ok(true) => 0,
-            Some(_) => range_of(self, cdb).map_or(0, |range| range.len()),
-        }
-    }
-
-    /// How many bytes of data a command has for the initiator, if it is a READ.
-    pub fn read_length(&self, cdb: &[u8; 16]) -> usize {
-        let is_read = access(cdb[0]) == Some(Access::Read);
-        if is_read {
-            range_of(self, cdb).map_or(0, |range| range.len())
-        } else {
-            0
+            None => (0, 0),
+            Some(Access::Read) => (0, length()),
+            Some(Access::Verify) if is_compared(cdb) != Ok(true) => (0, 0),
+            Some(_) => (length(), 0),
         }
     }
 
     /// Executes a command with the data that came for it.
-    pub fn execute(&self, cdb: &[u8; 16], data: &[Vec<u8>]) -> Outcome {
+    pub fn execute(&self, cdb: &[u8; 16], data: &[u8]) -> Outcome {
         let answer = match access(cdb[0]) {
             Some(access) => move_blocks(self, cdb, access, data),
-            None => answer(self, cdb).map(|answer| if answer.is_empty() { Vec::new() } else { vec![answer] }),
+            None => answer(self, cdb),
         };
         match answer {
-            Ok(data) => {
-                let mut outcome = Outcome { status: GOOD, sense: None, data, length: 0 };
-                outcome.length = self.wanted_length(cdb).max(outcome.data_length());
-                outcome
-            }
+            Ok(data) => Outcome { status: GOOD, sense: None, length: self.lengths(cdb).0.max(data.len()), data },
             Err(sense) => Outcome::failed(Some(sense)),
         }
     }
 }
 
 /// Reads, writes or compares. Gives what is read.
-fn move_blocks(disk: &Disk, cdb: &[u8; 16], access: Access, data: &[Vec<u8>]) -> Result<Vec<Vec<u8>>, Sense> {
+fn move_blocks(disk: &Disk, cdb: &[u8; 16], access: Access, data: &[u8]) -> Result<Vec<u8>, Sense> {
     let range = range_of(disk, cdb)?;
     let is_verify = matches!(access, Access::Verify | Access::WriteAndVerify);
     let is_compared = is_verify && is_compared(cdb)?;
     if access == Access::Read {
-        let begins = range.clone().step_by(PART);
-        return begins.map(|begin| disk.read(begin..range.end.min(begin + PART))).collect();
+        return disk.read(range);
     }
+    // As many whole blocks as came, which may be fewer than the CDB says, or more.
+    let blocks = &data[..data.len().min(range.len()) / BLOCK * BLOCK];
     if access != Access::Verify {
-        whole_blocks(&range, data).try_for_each(|(at, part)| disk.write(at, part))?;
+        disk.write(range.start, blocks)?;
         disk.flush()?;
     }
-    if is_compared {
-        for (at, part) in whole_blocks(&range, data) {
-            if disk.read(at..at + part.len())? != part {
-                return Err(Sense::MISCOMPARE);
-            }
-        }
+    if is_compared && disk.read(range.start..range.start + blocks.len())? != blocks {
+        return Err(Sense::MISCOMPARE);
     }
     Ok(Vec::new())
-}
-
-/// The data of an initiator by its places: as many whole blocks as came, which may be fewer than the CDB says, or more.
-fn whole_blocks<'a>(range: &Range<usize>, data: &'a [Vec<u8>]) -> impl Iterator<Item = (usize, &'a [u8])> {
-    let length = data.iter().map(Vec::len).sum::<usize>().min(range.len()) / BLOCK * BLOCK;
-    let (mut at, end) = (range.start, range.start + length);
-    data.iter().map(move |part| {
-        let part = &part[..part.len().min(end - at)];
-        at += part.len();
-        (at - part.len(), part)
-    })
 }
 
 /// The data with which a command is answered that moves no blocks, no more of it than the CDB allows.
@@ -253,38 +215,34 @@ fn luns(disk: &Disk) -> Vec<u8> {
     data
 }
 
-/// The commands that disks know: the opcode and then, with the service action where there is one, the bits of the
-/// CDB that are looked at.
-const COMMANDS: [&[u8]; 24] = [
-    &[0x00, 0, 0, 0, 0, 0],
-    &[0x08, 0x1f, 0xff, 0xff, 0xff, 0],
-    &[0x0a, 0x1f, 0xff, 0xff, 0xff, 0],
-    &[0x12, 0x01, 0xff, 0xff, 0xff, 0],
-    &[0x1a, 0x08, 0xff, 0xff, 0xff, 0],
-    &[0x25, 0, 0, 0, 0, 0, 0, 0, 0, 0],
-    &[0x28, 0xf8, 0xff, 0xff, 0xff, 0xff, 0, 0xff, 0xff, 0],
-    &[0x2a, 0xf8, 0xff, 0xff, 0xff, 0xff, 0, 0xff, 0xff, 0],
-    &[0x2e, 0xf6, 0xff, 0xff, 0xff, 0xff, 0, 0xff, 0xff, 0],
-    &[0x2f, 0xf6, 0xff, 0xff, 0xff, 0xff, 0, 0xff, 0xff, 0],
-    &[0x35, 0, 0xff, 0xff, 0xff, 0xff, 0, 0xff, 0xff, 0],
-    &[0x5a, 0x08, 0xff, 0xff, 0, 0, 0, 0xff, 0xff, 0],
-    &[0x88, 0xf8, 0xff, 0xff, 0xff, 0xff, 0xff, 0xff, 0xff, 0xff, 0xff, 0xff, 0xff, 0xff, 0, 0],
-    &[0x8a, 0xf8, 0xff, 0xff, 0xff, 0xff, 0xff, 0xff, 0xff, 0xff, 0xff, 0xff, 0xff, 0xff, 0, 0],
-    &[0x8e, 0xf6, 0xff, 0xff, 0xff, 0xff, 0xff, 0xff, 0xff, 0xff, 0xff, 0xff, 0xff, 0xff, 0, 0],
-    &[0x8f, 0xf6, 0xff, 0xff, 0xff, 0xff, 0xff, 0xff, 0xff, 0xff, 0xff, 0xff, 0xff, 0xff, 0, 0],
-    &[0x91, 0, 0xff, 0xff, 0xff, 0xff, 0xff, 0xff, 0xff, 0xff, 0xff, 0xff, 0xff, 0xff, 0, 0],
-    &[0x9e, 0x10, 0, 0, 0, 0, 0, 0, 0, 0, 0xff, 0xff, 0xff, 0xff, 0, 0],
-    &[0xa0, 0, 0xff, 0, 0, 0, 0xff, 0xff, 0xff, 0xff, 0, 0],
-    &[0xa3, 0x0c, 0x87, 0xff, 0xff, 0xff, 0xff, 0xff, 0xff, 0xff, 0, 0],
-    &[0xa8, 0xf8, 0xff, 0xff, 0xff, 0xff, 0xff, 0xff, 0xff, 0xff, 0, 0],
-    &[0xaa, 0xf8, 0xff, 0xff, 0xff, 0xff, 0xff, 0xff, 0xff, 0xff, 0, 0],
-    &[0xae, 0xf6, 0xff, 0xff, 0xff, 0xff, 0xff, 0xff, 0xff, 0xff, 0, 0],
-    &[0xaf, 0xf6, 0xff, 0xff, 0xff, 0xff, 0xff, 0xff, 0xff, 0xff, 0, 0],
+/// The commands that disks know: opcodes, and then, with the service action where there is one, the bits of the CDB
+/// behind them that are looked at.
+const COMMANDS: [(&[u8], &[u8]); 17] = [
+    (&[0x00], &[0, 0, 0, 0, 0]),
+    (&[0x08, 0x0a], &[0x1f, 0xff, 0xff, 0xff, 0]),
+    (&[0x12], &[0x01, 0xff, 0xff, 0xff, 0]),
+    (&[0x1a], &[0x08, 0xff, 0xff, 0xff, 0]),
+    (&[0x25], &[0, 0, 0, 0, 0, 0, 0, 0, 0]),
+    (&[0x28, 0x2a], &[0xf8, 0xff, 0xff, 0xff, 0xff, 0, 0xff, 0xff, 0]),
+    (&[0x2e, 0x2f], &[0xf6, 0xff, 0xff, 0xff, 0xff, 0, 0xff, 0xff, 0]),
+    (&[0x35], &[0, 0xff, 0xff, 0xff, 0xff, 0, 0xff, 0xff, 0]),
+    (&[0x5a], &[0x08, 0xff, 0xff, 0, 0, 0, 0xff, 0xff, 0]),
+    (&[0x88, 0x8a], &[0xf8, 0xff, 0xff, 0xff, 0xff, 0xff, 0xff, 0xff, 0xff, 0xff, 0xff, 0xff, 0xff, 0, 0]),
+    (&[0x8e, 0x8f], &[0xf6, 0xff, 0xff, 0xff, 0xff, 0xff, 0xff, 0xff, 0xff, 0xff, 0xff, 0xff, 0xff, 0, 0]),
+    (&[0x91], &[0, 0xff, 0xff, 0xff, 0xff, 0xff, 0xff, 0xff, 0xff, 0xff, 0xff, 0xff, 0xff, 0, 0]),
+    (&[0x9e], &[0x10, 0, 0, 0, 0, 0, 0, 0, 0, 0xff, 0xff, 0xff, 0xff, 0, 0]),
+    (&[0xa0], &[0, 0xff, 0, 0, 0, 0xff, 0xff, 0xff, 0xff, 0, 0]),
+    (&[0xa3], &[0x0c, 0x87, 0xff, 0xff, 0xff, 0xff, 0xff, 0xff, 0xff, 0, 0]),
+    (&[0xa8, 0xaa], &[0xf8, 0xff, 0xff, 0xff, 0xff, 0xff, 0xff, 0xff, 0xff, 0, 0]),
+    (&[0xae, 0xaf], &[0xf6, 0xff, 0xff, 0xff, 0xff, 0xff, 0xff, 0xff, 0xff, 0, 0]),
 ];
 
-/// The service action of a command, where its opcode has some.
-fn service_action(usage: &[u8]) -> Option<u64> {
-    [0x9e, 0xa3].contains(&usage[0]).then_some(u64::from(usage[1] & 0x1f))
+/// Each of them: its opcode, the service action where its opcode has some, and those bits.
+fn commands() -> impl Iterator<Item = (u8, Option<u64>, &'static [u8])> {
+    let action = |opcode, usage: &[u8]| [0x9e, 0xa3].contains(&opcode).then_some(u64::from(usage[0] & 0x1f));
+    COMMANDS
+        .iter()
+        .flat_map(move |(opcodes, usage)| opcodes.iter().map(move |code| (*code, action(*code, usage), *usage)))
 }
 
 /// REPORT SUPPORTED OPERATION CODES: all commands, or how one of them is supported, with their time-outs where these
@@ -294,11 +252,15 @@ fn supported_commands(cdb: &[u8; 16]) -> Result<Vec<u8>, Sense> {
     let has_timeouts = cdb[2] & 0x80 != 0;
     let timeouts = if has_timeouts { &TIMEOUTS[..] } else { &[] };
     let (opcode, action) = (cdb[3], number(&cdb[4..6]));
-    let has_actions = COMMANDS.iter().any(|usage| usage[0] == opcode && service_action(usage).is_some());
+    let has_actions = commands().any(|known| known.0 == opcode && known.1.is_some());
     let wanted = match cdb[2] & 0x07 {
         0 => {
-            let list =
-                COMMANDS.iter().map(|usage| descriptor(usage, has_timeouts, timeouts)).collect::<Vec<_>>().concat();
+            let list = commands().map(|(opcode, action, usage)| {
+                let flags = u8::from(has_timeouts) << 1 | u8::from(action.is_some());
+                let length = usage.len() as u8 + 1;
+                [&[opcode, 0, 0, action.unwrap_or(0) as u8, 0, flags, 0, length], timeouts].concat()
+            });
+            let list = list.collect::<Vec<_>>().concat();
             return Ok([&(list.len() as u32).to_be_bytes()[..], &list].concat());
         }
         1 if !has_actions => None,
@@ -306,16 +268,9 @@ fn supported_commands(cdb: &[u8; 16]) -> Result<Vec<u8>, Sense> {
         3 => has_actions.then_some(action),
         _ => return Err(Sense::INVALID_FIELD),
     };
-    let known = COMMANDS.iter().find(|usage| usage[0] == opcode && service_action(usage) == wanted);
-    Ok(known.map_or(vec![0, 1, 0, 0], |usage| {
+    let known = commands().find(|known| (known.0, known.1) == (opcode, wanted));
+    Ok(known.map_or(vec![0, 1, 0, 0], |(opcode, _, usage)| {
         let support = 0x03 | u8::from(has_timeouts) << 7;
-        [&[0, support, 0, usage.len() as u8], *usage, timeouts].concat()
+        [&[0, support, 0, usage.len() as u8 + 1, opcode], usage, timeouts].concat()
     }))
-}
-
-fn descriptor(usage: &[u8], has_timeouts: bool, timeouts: &[u8]) -> Vec<u8> {
-    let action = service_action(usage);
-    let flags = u8::from(has_timeouts) << 1 | u8::from(action.is_some());
-    let action = action.unwrap_or(0) as u8;
-    [&[usage[0], 0, 0, action, 0, flags, 0, usage.len() as u8], timeouts].concat()
 }

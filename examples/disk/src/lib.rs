@@ -2,7 +2,7 @@
 
 mod commands;
 
-pub use commands::{Outcome, Sense, MOST_BYTES, PART};
+pub use commands::{Outcome, Sense, MOST_BYTES};
 
 use std::fs::{File, OpenOptions};
 use std::io;
@@ -15,10 +15,9 @@ use std::sync::{PoisonError, RwLock};
 pub const BLOCK: usize = 512;
 
 pub struct Disk {
-    /// Its LUN, below 256.
-    pub number: u8,
-    /// How many there are: LUN 0 and so on.
-    pub count: u8,
+    /// Its LUN, below 256, and how many there are: LUN 0 and so on.
+    number: u8,
+    count: u8,
     length: usize,
     medium: Medium,
 }
@@ -30,18 +29,19 @@ enum Medium {
 }
 
 impl Disk {
-    pub fn in_memory(number: u8, length: usize) -> Disk {
-        Disk { number, count: number + 1, length, medium: Medium::Memory(RwLock::new(vec![0; length])) }
+    /// The disk of this LUN, of so many, in RAM.
+    pub fn in_memory(number: u8, count: u8, length: usize) -> Disk {
+        Disk { number, count, length, medium: Medium::Memory(RwLock::new(vec![0; length])) }
     }
 
     /// On a file, which gets this length where it has no block yet.
-    pub fn on_file(number: u8, path: &Path, length: usize) -> io::Result<Disk> {
+    pub fn on_file(number: u8, count: u8, path: &Path, length: usize) -> io::Result<Disk> {
         let file = OpenOptions::new().read(true).write(true).create(true).truncate(false).open(path)?;
         if file.metadata()?.len() < BLOCK as u64 {
             file.set_len(length as u64)?;
         }
         let length = file.metadata()?.len() as usize / BLOCK * BLOCK;
-        Ok(Disk { number, count: number + 1, length, medium: Medium::File(file) })
+        Ok(Disk { number, count, length, medium: Medium::File(file) })
     }
 
     pub fn is_in_memory(&self) -> bool {

@@ -1,6 +1,6 @@
 //! What CDBs mean.
 
-use disk::{Disk, Sense, BLOCK, PART};
+use disk::{Disk, Sense, BLOCK};
 
 fn cdb(bytes: &[u8]) -> [u8; 16] {
     let mut cdb = [0; 16];
@@ -9,66 +9,54 @@ fn cdb(bytes: &[u8]) -> [u8; 16] {
 }
 
 fn unit() -> Disk {
-    Disk::in_memory(1, 4 * BLOCK)
+    Disk::in_memory(1, 2, 4 * BLOCK)
 }
 
 /// What a command answers that ends well.
 fn answered(unit: &Disk, bytes: &[u8]) -> Vec<u8> {
     let outcome = unit.execute(&cdb(bytes), &[]);
     assert_eq!((outcome.status, outcome.sense), (0, None), "{bytes:x?}");
-    outcome.data.concat()
+    outcome.data
 }
 
 #[test]
 fn what_was_written_is_read() {
     let unit = unit();
     let write = cdb(&[0x2a, 0, 0, 0, 0, 2, 0, 0, 1, 0]);
-    assert_eq!((unit.wanted_length(&write), unit.read_length(&write)), (BLOCK, 0));
-    assert_eq!(unit.execute(&write, &[vec![9; BLOCK]]).status, 0);
+    assert_eq!(unit.lengths(&write), (BLOCK, 0));
+    assert_eq!(unit.execute(&write, &[9; BLOCK]).status, 0);
     let read = cdb(&[0x88, 0, 0, 0, 0, 0, 0, 0, 0, 1, 0, 0, 0, 2]);
-    assert_eq!((unit.wanted_length(&read), unit.read_length(&read)), (0, 2 * BLOCK));
+    assert_eq!(unit.lengths(&read), (0, 2 * BLOCK));
     let outcome = unit.execute(&read, &[]);
-    assert_eq!((outcome.length, outcome.data.concat()), (2 * BLOCK, [[0; BLOCK], [9; BLOCK]].concat()));
+    assert_eq!((outcome.length, outcome.data), (2 * BLOCK, [[0; BLOCK], [9; BLOCK]].concat()));
     assert_eq!(answered(&unit, &[0x08, 0, 0, 2, 1, 0]), [9; BLOCK]);
 }
 
 #[test]
-fn data_is_written_by_whole_blocks_wherever_it_is_parted() {
+fn data_is_written_by_whole_blocks() {
     let unit = unit();
     let write = cdb(&[0x8a, 0, 0, 0, 0, 0, 0, 0, 0, 0, 0, 0, 0, 3]);
-    assert_eq!(unit.execute(&write, &[vec![1; 700], vec![2; 300], vec![3; 200]]).status, 0);
+    assert_eq!(unit.execute(&write, &[1; 1200]).status, 0);
     let is = answered(&unit, &[0x28, 0, 0, 0, 0, 0, 0, 0, 4, 0]);
-    assert_eq!(is, [&[1; 700][..], &[2; 300], &[3; 24], &[0; 2 * BLOCK]].concat());
+    assert_eq!(is, [[1; 2 * BLOCK], [0; 2 * BLOCK]].concat());
     // More than the CDB says isn't written.
-    assert_eq!(unit.execute(&cdb(&[0x2a, 0, 0, 0, 0, 0, 0, 0, 1, 0]), &[vec![7; 700], vec![7; 700]]).status, 0);
-    assert_eq!(answered(&unit, &[0x28, 0, 0, 0, 0, 1, 0, 0, 1, 0])[..188], [1; 188]);
-}
-
-#[test]
-fn what_is_read_lies_in_parts() {
-    let unit = Disk::in_memory(0, 2 * PART);
-    assert_eq!(unit.execute(&cdb(&[0x2a, 0, 0, 0, 2, 0, 0, 0, 1, 0]), &[vec![5; BLOCK]]).status, 0);
-    let outcome = unit.execute(&cdb(&[0x28, 0, 0, 0, 0, 1, 0, 2, 0, 0]), &[]);
-    assert_eq!(outcome.data.iter().map(Vec::len).collect::<Vec<_>>(), [PART]);
-    let outcome = unit.execute(&cdb(&[0x28, 0, 0, 0, 0, 1, 0, 2, 1, 0]), &[]);
-    assert_eq!(outcome.data.iter().map(Vec::len).collect::<Vec<_>>(), [PART, BLOCK]);
-    assert_eq!(outcome.part(PART - BLOCK, 4), [5; 4]);
-    assert_eq!(outcome.part(PART, BLOCK), [0; BLOCK]);
+    assert_eq!(unit.execute(&cdb(&[0x2a, 0, 0, 0, 0, 0, 0, 0, 1, 0]), &[7; 1400]).status, 0);
+    assert_eq!(answered(&unit, &[0x28, 0, 0, 0, 0, 0, 0, 0, 2, 0]), [[7; BLOCK], [1; BLOCK]].concat());
 }
 
 #[test]
 fn verify_compares_where_it_is_asked_to() {
     let unit = unit();
-    let same = [vec![0; 2 * BLOCK]];
-    let other = [vec![0; BLOCK], [vec![0; BLOCK - 1], vec![1]].concat()];
+    let (same, mut other) = ([0; 2 * BLOCK], [0; 2 * BLOCK]);
+    other[2 * BLOCK - 1] = 1;
     for (verify, of_blocks) in [(0x2f, 8), (0xaf, 9), (0x8f, 13)] {
         let mut bytes = [verify, 0x02, 0, 0, 0, 0, 0, 0, 0, 0, 0, 0, 0, 0, 0, 0];
         bytes[of_blocks] = 2;
-        assert_eq!(unit.wanted_length(&bytes), 2 * BLOCK);
+        assert_eq!(unit.lengths(&bytes), (2 * BLOCK, 0));
         assert_eq!(unit.execute(&bytes, &same).status, 0);
         assert_eq!(unit.execute(&bytes, &other).sense, Some(Sense::MISCOMPARE));
         bytes[1] = 0;
-        assert_eq!((unit.wanted_length(&bytes), unit.execute(&bytes, &[]).status), (0, 0));
+        assert_eq!((unit.lengths(&bytes), unit.execute(&bytes, &[]).status), ((0, 0), 0));
         bytes[1] = 0x06;
         assert_eq!(unit.execute(&bytes, &same).sense, Some(Sense::INVALID_FIELD));
         bytes[of_blocks] = 5;
@@ -79,16 +67,16 @@ fn verify_compares_where_it_is_asked_to() {
 #[test]
 fn write_and_verify_writes() {
     let unit = unit();
-    assert_eq!(unit.execute(&cdb(&[0x2e, 0x02, 0, 0, 0, 1, 0, 0, 1, 0]), &[vec![6; BLOCK]]).status, 0);
+    assert_eq!(unit.execute(&cdb(&[0x2e, 0x02, 0, 0, 0, 1, 0, 0, 1, 0]), &[6; BLOCK]).status, 0);
     assert_eq!(answered(&unit, &[0x28, 0, 0, 0, 0, 1, 0, 0, 1, 0]), [6; BLOCK]);
 }
 
 #[test]
 fn a_unit_on_a_file_keeps_what_is_written() {
     let path = std::env::temp_dir().join(format!("cundarrix-unit-{}", std::process::id()));
-    let open = || Disk::on_file(2, &path, 8 * BLOCK).expect("a file");
+    let open = || Disk::on_file(2, 3, &path, 8 * BLOCK).expect("a file");
     let write = cdb(&[0x2a, 0, 0, 0, 0, 3, 0, 0, 1, 0]);
-    assert_eq!(open().execute(&write, &[vec![8; BLOCK]]).status, 0);
+    assert_eq!(open().execute(&write, &[8; BLOCK]).status, 0);
     assert_eq!(
         (answered(&open(), &[0x25])[..4].to_vec(), answered(&open(), &[0x28, 0, 0, 0, 0, 3, 0, 0, 1, 0])),
         (vec![0, 0, 0, 7], vec![8; BLOCK])

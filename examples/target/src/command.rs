@@ -2,7 +2,7 @@
 
 use crate::keys::Keys;
 use crate::pdu::{opcode, place, Header, Pdu, FINAL, NO_TAG, READ, WRITE};
-use disk::{Outcome, Sense, PART};
+use disk::{Outcome, Sense};
 
 /// The Data-Ins of a command, one after the other. Their headers have no numbers of the session's yet.
 #[derive(Default)]
@@ -23,10 +23,9 @@ impl DataIns {
         DataIns { tag: command.tag(), end, max_burst, longest_data, offset: 0, next_data_sn: 0 }
     }
 
-    /// How long the next one is: none goes beyond its burst, nor beyond a part of the data in memory.
+    /// How long the next one is. None goes beyond its burst.
     fn length(&self) -> usize {
-        let of_burst = self.max_burst - self.offset % self.max_burst;
-        self.longest_data.min(of_burst).min(PART - self.offset % PART).min(self.end - self.offset)
+        self.longest_data.min(self.max_burst - self.offset % self.max_burst).min(self.end - self.offset)
     }
 
     /// The next one, which stays the next one until `advance`.
@@ -70,9 +69,8 @@ pub fn complete_response(response: &mut Pdu, command: &Header, outcome: &Outcome
 /// The data of one command on its way to the target, in its order: immediate data, and then what the target asks for.
 #[derive(Default)]
 pub struct Transfer {
-    /// The immediate data, and then that of each burst.
-    parts: Vec<Vec<u8>>,
-    received: usize,
+    /// What came.
+    data: Vec<u8>,
     /// How many bytes the command takes.
     wanted: usize,
     /// The transfer tag of the burst that is under way, and up to where it brings data.
@@ -85,10 +83,8 @@ pub struct Transfer {
 impl Transfer {
     /// Of a SCSI Command that takes `wanted` bytes, with this immediate data, which is no longer than `first_burst`.
     pub fn new(header: &Header, data: Vec<u8>, wanted: usize, first_burst: usize) -> Transfer {
-        let received = data.len();
-        let is_wrong = received > header.data_length(WRITE).min(first_burst);
-        let parts = if data.is_empty() { Vec::new() } else { vec![data] };
-        Transfer { parts, received, wanted, is_wrong, ..Transfer::default() }
+        let is_wrong = data.len() > header.data_length(WRITE).min(first_burst);
+        Transfer { data, wanted, is_wrong, ..Transfer::default() }
     }
 
     /// Whether the burst with this transfer tag is under way.
@@ -99,18 +95,17 @@ impl Transfer {
     /// Takes a Data-Out. One that isn't the next part of its burst spoils the transfer. The final one ends the burst.
     pub fn take(&mut self, data_out: &Pdu) {
         let header = &data_out.header;
-        let end = self.received + data_out.data.len();
+        let end = self.data.len() + data_out.data.len();
         let is_next = self.burst.is_some_and(|(tag, burst_end)| {
             tag == header.number(place::TRANSFER_TAG)
                 && end <= burst_end
                 && (end == burst_end || !header.is_final())
-                && header.number(place::OFFSET) as usize == self.received
+                && header.number(place::OFFSET) as usize == self.data.len()
                 && header.number(place::DATA_SN) == self.next_data_sn
         });
         self.is_wrong |= !is_next;
-        if let Some(part) = self.parts.last_mut().filter(|_| !self.is_wrong) {
-            part.extend_from_slice(&data_out.data);
-            self.received = end;
+        if !self.is_wrong {
+            self.data.extend_from_slice(&data_out.data);
         }
         self.next_data_sn = self.next_data_sn.wrapping_add(1);
         self.burst = self.burst.filter(|_| !header.is_final());
@@ -118,7 +113,7 @@ impl Transfer {
 
     /// Begins the next burst of a command, and gives the header of its R2T. `None`: it needs no more data.
     pub fn ask(&mut self, command: &Header, transfer_tag: u32, max_burst: usize) -> Option<Header> {
-        let offset = self.received;
+        let offset = self.data.len();
         if self.is_wrong || offset >= self.wanted {
             return None;
         }
@@ -129,7 +124,7 @@ impl Transfer {
         header.set(place::DATA_SN, self.next_r2t_sn);
         header.set(place::OFFSET, offset as u32);
         header.set(place::ASKED_LENGTH, length as u32);
-        self.parts.push(Vec::with_capacity(length));
+        self.data.reserve_exact(self.wanted - offset);
         self.burst = Some((transfer_tag, offset + length));
         self.next_data_sn = 0;
         self.next_r2t_sn += 1;
@@ -137,7 +132,7 @@ impl Transfer {
     }
 
     /// What came. An error where some of it was not what had to come.
-    pub fn data(self) -> Result<Vec<Vec<u8>>, Sense> {
-        (!self.is_wrong).then_some(self.parts).ok_or(Sense::WRONG_DATA)
+    pub fn data(self) -> Result<Vec<u8>, Sense> {
+        (!self.is_wrong).then_some(self.data).ok_or(Sense::WRONG_DATA)
     }
 }

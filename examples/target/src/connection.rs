@@ -1,13 +1,15 @@
 //! A connection: its reader takes requests, and writes what comes of them; its writer writes the rest.
 
 use crate::login;
+use crate::outgoing::Batch;
 use crate::pdu::{Pdu, LONGEST_DATA};
 use crate::session::Session;
 use crate::Target;
+use std::collections::VecDeque;
 use std::error::Error;
 use std::io::{self, BufReader, ErrorKind, Read};
 use std::net::TcpStream;
-use std::sync::{Arc, Condvar};
+use std::sync::{Arc, Condvar, Weak};
 use std::thread;
 use std::time::{Duration, Instant};
 
@@ -108,4 +110,36 @@ pub struct Connection {
     pub stream: Arc<TcpStream>,
     /// Beside the lock of its session: there is something for the writer.
     pub changed: Condvar,
+}
+
+/// What the lock of its session guards of a connection that joined and wasn't lost yet.
+#[derive(Default)]
+pub struct Attached {
+    pub connection: Weak<Connection>,
+    /// The library may have something for it, or nothing any more; and a thread writes there.
+    pub is_told: bool,
+    pub is_writing: bool,
+    /// Its reader will write what there is, before it waits for more requests; and its writer waits.
+    pub is_taking: bool,
+    pub is_idle: bool,
+    /// What was handed out for it, and isn't written yet.
+    pub unwritten: Option<Batch>,
+    /// Commands that have something to put into the library's queue.
+    pub putting: VecDeque<u64>,
+    /// A Logout closed it; and its transport broke, or is given up.
+    pub is_closed: bool,
+    pub is_broken: bool,
+    /// When its clock strikes next, whether something arrived since it did, and since when a ping is unanswered.
+    pub next_strike: Option<Instant>,
+    pub was_heard: bool,
+    pub asked: Option<Instant>,
+}
+
+impl Attached {
+    /// Wakes the writer, if it waits. To wake nobody is a call of the system, too.
+    pub fn wake(&self) {
+        if let Some(connection) = self.connection.upgrade().filter(|_| self.is_idle) {
+            connection.changed.notify_one();
+        }
+    }
 }

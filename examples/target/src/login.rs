@@ -44,8 +44,6 @@ enum Refused {
 struct Login<'a> {
     target: &'a Arc<Target>,
     stream: &'a Arc<TcpStream>,
-    /// Where the connection reached the target.
-    address: String,
     keys: Keys,
     has_declared: bool,
     /// When it must have ended.
@@ -59,8 +57,7 @@ pub fn log_in(
     target: &Arc<Target>,
     until: Instant,
 ) -> Result<Option<Member>, Fault> {
-    let address = stream.local_addr()?.to_string();
-    let mut login = Login { target, stream, address, keys: Keys::default(), has_declared: false, until };
+    let mut login = Login { target, stream, keys: Keys::default(), has_declared: false, until };
     for stat_sn in 0..MOST_REQUESTS {
         let Some(request) = Pdu::read(requests, LONGEST_DATA)? else {
             return Ok(None);
@@ -145,22 +142,30 @@ impl Login<'_> {
         let (cid, longest_data) = (request.short(place::CID), self.keys.longest_data as usize);
         let connection = Connection { cid, longest_data, stream: self.stream.clone(), changed: Condvar::new() };
         let (connection, stat_sn) = (Arc::new(connection), response.number(place::STAT_SN) + 1);
-        let numbers = session.attach(&connection, stat_sn).ok_or(Refused::NotIncluded)?;
+        let most = session.keys.connections as usize;
+        let numbers = session.with(|state| state.join(&connection, stat_sn, most)).ok_or(Refused::NotIncluded)?;
         response.set(place::EXP_CMD_SN, numbers.exp_cmd_sn);
         response.set(place::MAX_CMD_SN, numbers.max_cmd_sn);
         response.0[place::TSIH..][..2].copy_from_slice(&session.tsih.to_be_bytes());
         Ok(Member { session, connection })
     }
 
-    /// Opens a session. The one that the same initiator port has ends first, with all of its commands.
+    /// Opens a session. The one that the same initiator port has ends first, with all of its commands. That there is none
+    /// is seen under the lock under which the new one is added, so a port never has two.
     fn open(&self, request: &Header, isid: [u8; 6]) -> Result<Arc<Session>, Refused> {
-        let open = |tsih| Session::open(self.target, tsih, request, self.keys.clone(), self.address.clone()).ok();
         loop {
-            match self.target.add(&self.keys, isid, open) {
-                Ok(session) => return Ok(session),
-                Err(Some(former)) if !former.abandon(self.until) => return Err(Refused::Unavailable),
-                Err(Some(_)) => {}
-                Err(None) => return Err(Refused::OutOfResources),
+            let mut sessions = lock(&self.target.sessions);
+            let Some(former) = sessions.by_tsih.values().find(|one| one.is_of(&self.keys, isid)).cloned() else {
+                let has_room = sessions.by_tsih.len() < self.target.options.sessions;
+                let tsih = sessions.new_tsih().filter(|_| has_room).ok_or(Refused::OutOfResources)?;
+                let session = Session::open(self.target, tsih, request, self.keys.clone());
+                let session = Arc::new(session.map_err(|_| Refused::OutOfResources)?);
+                sessions.by_tsih.insert(tsih, session.clone());
+                return Ok(session);
+            };
+            drop(sessions);
+            if !former.abandon(self.until) {
+                return Err(Refused::Unavailable);
             }
         }
     }

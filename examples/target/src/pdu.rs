@@ -95,6 +95,10 @@ impl Header {
         self.number(place::TAG)
     }
 
+    fn additional_length(&self) -> usize {
+        usize::from(self.0[place::LENGTHS]) * 4
+    }
+
     /// How long the data segment is, without the bytes that pad it.
     pub fn length(&self) -> usize {
         (self.number(place::LENGTHS) & 0x00ff_ffff) as usize
@@ -126,10 +130,9 @@ pub struct Pdu {
 impl Pdu {
     /// Whether these bytes begin with a whole PDU.
     pub fn is_whole(bytes: &[u8]) -> bool {
-        let header = bytes.first_chunk().copied().map(Header);
-        header.is_some_and(|header| {
-            let additional = usize::from(header.0[place::LENGTHS]) * 4;
-            bytes.len() >= header.0.len() + additional + header.length().next_multiple_of(4)
+        bytes.first_chunk().is_some_and(|header| {
+            let header = Header(*header);
+            bytes.len() >= header.0.len() + header.additional_length() + header.length().next_multiple_of(4)
         })
     }
 
@@ -145,7 +148,7 @@ impl Pdu {
         if length > longest_data {
             return Err(io::Error::new(ErrorKind::InvalidData, "a data segment that is too long"));
         }
-        stream.read_exact(&mut vec![0; usize::from(header.0[place::LENGTHS]) * 4])?;
+        stream.read_exact(&mut vec![0; header.additional_length()])?;
         let mut data = vec![0; length.next_multiple_of(4)];
         stream.read_exact(&mut data)?;
         data.truncate(length);

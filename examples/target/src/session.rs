@@ -6,29 +6,29 @@ use crate::command::complete_response;
 use crate::connection::{Connection, Fault};
 use crate::keys::{add_pair, pairs, Keys};
 use crate::pdu::{opcode, place, Header, Pdu, FINAL, NO_TAG};
-use crate::state::{State, Work, UNWRITTEN};
+use crate::state::{Kept, State, Work};
 use crate::threads::{lock, wait_for};
 use crate::trace::now;
 use crate::unit::Job;
 use crate::Target;
-use cundarrix::{Clearing as Function, Numbers, Options, Refusal};
-use disk::{Outcome, Sense};
-use std::sync::{Arc, Condvar, Mutex, MutexGuard, PoisonError};
+use cundarrix::{Options, Refusal};
+use disk::Outcome;
+use std::sync::{Arc, Condvar, Mutex, MutexGuard};
 use std::time::{Duration, Instant};
 
 /// The CIDs of a session that may have several connections: that of the first one, and so many of 0, 1, 2 and so on.
 const MOST_CONNECTIONS: usize = 16;
 
-/// The most commands of a unit's task set; and the most R2Ts, Data-Ins and pings that wait on a connection.
+/// The most commands of a unit's task set; the most R2Ts, Data-Ins and pings that wait on a connection; and the most
+/// PDUs that are written together.
 const DEPTH: u32 = 256;
 const MOST_OWN: u32 = 64;
+const UNWRITTEN: u32 = 32;
 
 pub struct Session {
     pub tsih: u16,
     isid: [u8; 6],
     pub keys: Keys,
-    /// Where the target is reached, as SendTargets tells it.
-    address: String,
     pub target: Arc<Target>,
     state: Mutex<State>,
     /// A request may be taken that had to wait, or nothing is left of the session.
@@ -37,34 +37,9 @@ pub struct Session {
     pub stopped: Condvar,
 }
 
-/// A reset of a unit: each command of another session that it waits for has this, too.
-pub struct Clearing {
-    session: Arc<Session>,
-    unit: u16,
-}
-
-impl Clearing {
-    /// Has all other sessions clear a unit.
-    pub fn run(session: Arc<Session>, unit: u16, function: Function) {
-        let sense = if function == Function::ClearTaskSet { Sense::CLEARED } else { Sense::RESET };
-        let mut others: Vec<_> = lock(&session.target.sessions).by_tsih.values().cloned().collect();
-        others.retain(|other| !Arc::ptr_eq(other, &session));
-        let clearing = Arc::new(Clearing { session, unit });
-        others.iter().for_each(|other| other.with(|state| state.clear(unit, sense, &clearing)));
-        clearing.end();
-    }
-
-    /// One has done so, or a command has stopped. The last one says that nothing is waited for any more.
-    pub fn end(self: Arc<Clearing>) {
-        if let Some(Clearing { session, unit }) = Arc::into_inner(self) {
-            let _ = session.with(|state| state.call(|library, tell| library.cleared(unit, tell)));
-        }
-    }
-}
-
 impl Session {
     /// Opens the library's session by its first login, for all connections that may come.
-    pub fn open(target: &Arc<Target>, tsih: u16, login: &Header, keys: Keys, address: String) -> Result<Self, Refusal> {
+    pub fn open(target: &Arc<Target>, tsih: u16, login: &Header, keys: Keys) -> Result<Session, Refusal> {
         let options = Options::new()
             .first_cmd_sn(login.number(place::CMD_SN))
             .window(target.options.window)
@@ -80,25 +55,16 @@ impl Session {
         let cids: Vec<u16> = std::iter::once(first).chain(others).take(count).collect();
         let state = Mutex::new(State::new(cundarrix::Session::open(&options, &cids)?));
         let (isid, target) = (login.part(place::ISID), target.clone());
-        Ok(Session { tsih, isid, keys, address, target, state, changed: Condvar::new(), stopped: Condvar::new() })
+        Ok(Session { tsih, isid, keys, target, state, changed: Condvar::new(), stopped: Condvar::new() })
     }
 
     /// Whether it is the session of such an initiator port, for discovery or not.
     pub fn is_of(&self, keys: &Keys, isid: [u8; 6]) -> bool {
-        let has_name = self.keys.initiator == keys.initiator && self.keys.is_discovery == keys.is_discovery;
-        has_name && self.isid == isid
-    }
-
-    /// A connection joins, whose next StatSN is this. `None` where the session can't take it.
-    pub fn attach(self: &Arc<Session>, connection: &Arc<Connection>, stat_sn: u32) -> Option<Numbers> {
-        self.with(|state| {
-            let has_room = !state.is_over && state.connections.len() < self.keys.connections as usize;
-            (has_room && state.join(connection, stat_sn).is_ok()).then(|| state.library.numbers())
-        })
+        (&self.keys.initiator, self.keys.is_discovery, self.isid) == (&keys.initiator, keys.is_discovery, isid)
     }
 
     /// A PDU arrived. It waits while the library can't take it.
-    pub fn take(self: &Arc<Session>, connection: &Arc<Connection>, pdu: Pdu) -> Result<(), Fault> {
+    pub fn take(self: &Arc<Session>, connection: &Connection, pdu: Pdu) -> Result<(), Fault> {
         let (cid, header) = (connection.cid, pdu.header);
         if self.keys.is_discovery && ![opcode::NOP_OUT, opcode::TEXT, opcode::LOGOUT].contains(&header.opcode()) {
             return Err("a discovery session is for Text and Logout alone".into());
@@ -111,35 +77,28 @@ impl Session {
             return Ok(());
         }
         let cookie = state.keep(self, connection, pdu)?;
-        loop {
-            let taken = state.call(|library, tell| library.arrive(cid, &header.0, cookie, tell));
-            if taken == Err(Refusal::Busy) && !state.is_broken(cid) {
-                state = self.wait_for_room(state, connection, &header);
-                continue;
-            }
-            if taken.is_err() {
-                state.forget(self, cookie);
-            }
+        let arrive = |state: &mut State| state.call(|library, tell| library.arrive(cid, &header.0, cookie, tell));
+        let mut taken = arrive(&mut state);
+        while taken == Err(Refusal::Busy) && !state.is_broken(cid) {
+            // What it acknowledges, and what goes out, may be what all wait for.
+            let _ = state.call(|library, tell| library.heard(cid, &header.0, tell));
             self.let_go(state);
-            return taken.map_err(Fault::from);
+            self.write(connection, false);
+            state = self.wait(Duration::MAX, |state| !state.library.may_take() && !state.is_broken(cid));
+            taken = arrive(&mut state);
         }
+        if taken.is_err() {
+            state.forget(self, cookie);
+        }
+        self.let_go(state);
+        Ok(taken?)
     }
 
-    /// The library can't take a request. What it acknowledges, and what goes out, may be what all wait for.
-    fn wait_for_room<'a>(
-        self: &'a Arc<Session>,
-        mut state: MutexGuard<'a, State>,
-        connection: &Connection,
-        header: &Header,
-    ) -> MutexGuard<'a, State> {
-        let cid = connection.cid;
-        let _ = state.call(|library, tell| library.heard(cid, &header.0, tell));
-        self.let_go(state);
-        self.write(connection, false);
+    /// Waits until this doesn't hold, and so long at the most.
+    fn wait(&self, time: Duration, waits: impl FnMut(&mut State) -> bool) -> MutexGuard<'_, State> {
         let mut state = lock(&self.state);
         state.waiters += 1;
-        let is_busy = |state: &mut State| !state.library.may_take() && !state.is_broken(cid);
-        let mut state = self.changed.wait_while(state, is_busy).unwrap_or_else(PoisonError::into_inner);
+        let mut state = wait_for(state, &self.changed, time, waits);
         state.waiters -= 1;
         state
     }
@@ -151,7 +110,7 @@ impl Session {
 
     /// Executes a command without the lock, unless it was stopped.
     fn execute<'a>(self: &'a Arc<Session>, mut state: MutexGuard<'a, State>, job: &Job) -> MutexGuard<'a, State> {
-        let (begin, delay) = (now(), job.unit.delay_before());
+        let (begin, delay) = (now(), job.unit.delay_before);
         if !delay.is_zero() {
             state = wait_for(state, &self.stopped, delay, |state| state.work(job.cookie).is_some());
         }
@@ -223,12 +182,8 @@ impl Session {
     /// Another login takes the session's place. Whether all of its commands have stopped, until when at the latest.
     pub fn abandon(self: &Arc<Session>, until: Instant) -> bool {
         self.with(State::end);
-        let mut state = lock(&self.state);
-        state.waiters += 1;
         let left = until.saturating_duration_since(Instant::now());
-        let mut state = wait_for(state, &self.changed, left, |state| !state.is_left());
-        state.waiters -= 1;
-        state.is_left()
+        self.wait(left, |state| !state.is_left()).is_left()
     }
 
     /// Makes calls under the lock, and does what comes of them.
@@ -258,20 +213,21 @@ impl Session {
 
     /// Puts into a reply of the library's what the library doesn't know: what `complete_response` does, the ping's data
     /// of a NOP-In, and the Text Response in place of the Reject. All else of it stays the library's.
-    pub fn complete_reply(&self, pdu: &mut Pdu, request: &mut Pdu, outcome: Option<&Outcome>, longest_data: usize) {
-        match (request.header.opcode(), pdu.header.opcode()) {
+    pub fn complete_reply(&self, connection: &Connection, reply: &mut Pdu, kept: &mut Kept) {
+        let request = kept.pdu.header;
+        match (request.opcode(), reply.header.opcode()) {
             (opcode::SCSI_COMMAND, opcode::SCSI_RESPONSE) => {
                 let failed = Outcome::failed(None);
-                complete_response(pdu, &request.header, outcome.unwrap_or(&failed));
+                complete_response(reply, &request, kept.outcome.as_deref().unwrap_or(&failed));
             }
-            (opcode::NOP_OUT, opcode::NOP_IN) => pdu.data = std::mem::take(&mut request.data),
-            (opcode::TEXT, opcode::REJECT) if request.header.tag() != NO_TAG => {
-                let answer = self.text_answer(&request.header, &request.data);
-                if let Some(data) = answer.filter(|data| data.len() <= longest_data) {
-                    let mut header = Header::new(opcode::TEXT_RESPONSE, FINAL, request.header.tag());
+            (opcode::NOP_OUT, opcode::NOP_IN) => reply.data = std::mem::take(&mut kept.pdu.data),
+            (opcode::TEXT, opcode::REJECT) if request.tag() != NO_TAG => {
+                let answer = self.text_answer(connection, &kept.pdu);
+                if let Some(data) = answer.filter(|data| data.len() <= connection.longest_data) {
+                    let mut header = Header::new(opcode::TEXT_RESPONSE, FINAL, request.tag());
                     header.set(place::TRANSFER_TAG, NO_TAG);
-                    header.0[place::STAT_SN..][..12].copy_from_slice(&pdu.header.0[place::STAT_SN..][..12]);
-                    *pdu = Pdu { header, data };
+                    header.0[place::STAT_SN..][..12].copy_from_slice(&reply.header.0[place::STAT_SN..][..12]);
+                    *reply = Pdu { header, data };
                 }
             }
             _ => {}
@@ -279,19 +235,18 @@ impl Session {
     }
 
     /// The answer to a text of one PDU. `None` where it is longer, or no text: it is rejected then.
-    fn text_answer(&self, header: &Header, text: &[u8]) -> Option<Vec<u8>> {
+    fn text_answer(&self, connection: &Connection, text: &Pdu) -> Option<Vec<u8>> {
         // The F bit, and not the C bit.
-        if header.0[1] & 0xc0 != FINAL {
+        if text.header.0[1] & 0xc0 != FINAL {
             return None;
         }
-        let mut answer = Vec::new();
-        for (key, value) in pairs(text)? {
-            let name = &self.target.options.name;
+        let (name, mut answer) = (&self.target.options.name, Vec::new());
+        for (key, value) in pairs(&text.data)? {
             if key != "SendTargets" {
                 add_pair(&mut answer, key, "NotUnderstood");
             } else if ["All", "", name].contains(&value) {
                 add_pair(&mut answer, "TargetName", name);
-                add_pair(&mut answer, "TargetAddress", &format!("{},1", self.address));
+                add_pair(&mut answer, "TargetAddress", &format!("{},1", connection.stream.local_addr().ok()?));
             }
         }
         Some(answer)

@@ -1,22 +1,19 @@
 //! What a session's lock guards: the library's session, its connections, and what is kept of each request.
 
 use crate::command::{DataIns, Transfer};
-use crate::connection::{Connection, Fault};
+use crate::connection::{Attached, Connection, Fault};
 use crate::keys::FIRST_BURST;
-use crate::outgoing::{Batch, Outgoing};
-use crate::pdu::{opcode, place, Header, Pdu, FINAL, LONGEST_DATA, NO_TAG, WRITE};
-use crate::session::{Clearing, Session};
-use crate::unit::{Job, Unit};
-use cundarrix::{Action, Clearing as Function, PduKind, Refusal};
+use crate::pdu::{opcode, place, Header, Pdu, FINAL, NO_TAG, WRITE};
+use crate::reset::Reset;
+use crate::session::Session;
+use crate::unit::Job;
+use cundarrix::{Action, Numbers, Refusal};
 use disk::{Outcome, Sense, MOST_BYTES};
-use std::collections::{HashMap, VecDeque};
-use std::io;
+use std::collections::{HashMap, HashSet, VecDeque};
+use std::mem::take;
 use std::net::Shutdown;
-use std::sync::{Arc, Weak};
+use std::sync::Arc;
 use std::time::Instant;
-
-/// The most PDUs that are written together.
-pub const UNWRITTEN: u32 = 32;
 
 /// Transfer tags from here on are the library's, for its pings.
 const FIRST_PING: u32 = 0x8000_0000;
@@ -25,15 +22,17 @@ pub struct State {
     pub library: cundarrix::Session,
     pub connections: HashMap<u16, Attached>,
     /// What is kept of each request, by its cookie, until the library forgets it.
-    requests: HashMap<u64, Kept>,
+    pub requests: HashMap<u64, Kept>,
     /// What the library told, and isn't carried out yet.
     actions: VecDeque<Action>,
     /// Commands that take no time. Who lets the lock go executes them.
     pub jobs: VecDeque<Job>,
     last_cookie: u64,
-    /// The unit attentions that the initiator isn't told of yet.
-    attentions: HashMap<u16, Sense>,
-    /// How many bytes are kept for requests that haven't started, and are for commands that have.
+    /// The units of whose resets the initiator isn't told yet.
+    pub attentions: HashSet<u16>,
+    /// Of each unit, how many resets by this session go on, and how many functions are answered behind them.
+    pub resets: HashMap<u16, (usize, usize)>,
+    /// How many bytes came with requests that may not move data yet, and how many those move that may.
     arrived: usize,
     moving: usize,
     /// Commands that were started, and wait until others have moved their data; and how much each of them moves.
@@ -43,60 +42,28 @@ pub struct State {
     pub is_over: bool,
 }
 
-/// A connection that joined and wasn't lost yet.
-#[derive(Default)]
-pub struct Attached {
-    connection: Weak<Connection>,
-    /// The library may have something for it, or nothing any more; and a thread writes there.
-    is_told: bool,
-    is_writing: bool,
-    /// Its reader will write what there is, before it waits for more requests; and its writer waits.
-    pub is_taking: bool,
-    pub is_idle: bool,
-    /// What was handed out for it, and isn't written yet.
-    unwritten: Option<Batch>,
-    /// Commands that have something to put into the library's queue.
-    putting: VecDeque<u64>,
-    /// A Logout closed it; and its transport broke, or is given up.
-    pub is_closed: bool,
-    is_broken: bool,
-    /// When its clock strikes next, whether something arrived since it did, and since when a ping is unanswered.
-    pub next_strike: Option<Instant>,
-    pub was_heard: bool,
-    asked: Option<Instant>,
-}
-
-impl Attached {
-    /// Wakes the writer, if it waits. To wake nobody is a call of the system, too.
-    fn wake(&self) {
-        if let Some(connection) = self.connection.upgrade().filter(|_| self.is_idle) {
-            connection.changed.notify_one();
-        }
-    }
-}
-
 /// A request, and of a command that was started what has come of it so far.
 #[derive(Default)]
-struct Kept {
-    pdu: Pdu,
-    cid: u16,
-    ticket: u64,
-    unit: Option<Arc<Unit>>,
-    work: Work,
+pub struct Kept {
+    pub pdu: Pdu,
+    pub cid: u16,
+    pub ticket: u64,
+    pub unit: u16,
+    pub work: Work,
     transfer: Transfer,
     /// What it has to put into the library's queue: an R2T, or Data-Ins.
-    r2t: Option<Header>,
-    data_ins: DataIns,
-    outcome: Option<Arc<Outcome>>,
-    /// How much of the session's room it takes: until it is started, and from then on.
+    pub r2t: Option<Header>,
+    pub data_ins: DataIns,
+    pub outcome: Option<Arc<Outcome>>,
+    /// How much of the session's room it takes: until it may move its data, and from then on.
     arrived: usize,
     moving: usize,
-    /// The resets that wait until its unit has executed it.
-    clearings: Vec<Arc<Clearing>>,
+    /// The resets of other sessions that wait until its unit has executed it.
+    pub resets: Vec<Arc<Reset>>,
 }
 
 /// How far the unit of a command has come.
-#[derive(Default, PartialEq, Eq)]
+#[derive(Clone, Copy, Default, PartialEq, Eq)]
 pub enum Work {
     #[default]
     NotBegun,
@@ -105,6 +72,13 @@ pub enum Work {
     Stopping,
     Ended,
     Stopped,
+}
+
+impl Work {
+    /// Whether its unit executes it, and so may touch the medium.
+    pub fn is_under_way(self) -> bool {
+        matches!(self, Work::Begun | Work::Stopping)
+    }
 }
 
 impl State {
@@ -116,7 +90,8 @@ impl State {
             actions: VecDeque::new(),
             jobs: VecDeque::new(),
             last_cookie: 0,
-            attentions: HashMap::new(),
+            attentions: HashSet::new(),
+            resets: HashMap::new(),
             arrived: 0,
             moving: 0,
             waiting: VecDeque::new(),
@@ -146,15 +121,7 @@ impl State {
                     self.tell(cid);
                 }
                 Action::Forget { cookie } => self.forget(session, cookie),
-                Action::Reset { unit, function } => {
-                    // Also who resets a unit is told that it was reset.
-                    if function == Function::LogicalUnitReset {
-                        self.attentions.insert(unit, Sense::RESET);
-                    }
-                    // The other sessions are told without this one's lock.
-                    let session = session.clone();
-                    session.target.clone().errands.push(Box::new(move || Clearing::run(session, unit, function)));
-                }
+                Action::Reset { unit, function } => self.reset(session, unit, function),
             }
         }
     }
@@ -169,19 +136,22 @@ impl State {
         });
     }
 
-    pub fn change(&mut self, cid: u16, change: impl FnOnce(&mut Attached)) {
+    pub fn change<T>(&mut self, cid: u16, change: impl FnOnce(&mut Attached) -> T) {
         if let Some(attached) = self.connections.get_mut(&cid) {
             change(attached);
         }
     }
 
-    /// A connection joins, whose next StatSN is this.
-    pub fn join(&mut self, connection: &Arc<Connection>, stat_sn: u32) -> Result<(), Refusal> {
-        self.call(|library, tell| library.join(connection.cid, stat_sn, tell))?;
+    /// A connection joins, whose next StatSN is this, if the session may have one more of at most so many.
+    pub fn join(&mut self, connection: &Arc<Connection>, stat_sn: u32, most: usize) -> Option<Numbers> {
+        if self.is_over || self.connections.len() >= most {
+            return None;
+        }
+        self.call(|library, tell| library.join(connection.cid, stat_sn, tell)).ok()?;
         let (connection, cid) = (Arc::downgrade(connection), connection.cid);
         let attached = Attached { connection, is_told: true, was_heard: true, ..Attached::default() };
         self.connections.insert(cid, attached);
-        Ok(())
+        Some(self.library.numbers())
     }
 
     /// The transport of a connection is given up, both ways. Its threads end, and then it is lost.
@@ -226,21 +196,27 @@ impl State {
             return;
         };
         attached.next_strike = Some(Instant::now() + patience / 2);
-        let was_heard = std::mem::take(&mut attached.was_heard);
-        if was_heard && !is_asked {
-            attached.asked = None;
-        } else if attached.asked.is_some_and(|since| since.elapsed() >= patience) {
-            self.break_off(cid);
-        } else if attached.asked.is_none() {
-            attached.asked = Some(Instant::now());
+        let was_heard = take(&mut attached.was_heard);
+        match attached.asked {
+            _ if was_heard && !is_asked => attached.asked = None,
+            Some(since) if since.elapsed() >= patience => self.break_off(cid),
+            Some(_) => {}
             // A discovery session knows no pings (RFC 7143 section 4.3): to be silent is enough.
-            if !is_asked && !session.keys.is_discovery {
-                let mut header = Header::new(opcode::NOP_IN, FINAL, NO_TAG);
-                header.set(place::TRANSFER_TAG, FIRST_PING - 1);
-                // Its cookie is that of no request: these count from 1.
-                let _ = self.call(|library, tell| library.put(cid, &header.0, 0, tell));
+            None => {
+                if is_asked || session.keys.is_discovery || self.ping(cid) {
+                    self.change(cid, |attached| attached.asked = Some(Instant::now()));
+                }
             }
         }
+    }
+
+    /// Asks an initiator whether it is there, unless the library has no room for that. Its answer is heard as any other
+    /// request is.
+    fn ping(&mut self, cid: u16) -> bool {
+        let mut header = Header::new(opcode::NOP_IN, FINAL, NO_TAG);
+        header.set(place::TRANSFER_TAG, FIRST_PING - 1);
+        // Its cookie is that of no request: these count from 1.
+        self.call(|library, tell| library.put(cid, &header.0, 0, tell)).is_ok()
     }
 
     /// Keeps a request that arrived, without data that nothing comes of, and gives its cookie.
@@ -279,18 +255,17 @@ impl State {
         let (unit, Some(kept)) = (&session.target.units[usize::from(number)], self.requests.get_mut(&cookie)) else {
             return;
         };
-        (kept.ticket, kept.unit) = (ticket, Some(unit.clone()));
-        self.arrived -= std::mem::take(&mut kept.arrived);
-        let (header, data) = (kept.pdu.header, std::mem::take(&mut kept.pdu.data));
+        (kept.ticket, kept.unit) = (ticket, number);
+        let (header, data) = (kept.pdu.header, take(&mut kept.pdu.data));
         let cdb = header.part(place::CDB);
-        let wanted = unit.disk.wanted_length(&cdb).min(header.data_length(WRITE));
+        let (written, read) = unit.disk.lengths(&cdb);
+        let (arrived, wanted) = (data.len(), written.min(header.data_length(WRITE)));
         kept.transfer = Transfer::new(&header, data, wanted, session.keys.first_burst as usize);
         // INQUIRY and REPORT LUNS tell no unit attention.
-        let attention = if [0x12, 0xa0].contains(&cdb[0]) { None } else { self.attentions.remove(&number) };
-        if let Some(sense) = attention {
-            return self.conclude(session, cookie, Outcome::failed(Some(sense)));
+        if ![0x12, 0xa0].contains(&cdb[0]) && self.attentions.remove(&number) {
+            return self.conclude(session, cookie, Outcome::failed(Some(Sense::RESET)));
         }
-        match wanted.max(unit.disk.read_length(&cdb)) {
+        match arrived.max(wanted).max(read) {
             0 => self.advance(session, cookie),
             length => {
                 self.waiting.push_back((cookie, length));
@@ -307,6 +282,7 @@ impl State {
             }
             self.waiting.pop_front();
             if let Some(kept) = self.requests.get_mut(&cookie).filter(|kept| kept.work == Work::NotBegun) {
+                self.arrived -= take(&mut kept.arrived);
                 kept.moving = length;
                 self.moving += length;
                 self.advance(session, cookie);
@@ -327,13 +303,12 @@ impl State {
             self.put(cid);
             return;
         }
-        if let Some(unit) = kept.unit.clone() {
-            let data = std::mem::take(&mut kept.transfer).data();
-            let job = Job { session: session.clone(), ticket, cookie, unit: unit.clone(), header, data };
-            match unit.is_instant() {
-                true => self.jobs.push_back(job),
-                false => unit.jobs.push(job),
-            }
+        let (unit, data) = (session.target.units[usize::from(kept.unit)].clone(), take(&mut kept.transfer).data());
+        let job = Job { session: session.clone(), ticket, cookie, unit: unit.clone(), header, data };
+        match &unit.workers {
+            None => self.jobs.push_back(job),
+            // They are there as long as the unit is.
+            Some(workers) => drop(workers.send(job)),
         }
     }
 
@@ -359,7 +334,7 @@ impl State {
             return;
         };
         kept.transfer = Transfer::default();
-        if [Work::Begun, Work::Stopping].contains(&kept.work) {
+        if kept.work.is_under_way() {
             kept.work = Work::Stopping;
             return;
         }
@@ -378,7 +353,9 @@ impl State {
         let Some(kept) = self.requests.get_mut(&job.cookie) else {
             return false;
         };
-        kept.clearings.drain(..).for_each(|clearing| session.target.errands.push(Box::new(|| clearing.end())));
+        for reset in kept.resets.drain(..) {
+            let _ = session.target.errands.send(Box::new(|| reset.end()));
+        }
         let is_answered = kept.work == Work::Begun;
         kept.work = if is_answered { Work::Ended } else { Work::Stopped };
         if is_answered {
@@ -387,141 +364,5 @@ impl State {
             let _ = self.call(|library, tell| library.stopped(job.ticket, tell));
         }
         is_answered
-    }
-
-    /// Another session reset or cleared a unit. It waits for what the unit executes for this one.
-    pub fn clear(&mut self, unit: u16, sense: Sense, clearing: &Arc<Clearing>) {
-        let _ = self.call(|library, tell| library.clear(unit, tell));
-        // Whose commands were none isn't told that they were cleared.
-        let is_cleared = |kept: &Kept| {
-            let header = &kept.pdu.header;
-            (header.opcode(), header.0[9].into()) == (opcode::SCSI_COMMAND, unit) && kept.outcome.is_none()
-        };
-        if sense == Sense::RESET || self.requests.values().any(is_cleared) {
-            self.attentions.insert(unit, sense);
-        }
-        for kept in self.requests.values_mut().filter(|kept| [Work::Begun, Work::Stopping].contains(&kept.work)) {
-            if kept.unit.as_ref().is_some_and(|its| u16::from(its.disk.number) == unit) {
-                kept.clearings.push(clearing.clone());
-            }
-        }
-    }
-
-    /// A command is answered: what came of it is kept for the PDUs that tell it.
-    fn conclude(&mut self, session: &Session, cookie: u64, outcome: Outcome) {
-        let Some(kept) = self.requests.get_mut(&cookie) else {
-            return;
-        };
-        let cid = kept.cid;
-        if let Some(attached) = self.connections.get_mut(&cid) {
-            let longest_data = attached.connection.upgrade().map_or(LONGEST_DATA, |connection| connection.longest_data);
-            kept.data_ins = DataIns::new(&kept.pdu.header, outcome.data_length(), &session.keys, longest_data);
-            attached.putting.push_back(cookie);
-        }
-        kept.outcome = Some(Arc::new(outcome));
-        self.put(cid);
-    }
-
-    /// Puts what waits for room in the library's queue, as far as there is some. Whether there was.
-    fn put(&mut self, cid: u16) -> bool {
-        let mut had_room = false;
-        while let Some(cookie) = self.connections.get(&cid).and_then(|attached| attached.putting.front().copied()) {
-            match self.put_next(cookie) {
-                Ok(()) => {}
-                Err(Refusal::Full) => break,
-                Err(_) => self.change(cid, |attached| {
-                    attached.putting.pop_front();
-                }),
-            }
-            had_room = true;
-        }
-        had_room
-    }
-
-    /// Puts the next PDU of a command, which is complete behind its last. At an error but `Full` nothing more follows.
-    fn put_next(&mut self, cookie: u64) -> Result<(), Refusal> {
-        let kept = self.requests.get(&cookie).filter(|kept| kept.work != Work::Stopped).ok_or(Refusal::Gone)?;
-        let (ticket, header) = (kept.ticket, kept.r2t.or_else(|| kept.data_ins.peek()));
-        let Some(header) = header else {
-            let status = kept.outcome.as_ref().map(|outcome| outcome.status).ok_or(Refusal::Gone)?;
-            return self.call(|library, tell| library.complete(ticket, status, tell)).and(Err(Refusal::Gone));
-        };
-        self.call(|library, tell| library.put_data(ticket, &header.0, tell))?;
-        if let Some(Kept { r2t, data_ins, .. }) = self.requests.get_mut(&cookie) {
-            if r2t.take().is_none() {
-                data_ins.advance();
-            }
-        }
-        Ok(())
-    }
-
-    /// What is to be written on a connection now, unless another thread writes there. `None` where there is nothing.
-    pub fn take_batch(&mut self, session: &Arc<Session>, connection: &Connection, is_writer: bool) -> Option<Batch> {
-        self.carry_out(session);
-        let attached = self.connections.get_mut(&connection.cid)?;
-        // What the socket didn't take at once is the writer's.
-        if attached.is_writing || attached.is_broken || attached.unwritten.is_some() && !is_writer {
-            return None;
-        }
-        let mut batch = attached.unwritten.take().unwrap_or_default();
-        if batch.is_empty() && std::mem::take(&mut attached.is_told) {
-            self.fill(session, connection, &mut batch);
-        }
-        let attached = self.connections.get_mut(&connection.cid).filter(|_| !batch.is_empty())?;
-        attached.is_writing = true;
-        Some(batch)
-    }
-
-    /// Takes what the library hands out for a connection. Behind the last PDU of all it is given up.
-    fn fill(&mut self, session: &Session, connection: &Connection, batch: &mut Batch) {
-        let cid = connection.cid;
-        loop {
-            match self.call(|library, tell| library.next(cid, tell)) {
-                Ok(handed) => batch.push(self.outgoing(session, connection, &handed)),
-                Err(Refusal::Nothing) if self.put(cid) => {}
-                Err(Refusal::Nothing) => return,
-                Err(Refusal::Over) if batch.is_empty() => return self.break_off(cid),
-                // As much as may be written together. There may be more behind it.
-                Err(_) => return self.change(cid, |attached| attached.is_told = true),
-            }
-        }
-    }
-
-    /// A PDU that the library hands out, with what the target puts into it.
-    fn outgoing(&mut self, session: &Session, connection: &Connection, handed: &cundarrix::Pdu) -> Outgoing {
-        let mut pdu = Pdu { header: Header(*handed.header()), data: handed.data().to_vec() };
-        let kept = handed.cookie().and_then(|cookie| self.requests.get_mut(&cookie));
-        match (handed.kind(), kept) {
-            (PduKind::Own, Some(Kept { outcome: Some(outcome), .. })) if pdu.header.opcode() == opcode::DATA_IN => {
-                return Outgoing { pdu, outcome: Some(outcome.clone()) };
-            }
-            (PduKind::Reply, Some(kept)) => {
-                session.complete_reply(&mut pdu, &mut kept.pdu, kept.outcome.as_deref(), connection.longest_data);
-            }
-            _ => {}
-        }
-        pdu.header.set_length(pdu.data.len());
-        Outgoing { pdu, outcome: None }
-    }
-
-    /// A thread has written on a connection. Whether the socket took all that it was given.
-    pub fn end_batch(&mut self, cid: u16, mut batch: Batch, written: &io::Result<usize>) -> bool {
-        while batch.take_written() {
-            let _ = self.call(|library, tell| library.written(cid, tell));
-        }
-        let is_whole = batch.is_empty();
-        self.change(cid, |attached| {
-            attached.is_writing = false;
-            if !is_whole {
-                // A socket that takes more, if slowly, is as good as an answer.
-                attached.was_heard |= !matches!(written, Ok(0));
-                attached.unwritten = Some(batch);
-                attached.wake();
-            }
-        });
-        if written.is_err() {
-            self.break_off(cid);
-        }
-        is_whole
     }
 }

@@ -1,12 +1,10 @@
 //! The trace of the workers: a line for each command that one of them took.
 
 use crate::pdu::place;
-use crate::threads::lock;
 use crate::unit::Job;
 use std::fs::File;
 use std::io::{self, Write};
 use std::path::Path;
-use std::sync::Mutex;
 use std::time::{SystemTime, UNIX_EPOCH};
 
 /// This moment, in nanoseconds since 1970, as a capture has it.
@@ -15,7 +13,7 @@ pub fn now() -> u128 {
 }
 
 /// The file of the trace, if one is wanted.
-pub struct Trace(Option<Mutex<File>>);
+pub struct Trace(Option<File>);
 
 impl Trace {
     pub fn open(path: Option<&Path>) -> io::Result<Trace> {
@@ -23,17 +21,17 @@ impl Trace {
         if let Some(mut file) = file.as_ref() {
             writeln!(file, "# ticket tag cmdsn lun start end outcome tsih")?;
         }
-        Ok(Trace(file.map(Mutex::new)))
+        Ok(Trace(file))
     }
 
-    /// Writes the line of a command. A trace that can't be written any more stops no command.
+    /// Writes the line of a command, with one call. A trace that can't be written any more stops no command.
     pub fn write(&self, job: &Job, begin: u128, end: u128, is_completed: bool) {
-        if let Some(file) = &self.0 {
+        if let Some(mut file) = self.0.as_ref() {
             let (ticket, tsih, header) = (job.ticket, job.session.tsih, &job.header);
             let (tag, cmd_sn, lun) = (header.tag(), header.number(place::CMD_SN), header.0[9]);
             let outcome = if is_completed { "completed" } else { "stopped" };
             let line = format!("{ticket} {tag:08x} {cmd_sn:08x} {lun} {begin} {end} {outcome} {tsih:04x}\n");
-            let _ = lock(file).write_all(line.as_bytes());
+            let _ = file.write_all(line.as_bytes());
         }
     }
 }

@@ -1,6 +1,6 @@
 //! The data of a command: how it comes, and the residuals.
 
-use disk::{Outcome, PART};
+use disk::Outcome;
 use target::command::{complete_response, DataIns, Transfer};
 use target::keys::Keys;
 use target::pdu::{opcode, place, Header, Pdu, FINAL};
@@ -11,12 +11,12 @@ fn write_of(length: u32, flags: u8) -> Header {
     header
 }
 
-fn data_out(tag: u32, offset: u32, data_sn: u32, flags: u8, length: usize) -> Pdu {
+fn data_out(tag: u32, offset: u32, data_sn: u32, flags: u8, data: &[u8]) -> Pdu {
     let mut header = Header::new(opcode::DATA_OUT, flags, 9);
     header.set(place::TRANSFER_TAG, tag);
     header.set(place::OFFSET, offset);
     header.set(place::DATA_SN, data_sn);
-    Pdu { header, data: vec![7; length] }
+    Pdu { header, data: data.to_vec() }
 }
 
 /// What the R2T asks for: its offset, its length and its R2TSN.
@@ -28,8 +28,7 @@ fn asked(transfer: &mut Transfer, transfer_tag: u32) -> Option<(u32, u32, u32)> 
 
 #[test]
 fn residuals_say_what_was_not_moved() {
-    let parts = |data: &[u8]| if data.is_empty() { Vec::new() } else { vec![data.to_vec()] };
-    let outcome = |length, data: &[u8]| Outcome { status: 0, sense: None, data: parts(data), length };
+    let outcome = |length, data: &[u8]| Outcome { status: 0, sense: None, data: data.to_vec(), length };
     let residual = |header: &Header, outcome: &Outcome| {
         let mut response = Pdu { header: Header::new(opcode::SCSI_RESPONSE, FINAL, 9), data: Vec::new() };
         complete_response(&mut response, header, outcome);
@@ -47,25 +46,24 @@ fn residuals_say_what_was_not_moved() {
 fn data_comes_with_the_command_and_then_as_it_is_asked_for() {
     let mut transfer = Transfer::new(&write_of(40, FINAL), vec![7; 16], 40, 16);
     assert_eq!(asked(&mut transfer, 5), Some((16, 16, 0)));
-    transfer.take(&data_out(5, 16, 0, 0, 8));
+    transfer.take(&data_out(5, 16, 0, 0, &[1; 8]));
     assert!(transfer.awaits(5) && !transfer.awaits(6));
-    transfer.take(&data_out(5, 24, 1, FINAL, 8));
+    transfer.take(&data_out(5, 24, 1, FINAL, &[2; 8]));
     assert!(!transfer.awaits(5));
     assert_eq!(asked(&mut transfer, 6), Some((32, 8, 1)));
-    transfer.take(&data_out(6, 32, 0, FINAL, 8));
+    transfer.take(&data_out(6, 32, 0, FINAL, &[3; 8]));
     assert_eq!(asked(&mut transfer, 7), None);
-    let lengths = transfer.data().map(|parts| parts.iter().map(Vec::len).collect::<Vec<_>>());
-    assert_eq!(lengths, Ok(vec![16, 16, 8]));
+    assert_eq!(transfer.data(), Ok([vec![7; 16], vec![1; 8], vec![2; 8], vec![3; 8]].concat()));
 }
 
 #[test]
 fn data_that_is_not_the_next_spoils_the_transfer() {
     for wrong in [
-        data_out(5, 4, 0, FINAL, 16),
-        data_out(5, 0, 1, FINAL, 16),
-        data_out(6, 0, 0, FINAL, 16),
-        data_out(5, 0, 0, FINAL, 20),
-        data_out(5, 0, 0, FINAL, 12),
+        data_out(5, 4, 0, FINAL, &[7; 16]),
+        data_out(5, 0, 1, FINAL, &[7; 16]),
+        data_out(6, 0, 0, FINAL, &[7; 16]),
+        data_out(5, 0, 0, FINAL, &[7; 20]),
+        data_out(5, 0, 0, FINAL, &[7; 12]),
     ] {
         let mut transfer = Transfer::new(&write_of(16, FINAL), Vec::new(), 16, 16);
         assert!(asked(&mut transfer, 5).is_some());
@@ -107,9 +105,4 @@ fn data_goes_out_in_parts_that_end_with_their_bursts() {
     // More than the initiator has room for isn't sent.
     assert_eq!(parts(50, 64, 32, 44), [(0, 32, 0, true), (32, 12, 1, true)]);
     assert_eq!(parts(0, 64, 32, 44), []);
-    // Nor does one go beyond a part of the data in memory.
-    let third = 2 * PART / 3;
-    let end = PART + 10;
-    let whole = [(0, third, 0, true), (third as u32, PART - third, 1, false), (PART as u32, 10, 2, true)];
-    assert_eq!(parts(end, 1 << 20, third as u32, end as u32), whole);
 }

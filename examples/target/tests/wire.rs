@@ -14,7 +14,7 @@ const TASK_ABORTED: u8 = 0x40;
 const ABORT_TASK: u8 = 1;
 const CLEAR_TASK_SET: u8 = 4;
 const LOGICAL_UNIT_RESET: u8 = 5;
-const DELAY: Duration = Duration::from_millis(400);
+const DELAY: Duration = Duration::from_millis(1000);
 
 /// A target with a disk whose commands take `DELAY`, and the number of that unit.
 fn slow_disk(name: &str) -> (Target, u8) {
@@ -65,20 +65,53 @@ fn a_reset_of_one_session_reaches_the_others() {
 }
 
 #[test]
-fn a_clear_task_set_is_told_to_those_whose_commands_it_cleared() {
+fn a_clear_task_set_is_of_its_own_session() {
     let (target, disk) = slow_disk("clear");
     let (mut one, mut other, mut third) = (target.log_in(1), target.log_in(2), target.log_in(3));
+    let began = Instant::now();
     other.command(1, disk, &blocks(0x2a, 1), 0, &[b'X'; BLOCK]);
+    sleep(DELAY / 2);
+    one.command(1, disk, &blocks(0x28, 1), BLOCK as u32, &[]);
     sleep(DELAY / 4);
-    one.function(1, disk, CLEAR_TASK_SET, NO_TAG);
-    assert_eq!(one.answer(1), (0, None));
-    assert_eq!(other.answer(1).0, TASK_ABORTED);
-    other.command(2, disk, &TEST_UNIT_READY, 0, &[]);
-    assert_eq!(other.answer(2), (CHECK_CONDITION, Some([6, 0x2f, 0])));
+    one.function(2, disk, CLEAR_TASK_SET, NO_TAG);
+    assert_eq!(one.answer(2), (0, None));
+    assert!(began.elapsed() >= DELAY, "it is answered once its own session's command has stopped");
+    // The other session's WRITE isn't taken out, and nobody is told of anything.
+    assert_eq!(other.answer(1), (GOOD, None));
     for initiator in [&mut one, &mut other, &mut third] {
         initiator.command(3, disk, &TEST_UNIT_READY, 0, &[]);
         assert_eq!(initiator.answer(3).0, GOOD);
     }
+    third.command(4, disk, &blocks(0x28, 1), BLOCK as u32, &[]);
+    assert_eq!(third.data(4), [b'X'; BLOCK]);
+}
+
+#[test]
+fn a_clear_task_set_waits_for_no_other_session() {
+    let (target, disk) = slow_disk("clear-alone");
+    let (mut one, mut other) = (target.log_in(1), target.log_in(2));
+    let began = Instant::now();
+    other.command(1, disk, &blocks(0x2a, 1), 0, &[b'X'; BLOCK]);
+    sleep(DELAY / 4);
+    one.function(1, disk, CLEAR_TASK_SET, NO_TAG);
+    assert_eq!(one.answer(1), (0, None));
+    assert!(began.elapsed() < DELAY, "{:?}", began.elapsed());
+    assert_eq!(other.answer(1), (GOOD, None));
+}
+
+#[test]
+fn a_clear_task_set_behind_a_reset_does_not_answer_the_reset() {
+    let (target, disk) = slow_disk("clear-behind");
+    let (mut one, mut other) = (target.log_in(1), target.log_in(2));
+    let began = Instant::now();
+    other.command(1, disk, &blocks(0x2a, 1), 0, &[b'X'; BLOCK]);
+    sleep(DELAY / 4);
+    one.function(1, disk, LOGICAL_UNIT_RESET, NO_TAG);
+    one.function(2, disk, CLEAR_TASK_SET, NO_TAG);
+    assert_eq!(one.answer(1), (0, None));
+    assert!(began.elapsed() >= DELAY, "the reset is answered once the other session's command has stopped");
+    assert_eq!(one.answer(2), (0, None));
+    assert_eq!(other.answer(1).0, TASK_ABORTED);
 }
 
 #[test]
