@@ -114,14 +114,18 @@ function column(event) {
     return found ? found.columns[(event - about.first) % about.block] : null;
 }
 
-// The bars and tasks of these events, each once.
+// The bars and tasks that stand in these events, each once.
 function marksOf(events) {
-    const bars = new Map(), tasks = new Map();
+    const bars = new Map(), tasks = new Map(), [from, to] = [events[0], events[events.length - 1]];
     for (const number of new Set(events.map(blockOf))) {
         const found = block(number);
         if (!found) continue;
-        for (const bar of found.bars) bars.set(`${bar.number} ${bar.start} ${bar.kind}`, bar);
-        for (const task of found.tasks) tasks.set(task.ticket, task);
+        for (const bar of found.bars) {
+            if (bar.start <= to && bar.end >= from) bars.set(`${bar.number} ${bar.start} ${bar.kind}`, bar);
+        }
+        for (const task of found.tasks) {
+            if (task.start <= to && (task.end === null || task.end >= from)) tasks.set(task.ticket, task);
+        }
     }
     return { bars: [...bars.values()], tasks: [...tasks.values()] };
 }

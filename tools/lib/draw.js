@@ -92,7 +92,7 @@ function steps(events, field, kind, top, row, highest, above) {
 function drawWindow(events, y, marks, labels, seen) {
     const [from, to] = [events[0], events[events.length - 1]];
     const columns = events.map(column).filter(Boolean);
-    const bars = seen.bars.filter(bar => bar.start <= to && bar.end >= from);
+    const bars = seen.bars;
     const range = numberRange(columns, bars);
     const rowsOf = range ? range[1] - range[0] + 1 : 3;
     const height = Math.min(WINDOW, MOST_ROW * Math.max(3, rowsOf)), low = y + height + 34;
@@ -143,9 +143,8 @@ function taskMarks(task, y, from, to) {
 
 function drawTasks(events, y, marks, labels, seen) {
     const [from, to] = [events[0], events[events.length - 1]];
-    const tasks = seen.tasks.filter(task => task.start <= to && (task.end === null || task.end >= from));
     for (const [unit] of about.lanes) {
-        const own = tasks.filter(task => task.unit === unit);
+        const own = seen.tasks.filter(task => task.unit === unit);
         const used = [...new Set(own.map(task => task.lane))].sort((one, other) => one - other);
         labels.push(text(10, y + 17, `unit ${unit}`, "head"), text(LEFT - 8, y + 17, "task set", "small end quiet"));
         for (const task of own) marks.push(taskMarks(task, y + 4 + used.indexOf(task.lane) * TASK, from, to));
