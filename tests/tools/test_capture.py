@@ -23,7 +23,7 @@ from lib.pdu import NO_TAG  # noqa: E402
 from lib.repairs import repair  # noqa: E402
 from lib.sessions import find  # noqa: E402
 from lib.streams import Chunk, Splitter, Stream, is_plausible  # noqa: E402
-from lib.settling import guess, in_taken_order, units_of  # noqa: E402
+from lib.settling import in_taken_order, units_of  # noqa: E402
 
 CAPTURES = os.path.join(TOP, "tests", "tools", "captures")
 HAS_TSHARK = shutil.which("tshark") is not None

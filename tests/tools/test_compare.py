@@ -13,6 +13,7 @@ from helpers import TOP, replay, run_tool
 sys.path.insert(0, os.path.join(TOP, "tools"))
 from lib.answers import read as read_answers  # noqa: E402
 from lib.differences import Comparison, Place, Replay, longest_rise  # noqa: E402
+from lib.report import read as read_report  # noqa: E402
 
 CAPTURES = os.path.join(TOP, "tests", "tools", "captures")
 OPTIONS = "--first 00000001 --window 32 --units 1 --depth 1024 --level 1"
@@ -264,7 +265,7 @@ class ByMoment(unittest.TestCase):
 
     def differences(self, *answers, moment=(1, 32)):
         """The differences of a target's answers: the kind of each, and what of it stands behind the request."""
-        replay = Replay(self.REPORT, [Place(frame, frame / 100) for frame in (10, 20, 30, 40, 50)])
+        replay = Replay(list(read_report(self.REPORT.splitlines())), [Place(frame, frame / 100) for frame in (10, 20, 30, 40, 50)])
         answers = list(read_answers(answer.replace(" 0.1 ", " 0.100000 ") for answer in answers))
         return [(one.kind, one.words.partition(": ")[2]) for one in Comparison(replay, answers, moment).differences]
 

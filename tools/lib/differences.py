@@ -5,7 +5,6 @@ from bisect import bisect_left
 from collections import Counter
 from dataclasses import dataclass
 
-from . import report
 from .answers import LOST, NAMES, kind_of, outcome_of
 from .moments import Moments, early, may_wait
 from .pdu import DATA_OUT, REJECT, SNACK, TEXT, number
@@ -67,9 +66,9 @@ def places_of(lines):
 class Replay:
     """A report of a recording with its places in the capture: the program's replies, and what became of requests."""
 
-    def __init__(self, text, places):
+    def __init__(self, events, places):
         self.places = places
-        self.events = list(report.read(text.splitlines()))
+        self.events = events
         self.requests = {}
         self.sent = []
         self.left = {}

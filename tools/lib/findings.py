@@ -11,7 +11,7 @@ MOST_STATUSES = 4
 
 def compared(recording, answers):
     """The differences between what the target answered and the program."""
-    return Comparison(Replay(recording.report, places_of(recording.lines)), list(read(answers)))
+    return Comparison(Replay(recording.events, places_of(recording.lines)), list(read(answers)))
 
 
 def findings(session, comparison):

@@ -1,6 +1,5 @@
 """From a capture to pages: for each session its recording, report, comparison and timeline, and an index with its figures."""
 
-import io
 import os
 from html import escape
 
@@ -9,7 +8,7 @@ from .answers import read
 from .files import write, writing
 from .page import Page
 from .picture import connections, paint
-from .places import events_with_places, with_places
+from .places import events_with_places
 from .statistics import Figures
 
 MOST_DIFFERENCES = 30
@@ -47,12 +46,12 @@ class Looked:
         write(f"{self.made.base}.report", self.made.recording.report)
 
     def write_timeline(self):
-        """Writes the page, and gives the figures, with one reading of the report."""
+        """Writes the page, and gives the figures."""
         made = self.made
-        frames = [place.frame for _, place in events_with_places(made.recording.lines)]
+        places = [place for _, place in events_with_places(made.recording.lines)]
+        frames = [place.frame for place in places]
         page = Page(1, None)
-        events = with_places(io.StringIO(made.recording.report), iter(made.recording.lines), made.base, keeps_lines=True)
-        figures = paint(events, page, Beside(list(read(made.answers)), frames, made.comparison), Figures)
+        figures = paint(zip(made.recording.events, places), page, Beside(list(read(made.answers)), frames, made.comparison), Figures)
         with writing(f"{made.base}.html") as file:
             page.write(file, f"{self.name}: events 1 to {page.events}", list(connections(made.recording.lines)))
         return figures

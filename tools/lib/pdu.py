@@ -1,6 +1,7 @@
 """Headers of iSCSI PDUs: their fields and names (RFC 7143 chapter 11, RFC 7144, SAM-5, SPC-4)."""
 
 from dataclasses import dataclass
+from functools import cached_property
 
 HEADER_SIZE = 48
 NO_TAG = 0xffffffff
@@ -85,7 +86,7 @@ class Request:
     """The header of a request."""
     header: bytes
 
-    @property
+    @cached_property
     def opcode(self):
         return self.header[0] & 0x3f
 
@@ -102,11 +103,11 @@ class Request:
         """The function of a task management request, or the reason of a Logout."""
         return self.header[1] & 0x7f
 
-    @property
+    @cached_property
     def unit(self):
         return unit_of(self.header[8:16])
 
-    @property
+    @cached_property
     def tag(self):
         return number(self.header, 16, 19)
 
@@ -119,7 +120,7 @@ class Request:
         """The CID that a Logout names."""
         return number(self.header, 20, 21)
 
-    @property
+    @cached_property
     def cmd_sn(self):
         return number(self.header, 24, 27)
 
@@ -131,12 +132,12 @@ class Request:
     def cdb(self):
         return self.header[32:48]
 
-    @property
+    @cached_property
     def is_numbered(self):
         """Whether it takes part in the order of CmdSNs."""
         return not self.immediate and self.opcode in (NOP_OUT, SCSI_COMMAND, TASK_MANAGEMENT, TEXT, LOGOUT)
 
-    @property
+    @cached_property
     def name(self):
         """What it asks for, as `READ(10)` or `ABORT TASK`."""
         if self.opcode == SCSI_COMMAND:
@@ -154,7 +155,7 @@ class Reply:
     header: bytes
     tail: bytes = b""
 
-    @property
+    @cached_property
     def opcode(self):
         return self.header[0] & 0x3f
 
@@ -167,32 +168,32 @@ class Reply:
     def status(self):
         return self.header[3]
 
-    @property
+    @cached_property
     def tag(self):
         return number(self.header, 16, 19)
 
-    @property
+    @cached_property
     def stat_sn(self):
         return number(self.header, 24, 27)
 
-    @property
+    @cached_property
     def exp_cmd_sn(self):
         return number(self.header, 28, 31)
 
-    @property
+    @cached_property
     def max_cmd_sn(self):
         return number(self.header, 32, 35)
 
-    @property
+    @cached_property
     def name(self):
         return REPLIES.get(self.opcode, f"opcode {self.opcode:02x}")
 
-    @property
+    @cached_property
     def ends_command(self):
         """Whether it carries the status of a command: a SCSI Response, or the last Data-In with the S bit."""
         return self.opcode == SCSI_RESPONSE or self.opcode == DATA_IN and bool(self.header[1] & 1)
 
-    @property
+    @cached_property
     def outcome(self):
         """What it says, as `GOOD` or `task does not exist`."""
         if self.ends_command:

@@ -40,7 +40,7 @@ class Options:
 
 @dataclass(frozen=True)
 class Recording:
-    """A recording that stands still: its text, its options, and what came of it."""
+    """A recording that stands still: its text, its options, and what came of it: the report, and its events with their lines."""
     options: Options
     lines: list
     completions: int
@@ -48,6 +48,7 @@ class Recording:
     outside: int
     passes: int
     report: str
+    events: list
 
 
 def run_program(recording, words):
@@ -195,11 +196,12 @@ def settle(session, steps, options):
     for passes in range(1, MOST_PASSES):
         lines = begin + list(event_lines(steps, tickets))
         text = run_program("\n".join(lines) + "\n", options.words)
-        found = tickets_of(steps, tickets, report.read(text.splitlines()))
+        events = list(report.read(text.splitlines(), keeps_lines=True))
+        found = tickets_of(steps, tickets, iter(events))
         if found == tickets:
             answers = sum(1 for item in steps if item.reply and item.reply.ends_command)
             outside = text.count("\n  ignore outside\n")
-            return Recording(options, lines, len(found), answers - len(found), outside, passes, text)
+            return Recording(options, lines, len(found), answers - len(found), outside, passes, text, events)
         tickets = found
     raise BadReplay(f"the tickets don't stand still after {MOST_PASSES} replays")
 
