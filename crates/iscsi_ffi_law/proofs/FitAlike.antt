@@ -9,13 +9,14 @@ use Rattle.iscsi_ffi_rules.specs.rules.Calls.{Arrives, Call, Cleared, Clears, Co
 use Rattle.iscsi_ffi_rules.specs.rules.Run.{after_call, is_going, is_lost, refusal_of}
 use Rattle.iscsi_ffi_rules.specs.rules.Sides.{Side, opened}
 use Rattle.iscsi_ffi_steps.specs.Steps.{Side as StepsSide, after, begun, called, ended}
+use Rattle.iscsi_outbox_law.specs.Pairs.{EachOf}
 use Rattle.iscsi_ffi_law.specs.Alike.{GoesAlike}
 use Rattle.iscsi_ffi_law.specs.Left.{Left, LeftFrom}
 use Rattle.iscsi_ffi_law.specs.Lists.{AreAlike, Meets}
-use Rattle.iscsi_ffi_law.specs.Sides.{AreFitFrom, IsCallFit, IsOpening, IsShort, IsSideFit}
+use Rattle.iscsi_ffi_law.specs.Sides.{AreFitFrom, IsCallFit, IsOfBytes, IsOpening, IsShort, IsSideFit}
 use Rattle.iscsi_ffi_law.specs.Stands.{Stands}
 use Rattle.iscsi_ffi_law.proofs.AllCalls.{goes}
-use Rattle.iscsi_ffi_law.proofs.FitAll.{all_fit}
+use Rattle.iscsi_ffi_law.proofs.FitAll.{all_fit, of_call}
 use Rattle.iscsi_ffi_law.proofs.FitFacts.{limits}
 use Rattle.iscsi_ffi_law.proofs.FitHolds.{Holds, holds_begun, holds_walk}
 use Rattle.iscsi_ffi_law.proofs.FitRoom.{free_always, free_taken, placed, room_to_tell, uses_few}
@@ -34,7 +35,7 @@ module _ (i : Interface) (opening : IsOpening i) where
           fit = record {
             before = k.before;
             heard = k.heard;
-            event = record { fit = w.fit; steps = e.steps; stale = w.stale; events = w.events; sent = w.sent; short = e.short; enabled = e.enabled; distinct = e.distinct; received = e.received };
+            event = record { fit = w.fit; steps = e.steps; stale = w.stale; events = w.events; sent = w.sent; short = e.short; enabled = e.enabled; distinct = w.distinct; received = w.received };
           };
           taken = is;
           room = free_taken i opening n s r st z h cid is;
@@ -70,14 +71,14 @@ module _ (i : Interface) (opening : IsOpening i) where
     meets (Clears unit) call left = record { fit = fit.fit; room = room_to_tell i opening n s r st z h }
     meets (Cleared unit) call left = fit.leaves (outbox.Clears unit) refl
 
-  alike_from : (n : ℕ) (s : StepsSide) (r : Side) (calls : List Call) → Stands i s r → AreSized i s.state → Holds i n r → AreFitFrom i r calls → LeftFrom i s r calls → AreAlike i s r calls
-  alike_from n s r [] st z h fit left = tt
-  alike_from n s r (c ∷ cs) st z h fit left =
+  alike_from : (n : ℕ) (s : StepsSide) (r : Side) (calls : List Call) → EachOf IsOfBytes calls → Stands i s r → AreSized i s.state → Holds i n r → AreFitFrom i r calls → LeftFrom i s r calls → AreAlike i s r calls
+  alike_from n s r [] bytes st z h fit left = tt
+  alike_from n s r (c ∷ cs) bytes st z h fit left =
       let g : GoesAlike i s r c = goes i s r c st (meets n s r st z h fit.0 c fit.1 left.0) in (
         g.answer,
         g.tells,
-        alike_from (n + 1) (after (ended (called i c s).going)) (after_call i r c).told.side cs g.stands (sized_step i s c z) (on_call i (Holds i) (holds_walk i (limits i opening).distinct) n r c h) fit.2 left.1,
+        alike_from (n + 1) (after (ended (called i c s).going)) (after_call i r c).told.side cs bytes.1 g.stands (sized_step i s c z) (on_call i (Holds i) (holds_walk i (limits i opening).distinct) n r c (of_call c bytes.0) h) fit.2 left.1,
       )
 
-pub all_alike : (i : Interface) (calls : List Call) → IsOpening i → IsShort i calls → LeftFrom i (begun i) (opened i) calls → AreAlike i (begun i) (opened i) calls
-all_alike i calls opening short left = alike_from i opening 0 (begun i) (opened i) calls (stands_begun i) (sized_begun i) (holds_begun i) (all_fit i calls opening short) left
+pub all_alike : (i : Interface) (calls : List Call) → IsOpening i → IsShort i calls → EachOf IsOfBytes calls → LeftFrom i (begun i) (opened i) calls → AreAlike i (begun i) (opened i) calls
+all_alike i calls opening short bytes left = alike_from i opening 0 (begun i) (opened i) calls bytes (stands_begun i) (sized_begun i) (holds_begun i) (all_fit i calls opening short bytes) left

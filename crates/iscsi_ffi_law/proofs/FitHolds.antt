@@ -32,8 +32,11 @@ use Rattle.iscsi_ffi_law.proofs.FitParting.{parting_closes}
 use Rattle.iscsi_ffi_law.proofs.FitPlaces.{ArePlaced, placed_call, placed_event, placed_opened}
 use Rattle.iscsi_ffi_law.proofs.FitRefusals.{link_there, taken_in}
 use Rattle.iscsi_ffi_law.proofs.FitSides.{IsGood, good_begun, good_event, good_more, good_other, none_taken}
+use Rattle.iscsi_ffi_law.proofs.FitReceived.{IsWired, wired, wired_bytes}
+use Rattle.iscsi_ffi_law.proofs.FitTurns.{IsTurned, event_turned, none_turned}
 use Rattle.iscsi_ffi_law.proofs.FitWalks.{IsSimple, SideWalk}
-use Rattle.iscsi_ffi_law.specs.Sides.{asking}
+use Rattle.iscsi_history.specs.rules.Execution.{exp_of}
+use Rattle.iscsi_ffi_law.specs.Sides.{AreBytes, asking}
 use Rattle.iscsi_ffi_law.proofs.Members.{each_in}
 
 -- ---- the events of what is answered
@@ -76,6 +79,8 @@ pub record Holds (i : Interface) (k : ℕ) (s : Side) : Type 0 where
   pub served : AreServed i.outbox s.both
   pub placed : ArePlaced s.both.box
   pub earlier : AllAre (λ (a : Arrival). a.event < s.both.event) s.both.trace
+  pub turned : IsTurned i.outbox.session s.both.trace
+  pub wires : AllAre IsWired s.both.trace
   pub asked : EachOf (λ (a : Asked). a.event < s.both.event) s.asked
   pub answers : EachOf (λ (e : ℕ). e < s.both.event) s.answers
 
@@ -86,6 +91,8 @@ holds_begun i = record {
   served = served_begun i.outbox;
   placed = placed_opened i.outbox;
   earlier = all_none (λ (a : Arrival). a.event < 0);
+  turned = none_turned i.outbox.session;
+  wires = all_none IsWired;
   asked = tt;
   answers = tt;
 }
@@ -103,9 +110,10 @@ module _ (i : Interface) where
 
   -- an event of which the request is one of those that are asked for now
   holds_event : (k : ℕ) (s : Side) (e : Event) → is_read_with_room i.outbox s.both (Happens e) ≡ true → belongs i.outbox.session e ≡ true → AreServed i.outbox (after_step i.outbox s.both (Happens e))
+      → OfEvent i.outbox.session s.both.event IsWired s.both.trace e → IsTurned i.outbox.session s.both.trace → AllAre IsWired s.both.trace
       → IsGood i.outbox k s.both → IsTogether i.outbox s.both → ArePlaced s.both.box → AllAre (λ (a : Arrival). a.event < s.both.event) s.both.trace → EachOf (λ (a : Asked). a.event < s.both.event + 1) s.asked → EachOf (λ (x : ℕ). x < s.both.event) s.answers
       → Holds i k (happening i s e).side
-  holds_event k s e read mine served good together placed earlier asked answers =
+  holds_event k s e read mine served wire turned wires good together placed earlier asked answers =
       let entry = entry_of i.outbox.session s.both.event s.both.trace e in
       let items = earlier_event s e earlier in
       record {
@@ -114,6 +122,8 @@ module _ (i : Interface) where
         served = record { served = served.served; over = served.over };
         placed = (let p = placed_event i.outbox s.both.box entry.effects entry.numbers placed in record { outs = p.outs; handed = p.handed });
         earlier = items_end i.outbox.session s.both.event (λ (a : Arrival). a.event < s.both.event + 1) s.both.trace (items_of i.outbox.session s.both.event s.both.trace e) items;
+        turned = event_turned i.outbox.session s.both.event s.both.trace e turned;
+        wires = items_end i.outbox.session s.both.event IsWired s.both.trace (items_of i.outbox.session s.both.event s.both.trace e) (event_items i.outbox.session s.both.event IsWired s.both.trace e wire wires);
         asked = asked;
         answers =
             each-append (λ (x : ℕ). x < s.both.event + 1) s.answers (flat_map (answers_in s.both.event) (items_of i.outbox.session s.both.event s.both.trace e))
@@ -129,6 +139,8 @@ module _ (i : Interface) where
     served = served_other i.outbox s.both c (none_taken i.outbox c is) over h.served;
     placed = placed_call i.outbox s.both.box c is h.placed;
     earlier = h.earlier;
+    turned = h.turned;
+    wires = h.wires;
     asked = h.asked;
     answers = h.answers;
   }
@@ -187,13 +199,14 @@ module _ (i : Interface) where
     pub holds_heard : (k : ℕ) (s : Side) (cid : ℕ) (header : List ℕ) → Holds i k s → Holds i (k + 1) (heard_in i s cid header)
     holds_heard k s cid header h = holds_simple k s (outbox.Hears cid (word_at 28 header) (tag_heard header)) tt h
 
-    pub holds_arrival : (k : ℕ) (s : Side) (cid : ℕ) (header : List ℕ) (cookie : ℕ) → refusal_of i s cid ≡ None → Holds i k s → Holds i (k + 1) (happening i (asking (heard_in i s cid header) cookie) (Arrive cid header)).side
-    holds_arrival k s cid header cookie is h =
+    pub holds_arrival : (k : ℕ) (s : Side) (cid : ℕ) (header : List ℕ) (cookie : ℕ) → refusal_of i s cid ≡ None → AreBytes header → Holds i k s → Holds i (k + 1) (happening i (asking (heard_in i s cid header) cookie) (Arrive cid header)).side
+    holds_arrival k s cid header cookie is bytes h =
         let t = taken_in i s cid is in
         let g = holds_heard k s cid header h in
         let s' : Side = heard_in i s cid header in
         let joined = joined_other i.outbox s.both.box (outbox.Hears cid (word_at 28 header) (tag_heard header)) cid tt (joined_there s cid t.joined) in
-        holds_event (k + 1) (asking s' cookie) (Arrive cid header) (arrival_read k s cid header is h) t.known (served_event i.outbox s'.both (Arrive cid header) (inl joined) g.served) g.good g.together g.placed g.earlier
+        holds_event (k + 1) (asking s' cookie) (Arrive cid header) (arrival_read k s cid header is h) t.known (served_event i.outbox s'.both (Arrive cid header) (inl joined) g.served)
+        (wired s'.both.event (exp_of i.outbox.session s'.both.trace) cid header (wired_bytes cid header bytes)) g.turned g.wires g.good g.together g.placed g.earlier
         (each-append (λ (a : Asked). a.event < s'.both.event + 1) s'.asked (record { event = s'.both.event; cookie = cookie } ∷ []) (each-weaken (λ (a : Asked). a.event < s'.both.event) (λ (a : Asked). a.event < s'.both.event + 1) s'.asked (λ a lt. omega (arith, lt)) g.asked) (omega arith, tt))
         g.answers
 
@@ -207,6 +220,7 @@ module _ (i : Interface) where
         let s' : Side = other i s (outbox.Loses cid) in
         let closes = parting_closes i.outbox.session s.both.event s.both.trace cid known unclosed in
         holds_event (k + 1) s' (Arrive cid (parting cid)) (loss_read k s cid known kept) known (served_lost i.outbox s.both cid (Arrive cid (parting cid)) closes (inr closes) h.served)
+        (wired s'.both.event (exp_of i.outbox.session s'.both.trace) cid (parting cid) (omega arith)) h.turned h.wires
         (good_other i.outbox k s.both (outbox.Loses cid) refl h.good) (together_other i.outbox s.both (outbox.Loses cid) tt h.together) (placed_call i.outbox s.both.box (outbox.Loses cid) refl h.placed) h.earlier
         (each-weaken (λ (a : Asked). a.event < s.both.event) (λ (a : Asked). a.event < s.both.event + 1) s.asked (λ a lt. omega (arith, lt)) h.asked) h.answers
 
@@ -214,18 +228,18 @@ module _ (i : Interface) where
 
     pub holds_done : (k : ℕ) (s : Side) (ticket status : ℕ) → Holds i k s → Holds i k (happening i s (Done ticket status)).side
     holds_done k s ticket status h =
-        holds_event k s (Done ticket status) refl refl (served_event i.outbox s.both (Done ticket status) tt h.served) h.good h.together h.placed h.earlier
+        holds_event k s (Done ticket status) refl refl (served_event i.outbox s.both (Done ticket status) tt h.served) tt h.turned h.wires h.good h.together h.placed h.earlier
         (each-weaken (λ (a : Asked). a.event < s.both.event) (λ (a : Asked). a.event < s.both.event + 1) s.asked (λ a lt. omega (arith, lt)) h.asked) h.answers
 
-    pub holds_walk : SideWalk i (Holds i)
+    pub holds_walk : SideWalk i AreBytes (Holds i)
     holds_walk = record {
       completes = λ k s ticket status c is h. holds_done k s ticket status h;
       arrives = holds_arrival;
       loses = holds_loss;
       loses_closed = λ k s cid known kept closed h. holds_other k s (outbox.Loses cid) refl (lost_closed i.outbox s.both.box s.both.trace s.both.trace cid (λ c x. x) closed h.served.over) h;
       calls = holds_simple;
-      clears = λ k s unit h. record { good = h.good; together = h.together; served = h.served; placed = h.placed; earlier = h.earlier; asked = h.asked; answers = h.answers };
-      forgets = λ k s p h. record { good = h.good; together = h.together; served = h.served; placed = h.placed; earlier = h.earlier; asked = each-filter (λ (a : Asked). a.event < s.both.event) p s.asked h.asked; answers = h.answers };
-      beside = λ k s noted awake over h. record { good = h.good; together = h.together; served = h.served; placed = h.placed; earlier = h.earlier; asked = h.asked; answers = h.answers };
-      more = λ k s h. record { good = good_more i.outbox k (k + 1) s.both (omega arith) h.good; together = h.together; served = h.served; placed = h.placed; earlier = h.earlier; asked = h.asked; answers = h.answers };
+      clears = λ k s unit h. record { good = h.good; together = h.together; served = h.served; placed = h.placed; earlier = h.earlier; turned = h.turned; wires = h.wires; asked = h.asked; answers = h.answers };
+      forgets = λ k s p h. record { good = h.good; together = h.together; served = h.served; placed = h.placed; earlier = h.earlier; turned = h.turned; wires = h.wires; asked = each-filter (λ (a : Asked). a.event < s.both.event) p s.asked h.asked; answers = h.answers };
+      beside = λ k s noted awake over h. record { good = h.good; together = h.together; served = h.served; placed = h.placed; earlier = h.earlier; turned = h.turned; wires = h.wires; asked = h.asked; answers = h.answers };
+      more = λ k s h. record { good = good_more i.outbox k (k + 1) s.both (omega arith) h.good; together = h.together; served = h.served; placed = h.placed; earlier = h.earlier; turned = h.turned; wires = h.wires; asked = h.asked; answers = h.answers };
     }

@@ -113,5 +113,8 @@ mod FitSized
 mod FitUsed
 mod FitFree
 mod FitRoom
+mod FitMarks
+mod FitTurns
+mod FitReceived
 mod FitAll
 mod FitAlike

@@ -2,7 +2,7 @@
 use Rattle.std.specs.Prelude.{◌≡◌, ◌<◌, ◌≤◌, ◌+◌, ◌*◌, ◌⊎◌, ℕ, true, false, List, [], ◌∷◌, length, None, is_some}
 use Rattle.std.specs.List.{filter_map}
 use Rattle.iscsi_history.specs.rules.Settings.{is_known}
-use Rattle.iscsi_history.specs.rules.Trace.{Admits, Mark, is_closed}
+use Rattle.iscsi_history.specs.rules.Trace.{is_closed}
 use Rattle.iscsi_outbox_rules.specs.promises.Room.{places}
 use Rattle.iscsi_outbox_rules.specs.rules.Items.{ticket_enabled}
 use Rattle.iscsi_requests.specs.Cookies.{next_place}
@@ -11,7 +11,7 @@ use Rattle.iscsi_ffi_rules.specs.rules.Calls.{Arrives, Call, Interface, Loses, P
 use Rattle.iscsi_ffi_rules.specs.rules.Run.{after_call, heard_in, is_lost, refusal_of}
 use Rattle.iscsi_ffi_rules.specs.rules.Sides.{Side}
 use Rattle.iscsi_ffi_steps.specs.Steps.{Side as StepsSide, after, called, ended}
-use Rattle.iscsi_ffi_law.specs.Arrived.{AreDistinct, AreStepsFit, IsPlainArrival, IsReceivable, arrived, effects_then, items_then}
+use Rattle.iscsi_ffi_law.specs.Arrived.{AreStepsFit, IsPlainArrival, effects_then, items_then}
 use Rattle.iscsi_ffi_law.specs.Lists.{Goes}
 
 -- the table of the numbers that are held isn't much longer than the window: so it is with each window that is a power of two
@@ -23,8 +23,6 @@ pub record IsEventLeft (i : Interface) (r : Side) (cid : ℕ) (header : List ℕ
   pub steps : AreStepsFit i r (items_then i r cid header)
   pub short : length (items_then i r cid header) ≤ places i.outbox
   pub enabled : length (filter_map ticket_enabled (effects_then i r cid header)) ≤ places i.outbox
-  pub distinct : AreDistinct r.both.trace
-  pub received : (rest : List (List Mark)) → items_then i r cid header ≡ (Admits (arrived i r cid header) ∷ []) ∷ rest → IsReceivable i.outbox.session r.both.trace (arrived i r cid header)
 
 -- a request that is taken is plain, or goes alike; a connection that is lost and isn't closed goes alike
 abbrev pub Left : Interface → StepsSide → Side → Call → Type 0
