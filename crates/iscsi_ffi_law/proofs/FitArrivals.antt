@@ -46,6 +46,7 @@ all_weaken Q R t f h = record {
 
 -- of the request that an item of this form takes, or that executes in it
 abbrev pub OfForm : (Arrival → Type 0) → Form → Type 0
+OfForm Q (Rejected a) = Q a
 OfForm Q (Received a) = Q a
 OfForm Q (Postponed a) = Q a
 OfForm Q (Executed start a d) = Q a
@@ -235,7 +236,7 @@ module _ (o : Setting) (now : ℕ) (Q : Arrival → Type 0) where
       where
         by_kind : (k : Kind) → Items t (arrival_as o t a k)
         by_kind PassedOver = ignored_items t Data h
-        by_kind Unknown = items_one t _ h (record { has = record { form = Rejected a; is = refl; formed = tt }; of = tt })
+        by_kind Unknown = items_one t _ h (record { has = record { form = Rejected a; is = refl; formed = tt }; of = q })
         by_kind ExecutesKind =
             elim (is_immediate a.request) as (λ b. Items t (cond b (with_turns o t (immediate_item o t a)) (numbered o t a))) [
               | true ↦ turns_items t (immediate_item o t a) h immediate_now

@@ -172,7 +172,7 @@ module _ (i : Interface) where
 
   -- ---- a request
 
-  joined_there : (s : Side) (cid : ℕ) → is_joined s cid ≡ true → has_joined s.both.box.links cid ≡ true
+  pub joined_there : (s : Side) (cid : ℕ) → is_joined s cid ≡ true → has_joined s.both.box.links cid ≡ true
   joined_there s cid is = by_links s.both.box.links is
     where
       by_links : (links : List Link) → elim (first_of (filter (λ (l : Link). l.conn == cid) links)) [ Some l ↦ is_open l | None ↦ false ] ≡ true → has_joined links cid ≡ true

@@ -116,5 +116,7 @@ mod FitRoom
 mod FitMarks
 mod FitTurns
 mod FitReceived
+mod FitItems
+mod FitEvents
 mod FitAll
 mod FitAlike

@@ -1,26 +1,44 @@
 -- What is still premised of each call of a list, where the options are within their limits and the list isn't too long.
-use Rattle.std.specs.Prelude.{◌≡◌, ◌<◌, ◌≤◌, ◌+◌, ◌*◌, ◌⊎◌, ℕ, true, false, List, [], ◌∷◌, length, None, is_some}
+use Rattle.std.specs.Prelude.{◌≡◌, ◌<◌, ◌≤◌, ◌+◌, ◌*◌, ◌==◌, ◌⊎◌, ℕ, true, false, List, [], ◌∷◌, length, Some, None, is_some}
 use Rattle.std.specs.List.{filter_map}
+use Rattle.iscsi_wire.specs.declared.reply.Reply.{Reply}
 use Rattle.iscsi_history.specs.rules.Settings.{is_known}
-use Rattle.iscsi_history.specs.rules.Trace.{is_closed}
+use Rattle.iscsi_history.specs.rules.Trace.{Command, Mark, entered, enters, first_of, is_closed}
 use Rattle.iscsi_outbox_rules.specs.promises.Room.{places}
-use Rattle.iscsi_outbox_rules.specs.rules.Items.{ticket_enabled}
+use Rattle.iscsi_outbox_rules.specs.rules.Items.{reply_sent, ticket_enabled}
+use Rattle.iscsi_outbox_rules.specs.rules.Words.{contains, replies_waiting}
+use Rattle.iscsi_outbox_law.specs.Pairs.{EachOf}
 use Rattle.iscsi_requests.specs.Cookies.{next_place}
 use Rattle.iscsi_requests.specs.Numbers.{size_for}
 use Rattle.iscsi_ffi_rules.specs.rules.Calls.{Arrives, Call, Interface, Loses, Puts}
 use Rattle.iscsi_ffi_rules.specs.rules.Run.{after_call, heard_in, is_lost, refusal_of}
 use Rattle.iscsi_ffi_rules.specs.rules.Sides.{Side}
 use Rattle.iscsi_ffi_steps.specs.Steps.{Side as StepsSide, after, called, ended}
-use Rattle.iscsi_ffi_law.specs.Arrived.{AreStepsFit, IsPlainArrival, effects_then, items_then}
+use Rattle.iscsi_ffi_law.specs.Arrived.{IsPlainArrival, effects_by, effects_then, items_then, side_behind}
 use Rattle.iscsi_ffi_law.specs.Lists.{Goes}
 
 -- the table of the numbers that are held isn't much longer than the window: so it is with each window that is a power of two
 abbrev pub IsSpare : Interface → Type 0
 IsSpare i = size_for i.outbox.session.window < i.outbox.session.window + 8 * length i.outbox.session.conns
 
--- what is still premised of the event in which a header arrives
+-- what is still premised of a command that enters
+pub record IsFreshLeft (r : Side) (c : Command) : Type 0 where
+  pub untold : contains r.told c.ticket ≡ false
+  pub unmarked : contains r.marked c.ticket ≡ false
+  pub unarrived : EachOf (λ (d : Command). (d.arrival.event == c.arrival.event) ≡ false) (entered r.both.trace)
+
+-- .. of an item by which a reply goes out, or a command enters
+pub record IsStepLeft (i : Interface) (r : Side) (item : List Mark) : Type 0 where
+  pub replies : (conn : ℕ) (reply : Reply) → first_of (filter_map reply_sent (effects_by i r item)) ≡ Some (conn, reply) → replies_waiting r.both.box < places i.outbox
+  pub enters : (c : Command) → filter_map enters item ≡ c ∷ [] → IsFreshLeft r c
+
+abbrev pub AreStepsLeft : Interface → Side → List (List Mark) → Type 0
+AreStepsLeft i r [] = Unit {0}
+AreStepsLeft i r (item ∷ items) = IsStepLeft i r item × AreStepsLeft i (side_behind i r item) items
+
+-- .. and of the event in which a header arrives
 pub record IsEventLeft (i : Interface) (r : Side) (cid : ℕ) (header : List ℕ) : Type 0 where
-  pub steps : AreStepsFit i r (items_then i r cid header)
+  pub steps : AreStepsLeft i r (items_then i r cid header)
   pub short : length (items_then i r cid header) ≤ places i.outbox
   pub enabled : length (filter_map ticket_enabled (effects_then i r cid header)) ≤ places i.outbox
 
