@@ -77,7 +77,7 @@ module _ (i : Interface) (opening : IsOpening i) (n : ℕ) (r : Side) (cid : ℕ
       (by_parts (SoundItems i.outbox) (λ ps x. x.1.1) (sound_event i.outbox (limits i opening).distinct s.both e (arrival_read i (limits i opening).distinct n r cid header is h) g.good.reached))
       (by_parts (AreItemsFit i.outbox) (λ ps x. x.1) w.items)
       (record { closed = g.together.closed; homes = g.together.homes; cuts = g.together.cuts; over = g.served.over; handed = g.placed.handed })
-      (λ c k. k) (λ c k. k) (let few = as_few parts.lead in omega (arith, few, same, sends, sent, early)) left
+      (λ c k. k) (λ c k. k) (let few = as_few parts.lead in omega (arith, few, same, sends, sent, early)) g.told g.marked left
     where
       as_few : (v : Bool) → all_sends each ≤ all_sends (cond v ([] ∷ each) each)
       as_few true = omega arith

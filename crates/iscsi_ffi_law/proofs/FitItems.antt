@@ -1,5 +1,5 @@
 -- Each item of an event by which a header arrives: the box holds together before it, and a reply goes out on a connection that takes it.
-use Rattle.std.proofs.Common.{◌≡◌, ℕ, ◌+◌, ◌-◌, ◌^◌, ◌<◌, ◌==◌, ◌&&◌, ◌||◌, not, nat_lt, Bool, true, false, List, [], ◌∷◌, ◌++◌, map, filter_map, length, count_by, Option, Some, None, refl, ap, sym, subst, ◌∙◌, ◌⊎◌, ⊎_elim, arith, eq-eqb}
+use Rattle.std.proofs.Common.{◌≤◌, ◌≡◌, ℕ, ◌+◌, ◌-◌, ◌^◌, ◌<◌, ◌==◌, ◌&&◌, ◌||◌, not, nat_lt, Bool, true, false, List, [], ◌∷◌, ◌++◌, map, filter_map, length, count_by, Option, Some, None, refl, ap, sym, subst, ◌∙◌, ◌⊎◌, ⊎_elim, arith, eq-eqb}
 use Rattle.std.specs.List.{flat_map, list_any}
 use Rattle.std.proofs.lemmas.Bool.{false≢true}
 use Rattle.std.proofs.lemmas.List.Folds.{list_any-append}
@@ -32,7 +32,7 @@ use Rattle.iscsi_ffi_rules.specs.rules.Calls.{Interface}
 use Rattle.iscsi_ffi_rules.specs.rules.Sides.{Side}
 use Rattle.iscsi_ffi_rules.proofs.Leavings.{has_ticket, none_with}
 use Rattle.iscsi_ffi_law.specs.Arrived.{AreStepsFit, IsFreshCommand, side_behind}
-use Rattle.iscsi_ffi_law.specs.Left.{AreStepsLeft, IsFreshLeft}
+use Rattle.iscsi_ffi_law.specs.Left.{AreStepsLeft}
 use Rattle.iscsi_ffi_law.specs.Sides.{AreItemsFit}
 use Rattle.iscsi_ffi_law.proofs.FitArrivals.{AllAre, IsItemOf, Items, OfForm}
 use Rattle.iscsi_ffi_law.proofs.FitClosed.{AsIn, closed_item}
@@ -42,6 +42,8 @@ use Rattle.iscsi_ffi_law.proofs.FitJoined.{IsOver, JoinsOn, SameLost, has_joined
 use Rattle.iscsi_ffi_law.proofs.FitLinks.{moved_each, moved_item}
 use Rattle.iscsi_ffi_law.proofs.FitLives.{SameHomes, home_of_command, home_of_task, homes_item}
 use Rattle.iscsi_ffi_law.proofs.FitNumbers.{all_sends, item_sent}
+use Rattle.iscsi_ffi_law.proofs.FitOnce.{AreTickets, entered_more, none_beyond, unarrived}
+use Rattle.iscsi_outbox_law.proofs.PairLemmas.{each-weaken}
 use Rattle.iscsi_ffi_law.proofs.FitParting.{closed_on}
 use Rattle.iscsi_ffi_law.proofs.FitPlaces.{AreHanded, handed_more, still_handed}
 use Rattle.iscsi_ffi_law.proofs.FitSides.{Stays, stays_close}
@@ -167,18 +169,18 @@ module _ (i : Interface) where
         handed = handed_more b.sent b'.sent (let more = item_sent i.outbox b es in omega (arith, more)) b'.links (still_handed b.sent b.links b'.links (moved_item i.outbox Stays stays_close b es) m.handed);
       }
 
-  fresh : (r : Side) (item : List Mark) (c : Command) (m : ℕ) → HaveForms i.outbox.session m r.both.trace → (at : ℕ) → HasForm i.outbox.session at r.both.trace item → Mid r.both.trace r.both.box → filter_map enters item ≡ c ∷ [] → IsFreshLeft r c → IsFreshCommand r c
-  fresh r item c m forms at f mid is left =
+  fresh : (r : Side) (item : List Mark) (c : Command) (m then : ℕ) → HaveForms i.outbox.session m r.both.trace → (at : ℕ) → HasForm i.outbox.session at r.both.trace item → Mid r.both.trace r.both.box → AreTickets r.both.trace r.told → AreTickets r.both.trace r.marked → HaveForms i.outbox.session then (item ∷ r.both.trace) → filter_map enters item ≡ c ∷ [] → IsFreshCommand r c
+  fresh r item c m then forms at f mid told marked forms' is =
       let t : Trace = r.both.trace in
       let next : c.ticket ≡ length (entered t) + 1 = by_entering (entering_in f.form) (sym (enters_form f.form) ∙ ap (filter_map enters) (sym f.is) ∙ is) (entering_next i.outbox.session at t f.form f.formed) in
       let none : is_among c.ticket (entered t) ≡ false = beyond_entered i.outbox.session t m forms c.ticket (omega (arith, next)) in
       record {
         unentered = none;
         unleft = unleft i.outbox.session t m forms c.ticket none;
-        untold = left.untold;
-        unmarked = left.unmarked;
+        untold = none_beyond (length (entered t)) c.ticket r.told (omega (arith, next)) told;
+        unmarked = none_beyond (length (entered t)) c.ticket r.marked (omega (arith, next)) marked;
         idle = unrun t r.both.box c.ticket mid.homes none;
-        unarrived = left.unarrived;
+        unarrived = unarrived i.outbox.session item t then forms' c is;
       }
     where
       by_entering : (x : Option Command) → to_list x ≡ c ∷ [] → Each (EntersNext i.outbox.session r.both.trace f.form) x → c.ticket ≡ length (entered r.both.trace) + 1
@@ -209,27 +211,30 @@ module _ (i : Interface) where
     pub steps_fit : (items : List (List Mark)) (r : Side) (next : ℕ) → HaveForms i.outbox.session next (after_items items r.both.trace) → Sounds i.outbox.session (after_items items r.both.trace) → Items i.outbox.session now Q r.both.trace items
         → SoundItems i.outbox r.both.box (effects_each i.outbox.session r.both.trace items) → AreItemsFit i.outbox r.both.box (effects_each i.outbox.session r.both.trace items) → Mid r.both.trace r.both.box
         → ((c : ℕ) → joined c ≡ true → has_joined r.both.box.links c ≡ true) → ((c : ℕ) → closed c ≡ true → is_closed c r.both.trace ≡ true)
-        → r.both.box.sent + all_sends (effects_each i.outbox.session r.both.trace items) < 2 ^ 64 - 1 → AreStepsLeft i r items → AreStepsFit i r items
-    steps_fit [] r next forms sounds of sound fits mid joins closes sent left = sound
-    steps_fit (item ∷ items) r next forms sounds of sound fits mid joins closes sent left =
+        → r.both.box.sent + all_sends (effects_each i.outbox.session r.both.trace items) < 2 ^ 64 - 1 → AreTickets r.both.trace r.told → AreTickets r.both.trace r.marked → AreStepsLeft i r items → AreStepsFit i r items
+    steps_fit [] r next forms sounds of sound fits mid joins closes sent told marked left = sound
+    steps_fit (item ∷ items) r next forms sounds of sound fits mid joins closes sent told marked left =
         let t : Trace = r.both.trace in
         let b : Box = r.both.box in
         let es : List Effect = effects_of_item i.outbox.session t item in
         let f = first_form i.outbox items item t next forms in
         let below = forms_below i.outbox (item ∷ items) t next forms in
+        let behind = forms_below i.outbox items (item ∷ t) next forms in
+        let grown = entered_more item t in
+        let still : (ks : List ℕ) → AreTickets t ks → AreTickets (item ∷ t) ks = λ ks h. each-weaken (λ (k : ℕ). k ≤ length (entered t)) (λ (k : ℕ). k ≤ length (entered (item ∷ t))) ks (λ k le. omega (arith, le, grown)) h in
         let more = item_sent i.outbox b es in (
           record {
             fit = fits.0;
             sends = λ conn reply is. record {
               takes = takes_reply t b item mid (sound_below items (item ∷ t) sounds).0 of.0 of.1 joins closes conn reply is;
               sent = omega (arith, sent);
-              replies = left.0.replies conn reply is;
+              replies = left.0 conn reply is;
               handed = mid.handed;
             };
-            enters = λ c is. fresh r item c below.0 below.1 f.0 f.1 mid is (left.0.enters c is);
+            enters = λ c is. fresh r item c below.0 behind.0 below.1 f.0 f.1 mid told marked behind.1 is;
           },
           steps_fit items (side_behind i r item) next forms sounds of.2 sound.1.1 fits.1 (mid_item f.0 t b item f.1 mid) (λ c k. joined_moved c b.links (after_item i.outbox b es).links (moved_item i.outbox JoinsOn joins_close b es) (joins c k))
-              (λ c k. closed_on c (item ∷ []) t (closes c k)) (omega (arith, sent, more)) left.1,
+              (λ c k. closed_on c (item ∷ []) t (closes c k)) (omega (arith, sent, more)) (still r.told told) (still r.marked marked) left.1,
         )
       where
         sound_below : (later : List (List Mark)) (u : Trace) → Sounds i.outbox.session (after_items later u) → Sounds i.outbox.session u

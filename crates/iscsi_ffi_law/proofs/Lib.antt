@@ -116,6 +116,7 @@ mod FitRoom
 mod FitMarks
 mod FitTurns
 mod FitReceived
+mod FitOnce
 mod FitItems
 mod FitEvents
 mod FitAll

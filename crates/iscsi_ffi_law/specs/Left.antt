@@ -1,13 +1,12 @@
 -- What is still premised of each call of a list, where the options are within their limits and the list isn't too long.
-use Rattle.std.specs.Prelude.{◌≡◌, ◌<◌, ◌≤◌, ◌+◌, ◌*◌, ◌==◌, ◌⊎◌, ℕ, true, false, List, [], ◌∷◌, length, Some, None, is_some}
+use Rattle.std.specs.Prelude.{◌≡◌, ◌<◌, ◌≤◌, ◌+◌, ◌*◌, ◌⊎◌, ℕ, true, false, List, [], ◌∷◌, length, Some, None, is_some}
 use Rattle.std.specs.List.{filter_map}
 use Rattle.iscsi_wire.specs.declared.reply.Reply.{Reply}
 use Rattle.iscsi_history.specs.rules.Settings.{is_known}
-use Rattle.iscsi_history.specs.rules.Trace.{Command, Mark, entered, enters, first_of, is_closed}
+use Rattle.iscsi_history.specs.rules.Trace.{Mark, first_of, is_closed}
 use Rattle.iscsi_outbox_rules.specs.promises.Room.{places}
 use Rattle.iscsi_outbox_rules.specs.rules.Items.{reply_sent, ticket_enabled}
-use Rattle.iscsi_outbox_rules.specs.rules.Words.{contains, replies_waiting}
-use Rattle.iscsi_outbox_law.specs.Pairs.{EachOf}
+use Rattle.iscsi_outbox_rules.specs.rules.Words.{replies_waiting}
 use Rattle.iscsi_requests.specs.Cookies.{next_place}
 use Rattle.iscsi_requests.specs.Numbers.{size_for}
 use Rattle.iscsi_ffi_rules.specs.rules.Calls.{Arrives, Call, Interface, Loses, Puts}
@@ -21,22 +20,15 @@ use Rattle.iscsi_ffi_law.specs.Lists.{Goes}
 abbrev pub IsSpare : Interface → Type 0
 IsSpare i = size_for i.outbox.session.window < i.outbox.session.window + 8 * length i.outbox.session.conns
 
--- what is still premised of a command that enters
-pub record IsFreshLeft (r : Side) (c : Command) : Type 0 where
-  pub untold : contains r.told c.ticket ≡ false
-  pub unmarked : contains r.marked c.ticket ≡ false
-  pub unarrived : EachOf (λ (d : Command). (d.arrival.event == c.arrival.event) ≡ false) (entered r.both.trace)
-
--- .. of an item by which a reply goes out, or a command enters
-pub record IsStepLeft (i : Interface) (r : Side) (item : List Mark) : Type 0 where
-  pub replies : (conn : ℕ) (reply : Reply) → first_of (filter_map reply_sent (effects_by i r item)) ≡ Some (conn, reply) → replies_waiting r.both.box < places i.outbox
-  pub enters : (c : Command) → filter_map enters item ≡ c ∷ [] → IsFreshLeft r c
+-- a reply goes out in an item: there is a place for it
+abbrev pub IsStepLeft : Interface → Side → List Mark → Type 0
+IsStepLeft i r item = (conn : ℕ) (reply : Reply) → first_of (filter_map reply_sent (effects_by i r item)) ≡ Some (conn, reply) → replies_waiting r.both.box < places i.outbox
 
 abbrev pub AreStepsLeft : Interface → Side → List (List Mark) → Type 0
 AreStepsLeft i r [] = Unit {0}
 AreStepsLeft i r (item ∷ items) = IsStepLeft i r item × AreStepsLeft i (side_behind i r item) items
 
--- .. and of the event in which a header arrives
+-- what is still premised of the event in which a header arrives
 pub record IsEventLeft (i : Interface) (r : Side) (cid : ℕ) (header : List ℕ) : Type 0 where
   pub steps : AreStepsLeft i r (items_then i r cid header)
   pub short : length (items_then i r cid header) ≤ places i.outbox
