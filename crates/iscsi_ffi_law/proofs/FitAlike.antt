@@ -24,7 +24,7 @@ use Rattle.iscsi_ffi_law.proofs.FitAll.{all_fit, of_call}
 use Rattle.iscsi_ffi_law.proofs.FitFacts.{limits}
 use Rattle.iscsi_ffi_law.proofs.FitEvents.{taken_steps}
 use Rattle.iscsi_ffi_law.proofs.FitHolds.{Holds, holds_begun, holds_walk}
-use Rattle.iscsi_ffi_law.proofs.FitRoom.{free_always, free_taken, placed, room_to_tell, uses_few}
+use Rattle.iscsi_ffi_law.proofs.FitRoom.{free, placed, room_to_tell, uses_few}
 use Rattle.iscsi_ffi_law.proofs.FitSized.{AreSized, sized_begun, sized_step}
 use Rattle.iscsi_ffi_law.proofs.FitWalks.{later_walk, no_fewer_then, on_call, on_withholding}
 use Rattle.iscsi_ffi_law.proofs.Opened.{stands_begun}
@@ -53,7 +53,7 @@ module _ (i : Interface) (opening : IsOpening i) where
             event = record { fit = w.fit; steps = taken_steps i opening n r cid header is h early w e.steps; stale = w.stale; events = w.events; sent = w.sent; short = e.short; enabled = e.enabled; distinct = w.distinct; received = w.received };
           };
           taken = is;
-          room = free_taken i opening n s r st z h cid is;
+          room = free i opening n s r st z h;
           placed = placed i opening n s r st z h;
           plain = x.1;
         })))
@@ -78,7 +78,7 @@ module _ (i : Interface) (opening : IsOpening i) where
     meets (Completes ticket status) few call left = meets_completed ticket status call (is_going r ticket) refl
     meets (Stops ticket) few call left = meets_stopped ticket call (is_going r ticket && contains r.marked ticket) refl
     meets (Nexts cid) few call left = (fit.leaves (outbox.Nexts cid) refl, uses_few i opening n s r st z h, fit.sent)
-    meets (Puts p cookie) few call left = (fit.leaves (outbox.Puts p) refl, fit.orderly, ⊎_elim (λ spare. free_always i opening n s r st z h spare) (λ free. free) left)
+    meets (Puts p cookie) few call left = (fit.leaves (outbox.Puts p) refl, fit.orderly, free i opening n s r st z h)
     meets (Writes cid) few call left = fit.leaves (outbox.Writes cid) refl
     meets (Hears cid exp_stat_sn tag) few call left = fit.leaves (outbox.Hears cid exp_stat_sn tag) refl
     meets (Joins cid stat_sn) few call left = fit.leaves (outbox.Joins cid stat_sn) refl

@@ -220,11 +220,11 @@ module _ (o : Setting) (t : Trace) (next : ℕ) (forms : HaveForms o next t) (tu
         near = (let z : distance (wire (exp_of o t)) (cmd_sn a.request) < size_for o.window = omega (arith, same, is, low, high, size, window) in z);
       }
 
-  record IsNear (n : ℕ) : Type 0 where
+  pub record IsNear (n : ℕ) : Type 0 where
     pub low : exp_of o t ≤ n
     pub high : n < exp_of o t + o.window
 
-  near_held : (n : ℕ) (b : Arrival) → held t n ≡ Some b → IsNear n
+  pub near_held : (n : ℕ) (b : Arrival) → held t n ≡ Some b → IsNear n
   near_held n b is = record {
     low = ⊎_elim (λ below. absurd (let gone : None ≡ Some b = sym (turned.turned n below) ∙ is in cc)) (λ le. omega (arith, le)) (cases_lt n (exp_of o t));
     high = ((clear_of o t sounds).range n b (admitted_of_held t n b is)).1;

@@ -112,6 +112,7 @@ mod FitSizes
 mod FitSized
 mod FitUsed
 mod FitFree
+mod FitHeld
 mod FitRoom
 mod FitMarks
 mod FitTurns

@@ -1,5 +1,5 @@
 -- What is still premised of each call of a list, where the options are within their limits and the list isn't too long.
-use Rattle.std.specs.Prelude.{◌≡◌, ◌<◌, ◌≤◌, ◌+◌, ◌*◌, ◌⊎◌, ℕ, true, false, List, [], ◌∷◌, length, Some, None, is_some}
+use Rattle.std.specs.Prelude.{◌≡◌, ◌<◌, ◌≤◌, ◌⊎◌, ℕ, true, false, List, [], ◌∷◌, length, Some, None}
 use Rattle.std.specs.List.{filter_map}
 use Rattle.iscsi_wire.specs.declared.reply.Reply.{Reply}
 use Rattle.iscsi_history.specs.rules.Settings.{is_known}
@@ -7,18 +7,12 @@ use Rattle.iscsi_history.specs.rules.Trace.{Mark, first_of, is_closed}
 use Rattle.iscsi_outbox_rules.specs.promises.Room.{places}
 use Rattle.iscsi_outbox_rules.specs.rules.Items.{reply_sent, ticket_enabled}
 use Rattle.iscsi_outbox_rules.specs.rules.Words.{replies_waiting}
-use Rattle.iscsi_requests.specs.Cookies.{next_place}
-use Rattle.iscsi_requests.specs.Numbers.{size_for}
-use Rattle.iscsi_ffi_rules.specs.rules.Calls.{Arrives, Call, Interface, Loses, Puts}
+use Rattle.iscsi_ffi_rules.specs.rules.Calls.{Arrives, Call, Interface, Loses}
 use Rattle.iscsi_ffi_rules.specs.rules.Run.{after_call, heard_in, is_lost, refusal_of}
 use Rattle.iscsi_ffi_rules.specs.rules.Sides.{Side}
 use Rattle.iscsi_ffi_steps.specs.Steps.{Side as StepsSide, after, called, ended}
 use Rattle.iscsi_ffi_law.specs.Arrived.{IsPlainArrival, effects_by, effects_then, items_then, side_behind}
 use Rattle.iscsi_ffi_law.specs.Lists.{Goes}
-
--- the table of the numbers that are held isn't much longer than the window: so it is with each window that is a power of two
-abbrev pub IsSpare : Interface → Type 0
-IsSpare i = size_for i.outbox.session.window < i.outbox.session.window + 8 * length i.outbox.session.conns
 
 -- a reply goes out in an item: there is a place for it
 abbrev pub IsStepLeft : Interface → Side → List Mark → Type 0
@@ -38,7 +32,6 @@ pub record IsEventLeft (i : Interface) (r : Side) (cid : ℕ) (header : List ℕ
 abbrev pub Left : Interface → StepsSide → Side → Call → Type 0
 Left i s r (Arrives cid header cookie) =
     refusal_of i r cid ≡ None → (IsEventLeft i (heard_in i r cid header) cid header × IsPlainArrival i (heard_in i r cid header) cid header) ⊎ Goes i s r (Arrives cid header cookie)
-Left i s r (Puts p cookie) = IsSpare i ⊎ (is_some (next_place s.state.cookies) ≡ true)
 Left i s r (Loses cid) = is_known cid i.outbox.session.conns ≡ true → is_lost r cid ≡ false → is_closed cid r.both.trace ≡ false → Goes i s r (Loses cid)
 Left i s r _ = Unit {0}
 
