@@ -61,7 +61,7 @@ module _ (i : Interface) (s : StepsSide) (r : Side) (h : Stands i s r) (d : Rule
       ∙ ap (λ (x : Going). withholding i (length x.doing.state.commands.items) x) (happens_to i h.names h.notes s.state r d status f h.flags a.regular [] held room)
 
   all_end : EndsAlike i (withholding i (length s2.commands.items) (going_at s2 r2 acts2)) (withholding_there i (length (live r2.both.trace)) (record { side = r2; actions = acts2 })).side (withholding_there i (length (live r2.both.trace)) (record { side = r2; actions = acts2 })).actions
-  all_end = chain i h.names h.notes a.fit.fit.distinct (length (live r2.both.trace)) (length s2.commands.items) s2 r2 acts2 (mid_then i h.names h.notes s.state r d status f h.flags a.regular [] held room h.slots) (omega arith)
+  all_end = chain i h.names h.notes a.fit.fit.distinct (length (live r2.both.trace)) (length s2.commands.items) s2 r2 acts2 (mid_then i h.names h.notes s.state r d status f h.flags a.regular [] held room h.slots h.functions) (omega arith)
       (as_many i h.names h.notes s.state r d status f h.flags a.regular [] held room) (subst (λ (w : Told). AreDoneFit i (length (live w.side.both.trace)) w) told_is a.withheld)
 
   pub done_goes : GoesTo i (done (happens i None (Done d.ticket status) (going s))) (rules.done (happens_there i r (Done d.ticket status)))

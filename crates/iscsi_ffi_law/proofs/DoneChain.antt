@@ -166,7 +166,7 @@ module _ (i : Interface) (names : List Name) (notes : List Note) (distinct : are
         let less = fewer_live i names notes s0 r c (status_there r c) f flags mid.regular acts held mid.room in
         subst (λ (w : Told). EndsAlike i (withholding i (suc m) (going_at s r acts)) w.side w.actions) (sym rules_step)
         (subst (λ (g : Going). EndsAlike i g (withholding_there i n (record { side = r2; actions = acts2 })).side (withholding_there i n (record { side = r2; actions = acts2 })).actions) (sym steps_are)
-        (later m s2 r2 acts2 (mid_then i names notes s0 r c (status_there r c) f flags mid.regular acts held mid.room mid.slots) (omega (arith, less, few)) (omega (arith, less, enough))
+        (later m s2 r2 acts2 (mid_then i names notes s0 r c (status_there r c) f flags mid.regular acts held mid.room mid.slots mid.functions) (omega (arith, less, few)) (omega (arith, less, enough))
         (subst (λ (h : Told). AreDoneFit i n (record { side = h.side; actions = acts ++ h.actions })) told_is both_fits.1)))
 
   chain_more : (n : ℕ) → ChainsFrom n → ChainsFrom (suc n)

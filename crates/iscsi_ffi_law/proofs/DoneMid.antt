@@ -4,7 +4,7 @@ use Rattle.std.proofs.lemmas.Bool.{eq-eqb, not-true, or_left}
 use Rattle.std.proofs.lemmas.List.{length-map}
 use Rattle.iscsi_history.specs.declared.event.Event.TheVariants.{Done}
 use Rattle.iscsi_history.specs.rules.Settings.{are_distinct}
-use Rattle.iscsi_history.specs.rules.Trace.{Command as RulesCommand, entered, first_of, has, leaves_ticket, live, was_free}
+use Rattle.iscsi_history.specs.rules.Trace.{Command as RulesCommand, entered, first_of, has, leaves_ticket, live, waiting, was_free}
 use Rattle.iscsi_history.proofs.BoolLemmas.{or_none}
 use Rattle.iscsi_history.proofs.CountLemmas.{count-lost}
 use Rattle.iscsi_history.proofs.ListLemmas.{filter-shorter}
@@ -30,7 +30,7 @@ use Rattle.iscsi_ffi_steps.specs.Walk.{Doing}
 use Rattle.iscsi_ffi_law.specs.Done.{IsRegular}
 use Rattle.iscsi_ffi_law.specs.Names.{Name, Note}
 use Rattle.iscsi_requests.specs.Numbers.{size_for}
-use Rattle.iscsi_ffi_law.specs.Parts.{AreHeld, IsCommand, IsConn, IsNote, IsRequest, is_named}
+use Rattle.iscsi_ffi_law.specs.Parts.{AreFunctions, AreHeld, IsCommand, IsConn, IsNote, IsRequest, is_named}
 use Rattle.iscsi_ffi_law.specs.Stands.{AreCounts, AreFlags, AreRequests, AreSizes}
 use Rattle.iscsi_ffi_law.proofs.Between.{held_same}
 use Rattle.iscsi_ffi_law.proofs.Slots.{slots_same}
@@ -60,6 +60,7 @@ pub record IsMid (i : Interface) (names : List Name) (notes : List Note) (s : St
   pub counts : AreCounts i s r
   pub regular : IsRegular i r
   pub slots : AreHeld (size_for i.outbox.session.window) s.commands.room names s.held r.both.trace
+  pub functions : AreFunctions (cids i) names s.functions (waiting r.both.trace)
   pub held : s.withheld ≡ tickets_of (held_of r)
   pub room : length acts + count_by (λ (c : RulesCommand). not (was_free c r.both.trace)) (live r.both.trace) ≤ places i.outbox
   pub sound : IsSound i.outbox r.both.box
@@ -153,8 +154,9 @@ module _ (i : Interface) (names : List Name) (notes : List Note) (s : State) (r 
       (ap not (lives_now i names notes s r d status f)) in
       omega (arith, after, same, before, lost)
 
-  pub mid_then : AreHeld (size_for i.outbox.session.window) s.commands.room names s.held r.both.trace → IsMid i names notes state_then (side_after i names notes s r d status f) acts_then
-  mid_then slots = record {
+  pub mid_then : AreHeld (size_for i.outbox.session.window) s.commands.room names s.held r.both.trace → AreFunctions (cids i) names s.functions (waiting r.both.trace) → IsMid i names notes state_then (side_after i names notes s r d status f) acts_then
+  mid_then slots functions = record {
+    functions = functions;
     slots = slots_same (size_for i.outbox.session.window) s.commands.room names s.held r.both.trace (done_trace r.both.trace d status) (held_same r.both.trace (done_item d status) (record { admits = refl; admits_none = λ n. refl; delivers = λ n. refl; empties = λ n. refl })) slots;
     requests = requests_done i names notes s r d status f (r.told ++ tickets_of (starting_of (done_side i names notes s r d status f) (news i.outbox.session r.both.trace d status)))
         (all_inserted (tickets_of (withheld_of (done_side i names notes s r d status f) (news i.outbox.session r.both.trace d status))) s.withheld) k.items k.have;
@@ -206,6 +208,7 @@ mid_ends i names notes s r acts m distinct none = record {
       requests = m.requests;
       counts = m.counts;
       slots = m.slots;
+      functions = m.functions;
       withheld = m.held ∙ ap tickets_of none;
       calm = ap first_of none;
     }

@@ -45,26 +45,26 @@ use Rattle.iscsi_ffi_law.proofs.Staging.{HaveCommands}
 use Rattle.iscsi_ffi_law.proofs.Starting.{Starts, all_inserted, starting_of}
 
 -- nothing stops where nothing leaves
-none_leaving : (now : ℕ) (ms : List Mark) → list_all (is_plain now) ms ≡ true → filter_map leaving ms ≡ []
-none_leaving now [] h = refl
-none_leaving now (Admits a ∷ ms) h = none_leaving now ms h
-none_leaving now (Delivers a ∷ ms) h = none_leaving now ms h
-none_leaving now (Executes a ∷ ms) h = none_leaving now ms (and_parts (a.event == now) (list_all (is_plain now) ms) h).1
-none_leaving now (Voids n ∷ ms) h = none_leaving now ms h
-none_leaving now (Empties a ∷ ms) h = none_leaving now ms (and_parts false (list_all (is_plain now) ms) h).1
-none_leaving now (Waits a ∷ ms) h = none_leaving now ms (and_parts false (list_all (is_plain now) ms) h).1
-none_leaving now (Leaves c ∷ ms) h = absurd (false≢true h)
-none_leaving now (Enters c ∷ ms) h = none_leaving now ms h
-none_leaving now (Sends conn reply ∷ ms) h = none_leaving now ms h
-none_leaving now (ClosesConn conn ∷ ms) h = none_leaving now ms (and_parts false (list_all (is_plain now) ms) h).1
-none_leaving now (ClosesSession ∷ ms) h = none_leaving now ms (and_parts false (list_all (is_plain now) ms) h).1
-none_leaving now (Ignores why ∷ ms) h = none_leaving now ms h
+none_leaving : (ms : List Mark) → list_all is_plain ms ≡ true → filter_map leaving ms ≡ []
+none_leaving [] h = refl
+none_leaving (Admits a ∷ ms) h = none_leaving ms h
+none_leaving (Delivers a ∷ ms) h = none_leaving ms h
+none_leaving (Executes a ∷ ms) h = none_leaving ms h
+none_leaving (Voids n ∷ ms) h = none_leaving ms h
+none_leaving (Empties a ∷ ms) h = none_leaving ms (and_parts false (list_all is_plain ms) h).1
+none_leaving (Waits a ∷ ms) h = none_leaving ms h
+none_leaving (Leaves c ∷ ms) h = absurd (false≢true h)
+none_leaving (Enters c ∷ ms) h = none_leaving ms h
+none_leaving (Sends conn reply ∷ ms) h = none_leaving ms h
+none_leaving (ClosesConn conn ∷ ms) h = none_leaving ms (and_parts false (list_all is_plain ms) h).1
+none_leaving (ClosesSession ∷ ms) h = none_leaving ms (and_parts false (list_all is_plain ms) h).1
+none_leaving (Ignores why ∷ ms) h = none_leaving ms h
 
-none_stop : (r : Side) (now : ℕ) (xs : List (List Mark)) → list_all (list_all (is_plain now)) xs ≡ true → flat_map (stops_in r) xs ≡ []
-none_stop r now [] h = refl
-none_stop r now (item ∷ xs) h =
-    let p = and_parts (list_all (is_plain now) item) (list_all (list_all (is_plain now)) xs) h in
-    ap (λ ys. ys ++ flat_map (stops_in r) xs) (stops_none r item (none_leaving now item p.0)) ∙ none_stop r now xs p.1
+none_stop : (r : Side) (xs : List (List Mark)) → list_all (list_all is_plain) xs ≡ true → flat_map (stops_in r) xs ≡ []
+none_stop r [] h = refl
+none_stop r (item ∷ xs) h =
+    let p = and_parts (list_all is_plain item) (list_all (list_all is_plain) xs) h in
+    ap (λ ys. ys ++ flat_map (stops_in r) xs) (stops_none r item (none_leaving item p.0)) ∙ none_stop r xs p.1
 
 module _ (i : Interface) (names : List Name) (notes : List Note) (s : State) (r : Side) (own : Option ℕ) (e : Event) (fit : IsEventOf i r e) (k : OutboxStands i.outbox s.outbox r.both.box)
     (go : AllGo i names notes (record s { outbox = outbox_first i r e (parts i r e).lead s.outbox }) r own [] (items_of i.outbox.session r.both.event r.both.trace e))
@@ -124,7 +124,7 @@ module _ (i : Interface) (names : List Name) (notes : List Note) (s : State) (r 
       ap (λ ks. by_started (filter (λ x. not (is_withheld two x)) (filter_map (live_with t2) ks))) (all_enabled i.outbox.session r.both.trace marks)
       ∙ ap (λ xs. by_started (filter (λ x. not (is_withheld two x)) xs)) (all_found news found_live)
       ∙ ap by_started started_all
-      ∙ ap (λ (xs : List Action). record { side = side3; actions = (xs ++ resets i names notes s r own e fit k go) ++ map (start_there two) news }) (none_stop r r.both.event marks fit.plain)
+      ∙ ap (λ (xs : List Action). record { side = side3; actions = (xs ++ resets i names notes s r own e fit k go) ++ map (start_there two) news }) (none_stop r marks fit.plain)
     where
       by_started : List RulesCommand → Told
       by_started xs = record { side = record two { told = r.told ++ map (λ (x : RulesCommand). x.ticket) xs }; actions = (flat_map (stops_in r) marks ++ resets i names notes s r own e fit k go) ++ map (start_there two) xs }
@@ -191,6 +191,7 @@ module _ (i : Interface) (names : List Name) (notes : List Note) (s : State) (r 
     requests = plain_pending;
     counts = record { units = b.counts.units; last = b.counts.last; tracked = tracked' i names notes s r own e fit k go };
     slots = b.slots;
+    functions = b.functions;
     withheld = b.withheld;
     calm = sym (ap (λ (w : Told). next_withheld w.side) rules_are) ∙ still;
   }
