@@ -106,6 +106,8 @@ module _ (i : Interface) (names : List Name) (notes : List Note) (s : State) (r 
     enabled = f.fit.enabled;
     plain = p.plain;
     prompt = prompt;
+    few = f.fit.few;
+    regular = f.fit.regular;
     alone = alone;
     behind = last_sound i (items_then i r cid header) r f.fit.steps;
   }
@@ -114,7 +116,7 @@ module _ (i : Interface) (names : List Name) (notes : List Note) (s : State) (r 
   not_held : is_held_first request (effects_of i.outbox.session r.both.trace (items_then i r cid header)) ≡ false → list_all admits_alone (items_then i r cid header) ≡ true → starts_late r.both.event (items_then i r cid header) ≡ false → AllGo i names notes s0 r (Some place) [] (items_then i r cid header) → ArrivesTo
   not_held isnt alone prompt go =
       subst (λ v. GoesTo i (done (cond v (happens i None e (changed (hold request place) begins)) (happens i (Some place) e begins))) (rules.done (happens_there i r e))) (sym isnt)
-      (event_goes i names notes s r (Some place) e (event_of alone prompt) f.outbox go p.started p.calm)
+      (event_goes i names notes s r (Some place) e (event_of alone prompt) f.outbox go p.held p.withheld)
 
   over : (why : Why) → items_then i r cid header ≡ (Ignores why ∷ []) ∷ [] → ArrivesTo
   over why is =
@@ -168,7 +170,7 @@ module _ (i : Interface) (names : List Name) (notes : List Note) (s : State) (r 
         (sym (ap (λ ms. is_held_first request (effects_of i.outbox.session r.both.trace ms)) is ∙ held_first))
         (event_goes i names notes held_state r None e (event_of (ap (list_all admits_alone) is ∙ due_alone i rest ((Admits a ∷ []) ∷ r.both.trace) due) (ap (starts_late r.both.event) is)) f.outbox
         (subst (AllGo i names notes (record held_state { outbox = outbox_first i r e lead s.outbox }) r None []) (sym is)
-        (received_go i names notes f.fit.fit.distinct s0 r place first a refl f.before.admitted f.before.waiting new (f.fit.received rest is) steps.0 (behind_first rest steps.1) rest due (f.fit.prompt rest is) plain_rest steps.1)) p.started p.calm)
+        (received_go i names notes f.fit.fit.distinct s0 r place first a refl f.before.admitted f.before.waiting new (f.fit.received rest is) steps.0 (behind_first rest steps.1) rest due (f.fit.prompt rest is) plain_rest steps.1)) p.held p.withheld)
 
   postponed : (rest : List (List Mark)) → is_immediate a.request ≡ true → items_then i r cid header ≡ (Waits a ∷ []) ∷ rest → EachOn (IsDue i.outbox.session) ((Waits a ∷ []) ∷ r.both.trace) rest → ArrivesTo
   postponed rest immediate is due =

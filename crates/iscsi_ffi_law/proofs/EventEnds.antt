@@ -9,7 +9,7 @@ use Rattle.iscsi_history.specs.declared.event.Event.{Event}
 use Rattle.iscsi_history.specs.promises.Order.{in_parts}
 use Rattle.iscsi_history.specs.rules.Agenda.{items_of}
 use Rattle.iscsi_history.specs.rules.Run.{effects_of, numbers_of}
-use Rattle.iscsi_history.specs.rules.Trace.{Command as RulesCommand, Mark, Trace, after_items, entered, has, leaves_ticket, was_free}
+use Rattle.iscsi_history.specs.rules.Trace.{Command as RulesCommand, Mark, Trace, after_items, entered, has, leaves_ticket, live, was_free}
 use Rattle.iscsi_history.proofs.ElementLemmas.{In}
 use Rattle.iscsi_outbox_rules.specs.promises.Room.{places}
 use Rattle.iscsi_outbox_rules.specs.rules.Boxes.{Box, Task}
@@ -30,7 +30,7 @@ use Rattle.iscsi_ffi_commands.specs.declared.command.Command.{Command}
 use Rattle.iscsi_ffi_commands.specs.Commands.{is_live}
 use Rattle.iscsi_ffi_rules.specs.declared.action.Action.{Action}
 use Rattle.iscsi_ffi_rules.specs.rules.Calls.{Interface}
-use Rattle.iscsi_ffi_rules.specs.rules.Happening.{answers_in, resets_in as resets_there}
+use Rattle.iscsi_ffi_rules.specs.rules.Happening.{answers_in, resets_in as resets_there, stepped}
 use Rattle.iscsi_ffi_rules.specs.rules.Needs.{left_to_write}
 use Rattle.iscsi_ffi_rules.specs.rules.Run.{cids}
 use Rattle.iscsi_ffi_rules.specs.rules.Sides.{Side}
@@ -38,6 +38,7 @@ use Rattle.iscsi_ffi_steps.specs.State.{State}
 use Rattle.iscsi_ffi_steps.specs.Steps.{reset_in, resets_in, start_each, takes, walk_from}
 use Rattle.iscsi_ffi_steps.specs.Walk.{Doing, Walk, in_state, on_effects, sweep, tell_all, touched_by}
 use Rattle.iscsi_ffi_law.specs.Arrived.{is_plain, starts_late}
+use Rattle.iscsi_ffi_law.specs.Done.{IsRegular}
 use Rattle.iscsi_ffi_law.specs.Fit.{IsFit}
 use Rattle.iscsi_ffi_law.specs.Names.{Name, Note}
 use Rattle.iscsi_ffi_law.specs.Parts.{IsAbout, IsCommand, IsConn, IsNote, IsRequest, is_named}
@@ -106,6 +107,8 @@ pub record IsEventOf (i : Interface) (r : Side) (e : Event) : Type 0 where
   pub enabled : length (filter_map ticket_enabled (effects_of i.outbox.session r.both.trace (items_of i.outbox.session r.both.event r.both.trace e))) ≤ places i.outbox
   pub plain : list_all (list_all is_plain) (items_of i.outbox.session r.both.event r.both.trace e) ≡ true
   pub prompt : starts_late r.both.event (items_of i.outbox.session r.both.event r.both.trace e) ≡ false
+  pub few : length (live (stepped i r e).both.trace) ≤ places i.outbox
+  pub regular : IsRegular i (stepped i r e)
   pub alone : list_all admits_alone (items_of i.outbox.session r.both.event r.both.trace e) ≡ true
   pub behind : IsSound i.outbox (side_after i r (items_of i.outbox.session r.both.event r.both.trace e)).both.box
 

@@ -87,6 +87,7 @@ mod Doing
 mod Ascending
 mod DoneCounts
 mod DoneHeld
+mod DoneAfter
 mod DoneMid
 mod DoneChain
 mod DoneCalls

@@ -1,5 +1,5 @@
 -- What is premised of a request that is taken: of the rules' side alone.
-use Rattle.std.specs.Prelude.{◌≡◌, ◌<◌, ◌≤◌, ◌+◌, ◌-◌, ◌^◌, ◌==◌, ◌&&◌, ◌||◌, not, ℕ, Bool, true, false, count_by, length, Some, None, List, [], ◌∷◌, ◌++◌}
+use Rattle.std.specs.Prelude.{◌≡◌, ◌<◌, ◌≤◌, ◌+◌, ◌-◌, ◌^◌, ◌==◌, ◌&&◌, ◌||◌, not, ℕ, Bool, true, false, count_by, filter, length, Some, List, [], ◌∷◌, ◌++◌}
 use Rattle.std.specs.List.{filter_map, find, list_all, list_any}
 use Rattle.iscsi_wire.specs.declared.reply.Reply.{Reply}
 use Rattle.iscsi_wire.specs.Fields.{cmd_sn, connection_of, request_of}
@@ -12,7 +12,7 @@ use Rattle.iscsi_history.specs.rules.Management.{MOST_WAITING, waiting_on}
 use Rattle.iscsi_history.specs.rules.Settings.{Setting, is_known}
 use Rattle.iscsi_requests.specs.Numbers.{IsInWindow, size_for}
 use Rattle.iscsi_history.specs.rules.Run.{effects_of_item, entry_of}
-use Rattle.iscsi_history.specs.rules.Trace.{Admits, Arrival, ClosesConn, ClosesSession, Command, Empties, Executes, Leaves, Mark, Trace, Waits, enters, entered, first_of, has, held, is_among, is_delivered, is_emptied, leaves_ticket, shown, waiting}
+use Rattle.iscsi_history.specs.rules.Trace.{Admits, Arrival, ClosesConn, ClosesSession, Command, Empties, Executes, Leaves, Mark, Trace, Waits, enters, entered, first_of, has, held, is_among, is_delivered, is_emptied, leaves_ticket, live, shown, waiting, was_free}
 use Rattle.iscsi_outbox_rules.specs.promises.Room.{Fits, places}
 use Rattle.iscsi_outbox_rules.specs.rules.Boxes.{Box, Handed, Link}
 use Rattle.iscsi_outbox_rules.specs.rules.Calls as outbox
@@ -24,12 +24,13 @@ use Rattle.iscsi_outbox_rules.specs.rules.Words.{contains, is_running, replies_w
 use Rattle.iscsi_outbox_law.specs.Pairs.{EachOf}
 use Rattle.iscsi_outbox_law.specs.Sound.{IsItemSound, IsSound, NoneIsFresh}
 use Rattle.iscsi_ffi_rules.specs.rules.Calls.{Interface}
-use Rattle.iscsi_ffi_rules.specs.rules.Clearing.{is_withheld, next_withheld}
+use Rattle.iscsi_ffi_rules.specs.rules.Clearing.{is_withheld}
 use Rattle.iscsi_ffi_rules.specs.rules.Happening.{answers_in, happening, live_with, stepped}
 use Rattle.iscsi_ffi_rules.specs.rules.Needs.{admitted_by}
 use Rattle.iscsi_ffi_rules.specs.rules.Run.{heard_in, tag_heard, word_at}
 use Rattle.iscsi_ffi_rules.specs.rules.Sides.{Asked, Side}
 use Rattle.iscsi_ffi_steps.specs.State.{State}
+use Rattle.iscsi_ffi_law.specs.Done.{AreDoneFit, IsRegular}
 use Rattle.iscsi_ffi_law.specs.Fit.{IsFit}
 use Rattle.iscsi_ffi_law.specs.Parts.{IsBefore}
 
@@ -134,6 +135,8 @@ pub record IsEventFit (i : Interface) (r : Side) (cid : ℕ) (header : List ℕ)
   pub sent : r.both.box.sent < 2 ^ 64 - 1
   pub short : length (items_of i.outbox.session r.both.event r.both.trace (Arrive cid header)) ≤ places i.outbox
   pub enabled : length (filter_map ticket_enabled (effects_then i r cid header)) ≤ places i.outbox
+  pub few : length (live (stepped i r (Arrive cid header)).both.trace) ≤ places i.outbox
+  pub regular : IsRegular i (stepped i r (Arrive cid header))
   pub known : is_known cid i.outbox.session.conns ≡ true
   pub distinct : AreDistinct r.both.trace
   pub received : (rest : List (List Mark)) → items_of i.outbox.session r.both.event r.both.trace (Arrive cid header) ≡ (Admits (arrived i r cid header) ∷ []) ∷ rest → IsReceivable i.outbox.session r.both.trace (arrived i r cid header)
@@ -165,11 +168,15 @@ are_plain items = list_all (list_all is_plain) items
 abbrev pub enabled_then : Interface → Side → ℕ → List ℕ → List Command
 enabled_then i r cid header = filter_map (live_with (stepped i r (Arrive cid header)).both.trace) (filter_map ticket_enabled (effects_then i r cid header))
 
--- its items are plain, and no command is withheld then
+-- the commands that are enabled, and weren't told to start
+abbrev pub withheld_in : Side → List Command
+withheld_in r = filter (λ (c : Command). was_free c r.both.trace && not (contains r.told c.ticket)) (live r.both.trace)
+
+-- its items are plain; those that it enables and that are withheld complete behind it, one after the other
 pub record IsPlainArrival (i : Interface) (r : Side) (cid : ℕ) (header : List ℕ) : Type 0 where
   pub plain : are_plain (items_then i r cid header) ≡ true
-  pub started : list_any (is_withheld (stepped i r (Arrive cid header))) (enabled_then i r cid header) ≡ false
-  pub calm : next_withheld (happening i r (Arrive cid header)).side ≡ None
+  pub held : withheld_in (happening i r (Arrive cid header)).side ≡ filter (is_withheld (stepped i r (Arrive cid header))) (enabled_then i r cid header)
+  pub withheld : let w = happening i r (Arrive cid header) in AreDoneFit i (length (live w.side.both.trace)) w
 
 -- the place of its request is one of those that there are
 pub record IsPlaced (s : State) (place : ℕ) : Type 0 where
