@@ -1,5 +1,5 @@
 -- A request arrives that has a place: both go on alike.
-use Rattle.std.proofs.Common.{◌≡◌, ℕ, ◌+◌, not, cond, Bool, true, false, List, [], ◌∷◌, ◌++◌, Some, None, refl, ap, sym, subst, ◌∙◌, arith}
+use Rattle.std.proofs.Common.{◌≡◌, ℕ, ◌+◌, ◌<◌, not, cond, Bool, true, false, List, [], ◌∷◌, ◌++◌, Some, None, refl, ap, sym, subst, ◌∙◌, arith}
 use Rattle.std.specs.List.{list_all}
 use Rattle.std.proofs.lemmas.Bool.{and_from, eq-eqb}
 use Rattle.iscsi_wire.specs.Fields.{connection_of, header_of, is_immediate, request_of}
@@ -9,6 +9,7 @@ use Rattle.iscsi_history.specs.declared.effect.Why.{Why}
 use Rattle.iscsi_history.specs.declared.event.Event.{Event}
 use Rattle.iscsi_history.specs.declared.event.Event.TheVariants.{Arrive}
 use Rattle.iscsi_history.specs.rules.Execution.{rejected}
+use Rattle.iscsi_history.specs.rules.Management.{MOST_WAITING, waiting_on}
 use Rattle.iscsi_history.specs.rules.Run.{effects_of, effects_of_item}
 use Rattle.iscsi_history.specs.rules.Trace.{Admits, Arrival, Executes, Ignores, Mark, Trace, Waits, is_received}
 use Rattle.iscsi_history.proofs.BoolLemmas.{and_parts}
@@ -172,11 +173,11 @@ module _ (i : Interface) (names : List Name) (notes : List Note) (s : State) (r 
         (subst (AllGo i names notes (record held_state { outbox = outbox_first i r e lead s.outbox }) r None []) (sym is)
         (received_go i names notes f.fit.fit.distinct s0 r place first a refl f.before.admitted f.before.waiting new (f.fit.received rest is) steps.0 (behind_first rest steps.1) rest due (f.fit.prompt rest is) plain_rest steps.1)) p.held p.withheld)
 
-  postponed : (rest : List (List Mark)) → is_immediate a.request ≡ true → items_then i r cid header ≡ (Waits a ∷ []) ∷ rest → EachOn (IsDue i.outbox.session) ((Waits a ∷ []) ∷ r.both.trace) rest → ArrivesTo
-  postponed rest immediate is due =
+  postponed : (rest : List (List Mark)) → is_immediate a.request ≡ true → waiting_on (connection_of a.request) r.both.trace < MOST_WAITING → items_then i r cid header ≡ (Waits a ∷ []) ∷ rest → EachOn (IsDue i.outbox.session) ((Waits a ∷ []) ∷ r.both.trace) rest → ArrivesTo
+  postponed rest immediate few is due =
       not_held (ap (λ ms. is_held_first request (effects_of i.outbox.session r.both.trace ms)) is ∙ ap not immediate) (ap (list_all admits_alone) is ∙ due_alone i rest ((Waits a ∷ []) ∷ r.both.trace) due) (ap (starts_late r.both.event) is)
       (subst (AllGo i names notes s0 r (Some place) []) (sym is)
-      (postponed_go i names notes f.fit.fit.distinct s0 r place first a refl f.before.admitted f.before.waiting f.fit.known f.fit.waits (f.fit.one_waits rest is) rest due
+      (postponed_go i names notes f.fit.fit.distinct s0 r place first a refl f.before.admitted f.before.waiting f.fit.known f.fit.waits few rest due
       (and_parts (list_all is_plain (Waits a ∷ [])) (list_all (list_all is_plain) rest) (subst (λ ms. list_all (list_all is_plain) ms ≡ true) is p.plain)).1 (subst (AreStepsFit i r) is f.fit.steps)))
 
   pub arrives_to : ArrivesTo
@@ -187,4 +188,4 @@ module _ (i : Interface) (names : List Name) (notes : List Note) (s : State) (r 
       by_becomes (IsRejected is) = rejects is
       by_becomes (IsReceived rest numbered new is due) = holds rest numbered new is due
       by_becomes (IsExecuted d rest immediate does is due) = executes d rest immediate does is due
-      by_becomes (IsPostponed rest immediate is due) = postponed rest immediate is due
+      by_becomes (IsPostponed rest immediate few is due) = postponed rest immediate few is due

@@ -103,7 +103,7 @@ module _ (i : Interface) (s : StepsSide) (r : Side) (h : Stands i s r) (cid : �
         withheld = h.withheld;
         calm = h.calm;
         before = record { asked = tt; answers = fit.before.answers; entered = fit.before.entered; admitted = fit.before.admitted; waiting = fit.before.waiting };
-        fit = record { fit = fit.event.fit; steps = steps_asked i (r.asked ++ record { event = r.both.event; cookie = cookie } ∷ []) (items_then i (heard_in i r cid header) cid header) (heard_in i r cid header) fit.event.steps; stale = fit.event.stale; events = fit.event.events; sent = fit.event.sent; short = fit.event.short; enabled = fit.event.enabled; few = fit.event.few; regular = record { ascending = fit.event.regular.ascending; units = fit.event.regular.units }; known = fit.event.known; distinct = fit.event.distinct; received = fit.event.received; prompt = fit.event.prompt; waits = fit.event.waits; one_waits = fit.event.one_waits };
+        fit = record { fit = fit.event.fit; steps = steps_asked i (r.asked ++ record { event = r.both.event; cookie = cookie } ∷ []) (items_then i (heard_in i r cid header) cid header) (heard_in i r cid header) fit.event.steps; stale = fit.event.stale; events = fit.event.events; sent = fit.event.sent; short = fit.event.short; enabled = fit.event.enabled; few = fit.event.few; regular = record { ascending = fit.event.regular.ascending; units = fit.event.regular.units }; known = fit.event.known; distinct = fit.event.distinct; received = fit.event.received; prompt = fit.event.prompt; waits = fit.event.waits };
       }
     where
       last_in : (ns : List Name) (n : Name) → In n (ns ++ n ∷ [])
