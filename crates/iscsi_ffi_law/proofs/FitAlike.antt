@@ -1,17 +1,20 @@
 -- The calls of a list go alike, by what holds of both sides.
-use Rattle.std.proofs.Common.{◌≤◌, ◌^◌, length, ap, arith, ◌≡◌, ℕ, ◌+◌, ◌&&◌, inl, inr, ⊎_elim, Bool, true, false, List, [], ◌∷◌, Option, Some, None, refl}
+use Rattle.std.proofs.Common.{zero, suc, ◌++◌, ◌≤◌, ◌^◌, length, ap, arith, ◌≡◌, ℕ, ◌+◌, ◌&&◌, inl, inr, ⊎_elim, Bool, true, false, List, [], ◌∷◌, Option, Some, None, refl}
 use Rattle.iscsi_history.specs.rules.Settings.{is_known}
-use Rattle.iscsi_history.specs.rules.Trace.{is_closed}
+use Rattle.iscsi_history.specs.rules.Trace.{Command, is_closed}
 use Rattle.iscsi_outbox_rules.specs.rules.Calls as outbox
 use Rattle.iscsi_outbox_rules.specs.rules.Words.{contains}
 use Rattle.iscsi_ffi_rules.specs.declared.refusal.Refusal.{Refusal}
-use Rattle.iscsi_history.specs.declared.event.Event.TheVariants.{Arrive}
+use Rattle.iscsi_history.specs.declared.event.Event.TheVariants.{Arrive, Done}
 use Rattle.iscsi_history.specs.rules.Trace.{live}
 use Rattle.iscsi_ffi_rules.specs.promises.Deeds.{side_after}
 use Rattle.iscsi_ffi_rules.specs.rules.Happening.{Told, happening, happens}
 use Rattle.iscsi_ffi_rules.specs.rules.Calls.{Arrives, Call, Cleared, Clears, Completes, Hears, Interface, Joins, Loses, Nexts, Puts, Stops, Writes}
 use Rattle.iscsi_ffi_rules.specs.rules.Run.{Answered, Refused, after_call, answers, done, heard_in, is_going, is_lost, refusal_of}
-use Rattle.iscsi_ffi_rules.specs.rules.Sides.{Side, opened}
+use Rattle.iscsi_ffi_rules.specs.declared.action.Action.{Action}
+use Rattle.iscsi_ffi_rules.specs.rules.Clearing.{next_withheld, status_of}
+use Rattle.iscsi_ffi_law.specs.Done.{AreDoneFit, IsDoneFit}
+use Rattle.iscsi_ffi_rules.specs.rules.Sides.{Asked, Side, opened}
 use Rattle.iscsi_ffi_steps.specs.Steps.{Side as StepsSide, after, begun, called, ended}
 use Rattle.iscsi_outbox_law.specs.Pairs.{EachOf}
 use Rattle.iscsi_ffi_law.specs.Alike.{GoesAlike}
@@ -28,6 +31,26 @@ use Rattle.iscsi_ffi_law.proofs.FitRoom.{free, placed, room_to_tell, uses_few}
 use Rattle.iscsi_ffi_law.proofs.FitSized.{AreSized, sized_begun, sized_step}
 use Rattle.iscsi_ffi_law.proofs.FitWalks.{later_walk, no_fewer_then, on_call, on_withholding}
 use Rattle.iscsi_ffi_law.proofs.Opened.{stands_begun}
+
+-- who asked for what doesn't matter as commands complete
+done_asked : (i : Interface) (m : ℕ) (s : Side) (asked : List Asked) (acts acts' : List Action) → AreDoneFit i m (record { side = s; actions = acts }) → AreDoneFit i m (record { side = record s { asked = asked }; actions = acts' })
+done_asked i zero s asked acts acts' h = tt
+done_asked i (suc m) s asked acts acts' h = by_next (done_asked i m) (next_withheld s) h
+  where
+    by_next : ((s' : Side) (asked' : List Asked) (as' bs : List Action) → AreDoneFit i m (record { side = s'; actions = as' }) → AreDoneFit i m (record { side = record s' { asked = asked' }; actions = bs })) → (x : Option Command)
+        → elim x as (λ y. Type 0) [
+          | Some c ↦ IsDoneFit i s c.ticket (status_of s c) × (let g = happening i s (Done c.ticket (status_of s c)) in AreDoneFit i m (record { side = g.side; actions = acts ++ g.actions }))
+          | None ↦ Unit {0}
+        ]
+        → elim x as (λ y. Type 0) [
+          | Some c ↦ IsDoneFit i (record s { asked = asked }) c.ticket (status_of (record s { asked = asked }) c) × (let g = happening i (record s { asked = asked }) (Done c.ticket (status_of (record s { asked = asked }) c)) in AreDoneFit i m (record { side = g.side; actions = acts' ++ g.actions }))
+          | None ↦ Unit {0}
+        ]
+    by_next further None k = tt
+    by_next further (Some c) k =
+        let d = k.0 in
+        let g = happening i s (Done c.ticket (status_of s c)) in
+        (record { fit = d.fit; room = d.room; stale = d.stale; events = d.events; sent = d.sent; replies = d.replies; few = d.few; there = d.there; takes = d.takes; handed = d.handed }, further g.side asked (acts ++ g.actions) (acts' ++ (happening i (record s { asked = asked }) (Done c.ticket (status_of s c))).actions) k.1)
 
 -- an event more, of no more than so many
 taken_early : (i : Interface) (r : Side) (cid : ℕ) (header : List ℕ) (cookie : ℕ) → refusal_of i r cid ≡ None → (after_call i r (Arrives cid header cookie)).told.side.both.event ≤ 2 ^ 30 → r.both.event + 1 ≤ 2 ^ 30
@@ -46,16 +69,20 @@ module _ (i : Interface) (opening : IsOpening i) where
         let k = call is in
         let early = taken_early i r cid header cookie is few in
         ⊎_elim
-        (λ x. let e = x.0 in let w = k.event in inr (inl (record {
+        (λ e. let w = k.event in inr (inl (record {
           fit = record {
             before = k.before;
             heard = k.heard;
-            event = record { fit = w.fit; steps = taken_steps i opening n r cid header is h early w e.steps; stale = w.stale; events = w.events; sent = w.sent; short = e.short; enabled = e.enabled; distinct = w.distinct; received = w.received };
+            event = record { fit = w.fit; steps = taken_steps i opening n r cid header is h early w e.steps; stale = w.stale; events = w.events; sent = w.sent; short = e.short; enabled = e.enabled; few = w.few; regular = w.regular; known = w.known; distinct = w.distinct; received = w.received; prompt = e.prompt; waits = e.waits };
           };
           taken = is;
           room = free i opening n s r st z h;
           placed = placed i opening n s r st z h;
-          plain = x.1;
+          plain = record {
+            plain = e.plain;
+            held = e.held;
+            withheld = (let v = happening i (asking (heard_in i r cid header) cookie) (Arrive cid header) in let u = happening i (heard_in i r cid header) (Arrive cid header) in done_asked i (length (live v.side.both.trace)) v.side u.side.asked v.actions u.actions k.withheld);
+          };
         })))
         (λ x. inr (inr x)) (left is)
 

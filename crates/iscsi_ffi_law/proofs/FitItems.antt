@@ -228,10 +228,11 @@ module _ (i : Interface) where
             sends = λ conn reply is. record {
               takes = takes_reply t b item mid (sound_below items (item ∷ t) sounds).0 of.0 of.1 joins closes conn reply is;
               sent = omega (arith, sent);
-              replies = left.0 conn reply is;
+              replies = left.0.replies conn reply is;
               handed = mid.handed;
             };
             enters = λ c is. fresh r item c below.0 behind.0 below.1 f.0 f.1 mid told marked behind.1 is;
+            waited = left.0.waited;
           },
           steps_fit items (side_behind i r item) next forms sounds of.2 sound.1.1 fits.1 (mid_item f.0 t b item f.1 mid) (λ c k. joined_moved c b.links (after_item i.outbox b es).links (moved_item i.outbox JoinsOn joins_close b es) (joins c k))
               (λ c k. closed_on c (item ∷ []) t (closes c k)) (omega (arith, sent, more)) (still r.told told) (still r.marked marked) left.1,

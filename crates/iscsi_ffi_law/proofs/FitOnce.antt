@@ -55,36 +55,36 @@ before_now : (v : Bool) (now : ℕ) → cond v now (now + 1) ≤ now + 1
 before_now true now = omega arith
 before_now false now = omega arith
 
--- none is of an event that is to come
-none_later : (o : Setting) (v : ℕ) (t : Trace) (next : ℕ) → HaveForms o next t → next ≤ v → commands_of v t + awaited v t ≡ 0
-none_later o v [] next forms le = refl
-none_later o v (item ∷ t) next forms le =
-    let f : HasForm o forms.0 t item = forms.1.1.0 in
-    let early = forms.1.0 in
-    let up = before_now (is_arrival f.form) forms.0 in
-    let rest = none_later o v t _ forms.1.1.1 (omega (arith, up, early, le)) in
-    let on = goes_on o forms.0 v item t f in
-    let none = begins_here forms.0 v f.form (omega (arith, early, le)) in
-    omega (arith, rest, on, none)
+-- what an event has of something, where only the first item of its arrival adds to it, and one at the most
+module _ (o : Setting) (M : ℕ → Trace → ℕ) (none : (v : ℕ) → M v [] ≡ 0) (goes : (now v : ℕ) (item : List Mark) (t : Trace) (f : HasForm o now t item) → M v (item ∷ t) ≤ M v t + begins_of now v f.form) where
+  -- none is of an event that is to come
+  pub none_later : (v : ℕ) (t : Trace) (next : ℕ) → HaveForms o next t → next ≤ v → M v t ≡ 0
+  none_later v [] next forms le = none v
+  none_later v (item ∷ t) next forms le =
+      let f : HasForm o forms.0 t item = forms.1.1.0 in
+      let early = forms.1.0 in
+      let up = before_now (is_arrival f.form) forms.0 in
+      let rest = none_later v t _ forms.1.1.1 (omega (arith, up, early, le)) in
+      let on = goes forms.0 v item t f in
+      let begins = begins_here forms.0 v f.form (omega (arith, early, le)) in
+      omega (arith, rest, on, begins)
+
+  pub one_most : (v : ℕ) (t : Trace) (next : ℕ) → HaveForms o next t → M v t ≤ 1
+  one_most v [] next forms = let zero_is = none v in omega (arith, zero_is)
+  one_most v (item ∷ t) next forms =
+      let f : HasForm o forms.0 t item = forms.1.1.0 in
+      by_test (is_arrival f.form) (goes forms.0 v item t f) (one_most v t _ forms.1.1.1) (λ le. none_later v t _ forms.1.1.1 le)
+    where
+      by_test : (b : Bool) → M v (item ∷ t) ≤ M v t + cond b (one (forms.0 == v)) 0 → M v t ≤ 1 → (cond b forms.0 (forms.0 + 1) ≤ v → M v t ≡ 0) → M v (item ∷ t) ≤ 1
+      by_test false on few zeros = omega (arith, on, few)
+      by_test true on few zeros = by_event (forms.0 == v) refl
+        where
+          by_event : (w : Bool) → (forms.0 == v) ≡ w → M v (item ∷ t) ≤ 1
+          by_event true is = let same = eqb-true forms.0 v is in let here : one (forms.0 == v) ≡ 1 = ap one is in let zero_is = zeros (omega (arith, same)) in omega (arith, zero_is, here, on)
+          by_event false is = let here : one (forms.0 == v) ≡ 0 = ap one is in omega (arith, here, on, few)
 
 one_command : (o : Setting) (v : ℕ) (t : Trace) (next : ℕ) → HaveForms o next t → commands_of v t + awaited v t ≤ 1
-one_command o v [] next forms = omega arith
-one_command o v (item ∷ t) next forms =
-    let f : HasForm o forms.0 t item = forms.1.1.0 in
-    by_begin f.form (goes_on o forms.0 v item t f) (one_command o v t _ forms.1.1.1) (λ le. none_later o v t _ forms.1.1.1 le)
-  where
-    by_begin : (form : Form) → commands_of v (item ∷ t) + awaited v (item ∷ t) ≤ commands_of v t + awaited v t + begins_of forms.0 v form → commands_of v t + awaited v t ≤ 1
-        → (cond (is_arrival form) forms.0 (forms.0 + 1) ≤ v → commands_of v t + awaited v t ≡ 0) → commands_of v (item ∷ t) + awaited v (item ∷ t) ≤ 1
-    by_begin form on few none = by_test (is_arrival form) on none
-      where
-        by_test : (b : Bool) → commands_of v (item ∷ t) + awaited v (item ∷ t) ≤ commands_of v t + awaited v t + cond b (one (forms.0 == v)) 0 → (cond b forms.0 (forms.0 + 1) ≤ v → commands_of v t + awaited v t ≡ 0)
-            → commands_of v (item ∷ t) + awaited v (item ∷ t) ≤ 1
-        by_test false on' none' = omega (arith, on', few)
-        by_test true on' none' = by_event (forms.0 == v) refl
-          where
-            by_event : (w : Bool) → (forms.0 == v) ≡ w → commands_of v (item ∷ t) + awaited v (item ∷ t) ≤ 1
-            by_event true is = let same = eqb-true forms.0 v is in let here : one (forms.0 == v) ≡ 1 = ap one is in let zeros = none' (omega (arith, same)) in omega (arith, zeros, here, on')
-            by_event false is = let here : one (forms.0 == v) ≡ 0 = ap one is in omega (arith, here, on', few)
+one_command o v t next forms = one_most o (λ u x. commands_of u x + awaited u x) (λ u. refl) (goes_on o) v t next forms
 
 none_counted : (v : ℕ) (cs : List Command) → count_by (arrived_in v) cs ≤ 0 → EachOf (λ (d : Command). (d.arrival.event == v) ≡ false) cs
 none_counted v [] few = tt

@@ -36,7 +36,7 @@ use Rattle.iscsi_ffi_law.specs.Fit.{IsFit}
 use Rattle.iscsi_ffi_law.specs.Sides.{AreBytes, AreItemsFit, IsLossFit, IsOpening, IsSideFit, IsTakenFit, asking}
 use Rattle.iscsi_ffi_law.proofs.DoneShape.{done_effects, done_entry, entry_is, one_part}
 use Rattle.iscsi_ffi_law.proofs.FitFacts.{limits, takes_reply, takes_reply_at, there_live, ticket_is}
-use Rattle.iscsi_ffi_law.proofs.FitFollows.{live_there, tickets_up, units_there}
+use Rattle.iscsi_ffi_law.proofs.FitFollows.{together_event, live_there, tickets_up, units_there}
 use Rattle.iscsi_ffi_law.proofs.FitHolds.{Holds, arrival_read, arrival_room, holds_arrival, holds_done, holds_heard, holds_loss, loss_read}
 use Rattle.iscsi_ffi_law.proofs.FitNumbers.{all_sends, item_spent, spent}
 use Rattle.iscsi_ffi_law.proofs.FitPlaces.{placed_call}
@@ -206,7 +206,7 @@ module _ (i : Interface) (opening : IsOpening i) where
       new_by (IsRejected is) = absurd (let z : rejected (arrived i s cid header) ∷ [] ≡ (Admits (arrived i s cid header) ∷ []) ∷ rest = sym is ∙ same in cc)
       new_by (IsReceived more later new is due) = new
       new_by (IsExecuted d more now done is due) = absurd (let z : (Executes (arrived i s cid header) ∷ marks_done (arrived i s cid header) d) ∷ more ≡ (Admits (arrived i s cid header) ∷ []) ∷ rest = sym is ∙ same in cc)
-      new_by (IsPostponed more now is due) = absurd (let z : (Waits (arrived i s cid header) ∷ []) ∷ more ≡ (Admits (arrived i s cid header) ∷ []) ∷ rest = sym is ∙ same in cc)
+      new_by (IsPostponed more now room is due) = absurd (let z : (Waits (arrived i s cid header) ∷ []) ∷ more ≡ (Admits (arrived i s cid header) ∷ []) ∷ rest = sym is ∙ same in cc)
 
   refusal_known : (r : Side) (cid : ℕ) → refusal_of i r cid ≡ None → is_known cid i.outbox.session.conns ≡ true
   refusal_known r cid is = (taken_in i r cid is).known
@@ -221,6 +221,10 @@ module _ (i : Interface) (opening : IsOpening i) where
       let s : Side = heard_in i r cid header in
       let g = holds_heard i distinct n r cid header h in
       let read = arrival_read i distinct n r cid header is h in
+      let after : Both = after_step i.outbox s.both (Happens (Arrive cid header)) in
+      let together = together_event i.outbox s.both (Arrive cid header) (refusal_known r cid is) g.together in
+      let many = same_count i.outbox after.box after.trace together.lives in
+      let fits' = fits_reached i.outbox distinct after (good_event i.outbox (n + 1) s.both (Arrive cid header) read g.good).reached in
       record {
         before = record { asked = h.asked; answers = h.answers; entered = h.earlier.entered_by; admitted = h.earlier.admitted; waiting = h.earlier.waits };
         heard = fit_with n (n + 1) r.both s.both h.good g.good (omega (arith, few)) (omega (arith, few)) (omega (arith, early, later)) (omega (arith, early, later));
@@ -232,6 +236,9 @@ module _ (i : Interface) (opening : IsOpening i) where
           sent = (let x = g.good.sent_is in omega (arith, x, early, later));
           replies = room_left (arrival_room i distinct n r cid header is h);
           handed = g.placed.handed;
+          few = (let tasks = fits'.tasks in omega (arith, tasks, many));
+          regular = record { ascending = tickets_up i.outbox after together; units = units_there i.outbox after together };
+          known = refusal_known r cid is;
           distinct = distinct_forms i.outbox.session s.both.trace s.both.event g.together.forms;
           received = λ rest same. received_fit (n + 1) s cid header (refusal_known r cid is) (wired_bytes cid header bytes) g rest same;
         };

@@ -1,5 +1,5 @@
 -- No number is received twice, no event has two arrivals, and a number that is received lies in the window, as those that are held.
-use Rattle.std.proofs.Common.{◌≡◌, ℕ, zero, suc, ◌+◌, ◌^◌, ◌<◌, ◌≤◌, ◌==◌, ◌||◌, cond, nat_le, ⊎_elim, Bool, true, false, List, [], ◌∷◌, ◌++◌, take, drop, find, filter_map, count_by, Some, None, unwrap_or, refl, ap, sym, subst, ◌∙◌, arith, mod-eq_of_lt}
+use Rattle.std.proofs.Common.{filter, not, ◌≡◌, ℕ, zero, suc, ◌+◌, ◌^◌, ◌<◌, ◌≤◌, ◌==◌, ◌||◌, cond, nat_le, ⊎_elim, Bool, true, false, List, [], ◌∷◌, ◌++◌, take, drop, find, filter_map, count_by, Some, None, unwrap_or, refl, ap, sym, subst, ◌∙◌, arith, mod-eq_of_lt}
 use Rattle.std.proofs.lemmas.Bool.{cases_lt, eqb-true, false≢true, leb-true}
 use Rattle.std.proofs.lemmas.List.Sums.{sum_by-append}
 use Rattle.iscsi_wire.specs.Fields.{big_endian_from, cmd_sn, connection_of, request_of}
@@ -13,6 +13,11 @@ use Rattle.iscsi_history.proofs.CountLemmas.{count-cons, one}
 use Rattle.iscsi_history.proofs.FateLemmas.{Delivered, Emptied, Fate, Held, Unreceived, Voided, fate}
 use Rattle.iscsi_history.proofs.Forms.{AfterWaiting, AtArrival, AtTurn, Completed, Executed, Form, HasForm, HaveForms, Ignored, IsFormed, Postponed, Received, Rejected, Start, is_arrival, marks_done, marks_of_form, start_mark}
 use Rattle.iscsi_history.proofs.HeldLemmas.{admitted_of_held, held-number, held_received, received-admits}
+use Rattle.iscsi_history.proofs.ListLemmas.{fewer_counted}
+use Rattle.iscsi_history.proofs.ReplyTurns.{begins_of}
+use Rattle.iscsi_history.specs.rules.Trace.{waiting}
+use Rattle.iscsi_outbox_rules.proofs.RoomSteps.{shrinks_done}
+use Rattle.iscsi_ffi_law.proofs.FitOnce.{one_most}
 use Rattle.iscsi_history.proofs.Missing.{expected_below}
 use Rattle.iscsi_history.proofs.NumberLemmas.{wire-lift}
 use Rattle.iscsi_history.proofs.NumberingLemmas.{unseen}
@@ -98,64 +103,36 @@ once_received o (item ∷ t) next forms n =
 
 -- ---- no event has two arrivals
 
-earlier_admitted : (o : Setting) (t : Trace) (next : ℕ) → HaveForms o next t → EachOf (λ (a : Arrival). a.event < next) (shown admitted_by t)
+-- received, or functions that wait
+abbrev arrivals : ℕ → Trace → ℕ
+arrivals v t = count_by (λ (a : Arrival). a.event == v) (shown admitted_by t) + count_by (λ (a : Arrival). a.event == v) (waiting t)
+
+more_arrivals : (o : Setting) (now v : ℕ) (item : List Mark) (t : Trace) (f : HasForm o now t item) → arrivals v (item ∷ t) ≤ arrivals v t + begins_of now v f.form
 unfolding admitted_in
-earlier_admitted o [] next forms = tt
-earlier_admitted o (item ∷ t) next forms =
-    let f : HasForm o forms.0 t item = forms.1.1.0 in
-    let rest = earlier_admitted o t _ forms.1.1.1 in
-    each-append (λ (a : Arrival). a.event < next) (shown admitted_by t) (filter_map admitted_by item)
-    (each-weaken (λ (a : Arrival). a.event < cond (is_arrival f.form) forms.0 (forms.0 + 1)) (λ (a : Arrival). a.event < next) (shown admitted_by t) (λ a lt. let up = bound (is_arrival f.form) forms.0 in let early = forms.1.0 in omega (arith, lt, up, early)) rest)
-    (subst (EachOf (λ (a : Arrival). a.event < next)) (sym (ap (filter_map admitted_by) f.is ∙ admitted_form f.form)) (by_form forms.0 forms.1.0 f.form f.formed))
+more_arrivals o now v item t f =
+    let all = count_item (λ (a : Arrival). a.event == v) item f.form t f.is in
+    let waits = ap (λ i. count_by (λ (a : Arrival). a.event == v) (waiting (i ∷ t))) f.is in
+    let few = by_form f.form f.formed in
+    omega (arith, all, waits, few)
   where
-    bound : (v : Bool) (now : ℕ) → cond v now (now + 1) ≤ now + 1
-    bound true now = omega arith
-    bound false now = omega arith
+    by_form : (form : Form) → IsFormed o now t form → count_by (λ (a : Arrival). a.event == v) (admitted_in form) + count_by (λ (a : Arrival). a.event == v) (waiting (marks_of_form form ∷ t)) ≤ count_by (λ (a : Arrival). a.event == v) (waiting t) + begins_of now v form
+    by_form (Ignored why) x = omega arith
+    by_form (Rejected a) x = omega arith
+    by_form (Received a) x = let same : one (a.event == v) ≡ one (now == v) = ap (λ (e : ℕ). one (e == v)) x.0 in omega (arith, same, count-cons (λ (b : Arrival). b.event == v) a [])
+    by_form (Postponed a) x =
+        let same : one (a.event == v) ≡ one (now == v) = ap (λ (e : ℕ). one (e == v)) x in
+        omega (arith, same, sum_by-append (λ (b : Arrival). cond (b.event == v) 1 0) (waiting t) (a ∷ []), count-cons (λ (b : Arrival). b.event == v) a [])
+    by_form (Completed c status) x = omega arith
+    by_form (Executed AtTurn a d) x = let less = shrinks_done a d (λ (b : Arrival). b.event == v) (waiting t) in omega (arith, less)
+    by_form (Executed AtArrival a d) x =
+        let ws : List Arrival = filter (λ (b : Arrival). not (b.event == a.event)) (waiting t) in
+        let less = shrinks_done a d (λ (b : Arrival). b.event == v) ws in omega (arith, less, fewer_counted (λ (b : Arrival). b.event == v) (λ (b : Arrival). not (b.event == a.event)) (waiting t))
+    by_form (Executed AfterWaiting a d) x =
+        let ws : List Arrival = filter (λ (b : Arrival). not (b.event == a.event)) (waiting t) in
+        let less = shrinks_done a d (λ (b : Arrival). b.event == v) ws in omega (arith, less, fewer_counted (λ (b : Arrival). b.event == v) (λ (b : Arrival). not (b.event == a.event)) (waiting t))
 
-    by_form : (now : ℕ) → now < next → (form : Form) → IsFormed o now t form → EachOf (λ (a : Arrival). a.event < next) (admitted_in form)
-    by_form now early (Ignored why) formed = tt
-    by_form now early (Rejected a) formed = tt
-    by_form now early (Received a) formed = (let same = formed.0 in omega (arith, same, early), tt)
-    by_form now early (Postponed a) formed = tt
-    by_form now early (Completed c status) formed = tt
-    by_form now early (Executed start a d) formed = tt
-
-none_of : (e now : ℕ) (as' : List Arrival) → now ≤ e → EachOf (λ (a : Arrival). a.event < now) as' → count_by (λ (a : Arrival). a.event == e) as' ≡ 0
-none_of e now [] le each = refl
-none_of e now (a ∷ as') le each =
-    let rest = none_of e now as' le each.1 in
-    let here : one (a.event == e) ≡ 0 = apart (a.event == e) refl in
-    omega (arith, here, rest, count-cons (λ (b : Arrival). b.event == e) a as')
-  where
-    apart : (v : Bool) → (a.event == e) ≡ v → one v ≡ 0
-    apart true is = absurd (let same = eqb-true a.event e is in let lt = each.0 in let z : ⊥ = omega (arith, same, lt, le) in z)
-    apart false is = refl
-
-once_arrived : (o : Setting) (t : Trace) (next : ℕ) → HaveForms o next t → (e : ℕ) → count_by (λ (a : Arrival). a.event == e) (shown admitted_by t) ≤ 1
-unfolding admitted_in
-once_arrived o [] next forms e = omega arith
-once_arrived o (item ∷ t) next forms e =
-    let f : HasForm o forms.0 t item = forms.1.1.0 in
-    by_form forms.0 f.form f.formed forms.1.1.1 (once_arrived o t _ forms.1.1.1 e) (count_item (λ (a : Arrival). a.event == e) item f.form t f.is)
-  where
-    by_form : (now : ℕ) (form : Form) → IsFormed o now t form → HaveForms o (cond (is_arrival form) now (now + 1)) t → count_by (λ (a : Arrival). a.event == e) (shown admitted_by t) ≤ 1
-        → count_by (λ (a : Arrival). a.event == e) (shown admitted_by (item ∷ t)) ≡ count_by (λ (a : Arrival). a.event == e) (shown admitted_by t) + count_by (λ (a : Arrival). a.event == e) (admitted_in form)
-        → count_by (λ (a : Arrival). a.event == e) (shown admitted_by (item ∷ t)) ≤ 1
-    by_form now (Ignored why) formed below rest all = omega (arith, rest, all)
-    by_form now (Rejected a) formed below rest all = omega (arith, rest, all)
-    by_form now (Postponed a) formed below rest all = omega (arith, rest, all)
-    by_form now (Completed c status) formed below rest all = omega (arith, rest, all)
-    by_form now (Executed start a d) formed below rest all = omega (arith, rest, all)
-    by_form now (Received a) formed below rest all = by_event (a.event == e) refl
-      where
-        by_event : (v : Bool) → (a.event == e) ≡ v → count_by (λ (b : Arrival). b.event == e) (shown admitted_by (item ∷ t)) ≤ 1
-        by_event true is =
-            let same = eqb-true a.event e is in
-            let now_is = formed.0 in
-            let none = none_of e now (shown admitted_by t) (omega (arith, same, now_is)) (earlier_admitted o t now below) in
-            let here : one (a.event == e) ≡ 1 = ap one is in
-            omega (arith, none, here, all, count-cons (λ (b : Arrival). b.event == e) a [])
-        by_event false is = let here : one (a.event == e) ≡ 0 = ap one is in omega (arith, here, rest, all, count-cons (λ (b : Arrival). b.event == e) a [])
+once_arrived : (o : Setting) (t : Trace) (next : ℕ) → HaveForms o next t → (e : ℕ) → arrivals e t ≤ 1
+once_arrived o t next forms e = one_most o (λ v x. arrivals v x) (λ v. refl) (more_arrivals o) e t next forms
 
 pub distinct_forms : (o : Setting) (t : Trace) (next : ℕ) → HaveForms o next t → AreDistinct t
 distinct_forms o t next forms = record {

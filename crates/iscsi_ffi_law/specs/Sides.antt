@@ -17,7 +17,7 @@ use Rattle.iscsi_outbox_law.specs.Sound.{NoneIsFresh}
 use Rattle.iscsi_ffi_rules.specs.promises.Deeds.{side_of}
 use Rattle.iscsi_ffi_rules.specs.rules.Calls.{Arrives, Call, Completes, Interface, Loses, Stops}
 use Rattle.iscsi_ffi_rules.specs.rules.Clearing.{TASK_ABORTED}
-use Rattle.iscsi_ffi_rules.specs.rules.Happening.{happening, other}
+use Rattle.iscsi_ffi_rules.specs.rules.Happening.{happening, other, stepped}
 use Rattle.iscsi_ffi_rules.specs.rules.Run.{after_call, heard_in, is_going, is_lost, parting, refusal_of, tag_heard, word_at}
 use Rattle.iscsi_ffi_rules.specs.rules.Sides.{Side}
 use Rattle.iscsi_ffi_law.specs.Arrived.{AreBefore, AreDistinct, IsItemFit, IsReceivable, arrive_call, arrived, effects_then, items_then}
@@ -78,6 +78,9 @@ pub record IsHeardFit (i : Interface) (r : Side) (cid : ℕ) (header : List ℕ)
   pub sent : r.both.box.sent < 2 ^ 64 - 1
   pub replies : replies_waiting r.both.box < places i.outbox
   pub handed : EachOf (λ (l : Link). EachOf (λ (h : Handed). IsBefore r.both.box.sent h.out.sent) l.handed) r.both.box.links
+  pub few : length (live (stepped i r (Arrive cid header)).both.trace) ≤ places i.outbox
+  pub regular : IsRegular i (stepped i r (Arrive cid header))
+  pub known : is_known cid i.outbox.session.conns ≡ true
   pub distinct : AreDistinct r.both.trace
   pub received : (rest : List (List Mark)) → items_then i r cid header ≡ (Admits (arrived i r cid header) ∷ []) ∷ rest → IsReceivable i.outbox.session r.both.trace (arrived i r cid header)
 
