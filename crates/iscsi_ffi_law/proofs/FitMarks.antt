@@ -1,5 +1,5 @@
 -- In the trace of a session each request that is admitted is numbered, and each that waits is a function that may.
-use Rattle.std.proofs.Common.{◌≡◌, ℕ, ◌==◌, not, cond, true, false, List, [], ◌∷◌, map, filter_map, Option, Some, None, refl, sym, subst, ◌∙◌}
+use Rattle.std.proofs.Common.{Bool, ◌≤◌, filter, count_by, arith, ◌≡◌, ℕ, ◌==◌, not, cond, true, false, List, [], ◌∷◌, map, filter_map, Option, Some, None, refl, sym, subst, ◌∙◌}
 use Rattle.std.specs.List.{cons_option}
 use Rattle.std.proofs.lemmas.Bool.{cond_both}
 use Rattle.iscsi_wire.specs.Fields.{connection_of, is_immediate}
@@ -9,6 +9,8 @@ use Rattle.iscsi_history.specs.rules.Management.{may_wait}
 use Rattle.iscsi_history.proofs.FormItems.{Does}
 use Rattle.iscsi_history.proofs.Forms.{AfterWaiting, AtArrival, AtTurn, Deeds, Start, if_some, marks_done, start_mark}
 use Rattle.iscsi_history.proofs.HeldLemmas.{admitted_of_held, held_before}
+use Rattle.iscsi_history.proofs.ListLemmas.{fewer_counted}
+use Rattle.iscsi_outbox_rules.proofs.RoomSteps.{shrinks_done}
 use Rattle.iscsi_history.proofs.NumberingLemmas.{unseen}
 use Rattle.iscsi_history.proofs.ReplyForms.{replies_seen}
 use Rattle.iscsi_outbox_law.specs.Pairs.{EachOf}
@@ -70,6 +72,19 @@ executing o t start a ms d = subst (λ xs. IsExecuting (start_mark start a ∷ x
     none AtTurn k = done k
     none AtArrival k = done k
     none AfterWaiting k = done k
+
+-- it lets none wait more
+pub fewer_wait : (o : Setting) (t : Trace) (start : Start) (a : Arrival) (ms : List Mark) → Does o t start a ms → (p : Arrival → Bool) → count_by p (waiting ((start_mark start a ∷ ms) ∷ t)) ≤ count_by p (waiting t)
+fewer_wait o t start a ms d p = subst (λ xs. count_by p (waiting ((start_mark start a ∷ xs) ∷ t)) ≤ count_by p (waiting t)) (sym d.is) (by_start start)
+  where
+    by_start : (s : Start) → count_by p (waiting ((start_mark s a ∷ marks_done a d.deeds) ∷ t)) ≤ count_by p (waiting t)
+    by_start AtTurn = let less = shrinks_done a d.deeds p (waiting t) in omega (arith, less)
+    by_start AtArrival =
+        let ws : List Arrival = filter (λ (b : Arrival). not (b.event == a.event)) (waiting t) in
+        let less = shrinks_done a d.deeds p ws in omega (arith, less, fewer_counted p (λ (b : Arrival). not (b.event == a.event)) (waiting t))
+    by_start AfterWaiting =
+        let ws : List Arrival = filter (λ (b : Arrival). not (b.event == a.event)) (waiting t) in
+        let less = shrinks_done a d.deeds p ws in omega (arith, less, fewer_counted p (λ (b : Arrival). not (b.event == a.event)) (waiting t))
 
 -- what isn't held stays so where none is admitted
 pub still_unheld : (item : List Mark) (t : Trace) (k : ℕ) → filter_map (admits_at k) item ≡ [] → held t k ≡ None → held (item ∷ t) k ≡ None

@@ -42,6 +42,9 @@ use Rattle.iscsi_ffi_law.proofs.FitNumbers.{all_sends, item_spent, spent}
 use Rattle.iscsi_ffi_law.proofs.FitPlaces.{placed_call}
 use Rattle.iscsi_ffi_law.proofs.FitReceived.{distinct_forms, receivable, wired, wired_bytes}
 use Rattle.iscsi_ffi_law.proofs.FitRefusals.{taken_in}
+use Rattle.iscsi_history.specs.rules.Management.{MOST_WAITING, waiting_on}
+use Rattle.iscsi_history.specs.rules.Trace.{waiting}
+use Rattle.iscsi_ffi_law.proofs.Members.{in_each}
 use Rattle.iscsi_ffi_law.proofs.Turns.{Becomes, IsExecuted, IsIgnored, IsPostponed, IsReceived, IsRejected, becomes}
 use Rattle.iscsi_ffi_law.proofs.FitReached.{fits_event, fits_reached, sound_event, sound_reached}
 use Rattle.iscsi_ffi_law.proofs.FitReplies.{completes_more}
@@ -239,6 +242,7 @@ module _ (i : Interface) (opening : IsOpening i) where
           few = (let tasks = fits'.tasks in omega (arith, tasks, many));
           regular = record { ascending = tickets_up i.outbox after together; units = units_there i.outbox after together };
           known = refusal_known r cid is;
+          waits = in_each (λ (b : Arrival). waiting_on (connection_of b.request) s.both.trace ≤ MOST_WAITING) (waiting s.both.trace) (λ b at. g.turned.four (connection_of b.request));
           distinct = distinct_forms i.outbox.session s.both.trace s.both.event g.together.forms;
           received = λ rest same. received_fit (n + 1) s cid header (refusal_known r cid is) (wired_bytes cid header bytes) g rest same;
         };

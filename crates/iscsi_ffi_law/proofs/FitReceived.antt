@@ -1,5 +1,5 @@
 -- No number is received twice, no event has two arrivals, and a number that is received lies in the window, as those that are held.
-use Rattle.std.proofs.Common.{filter, not, ◌≡◌, ℕ, zero, suc, ◌+◌, ◌^◌, ◌<◌, ◌≤◌, ◌==◌, ◌||◌, cond, nat_le, ⊎_elim, Bool, true, false, List, [], ◌∷◌, ◌++◌, take, drop, find, filter_map, count_by, Some, None, unwrap_or, refl, ap, sym, subst, ◌∙◌, arith, mod-eq_of_lt}
+use Rattle.std.proofs.Common.{filter, not, ◌≡◌, ℕ, zero, suc, ◌+◌, ◌^◌, ◌<◌, ◌≤◌, ◌==◌, ◌||◌, cond, nat_le, ⊎_elim, Bool, true, false, List, [], ◌∷◌, ◌++◌, take, drop, find, filter_map, count_by, Some, None, unwrap_or, refl, ap, sym, ◌∙◌, arith, mod-eq_of_lt}
 use Rattle.std.proofs.lemmas.Bool.{cases_lt, eqb-true, false≢true, leb-true}
 use Rattle.std.proofs.lemmas.List.Sums.{sum_by-append}
 use Rattle.iscsi_wire.specs.Fields.{big_endian_from, cmd_sn, connection_of, request_of}
@@ -11,7 +11,7 @@ use Rattle.iscsi_history.proofs.BoolLemmas.{or_first}
 use Rattle.iscsi_history.proofs.CloseRuns.{Sounds, clear_of}
 use Rattle.iscsi_history.proofs.CountLemmas.{count-cons, one}
 use Rattle.iscsi_history.proofs.FateLemmas.{Delivered, Emptied, Fate, Held, Unreceived, Voided, fate}
-use Rattle.iscsi_history.proofs.Forms.{AfterWaiting, AtArrival, AtTurn, Completed, Executed, Form, HasForm, HaveForms, Ignored, IsFormed, Postponed, Received, Rejected, Start, is_arrival, marks_done, marks_of_form, start_mark}
+use Rattle.iscsi_history.proofs.Forms.{AfterWaiting, AtArrival, AtTurn, Completed, Executed, Form, HasForm, HaveForms, Ignored, IsFormed, Postponed, Received, Rejected, Start, marks_done, marks_of_form, start_mark}
 use Rattle.iscsi_history.proofs.HeldLemmas.{admitted_of_held, held-number, held_received, received-admits}
 use Rattle.iscsi_history.proofs.ListLemmas.{fewer_counted}
 use Rattle.iscsi_history.proofs.ReplyTurns.{begins_of}
@@ -25,8 +25,6 @@ use Rattle.iscsi_history.proofs.ReplyForms.{replies_seen}
 use Rattle.iscsi_history.proofs.ReplyTurns.{admitted_there}
 use Rattle.iscsi_history.proofs.ElementLemmas.{first-in}
 use Rattle.iscsi_history.proofs.TraceLemmas.{received-item}
-use Rattle.iscsi_outbox_law.specs.Pairs.{EachOf}
-use Rattle.iscsi_outbox_law.proofs.PairLemmas.{each-append, each-weaken}
 use Rattle.iscsi_requests.specs.Numbers.{IsInWindow, SIZES, distance, size_for}
 use Rattle.iscsi_ffi_rules.specs.rules.Needs.{admitted_by}
 use Rattle.iscsi_ffi_law.specs.Arrived.{AreDistinct, IsReceivable}

@@ -1,5 +1,5 @@
 -- Between the events of a session nothing is held below ExpCmdSN.
-use Rattle.std.proofs.Common.{◌≡◌, ℕ, zero, suc, ◌+◌, ◌-◌, ◌≤◌, ◌<◌, ◌==◌, ◌&&◌, ◌||◌, ⊎_elim, not, cond, Bool, true, false, List, [], ◌∷◌, ◌++◌, filter, filter_map, Option, Some, None, refl, ap, sym, ◌∙◌, subst, arith, nat_le, nat_lt}
+use Rattle.std.proofs.Common.{count_by, ◌≡◌, ℕ, zero, suc, ◌+◌, ◌-◌, ◌≤◌, ◌<◌, ◌==◌, ◌&&◌, ◌||◌, ⊎_elim, not, cond, Bool, true, false, List, [], ◌∷◌, ◌++◌, filter, filter_map, Option, Some, None, refl, ap, sym, ◌∙◌, subst, arith, nat_le, nat_lt}
 use Rattle.std.proofs.lemmas.Bool.{and_parts, cases_lt, ne_eqb}
 use Rattle.std.proofs.lemmas.Bool.Decides.{nat_tests}
 use Rattle.std.proofs.lemmas.List.{append-nil}
@@ -21,6 +21,10 @@ use Rattle.iscsi_history.specs.rules.Agenda.{arrival, arrival_as, arrival_of, ar
 use Rattle.iscsi_history.specs.rules.Run.{after_event}
 use Rattle.iscsi_history.proofs.AbortRuns.{exp_item}
 use Rattle.iscsi_history.proofs.BoolLemmas.{or_none}
+use Rattle.iscsi_history.proofs.CountLemmas.{one}
+use Rattle.iscsi_history.proofs.FormItems.{Does}
+use Rattle.iscsi_history.proofs.ListLemmas.{count_by-push}
+use Rattle.std.proofs.lemmas.Bool.{eqb-true, leb-false}
 use Rattle.iscsi_history.proofs.FlowItems.{same_exp}
 use Rattle.iscsi_history.proofs.FormItems.{does_after, does_function, does_reply}
 use Rattle.iscsi_history.proofs.Forms.{AfterWaiting, AtArrival, AtTurn, begun}
@@ -29,12 +33,13 @@ use Rattle.iscsi_history.proofs.ReceivedItems.{function_receives_none, turn_rece
 use Rattle.iscsi_history.proofs.TraceLemmas.{after_items-append}
 use Rattle.iscsi_outbox_law.specs.Pairs.{EachOf}
 use Rattle.iscsi_outbox_law.proofs.PairLemmas.{each-filter}
-use Rattle.iscsi_ffi_law.proofs.FitMarks.{IsExecuting, IsWaiter, KeptIn, all_waiters, executing, held_numbered, still_unheld}
+use Rattle.iscsi_ffi_law.proofs.FitMarks.{fewer_wait, IsExecuting, IsWaiter, KeptIn, all_waiters, executing, held_numbered, still_unheld}
 
 module _ (o : Setting) where
   -- the turns of the numbers before n are over
   pub record Turned (n : ℕ) (t : Trace) : Type 0 where
     pub kept : KeptIn t
+    pub four : (conn : ℕ) → waiting_on conn t ≤ MOST_WAITING
     pub turned : (k : ℕ) → k < n → held t k ≡ None
 
   none_received : (item : List Mark) (t : Trace) → filter_map number_received item ≡ [] → exp_of o (item ∷ t) ≡ exp_of o t
@@ -56,6 +61,7 @@ module _ (o : Setting) where
       let none : filter_map number_received (item_of o t a) ≡ [] = turn_receives_none o t a (held_numbered t n a is h.0.kept) in (
         record {
           kept = (x.kept, h.0.kept);
+          four = λ conn. (let less = fewer_wait o t AtTurn a _ (does_after o t AtTurn a) (λ (b : Arrival). connection_of b.request == conn) in let most = h.0.four conn in omega (arith, less, most));
           turned = turned_here t a n (marks_after o (begun AtTurn a t) a) is (λ k below. still_unheld (item_of o t a) t k (x.admits_none k) (h.0.turned k below));
         },
         none_received (item_of o t a) t none ∙ h.1,
@@ -65,6 +71,7 @@ module _ (o : Setting) where
   skip_turned e n t gone h = (
     record {
       kept = h.0.kept;
+      four = h.0.four;
       turned = λ k below. ⊎_elim (λ less. h.0.turned k less) (λ here. ap (held t) (let z : k ≡ n = omega (arith, here, below) in z) ∙ gone) (cases_lt k n);
     },
     h.1,
@@ -74,7 +81,7 @@ module _ (o : Setting) where
   function_turned e n t a may h =
       let x : IsExecuting (function_item o t a) = executing o t AfterWaiting a _ (does_function o t AfterWaiting a) in
       let none : filter_map number_received (function_item o t a) ≡ [] = function_receives_none o t a may in (
-        record { kept = (x.kept, h.0.kept); turned = λ k below. still_unheld (function_item o t a) t k (x.admits_none k) (h.0.turned k below) },
+        record { kept = (x.kept, h.0.kept); four = λ conn. (let less = fewer_wait o t AfterWaiting a _ (does_function o t AfterWaiting a) (λ (b : Arrival). connection_of b.request == conn) in let most = h.0.four conn in omega (arith, less, most)); turned = λ k below. still_unheld (function_item o t a) t k (x.admits_none k) (h.0.turned k below) },
         none_received (function_item o t a) t none ∙ h.1,
       )
 
@@ -121,31 +128,53 @@ module _ (o : Setting) where
       let x : Turning e e (after_items (with_turns o t item) t) = agenda_turned e (exp_of o t) (e - exp_of o t) (item ∷ t) (omega (arith, up)) (h, refl) in
       subst (λ k. Turned k (after_items (with_turns o t item) t)) (sym x.1) x.0
 
-  first_executing : (t : Trace) (item : List Mark) → IsExecuting item → IsTurned t → Turned (exp_of o t) (item ∷ t)
-  first_executing t item x h = record { kept = (x.kept, h.kept); turned = λ k below. still_unheld item t k (x.admits_none k) (h.turned k below) }
+  first_executing : (t : Trace) (item : List Mark) → IsExecuting item → ((conn : ℕ) → waiting_on conn (item ∷ t) ≤ MOST_WAITING) → IsTurned t → Turned (exp_of o t) (item ∷ t)
+  first_executing t item x four h = record { kept = (x.kept, h.kept); four = four; turned = λ k below. still_unheld item t k (x.admits_none k) (h.turned k below) }
 
   -- the item of an immediate request
-  first_immediate : (t : Trace) (a : Arrival) → IsExecuting (immediate_item o t a)
-  first_immediate t a = by_tests (opcode a.request == 0x02 && may_wait a.request) refl (refusal_of_function o a.request)
-    where
-      waits : may_wait a.request ≡ true → (b c d : Bool)
-          → IsExecuting (cond b (Executes a ∷ reply_on a (Task (itt a.request) 255)) (cond (not c) (execution o t (Executes a) a) (cond d (Executes a ∷ reply_on a (Reject 6 (header_of a.request))) (Waits a ∷ []))))
-      waits may true c d = executing o t AtArrival a _ (does_reply o t AtArrival a (Task (itt a.request) 255) refl)
-      waits may false false d = executing o t AtArrival a _ (does_after o t AtArrival a)
-      waits may false true true = executing o t AtArrival a _ (does_reply o t AtArrival a (Reject 6 (header_of a.request)) refl)
-      waits may false true false = record { kept = (may, tt); admits_none = λ k. refl }
+  record First (t : Trace) (item : List Mark) : Type 0 where
+    executes : IsExecuting item
+    four : (conn : ℕ) → waiting_on conn (item ∷ t) ≤ MOST_WAITING
 
-      by_tests : (b : Bool) → (opcode a.request == 0x02 && may_wait a.request) ≡ b → (x : Option Reply) → IsExecuting (cond b (elim x [ Some reply ↦ execution o t (Executes a) a | None ↦ waiting_item o t a ]) (execution o t (Executes a) a))
-      by_tests true is (Some reply) = executing o t AtArrival a _ (does_after o t AtArrival a)
-      by_tests true is None = waits (and_parts (opcode a.request == 0x02) (may_wait a.request) is).1 (nat_lt (max_of o t + 1) a.number) (nat_lt (exp_of o t) a.number) (nat_le MOST_WAITING (waiting_on (connection_of a.request) t))
-      by_tests false is x = executing o t AtArrival a _ (does_after o t AtArrival a)
+  first_does : (t : Trace) (a : Arrival) (ms : List Mark) → IsTurned t → Does o t AtArrival a ms → First t (Executes a ∷ ms)
+  first_does t a ms h d = record {
+    executes = executing o t AtArrival a ms d;
+    four = λ conn. (let less = fewer_wait o t AtArrival a ms d (λ (b : Arrival). connection_of b.request == conn) in let most = h.four conn in omega (arith, less, most));
+  }
+
+  first_waits : (t : Trace) (a : Arrival) → may_wait a.request ≡ true → nat_le MOST_WAITING (waiting_on (connection_of a.request) t) ≡ false → IsTurned t → First t (Waits a ∷ [])
+  first_waits t a may few h = record { executes = record { kept = (may, tt); admits_none = λ k. refl }; four = λ conn. by_conn conn (connection_of a.request == conn) refl }
+    where
+      by_conn : (conn : ℕ) (b : Bool) → (connection_of a.request == conn) ≡ b → waiting_on conn ((Waits a ∷ []) ∷ t) ≤ MOST_WAITING
+      by_conn conn false is = let most = h.four conn in let here = ap one is in omega (arith, count_by-push (λ (b : Arrival). connection_of b.request == conn) (waiting t) a, here, most)
+      by_conn conn true is =
+          let less : waiting_on conn t < MOST_WAITING = leb-false MOST_WAITING (waiting_on conn t) (ap (λ k. nat_le MOST_WAITING (waiting_on k t)) (sym (eqb-true (connection_of a.request) conn is)) ∙ few) in
+          let here : one (connection_of a.request == conn) ≡ 1 = ap one is in
+          omega (arith, count_by-push (λ (b : Arrival). connection_of b.request == conn) (waiting t) a, here, less)
+
+  first_immediate : (t : Trace) (a : Arrival) → IsTurned t → First t (immediate_item o t a)
+  first_immediate t a h = by_tests (opcode a.request == 0x02 && may_wait a.request) refl (refusal_of_function o a.request)
+    where
+      waits : may_wait a.request ≡ true → (b c d : Bool) → nat_le MOST_WAITING (waiting_on (connection_of a.request) t) ≡ d
+          → First t (cond b (Executes a ∷ reply_on a (Task (itt a.request) 255)) (cond (not c) (execution o t (Executes a) a) (cond d (Executes a ∷ reply_on a (Reject 6 (header_of a.request))) (Waits a ∷ []))))
+      waits may true c d is = first_does t a _ h (does_reply o t AtArrival a (Task (itt a.request) 255) refl)
+      waits may false false d is = first_does t a _ h (does_after o t AtArrival a)
+      waits may false true true is = first_does t a _ h (does_reply o t AtArrival a (Reject 6 (header_of a.request)) refl)
+      waits may false true false is = first_waits t a may is h
+
+      by_tests : (b : Bool) → (opcode a.request == 0x02 && may_wait a.request) ≡ b → (x : Option Reply) → First t (cond b (elim x [ Some reply ↦ execution o t (Executes a) a | None ↦ waiting_item o t a ]) (execution o t (Executes a) a))
+      by_tests true is (Some reply) = first_does t a _ h (does_after o t AtArrival a)
+      by_tests true is None = waits (and_parts (opcode a.request == 0x02) (may_wait a.request) is).1 (nat_lt (max_of o t + 1) a.number) (nat_lt (exp_of o t) a.number) (nat_le MOST_WAITING (waiting_on (connection_of a.request) t)) refl
+      by_tests false is x = first_does t a _ h (does_after o t AtArrival a)
 
   -- items by which nothing executes
-  quiet_turned : (t : Trace) (item : List Mark) → filter_map number_received item ≡ [] → IsExecuting item → IsTurned t → IsTurned (item ∷ t)
-  quiet_turned t item none x h = subst (λ k. Turned k (item ∷ t)) (sym (none_received item t none)) (first_executing t item x h)
+  quiet_turned : (t : Trace) (item : List Mark) → filter_map number_received item ≡ [] → IsExecuting item → waiting (item ∷ t) ≡ waiting t → IsTurned t → IsTurned (item ∷ t)
+  quiet_turned t item none x same h =
+      subst (λ k. Turned k (item ∷ t)) (sym (none_received item t none))
+      (first_executing t item x (λ conn. (let most = h.four conn in let is = ap (count_by (λ (b : Arrival). connection_of b.request == conn)) same in omega (arith, most, is))) h)
 
   ignored_turned : (t : Trace) (why : Why) → IsTurned t → IsTurned ((Ignores why ∷ []) ∷ t)
-  ignored_turned t why h = quiet_turned t (Ignores why ∷ []) refl (record { kept = (tt, tt); admits_none = λ k. refl }) h
+  ignored_turned t why h = quiet_turned t (Ignores why ∷ []) refl (record { kept = (tt, tt); admits_none = λ k. refl }) refl h
 
   numbered_turned : (t : Trace) (a : Arrival) → is_immediate a.request ≡ false → IsTurned t → IsTurned (after_items (numbered o t a) t)
   numbered_turned t a later h =
@@ -161,7 +190,7 @@ module _ (o : Setting) where
       admitted inside =
           let ahead : nat_lt a.number (exp_of o t) ≡ false = inside.0 in
           let there : exp_of o t ≤ a.number = grind (arith, nat_tests) in
-          record { kept = ((later, tt), h.kept); turned = λ k below. held-admits t a k (ne_eqb a.number k (λ same. omega (arith, there, below, same))) ∙ h.turned k below }
+          record { kept = ((later, tt), h.kept); four = h.four; turned = λ k below. held-admits t a k (ne_eqb a.number k (λ same. omega (arith, there, below, same))) ∙ h.turned k below }
 
   arrival_turned : (t : Trace) (a : Arrival) → IsTurned t → IsTurned (after_items (arrival o t a) t)
   arrival_turned t a h =
@@ -172,10 +201,10 @@ module _ (o : Setting) where
     where
       by_kind : (k : Kind) → IsTurned (after_items (arrival_as o t a k) t)
       by_kind PassedOver = ignored_turned t Data h
-      by_kind Unknown = quiet_turned t (rejected a) refl (record { kept = (tt, tt); admits_none = λ k. refl }) h
+      by_kind Unknown = quiet_turned t (rejected a) refl (record { kept = (tt, tt); admits_none = λ k. refl }) refl h
       by_kind ExecutesKind =
           elim (is_immediate a.request) as (λ v. is_immediate a.request ≡ v → IsTurned (after_items (cond v (with_turns o t (immediate_item o t a)) (numbered o t a)) t)) [
-            | true ↦ λ is. turns_turned t (immediate_item o t a) (first_executing t (immediate_item o t a) (first_immediate t a) h)
+            | true ↦ λ is. (let f = first_immediate t a h in turns_turned t (immediate_item o t a) (first_executing t (immediate_item o t a) f.executes f.four h))
             | false ↦ λ is. numbered_turned t a is h
           ] refl
 
@@ -185,7 +214,7 @@ module _ (o : Setting) where
     where
       by_command : (y : Option Command) → IsTurned (after_items (completion status y) t)
       by_command None = ignored_turned t Stale h
-      by_command (Some c) = quiet_turned t (Leaves c ∷ reply_on c.arrival (Scsi (itt c.arrival.request) status (sense_of_status status))) refl (record { kept = (tt, (tt, tt)); admits_none = λ k. refl }) h
+      by_command (Some c) = quiet_turned t (Leaves c ∷ reply_on c.arrival (Scsi (itt c.arrival.request) status (sense_of_status status))) refl (record { kept = (tt, (tt, tt)); admits_none = λ k. refl }) refl h
 
   pub none_turned : IsTurned []
-  none_turned = record { kept = tt; turned = λ k below. refl }
+  none_turned = record { kept = tt; four = λ conn. omega arith; turned = λ k below. refl }

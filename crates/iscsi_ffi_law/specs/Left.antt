@@ -2,15 +2,12 @@
 use Rattle.std.specs.Prelude.{◌≡◌, ◌<◌, ◌≤◌, ◌==◌, ◌⊎◌, ℕ, true, false, List, [], ◌∷◌, filter, length, Some, None}
 use Rattle.std.specs.List.{filter_map, list_any}
 use Rattle.iscsi_wire.specs.declared.reply.Reply.{Reply}
-use Rattle.iscsi_wire.specs.Fields.{connection_of}
 use Rattle.iscsi_history.specs.declared.event.Event.TheVariants.{Arrive}
-use Rattle.iscsi_history.specs.rules.Management.{MOST_WAITING, waiting_on}
 use Rattle.iscsi_history.specs.rules.Settings.{is_known}
 use Rattle.iscsi_history.specs.rules.Trace.{Admits, Arrival, Executes, Mark, first_of, is_closed, waiting}
 use Rattle.iscsi_outbox_rules.specs.promises.Room.{places}
 use Rattle.iscsi_outbox_rules.specs.rules.Items.{reply_sent, ticket_enabled}
 use Rattle.iscsi_outbox_rules.specs.rules.Words.{replies_waiting}
-use Rattle.iscsi_outbox_law.specs.Pairs.{EachOf}
 use Rattle.iscsi_ffi_rules.specs.rules.Calls.{Arrives, Call, Interface, Loses}
 use Rattle.iscsi_ffi_rules.specs.rules.Clearing.{is_withheld}
 use Rattle.iscsi_ffi_rules.specs.rules.Happening.{happening, stepped}
@@ -35,7 +32,6 @@ pub record IsEventLeft (i : Interface) (r : Side) (cid : ℕ) (header : List ℕ
   pub short : length (items_then i r cid header) ≤ places i.outbox
   pub enabled : length (filter_map ticket_enabled (effects_then i r cid header)) ≤ places i.outbox
   pub prompt : (rest : List (List Mark)) → items_then i r cid header ≡ (Admits (arrived i r cid header) ∷ []) ∷ rest → starts_late r.both.event rest ≡ false
-  pub waits : EachOf (λ (b : Arrival). waiting_on (connection_of b.request) r.both.trace ≤ MOST_WAITING) (waiting r.both.trace)
   pub plain : are_plain (items_then i r cid header) ≡ true
   pub held : withheld_in (happening i r (Arrive cid header)).side ≡ filter (is_withheld (stepped i r (Arrive cid header))) (enabled_then i r cid header)
 
