@@ -58,11 +58,11 @@ pub record IsItemOf (o : Setting) (now : ℕ) (Q : Arrival → Type 0) (t : Trac
 
 -- ---- an item
 
-abbrev waits_by : Mark → Option Arrival
+abbrev pub waits_by : Mark → Option Arrival
 waits_by (Waits a) = Some a
 waits_by _ = None
 
-through : (Q : Arrival → Type 0) (ms : List Mark) (ws : List Arrival) → EachOf Q (filter_map waits_by ms) → EachOf Q ws → EachOf Q (waiting_through ms ws)
+pub through : (Q : Arrival → Type 0) (ms : List Mark) (ws : List Arrival) → EachOf Q (filter_map waits_by ms) → EachOf Q ws → EachOf Q (waiting_through ms ws)
 through Q [] ws new old = old
 through Q (Waits a ∷ ms) ws new old = through Q ms (ws ++ a ∷ []) new.1 (each-append Q ws (a ∷ []) old (new.0, tt))
 through Q (Executes a ∷ ms) ws new old = through Q ms (filter (λ b. not (b.event == a.event)) ws) new (each-filter Q (λ b. not (b.event == a.event)) ws old)

@@ -14,6 +14,7 @@ use Rattle.iscsi_outbox_rules.proofs.RoomSteps.{shrinks_done}
 use Rattle.iscsi_history.proofs.NumberingLemmas.{unseen}
 use Rattle.iscsi_history.proofs.ReplyForms.{replies_seen}
 use Rattle.iscsi_outbox_law.specs.Pairs.{EachOf}
+use Rattle.iscsi_ffi_law.proofs.FitArrivals.{through, waits_by}
 use Rattle.iscsi_outbox_law.proofs.PairLemmas.{each-append, each-filter}
 
 abbrev pub IsNumbered : Arrival → Type 0
@@ -85,6 +86,17 @@ fewer_wait o t start a ms d p = subst (λ xs. count_by p (waiting ((start_mark s
     by_start AfterWaiting =
         let ws : List Arrival = filter (λ (b : Arrival). not (b.event == a.event)) (waiting t) in
         let less = shrinks_done a d.deeds p ws in omega (arith, less, fewer_counted p (λ (b : Arrival). not (b.event == a.event)) (waiting t))
+
+pub fewer_each : (o : Setting) (t : Trace) (start : Start) (a : Arrival) (ms : List Mark) → Does o t start a ms → (P : Arrival → Type 0) → EachOf P (waiting t) → EachOf P (waiting ((start_mark start a ∷ ms) ∷ t))
+fewer_each o t start a ms d P each = subst (λ xs. EachOf P (waiting ((start_mark start a ∷ xs) ∷ t))) (sym d.is) (by_start start)
+  where
+    none : EachOf P (filter_map waits_by (marks_done a d.deeds))
+    none = subst (EachOf P) (sym (replies_seen waits_by (λ n. refl) (λ c. refl) (λ b. refl) (λ c. refl) (λ conn. refl) refl a d.deeds ∙ unseen waits_by (Sends (connection_of a.request)) d.deeds.reply (λ reply. refl))) tt
+
+    by_start : (s : Start) → EachOf P (waiting ((start_mark s a ∷ marks_done a d.deeds) ∷ t))
+    by_start AtTurn = through P (marks_done a d.deeds) (waiting t) none each
+    by_start AtArrival = through P (marks_done a d.deeds) (filter (λ (b : Arrival). not (b.event == a.event)) (waiting t)) none (each-filter P (λ (b : Arrival). not (b.event == a.event)) (waiting t) each)
+    by_start AfterWaiting = through P (marks_done a d.deeds) (filter (λ (b : Arrival). not (b.event == a.event)) (waiting t)) none (each-filter P (λ (b : Arrival). not (b.event == a.event)) (waiting t) each)
 
 -- what isn't held stays so where none is admitted
 pub still_unheld : (item : List Mark) (t : Trace) (k : ℕ) → filter_map (admits_at k) item ≡ [] → held t k ≡ None → held (item ∷ t) k ≡ None

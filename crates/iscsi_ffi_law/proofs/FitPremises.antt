@@ -46,6 +46,7 @@ use Rattle.iscsi_history.specs.rules.Management.{MOST_WAITING, waiting_on}
 use Rattle.iscsi_history.specs.rules.Trace.{waiting}
 use Rattle.iscsi_ffi_law.proofs.Members.{in_each}
 use Rattle.iscsi_ffi_law.proofs.Turns.{Becomes, IsExecuted, IsIgnored, IsPostponed, IsReceived, IsRejected, becomes}
+use Rattle.iscsi_ffi_law.proofs.FitPrompt.{prompt_arrival}
 use Rattle.iscsi_ffi_law.proofs.FitReached.{fits_event, fits_reached, sound_event, sound_reached}
 use Rattle.iscsi_ffi_law.proofs.FitReplies.{completes_more}
 use Rattle.iscsi_ffi_law.proofs.FitSides.{IsGood, event_sends, good_event, good_other}
@@ -194,6 +195,17 @@ module _ (i : Interface) (opening : IsOpening i) where
   sounds_below o [] t h = h
   sounds_below o (item ∷ items) t h = (sounds_below o items (item ∷ t) h).1
 
+  -- it is a new one
+  new_received : (s : Side) (cid : ℕ) (header : List ℕ) (rest : List (List Mark)) → items_then i s cid header ≡ (Admits (arrived i s cid header) ∷ []) ∷ rest → is_received s.both.trace (arrived i s cid header).number ≡ false
+  new_received s cid header rest same = new_by (becomes i.outbox.session s.both.trace (arrived i s cid header))
+    where
+      new_by : Becomes i.outbox.session s.both.trace (arrived i s cid header) (items_then i s cid header) → is_received s.both.trace (arrived i s cid header).number ≡ false
+      new_by (IsIgnored why is) = absurd (let z : (Ignores why ∷ []) ∷ [] ≡ (Admits (arrived i s cid header) ∷ []) ∷ rest = sym is ∙ same in cc)
+      new_by (IsRejected is) = absurd (let z : rejected (arrived i s cid header) ∷ [] ≡ (Admits (arrived i s cid header) ∷ []) ∷ rest = sym is ∙ same in cc)
+      new_by (IsReceived more later new is due) = new
+      new_by (IsExecuted d more now done is due) = absurd (let z : (Executes (arrived i s cid header) ∷ marks_done (arrived i s cid header) d) ∷ more ≡ (Admits (arrived i s cid header) ∷ []) ∷ rest = sym is ∙ same in cc)
+      new_by (IsPostponed more now room is due) = absurd (let z : (Waits (arrived i s cid header) ∷ []) ∷ more ≡ (Admits (arrived i s cid header) ∷ []) ∷ rest = sym is ∙ same in cc)
+
   received_fit : (n : ℕ) (s : Side) (cid : ℕ) (header : List ℕ) → is_known cid i.outbox.session.conns ≡ true → cmd_sn (request_of cid header) < 2 ^ 32 → Holds i n s
       → (rest : List (List Mark)) → items_then i s cid header ≡ (Admits (arrived i s cid header) ∷ []) ∷ rest → IsReceivable i.outbox.session s.both.trace (arrived i s cid header)
   received_fit n s cid header known fits h rest same =
@@ -202,14 +214,7 @@ module _ (i : Interface) (opening : IsOpening i) where
       let a : Arrival = arrived i s cid header in
       let sounds : Sounds o ((Admits a ∷ []) ∷ t) = sounds_below o rest ((Admits a ∷ []) ∷ t) (subst (λ items. Sounds o (after_items items t)) same (event_sound o s.both.event t (Arrive cid header) known h.together.sounds)) in
       let range = sounds.0.range a.number a (ap (λ v. first_of (cons_option (cond v (Some a) None) [])) (eq-eqb a.number a.number refl)) in
-      receivable o t s.both.event h.together.forms h.turned h.together.sounds h.wires (limits i opening).window a (wired s.both.event (exp_of o t) cid header fits) (new_by (becomes o t a)) range.0 range.1
-    where
-      new_by : Becomes i.outbox.session s.both.trace (arrived i s cid header) (items_then i s cid header) → is_received s.both.trace (arrived i s cid header).number ≡ false
-      new_by (IsIgnored why is) = absurd (let z : (Ignores why ∷ []) ∷ [] ≡ (Admits (arrived i s cid header) ∷ []) ∷ rest = sym is ∙ same in cc)
-      new_by (IsRejected is) = absurd (let z : rejected (arrived i s cid header) ∷ [] ≡ (Admits (arrived i s cid header) ∷ []) ∷ rest = sym is ∙ same in cc)
-      new_by (IsReceived more later new is due) = new
-      new_by (IsExecuted d more now done is due) = absurd (let z : (Executes (arrived i s cid header) ∷ marks_done (arrived i s cid header) d) ∷ more ≡ (Admits (arrived i s cid header) ∷ []) ∷ rest = sym is ∙ same in cc)
-      new_by (IsPostponed more now room is due) = absurd (let z : (Waits (arrived i s cid header) ∷ []) ∷ more ≡ (Admits (arrived i s cid header) ∷ []) ∷ rest = sym is ∙ same in cc)
+      receivable o t s.both.event h.together.forms h.turned h.together.sounds h.wires (limits i opening).window a (wired s.both.event (exp_of o t) cid header fits) (new_received s cid header rest same) range.0 range.1
 
   refusal_known : (r : Side) (cid : ℕ) → refusal_of i r cid ≡ None → is_known cid i.outbox.session.conns ≡ true
   refusal_known r cid is = (taken_in i r cid is).known
@@ -242,6 +247,7 @@ module _ (i : Interface) (opening : IsOpening i) where
           few = (let tasks = fits'.tasks in omega (arith, tasks, many));
           regular = record { ascending = tickets_up i.outbox after together; units = units_there i.outbox after together };
           known = refusal_known r cid is;
+          prompt = λ rest same. prompt_arrival i.outbox.session s.both.event s.both.trace (arrived i s cid header) g.turned (new_received s cid header rest same) (received_fit (n + 1) s cid header (refusal_known r cid is) (wired_bytes cid header bytes) g rest same).untaken rest same;
           waits = in_each (λ (b : Arrival). waiting_on (connection_of b.request) s.both.trace ≤ MOST_WAITING) (waiting s.both.trace) (λ b at. g.turned.four (connection_of b.request));
           distinct = distinct_forms i.outbox.session s.both.trace s.both.event g.together.forms;
           received = λ rest same. received_fit (n + 1) s cid header (refusal_known r cid is) (wired_bytes cid header bytes) g rest same;

@@ -120,6 +120,7 @@ mod FitHeld
 mod FitRoom
 mod FitMarks
 mod FitTurns
+mod FitPrompt
 mod FitReceived
 mod FitOnce
 mod FitItems

@@ -4,7 +4,7 @@ use Rattle.std.specs.List.{filter_map, list_any}
 use Rattle.iscsi_wire.specs.declared.reply.Reply.{Reply}
 use Rattle.iscsi_history.specs.declared.event.Event.TheVariants.{Arrive}
 use Rattle.iscsi_history.specs.rules.Settings.{is_known}
-use Rattle.iscsi_history.specs.rules.Trace.{Admits, Arrival, Executes, Mark, first_of, is_closed, waiting}
+use Rattle.iscsi_history.specs.rules.Trace.{Arrival, Executes, Mark, first_of, is_closed, waiting}
 use Rattle.iscsi_outbox_rules.specs.promises.Room.{places}
 use Rattle.iscsi_outbox_rules.specs.rules.Items.{reply_sent, ticket_enabled}
 use Rattle.iscsi_outbox_rules.specs.rules.Words.{replies_waiting}
@@ -14,7 +14,7 @@ use Rattle.iscsi_ffi_rules.specs.rules.Happening.{happening, stepped}
 use Rattle.iscsi_ffi_rules.specs.rules.Run.{after_call, heard_in, is_lost, refusal_of}
 use Rattle.iscsi_ffi_rules.specs.rules.Sides.{Side}
 use Rattle.iscsi_ffi_steps.specs.Steps.{Side as StepsSide, after, called, ended}
-use Rattle.iscsi_ffi_law.specs.Arrived.{are_plain, arrived, effects_by, effects_then, enabled_then, is_first_waiting, items_then, side_behind, starts_late, withheld_in}
+use Rattle.iscsi_ffi_law.specs.Arrived.{are_plain, effects_by, effects_then, enabled_then, is_first_waiting, items_then, side_behind, withheld_in}
 use Rattle.iscsi_ffi_law.specs.Lists.{Goes}
 
 -- what is still premised of an item: where a reply goes out, there is a place for it; a function that has waited is the first one
@@ -31,7 +31,6 @@ pub record IsEventLeft (i : Interface) (r : Side) (cid : ℕ) (header : List ℕ
   pub steps : AreStepsLeft i r (items_then i r cid header)
   pub short : length (items_then i r cid header) ≤ places i.outbox
   pub enabled : length (filter_map ticket_enabled (effects_then i r cid header)) ≤ places i.outbox
-  pub prompt : (rest : List (List Mark)) → items_then i r cid header ≡ (Admits (arrived i r cid header) ∷ []) ∷ rest → starts_late r.both.event rest ≡ false
   pub plain : are_plain (items_then i r cid header) ≡ true
   pub held : withheld_in (happening i r (Arrive cid header)).side ≡ filter (is_withheld (stepped i r (Arrive cid header))) (enabled_then i r cid header)
 

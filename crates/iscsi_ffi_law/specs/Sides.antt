@@ -22,7 +22,7 @@ use Rattle.iscsi_ffi_rules.specs.rules.Clearing.{TASK_ABORTED}
 use Rattle.iscsi_ffi_rules.specs.rules.Happening.{happening, other, stepped}
 use Rattle.iscsi_ffi_rules.specs.rules.Run.{after_call, heard_in, is_going, is_lost, parting, refusal_of, tag_heard, word_at}
 use Rattle.iscsi_ffi_rules.specs.rules.Sides.{Side}
-use Rattle.iscsi_ffi_law.specs.Arrived.{AreBefore, AreDistinct, IsItemFit, IsReceivable, arrive_call, arrived, effects_then, items_then}
+use Rattle.iscsi_ffi_law.specs.Arrived.{AreBefore, AreDistinct, IsItemFit, IsReceivable, arrive_call, arrived, effects_then, items_then, starts_late}
 use Rattle.iscsi_ffi_law.specs.Done.{AllDone, AreDoneFit, IsRegular}
 use Rattle.iscsi_ffi_law.specs.Fit.{IsFit, IsOrderly}
 use Rattle.iscsi_ffi_law.specs.Parts.{IsBefore}
@@ -83,6 +83,7 @@ pub record IsHeardFit (i : Interface) (r : Side) (cid : ℕ) (header : List ℕ)
   pub few : length (live (stepped i r (Arrive cid header)).both.trace) ≤ places i.outbox
   pub regular : IsRegular i (stepped i r (Arrive cid header))
   pub known : is_known cid i.outbox.session.conns ≡ true
+  pub prompt : (rest : List (List Mark)) → items_then i r cid header ≡ (Admits (arrived i r cid header) ∷ []) ∷ rest → starts_late r.both.event rest ≡ false
   pub waits : EachOf (λ (b : Arrival). waiting_on (connection_of b.request) r.both.trace ≤ MOST_WAITING) (waiting r.both.trace)
   pub distinct : AreDistinct r.both.trace
   pub received : (rest : List (List Mark)) → items_then i r cid header ≡ (Admits (arrived i r cid header) ∷ []) ∷ rest → IsReceivable i.outbox.session r.both.trace (arrived i r cid header)
