@@ -107,6 +107,5 @@ module _ (i : Interface) (s : StepsSide) (r : Side) (h : Stands i s r) (cid : â„
   pub arrives_alike : IsPlainArrival i (rules.heard_in i r cid header) cid header â†’ GoesAlike i s r (Arrives cid header cookie)
   arrives_alike k = arrives_as (arrives_to i _ h.notes s1 r1 cid header place found_there (record {
     plain = k.plain;
-    held = k.held;
     withheld = asked_fit i (length (live (happening_there i (rules.heard_in i r cid header) (Arrive cid header)).side.both.trace)) (happening_there i (rules.heard_in i r cid header) (Arrive cid header)).side r1.asked _ _ k.withheld;
   }))

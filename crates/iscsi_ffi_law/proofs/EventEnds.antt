@@ -37,7 +37,7 @@ use Rattle.iscsi_ffi_rules.specs.rules.Sides.{Side}
 use Rattle.iscsi_ffi_steps.specs.State.{State}
 use Rattle.iscsi_ffi_steps.specs.Steps.{reset_in, resets_in, start_each, takes, walk_from}
 use Rattle.iscsi_ffi_steps.specs.Walk.{Doing, Walk, in_state, on_effects, sweep, tell_all, touched_by}
-use Rattle.iscsi_ffi_law.specs.Arrived.{is_plain, starts_late}
+use Rattle.iscsi_ffi_law.specs.Arrived.{AreStepsFit, is_plain, starts_late}
 use Rattle.iscsi_ffi_law.specs.Done.{IsRegular}
 use Rattle.iscsi_ffi_law.specs.Fit.{IsFit}
 use Rattle.iscsi_ffi_law.specs.Names.{Name, Note}
@@ -53,6 +53,7 @@ use Rattle.iscsi_ffi_law.proofs.EventRules.{admits_alone, all_enabled, all_reset
 use Rattle.iscsi_ffi_law.proofs.Flags.{is_used_place}
 use Rattle.iscsi_ffi_law.proofs.ItemsGo.{AllGo, side_after}
 use Rattle.iscsi_ffi_law.proofs.Members.{in_counted}
+use Rattle.iscsi_ffi_law.proofs.HeldNews.{enters_once}
 use Rattle.iscsi_ffi_law.proofs.Moved.{IsMoved, commands_known, requests_moved, run_same}
 use Rattle.iscsi_ffi_law.proofs.NameLemmas.{found_named}
 use Rattle.iscsi_ffi_law.proofs.EndsWith.{told_all}
@@ -109,6 +110,8 @@ pub record IsEventOf (i : Interface) (r : Side) (e : Event) : Type 0 where
   pub prompt : starts_late r.both.event (items_of i.outbox.session r.both.event r.both.trace e) ≡ false
   pub few : length (live (stepped i r e).both.trace) ≤ places i.outbox
   pub regular : IsRegular i (stepped i r e)
+  pub steps : AreStepsFit i r (items_of i.outbox.session r.both.event r.both.trace e)
+  pub once : list_all enters_once (items_of i.outbox.session r.both.event r.both.trace e) ≡ true
   pub alone : list_all admits_alone (items_of i.outbox.session r.both.event r.both.trace e) ≡ true
   pub behind : IsSound i.outbox (side_after i r (items_of i.outbox.session r.both.event r.both.trace e)).both.box
 

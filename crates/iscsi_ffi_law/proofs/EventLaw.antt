@@ -5,7 +5,7 @@ use Rattle.std.proofs.lemmas.Bool.{eqb-true, false≢true}
 use Rattle.std.proofs.lemmas.List.{length-map}
 use Rattle.iscsi_history.specs.declared.event.Event.{Event}
 use Rattle.iscsi_history.specs.rules.Agenda.{items_of}
-use Rattle.iscsi_history.specs.rules.Run.{effects_of, entry_of}
+use Rattle.iscsi_history.specs.rules.Run.{entry_of}
 use Rattle.iscsi_history.specs.rules.Trace.{was_free, Admits, ClosesConn, ClosesSession, Command as RulesCommand, Delivers, Empties, Enters, Executes, Ignores, Leaves, Mark, Sends, Trace, Voids, Waits, after_items, entered, has, leaves_ticket, live}
 use Rattle.iscsi_history.proofs.BoolLemmas.{and_parts}
 use Rattle.iscsi_history.proofs.CountLemmas.{one, count-cons}
@@ -16,11 +16,10 @@ use Rattle.iscsi_outbox_steps.specs.Steps.{is_running_ticket}
 use Rattle.iscsi_ffi_commands.specs.declared.command.Command.{Command}
 use Rattle.iscsi_ffi_commands.specs.Commands.{is_live}
 use Rattle.iscsi_history.proofs.ElementLemmas.{In, filter-in, in-filter}
-use Rattle.iscsi_outbox_rules.specs.rules.Items.{ticket_enabled}
 use Rattle.iscsi_outbox_law.specs.Stands.{Stands as OutboxStands}
 use Rattle.iscsi_ffi_rules.specs.declared.action.Action.{Action}
 use Rattle.iscsi_ffi_rules.specs.rules.Calls.{Interface}
-use Rattle.iscsi_ffi_rules.specs.rules.Clearing.{is_withheld}
+use Rattle.iscsi_ffi_rules.specs.rules.Clearing.{is_withheld, next_withheld}
 use Rattle.iscsi_ffi_rules.specs.rules.Happening.{Told, happening as happening_there, happens as happens_there, leaving, live_with, start as start_there, stops_in, withheld, withholding as withholding_there}
 use Rattle.iscsi_ffi_rules.specs.rules.Run as rules
 use Rattle.iscsi_ffi_rules.specs.rules.Run.{cids}
@@ -28,7 +27,7 @@ use Rattle.iscsi_ffi_rules.specs.rules.Sides.{Side}
 use Rattle.iscsi_ffi_steps.specs.State.{State}
 use Rattle.iscsi_ffi_steps.specs.Steps.{Going, done, happening, happens, start_each, takes, withholding}
 use Rattle.iscsi_ffi_steps.specs.Walk.{Doing}
-use Rattle.iscsi_ffi_law.specs.Arrived.{is_plain, withheld_in}
+use Rattle.iscsi_ffi_law.specs.Arrived.{is_plain}
 use Rattle.iscsi_ffi_law.specs.Done.{AreDoneFit}
 use Rattle.iscsi_ffi_law.specs.Parts.{IsCommand, is_named}
 use Rattle.iscsi_ffi_law.specs.Uses.{is_used, uses_of}
@@ -37,7 +36,7 @@ use Rattle.iscsi_ffi_law.specs.Stands.{AreRequests}
 use Rattle.iscsi_ffi_law.proofs.Between.{IsBetween, pending_as}
 use Rattle.iscsi_ffi_law.proofs.Ascending.{all_more, all_up, filtered_up, same_list}
 use Rattle.iscsi_ffi_law.proofs.Commands.{one_command}
-use Rattle.iscsi_ffi_law.proofs.DoneChain.{chain}
+use Rattle.iscsi_ffi_law.proofs.DoneChain.{chain, none_first}
 use Rattle.iscsi_ffi_law.proofs.DoneHeld.{held_of}
 use Rattle.iscsi_ffi_law.proofs.DoneMid.{IsMid, requests_held}
 use Rattle.iscsi_ffi_law.proofs.DoneShape.{few_counted, tickets_of}
@@ -46,6 +45,7 @@ use Rattle.iscsi_ffi_law.proofs.EventEnds.{IsEventOf, between_n, d3, few_told, m
 use Rattle.iscsi_ffi_law.proofs.EventGoes.{outbox_first, parts}
 use Rattle.iscsi_ffi_law.proofs.EventRules.{all_enabled, news_of}
 use Rattle.iscsi_ffi_law.proofs.Flags.{is_used_place}
+use Rattle.iscsi_ffi_law.proofs.HeldNews.{all_held, withheld_left}
 use Rattle.iscsi_ffi_law.proofs.ItemsGo.{AllGo}
 use Rattle.iscsi_ffi_law.proofs.Marking.{named_first}
 use Rattle.iscsi_ffi_law.proofs.Members.{find_in, in_counted, in_find}
@@ -101,7 +101,7 @@ live_kept keep (c ∷ cs) kept = by_tests (live_kept keep cs (λ x there. kept x
 
 module _ (i : Interface) (names : List Name) (notes : List Note) (s : State) (r : Side) (own : Option ℕ) (e : Event) (fit : IsEventOf i r e) (k : OutboxStands i.outbox s.outbox r.both.box)
     (go : AllGo i names notes (record s { outbox = outbox_first i r e (parts i r e).lead s.outbox }) r own [] (items_of i.outbox.session r.both.event r.both.trace e))
-    (held : withheld_in (happening_there i r e).side ≡ filter (is_withheld (side2 i names notes s r own e fit k go)) (filter_map (live_with (after_items (items_of i.outbox.session r.both.event r.both.trace e) r.both.trace)) (filter_map ticket_enabled (effects_of i.outbox.session r.both.trace (items_of i.outbox.session r.both.event r.both.trace e)))))
+    (calm : next_withheld r ≡ None)
     (fits : let w = happening_there i r e in AreDoneFit i (length (live w.side.both.trace)) w) where
   abbrev news : List RulesCommand
   news = news_of i.outbox.session r.both.trace (items_of i.outbox.session r.both.event r.both.trace e)
@@ -193,8 +193,8 @@ module _ (i : Interface) (names : List Name) (notes : List Note) (s : State) (r 
 
   -- those that are withheld, in the order of their tickets
   held_news : withheld_of two news ≡ held_of side3
-  held_news =
-      ap (filter (is_withheld two)) (sym (ap (filter_map (live_with t2)) (all_enabled i.outbox.session r.both.trace marks) ∙ all_found news found_live)) ∙ sym held ∙ ap (λ (w : Told). withheld_in w.side) rules_are
+  held_news = withheld_left (is_withheld two) r.told t2 news
+      (all_held i marks r fit.plain fit.once fit.steps fit.regular.units ∙ ap (λ cs. cs ++ news) (none_first (held_of r) calm)) (requests2 i names notes s r own e fit k go).tickets
 
   held_then : all_inserted (tickets_of (withheld_of two news)) go.state.withheld ≡ tickets_of (held_of side3)
   held_then =

@@ -92,7 +92,7 @@ pub free_later : (items : List (List Mark)) (t : Trace) (c : Command) → was_fr
 free_later [] t c free = free
 free_later (item ∷ items) t c free = free_later items (item ∷ t) c (or_right (is_free_at c (item ∷ t)) (was_free c t) free)
 
-none_leaves : (k : ℕ) (ms : List Mark) → list_all is_plain ms ≡ true → list_any (leaves_ticket k) ms ≡ false
+pub none_leaves : (k : ℕ) (ms : List Mark) → list_all is_plain ms ≡ true → list_any (leaves_ticket k) ms ≡ false
 none_leaves k [] h = refl
 none_leaves k (Admits a ∷ ms) h = none_leaves k ms h
 none_leaves k (Delivers a ∷ ms) h = none_leaves k ms h

@@ -80,7 +80,6 @@ module _ (i : Interface) (opening : IsOpening i) where
           placed = placed i opening n s r st z h;
           plain = record {
             plain = e.plain;
-            held = e.held;
             withheld = (let v = happening i (asking (heard_in i r cid header) cookie) (Arrive cid header) in let u = happening i (heard_in i r cid header) (Arrive cid header) in done_asked i (length (live v.side.both.trace)) v.side u.side.asked v.actions u.actions k.withheld);
           };
         })))

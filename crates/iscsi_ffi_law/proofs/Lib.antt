@@ -72,6 +72,7 @@ mod Turns
 mod ItemsGo
 mod StartsAfter
 mod EventRules
+mod HeldNews
 mod EventGoes
 mod EventEnds
 mod EventLaw

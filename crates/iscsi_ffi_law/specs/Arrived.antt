@@ -1,5 +1,5 @@
 -- What is premised of a request that is taken: of the rules' side alone.
-use Rattle.std.specs.Prelude.{◌≡◌, ◌<◌, ◌≤◌, ◌+◌, ◌-◌, ◌^◌, ◌==◌, ◌&&◌, ◌||◌, not, ℕ, Bool, true, false, count_by, filter, length, Some, List, [], ◌∷◌, ◌++◌}
+use Rattle.std.specs.Prelude.{◌≡◌, ◌<◌, ◌≤◌, ◌+◌, ◌-◌, ◌^◌, ◌==◌, ◌&&◌, ◌||◌, not, ℕ, Bool, true, false, count_by, length, Some, List, [], ◌∷◌, ◌++◌}
 use Rattle.std.specs.List.{filter_map, find, list_all, list_any}
 use Rattle.iscsi_wire.specs.declared.reply.Reply.{Reply}
 use Rattle.iscsi_wire.specs.Fields.{cmd_sn, connection_of, request_of}
@@ -12,7 +12,7 @@ use Rattle.iscsi_history.specs.rules.Management.{MOST_WAITING, waiting_on}
 use Rattle.iscsi_history.specs.rules.Settings.{Setting, is_known}
 use Rattle.iscsi_requests.specs.Numbers.{IsInWindow, size_for}
 use Rattle.iscsi_history.specs.rules.Run.{effects_of_item, entry_of}
-use Rattle.iscsi_history.specs.rules.Trace.{Admits, Arrival, ClosesConn, ClosesSession, Command, Empties, Executes, Leaves, Mark, Trace, enters, entered, first_of, has, held, is_among, is_delivered, is_emptied, leaves_ticket, live, shown, waiting, was_free}
+use Rattle.iscsi_history.specs.rules.Trace.{Admits, Arrival, ClosesConn, ClosesSession, Command, Empties, Executes, Leaves, Mark, Trace, enters, entered, first_of, has, held, is_among, is_delivered, is_emptied, leaves_ticket, live, shown, waiting}
 use Rattle.iscsi_outbox_rules.specs.promises.Room.{Fits, places}
 use Rattle.iscsi_outbox_rules.specs.rules.Boxes.{Box, Handed, Link}
 use Rattle.iscsi_outbox_rules.specs.rules.Calls as outbox
@@ -24,8 +24,7 @@ use Rattle.iscsi_outbox_rules.specs.rules.Words.{contains, is_running, replies_w
 use Rattle.iscsi_outbox_law.specs.Pairs.{EachOf}
 use Rattle.iscsi_outbox_law.specs.Sound.{IsItemSound, IsSound, NoneIsFresh}
 use Rattle.iscsi_ffi_rules.specs.rules.Calls.{Interface}
-use Rattle.iscsi_ffi_rules.specs.rules.Clearing.{is_withheld}
-use Rattle.iscsi_ffi_rules.specs.rules.Happening.{answers_in, happening, live_with, stepped}
+use Rattle.iscsi_ffi_rules.specs.rules.Happening.{answers_in, happening, stepped}
 use Rattle.iscsi_ffi_rules.specs.rules.Needs.{admitted_by}
 use Rattle.iscsi_ffi_rules.specs.rules.Run.{heard_in, tag_heard, word_at}
 use Rattle.iscsi_ffi_rules.specs.rules.Sides.{Asked, Side}
@@ -163,18 +162,9 @@ is_plain _ = true
 abbrev pub are_plain : List (List Mark) → Bool
 are_plain items = list_all (list_all is_plain) items
 
--- the commands that it enables, and that are live then
-abbrev pub enabled_then : Interface → Side → ℕ → List ℕ → List Command
-enabled_then i r cid header = filter_map (live_with (stepped i r (Arrive cid header)).both.trace) (filter_map ticket_enabled (effects_then i r cid header))
-
--- the commands that are enabled, and weren't told to start
-abbrev pub withheld_in : Side → List Command
-withheld_in r = filter (λ (c : Command). was_free c r.both.trace && not (contains r.told c.ticket)) (live r.both.trace)
-
 -- its items are plain; those that it enables and that are withheld complete behind it, one after the other
 pub record IsPlainArrival (i : Interface) (r : Side) (cid : ℕ) (header : List ℕ) : Type 0 where
   pub plain : are_plain (items_then i r cid header) ≡ true
-  pub held : withheld_in (happening i r (Arrive cid header)).side ≡ filter (is_withheld (stepped i r (Arrive cid header))) (enabled_then i r cid header)
   pub withheld : let w = happening i r (Arrive cid header) in AreDoneFit i (length (live w.side.both.trace)) w
 
 -- the place of its request is one of those that there are

@@ -1,20 +1,17 @@
 -- What is still premised of each call of a list, where the options are within their limits and the list isn't too long.
-use Rattle.std.specs.Prelude.{◌≡◌, ◌<◌, ◌≤◌, ◌==◌, ◌⊎◌, ℕ, true, false, List, [], ◌∷◌, filter, length, Some, None}
+use Rattle.std.specs.Prelude.{◌≡◌, ◌<◌, ◌≤◌, ◌==◌, ◌⊎◌, ℕ, true, false, List, [], ◌∷◌, length, Some, None}
 use Rattle.std.specs.List.{filter_map, list_any}
 use Rattle.iscsi_wire.specs.declared.reply.Reply.{Reply}
-use Rattle.iscsi_history.specs.declared.event.Event.TheVariants.{Arrive}
 use Rattle.iscsi_history.specs.rules.Settings.{is_known}
 use Rattle.iscsi_history.specs.rules.Trace.{Arrival, Executes, Mark, first_of, is_closed, waiting}
 use Rattle.iscsi_outbox_rules.specs.promises.Room.{places}
 use Rattle.iscsi_outbox_rules.specs.rules.Items.{reply_sent, ticket_enabled}
 use Rattle.iscsi_outbox_rules.specs.rules.Words.{replies_waiting}
 use Rattle.iscsi_ffi_rules.specs.rules.Calls.{Arrives, Call, Interface, Loses}
-use Rattle.iscsi_ffi_rules.specs.rules.Clearing.{is_withheld}
-use Rattle.iscsi_ffi_rules.specs.rules.Happening.{happening, stepped}
 use Rattle.iscsi_ffi_rules.specs.rules.Run.{after_call, heard_in, is_lost, refusal_of}
 use Rattle.iscsi_ffi_rules.specs.rules.Sides.{Side}
 use Rattle.iscsi_ffi_steps.specs.Steps.{Side as StepsSide, after, called, ended}
-use Rattle.iscsi_ffi_law.specs.Arrived.{are_plain, effects_by, effects_then, enabled_then, is_first_waiting, items_then, side_behind, withheld_in}
+use Rattle.iscsi_ffi_law.specs.Arrived.{are_plain, effects_by, effects_then, is_first_waiting, items_then, side_behind}
 use Rattle.iscsi_ffi_law.specs.Lists.{Goes}
 
 -- what is still premised of an item: where a reply goes out, there is a place for it; a function that has waited is the first one
@@ -26,13 +23,12 @@ abbrev pub AreStepsLeft : Interface → Side → List (List Mark) → Type 0
 AreStepsLeft i r [] = Unit {0}
 AreStepsLeft i r (item ∷ items) = IsStepLeft i r item × AreStepsLeft i (side_behind i r item) items
 
--- .. and of the event in which a header arrives: its items are plain, and those that are withheld then are those that it enabled
+-- .. and of the event in which a header arrives: its items are plain
 pub record IsEventLeft (i : Interface) (r : Side) (cid : ℕ) (header : List ℕ) : Type 0 where
   pub steps : AreStepsLeft i r (items_then i r cid header)
   pub short : length (items_then i r cid header) ≤ places i.outbox
   pub enabled : length (filter_map ticket_enabled (effects_then i r cid header)) ≤ places i.outbox
   pub plain : are_plain (items_then i r cid header) ≡ true
-  pub held : withheld_in (happening i r (Arrive cid header)).side ≡ filter (is_withheld (stepped i r (Arrive cid header))) (enabled_then i r cid header)
 
 -- a request that is taken is such a one, or goes alike; a connection that is lost and isn't closed goes alike
 abbrev pub Left : Interface → StepsSide → Side → Call → Type 0
