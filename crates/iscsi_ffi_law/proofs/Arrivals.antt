@@ -102,7 +102,7 @@ module _ (i : Interface) (s : StepsSide) (r : Side) (h : Stands i s r) (cid : â„
       record { answer = e.answer; tells = e.tells; stands = e.stands }
 
   found_there : IsFoundAt i (names_open i s r h cid header cookie fit free_place.place free_place.is within) h.notes s1 r1 cid header free_place.place
-  found_there = opens_at i s r h cid header cookie fit free_place.place free_place.is within
+  found_there = opens_at i s r h cid header cookie fit free_place.place free_place.is within none
 
   pub arrives_alike : IsPlainArrival i (rules.heard_in i r cid header) cid header â†’ GoesAlike i s r (Arrives cid header cookie)
   arrives_alike k = arrives_as (arrives_to i _ h.notes s1 r1 cid header place found_there (record {

@@ -129,7 +129,7 @@ module _ (i : Interface) (names : List Name) (notes : List Note) (s : State) (r 
   event_of alone prompt once = record {
     fit = f.fit.fit;
     stale = f.fit.stale;
-    events = f.fit.events;
+    events = f.events;
     sent = f.fit.sent;
     short = f.fit.short;
     enabled = f.fit.enabled;
@@ -216,7 +216,7 @@ module _ (i : Interface) (names : List Name) (notes : List Note) (s : State) (r 
       not_held (ap (λ ms. is_held_first request (effects_of i.outbox.session r.both.trace ms)) is ∙ ap not immediate) (ap (list_all admits_alone) is ∙ due_alone i rest ((Waits a ∷ []) ∷ r.both.trace) due) (ap (starts_late r.both.event) is)
       (once_by ((Waits a ∷ []) ∷ rest) is (due_once i rest ((Waits a ∷ []) ∷ r.both.trace) due (and_parts (list_all is_plain (Waits a ∷ [])) (list_all (list_all is_plain) rest) (subst (λ ms. list_all (list_all is_plain) ms ≡ true) is p.plain)).1))
       (subst (AllGo i names notes s0 r (Some place) []) (sym is)
-      (postponed_go i names notes f.fit.fit.distinct s0 r place first a refl f.before.admitted f.before.waiting f.fit.known f.fit.waits few rest due
+      (postponed_go i names notes f.fit.fit.distinct s0 r place first a refl f.before.admitted f.before.waiting f.known f.fit.waits few rest due
       (and_parts (list_all is_plain (Waits a ∷ [])) (list_all (list_all is_plain) rest) (subst (λ ms. list_all (list_all is_plain) ms ≡ true) is p.plain)).1 (subst (AreStepsFit i r) is f.fit.steps)))
 
   pub arrives_to : ArrivesTo

@@ -9,7 +9,7 @@ use Rattle.iscsi_history.specs.declared.event.Event.TheVariants.{Arrive}
 use Rattle.iscsi_history.specs.rules.Agenda.{arrival_of, items_of}
 use Rattle.iscsi_history.specs.rules.Execution.{exp_of}
 use Rattle.iscsi_history.specs.rules.Management.{MOST_WAITING, waiting_on}
-use Rattle.iscsi_history.specs.rules.Settings.{Setting, is_known}
+use Rattle.iscsi_history.specs.rules.Settings.{Setting}
 use Rattle.iscsi_requests.specs.Numbers.{IsInWindow, size_for}
 use Rattle.iscsi_history.specs.rules.Run.{effects_of_item, entry_of}
 use Rattle.iscsi_history.specs.rules.Trace.{Admits, Arrival, ClosesConn, ClosesSession, Command, Empties, Executes, Leaves, Mark, Trace, enters, entered, first_of, has, held, is_among, is_delivered, is_emptied, leaves_ticket, live, shown, waiting}
@@ -129,14 +129,13 @@ pub record IsEventFit (i : Interface) (r : Side) (cid : ℕ) (header : List ℕ)
   pub fit : IsFit i r.both.box (after_call i.outbox r.both.box (arrive_call i r cid header))
   pub steps : AreStepsFit i r (items_of i.outbox.session r.both.event r.both.trace (Arrive cid header))
   pub stale : NoneIsFresh r.both.box
-  -- the session takes one event more; it has no more items, and enables no more commands, than there are places for
-  pub events : r.both.event < i.outbox.session.events
+  -- it has no more items, enables no more commands, and leaves no more of them live than there are places for
   pub sent : r.both.box.sent < 2 ^ 64 - 1
   pub short : length (items_of i.outbox.session r.both.event r.both.trace (Arrive cid header)) ≤ places i.outbox
   pub enabled : length (filter_map ticket_enabled (effects_then i r cid header)) ≤ places i.outbox
   pub few : length (live (stepped i r (Arrive cid header)).both.trace) ≤ places i.outbox
+  -- tickets go up, and units are the session's, also of the commands that enter
   pub regular : IsRegular i (stepped i r (Arrive cid header))
-  pub known : is_known cid i.outbox.session.conns ≡ true
   pub distinct : AreDistinct r.both.trace
   pub received : (rest : List (List Mark)) → items_of i.outbox.session r.both.event r.both.trace (Arrive cid header) ≡ (Admits (arrived i r cid header) ∷ []) ∷ rest → IsReceivable i.outbox.session r.both.trace (arrived i r cid header)
   -- what waits, waits for a number that is still to come
