@@ -240,13 +240,11 @@ module _ (i : Interface) (opening : IsOpening i) where
           fit = fit_with (n + 1) (n + 1) s.both (after_step i.outbox s.both (Happens (Arrive cid header))) g.good (good_event i.outbox (n + 1) s.both (Arrive cid header) read g.good) (omega (arith, few)) (omega (arith, few)) (omega (arith, early, later)) (omega (arith, early, later));
           items = event_items_fit (n + 1) s (Arrive cid header) read g.good (omega (arith, few)) (omega (arith, early, later));
           stale = (sound_reached i.outbox distinct s.both g.good.reached).1;
-          events = omega (arith, left, later);
           sent = (let x = g.good.sent_is in omega (arith, x, early, later));
           replies = room_left (arrival_room i distinct n r cid header is h);
           handed = g.placed.handed;
           few = (let tasks = fits'.tasks in omega (arith, tasks, many));
           regular = record { ascending = tickets_up i.outbox after together; units = units_there i.outbox after together };
-          known = refusal_known r cid is;
           prompt = λ rest same. prompt_arrival i.outbox.session s.both.event s.both.trace (arrived i s cid header) g.turned (new_received s cid header rest same) (received_fit (n + 1) s cid header (refusal_known r cid is) (wired_bytes cid header bytes) g rest same).untaken rest same;
           waits = in_each (λ (b : Arrival). waiting_on (connection_of b.request) s.both.trace ≤ MOST_WAITING) (waiting s.both.trace) (λ b at. g.turned.four (connection_of b.request));
           distinct = distinct_forms i.outbox.session s.both.trace s.both.event g.together.forms;

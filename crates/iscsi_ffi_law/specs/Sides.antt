@@ -76,13 +76,11 @@ pub record IsHeardFit (i : Interface) (r : Side) (cid : ℕ) (header : List ℕ)
   pub fit : IsFit i r.both.box (after_box_call i.outbox r.both.box (arrive_call i r cid header))
   pub items : AreItemsFit i.outbox r.both.box (in_parts (effects_then i r cid header))
   pub stale : NoneIsFresh r.both.box
-  pub events : r.both.event < i.outbox.session.events
   pub sent : r.both.box.sent < 2 ^ 64 - 1
   pub replies : replies_waiting r.both.box < places i.outbox
   pub handed : EachOf (λ (l : Link). EachOf (λ (h : Handed). IsBefore r.both.box.sent h.out.sent) l.handed) r.both.box.links
   pub few : length (live (stepped i r (Arrive cid header)).both.trace) ≤ places i.outbox
   pub regular : IsRegular i (stepped i r (Arrive cid header))
-  pub known : is_known cid i.outbox.session.conns ≡ true
   pub prompt : (rest : List (List Mark)) → items_then i r cid header ≡ (Admits (arrived i r cid header) ∷ []) ∷ rest → starts_late r.both.event rest ≡ false
   pub waits : EachOf (λ (b : Arrival). waiting_on (connection_of b.request) r.both.trace ≤ MOST_WAITING) (waiting r.both.trace)
   pub distinct : AreDistinct r.both.trace
