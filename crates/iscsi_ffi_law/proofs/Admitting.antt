@@ -7,7 +7,7 @@ use Rattle.iscsi_wire.specs.Fields.{cmd_sn}
 use Rattle.iscsi_wire.specs.Serial.{wire}
 use Rattle.iscsi_history.specs.rules.Execution.{exp_of}
 use Rattle.iscsi_history.specs.rules.Settings.{Setting}
-use Rattle.iscsi_history.specs.rules.Trace.{Admits, Arrival, ClosesConn, ClosesSession, Delivers, Empties, Enters, Executes, Ignores, Leaves, Mark, Sends, Trace, Voids, Waits, held, is_delivered, is_emptied, is_received, number_received, shown}
+use Rattle.iscsi_history.specs.rules.Trace.{Admits, Arrival, ClosesConn, ClosesSession, Delivers, Empties, Enters, Executes, Ignores, Leaves, Mark, Sends, Trace, Voids, Waits, held, is_delivered, is_emptied, is_received, number_received, shown, waiting}
 use Rattle.iscsi_history.proofs.BoolLemmas.{and_parts}
 use Rattle.iscsi_history.proofs.CountLemmas.{one, count-cons}
 use Rattle.iscsi_history.proofs.ElementLemmas.{In, append-in_first, append-in_second, in-append}
@@ -80,7 +80,7 @@ find_other p (x ∷ xs) y isnt = ap (λ z. cond (p x) (Some x) z) (find_other p 
 -- ---- it is received
 
 module _ (o : Setting) (names : List Name) (notes : List Note) (pending : ℕ → ℕ) (gone : ℕ → List (Option ℕ)) (s : State) (r : Side) (k : AreRequests names notes pending gone s r) (h : AreHeld (size_for o.window) s.commands.room names s.held r.both.trace) (d : AreDistinct r.both.trace) (some : 0 < length s.held.places)
-    (a : Arrival) (before : EachOf (λ (b : Arrival). b.event < a.event) (shown admitted_by r.both.trace)) (new : is_received r.both.trace a.number ≡ false) (fit : IsReceivable o r.both.trace a) (place : ℕ) (named : place_named names a.event ≡ Some place) where
+    (a : Arrival) (before : EachOf (λ (b : Arrival). b.event < a.event) (shown admitted_by r.both.trace)) (waits_before : EachOf (λ (b : Arrival). b.event < a.event) (waiting r.both.trace)) (new : is_received r.both.trace a.number ≡ false) (fit : IsReceivable o r.both.trace a) (place : ℕ) (named : place_named names a.event ≡ Some place) where
   abbrev t : Trace
   t = r.both.trace
 
@@ -230,13 +230,15 @@ module _ (o : Setting) (names : List Name) (notes : List Note) (pending : ℕ �
           omega (arith, here, none, count_more (λ (x : Arrival). x.number == n))
       by_number n false is = let here : one (a.number == n) ≡ 0 = ap one is in omega (arith, here, d.numbers n, count_more (λ (x : Arrival). x.number == n))
 
-      by_event : (e : ℕ) (v : Bool) → (a.event == e) ≡ v → count_by (λ (x : Arrival). x.event == e) (shown admitted_by t ++ a ∷ []) ≤ 1
+      by_event : (e : ℕ) (v : Bool) → (a.event == e) ≡ v → count_by (λ (x : Arrival). x.event == e) (shown admitted_by t ++ a ∷ []) + count_by (λ (x : Arrival). x.event == e) (waiting t) ≤ 1
       by_event e true is =
           let here : one (a.event == e) ≡ 1 = ap one is in
           let at : a.event ≡ e = eqb-true a.event e is in
           let none : count_by (λ (x : Arrival). x.event == e) (shown admitted_by t) ≡ 0
           = count_nothing (λ (x : Arrival). x.event == e) (shown admitted_by t) (λ b there. ne_eqb b.event e (λ same. let lt : b.event < a.event = each_in (λ (c : Arrival). c.event < a.event) (shown admitted_by t) b there before in let none : ⊥ = omega (arith, same, lt, at) in none)) in
-          omega (arith, here, none, count_more (λ (x : Arrival). x.event == e))
+          let none_waits : count_by (λ (x : Arrival). x.event == e) (waiting t) ≡ 0
+          = count_nothing (λ (x : Arrival). x.event == e) (waiting t) (λ b there. ne_eqb b.event e (λ same. let lt : b.event < a.event = each_in (λ (c : Arrival). c.event < a.event) (waiting t) b there waits_before in let no : ⊥ = omega (arith, same, lt, at) in no)) in
+          omega (arith, here, none, none_waits, count_more (λ (x : Arrival). x.event == e))
       by_event e false is = let here : one (a.event == e) ≡ 0 = ap one is in omega (arith, here, d.events e, count_more (λ (x : Arrival). x.event == e))
 
   -- ---- what is kept of each request
@@ -272,7 +274,7 @@ module _ (o : Setting) (names : List Name) (notes : List Note) (pending : ℕ �
           absurd (let none : ⊥ = omega (arith, one_name, one_note, k.apart.places place) in none)
 
   pub requests_with : (event : ℕ) (pending' : ℕ → ℕ) → ((p : ℕ) → pending p ≡ pending' p + one (place == p)) → AreRequests names notes pending' gone (record s { held = held_with }) (record r { both = record r.both { event = event; trace = (Admits a ∷ []) ∷ r.both.trace } })
-  requests_with event pending' less = requests_on names notes pending gone s r k (Admits a ∷ []) (record { enters_none = refl; leaves_no = λ n. refl }) event held_with pending'
+  requests_with event pending' less = requests_on names notes pending gone s r k (Admits a ∷ []) (record { enters_none = refl; leaves_no = λ n. refl }) event held_with s.functions pending'
       (λ p. omega (arith, count_with p, less p))
       (in_each (IsRequest (record s { held = held_with }) admitted_trace) names
       (λ n at. record { held = by_event n at (a.event == n.event) refl; waiting = (each_in (IsRequest s r.both.trace) names n at k.named).waiting }))

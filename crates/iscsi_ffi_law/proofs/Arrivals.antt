@@ -1,25 +1,45 @@
 -- A request is taken: what becomes of it goes alike.
-use Rattle.std.proofs.Common.{◌≡◌, ℕ, true, List, [], ◌∷◌, ◌++◌, Option, Some, None, is_some, refl, ap, sym, subst, ◌∙◌}
+use Rattle.std.proofs.Common.{◌≡◌, ℕ, zero, suc, true, List, [], ◌∷◌, ◌++◌, length, Option, Some, None, is_some, refl, ap, sym, subst, ◌∙◌}
 use Rattle.std.proofs.lemmas.Bool.{false≢true}
-use Rattle.iscsi_history.specs.declared.event.Event.TheVariants.{Arrive}
-use Rattle.iscsi_history.specs.rules.Trace.{Trace}
+use Rattle.iscsi_history.specs.declared.event.Event.TheVariants.{Arrive, Done}
+use Rattle.iscsi_history.specs.rules.Trace.{Command, Trace, live}
 use Rattle.iscsi_requests.specs.Cookies.{next_place}
 use Rattle.iscsi_ffi_rules.specs.declared.refusal.Refusal.{Refusal}
+use Rattle.iscsi_ffi_rules.specs.declared.action.Action.{Action}
 use Rattle.iscsi_ffi_rules.specs.rules.Calls.{Interface, Arrives}
-use Rattle.iscsi_ffi_rules.specs.rules.Happening.{happens as happens_there}
+use Rattle.iscsi_ffi_rules.specs.rules.Clearing.{next_withheld, status_of}
+use Rattle.iscsi_ffi_rules.specs.rules.Happening.{happening as happening_there, happens as happens_there}
 use Rattle.iscsi_ffi_rules.specs.rules.Run as rules
-use Rattle.iscsi_ffi_rules.specs.rules.Sides.{Side}
+use Rattle.iscsi_ffi_rules.specs.rules.Sides.{Asked, Side}
 use Rattle.iscsi_ffi_steps.specs.State.{State}
 use Rattle.iscsi_ffi_steps.specs.Steps.{Answered, Going, Side as StepsSide, arrive, arriving, changed, done, going, happens, heard_first, hold, is_held_first, known, reset_in, resets_in, says}
 use Rattle.iscsi_ffi_steps.specs.Steps as steps
 use Rattle.iscsi_ffi_steps.specs.Walk.{in_state}
 use Rattle.iscsi_ffi_law.specs.Alike.{GoesAlike}
 use Rattle.iscsi_ffi_law.specs.Arrived.{IsArrivalFit, IsPlaced, IsPlainArrival}
+use Rattle.iscsi_ffi_law.specs.Done.{AreDoneFit, IsDoneFit}
 use Rattle.iscsi_ffi_law.specs.Stands.{Stands}
 use Rattle.iscsi_ffi_law.proofs.ArriveOpens.{IsFoundAt, names_open, opens_at, side_open, state_open}
 use Rattle.iscsi_ffi_law.proofs.Ends.{GoesTo, found_fit}
 use Rattle.iscsi_ffi_law.proofs.Refusing.{refused_same}
 use Rattle.iscsi_ffi_law.proofs.ArriveLaw.{arrives_to}
+
+-- what is asked has nothing to do with those that are withheld
+asked_fit : (i : Interface) (n : ℕ) (r : Side) (asked : List Asked) (acts acts' : List Action) → AreDoneFit i n (record { side = r; actions = acts }) → AreDoneFit i n (record { side = record r { asked = asked }; actions = acts' })
+asked_fit i zero r asked acts acts' fits = tt
+asked_fit i (suc n) r asked acts acts' fits = by_first (asked_fit i n) (next_withheld r) fits
+  where
+    by_first : ((r' : Side) (asked' : List Asked) (as' bs' : List Action) → AreDoneFit i n (record { side = r'; actions = as' }) → AreDoneFit i n (record { side = record r' { asked = asked' }; actions = bs' })) → (x : Option Command)
+        → elim x as (λ (y : Option Command). Type 0) [ Some c ↦ IsDoneFit i r c.ticket (status_of r c) × (let h = happening_there i r (Done c.ticket (status_of r c)) in AreDoneFit i n (record { side = h.side; actions = acts ++ h.actions })) | None ↦ Unit {0} ]
+        → elim x as (λ (y : Option Command). Type 0) [
+          | Some c ↦ IsDoneFit i (record r { asked = asked }) c.ticket (status_of r c) × (let h = happening_there i (record r { asked = asked }) (Done c.ticket (status_of r c)) in AreDoneFit i n (record { side = h.side; actions = acts' ++ h.actions }))
+          | None ↦ Unit {0}
+        ]
+    by_first later None h = tt
+    by_first later (Some c) h = (
+      (let k : IsDoneFit i r c.ticket (status_of r c) = h.0 in record { fit = k.fit; room = k.room; stale = k.stale; events = k.events; sent = k.sent; replies = k.replies; few = k.few; there = k.there; takes = k.takes; handed = k.handed }),
+      later (happening_there i r (Done c.ticket (status_of r c))).side asked _ _ h.1,
+    )
 
 -- ---- the call
 
@@ -82,7 +102,10 @@ module _ (i : Interface) (s : StepsSide) (r : Side) (h : Stands i s r) (cid : �
       record { answer = e.answer; tells = e.tells; stands = e.stands }
 
   found_there : IsFoundAt i (names_open i s r h cid header cookie fit free_place.place free_place.is within) h.notes s1 r1 cid header free_place.place
-  found_there = opens_at i s r h cid header cookie fit free_place.place free_place.is within
+  found_there = opens_at i s r h cid header cookie fit free_place.place free_place.is within none
 
   pub arrives_alike : IsPlainArrival i (rules.heard_in i r cid header) cid header → GoesAlike i s r (Arrives cid header cookie)
-  arrives_alike k = arrives_as (arrives_to i _ h.notes s1 r1 cid header place found_there (record { plain = k.plain; started = k.started; calm = k.calm }))
+  arrives_alike k = arrives_as (arrives_to i _ h.notes s1 r1 cid header place found_there (record {
+    plain = k.plain;
+    withheld = asked_fit i (length (live (happening_there i (rules.heard_in i r cid header) (Arrive cid header)).side.both.trace)) (happening_there i (rules.heard_in i r cid header) (Arrive cid header)).side r1.asked _ _ k.withheld;
+  }))

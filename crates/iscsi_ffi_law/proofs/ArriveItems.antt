@@ -1,18 +1,19 @@
 -- The items of an event by which a request arrives, from the first one on.
-use Rattle.std.proofs.Common.{◌≡◌, ℕ, ◌+◌, ◌<◌, ◌≤◌, ◌==◌, ⊎_elim, not, cond, Bool, true, false, List, [], ◌∷◌, ◌++◌, ◌||◌, length, filter, find, Option, Some, None, is_some, nat_lt, refl, ap, sym, subst, ◌∙◌, arith, lt-ltb, ne_eqb}
-use Rattle.std.specs.List.{list_all, list_any}
-use Rattle.std.proofs.lemmas.Bool.{cases_lt, eqb-true, false≢true, or_cases, or_left, or_right}
+use Rattle.std.proofs.Common.{◌≡◌, ℕ, ◌+◌, ◌<◌, ◌≤◌, ◌==◌, ◌&&◌, ⊎_elim, Bool, true, false, List, [], ◌∷◌, ◌++◌, length, find, Option, Some, None, is_some, nat_lt, refl, ap, sym, subst, ◌∙◌, arith, lt-ltb, ne_eqb}
+use Rattle.std.specs.List.{list_all}
+use Rattle.std.proofs.lemmas.Bool.{cases_lt, eqb-true, false≢true}
 use Rattle.std.proofs.lemmas.List.{append-nil}
+use Rattle.iscsi_wire.specs.Fields.{connection_of}
 use Rattle.iscsi_wire.specs.declared.reply.Reply.{Reply}
 use Rattle.iscsi_history.specs.declared.effect.Effect.TheVariants.{Ignore}
 use Rattle.iscsi_history.specs.declared.effect.Why.{Why}
-use Rattle.iscsi_history.specs.rules.Items.{is_waiting}
-use Rattle.iscsi_history.specs.rules.Run.{effects_of, effects_of_item}
-use Rattle.iscsi_history.specs.rules.Settings.{are_distinct}
-use Rattle.iscsi_history.specs.rules.Trace.{Admits, Arrival, Executes, Ignores, Mark, Sends, Trace, held, is_received, shown, waiting}
+use Rattle.iscsi_history.specs.rules.Management.{MOST_WAITING, waiting_on}
+use Rattle.iscsi_history.specs.rules.Run.{effects_of}
+use Rattle.iscsi_history.specs.rules.Settings.{are_distinct, is_known}
+use Rattle.iscsi_history.specs.rules.Trace.{Admits, Arrival, Executes, Ignores, Mark, Sends, Waits, held, is_received, shown, waiting}
 use Rattle.iscsi_history.proofs.BoolLemmas.{and_parts}
 use Rattle.iscsi_history.proofs.CountLemmas.{one}
-use Rattle.iscsi_history.proofs.Forms.{AfterWaiting, AtArrival, AtTurn, Deeds, IsDone, Start, marks_done, start_mark}
+use Rattle.iscsi_history.proofs.Forms.{AtArrival, Deeds, IsDone, marks_done}
 use Rattle.iscsi_history.proofs.NewlyLemmas.{Untouched, newly-untouched}
 use Rattle.iscsi_outbox_rules.specs.rules.Boxes.{Box}
 use Rattle.iscsi_outbox_rules.specs.rules.Items.{after_item}
@@ -24,26 +25,25 @@ use Rattle.iscsi_outbox_law.proofs.PairLemmas.{each-weaken}
 use Rattle.iscsi_outbox_steps.specs.State.{State as OutboxState}
 use Rattle.iscsi_outbox_steps.specs.Steps.{after_item as steps_after_item}
 use Rattle.iscsi_requests.specs.Numbers.{HeldNumbers, size_for}
-use Rattle.iscsi_ffi_rules.specs.declared.action.Action.{Action}
 use Rattle.iscsi_ffi_rules.specs.rules.Calls.{Interface}
-use Rattle.iscsi_ffi_rules.specs.rules.Needs.{admitted_by, is_held, is_of_event}
+use Rattle.iscsi_ffi_rules.specs.rules.Needs.{admitted_by, is_held, is_of_event, is_waiting as is_waiting_event}
 use Rattle.iscsi_ffi_rules.specs.rules.Sides.{Side}
 use Rattle.iscsi_ffi_steps.specs.State.{State}
 use Rattle.iscsi_ffi_steps.specs.Walk.{on_effects}
-use Rattle.iscsi_ffi_law.specs.Arrived.{AreStepsFit, IsReceivable, IsStepFit, effects_by, is_plain, side_behind}
+use Rattle.iscsi_ffi_law.specs.Arrived.{AreStepsFit, IsReceivable, IsStepFit, effects_by, is_plain, side_behind, starts_late}
 use Rattle.iscsi_ffi_law.specs.Names.{Name, Note, place_named}
 use Rattle.iscsi_ffi_law.specs.Parts.{IsRequest}
 use Rattle.iscsi_ffi_law.specs.Stands.{AreRequests}
-use Rattle.iscsi_ffi_law.specs.Uses.{count_held}
+use Rattle.iscsi_ffi_law.specs.Uses.{count_functions, count_held}
 use Rattle.iscsi_ffi_law.proofs.Admitting.{distinct_with, held_with, requests_with, slots_with, some_with}
-use Rattle.iscsi_ffi_law.proofs.Asked.{find_nothing}
+use Rattle.iscsi_ffi_law.proofs.Asked.{any_nothing, find_nothing}
 use Rattle.iscsi_ffi_law.proofs.Between.{IsBetween, arrival_headed, distinct_same, held_same}
 use Rattle.iscsi_ffi_law.proofs.DoneShape.{enables}
-use Rattle.iscsi_ffi_law.proofs.ItemsGo.{AllGo, all_due, deeds_plain, executed_goes, first_sound, goes_then, led_due, none_more, side_after}
-use Rattle.iscsi_ffi_law.proofs.Members.{Passing, any_in, each_in}
+use Rattle.iscsi_ffi_law.proofs.ItemsGo.{AllGo, all_due, executed_goes, first_sound, goes_then, led_due, none_more, side_after}
+use Rattle.iscsi_ffi_law.proofs.Members.{each_in}
 use Rattle.iscsi_ffi_law.proofs.Moved.{IsMoved, requests_moved}
 use Rattle.iscsi_ffi_law.proofs.NameLemmas.{Named, found_named}
-use Rattle.iscsi_ffi_law.proofs.Plain.{waits_arrival}
+use Rattle.iscsi_ffi_law.proofs.Postponing.{postponed_goes}
 use Rattle.iscsi_ffi_law.proofs.QuietBox.{empty_item, quiet_item}
 use Rattle.iscsi_ffi_law.proofs.QuietItems.{IsUnheld, is_held_on}
 use Rattle.iscsi_ffi_law.proofs.QuietRequests.{entered_on, requests_on}
@@ -52,34 +52,34 @@ use Rattle.iscsi_ffi_law.proofs.Releasing.{ending}
 use Rattle.iscsi_ffi_law.proofs.Slots.{slots_same}
 use Rattle.iscsi_ffi_law.proofs.Stepping.{GoesOn, IsCalm, last_then, links_then, links_unmoved, runs_then, stands_then}
 use Rattle.iscsi_ffi_law.proofs.TailSends.{goes_sent, rejected_answering}
-use Rattle.iscsi_ffi_law.proofs.Turns.{IsDue, IsDueBy}
+use Rattle.iscsi_ffi_law.proofs.Turns.{IsDue}
 use Rattle.iscsi_ffi_law.proofs.Walking.{ends_with_it, walk_at}
 
--- what passes among fewer passes among all
-fewer_pass : (test keep : Arrival → Bool) (ws : List Arrival) → list_any test (filter keep ws) ≡ true → list_any test ws ≡ true
-fewer_pass test keep [] h = h
-fewer_pass test keep (b ∷ ws) h = by_kept (fewer_pass test keep ws) (keep b) (test b) h
-  where
-    by_kept : (list_any test (filter keep ws) ≡ true → list_any test ws ≡ true) → (v w : Bool) → list_any test (cond v (b ∷ filter keep ws) (filter keep ws)) ≡ true → (test b || list_any test ws) ≡ true
-    by_kept later true w k = ⊎_elim (λ here. or_left (test b) (list_any test ws) here) (λ rest. or_right (test b) (list_any test ws) (later rest)) (or_cases (test b) (list_any test (filter keep ws)) k)
-    by_kept later false w k = or_right (test b) (list_any test ws) (later k)
-
--- the request that arrives isn't held yet
-pub arrived_unheld : (names : List Name) (notes : List Note) (pending : ℕ → ℕ) (gone : ℕ → List (Option ℕ)) (s : State) (r : Side) → AreRequests names notes pending gone s r → EachOf (λ (b : Arrival). b.event < r.both.event) (shown admitted_by r.both.trace) → (place : ℕ) → place_named names r.both.event ≡ Some place → count_held place s ≡ 0
-arrived_unheld names notes pending gone s r k before place named =
+-- the request that arrives isn't held yet, and doesn't wait
+pub arrived_unheld : (names : List Name) (notes : List Note) (pending : ℕ → ℕ) (gone : ℕ → List (Option ℕ)) (s : State) (r : Side) → AreRequests names notes pending gone s r → EachOf (λ (b : Arrival). b.event < r.both.event) (shown admitted_by r.both.trace) → EachOf (λ (b : Arrival). b.event < r.both.event) (waiting r.both.trace) → (place : ℕ)
+    → place_named names r.both.event ≡ Some place → count_held place s + count_functions place s ≡ 0
+arrived_unheld names notes pending gone s r k before waits_before place named =
     let f : Named names r.both.event place = found_named names r.both.event place named in
     let q : IsRequest s r.both.trace f.name = each_in (IsRequest s r.both.trace) names f.name f.there k.named in
     let none : nat_lt 0 (count_held f.name.place s) ≡ false = sym q.held ∙ ap (λ e. is_held e r.both.trace) f.event_is ∙ unheld in
-    ⊎_elim
-    (λ more. absurd (false≢true (sym none ∙ lt-ltb 0 (count_held f.name.place s) (subst (λ p. 0 < count_held p s) (sym f.place_is) more))))
-    (λ few. omega (arith, few)) (cases_lt 0 (count_held place s))
+    let none_waits : nat_lt 0 (count_functions f.name.place s) ≡ false = sym q.waiting ∙ ap (λ e. is_waiting_event e r.both.trace) f.event_is ∙ unwaiting in
+    let none_held : count_held place s ≡ 0 = subst (λ p. count_held p s ≡ 0) f.place_is (no_more (count_held f.name.place s) none) in
+    let none_left : count_functions place s ≡ 0 = subst (λ p. count_functions p s ≡ 0) f.place_is (no_more (count_functions f.name.place s) none_waits) in
+    omega (arith, none_held, none_left)
   where
+    no_more : (n : ℕ) → nat_lt 0 n ≡ false → n ≡ 0
+    no_more n none = ⊎_elim (λ more. absurd (false≢true (sym none ∙ lt-ltb 0 n more))) (λ few. omega (arith, few)) (cases_lt 0 n)
+
     none_yet : find (is_of_event r.both.event) (shown admitted_by r.both.trace) ≡ None
     none_yet = find_nothing (is_of_event r.both.event) (shown admitted_by r.both.trace)
         (λ b there. ne_eqb b.event r.both.event (λ same. let lt : b.event < r.both.event = each_in (λ (c : Arrival). c.event < r.both.event) (shown admitted_by r.both.trace) b there before in let none : ⊥ = omega (arith, same, lt) in none))
 
     unheld : is_held r.both.event r.both.trace ≡ false
     unheld = ap (λ (x : Option Arrival). elim x as (λ (y : Option Arrival). Bool) [ Some b ↦ is_some (held r.both.trace b.number) | None ↦ false ]) none_yet
+
+    unwaiting : is_waiting_event r.both.event r.both.trace ≡ false
+    unwaiting = any_nothing (is_of_event r.both.event) (waiting r.both.trace)
+        (λ b there. ne_eqb b.event r.both.event (λ same. let lt : b.event < r.both.event = each_in (λ (c : Arrival). c.event < r.both.event) (waiting r.both.trace) b there waits_before in let none : ⊥ = omega (arith, same, lt) in none))
 
 module _ (i : Interface) (names : List Name) (notes : List Note) (distinct : are_distinct i.outbox.session.conns ≡ true) where
   -- ---- it is passed over
@@ -108,7 +108,7 @@ module _ (i : Interface) (names : List Name) (notes : List Note) (distinct : are
     r1 = record r { both = record r.both { trace = item ∷ r.both.trace } }
 
     requests1 : AreRequests names notes (λ p. ending None p + endings (Some place ∷ []) p) (λ q. []) s r1
-    requests1 = requests_on names notes (λ p. ending (Some place) p + endings [] p) (λ q. []) s r k.requests item u r.both.event s.held (λ p. ending None p + endings (Some place ∷ []) p) (λ p. omega arith)
+    requests1 = requests_on names notes (λ p. ending (Some place) p + endings [] p) (λ q. []) s r k.requests item u r.both.event s.held s.functions (λ p. ending None p + endings (Some place ∷ []) p) (λ p. omega arith)
         (each-weaken (IsRequest s r.both.trace) (IsRequest s (item ∷ r.both.trace)) names (λ n e. record { held = is_held_on r.both.trace item v n.event ∙ e.held; waiting = e.waiting }) k.requests.named) k.requests.noted_apart
 
     moved : IsMoved names s r1 (after_item i.outbox r.both.box (effects_by i r (Ignores why ∷ [])))
@@ -129,12 +129,13 @@ module _ (i : Interface) (names : List Name) (notes : List Note) (distinct : are
       between = record {
         requests = requests2;
         slots = slots_same (size_for i.outbox.session.window) s.commands.room names s.held r.both.trace (item ∷ r.both.trace) (held_same r.both.trace item v) k.slots;
+        functions = k.functions;
         outbox = stands_then i names notes s r (Some place) [] k item fit distinct sound;
         sizes = record { room = k.sizes.room; functions = k.sizes.functions; replies = k.sizes.replies; noted = k.sizes.noted; unwritten = k.sizes.unwritten; noted_room = k.sizes.noted_room; unwritten_room = k.sizes.unwritten_room; replies_room = k.sizes.replies_room; slots = k.sizes.slots; few = k.sizes.few };
         flags = record { awake = k.flags.awake; over = k.flags.over };
         counts = record { units = k.counts.units; last = (let same = ap length (entered_on r.both.trace item u) in let below = k.counts.last in omega (arith, same, below)); tracked = last_then i names notes s r (Some place) [] k item fit distinct sound };
         withheld = k.withheld;
-        distinct = distinct_same r.both.trace item v k.distinct;
+        distinct = distinct_same r.both.trace item v (λ e. omega arith) k.distinct;
         over = λ p some. by_place p (place == p) refl some;
         own_named = λ p none. absurd (let no : ⊥ = cc in no);
         own_unheld = λ p none. absurd (let no : ⊥ = cc in no);
@@ -145,19 +146,19 @@ module _ (i : Interface) (names : List Name) (notes : List Note) (distinct : are
       few = omega arith;
       links = links_unmoved r.both.box (after_item i.outbox r.both.box (effects_by i r item)) box_same;
       calm = subst (EachOf (IsCalm (side_behind i r item).both.box)) (sym effects_are) (tt, tt);
-      walk = λ o limits acts first rest led.
+      walk = λ o limits acts first late rest led.
           ap (λ es. on_effects first (es ++ rest) (walk_at o s acts [] (Some place) r.both.box.sent)) effects_are
           ∙ ap (on_effects false rest) (ends_with_it o s acts [] (Some place) None None r.both.box.sent)
           ∙ ap (λ (b : Box). on_effects false rest (walk_at o state' acts (Some place ∷ []) None b.sent)) (sym box_same);
     }
       where
-        by_place : (p : ℕ) (w : Bool) → (place == p) ≡ w → 1 ≤ endings (Some place ∷ []) p → count_held p s ≡ 0
-        by_place p true is some = ap (λ q. count_held q s) (sym (eqb-true place p is)) ∙ k.own_unheld place refl
+        by_place : (p : ℕ) (w : Bool) → (place == p) ≡ w → 1 ≤ endings (Some place ∷ []) p → count_held p s + count_functions p s ≡ 0
+        by_place p true is some = ap (λ q. count_held q s + count_functions q s) (sym (eqb-true place p is)) ∙ k.own_unheld place refl
         by_place p false is some = absurd (let none : one (place == p) ≡ 0 = ap one is in let no : ⊥ = omega (arith, some, none) in no)
 
   -- ---- it is received
 
-  module _ (s : State) (r : Side) (place : ℕ) (k : IsBetween i names notes s r (Some place) []) (a : Arrival) (now : a.event ≡ r.both.event) (before : EachOf (λ (b : Arrival). b.event < r.both.event) (shown admitted_by r.both.trace)) (new : is_received r.both.trace a.number ≡ false)
+  module _ (s : State) (r : Side) (place : ℕ) (k : IsBetween i names notes s r (Some place) []) (a : Arrival) (now : a.event ≡ r.both.event) (before : EachOf (λ (b : Arrival). b.event < r.both.event) (shown admitted_by r.both.trace)) (waits_before : EachOf (λ (b : Arrival). b.event < r.both.event) (waiting r.both.trace)) (new : is_received r.both.trace a.number ≡ false)
       (receivable : IsReceivable i.outbox.session r.both.trace a) (fit : IsStepFit i r (Admits a ∷ [])) (sound : IsSound i.outbox (side_behind i r (Admits a ∷ [])).both.box) where
     abbrev admission : List Mark
     admission = Admits a ∷ []
@@ -165,11 +166,14 @@ module _ (i : Interface) (names : List Name) (notes : List Note) (distinct : are
     abbrev earlier : EachOf (λ (b : Arrival). b.event < a.event) (shown admitted_by r.both.trace)
     earlier = subst (λ e. EachOf (λ (b : Arrival). b.event < e) (shown admitted_by r.both.trace)) (sym now) before
 
+    abbrev earlier_waits : EachOf (λ (b : Arrival). b.event < a.event) (waiting r.both.trace)
+    earlier_waits = subst (λ e. EachOf (λ (b : Arrival). b.event < e) (waiting r.both.trace)) (sym now) waits_before
+
     abbrev its_name : place_named names a.event ≡ Some place
     its_name = ap (place_named names) now ∙ k.own_named place refl
 
     abbrev pub held_now : HeldNumbers
-    held_now = held_with i.outbox.session names notes (λ p. ending (Some place) p + endings [] p) (λ q. []) s r k.requests k.slots k.distinct k.sizes.slots a earlier new receivable place its_name
+    held_now = held_with i.outbox.session names notes (λ p. ending (Some place) p + endings [] p) (λ q. []) s r k.requests k.slots k.distinct k.sizes.slots a earlier earlier_waits new receivable place its_name
 
     w : Untouched (Admits a ∷ [])
     w = record { enters_none = refl; leaves_no = λ n. refl }
@@ -187,7 +191,7 @@ module _ (i : Interface) (names : List Name) (notes : List Note) (distinct : are
     r2 = record r { both = record r.both { trace = admission ∷ r.both.trace } }
 
     requests_now : AreRequests names notes (λ p. ending None p + endings [] p) (λ q. []) s1 r2
-    requests_now = requests_with i.outbox.session names notes (λ p. ending (Some place) p + endings [] p) (λ q. []) s r k.requests k.slots k.distinct k.sizes.slots a earlier new receivable place its_name r.both.event (λ p. ending None p + endings [] p) (λ p. omega arith)
+    requests_now = requests_with i.outbox.session names notes (λ p. ending (Some place) p + endings [] p) (λ q. []) s r k.requests k.slots k.distinct k.sizes.slots a earlier earlier_waits new receivable place its_name r.both.event (λ p. ending None p + endings [] p) (λ p. omega arith)
 
     moved_now : IsMoved names s1 r2 (after_item i.outbox r.both.box (effects_by i r (Admits a ∷ [])))
     moved_now = subst (IsMoved names s1 r2) (sym box_still) (record { long = refl; sent = refl; queued = λ q within. (requests_now.conns q within).queued; undue = requests_now.undue; conn = λ q within. refl; left = λ q within. refl })
@@ -203,7 +207,8 @@ module _ (i : Interface) (names : List Name) (notes : List Note) (distinct : are
     pub between_held : IsBetween i names notes state_held (side_behind i r (Admits a ∷ [])) None []
     between_held = record {
       requests = requests_then;
-      slots = slots_with i.outbox.session names notes (λ p. ending (Some place) p + endings [] p) (λ q. []) s r k.requests k.slots k.distinct k.sizes.slots a earlier new receivable place its_name;
+      slots = slots_with i.outbox.session names notes (λ p. ending (Some place) p + endings [] p) (λ q. []) s r k.requests k.slots k.distinct k.sizes.slots a earlier earlier_waits new receivable place its_name;
+      functions = k.functions;
       outbox = stands_then i names notes s r (Some place) [] k admission fit distinct sound;
       sizes = record {
         room = k.sizes.room;
@@ -214,38 +219,23 @@ module _ (i : Interface) (names : List Name) (notes : List Note) (distinct : are
         noted_room = k.sizes.noted_room;
         unwritten_room = k.sizes.unwritten_room;
         replies_room = k.sizes.replies_room;
-        slots = some_with i.outbox.session names notes (λ p. ending (Some place) p + endings [] p) (λ q. []) s r k.requests k.slots k.distinct k.sizes.slots a earlier new receivable place its_name;
+        slots = some_with i.outbox.session names notes (λ p. ending (Some place) p + endings [] p) (λ q. []) s r k.requests k.slots k.distinct k.sizes.slots a earlier earlier_waits new receivable place its_name;
         few = k.sizes.few;
       };
       flags = record { awake = k.flags.awake; over = k.flags.over };
       counts = record { units = k.counts.units; last = (let same = ap length (entered_on r.both.trace admission w) in let below = k.counts.last in omega (arith, same, below)); tracked = last_then i names notes s r (Some place) [] k admission fit distinct sound };
       withheld = k.withheld;
-      distinct = distinct_with i.outbox.session names notes (λ p. ending (Some place) p + endings [] p) (λ q. []) s r k.requests k.slots k.distinct k.sizes.slots a earlier new receivable place its_name;
+      distinct = distinct_with i.outbox.session names notes (λ p. ending (Some place) p + endings [] p) (λ q. []) s r k.requests k.slots k.distinct k.sizes.slots a earlier earlier_waits new receivable place its_name;
       over = λ p some. absurd (let no : ⊥ = omega (arith, some) in no);
       own_named = λ p none. absurd (let no : ⊥ = cc in no);
       own_unheld = λ p none. absurd (let no : ⊥ = cc in no);
       own_first = λ p none. absurd (let no : ⊥ = cc in no);
     }
 
-    -- the walk begins with a turn, if with anything
-    turned_first : (t : Trace) (items : List (List Mark)) → EachOn (IsDue i.outbox.session) t items → ((b : Arrival) → is_waiting b t ≡ true → (b.event == r.both.event) ≡ false) → list_all (list_all (is_plain r.both.event)) items ≡ true → (o : OutboxState) (acts : List Action) (first : Bool)
-        → on_effects first (effects_of i.outbox.session t items) (walk_at o s1 acts [] None r.both.box.sent) ≡ on_effects false (effects_of i.outbox.session t items) (walk_at o s1 acts [] None r.both.box.sent)
-    turned_first t [] due waited plain o acts first = refl
-    turned_first t (item ∷ items) due waited plain o acts first =
-        subst (λ ms. on_effects first (effects_of_item i.outbox.session t ms ++ effects_of i.outbox.session (item ∷ t) items) (walk_at o s1 acts [] None r.both.box.sent) ≡ on_effects false (effects_of_item i.outbox.session t ms ++ effects_of i.outbox.session (item ∷ t) items) (walk_at o s1 acts [] None r.both.box.sent))
-        (sym due.0.is) (by_start due.0.start due.0.due (subst (λ ms. list_all (is_plain r.both.event) ms ≡ true) due.0.is (and_parts (list_all (is_plain r.both.event) item) (list_all (list_all (is_plain r.both.event)) items) plain).0))
-      where
-        by_start : (start : Start) → IsDueBy t start due.0.a → list_all (is_plain r.both.event) (start_mark start due.0.a ∷ marks_done due.0.a due.0.deeds) ≡ true
-            → on_effects first (effects_of_item i.outbox.session t (start_mark start due.0.a ∷ marks_done due.0.a due.0.deeds) ++ effects_of i.outbox.session (item ∷ t) items) (walk_at o s1 acts [] None r.both.box.sent)
-            ≡ on_effects false (effects_of_item i.outbox.session t (start_mark start due.0.a ∷ marks_done due.0.a due.0.deeds) ++ effects_of i.outbox.session (item ∷ t) items) (walk_at o s1 acts [] None r.both.box.sent)
-        by_start AtTurn is p = refl
-        by_start AtArrival is p = absurd is
-        by_start AfterWaiting is p = absurd (false≢true (sym (waited due.0.a is) ∙ (and_parts (due.0.a.event == r.both.event) (list_all (is_plain r.both.event) (marks_done due.0.a due.0.deeds)) p).0))
-
-    pub received_go : (rest : List (List Mark)) → EachOn (IsDue i.outbox.session) ((Admits a ∷ []) ∷ r.both.trace) rest → ((b : Arrival) → is_waiting b r.both.trace ≡ true → (b.event == r.both.event) ≡ false) → list_all (list_all (is_plain r.both.event)) rest ≡ true → AreStepsFit i (side_behind i r (Admits a ∷ [])) rest
+    pub received_go : (rest : List (List Mark)) → EachOn (IsDue i.outbox.session) ((Admits a ∷ []) ∷ r.both.trace) rest → starts_late r.both.event rest ≡ false → list_all (list_all is_plain) rest ≡ true → AreStepsFit i (side_behind i r (Admits a ∷ [])) rest
         → AllGo i names notes s1 r None [] ((Admits a ∷ []) ∷ rest)
-    received_go rest due waited plain fits =
-        let later : AllGo i names notes state_held (side_behind i r admission) None [] rest = all_due i names notes distinct rest state_held (side_behind i r admission) [] between_held due waited plain fits in
+    received_go rest due prompt plain fits =
+        let later : AllGo i names notes state_held (side_behind i r admission) None [] rest = all_due i names notes distinct rest state_held (side_behind i r admission) [] between_held due plain fits in
         record {
           state = later.state;
           ended = later.ended;
@@ -255,12 +245,15 @@ module _ (i : Interface) (names : List Name) (notes : List Note) (distinct : are
           few = omega (arith, later.few);
           links = links_then r.both.box (side_behind i r admission).both.box (side_after i (side_behind i r admission) rest).both.box (links_unmoved r.both.box (after_item i.outbox r.both.box (effects_by i r admission)) box_still) later.links;
           calm = subst (λ es. EachOf (IsCalm (side_after i (side_behind i r admission) rest).both.box) (es ++ effects_of i.outbox.session (admission ∷ r.both.trace) rest)) (sym none_effects) later.calm;
-          walk = λ o limits acts first.
+          walk = λ o limits acts first late.
               ap (λ es. on_effects first (es ++ effects_of i.outbox.session (admission ∷ r.both.trace) rest) (walk_at o s1 acts [] None r.both.box.sent)) none_effects
-              ∙ turned_first (admission ∷ r.both.trace) rest due waited plain o acts first
-              ∙ ap (λ (b : Box). on_effects false (effects_of i.outbox.session (admission ∷ r.both.trace) rest) (walk_at o s1 acts [] None b.sent)) (sym box_still)
-              ∙ later.walk o limits acts false;
+              ∙ ap (λ (b : Box). on_effects first (effects_of i.outbox.session (admission ∷ r.both.trace) rest) (walk_at o s1 acts [] None b.sent)) (sym box_still)
+              ∙ later.walk o limits acts first (ap (λ v. first && v) prompt ∙ and_none first);
         }
+      where
+        and_none : (v : Bool) → (v && false) ≡ false
+        and_none true = refl
+        and_none false = refl
 
   -- ---- each of these, from the first item on
 
@@ -275,23 +268,22 @@ module _ (i : Interface) (names : List Name) (notes : List Note) (distinct : are
       goes_then i names notes s r (Some place) [] (Sends cid reply ∷ []) [] g (none_more i names notes distinct g.state (side_behind i r (Sends cid reply ∷ [])) g.ended g.between) refl
 
   pub executed_go : (s : State) (r : Side) (place : ℕ) (k : IsBetween i names notes s r (Some place) []) (a : Arrival) (now : a.event ≡ r.both.event) (before : EachOf (λ (b : Arrival). b.event < r.both.event) (waiting r.both.trace)) (d : Deeds) (rest : List (List Mark)) → IsDone i.outbox.session r.both.trace AtArrival a d
-      → EachOn (IsDue i.outbox.session) ((Executes a ∷ marks_done a d) ∷ r.both.trace) rest → list_all (list_all (is_plain r.both.event)) ((Executes a ∷ marks_done a d) ∷ rest) ≡ true → AreStepsFit i r ((Executes a ∷ marks_done a d) ∷ rest)
+      → EachOn (IsDue i.outbox.session) ((Executes a ∷ marks_done a d) ∷ r.both.trace) rest → list_all (list_all is_plain) ((Executes a ∷ marks_done a d) ∷ rest) ≡ true → AreStepsFit i r ((Executes a ∷ marks_done a d) ∷ rest)
       → AllGo i names notes s r (Some place) [] ((Executes a ∷ marks_done a d) ∷ rest)
   executed_go s r place k a now before d rest done due plain fit =
       let item : List Mark = Executes a ∷ marks_done a d in
-      let parts = and_parts (list_all (is_plain r.both.event) (Executes a ∷ marks_done a d)) (list_all (list_all (is_plain r.both.event)) rest) plain in
-      let marks = and_parts (a.event == r.both.event) (list_all (is_plain r.both.event) (marks_done a d)) parts.0 in
+      let parts = and_parts (list_all is_plain (Executes a ∷ marks_done a d)) (list_all (list_all is_plain) rest) plain in
       let g : GoesOn i names notes s r (Some place) [] (Executes a ∷ marks_done a d)
-      = executed_goes i names notes distinct s r (Some place) [] k AtArrival a d marks.1 done fit.0 (first_sound i (side_behind i r item) rest fit.1) (arrival_headed i names notes s r place [] k a now before d.void d.entering d.reply) in
+      = executed_goes i names notes distinct s r (Some place) [] k AtArrival a d parts.0 done fit.0 (first_sound i (side_behind i r item) rest fit.1) (arrival_headed i names notes s r place [] k a now before d.void d.entering d.reply) in
       goes_then i names notes s r (Some place) [] (Executes a ∷ marks_done a d) rest g
-      (all_due i names notes distinct rest g.state (side_behind i r item) g.ended g.between due (λ b is. waited_on a d marks.1 b is) parts.1 fit.1)
+      (all_due i names notes distinct rest g.state (side_behind i r item) g.ended g.between due parts.1 fit.1)
       (led_due i names notes distinct (item ∷ r.both.trace) rest due)
-    where
-      waited : (b : Arrival) → is_waiting b r.both.trace ≡ true → (b.event == r.both.event) ≡ false
-      waited b is =
-          let x : Passing (λ (c : Arrival). c.event == b.event) (waiting r.both.trace) = any_in (λ (c : Arrival). c.event == b.event) (waiting r.both.trace) is in
-          ne_eqb b.event r.both.event (λ same. let lt : x.x.event < r.both.event = each_in (λ (c : Arrival). c.event < r.both.event) (waiting r.both.trace) x.x x.there before in let at = eqb-true x.x.event b.event x.passes in let none : ⊥ = omega (arith, lt, at, same) in none)
 
-      waited_on : (c : Arrival) (e : Deeds) → list_all (is_plain r.both.event) (marks_done c e) ≡ true → (b : Arrival) → is_waiting b ((Executes c ∷ marks_done c e) ∷ r.both.trace) ≡ true → (b.event == r.both.event) ≡ false
-      waited_on c e marks b is = waited b (fewer_pass (λ (x : Arrival). x.event == b.event) (λ (x : Arrival). not (x.event == c.event)) (waiting r.both.trace)
-          (ap (list_any (λ (x : Arrival). x.event == b.event)) (sym (ap (λ ms. waiting ((Executes c ∷ ms) ∷ r.both.trace)) (deeds_plain r.both.event c e marks) ∙ waits_arrival r.both.trace c e.void e.entering e.reply)) ∙ is))
+  pub postponed_go : (s : State) (r : Side) (place : ℕ) (k : IsBetween i names notes s r (Some place) []) (a : Arrival) (now : a.event ≡ r.both.event) (before : EachOf (λ (b : Arrival). b.event < r.both.event) (shown admitted_by r.both.trace)) (waits_before : EachOf (λ (b : Arrival). b.event < r.both.event) (waiting r.both.trace))
+      → is_known (connection_of a.request) i.outbox.session.conns ≡ true → EachOf (λ (b : Arrival). waiting_on (connection_of b.request) r.both.trace ≤ MOST_WAITING) (waiting r.both.trace) → waiting_on (connection_of a.request) r.both.trace < MOST_WAITING
+      → (rest : List (List Mark)) → EachOn (IsDue i.outbox.session) ((Waits a ∷ []) ∷ r.both.trace) rest → list_all (list_all is_plain) rest ≡ true → AreStepsFit i r ((Waits a ∷ []) ∷ rest) → AllGo i names notes s r (Some place) [] ((Waits a ∷ []) ∷ rest)
+  postponed_go s r place k a now before waits_before known all_wait one_waits rest due plain fit =
+      let item : List Mark = Waits a ∷ [] in
+      let g : GoesOn i names notes s r (Some place) [] (Waits a ∷ [])
+      = postponed_goes i names notes distinct s r place k a now before waits_before known all_wait one_waits fit.0 (first_sound i (side_behind i r item) rest fit.1) in
+      goes_then i names notes s r (Some place) [] (Waits a ∷ []) rest g (all_due i names notes distinct rest g.state (side_behind i r item) g.ended g.between due plain fit.1) (led_due i names notes distinct (item ∷ r.both.trace) rest due)

@@ -1,17 +1,18 @@
 -- A request arrives that has a place: both go on alike.
-use Rattle.std.proofs.Common.{◌≡◌, ℕ, ◌+◌, ◌<◌, ◌==◌, not, cond, Bool, true, false, List, [], ◌∷◌, ◌++◌, Some, None, refl, ap, sym, subst, ◌∙◌, arith, ne_eqb}
+use Rattle.std.proofs.Common.{◌≡◌, ℕ, ◌+◌, ◌<◌, not, cond, Bool, true, false, List, [], ◌∷◌, ◌++◌, Option, Some, None, refl, ap, sym, subst, ◌∙◌, arith}
 use Rattle.std.specs.List.{list_all}
-use Rattle.std.proofs.lemmas.Bool.{and_from, eqb-true, false≢true}
+use Rattle.std.proofs.lemmas.Bool.{and_from, eq-eqb}
 use Rattle.iscsi_wire.specs.Fields.{connection_of, header_of, is_immediate, request_of}
+use Rattle.iscsi_wire.specs.declared.reply.Reply.{Reply}
 use Rattle.iscsi_wire.specs.declared.reply.Reply.TheVariants.{Reject}
 use Rattle.iscsi_wire.specs.declared.request.Request.{Request}
 use Rattle.iscsi_history.specs.declared.effect.Why.{Why}
 use Rattle.iscsi_history.specs.declared.event.Event.{Event}
 use Rattle.iscsi_history.specs.declared.event.Event.TheVariants.{Arrive}
 use Rattle.iscsi_history.specs.rules.Execution.{rejected}
-use Rattle.iscsi_history.specs.rules.Items.{is_waiting}
+use Rattle.iscsi_history.specs.rules.Management.{MOST_WAITING, waiting_on}
 use Rattle.iscsi_history.specs.rules.Run.{effects_of, effects_of_item}
-use Rattle.iscsi_history.specs.rules.Trace.{Admits, Arrival, Executes, Ignores, Mark, Trace, Waits, is_received, waiting}
+use Rattle.iscsi_history.specs.rules.Trace.{Admits, Arrival, Command, Executes, Ignores, Mark, Trace, Waits, is_received}
 use Rattle.iscsi_history.proofs.BoolLemmas.{and_parts}
 use Rattle.iscsi_history.proofs.Forms.{AfterWaiting, AtArrival, AtTurn, Deeds, IsDone, Start, marks_done, start_mark}
 use Rattle.iscsi_history.proofs.NewlyLemmas.{newly-untouched}
@@ -24,9 +25,9 @@ use Rattle.iscsi_ffi_rules.specs.rules.Run as rules
 use Rattle.iscsi_ffi_rules.specs.rules.Sides.{Side}
 use Rattle.iscsi_ffi_steps.specs.State.{State}
 use Rattle.iscsi_ffi_steps.specs.Steps.{Going, arriving, changed, done, happens, hold, is_held_first}
-use Rattle.iscsi_ffi_law.specs.Arrived.{AreStepsFit, IsPlainArrival, arrive_call, arrived, is_plain, items_then, side_behind}
+use Rattle.iscsi_ffi_law.specs.Arrived.{AreStepsFit, IsPlainArrival, arrive_call, arrived, is_plain, items_then, side_behind, starts_late}
 use Rattle.iscsi_ffi_law.specs.Names.{Name, Note}
-use Rattle.iscsi_ffi_law.proofs.ArriveItems.{arrived_unheld, executed_go, held_now, ignored_go, received_go, rejected_go}
+use Rattle.iscsi_ffi_law.proofs.ArriveItems.{arrived_unheld, executed_go, held_now, ignored_go, postponed_go, received_go, rejected_go}
 use Rattle.iscsi_ffi_law.proofs.ArriveOpens.{IsFoundAt}
 use Rattle.iscsi_ffi_law.proofs.Between.{IsBetween, pending_as}
 use Rattle.iscsi_ffi_law.proofs.DoneShape.{enables}
@@ -35,8 +36,9 @@ use Rattle.iscsi_ffi_law.proofs.EventEnds.{IsEventOf}
 use Rattle.iscsi_ffi_law.proofs.EventGoes.{first_between, outbox_first, parts}
 use Rattle.iscsi_ffi_law.proofs.EventLaw.{event_goes}
 use Rattle.iscsi_ffi_law.proofs.EventRules.{admits_alone}
-use Rattle.iscsi_ffi_law.proofs.ItemsGo.{AllGo, side_after}
-use Rattle.iscsi_ffi_law.proofs.Members.{Passing, any_in, each_in}
+use Rattle.iscsi_ffi_law.proofs.HeldNews.{enters_once}
+use Rattle.iscsi_ffi_law.proofs.ItemsGo.{AllGo, deeds_plain, side_after}
+use Rattle.iscsi_ffi_law.proofs.Plain.{plain_marks}
 use Rattle.iscsi_ffi_law.proofs.Releases.{endings}
 use Rattle.iscsi_ffi_law.proofs.Releasing.{ending}
 use Rattle.iscsi_ffi_law.proofs.Turns.{Becomes, IsDue, IsExecuted, IsIgnored, IsPostponed, IsReceived, IsRejected, becomes}
@@ -54,6 +56,31 @@ due_alone i (item ∷ items) t due = and_from (admits_alone item) (list_all admi
     by_start AtTurn a ms = refl
     by_start AtArrival a ms = refl
     by_start AfterWaiting a ms = refl
+
+-- one command enters by each, if any does
+once_marks : (a : Arrival) (void : Option ℕ) (entering : Option Command) (reply : Option Reply) → enters_once (plain_marks a void entering reply) ≡ true
+once_marks a None None None = refl
+once_marks a None None (Some reply) = refl
+once_marks a None (Some c) None = refl
+once_marks a None (Some c) (Some reply) = refl
+once_marks a (Some n) None None = refl
+once_marks a (Some n) None (Some reply) = refl
+once_marks a (Some n) (Some c) None = refl
+once_marks a (Some n) (Some c) (Some reply) = refl
+
+item_once : (start : Start) (a : Arrival) (d : Deeds) → list_all is_plain (start_mark start a ∷ marks_done a d) ≡ true → enters_once (start_mark start a ∷ marks_done a d) ≡ true
+item_once start a d plain = by_start start plain
+  where
+    by_start : (x : Start) → list_all is_plain (start_mark x a ∷ marks_done a d) ≡ true → enters_once (start_mark x a ∷ marks_done a d) ≡ true
+    by_start AtTurn k = ap enters_once (deeds_plain a d k) ∙ once_marks a d.void d.entering d.reply
+    by_start AtArrival k = ap enters_once (deeds_plain a d k) ∙ once_marks a d.void d.entering d.reply
+    by_start AfterWaiting k = ap enters_once (deeds_plain a d k) ∙ once_marks a d.void d.entering d.reply
+
+due_once : (i : Interface) (items : List (List Mark)) (t : Trace) → EachOn (IsDue i.outbox.session) t items → list_all (list_all is_plain) items ≡ true → list_all enters_once items ≡ true
+due_once i [] t due plain = refl
+due_once i (item ∷ items) t due plain =
+    let k = and_parts (list_all is_plain item) (list_all (list_all is_plain) items) plain in
+    and_from (enters_once item) (list_all enters_once items) (ap enters_once due.0.is ∙ item_once due.0.start due.0.a due.0.deeds (subst (λ ms. list_all is_plain ms ≡ true) due.0.is k.0)) (due_once i items (item ∷ t) due.1 k.1)
 
 module _ (i : Interface) (names : List Name) (notes : List Note) (s : State) (r : Side) (cid : ℕ) (header : List ℕ) (place : ℕ) (f : IsFoundAt i names notes s r cid header place) (p : IsPlainArrival i r cid header) where
   abbrev e : Event
@@ -76,6 +103,7 @@ module _ (i : Interface) (names : List Name) (notes : List Note) (s : State) (r 
   begun = record {
     requests = pending_as names notes (ending (Some place)) (λ n. ending (Some place) n + endings [] n) (λ q. []) s r (λ n. omega arith) f.requests;
     slots = f.slots;
+    functions = f.functions;
     outbox = f.outbox;
     sizes = f.sizes;
     flags = f.flags;
@@ -84,7 +112,7 @@ module _ (i : Interface) (names : List Name) (notes : List Note) (s : State) (r 
     distinct = f.fit.distinct;
     over = λ n some. absurd (let no : ⊥ = omega (arith, some) in no);
     own_named = λ n is. f.named ∙ is;
-    own_unheld = λ n is. arrived_unheld names notes (ending (Some place)) (λ q. []) s r f.requests f.before.admitted n (f.named ∙ is);
+    own_unheld = λ n is. arrived_unheld names notes (ending (Some place)) (λ q. []) s r f.requests f.before.admitted f.before.waiting n (f.named ∙ is);
     own_first = λ n is. refl;
   }
 
@@ -97,61 +125,69 @@ module _ (i : Interface) (names : List Name) (notes : List Note) (s : State) (r 
   first : IsBetween i names notes s0 r (Some place) []
   first = first_between i names notes s r (Some place) (after_call i.outbox r.both.box (arrive_call i r cid header)) f.fit.fit lead begun
 
-  event_of : list_all admits_alone (items_then i r cid header) ≡ true → IsEventOf i r e
-  event_of alone = record {
+  event_of : list_all admits_alone (items_then i r cid header) ≡ true → starts_late r.both.event (items_then i r cid header) ≡ false → list_all enters_once (items_then i r cid header) ≡ true → IsEventOf i r e
+  event_of alone prompt once = record {
     fit = f.fit.fit;
     stale = f.fit.stale;
-    events = f.fit.events;
+    events = f.events;
     sent = f.fit.sent;
     short = f.fit.short;
     enabled = f.fit.enabled;
     plain = p.plain;
+    prompt = prompt;
+    few = f.fit.few;
+    regular = f.fit.regular;
+    steps = f.fit.steps;
+    once = once;
     alone = alone;
     behind = last_sound i (items_then i r cid header) r f.fit.steps;
   }
 
+  once_by : (items : List (List Mark)) → items_then i r cid header ≡ items → list_all enters_once items ≡ true → list_all enters_once (items_then i r cid header) ≡ true
+  once_by items is once = ap (list_all enters_once) is ∙ once
+
   -- it isn't held first
-  not_held : is_held_first request (effects_of i.outbox.session r.both.trace (items_then i r cid header)) ≡ false → list_all admits_alone (items_then i r cid header) ≡ true → AllGo i names notes s0 r (Some place) [] (items_then i r cid header) → ArrivesTo
-  not_held isnt alone go =
+  not_held : is_held_first request (effects_of i.outbox.session r.both.trace (items_then i r cid header)) ≡ false → list_all admits_alone (items_then i r cid header) ≡ true → starts_late r.both.event (items_then i r cid header) ≡ false → list_all enters_once (items_then i r cid header) ≡ true → AllGo i names notes s0 r (Some place) [] (items_then i r cid header) → ArrivesTo
+  not_held isnt alone prompt once go =
       subst (λ v. GoesTo i (done (cond v (happens i None e (changed (hold request place) begins)) (happens i (Some place) e begins))) (rules.done (happens_there i r e))) (sym isnt)
-      (event_goes i names notes s r (Some place) e (event_of alone) f.outbox go p.started p.calm)
+      (event_goes i names notes s r (Some place) e (event_of alone prompt once) f.outbox go f.calm p.withheld)
 
   over : (why : Why) → items_then i r cid header ≡ (Ignores why ∷ []) ∷ [] → ArrivesTo
   over why is =
-      not_held (ap (λ ms. is_held_first request (effects_of i.outbox.session r.both.trace ms)) is) (ap (list_all admits_alone) is)
+      not_held (ap (λ ms. is_held_first request (effects_of i.outbox.session r.both.trace ms)) is) (ap (list_all admits_alone) is) (ap (starts_late r.both.event) is) (ap (list_all enters_once) is)
       (subst (AllGo i names notes s0 r (Some place) []) (sym is) (ignored_go i names notes f.fit.fit.distinct s0 r place first why (subst (AreStepsFit i r) is f.fit.steps)))
 
   rejects : items_then i r cid header ≡ rejected a ∷ [] → ArrivesTo
   rejects is =
-      not_held (ap (λ ms. is_held_first request (effects_of i.outbox.session r.both.trace ms)) is) (ap (list_all admits_alone) is)
+      not_held (ap (λ ms. is_held_first request (effects_of i.outbox.session r.both.trace ms)) is) (ap (list_all admits_alone) is) (ap (starts_late r.both.event) is) (ap (list_all enters_once) is)
       (subst (AllGo i names notes s0 r (Some place) []) (sym is) (rejected_go i names notes f.fit.fit.distinct s0 r place first (connection_of a.request) (Reject 5 (header_of a.request)) (subst (AreStepsFit i r) is f.fit.steps)))
 
   executes : (d : Deeds) (rest : List (List Mark)) → is_immediate a.request ≡ true → IsDone i.outbox.session r.both.trace AtArrival a d → items_then i r cid header ≡ (Executes a ∷ marks_done a d) ∷ rest → EachOn (IsDue i.outbox.session) ((Executes a ∷ marks_done a d) ∷ r.both.trace) rest → ArrivesTo
   executes d rest immediate does is due =
-      not_held (ap (λ ms. is_held_first request (effects_of i.outbox.session r.both.trace ms)) is ∙ ap not immediate) (ap (list_all admits_alone) is ∙ due_alone i rest ((Executes a ∷ marks_done a d) ∷ r.both.trace) due)
+      not_held (ap (λ ms. is_held_first request (effects_of i.outbox.session r.both.trace ms)) is ∙ ap not immediate) (ap (list_all admits_alone) is ∙ due_alone i rest ((Executes a ∷ marks_done a d) ∷ r.both.trace) due) (ap (starts_late r.both.event) is ∙ ap not (eq-eqb r.both.event r.both.event refl)) (once_by ((Executes a ∷ marks_done a d) ∷ rest) is (by_item (subst (λ ms. list_all (list_all is_plain) ms ≡ true) is p.plain)))
       (subst (AllGo i names notes s0 r (Some place) []) (sym is)
-      (executed_go i names notes f.fit.fit.distinct s0 r place first a refl f.before.waiting d rest does due (subst (λ ms. list_all (list_all (is_plain r.both.event)) ms ≡ true) is p.plain) (subst (AreStepsFit i r) is f.fit.steps)))
+      (executed_go i names notes f.fit.fit.distinct s0 r place first a refl f.before.waiting d rest does due (subst (λ ms. list_all (list_all is_plain) ms ≡ true) is p.plain) (subst (AreStepsFit i r) is f.fit.steps)))
+    where
+      by_item : list_all (list_all is_plain) ((Executes a ∷ marks_done a d) ∷ rest) ≡ true → list_all enters_once ((Executes a ∷ marks_done a d) ∷ rest) ≡ true
+      by_item plain =
+          let k = and_parts (list_all is_plain (Executes a ∷ marks_done a d)) (list_all (list_all is_plain) rest) plain in
+          and_from (enters_once (Executes a ∷ marks_done a d)) (list_all enters_once rest) (item_once AtArrival a d k.0) (due_once i rest ((Executes a ∷ marks_done a d) ∷ r.both.trace) due k.1)
 
   -- ---- it is held first
-
-  waited : (b : Arrival) → is_waiting b r.both.trace ≡ true → (b.event == r.both.event) ≡ false
-  waited b is =
-      let x : Passing (λ (c : Arrival). c.event == b.event) (waiting r.both.trace) = any_in (λ (c : Arrival). c.event == b.event) (waiting r.both.trace) is in
-      ne_eqb b.event r.both.event (λ same. let lt : x.x.event < r.both.event = each_in (λ (c : Arrival). c.event < r.both.event) (waiting r.both.trace) x.x x.there f.before.waiting in let at = eqb-true x.x.event b.event x.passes in let none : ⊥ = omega (arith, lt, at, same) in none)
 
   module _ (rest : List (List Mark)) (numbered : is_immediate a.request ≡ false) (new : is_received r.both.trace a.number ≡ false) (is : items_then i r cid header ≡ (Admits a ∷ []) ∷ rest) (due : EachOn (IsDue i.outbox.session) ((Admits a ∷ []) ∷ r.both.trace) rest) where
     steps : AreStepsFit i r ((Admits a ∷ []) ∷ rest)
     steps = subst (AreStepsFit i r) is f.fit.steps
 
-    plain_rest : list_all (list_all (is_plain r.both.event)) rest ≡ true
-    plain_rest = (and_parts (list_all (is_plain r.both.event) (Admits a ∷ [])) (list_all (list_all (is_plain r.both.event)) rest) (subst (λ ms. list_all (list_all (is_plain r.both.event)) ms ≡ true) is p.plain)).1
+    plain_rest : list_all (list_all is_plain) rest ≡ true
+    plain_rest = (and_parts (list_all is_plain (Admits a ∷ [])) (list_all (list_all is_plain) rest) (subst (λ ms. list_all (list_all is_plain) ms ≡ true) is p.plain)).1
 
     behind_first : (items : List (List Mark)) → AreStepsFit i (side_behind i r (Admits a ∷ [])) items → IsSound i.outbox (side_behind i r (Admits a ∷ [])).both.box
     behind_first [] h = h
     behind_first (item ∷ items) h = h.0.fit.sound
 
     abbrev held_state : State
-    held_state = record s { held = held_now i names notes f.fit.fit.distinct s0 r place first a refl f.before.admitted new (f.fit.received rest is) steps.0 (behind_first rest steps.1) }
+    held_state = record s { held = held_now i names notes f.fit.fit.distinct s0 r place first a refl f.before.admitted f.before.waiting new (f.fit.received rest is) steps.0 (behind_first rest steps.1) }
 
     held_first : is_held_first request (effects_of i.outbox.session r.both.trace ((Admits a ∷ []) ∷ rest)) ≡ true
     held_first =
@@ -171,13 +207,17 @@ module _ (i : Interface) (names : List Name) (notes : List Note) (s : State) (r 
     holds =
         subst (λ v. GoesTo i (done (cond v (happens i None e (changed (hold request place) begins)) (happens i (Some place) e begins))) (rules.done (happens_there i r e)))
         (sym (ap (λ ms. is_held_first request (effects_of i.outbox.session r.both.trace ms)) is ∙ held_first))
-        (event_goes i names notes held_state r None e (event_of (ap (list_all admits_alone) is ∙ due_alone i rest ((Admits a ∷ []) ∷ r.both.trace) due)) f.outbox
+        (event_goes i names notes held_state r None e (event_of (ap (list_all admits_alone) is ∙ due_alone i rest ((Admits a ∷ []) ∷ r.both.trace) due) (ap (starts_late r.both.event) is) (once_by ((Admits a ∷ []) ∷ rest) is (due_once i rest ((Admits a ∷ []) ∷ r.both.trace) due plain_rest))) f.outbox
         (subst (AllGo i names notes (record held_state { outbox = outbox_first i r e lead s.outbox }) r None []) (sym is)
-        (received_go i names notes f.fit.fit.distinct s0 r place first a refl f.before.admitted new (f.fit.received rest is) steps.0 (behind_first rest steps.1) rest due waited plain_rest steps.1)) p.started p.calm)
+        (received_go i names notes f.fit.fit.distinct s0 r place first a refl f.before.admitted f.before.waiting new (f.fit.received rest is) steps.0 (behind_first rest steps.1) rest due (f.fit.prompt rest is) plain_rest steps.1)) f.calm p.withheld)
 
-  -- a request that waits isn't one of what is proved
-  postponed : (rest : List (List Mark)) → items_then i r cid header ≡ (Waits a ∷ []) ∷ rest → ArrivesTo
-  postponed rest is = absurd (false≢true (subst (λ ms. list_all (list_all (is_plain r.both.event)) ms ≡ true) is p.plain))
+  postponed : (rest : List (List Mark)) → is_immediate a.request ≡ true → waiting_on (connection_of a.request) r.both.trace < MOST_WAITING → items_then i r cid header ≡ (Waits a ∷ []) ∷ rest → EachOn (IsDue i.outbox.session) ((Waits a ∷ []) ∷ r.both.trace) rest → ArrivesTo
+  postponed rest immediate few is due =
+      not_held (ap (λ ms. is_held_first request (effects_of i.outbox.session r.both.trace ms)) is ∙ ap not immediate) (ap (list_all admits_alone) is ∙ due_alone i rest ((Waits a ∷ []) ∷ r.both.trace) due) (ap (starts_late r.both.event) is)
+      (once_by ((Waits a ∷ []) ∷ rest) is (due_once i rest ((Waits a ∷ []) ∷ r.both.trace) due (and_parts (list_all is_plain (Waits a ∷ [])) (list_all (list_all is_plain) rest) (subst (λ ms. list_all (list_all is_plain) ms ≡ true) is p.plain)).1))
+      (subst (AllGo i names notes s0 r (Some place) []) (sym is)
+      (postponed_go i names notes f.fit.fit.distinct s0 r place first a refl f.before.admitted f.before.waiting f.known f.fit.waits few rest due
+      (and_parts (list_all is_plain (Waits a ∷ [])) (list_all (list_all is_plain) rest) (subst (λ ms. list_all (list_all is_plain) ms ≡ true) is p.plain)).1 (subst (AreStepsFit i r) is f.fit.steps)))
 
   pub arrives_to : ArrivesTo
   arrives_to = by_becomes (becomes i.outbox.session r.both.trace a)
@@ -187,4 +227,4 @@ module _ (i : Interface) (names : List Name) (notes : List Note) (s : State) (r 
       by_becomes (IsRejected is) = rejects is
       by_becomes (IsReceived rest numbered new is due) = holds rest numbered new is due
       by_becomes (IsExecuted d rest immediate does is due) = executes d rest immediate does is due
-      by_becomes (IsPostponed rest immediate is due) = postponed rest is
+      by_becomes (IsPostponed rest immediate few is due) = postponed rest immediate few is due

@@ -1,5 +1,5 @@
 -- A command that goes on ends: it completes, or stops where another session's reset takes it out.
-use Rattle.std.proofs.Common.{◌≡◌, ℕ, ◌+◌, ◌≤◌, ◌==◌, ◌&&◌, not, cond, Bool, true, false, List, [], length, count_by, filter, Option, Some, None, refl, ap, sym, subst, ◌∙◌, arith}
+use Rattle.std.proofs.Common.{◌≡◌, ℕ, ◌+◌, ◌*◌, ◌≤◌, ◌==◌, ◌&&◌, not, cond, Bool, true, false, List, [], length, count_by, filter, Option, Some, None, refl, ap, sym, subst, ◌∙◌, arith}
 use Rattle.std.proofs.lemmas.Bool.{and_from, eqb-true, false≢true}
 use Rattle.iscsi_history.specs.declared.event.Event.TheVariants.{Done}
 use Rattle.iscsi_history.specs.rules.Agenda.{command_of}
@@ -28,18 +28,19 @@ use Rattle.iscsi_ffi_law.proofs.DoneMid.{acts_then, as_many, going_at, happens_t
 use Rattle.iscsi_ffi_law.proofs.DoneRules.{rules_are, side_after}
 use Rattle.iscsi_ffi_law.proofs.DoneShape.{few_counted, tickets_of}
 use Rattle.iscsi_ffi_law.proofs.Ends.{EndsAlike, GoesTo}
+use Rattle.iscsi_ffi_law.proofs.Releases.{endings}
 use Rattle.iscsi_ffi_law.proofs.Staging.{Both}
 
 -- ---- an event, and those that follow it
 
 module _ (i : Interface) (s : StepsSide) (r : Side) (h : Stands i s r) (d : RulesCommand) (status : ℕ) (command : command_of r.both.trace d.ticket ≡ Some d) (a : AllDone i r d.ticket status) where
-  f : IsFound i h.names h.notes s.state r d status
-  f = record { requests = h.requests; outbox = h.outbox; sizes = h.sizes; counts = h.counts; command = command; fit = a.fit }
+  abbrev f : IsFound i h.names h.notes s.state r d status
+  f = record { pending = endings []; requests = h.requests; outbox = h.outbox; sizes = h.sizes; counts = h.counts; command = command; fit = a.fit }
 
   held : s.state.withheld ≡ tickets_of (filter (λ (c : RulesCommand). not (c.ticket == d.ticket)) (held_of r))
   held = h.withheld ∙ ap (λ cs. tickets_of (filter (λ (c : RulesCommand). not (c.ticket == d.ticket)) cs)) (sym (none_first (held_of r) h.calm))
 
-  room : 0 + count_by (λ (c : RulesCommand). not (was_free c r.both.trace)) (live r.both.trace) ≤ places i.outbox
+  room : 0 + count_by (λ (c : RulesCommand). not (was_free c r.both.trace)) (live r.both.trace) ≤ 3 * places i.outbox
   room = let few = a.fit.few in let all = few_counted (λ (c : RulesCommand). not (was_free c r.both.trace)) (live r.both.trace) in omega (arith, few, all)
 
   abbrev s2 : State
@@ -61,7 +62,7 @@ module _ (i : Interface) (s : StepsSide) (r : Side) (h : Stands i s r) (d : Rule
       ∙ ap (λ (x : Going). withholding i (length x.doing.state.commands.items) x) (happens_to i h.names h.notes s.state r d status f h.flags a.regular [] held room)
 
   all_end : EndsAlike i (withholding i (length s2.commands.items) (going_at s2 r2 acts2)) (withholding_there i (length (live r2.both.trace)) (record { side = r2; actions = acts2 })).side (withholding_there i (length (live r2.both.trace)) (record { side = r2; actions = acts2 })).actions
-  all_end = chain i h.names h.notes a.fit.fit.distinct (length (live r2.both.trace)) (length s2.commands.items) s2 r2 acts2 (mid_then i h.names h.notes s.state r d status f h.flags a.regular [] held room h.slots) (omega arith)
+  all_end = chain i h.names h.notes a.fit.fit.distinct [] (length (live r2.both.trace)) (length s2.commands.items) s2 r2 acts2 (mid_then i h.names h.notes s.state r d status f h.flags a.regular [] held room h.slots h.functions) (omega arith) (omega arith)
       (as_many i h.names h.notes s.state r d status f h.flags a.regular [] held room) (subst (λ (w : Told). AreDoneFit i (length (live w.side.both.trace)) w) told_is a.withheld)
 
   pub done_goes : GoesTo i (done (happens i None (Done d.ticket status) (going s))) (rules.done (happens_there i r (Done d.ticket status)))
@@ -98,7 +99,7 @@ module _ (i : Interface) (s : StepsSide) (r : Side) (h : Stands i s r) where
 
     module _ (st : ℕ) (fit : AllDone i r d.ticket st) where
       two : Both h.names r s.state.commands.items d
-      two = b i h.names h.notes s.state r d st (record { requests = h.requests; outbox = h.outbox; sizes = h.sizes; counts = h.counts; command = command; fit = fit.fit })
+      two = b i h.names h.notes s.state r d st (record { pending = endings []; requests = h.requests; outbox = h.outbox; sizes = h.sizes; counts = h.counts; command = command; fit = fit.fit })
 
       going_on : is_going two.c ≡ true
       going_on = two.is.going ∙ ap (λ v. v && contains r.told d.ticket) two.lives ∙ told

@@ -4,7 +4,7 @@ use Rattle.std.proofs.lemmas.Bool.{eq-eqb, not-true, or_left}
 use Rattle.std.proofs.lemmas.List.{length-map}
 use Rattle.iscsi_history.specs.declared.event.Event.TheVariants.{Done}
 use Rattle.iscsi_history.specs.rules.Settings.{are_distinct}
-use Rattle.iscsi_history.specs.rules.Trace.{Command as RulesCommand, entered, first_of, has, leaves_ticket, live, was_free}
+use Rattle.iscsi_history.specs.rules.Trace.{Command as RulesCommand, entered, first_of, has, leaves_ticket, live, waiting, was_free}
 use Rattle.iscsi_history.proofs.BoolLemmas.{or_none}
 use Rattle.iscsi_history.proofs.CountLemmas.{count-lost}
 use Rattle.iscsi_history.proofs.ListLemmas.{filter-shorter}
@@ -30,7 +30,7 @@ use Rattle.iscsi_ffi_steps.specs.Walk.{Doing}
 use Rattle.iscsi_ffi_law.specs.Done.{IsRegular}
 use Rattle.iscsi_ffi_law.specs.Names.{Name, Note}
 use Rattle.iscsi_requests.specs.Numbers.{size_for}
-use Rattle.iscsi_ffi_law.specs.Parts.{AreHeld, IsCommand, IsConn, IsNote, IsRequest, is_named}
+use Rattle.iscsi_ffi_law.specs.Parts.{AreFunctions, AreHeld, IsCommand, IsConn, IsNote, IsRequest, is_named}
 use Rattle.iscsi_ffi_law.specs.Stands.{AreCounts, AreFlags, AreRequests, AreSizes}
 use Rattle.iscsi_ffi_law.proofs.Between.{held_same}
 use Rattle.iscsi_ffi_law.proofs.Slots.{slots_same}
@@ -43,25 +43,25 @@ use Rattle.iscsi_ffi_law.proofs.DoneRules.{side_after}
 use Rattle.iscsi_ffi_law.proofs.DoneShape.{done_item, done_trace, entered_same, filter_counted, left_too, news, tickets_of}
 use Rattle.iscsi_ffi_law.proofs.DoneWalk.{outbox_after, state_done}
 use Rattle.iscsi_ffi_law.proofs.Ends.{EndsAlike}
-use Rattle.iscsi_ffi_law.proofs.Finish.{IsAtEnd, stands_ended, tells_alike}
+use Rattle.iscsi_ffi_law.proofs.EndsWith.{ends_with}
+use Rattle.iscsi_ffi_law.proofs.Finish.{IsAtEnd}
 use Rattle.iscsi_ffi_law.proofs.Marking.{named_first}
-use Rattle.iscsi_ffi_law.proofs.Moved.{commands_known}
-use Rattle.iscsi_ffi_law.proofs.Releases.{all_released, endings, releases}
-use Rattle.iscsi_ffi_law.proofs.Releasing.{Released}
+use Rattle.iscsi_ffi_law.proofs.Releases.{endings, releases}
 use Rattle.iscsi_ffi_law.proofs.Staging.{restaged}
 use Rattle.iscsi_ffi_law.proofs.Starting.{Starts, all_inserted, starting_of, withheld_of}
 
 -- what holds there; `acts`: what was told so far. The places are those of commands that start still
-pub record IsMid (i : Interface) (names : List Name) (notes : List Note) (s : State) (r : Side) (acts : List Action) : Type 0 where
-  pub requests : AreRequests names notes (λ place. 0) (λ q. []) s r
+pub record IsMid (i : Interface) (names : List Name) (notes : List Note) (s : State) (r : Side) (acts : List Action) (pending : ℕ → ℕ) : Type 0 where
+  pub requests : AreRequests names notes pending (λ q. []) s r
   pub outbox : OutboxStands i.outbox s.outbox r.both.box
   pub sizes : AreSizes i s
   pub flags : AreFlags i s r
   pub counts : AreCounts i s r
   pub regular : IsRegular i r
   pub slots : AreHeld (size_for i.outbox.session.window) s.commands.room names s.held r.both.trace
+  pub functions : AreFunctions (cids i) names s.functions (waiting r.both.trace)
   pub held : s.withheld ≡ tickets_of (held_of r)
-  pub room : length acts + count_by (λ (c : RulesCommand). not (was_free c r.both.trace)) (live r.both.trace) ≤ places i.outbox
+  pub room : length acts + count_by (λ (c : RulesCommand). not (was_free c r.both.trace)) (live r.both.trace) ≤ 3 * places i.outbox
   pub sound : IsSound i.outbox r.both.box
   pub few : AreFew r.both.box
 
@@ -96,11 +96,11 @@ requests_held names notes pending gone s r held a = record {
 -- ---- an event
 
 module _ (i : Interface) (names : List Name) (notes : List Note) (s : State) (r : Side) (d : RulesCommand) (status : ℕ) (f : IsFound i names notes s r d status) (flags : AreFlags i s r) (regular : IsRegular i r) (acts : List Action)
-    (held : s.withheld ≡ tickets_of (filter (λ (c : RulesCommand). not (c.ticket == d.ticket)) (held_of r))) (room : length acts + count_by (λ (c : RulesCommand). not (was_free c r.both.trace)) (live r.both.trace) ≤ places i.outbox) where
+    (held : s.withheld ≡ tickets_of (filter (λ (c : RulesCommand). not (c.ticket == d.ticket)) (held_of r))) (room : length acts + count_by (λ (c : RulesCommand). not (was_free c r.both.trace)) (live r.both.trace) ≤ 3 * places i.outbox) where
   barred : length (news i.outbox.session r.both.trace d status) + count_by (λ (c : RulesCommand). not (was_free c (done_trace r.both.trace d status))) (live (done_trace r.both.trace d status)) ≤ count_by (λ (c : RulesCommand). not (was_free c r.both.trace)) (live r.both.trace)
   barred = fewer_barred i.outbox.session r.both.trace d status regular.units
 
-  wide : 3 * places i.outbox ≤ s.room
+  wide : 7 * places i.outbox ≤ s.room
   wide = let conns = length-map i.outbox.session.conns (λ (c : ℕ × ℕ). c.0) in let all = f.sizes.room in omega (arith, all, conns)
 
   room_acts : length acts + length (news i.outbox.session r.both.trace d status) ≤ s.room
@@ -153,8 +153,9 @@ module _ (i : Interface) (names : List Name) (notes : List Note) (s : State) (r 
       (ap not (lives_now i names notes s r d status f)) in
       omega (arith, after, same, before, lost)
 
-  pub mid_then : AreHeld (size_for i.outbox.session.window) s.commands.room names s.held r.both.trace → IsMid i names notes state_then (side_after i names notes s r d status f) acts_then
-  mid_then slots = record {
+  pub mid_then : AreHeld (size_for i.outbox.session.window) s.commands.room names s.held r.both.trace → AreFunctions (cids i) names s.functions (waiting r.both.trace) → IsMid i names notes state_then (side_after i names notes s r d status f) acts_then f.pending
+  mid_then slots functions = record {
+    functions = functions;
     slots = slots_same (size_for i.outbox.session.window) s.commands.room names s.held r.both.trace (done_trace r.both.trace d status) (held_same r.both.trace (done_item d status) (record { admits = refl; admits_none = λ n. refl; delivers = λ n. refl; empties = λ n. refl })) slots;
     requests = requests_done i names notes s r d status f (r.told ++ tickets_of (starting_of (done_side i names notes s r d status f) (news i.outbox.session r.both.trace d status)))
         (all_inserted (tickets_of (withheld_of (done_side i names notes s r d status f) (news i.outbox.session r.both.trace d status))) s.withheld) k.items k.have;
@@ -189,13 +190,14 @@ module _ (i : Interface) (names : List Name) (notes : List Note) (s : State) (r 
 
 -- ---- the end
 
-pub mid_ends : (i : Interface) (names : List Name) (notes : List Note) (s : State) (r : Side) (acts : List Action) → IsMid i names notes s r acts → are_distinct i.outbox.session.conns ≡ true → held_of r ≡ [] → EndsAlike i (going_at s r acts) r acts
-mid_ends i names notes s r acts m distinct none = record {
-  tells = tells_alike i names notes (endings []) (λ q. []) s r at_end rel.cookies rel.forgets acts rel.released short (going_at s r acts) rel.is refl refl;
-  stands = stands_ended i names notes (endings []) (λ q. []) s r at_end rel.cookies rel.forgets acts rel.released short (going_at s r acts) rel.is refl refl;
-}
+-- .. with these uses ended
+abbrev pub going_rel : List (Option ℕ) → State → Side → List Action → Going
+going_rel xs s r acts = record { event = r.both.event; trace = r.both.trace; doing = releases xs (record { state = s; actions = acts; forgets = [] }) }
+
+pub mid_ends : (i : Interface) (names : List Name) (notes : List Note) (xs : List (Option ℕ)) (s : State) (r : Side) (acts : List Action) → IsMid i names notes s r acts (endings xs) → length xs ≤ s.room → are_distinct i.outbox.session.conns ≡ true → held_of r ≡ [] → EndsAlike i (going_rel xs s r acts) r acts
+mid_ends i names notes xs s r acts m room distinct none = ends_with i names notes (λ q. []) xs acts s r at_end room short (going_rel xs s r acts) refl refl refl
   where
-    at_end : IsAtEnd i names notes (endings []) (λ q. []) s r
+    at_end : IsAtEnd i names notes (endings xs) (λ q. []) s r
     at_end = record {
       outbox = m.outbox;
       sound = m.sound;
@@ -206,12 +208,10 @@ mid_ends i names notes s r acts m distinct none = record {
       requests = m.requests;
       counts = m.counts;
       slots = m.slots;
+      functions = m.functions;
       withheld = m.held ∙ ap tickets_of none;
       calm = ap first_of none;
     }
-
-    rel : Released s acts (releases [] (record { state = s; actions = acts; forgets = [] }))
-    rel = all_released s acts m.requests.counted (commands_known names notes (endings []) (λ q. []) s r m.requests) [] (omega arith) m.requests.uses
 
     short : length acts + 2 * length (cids i) ≤ s.room
     short = let conns = length-map i.outbox.session.conns (λ (c : ℕ × ℕ). c.0) in let all = m.sizes.room in let few = m.room in omega (arith, all, conns, few)

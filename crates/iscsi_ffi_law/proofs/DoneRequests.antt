@@ -241,7 +241,7 @@ module _ (i : Interface) (names : List Name) (notes : List Note) (s : State) (r 
   -- ---- all of it
 
   pub requests_done : (told held : List ℕ) (items : List Command) → HaveCommands names (record done_side { told = told }) (outbox_after i names notes s r d status f) (map (restaged Over d.ticket) s.commands.items) items
-      → AreRequests names notes (λ place. 0) (λ q. []) (record (state_done i names notes s r d status f) { commands = record s.commands { items = items }; withheld = held }) (record done_side { told = told })
+      → AreRequests names notes f.pending (λ q. []) (record (state_done i names notes s r d status f) { commands = record s.commands { items = items }; withheld = held }) (record done_side { told = told })
   requests_done told held items have = record {
     asked = f.requests.asked;
     noted = f.requests.noted;

@@ -32,7 +32,7 @@ enables_walked [] first w = refl
 enables_walked (n ∷ ns) first w = enables_walked ns false w
 
 module _ (i : Interface) (names : List Name) (notes : List Note) (s : State) (r : Side) (d : RulesCommand) (status : ℕ) (f : IsFound i names notes s r d status) where
-  sent_is : s.outbox.sent ≡ r.both.box.sent
+  pub sent_is : s.outbox.sent ≡ r.both.box.sent
   sent_is = let e = f.outbox.numbers.sent in let lt = f.fit.sent in omega (arith, e, lt)
 
   abbrev pub outbox_after : OutboxState
@@ -88,7 +88,7 @@ module _ (i : Interface) (names : List Name) (notes : List Note) (s : State) (r 
             record w' { sent = (s.outbox.sent + 1) % 2 ^ 64 }
 
         room : may_wait s.outbox.sent s.replies ≡ true
-        room = ap (λ n. may_wait n s.replies) sent_is ∙ may_wait_more i names notes (λ place. 0) (λ p. []) s r f.requests f.outbox f.sizes f.fit.sent f.fit.replies
+        room = ap (λ n. may_wait n s.replies) sent_is ∙ may_wait_more i names notes f.pending (λ p. []) s r f.requests f.outbox f.sizes f.fit.sent f.fit.replies
 
     walk_is : (on_effects true (done_effects i.outbox.session r.both.trace d status) (walk_from None here)).doing
         ≡ record { state = record s { commands = record s.commands { items = map (restaged Over d.ticket) s.commands.items }; replies = pushed (p i names notes s r d status f) (record { log_place = r.both.box.sent; request = (b i names notes s r d status f).c.request }) s.replies }; actions = acts; forgets = forgets }
@@ -98,7 +98,7 @@ module _ (i : Interface) (names : List Name) (notes : List Note) (s : State) (r 
         ∙ ap (λ (w : Walk). w.doing) (enables_walked (news i.outbox.session r.both.trace d status) false (after_send r.both.box.sent))
 
     -- its connection keeps what waits there
-    kept_there : keeps (link_at outbox_after (p i names notes s r d status f)) ≡ true
+    pub kept_there : keeps (link_at outbox_after (p i names notes s r d status f)) ≡ true
     kept_there =
         let short : p i names notes s r d status f < length (box_after i names notes s r d status f).links = (let w = (place i names notes s r d status f).within in let m = many_after i names notes s r d status f in omega (arith, w, m)) in
         let st : StandsFor (link_at outbox_after (p i names notes s r d status f)) (link_in (box_after i names notes s r d status f).links (p i names notes s r d status f))
@@ -110,7 +110,7 @@ module _ (i : Interface) (names : List Name) (notes : List Note) (s : State) (r 
         ∙ same.takes ∙ takes_it i names notes s r d status f
 
     -- .. and so the outbox's place
-    place_after : place_of outbox_after (connection_of d.arrival.request) ≡ Some (p i names notes s r d status f)
+    pub place_after : place_of outbox_after (connection_of d.arrival.request) ≡ Some (p i names notes s r d status f)
     place_after =
         ap (λ (l : Limits). position (λ (c : ℕ). c == connection_of d.arrival.request) l.cids) ((stands_after i names notes s r d status f).sizes.limits ∙ sym f.outbox.sizes.limits)
         ∙ place_is i names notes s r d status f
@@ -122,7 +122,7 @@ module _ (i : Interface) (names : List Name) (notes : List Note) (s : State) (r 
         ap (λ (y : Option ℕ). as_list y ++ flat_map (touched_by state_done) (enables (news i.outbox.session r.both.trace d status))) place_after
         ∙ ap (λ xs. p i names notes s r d status f ∷ xs) (gives_none (touched_by state_done) (news i.outbox.session r.both.trace d status) (λ ticket unit. refl))
 
-    resets_none : (t : State) → resets_in t (done_effects i.outbox.session r.both.trace d status) ≡ []
+    pub resets_none : (t : State) → resets_in t (done_effects i.outbox.session r.both.trace d status) ≡ []
     resets_none t =
         ap (λ items. cond t.outbox.limits.shared (flat_map (reset_in t.outbox.limits.units) items) []) (one_part i.outbox.session r.both.trace d status) ∙ by_test t.outbox.limits.shared
       where

@@ -75,6 +75,7 @@ moved_ends i s r h o b fit stands tracked runs moved =
       withheld = h.withheld;
       calm = h.calm;
       slots = h.slots;
+      functions = h.functions;
     }) fit.some (record { event = s.event; trace = s.trace; doing = record { state = with_outbox s.state o; actions = []; forgets = [] } }) refl h.event h.trace
 
 -- several uses have ended

@@ -17,6 +17,8 @@ use Rattle.iscsi_outbox_law.specs.Pairs.{EachOf, PairsOf}
 use Rattle.iscsi_outbox_law.proofs.PairLemmas.{each-append, each-at, each-weaken, pairs-append, pairs-weaken}
 use Rattle.iscsi_outbox_steps.specs.Steps.{is_running_ticket}
 use Rattle.iscsi_requests.specs.Conns.{of_conn}
+use Rattle.iscsi_requests.specs.Functions.{WaitingFunctions}
+use Rattle.iscsi_requests.specs.declared.functions.WaitingFunction.{WaitingFunction}
 use Rattle.iscsi_requests.specs.Numbers.{HeldNumbers}
 use Rattle.iscsi_requests.specs.declared.replies.WaitingReply.{WaitingReply}
 use Rattle.iscsi_ffi_commands.specs.declared.command.Command.{Command}
@@ -30,7 +32,7 @@ use Rattle.iscsi_ffi_law.specs.Arrived.{IsFreshCommand}
 use Rattle.iscsi_ffi_law.specs.Names.{Name, Note, place_named}
 use Rattle.iscsi_ffi_law.specs.Parts.{IsAbout, IsCommand, IsConn, IsCovered, IsKnownOut, IsLiveNamed, IsNote, IsOfCommand, IsOneUse, IsQueued, IsReplyOf, IsRequest, covers, is_live_ticket, is_named}
 use Rattle.iscsi_ffi_law.specs.Stands.{AreRequests}
-use Rattle.iscsi_ffi_law.specs.Uses.{count_held, is_place, is_used}
+use Rattle.iscsi_ffi_law.specs.Uses.{count_functions, count_held, count_lists, is_place, is_used}
 use Rattle.iscsi_ffi_law.proofs.Asked.{find_still}
 use Rattle.iscsi_ffi_law.proofs.DoneRequests.{each_left, pairs_each}
 use Rattle.iscsi_ffi_law.proofs.Kept.{count_nothing}
@@ -140,10 +142,10 @@ module _ (names : List Name) (notes : List Note) (pending : ℕ → ℕ) (gone :
   commands_now : Commands
   commands_now = commands.entered new_command s.commands
 
-  pub requests_entered : (held : HeldNumbers) (pending' : ℕ → ℕ) → ((p : ℕ) → count_by (is_place p) held.places + (pending' p + one (place == p)) ≡ count_held p s + pending p)
-      → EachOf (IsRequest (record s { held = held }) t') names → EachOf (IsNote (record s { held = held }) r.both.box.links) notes
-      → AreRequests names notes pending' gone (record s { held = held; commands = commands.entered new_command s.commands }) side_entered
-  requests_entered held pending' uses named noted = record {
+  pub requests_entered : (held : HeldNumbers) (functions : WaitingFunctions) (pending' : ℕ → ℕ) → ((p : ℕ) → count_by (is_place p) held.places + count_lists (λ (f : WaitingFunction). f.request == p) functions.waiting + (pending' p + one (place == p)) ≡ count_held p s + count_functions p s + pending p)
+      → EachOf (IsRequest (record s { held = held; functions = functions }) t') names → EachOf (IsNote (record s { held = held; functions = functions }) r.both.box.links) notes
+      → AreRequests names notes pending' gone (record s { held = held; functions = functions; commands = commands.entered new_command s.commands }) side_entered
+  requests_entered held functions pending' uses named noted = record {
     asked = a.asked;
     noted = a.noted;
     apart = a.apart;
@@ -154,8 +156,8 @@ module _ (names : List Name) (notes : List Note) (pending : ℕ → ℕ) (gone :
         = omega (arith, sum_by-append (λ (x : Command). cond (x.request == p && is_used s.outbox x) 1 0) s.commands.items (new_command ∷ []), count-cons (λ (x : Command). x.request == p && is_used s.outbox x) new_command []) in
         let same : one (place == p && true) ≡ one (place == p) = ap one (whole (place == p)) in
         omega (arith, a.uses p, uses p, more, same);
-    named = each-weaken (IsRequest (record s { held = held }) t') (IsRequest (record s { held = held; commands = commands.entered new_command s.commands }) t') names (λ n k. record { held = k.held; waiting = k.waiting }) named;
-    noted_apart = each-weaken (IsNote (record s { held = held }) r.both.box.links) (IsNote (record s { held = held; commands = commands.entered new_command s.commands }) r.both.box.links) notes (λ n k. record { held = k.held; waiting = k.waiting; home = k.home }) noted;
+    named = each-weaken (IsRequest (record s { held = held; functions = functions }) t') (IsRequest (record s { held = held; functions = functions; commands = commands.entered new_command s.commands }) t') names (λ n k. record { held = k.held; waiting = k.waiting }) named;
+    noted_apart = each-weaken (IsNote (record s { held = held; functions = functions }) r.both.box.links) (IsNote (record s { held = held; functions = functions; commands = commands.entered new_command s.commands }) r.both.box.links) notes (λ n k. record { held = k.held; waiting = k.waiting; home = k.home }) noted;
     tickets = ap are_apart entered_more ∙ apart_last (entered r.both.trace) c a.tickets fresh.unentered;
     commands = subst (λ (ds : List RulesCommand). PairsOf (IsCommand names side_entered) (s.commands.items ++ new_command ∷ []) (filter (is_named names) ds)) (sym entered_more)
         (subst (PairsOf (IsCommand names side_entered) (s.commands.items ++ new_command ∷ [])) (sym (filter-append (is_named names) (entered r.both.trace) (c ∷ []) ∙ ap (λ v. filter (is_named names) (entered r.both.trace) ++ cond v (c ∷ []) []) named_new))

@@ -9,7 +9,7 @@ use Rattle.iscsi_history.specs.declared.event.Event.{Event}
 use Rattle.iscsi_history.specs.promises.Order.{in_parts}
 use Rattle.iscsi_history.specs.rules.Agenda.{items_of}
 use Rattle.iscsi_history.specs.rules.Run.{effects_of, numbers_of}
-use Rattle.iscsi_history.specs.rules.Trace.{Command as RulesCommand, Mark, Trace, after_items, entered, has, leaves_ticket, was_free}
+use Rattle.iscsi_history.specs.rules.Trace.{Command as RulesCommand, Mark, Trace, after_items, entered, has, leaves_ticket, live, was_free}
 use Rattle.iscsi_history.proofs.ElementLemmas.{In}
 use Rattle.iscsi_outbox_rules.specs.promises.Room.{places}
 use Rattle.iscsi_outbox_rules.specs.rules.Boxes.{Box, Task}
@@ -30,14 +30,15 @@ use Rattle.iscsi_ffi_commands.specs.declared.command.Command.{Command}
 use Rattle.iscsi_ffi_commands.specs.Commands.{is_live}
 use Rattle.iscsi_ffi_rules.specs.declared.action.Action.{Action}
 use Rattle.iscsi_ffi_rules.specs.rules.Calls.{Interface}
-use Rattle.iscsi_ffi_rules.specs.rules.Happening.{answers_in, resets_in as resets_there}
+use Rattle.iscsi_ffi_rules.specs.rules.Happening.{answers_in, resets_in as resets_there, stepped}
 use Rattle.iscsi_ffi_rules.specs.rules.Needs.{left_to_write}
 use Rattle.iscsi_ffi_rules.specs.rules.Run.{cids}
 use Rattle.iscsi_ffi_rules.specs.rules.Sides.{Side}
 use Rattle.iscsi_ffi_steps.specs.State.{State}
 use Rattle.iscsi_ffi_steps.specs.Steps.{reset_in, resets_in, start_each, takes, walk_from}
 use Rattle.iscsi_ffi_steps.specs.Walk.{Doing, Walk, in_state, on_effects, sweep, tell_all, touched_by}
-use Rattle.iscsi_ffi_law.specs.Arrived.{is_plain}
+use Rattle.iscsi_ffi_law.specs.Arrived.{AreStepsFit, is_plain, starts_late}
+use Rattle.iscsi_ffi_law.specs.Done.{IsRegular}
 use Rattle.iscsi_ffi_law.specs.Fit.{IsFit}
 use Rattle.iscsi_ffi_law.specs.Names.{Name, Note}
 use Rattle.iscsi_ffi_law.specs.Parts.{IsAbout, IsCommand, IsConn, IsNote, IsRequest, is_named}
@@ -52,6 +53,7 @@ use Rattle.iscsi_ffi_law.proofs.EventRules.{admits_alone, all_enabled, all_reset
 use Rattle.iscsi_ffi_law.proofs.Flags.{is_used_place}
 use Rattle.iscsi_ffi_law.proofs.ItemsGo.{AllGo, side_after}
 use Rattle.iscsi_ffi_law.proofs.Members.{in_counted}
+use Rattle.iscsi_ffi_law.proofs.HeldNews.{enters_once}
 use Rattle.iscsi_ffi_law.proofs.Moved.{IsMoved, commands_known, requests_moved, run_same}
 use Rattle.iscsi_ffi_law.proofs.NameLemmas.{found_named}
 use Rattle.iscsi_ffi_law.proofs.EndsWith.{told_all}
@@ -104,7 +106,12 @@ pub record IsEventOf (i : Interface) (r : Side) (e : Event) : Type 0 where
   pub sent : r.both.box.sent < 2 ^ 64 - 1
   pub short : length (items_of i.outbox.session r.both.event r.both.trace e) ≤ places i.outbox
   pub enabled : length (filter_map ticket_enabled (effects_of i.outbox.session r.both.trace (items_of i.outbox.session r.both.event r.both.trace e))) ≤ places i.outbox
-  pub plain : list_all (list_all (is_plain r.both.event)) (items_of i.outbox.session r.both.event r.both.trace e) ≡ true
+  pub plain : list_all (list_all is_plain) (items_of i.outbox.session r.both.event r.both.trace e) ≡ true
+  pub prompt : starts_late r.both.event (items_of i.outbox.session r.both.event r.both.trace e) ≡ false
+  pub few : length (live (stepped i r e).both.trace) ≤ places i.outbox
+  pub regular : IsRegular i (stepped i r e)
+  pub steps : AreStepsFit i r (items_of i.outbox.session r.both.event r.both.trace e)
+  pub once : list_all enters_once (items_of i.outbox.session r.both.event r.both.trace e) ≡ true
   pub alone : list_all admits_alone (items_of i.outbox.session r.both.event r.both.trace e) ≡ true
   pub behind : IsSound i.outbox (side_after i r (items_of i.outbox.session r.both.event r.both.trace e)).both.box
 
@@ -211,7 +218,7 @@ module _ (i : Interface) (names : List Name) (notes : List Note) (s : State) (r 
   few_told = let few = few_resets i.outbox items in let short = fit.short in omega (arith, few, short)
 
   pub news_are : (x : RulesCommand) → In x ns → In x (entered t') × (has (leaves_ticket x.ticket) t' ≡ false) × (was_free x t' ≡ true)
-  news_are x at = news_live i.outbox.session r.both.event items r.both.trace fit.plain x at
+  news_are x at = news_live i.outbox.session items r.both.trace fit.plain x at
 
   pub q : Starts names side2 out' state2.commands.items ns d3 (start_each (tickets_of ns) d3)
   q = all_start names out' state2.commands.items ns side2 requests2.tickets requests2.live_named (λ x at. let y = news_are x at in record { there = y.0; lives = y.1; free = y.2 }) d3
@@ -239,7 +246,7 @@ module _ (i : Interface) (names : List Name) (notes : List Note) (s : State) (r 
   walked : (on_effects true effects (walk_from own (record { state = s; actions = []; forgets = [] }))).doing ≡ walked_to
   walked =
       ap (λ n. (on_effects true effects (walk_at s.outbox (record s { outbox = outbox_first i r e (parts i r e).lead s.outbox }) [] [] own n)).doing) sent_is
-      ∙ ap (λ (w : Walk). w.doing) (go.walk s.outbox k.sizes.limits [] true)
+      ∙ ap (λ (w : Walk). w.doing) (go.walk s.outbox k.sizes.limits [] true fit.prompt)
 
   abbrev taken_in : Doing
   taken_in = record { state = record state2 { cookies = K.cookies; commands = K.commands }; actions = []; forgets = K.forgets }

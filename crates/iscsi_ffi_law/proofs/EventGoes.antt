@@ -96,6 +96,7 @@ pub first_between : (i : Interface) (names : List Name) (notes : List Note) (s :
 first_between i names notes s r own left fit false k = record {
   requests = requests_moved names notes _ (λ q. []) s r k.requests s.outbox r.both.box (λ ticket. refl) (record { long = refl; sent = refl; queued = λ q within. (k.requests.conns q within).queued; undue = k.requests.undue; conn = λ q within. refl; left = λ q within. refl });
   slots = k.slots;
+  functions = k.functions;
   outbox = k.outbox;
   sizes = record { room = k.sizes.room; functions = k.sizes.functions; replies = k.sizes.replies; noted = k.sizes.noted; unwritten = k.sizes.unwritten; noted_room = k.sizes.noted_room; unwritten_room = k.sizes.unwritten_room; replies_room = k.sizes.replies_room; slots = k.sizes.slots; few = k.sizes.few };
   flags = record { awake = k.flags.awake; over = k.flags.over };
@@ -119,6 +120,7 @@ first_between i names notes s r own left fit true k =
           (run_same i s r (steps_after_item [] s.outbox) r.both.box k.outbox fit.sound stands fit.sound fit.distinct (λ ticket. refl))
           (record { long = refl; sent = refl; queued = λ q within. (k.requests.conns q within).queued; undue = k.requests.undue; conn = λ q within. refl; left = λ q within. refl });
       slots = k.slots;
+      functions = k.functions;
       outbox = stands;
       sizes = record { room = k.sizes.room; functions = k.sizes.functions; replies = k.sizes.replies; noted = k.sizes.noted; unwritten = k.sizes.unwritten; noted_room = k.sizes.noted_room; unwritten_room = k.sizes.unwritten_room; replies_room = k.sizes.replies_room; slots = k.sizes.slots; few = k.sizes.few };
       flags = record { awake = k.flags.awake; over = k.flags.over };

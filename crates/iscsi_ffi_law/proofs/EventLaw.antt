@@ -1,20 +1,26 @@
--- An event goes by the steps as by the rules, where none is withheld then.
-use Rattle.std.proofs.Common.{◌≡◌, ℕ, ◌+◌, ◌==◌, inl, inr, not, cond, true, false, List, [], ◌∷◌, ◌++◌, length, map, filter, filter_map, Option, Some, None, refl, ap, sym, subst, ◌∙◌, arith, lt-ltb, eq-eqb, length-append}
-use Rattle.std.specs.List.{flat_map, list_all, list_any}
+-- An event goes by the steps as by the rules, with those that are withheld then.
+use Rattle.std.proofs.Common.{◌≡◌, ℕ, ◌+◌, ◌≤◌, ◌==◌, ◌&&◌, ◌||◌, Bool, count_by, inl, inr, not, cond, true, false, List, [], ◌∷◌, ◌++◌, length, map, filter, filter_map, Option, Some, None, refl, ap, sym, subst, ◌∙◌, arith, lt-ltb, eq-eqb, length-append}
+use Rattle.std.specs.List.{flat_map, list_all}
 use Rattle.std.proofs.lemmas.Bool.{eqb-true, false≢true}
 use Rattle.std.proofs.lemmas.List.{length-map}
 use Rattle.iscsi_history.specs.declared.event.Event.{Event}
 use Rattle.iscsi_history.specs.rules.Agenda.{items_of}
-use Rattle.iscsi_history.specs.rules.Run.{effects_of, entry_of}
-use Rattle.iscsi_history.specs.rules.Trace.{Admits, ClosesConn, ClosesSession, Command as RulesCommand, Delivers, Empties, Enters, Executes, Ignores, Leaves, Mark, Sends, Trace, Voids, Waits, after_items, entered, has, leaves_ticket, live}
+use Rattle.iscsi_history.specs.rules.Run.{entry_of}
+use Rattle.iscsi_history.specs.rules.Trace.{was_free, Admits, ClosesConn, ClosesSession, Command as RulesCommand, Delivers, Empties, Enters, Executes, Ignores, Leaves, Mark, Sends, Trace, Voids, Waits, after_items, entered, has, leaves_ticket, live}
 use Rattle.iscsi_history.proofs.BoolLemmas.{and_parts}
+use Rattle.iscsi_history.proofs.CountLemmas.{one, count-cons}
+use Rattle.iscsi_history.proofs.ListLemmas.{filter-shorter}
+use Rattle.iscsi_outbox_rules.specs.rules.Words.{contains}
+use Rattle.iscsi_outbox_law.specs.Pairs.{PairsOf}
+use Rattle.iscsi_outbox_steps.specs.Steps.{is_running_ticket}
+use Rattle.iscsi_ffi_commands.specs.declared.command.Command.{Command}
+use Rattle.iscsi_ffi_commands.specs.Commands.{is_live}
 use Rattle.iscsi_history.proofs.ElementLemmas.{In, filter-in, in-filter}
-use Rattle.iscsi_outbox_rules.specs.rules.Items.{ticket_enabled}
 use Rattle.iscsi_outbox_law.specs.Stands.{Stands as OutboxStands}
 use Rattle.iscsi_ffi_rules.specs.declared.action.Action.{Action}
 use Rattle.iscsi_ffi_rules.specs.rules.Calls.{Interface}
 use Rattle.iscsi_ffi_rules.specs.rules.Clearing.{is_withheld, next_withheld}
-use Rattle.iscsi_ffi_rules.specs.rules.Happening.{Told, happening as happening_there, happens as happens_there, leaving, live_with, start as start_there, stops_in, withheld}
+use Rattle.iscsi_ffi_rules.specs.rules.Happening.{Told, happening as happening_there, happens as happens_there, leaving, live_with, start as start_there, stops_in, withheld, withholding as withholding_there}
 use Rattle.iscsi_ffi_rules.specs.rules.Run as rules
 use Rattle.iscsi_ffi_rules.specs.rules.Run.{cids}
 use Rattle.iscsi_ffi_rules.specs.rules.Sides.{Side}
@@ -22,53 +28,81 @@ use Rattle.iscsi_ffi_steps.specs.State.{State}
 use Rattle.iscsi_ffi_steps.specs.Steps.{Going, done, happening, happens, start_each, takes, withholding}
 use Rattle.iscsi_ffi_steps.specs.Walk.{Doing}
 use Rattle.iscsi_ffi_law.specs.Arrived.{is_plain}
+use Rattle.iscsi_ffi_law.specs.Done.{AreDoneFit}
+use Rattle.iscsi_ffi_law.specs.Parts.{IsCommand, is_named}
+use Rattle.iscsi_ffi_law.specs.Uses.{is_used, uses_of}
 use Rattle.iscsi_ffi_law.specs.Names.{Name, Note}
 use Rattle.iscsi_ffi_law.specs.Stands.{AreRequests}
 use Rattle.iscsi_ffi_law.proofs.Between.{IsBetween, pending_as}
+use Rattle.iscsi_ffi_law.proofs.Ascending.{all_more, all_up, filtered_up, same_list}
 use Rattle.iscsi_ffi_law.proofs.Commands.{one_command}
-use Rattle.iscsi_ffi_law.proofs.Doing.{idle}
-use Rattle.iscsi_ffi_law.proofs.DoneShape.{tickets_of}
+use Rattle.iscsi_ffi_law.proofs.DoneChain.{chain, none_first}
+use Rattle.iscsi_ffi_law.proofs.DoneHeld.{held_of}
+use Rattle.iscsi_ffi_law.proofs.DoneMid.{IsMid, requests_held}
+use Rattle.iscsi_ffi_law.proofs.DoneShape.{few_counted, tickets_of}
 use Rattle.iscsi_ffi_law.proofs.Ends.{EndsAlike, GoesTo}
 use Rattle.iscsi_ffi_law.proofs.EventEnds.{IsEventOf, between_n, d3, few_told, many, news_are, out', q, requests2, requests_started, resets, side2, side_e, side_n, stands', state2, takes_is, tracked', wide}
 use Rattle.iscsi_ffi_law.proofs.EventGoes.{outbox_first, parts}
-use Rattle.iscsi_ffi_law.proofs.EventRules.{all_enabled, news_of, none_of}
-use Rattle.iscsi_ffi_law.proofs.Finish.{IsAtEnd}
+use Rattle.iscsi_ffi_law.proofs.EventRules.{all_enabled, news_of}
+use Rattle.iscsi_ffi_law.proofs.Flags.{is_used_place}
+use Rattle.iscsi_ffi_law.proofs.HeldNews.{all_held, withheld_left}
 use Rattle.iscsi_ffi_law.proofs.ItemsGo.{AllGo}
-use Rattle.iscsi_ffi_law.proofs.Kept.{filter_all, filter_nothing}
-use Rattle.iscsi_ffi_law.proofs.Members.{find_in, in_find}
+use Rattle.iscsi_ffi_law.proofs.Marking.{named_first}
+use Rattle.iscsi_ffi_law.proofs.Members.{find_in, in_counted, in_find}
 use Rattle.iscsi_ffi_law.proofs.QuietItems.{stops_none}
-use Rattle.iscsi_ffi_law.proofs.EndsWith.{all_released_held, ends_with}
-use Rattle.iscsi_ffi_law.proofs.Releases.{endings, releases}
-use Rattle.iscsi_ffi_law.proofs.Releasing.{ending}
-use Rattle.iscsi_ffi_law.proofs.Resetting.{calm}
-use Rattle.iscsi_ffi_law.proofs.Staging.{HaveCommands}
-use Rattle.iscsi_ffi_law.proofs.Starting.{Starts, all_inserted, starting_of}
+use Rattle.iscsi_ffi_law.proofs.Moved.{commands_known}
+use Rattle.iscsi_ffi_law.proofs.Releases.{all_released, endings, releases}
+use Rattle.iscsi_ffi_law.proofs.Releasing.{Released, ending}
+use Rattle.iscsi_ffi_law.proofs.Starting.{Starts, all_inserted, starting_of, withheld_of}
 
 -- nothing stops where nothing leaves
-none_leaving : (now : ℕ) (ms : List Mark) → list_all (is_plain now) ms ≡ true → filter_map leaving ms ≡ []
-none_leaving now [] h = refl
-none_leaving now (Admits a ∷ ms) h = none_leaving now ms h
-none_leaving now (Delivers a ∷ ms) h = none_leaving now ms h
-none_leaving now (Executes a ∷ ms) h = none_leaving now ms (and_parts (a.event == now) (list_all (is_plain now) ms) h).1
-none_leaving now (Voids n ∷ ms) h = none_leaving now ms h
-none_leaving now (Empties a ∷ ms) h = none_leaving now ms (and_parts false (list_all (is_plain now) ms) h).1
-none_leaving now (Waits a ∷ ms) h = none_leaving now ms (and_parts false (list_all (is_plain now) ms) h).1
-none_leaving now (Leaves c ∷ ms) h = absurd (false≢true h)
-none_leaving now (Enters c ∷ ms) h = none_leaving now ms h
-none_leaving now (Sends conn reply ∷ ms) h = none_leaving now ms h
-none_leaving now (ClosesConn conn ∷ ms) h = none_leaving now ms (and_parts false (list_all (is_plain now) ms) h).1
-none_leaving now (ClosesSession ∷ ms) h = none_leaving now ms (and_parts false (list_all (is_plain now) ms) h).1
-none_leaving now (Ignores why ∷ ms) h = none_leaving now ms h
+none_leaving : (ms : List Mark) → list_all is_plain ms ≡ true → filter_map leaving ms ≡ []
+none_leaving [] h = refl
+none_leaving (Admits a ∷ ms) h = none_leaving ms h
+none_leaving (Delivers a ∷ ms) h = none_leaving ms h
+none_leaving (Executes a ∷ ms) h = none_leaving ms h
+none_leaving (Voids n ∷ ms) h = none_leaving ms h
+none_leaving (Empties a ∷ ms) h = none_leaving ms (and_parts false (list_all is_plain ms) h).1
+none_leaving (Waits a ∷ ms) h = none_leaving ms h
+none_leaving (Leaves c ∷ ms) h = absurd (false≢true h)
+none_leaving (Enters c ∷ ms) h = none_leaving ms h
+none_leaving (Sends conn reply ∷ ms) h = none_leaving ms h
+none_leaving (ClosesConn conn ∷ ms) h = none_leaving ms (and_parts false (list_all is_plain ms) h).1
+none_leaving (ClosesSession ∷ ms) h = none_leaving ms (and_parts false (list_all is_plain ms) h).1
+none_leaving (Ignores why ∷ ms) h = none_leaving ms h
 
-none_stop : (r : Side) (now : ℕ) (xs : List (List Mark)) → list_all (list_all (is_plain now)) xs ≡ true → flat_map (stops_in r) xs ≡ []
-none_stop r now [] h = refl
-none_stop r now (item ∷ xs) h =
-    let p = and_parts (list_all (is_plain now) item) (list_all (list_all (is_plain now)) xs) h in
-    ap (λ ys. ys ++ flat_map (stops_in r) xs) (stops_none r item (none_leaving now item p.0)) ∙ none_stop r now xs p.1
+none_stop : (r : Side) (xs : List (List Mark)) → list_all (list_all is_plain) xs ≡ true → flat_map (stops_in r) xs ≡ []
+none_stop r [] h = refl
+none_stop r (item ∷ xs) h =
+    let p = and_parts (list_all is_plain item) (list_all (list_all is_plain) xs) h in
+    ap (λ ys. ys ++ flat_map (stops_in r) xs) (stops_none r item (none_leaving item p.0)) ∙ none_stop r xs p.1
+
+-- the commands that are live are so on both sides
+pairs_live : (names : List Name) (r : Side) (cs : List Command) (ds : List RulesCommand) → PairsOf (IsCommand names r) cs ds → length (filter (λ (d : RulesCommand). not (has (leaves_ticket d.ticket) r.both.trace)) ds) ≡ count_by is_live cs
+pairs_live names r [] [] pairs = refl
+pairs_live names r [] (d ∷ ds) pairs = absurd pairs
+pairs_live names r (c ∷ cs) [] pairs = absurd pairs
+pairs_live names r (c ∷ cs) (d ∷ ds) pairs = by_test (pairs_live names r cs ds pairs.1) (not (has (leaves_ticket d.ticket) r.both.trace)) refl
+  where
+    by_test : length (filter (λ (x : RulesCommand). not (has (leaves_ticket x.ticket) r.both.trace)) ds) ≡ count_by is_live cs → (v : Bool) → not (has (leaves_ticket d.ticket) r.both.trace) ≡ v
+        → length (cond v (d ∷ filter (λ (x : RulesCommand). not (has (leaves_ticket x.ticket) r.both.trace)) ds) (filter (λ (x : RulesCommand). not (has (leaves_ticket x.ticket) r.both.trace)) ds)) ≡ count_by is_live (c ∷ cs)
+    by_test rest true is = let here : one (is_live c) ≡ 1 = ap one (pairs.0.live ∙ is) in omega (arith, rest, here, count-cons is_live c cs)
+    by_test rest false is = let here : one (is_live c) ≡ 0 = ap one (pairs.0.live ∙ is) in omega (arith, rest, here, count-cons is_live c cs)
+
+live_kept : (keep : Command → Bool) (cs : List Command) → ((c : Command) → In c cs → is_live c ≡ true → keep c ≡ true) → count_by is_live cs ≤ length (filter keep cs)
+live_kept keep [] kept = omega arith
+live_kept keep (c ∷ cs) kept = by_tests (live_kept keep cs (λ x there. kept x (inr there))) (is_live c) refl (keep c) refl
+  where
+    by_tests : count_by is_live cs ≤ length (filter keep cs) → (v : Bool) → is_live c ≡ v → (w : Bool) → keep c ≡ w → count_by is_live (c ∷ cs) ≤ length (cond w (c ∷ filter keep cs) (filter keep cs))
+    by_tests rest true is true is' = let here : one (is_live c) ≡ 1 = ap one is in omega (arith, rest, here, count-cons is_live c cs)
+    by_tests rest true is false is' = absurd (false≢true (sym is' ∙ kept c (inl refl) is))
+    by_tests rest false is true is' = let here : one (is_live c) ≡ 0 = ap one is in omega (arith, rest, here, count-cons is_live c cs)
+    by_tests rest false is false is' = let here : one (is_live c) ≡ 0 = ap one is in omega (arith, rest, here, count-cons is_live c cs)
 
 module _ (i : Interface) (names : List Name) (notes : List Note) (s : State) (r : Side) (own : Option ℕ) (e : Event) (fit : IsEventOf i r e) (k : OutboxStands i.outbox s.outbox r.both.box)
     (go : AllGo i names notes (record s { outbox = outbox_first i r e (parts i r e).lead s.outbox }) r own [] (items_of i.outbox.session r.both.event r.both.trace e))
-    (begun : list_any (is_withheld (side2 i names notes s r own e fit k go)) (filter_map (live_with (after_items (items_of i.outbox.session r.both.event r.both.trace e) r.both.trace)) (filter_map ticket_enabled (effects_of i.outbox.session r.both.trace (items_of i.outbox.session r.both.event r.both.trace e)))) ≡ false) (still : next_withheld (happening_there i r e).side ≡ None) where
+    (calm : next_withheld r ≡ None)
+    (fits : let w = happening_there i r e in AreDoneFit i (length (live w.side.both.trace)) w) where
   abbrev news : List RulesCommand
   news = news_of i.outbox.session r.both.trace (items_of i.outbox.session r.both.event r.both.trace e)
 
@@ -82,7 +116,7 @@ module _ (i : Interface) (names : List Name) (notes : List Note) (s : State) (r 
   marks = items_of i.outbox.session r.both.event r.both.trace e
 
   abbrev told : List Action
-  told = resets i names notes s r own e fit k go ++ map (start_there two) news
+  told = resets i names notes s r own e fit k go ++ map (start_there two) (starting_of two news)
 
   -- ---- the rules
 
@@ -104,27 +138,14 @@ module _ (i : Interface) (names : List Name) (notes : List Note) (s : State) (r 
       add None xs = xs
       add (Some x) xs = x ∷ xs
 
-  started : list_any (is_withheld two) news ≡ false
-  started = ap (list_any (is_withheld two)) (sym (ap (filter_map (live_with t2)) (all_enabled i.outbox.session r.both.trace marks) ∙ all_found news found_live)) ∙ begun
-
-  none_held : (x : RulesCommand) → In x news → is_withheld two x ≡ false
-  none_held x at = none_of (is_withheld two) news started x at
-
-  started_all : filter (λ (x : RulesCommand). not (is_withheld two x)) news ≡ news
-  started_all = filter_all (λ (x : RulesCommand). not (is_withheld two x)) news (λ x at. ap not (none_held x at))
-
-  held_none : filter (is_withheld two) news ≡ []
-  held_none = filter_nothing (is_withheld two) news none_held
-
   abbrev side3 : Side
-  side3 = record two { told = r.told ++ tickets_of news }
+  side3 = record two { told = r.told ++ tickets_of (starting_of two news) }
 
   rules_are : happening_there i r e ≡ record { side = side3; actions = told }
   rules_are =
       ap (λ ks. by_started (filter (λ x. not (is_withheld two x)) (filter_map (live_with t2) ks))) (all_enabled i.outbox.session r.both.trace marks)
       ∙ ap (λ xs. by_started (filter (λ x. not (is_withheld two x)) xs)) (all_found news found_live)
-      ∙ ap by_started started_all
-      ∙ ap (λ (xs : List Action). record { side = side3; actions = (xs ++ resets i names notes s r own e fit k go) ++ map (start_there two) news }) (none_stop r r.both.event marks fit.plain)
+      ∙ ap (λ (xs : List Action). record { side = side3; actions = (xs ++ resets i names notes s r own e fit k go) ++ map (start_there two) (starting_of two news) }) (none_stop r marks fit.plain)
     where
       by_started : List RulesCommand → Told
       by_started xs = record { side = record two { told = r.told ++ map (λ (x : RulesCommand). x.ticket) xs }; actions = (flat_map (stops_in r) marks ++ resets i names notes s r own e fit k go) ++ map (start_there two) xs }
@@ -135,13 +156,10 @@ module _ (i : Interface) (names : List Name) (notes : List Note) (s : State) (r 
   start = q i names notes s r own e fit k go
 
   abbrev last_state : State
-  last_state = record (state2 i names notes s r own e fit k go) { commands = record go.state.commands { items = start.items } }
+  last_state = record (state2 i names notes s r own e fit k go) { commands = record go.state.commands { items = start.items }; withheld = all_inserted (tickets_of (withheld_of two news)) go.state.withheld }
 
   started_is : start_each (tickets_of news) (d3 i names notes s r own e fit k go) ≡ record { state = last_state; actions = told; forgets = [] }
-  started_is =
-      start.is
-      ∙ ap (λ (ms : List RulesCommand). record { state = record last_state { withheld = all_inserted (tickets_of ms) go.state.withheld }; actions = resets i names notes s r own e fit k go ++ map (start_there two) (starting_of two news); forgets = [] }) held_none
-      ∙ ap (λ (ms : List RulesCommand). record { state = last_state; actions = resets i names notes s r own e fit k go ++ map (start_there two) ms; forgets = [] }) started_all
+  started_is = start.is
 
   abbrev going_then : Going
   going_then = record { event = r.both.event + 1; trace = t2; doing = releases go.ended (record { state = last_state; actions = told; forgets = [] }) }
@@ -159,22 +177,35 @@ module _ (i : Interface) (names : List Name) (notes : List Note) (s : State) (r 
 
   -- ---- the end
 
+  abbrev b : IsBetween i names notes go.state (side_n i names notes s r own e fit k go) None go.ended
+  b = between_n i names notes s r own e fit k go
+
   requests3 : AreRequests names notes (λ p. ending None p + endings go.ended p) (λ p. []) last_state side3
-  requests3 = requests_started names notes (λ p. ending None p + endings go.ended p) (state2 i names notes s r own e fit k go) (side_e i names notes s r own e fit k go) (r.both.event + 1) (r.told ++ tickets_of news) go.state.commands.items start.items
-      (requests2 i names notes s r own e fit k go) refl (subst (λ (ms : List RulesCommand). HaveCommands names (record two { told = r.told ++ tickets_of ms }) (out' i names notes s r own e fit k go) go.state.commands.items start.items) started_all start.have)
+  requests3 = requests_held names notes (λ p. ending None p + endings go.ended p) (λ p. []) (record (state2 i names notes s r own e fit k go) { commands = record go.state.commands { items = start.items } }) side3 (all_inserted (tickets_of (withheld_of two news)) go.state.withheld)
+      (requests_started names notes (λ p. ending None p + endings go.ended p) (state2 i names notes s r own e fit k go) (side_e i names notes s r own e fit k go) (r.both.event + 1) (r.told ++ tickets_of (starting_of two news)) go.state.commands.items start.items
+      (requests2 i names notes s r own e fit k go) refl start.have)
 
   plain_pending : AreRequests names notes (endings go.ended) (λ p. []) last_state side3
   plain_pending = pending_as names notes (λ p. ending None p + endings go.ended p) (endings go.ended) (λ p. []) last_state side3 (λ p. omega arith) requests3
 
-  abbrev b : IsBetween i names notes go.state (side_n i names notes s r own e fit k go) None go.ended
-  b = between_n i names notes s r own e fit k go
+  room_ended : length go.ended ≤ last_state.room
+  room_ended = let few = go.few in let short = fit.short in let w = wide i names notes s r own e fit k go in omega (arith, few, short, w)
 
-  at_end : IsAtEnd i names notes (endings go.ended) (λ p. []) last_state side3
-  at_end = record {
+  -- those that are withheld, in the order of their tickets
+  held_news : withheld_of two news ≡ held_of side3
+  held_news = withheld_left (is_withheld two) r.told t2 news
+      (all_held i marks r fit.plain fit.once fit.steps fit.regular.units ∙ ap (λ cs. cs ++ news) (none_first (held_of r) calm)) (requests2 i names notes s r own e fit k go).tickets
+
+  held_then : all_inserted (tickets_of (withheld_of two news)) go.state.withheld ≡ tickets_of (held_of side3)
+  held_then =
+      ap (all_inserted (tickets_of (withheld_of two news))) b.withheld ∙ ap (λ cs. all_inserted (tickets_of cs) []) held_news
+      ∙ same_list (all_inserted (tickets_of (held_of side3)) []) (tickets_of (held_of side3)) (all_up (tickets_of (held_of side3)) [] tt)
+      (filtered_up (λ (c : RulesCommand). was_free c t2 && not (contains side3.told c.ticket)) (λ (c : RulesCommand). not (has (leaves_ticket c.ticket) t2)) (entered t2) fit.regular.ascending) (λ n. omega (arith, all_more n (tickets_of (held_of side3)) []))
+
+  mid : IsMid i names notes last_state side3 told (endings go.ended)
+  mid = record {
+    requests = plain_pending;
     outbox = stands' i names notes s r own e fit k go;
-    sound = fit.fit.sound_after;
-    few = fit.fit.short.handed;
-    distinct = fit.fit.distinct;
     sizes = record {
       room = b.sizes.room;
       functions = b.sizes.functions;
@@ -188,25 +219,46 @@ module _ (i : Interface) (names : List Name) (notes : List Note) (s : State) (r 
       few = b.sizes.few;
     };
     flags = record { awake = b.flags.awake; over = b.flags.over };
-    requests = plain_pending;
     counts = record { units = b.counts.units; last = b.counts.last; tracked = tracked' i names notes s r own e fit k go };
+    regular = record { ascending = fit.regular.ascending; units = fit.regular.units };
     slots = b.slots;
-    withheld = b.withheld;
-    calm = sym (ap (λ (w : Told). next_withheld w.side) rules_are) ∙ still;
+    functions = b.functions;
+    held = held_then;
+    room =
+        let few = few_told i names notes s r own e fit k go in
+        let n = many i names notes s r own e fit k go in
+        let long = length-append (resets i names notes s r own e fit k go) (map (start_there two) (starting_of two news)) in
+        let mapped = length-map (starting_of two news) (start_there two) in
+        let fewer = filter-shorter (λ (c : RulesCommand). not (is_withheld two c)) news in
+        let barred = few_counted (λ (c : RulesCommand). not (was_free c t2)) (live t2) in
+        let all = fit.few in
+        omega (arith, few, n, long, mapped, fewer, barred, all);
+    sound = fit.fit.sound_after;
+    few = fit.fit.short.handed;
   }
 
-  ends : EndsAlike i going_then side3 told
-  ends = ends_with i names notes (λ p. []) go.ended told last_state side3 at_end
-      (let few = go.few in let short = fit.short in let w = wide i names notes s r own e fit k go in omega (arith, few, short, w))
-      (let few = few_told i names notes s r own e fit k go in let n = many i names notes s r own e fit k go in let w = wide i names notes s r own e fit k go in
-      omega (arith, few, n, w, length-append (resets i names notes s r own e fit k go) (map (start_there two) news), length-map news (start_there two)))
-      going_then refl refl refl
+  -- there are as many commands left as are live
+  as_many : length (live t2) ≤ length going_then.doing.state.commands.items
+  as_many =
+      let rel : Released last_state told (releases go.ended (record { state = last_state; actions = told; forgets = [] }))
+      = all_released last_state told plain_pending.counted (commands_known names notes (endings go.ended) (λ p. []) last_state side3 plain_pending) go.ended room_ended plain_pending.uses in
+      let left = ap (λ (d : Doing). length d.state.commands.items) rel.is in
+      let named = ap length (named_first names t2 (entered t2) plain_pending.live_named) in
+      let lives = pairs_live names side3 start.items (filter (is_named names) (entered t2)) start.have.commands in
+      let kept = live_kept (λ (c : Command). is_used_place last_state c.request) start.items used in
+      omega (arith, left, named, lives, kept)
+    where
+      used : (c : Command) → In c start.items → is_live c ≡ true → is_used_place last_state c.request ≡ true
+      used c there lives =
+          let some : 1 ≤ count_by (λ (x : Command). x.request == c.request && is_used last_state.outbox x) start.items
+          = in_counted (λ (x : Command). x.request == c.request && is_used last_state.outbox x) start.items c there (ap (λ v. v && is_used last_state.outbox c) (eq-eqb c.request c.request refl) ∙ ap (λ v. v || is_running_ticket c.ticket last_state.outbox) lives) in
+          lt-ltb 0 (uses_of c.request last_state) (omega (arith, some))
+
+  ends : EndsAlike i (withholding i (length going_then.doing.state.commands.items) going_then) (withholding_there i (length (live side3.both.trace)) (record { side = side3; actions = told })).side (withholding_there i (length (live side3.both.trace)) (record { side = side3; actions = told })).actions
+  ends = chain i names notes fit.fit.distinct go.ended (length (live side3.both.trace)) (length going_then.doing.state.commands.items) last_state side3 told mid room_ended (omega arith) as_many
+      (subst (λ (w : Told). AreDoneFit i (length (live w.side.both.trace)) w) rules_are fits)
 
   pub event_goes : GoesTo i (done (happens i own e (record { event = r.both.event; trace = r.both.trace; doing = record { state = s; actions = []; forgets = [] } }))) (rules.done (happens_there i r e))
   event_goes =
       subst (λ (g : Going). GoesTo i (done (withholding i (length g.doing.state.commands.items) g)) (rules.done (happens_there i r e))) (sym happening_to)
-      (subst (λ (g : Going). GoesTo i (done g) (rules.done (happens_there i r e)))
-      (sym (idle i (length going_then.doing.state.commands.items) going_then (all_released_held go.ended (record { state = last_state; actions = told; forgets = [] }) ∙ b.withheld)))
-      (subst (λ (w : Told). GoesTo i (done going_then) (rules.done w))
-      (sym (ap (withheld i) rules_are ∙ calm i _ (record { side = side3; actions = told }) (sym (ap (λ (w : Told). next_withheld w.side) rules_are) ∙ still)))
-      (record { answer = refl; tells = ends.tells; stands = ends.stands })))
+      (subst (λ (w : Told). GoesTo i (done (withholding i (length going_then.doing.state.commands.items) going_then)) (rules.done w)) (sym (ap (withheld i) rules_are)) (record { answer = refl; tells = ends.tells; stands = ends.stands }))

@@ -1,5 +1,5 @@
 -- What the rules make of an event, by its items: the side behind it, what is reset, and what is enabled.
-use Rattle.std.proofs.Common.{◌≡◌, ℕ, ◌≤◌, ◌==◌, ◌&&◌, ◌||◌, ⊎_elim, cond, Bool, true, false, List, [], ◌∷◌, ◌++◌, length, filter_map, Option, Some, None, refl, ap, sym, ◌∙◌, arith, append_assoc, length-append}
+use Rattle.std.proofs.Common.{◌≡◌, ℕ, ◌≤◌, ◌&&◌, ◌||◌, ⊎_elim, cond, Bool, true, false, List, [], ◌∷◌, ◌++◌, length, filter_map, Option, Some, None, refl, ap, sym, ◌∙◌, arith, append_assoc, length-append}
 use Rattle.std.specs.List.{flat_map, list_all, list_any}
 use Rattle.std.proofs.lemmas.Bool.{false≢true, or_right}
 use Rattle.std.proofs.lemmas.List.{append-nil, map-append}
@@ -92,37 +92,37 @@ pub free_later : (items : List (List Mark)) (t : Trace) (c : Command) → was_fr
 free_later [] t c free = free
 free_later (item ∷ items) t c free = free_later items (item ∷ t) c (or_right (is_free_at c (item ∷ t)) (was_free c t) free)
 
-none_leaves : (now k : ℕ) (ms : List Mark) → list_all (is_plain now) ms ≡ true → list_any (leaves_ticket k) ms ≡ false
-none_leaves now k [] h = refl
-none_leaves now k (Admits a ∷ ms) h = none_leaves now k ms h
-none_leaves now k (Delivers a ∷ ms) h = none_leaves now k ms h
-none_leaves now k (Executes a ∷ ms) h = none_leaves now k ms (and_parts (a.event == now) (list_all (is_plain now) ms) h).1
-none_leaves now k (Voids n ∷ ms) h = none_leaves now k ms h
-none_leaves now k (Empties a ∷ ms) h = none_leaves now k ms (and_parts false (list_all (is_plain now) ms) h).1
-none_leaves now k (Waits a ∷ ms) h = none_leaves now k ms (and_parts false (list_all (is_plain now) ms) h).1
-none_leaves now k (Leaves c ∷ ms) h = absurd (false≢true h)
-none_leaves now k (Enters c ∷ ms) h = none_leaves now k ms h
-none_leaves now k (Sends conn reply ∷ ms) h = none_leaves now k ms h
-none_leaves now k (ClosesConn conn ∷ ms) h = none_leaves now k ms (and_parts false (list_all (is_plain now) ms) h).1
-none_leaves now k (ClosesSession ∷ ms) h = none_leaves now k ms (and_parts false (list_all (is_plain now) ms) h).1
-none_leaves now k (Ignores why ∷ ms) h = none_leaves now k ms h
+pub none_leaves : (k : ℕ) (ms : List Mark) → list_all is_plain ms ≡ true → list_any (leaves_ticket k) ms ≡ false
+none_leaves k [] h = refl
+none_leaves k (Admits a ∷ ms) h = none_leaves k ms h
+none_leaves k (Delivers a ∷ ms) h = none_leaves k ms h
+none_leaves k (Executes a ∷ ms) h = none_leaves k ms h
+none_leaves k (Voids n ∷ ms) h = none_leaves k ms h
+none_leaves k (Empties a ∷ ms) h = none_leaves k ms (and_parts false (list_all is_plain ms) h).1
+none_leaves k (Waits a ∷ ms) h = none_leaves k ms h
+none_leaves k (Leaves c ∷ ms) h = absurd (false≢true h)
+none_leaves k (Enters c ∷ ms) h = none_leaves k ms h
+none_leaves k (Sends conn reply ∷ ms) h = none_leaves k ms h
+none_leaves k (ClosesConn conn ∷ ms) h = none_leaves k ms (and_parts false (list_all is_plain ms) h).1
+none_leaves k (ClosesSession ∷ ms) h = none_leaves k ms (and_parts false (list_all is_plain ms) h).1
+none_leaves k (Ignores why ∷ ms) h = none_leaves k ms h
 
-pub left_later : (now k : ℕ) (items : List (List Mark)) (t : Trace) → list_all (list_all (is_plain now)) items ≡ true → has (leaves_ticket k) (after_items items t) ≡ has (leaves_ticket k) t
-left_later now k [] t h = refl
-left_later now k (item ∷ items) t h =
-    let parts = and_parts (list_all (is_plain now) item) (list_all (list_all (is_plain now)) items) h in
-    left_later now k items (item ∷ t) parts.1 ∙ ap (λ v. v || has (leaves_ticket k) t) (none_leaves now k item parts.0)
+pub left_later : (k : ℕ) (items : List (List Mark)) (t : Trace) → list_all (list_all is_plain) items ≡ true → has (leaves_ticket k) (after_items items t) ≡ has (leaves_ticket k) t
+left_later k [] t h = refl
+left_later k (item ∷ items) t h =
+    let parts = and_parts (list_all is_plain item) (list_all (list_all is_plain) items) h in
+    left_later k items (item ∷ t) parts.1 ∙ ap (λ v. v || has (leaves_ticket k) t) (none_leaves k item parts.0)
 
 -- each of these is live, and was barred before the event
-pub news_live : (o : Setting) (now : ℕ) (items : List (List Mark)) (t : Trace) → list_all (list_all (is_plain now)) items ≡ true → (x : Command) → In x (news_of o t items) → In x (entered (after_items items t)) × (has (leaves_ticket x.ticket) (after_items items t) ≡ false) × (was_free x (after_items items t) ≡ true)
-news_live o now [] t h x at = absurd at
-news_live o now (item ∷ items) t h x at =
-    let parts = and_parts (list_all (is_plain now) item) (list_all (list_all (is_plain now)) items) h in
+pub news_live : (o : Setting) (items : List (List Mark)) (t : Trace) → list_all (list_all is_plain) items ≡ true → (x : Command) → In x (news_of o t items) → In x (entered (after_items items t)) × (has (leaves_ticket x.ticket) (after_items items t) ≡ false) × (was_free x (after_items items t) ≡ true)
+news_live o [] t h x at = absurd at
+news_live o (item ∷ items) t h x at =
+    let parts = and_parts (list_all is_plain item) (list_all (list_all is_plain) items) h in
     ⊎_elim
     (λ here.
     let k : IsNew t (item ∷ t) x = new_ones o t item x here in
-    (entered_later items (item ∷ t) x k.there, left_later now x.ticket items (item ∷ t) parts.1 ∙ k.lives, free_later items (item ∷ t) x k.free))
-    (λ later. news_live o now items (item ∷ t) parts.1 x later)
+    (entered_later items (item ∷ t) x k.there, left_later x.ticket items (item ∷ t) parts.1 ∙ k.lives, free_later items (item ∷ t) x k.free))
+    (λ later. news_live o items (item ∷ t) parts.1 x later)
     (in-append (newly_enabled o t item) (news_of o (item ∷ t) items) x at)
 
 -- ---- what is reset

@@ -7,6 +7,7 @@ use Rattle.std.proofs.lemmas.List.Sums.{sum_by-append}
 use Rattle.iscsi_history.proofs.BoolLemmas.{and_parts}
 use Rattle.iscsi_history.proofs.ListLemmas.{count_by-map, filter-shorter}
 use Rattle.iscsi_history.specs.rules.Settings.{are_distinct}
+use Rattle.iscsi_history.specs.rules.Trace.{waiting}
 use Rattle.iscsi_outbox_rules.specs.rules.Words.{contains, is_running}
 use Rattle.iscsi_outbox_rules.specs.rules.Boxes.{Answer, Link}
 use Rattle.iscsi_outbox_rules.specs.rules.Handing as box
@@ -40,7 +41,7 @@ use Rattle.iscsi_ffi_steps.specs.Steps.{Going, after, close_each, ended, gives, 
 use Rattle.iscsi_ffi_steps.specs.Walk.{Doing}
 use Rattle.iscsi_ffi_law.specs.Alike.{AreForgets, SameForgets, TellAlike, is_any_forget}
 use Rattle.iscsi_ffi_law.specs.Names.{Name, Note, asked_of, noted_of}
-use Rattle.iscsi_ffi_law.specs.Parts.{AreHeld}
+use Rattle.iscsi_ffi_law.specs.Parts.{AreFunctions, AreHeld}
 use Rattle.iscsi_ffi_law.specs.Uses.{uses_of}
 use Rattle.iscsi_ffi_law.specs.Stands.{AreCounts, AreFlags, AreRequests, AreSizes, Stands}
 use Rattle.iscsi_ffi_law.proofs.Ended.{IsReleased, left_of, requests_left, side_left}
@@ -49,7 +50,7 @@ use Rattle.iscsi_ffi_law.proofs.Kept.{count_nothing}
 use Rattle.iscsi_ffi_law.proofs.Members.{Passing, any_in, in_any}
 use Rattle.iscsi_ffi_law.proofs.Needs.{map_in}
 use Rattle.iscsi_ffi_law.proofs.Replies.{HaveConns}
-use Rattle.iscsi_ffi_law.proofs.Slots.{slots_used}
+use Rattle.iscsi_ffi_law.proofs.Slots.{functions_used, slots_used}
 use Rattle.iscsi_ffi_law.proofs.Telling.{flags_after, gives_alike, gives_to, is_over_to, over_alike, told_over, told_ready}
 use Rattle.iscsi_ffi_law.proofs.Words.{words_kept}
 
@@ -64,6 +65,7 @@ pub record IsAtEnd (i : Interface) (names : List Name) (notes : List Note) (pend
   pub counts : AreCounts i s r
   pub requests : AreRequests names notes pending gone s r
   pub slots : AreHeld (size_for i.outbox.session.window) s.commands.room names s.held r.both.trace
+  pub functions : AreFunctions (cids i) names s.functions (waiting r.both.trace)
   pub withheld : s.withheld ≡ []
   pub calm : next_withheld r ≡ None
 
@@ -244,6 +246,7 @@ module _ (i : Interface) (names : List Name) (notes : List Note) (pending : ℕ 
             (r.awake ++ newly_ready i r) (r.over ++ newly_over i r);
         counts = record { units = e.counts.units; last = e.counts.last; tracked = e.counts.tracked };
         slots = slots_used (size_for i.outbox.session.window) s.commands.room names notes e.requests.apart s.held r.both.trace e.slots (is_used_place s) (λ p some. lt-ltb 0 (uses_of p s) (omega (arith, some))) e.sizes.slots;
+        functions = functions_used (cids i) names notes e.requests.apart s.functions (waiting r.both.trace) e.functions (is_used_place s) (λ p some. lt-ltb 0 (uses_of p s) (omega (arith, some)));
         withheld = e.withheld;
         calm = e.calm;
       })

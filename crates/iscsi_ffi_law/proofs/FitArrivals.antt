@@ -46,6 +46,7 @@ all_weaken Q R t f h = record {
 
 -- of the request that an item of this form takes, or that executes in it
 abbrev pub OfForm : (Arrival → Type 0) → Form → Type 0
+OfForm Q (Rejected a) = Q a
 OfForm Q (Received a) = Q a
 OfForm Q (Postponed a) = Q a
 OfForm Q (Executed start a d) = Q a
@@ -57,11 +58,11 @@ pub record IsItemOf (o : Setting) (now : ℕ) (Q : Arrival → Type 0) (t : Trac
 
 -- ---- an item
 
-abbrev waits_by : Mark → Option Arrival
+abbrev pub waits_by : Mark → Option Arrival
 waits_by (Waits a) = Some a
 waits_by _ = None
 
-through : (Q : Arrival → Type 0) (ms : List Mark) (ws : List Arrival) → EachOf Q (filter_map waits_by ms) → EachOf Q ws → EachOf Q (waiting_through ms ws)
+pub through : (Q : Arrival → Type 0) (ms : List Mark) (ws : List Arrival) → EachOf Q (filter_map waits_by ms) → EachOf Q ws → EachOf Q (waiting_through ms ws)
 through Q [] ws new old = old
 through Q (Waits a ∷ ms) ws new old = through Q ms (ws ++ a ∷ []) new.1 (each-append Q ws (a ∷ []) old (new.0, tt))
 through Q (Executes a ∷ ms) ws new old = through Q ms (filter (λ b. not (b.event == a.event)) ws) new (each-filter Q (λ b. not (b.event == a.event)) ws old)
@@ -235,7 +236,7 @@ module _ (o : Setting) (now : ℕ) (Q : Arrival → Type 0) where
       where
         by_kind : (k : Kind) → Items t (arrival_as o t a k)
         by_kind PassedOver = ignored_items t Data h
-        by_kind Unknown = items_one t _ h (record { has = record { form = Rejected a; is = refl; formed = tt }; of = tt })
+        by_kind Unknown = items_one t _ h (record { has = record { form = Rejected a; is = refl; formed = tt }; of = q })
         by_kind ExecutesKind =
             elim (is_immediate a.request) as (λ b. Items t (cond b (with_turns o t (immediate_item o t a)) (numbered o t a))) [
               | true ↦ turns_items t (immediate_item o t a) h immediate_now

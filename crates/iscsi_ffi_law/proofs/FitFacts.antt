@@ -51,7 +51,7 @@ limits i opening =
 -- ---- where a command is
 
 -- a connection that joined, and isn't closed, takes more
-takes_there : (t : Trace) (c : ℕ) (links : List Link) → EachOf (λ (l : Link). l.cut ≡ true → l.closed ≡ true) links → EachOf (AsIn t) links → EachOf (IsOver t) links → is_closed c t ≡ false → has_joined links c ≡ true → list_any (λ (l : Link). l.conn == c && takes_more l) links ≡ true
+pub takes_there : (t : Trace) (c : ℕ) (links : List Link) → EachOf (λ (l : Link). l.cut ≡ true → l.closed ≡ true) links → EachOf (AsIn t) links → EachOf (IsOver t) links → is_closed c t ≡ false → has_joined links c ≡ true → list_any (λ (l : Link). l.conn == c && takes_more l) links ≡ true
 takes_there t c links cuts closed over unclosed joined =
     let p : Passing (λ (l : Link). l.conn == c && l.joined) links = any_in (λ (l : Link). l.conn == c && l.joined) links joined in
     let l : Link = p.x in

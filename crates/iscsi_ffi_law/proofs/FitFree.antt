@@ -1,6 +1,6 @@
 -- There is a place for a request, and for a PDU of the target's own: each place that is taken has a use, and there are fewer uses than places.
-use Rattle.std.proofs.Common.{◌≡◌, ℕ, ◌+◌, ◌*◌, ◌<◌, ◌≤◌, ◌==◌, ◌&&◌, not, cond, nat_le, Bool, true, false, List, [], ◌∷◌, ◌++◌, length, map, filter, find, count_by, Option, Some, None, is_some, unwrap_or, refl, ap, sym, subst, ◌∙◌, arith, length-append, eq-eqb, ⊎_elim}
-use Rattle.std.proofs.lemmas.Bool.{cases_lt, eqb-true, leb-false}
+use Rattle.std.proofs.Common.{◌≡◌, ℕ, ◌+◌, ◌<◌, ◌≤◌, ◌==◌, ◌&&◌, not, cond, Bool, true, false, List, [], ◌∷◌, ◌++◌, length, map, filter, find, count_by, Option, Some, None, is_some, refl, ap, sym, subst, ◌∙◌, arith, length-append, eq-eqb, ⊎_elim}
+use Rattle.std.proofs.lemmas.Bool.{cases_lt, eqb-true}
 use Rattle.std.proofs.lemmas.List.{length-map}
 use Rattle.iscsi_history.proofs.CountLemmas.{count-cons, one}
 use Rattle.iscsi_history.proofs.ListLemmas.{fewer_counted}
@@ -11,7 +11,6 @@ use Rattle.iscsi_ffi_steps.specs.State.{State}
 use Rattle.iscsi_outbox_law.specs.Pairs.{EachOf}
 use Rattle.iscsi_requests.specs.Conns.{count_all}
 use Rattle.iscsi_requests.specs.Cookies.{Cookies, Request, is_at, next_place, uses_at}
-use Rattle.iscsi_requests.specs.Numbers.{size_for}
 use Rattle.iscsi_requests.specs.declared.functions.WaitingFunction.{WaitingFunction}
 use Rattle.iscsi_requests.specs.declared.replies.WaitingReply.{WaitingReply}
 use Rattle.iscsi_ffi_law.specs.Parts.{AreCounted}
@@ -31,7 +30,7 @@ none_left p q (r ∷ rs) same = by_first (none_left p q rs same) (is_at q r) ref
         let here : one (is_at p r) ≡ 0 = ap one (ap (λ k. is_at k r) (sym same) ∙ is) in
         omega (arith, rest, here, count-cons (is_at p) r (filter (λ (x : Request). not (is_at q x)) rs))
 
-fewer_requests : (places : List ℕ) (rs : List Request) → ((p : ℕ) → count_by (is_at p) rs ≤ 1) → ((p : ℕ) → count_by (is_at p) rs ≤ times p places) → length rs ≤ length places
+pub fewer_requests : (places : List ℕ) (rs : List Request) → ((p : ℕ) → count_by (is_at p) rs ≤ 1) → ((p : ℕ) → count_by (is_at p) rs ≤ times p places) → length rs ≤ length places
 fewer_requests [] [] once there = omega arith
 fewer_requests [] (r ∷ rs) once there =
     absurd (let here : one (is_at r.place r) ≡ 1 = ap one (eq-eqb r.place r.place refl) in let none = there r.place in let z : ⊥ = omega (arith, here, none, count-cons (is_at r.place) r rs) in z)
@@ -45,7 +44,7 @@ fewer_requests (q ∷ places) rs once there =
 
 -- ---- the places of uses
 
-somes : List (Option ℕ) → List ℕ
+pub somes : List (Option ℕ) → List ℕ
 somes [] = []
 somes (Some p ∷ xs) = p ∷ somes xs
 somes (None ∷ xs) = somes xs
@@ -58,7 +57,7 @@ all_mapped : {X : Type 0} → (X → ℕ) → List (List X) → List ℕ
 all_mapped f [] = []
 all_mapped f (xs ∷ lists) = map f xs ++ all_mapped f lists
 
-times_somes : (p : ℕ) (xs : List (Option ℕ)) → times p (somes xs) ≡ count_by (is_place p) xs
+pub times_somes : (p : ℕ) (xs : List (Option ℕ)) → times p (somes xs) ≡ count_by (is_place p) xs
 unfolding somes
 times_somes p [] = refl
 times_somes p (Some q ∷ xs) = omega (arith, times_somes p xs, count-cons (is_place p) (Some q) xs)
@@ -95,7 +94,7 @@ times_filtered p q (c ∷ cs) = by_first (times_filtered p q cs) (q c) refl
     by_first rest true is = let here = both (c.request == p) (q c) is in omega (arith, rest, here, count-cons (λ (d : Command). d.request == p && q d) c cs)
     by_first rest false is = let here = neither (c.request == p) (q c) is in omega (arith, rest, here, count-cons (λ (d : Command). d.request == p && q d) c cs)
 
-few_somes : (xs : List (Option ℕ)) → length (somes xs) ≤ length xs
+pub few_somes : (xs : List (Option ℕ)) → length (somes xs) ≤ length xs
 unfolding somes
 few_somes [] = omega arith
 few_somes (Some p ∷ xs) = omega (arith, few_somes xs)
@@ -151,7 +150,7 @@ module _ (s : State) where
       let r = times_all p s.unwritten.handed in
       omega (arith, a, b, c, d, e, k, l, m, n, q, r)
 
-  uses_few : length (uses_list s) ≤ length s.held.places + count_all s.functions.waiting + count_by (is_used s.outbox) s.commands.items + count_all s.replies.waiting + count_all s.noted.handed + count_all s.unwritten.handed
+  uses_few : length (uses_list s) ≤ length (somes s.held.places) + count_all s.functions.waiting + count_by (is_used s.outbox) s.commands.items + count_all s.replies.waiting + count_all s.noted.handed + count_all s.unwritten.handed
   unfolding uses_list
   uses_few =
       let a = length-append (somes s.held.places) (functions ++ (used ++ (replies ++ (all_somes s.noted.handed ++ all_somes s.unwritten.handed)))) in
@@ -159,16 +158,15 @@ module _ (s : State) where
       let c = length-append used (replies ++ (all_somes s.noted.handed ++ all_somes s.unwritten.handed)) in
       let d = length-append replies (all_somes s.noted.handed ++ all_somes s.unwritten.handed) in
       let e = length-append (all_somes s.noted.handed) (all_somes s.unwritten.handed) in
-      let k = few_somes s.held.places in
       let l = long_mapped (λ (f : WaitingFunction). f.request) s.functions.waiting in
       let m = long_filtered (is_used s.outbox) s.commands.items in
       let n = long_mapped (λ (x : WaitingReply). x.request) s.replies.waiting in
       let q = few_all s.noted.handed in
       let r = few_all s.unwritten.handed in
-      omega (arith, a, b, c, d, e, k, l, m, n, q, r)
+      omega (arith, a, b, c, d, e, l, m, n, q, r)
 
   -- no request has more uses than that
-  pub uses_most : (p : ℕ) → uses_of p s ≤ length s.held.places + count_all s.functions.waiting + count_by (is_used s.outbox) s.commands.items + count_all s.replies.waiting + count_all s.noted.handed + count_all s.unwritten.handed
+  pub uses_most : (p : ℕ) → uses_of p s ≤ length (somes s.held.places) + count_all s.functions.waiting + count_by (is_used s.outbox) s.commands.items + count_all s.replies.waiting + count_all s.noted.handed + count_all s.unwritten.handed
   uses_most p = omega (arith, uses_listed p, uses_few, as_many p (uses_list s))
     where
       as_many : (q : ℕ) (xs : List ℕ) → times q xs ≤ length xs
@@ -181,7 +179,7 @@ module _ (s : State) where
 
   -- each request that is kept has a use
   pub requests_few : AreCounted s.cookies → ArePlaces s.cookies → ((p : ℕ) → uses_at p s.cookies ≡ uses_of p s)
-      → length s.cookies.requests ≤ length s.held.places + count_all s.functions.waiting + count_by (is_used s.outbox) s.commands.items + count_all s.replies.waiting + count_all s.noted.handed + count_all s.unwritten.handed
+      → length s.cookies.requests ≤ length (somes s.held.places) + count_all s.functions.waiting + count_by (is_used s.outbox) s.commands.items + count_all s.replies.waiting + count_all s.noted.handed + count_all s.unwritten.handed
   requests_few counted places uses = omega (arith, fewer_requests (uses_list s) s.cookies.requests counted.once there, uses_few)
     where
       there : (p : ℕ) → count_by (is_at p) s.cookies.requests ≤ times p (uses_list s)
@@ -207,19 +205,3 @@ module _ (s : State) where
 -- so there is a free one
 pub place_free : (v : Cookies) → ArePlaces v → length v.requests < v.room → is_some (next_place v) ≡ true
 place_free v h lt = last_some v.free (let all = h.all in omega (arith, all, lt))
-
--- ---- the table of numbers is less than twice the window
-
-pub size_few : (w : ℕ) → 1 ≤ w → size_for w ≤ 2 * w
-size_few w some =
-    pick 1 (2 ∷ 4 ∷ 8 ∷ 16 ∷ 32 ∷ 64 ∷ 128 ∷ 256 ∷ 512 ∷ 1024 ∷ []) (omega (arith, some)) (λ a. pick 2 (4 ∷ 8 ∷ 16 ∷ 32 ∷ 64 ∷ 128 ∷ 256 ∷ 512 ∷ 1024 ∷ []) (omega (arith, a)) (λ b. pick 4 (8 ∷ 16 ∷ 32 ∷ 64 ∷ 128 ∷ 256 ∷ 512 ∷ 1024 ∷ []) (omega (arith, b)) (λ c.
-    pick 8 (16 ∷ 32 ∷ 64 ∷ 128 ∷ 256 ∷ 512 ∷ 1024 ∷ []) (omega (arith, c)) (λ d. pick 16 (32 ∷ 64 ∷ 128 ∷ 256 ∷ 512 ∷ 1024 ∷ []) (omega (arith, d)) (λ e. pick 32 (64 ∷ 128 ∷ 256 ∷ 512 ∷ 1024 ∷ []) (omega (arith, e)) (λ f.
-    pick 64 (128 ∷ 256 ∷ 512 ∷ 1024 ∷ []) (omega (arith, f)) (λ g. pick 128 (256 ∷ 512 ∷ 1024 ∷ []) (omega (arith, g)) (λ h. pick 256 (512 ∷ 1024 ∷ []) (omega (arith, h)) (λ i.
-    pick 512 (1024 ∷ []) (omega (arith, i)) (λ j. pick 1024 [] (omega (arith, j)) (λ k. omega (arith, k))))))))))))
-  where
-    pick : (x : ℕ) (xs : List ℕ) → x ≤ 2 * w → (x < w → unwrap_or (find (λ size. nat_le w size) xs) 1024 ≤ 2 * w) → unwrap_or (find (λ size. nat_le w size) (x ∷ xs)) 1024 ≤ 2 * w
-    pick x xs le further = by_test (nat_le w x) refl
-      where
-        by_test : (v : Bool) → nat_le w x ≡ v → unwrap_or (cond v (Some x) (find (λ size. nat_le w size) xs)) 1024 ≤ 2 * w
-        by_test true is = le
-        by_test false is = further (leb-false w x is)

@@ -1,5 +1,5 @@
 -- All that holds of a side behind so many calls, each part of a call keeps.
-use Rattle.std.proofs.Common.{◌≡◌, ℕ, ◌+◌, ◌<◌, ◌==◌, ◌&&◌, ◌||◌, not, cond, Bool, true, false, List, [], ◌∷◌, map, filter, filter_map, Some, None, refl, sym, subst, arith, inl, inr}
+use Rattle.std.proofs.Common.{Option, length, ◌≤◌, ◌≡◌, ℕ, ◌+◌, ◌<◌, ◌==◌, ◌&&◌, ◌||◌, not, cond, Bool, true, false, List, [], ◌∷◌, map, filter, filter_map, Some, None, refl, sym, subst, arith, inl, inr}
 use Rattle.std.specs.List.{flat_map}
 use Rattle.std.proofs.lemmas.Bool.{and_parts, false≢true}
 use Rattle.iscsi_wire.specs.declared.reply.Reply.{Reply}
@@ -12,8 +12,8 @@ use Rattle.iscsi_history.specs.rules.Run.{entry_of}
 use Rattle.iscsi_history.specs.rules.Settings.{Setting, are_distinct, is_known}
 use Rattle.iscsi_history.specs.rules.Trace.{Arrival, Command, Mark, Trace, entered, first_of, has, is_closed, leaves_ticket}
 use Rattle.iscsi_history.proofs.BoolLemmas.{and_both, or_first}
-use Rattle.iscsi_history.proofs.ElementLemmas.{in-filter}
-use Rattle.iscsi_history.proofs.Forms.{AfterWaiting, AtArrival, AtTurn, Completed, Executed, Form, Ignored, IsFormed, Postponed, Received, Rejected, marks_of_form}
+use Rattle.iscsi_history.proofs.ElementLemmas.{In, in-filter}
+use Rattle.iscsi_history.proofs.Forms.{HaveForms, AfterWaiting, AtArrival, AtTurn, Completed, Executed, Form, Ignored, IsFormed, Postponed, Received, Rejected, marks_of_form}
 use Rattle.iscsi_outbox_rules.specs.promises.Room.{Happens, after_step, is_other, is_parting, is_read_with_room}
 use Rattle.iscsi_outbox_rules.specs.rules.Boxes.{Link}
 use Rattle.iscsi_outbox_rules.specs.rules.Calls as outbox
@@ -32,9 +32,21 @@ use Rattle.iscsi_ffi_law.proofs.FitParting.{parting_closes}
 use Rattle.iscsi_ffi_law.proofs.FitPlaces.{ArePlaced, placed_call, placed_event, placed_opened}
 use Rattle.iscsi_ffi_law.proofs.FitRefusals.{link_there, taken_in}
 use Rattle.iscsi_ffi_law.proofs.FitSides.{IsGood, good_begun, good_event, good_more, good_other, none_taken}
+use Rattle.std.specs.List.{cons_option}
+use Rattle.iscsi_history.proofs.FormRuns.{event_going as event_forms}
+use Rattle.iscsi_history.specs.rules.Trace.{after_items, live, live_in}
+use Rattle.iscsi_history.specs.rules.Run.{after_event}
+use Rattle.iscsi_outbox_rules.specs.rules.Items.{ticket_enabled}
+use Rattle.iscsi_ffi_rules.specs.rules.Clearing.{is_marked, is_withheld}
+use Rattle.iscsi_ffi_rules.specs.rules.Happening.{live_with, starting, stepped}
+use Rattle.iscsi_ffi_rules.proofs.SideWalks.{left_to_clear}
+use Rattle.iscsi_ffi_law.proofs.FitOnce.{AreTickets, entered_after, ticket_low}
+use Rattle.iscsi_ffi_law.proofs.FitReceived.{IsWired, wired, wired_bytes}
+use Rattle.iscsi_ffi_law.proofs.FitTurns.{IsTurned, event_turned, none_turned}
 use Rattle.iscsi_ffi_law.proofs.FitWalks.{IsSimple, SideWalk}
-use Rattle.iscsi_ffi_law.specs.Sides.{asking}
-use Rattle.iscsi_ffi_law.proofs.Members.{each_in}
+use Rattle.iscsi_history.specs.rules.Execution.{exp_of}
+use Rattle.iscsi_ffi_law.specs.Sides.{AreBytes, asking}
+use Rattle.iscsi_ffi_law.proofs.Members.{each_in, in_each, find_in}
 
 -- ---- the events of what is answered
 
@@ -68,6 +80,34 @@ module _ (o : Setting) (now : ℕ) where
       each-new-of [] lt = tt
       each-new-of (r ∷ rs) lt = (lt, each-new-of rs lt)
 
+-- ---- the tickets that were told, or marked
+
+more_tickets : (t : Trace) (items : List (List Mark)) (ks : List ℕ) → AreTickets t ks → AreTickets (after_items items t) ks
+more_tickets t items ks h = each-weaken (λ (k : ℕ). k ≤ length (entered t)) (λ (k : ℕ). k ≤ length (entered (after_items items t))) ks (λ k le. let more = entered_after items t in omega (arith, le, more)) h
+
+live_low : (o : Setting) (t : Trace) (next : ℕ) → HaveForms o next t → (c : Command) → In c (live t) → c.ticket ≤ length (entered t)
+live_low o t next forms c at = ticket_low o t next forms c (in-filter (λ (d : Command). not (has (leaves_ticket d.ticket) t)) (entered t) c at).0
+
+low_tickets : (t : Trace) (cs : List Command) → EachOf (λ (c : Command). c.ticket ≤ length (entered t)) cs → AreTickets t (map (λ (c : Command). c.ticket) cs)
+low_tickets t [] h = tt
+low_tickets t (c ∷ cs) h = (h.0, low_tickets t cs h.1)
+
+started_low : (o : Setting) (t : Trace) (next : ℕ) → HaveForms o next t → (p : Command → Bool) (ks : List ℕ) → AreTickets t (map (λ (c : Command). c.ticket) (filter p (filter_map (live_with t) ks)))
+started_low o t next forms p ks = low_tickets t (filter p (filter_map (live_with t) ks)) (each-filter (λ (c : Command). c.ticket ≤ length (entered t)) p (filter_map (live_with t) ks) (each_live ks))
+  where
+    each_live : (js : List ℕ) → EachOf (λ (c : Command). c.ticket ≤ length (entered t)) (filter_map (live_with t) js)
+    each_live [] = tt
+    each_live (j ∷ js) = by_live (live_with t j) refl (each_live js)
+      where
+        by_live : (x : Option Command) → live_with t j ≡ x → EachOf (λ (c : Command). c.ticket ≤ length (entered t)) (filter_map (live_with t) js) → EachOf (λ (c : Command). c.ticket ≤ length (entered t)) (cons_option x (filter_map (live_with t) js))
+        by_live None is rest = rest
+        by_live (Some c) is rest = (live_low o t next forms c (find_in (λ (d : Command). d.ticket == j) (live t) c is).0, rest)
+
+clear_low : (o : Setting) (t : Trace) (next : ℕ) → HaveForms o next t → (p : Command → Bool) (unit : ℕ) → AreTickets t (map (λ (c : Command). c.ticket) (filter p (live_in unit t)))
+clear_low o t next forms p unit =
+    low_tickets t (filter p (live_in unit t))
+    (in_each (λ (c : Command). c.ticket ≤ length (entered t)) (filter p (live_in unit t)) (λ c at. live_low o t next forms c (in-filter (λ (d : Command). d.unit == unit) (live t) c (in-filter p (live_in unit t) c at).0).0))
+
 -- ---- all of it
 
 pub record Holds (i : Interface) (k : ℕ) (s : Side) : Type 0 where
@@ -76,6 +116,10 @@ pub record Holds (i : Interface) (k : ℕ) (s : Side) : Type 0 where
   pub served : AreServed i.outbox s.both
   pub placed : ArePlaced s.both.box
   pub earlier : AllAre (λ (a : Arrival). a.event < s.both.event) s.both.trace
+  pub turned : IsTurned i.outbox.session s.both.trace
+  pub wires : AllAre IsWired s.both.trace
+  pub told : AreTickets s.both.trace s.told
+  pub marked : AreTickets s.both.trace s.marked
   pub asked : EachOf (λ (a : Asked). a.event < s.both.event) s.asked
   pub answers : EachOf (λ (e : ℕ). e < s.both.event) s.answers
 
@@ -86,6 +130,10 @@ holds_begun i = record {
   served = served_begun i.outbox;
   placed = placed_opened i.outbox;
   earlier = all_none (λ (a : Arrival). a.event < 0);
+  turned = none_turned i.outbox.session;
+  wires = all_none IsWired;
+  told = tt;
+  marked = tt;
   asked = tt;
   answers = tt;
 }
@@ -103,9 +151,10 @@ module _ (i : Interface) where
 
   -- an event of which the request is one of those that are asked for now
   holds_event : (k : ℕ) (s : Side) (e : Event) → is_read_with_room i.outbox s.both (Happens e) ≡ true → belongs i.outbox.session e ≡ true → AreServed i.outbox (after_step i.outbox s.both (Happens e))
+      → OfEvent i.outbox.session s.both.event IsWired s.both.trace e → IsTurned i.outbox.session s.both.trace → AllAre IsWired s.both.trace → AreTickets s.both.trace s.told → AreTickets s.both.trace s.marked
       → IsGood i.outbox k s.both → IsTogether i.outbox s.both → ArePlaced s.both.box → AllAre (λ (a : Arrival). a.event < s.both.event) s.both.trace → EachOf (λ (a : Asked). a.event < s.both.event + 1) s.asked → EachOf (λ (x : ℕ). x < s.both.event) s.answers
       → Holds i k (happening i s e).side
-  holds_event k s e read mine served good together placed earlier asked answers =
+  holds_event k s e read mine served wire turned wires told marked good together placed earlier asked answers =
       let entry = entry_of i.outbox.session s.both.event s.both.trace e in
       let items = earlier_event s e earlier in
       record {
@@ -114,6 +163,13 @@ module _ (i : Interface) where
         served = record { served = served.served; over = served.over };
         placed = (let p = placed_event i.outbox s.both.box entry.effects entry.numbers placed in record { outs = p.outs; handed = p.handed });
         earlier = items_end i.outbox.session s.both.event (λ (a : Arrival). a.event < s.both.event + 1) s.both.trace (items_of i.outbox.session s.both.event s.both.trace e) items;
+        turned = event_turned i.outbox.session s.both.event s.both.trace e turned;
+        wires = items_end i.outbox.session s.both.event IsWired s.both.trace (items_of i.outbox.session s.both.event s.both.trace e) (event_items i.outbox.session s.both.event IsWired s.both.trace e wire wires);
+        told =
+            each-append (λ (j : ℕ). j ≤ length (entered (after_event i.outbox.session s.both.event s.both.trace e))) s.told (map (λ (c : Command). c.ticket) (starting (stepped i s e) (entry_of i.outbox.session s.both.event s.both.trace e).effects))
+            (more_tickets s.both.trace (items_of i.outbox.session s.both.event s.both.trace e) s.told told)
+            (started_low i.outbox.session (after_event i.outbox.session s.both.event s.both.trace e) (s.both.event + 1) (event_forms i.outbox.session s.both.event s.both.trace e together.forms) (λ (c : Command). not (is_withheld (stepped i s e) c)) (filter_map ticket_enabled (entry_of i.outbox.session s.both.event s.both.trace e).effects));
+        marked = more_tickets s.both.trace (items_of i.outbox.session s.both.event s.both.trace e) s.marked marked;
         asked = asked;
         answers =
             each-append (λ (x : ℕ). x < s.both.event + 1) s.answers (flat_map (answers_in s.both.event) (items_of i.outbox.session s.both.event s.both.trace e))
@@ -129,6 +185,10 @@ module _ (i : Interface) where
     served = served_other i.outbox s.both c (none_taken i.outbox c is) over h.served;
     placed = placed_call i.outbox s.both.box c is h.placed;
     earlier = h.earlier;
+    turned = h.turned;
+    wires = h.wires;
+    told = h.told;
+    marked = h.marked;
     asked = h.asked;
     answers = h.answers;
   }
@@ -160,7 +220,7 @@ module _ (i : Interface) where
 
   -- ---- a request
 
-  joined_there : (s : Side) (cid : ℕ) → is_joined s cid ≡ true → has_joined s.both.box.links cid ≡ true
+  pub joined_there : (s : Side) (cid : ℕ) → is_joined s cid ≡ true → has_joined s.both.box.links cid ≡ true
   joined_there s cid is = by_links s.both.box.links is
     where
       by_links : (links : List Link) → elim (first_of (filter (λ (l : Link). l.conn == cid) links)) [ Some l ↦ is_open l | None ↦ false ] ≡ true → has_joined links cid ≡ true
@@ -187,13 +247,14 @@ module _ (i : Interface) where
     pub holds_heard : (k : ℕ) (s : Side) (cid : ℕ) (header : List ℕ) → Holds i k s → Holds i (k + 1) (heard_in i s cid header)
     holds_heard k s cid header h = holds_simple k s (outbox.Hears cid (word_at 28 header) (tag_heard header)) tt h
 
-    pub holds_arrival : (k : ℕ) (s : Side) (cid : ℕ) (header : List ℕ) (cookie : ℕ) → refusal_of i s cid ≡ None → Holds i k s → Holds i (k + 1) (happening i (asking (heard_in i s cid header) cookie) (Arrive cid header)).side
-    holds_arrival k s cid header cookie is h =
+    pub holds_arrival : (k : ℕ) (s : Side) (cid : ℕ) (header : List ℕ) (cookie : ℕ) → refusal_of i s cid ≡ None → AreBytes header → Holds i k s → Holds i (k + 1) (happening i (asking (heard_in i s cid header) cookie) (Arrive cid header)).side
+    holds_arrival k s cid header cookie is bytes h =
         let t = taken_in i s cid is in
         let g = holds_heard k s cid header h in
         let s' : Side = heard_in i s cid header in
         let joined = joined_other i.outbox s.both.box (outbox.Hears cid (word_at 28 header) (tag_heard header)) cid tt (joined_there s cid t.joined) in
-        holds_event (k + 1) (asking s' cookie) (Arrive cid header) (arrival_read k s cid header is h) t.known (served_event i.outbox s'.both (Arrive cid header) (inl joined) g.served) g.good g.together g.placed g.earlier
+        holds_event (k + 1) (asking s' cookie) (Arrive cid header) (arrival_read k s cid header is h) t.known (served_event i.outbox s'.both (Arrive cid header) (inl joined) g.served)
+        (wired s'.both.event (exp_of i.outbox.session s'.both.trace) cid header (wired_bytes cid header bytes)) g.turned g.wires g.told g.marked g.good g.together g.placed g.earlier
         (each-append (λ (a : Asked). a.event < s'.both.event + 1) s'.asked (record { event = s'.both.event; cookie = cookie } ∷ []) (each-weaken (λ (a : Asked). a.event < s'.both.event) (λ (a : Asked). a.event < s'.both.event + 1) s'.asked (λ a lt. omega (arith, lt)) g.asked) (omega arith, tt))
         g.answers
 
@@ -207,6 +268,7 @@ module _ (i : Interface) where
         let s' : Side = other i s (outbox.Loses cid) in
         let closes = parting_closes i.outbox.session s.both.event s.both.trace cid known unclosed in
         holds_event (k + 1) s' (Arrive cid (parting cid)) (loss_read k s cid known kept) known (served_lost i.outbox s.both cid (Arrive cid (parting cid)) closes (inr closes) h.served)
+        (wired s'.both.event (exp_of i.outbox.session s'.both.trace) cid (parting cid) (omega arith)) h.turned h.wires h.told h.marked
         (good_other i.outbox k s.both (outbox.Loses cid) refl h.good) (together_other i.outbox s.both (outbox.Loses cid) tt h.together) (placed_call i.outbox s.both.box (outbox.Loses cid) refl h.placed) h.earlier
         (each-weaken (λ (a : Asked). a.event < s.both.event) (λ (a : Asked). a.event < s.both.event + 1) s.asked (λ a lt. omega (arith, lt)) h.asked) h.answers
 
@@ -214,18 +276,18 @@ module _ (i : Interface) where
 
     pub holds_done : (k : ℕ) (s : Side) (ticket status : ℕ) → Holds i k s → Holds i k (happening i s (Done ticket status)).side
     holds_done k s ticket status h =
-        holds_event k s (Done ticket status) refl refl (served_event i.outbox s.both (Done ticket status) tt h.served) h.good h.together h.placed h.earlier
+        holds_event k s (Done ticket status) refl refl (served_event i.outbox s.both (Done ticket status) tt h.served) tt h.turned h.wires h.told h.marked h.good h.together h.placed h.earlier
         (each-weaken (λ (a : Asked). a.event < s.both.event) (λ (a : Asked). a.event < s.both.event + 1) s.asked (λ a lt. omega (arith, lt)) h.asked) h.answers
 
-    pub holds_walk : SideWalk i (Holds i)
+    pub holds_walk : SideWalk i AreBytes (Holds i)
     holds_walk = record {
       completes = λ k s ticket status c is h. holds_done k s ticket status h;
       arrives = holds_arrival;
       loses = holds_loss;
       loses_closed = λ k s cid known kept closed h. holds_other k s (outbox.Loses cid) refl (lost_closed i.outbox s.both.box s.both.trace s.both.trace cid (λ c x. x) closed h.served.over) h;
       calls = holds_simple;
-      clears = λ k s unit h. record { good = h.good; together = h.together; served = h.served; placed = h.placed; earlier = h.earlier; asked = h.asked; answers = h.answers };
-      forgets = λ k s p h. record { good = h.good; together = h.together; served = h.served; placed = h.placed; earlier = h.earlier; asked = each-filter (λ (a : Asked). a.event < s.both.event) p s.asked h.asked; answers = h.answers };
-      beside = λ k s noted awake over h. record { good = h.good; together = h.together; served = h.served; placed = h.placed; earlier = h.earlier; asked = h.asked; answers = h.answers };
-      more = λ k s h. record { good = good_more i.outbox k (k + 1) s.both (omega arith) h.good; together = h.together; served = h.served; placed = h.placed; earlier = h.earlier; asked = h.asked; answers = h.answers };
+      clears = λ k s unit h. record { good = h.good; together = h.together; served = h.served; placed = h.placed; earlier = h.earlier; turned = h.turned; wires = h.wires; told = h.told; marked = each-append (λ (j : ℕ). j ≤ length (entered s.both.trace)) s.marked (map (λ (c : Command). c.ticket) (left_to_clear s unit)) h.marked (clear_low i.outbox.session s.both.trace s.both.event h.together.forms (λ (c : Command). not (is_marked s c)) unit); asked = h.asked; answers = h.answers };
+      forgets = λ k s p h. record { good = h.good; together = h.together; served = h.served; placed = h.placed; earlier = h.earlier; turned = h.turned; wires = h.wires; told = h.told; marked = h.marked; asked = each-filter (λ (a : Asked). a.event < s.both.event) p s.asked h.asked; answers = h.answers };
+      beside = λ k s noted awake over h. record { good = h.good; together = h.together; served = h.served; placed = h.placed; earlier = h.earlier; turned = h.turned; wires = h.wires; told = h.told; marked = h.marked; asked = h.asked; answers = h.answers };
+      more = λ k s h. record { good = good_more i.outbox k (k + 1) s.both (omega arith) h.good; together = h.together; served = h.served; placed = h.placed; earlier = h.earlier; turned = h.turned; wires = h.wires; told = h.told; marked = h.marked; asked = h.asked; answers = h.answers };
     }

@@ -25,13 +25,13 @@ use Rattle.iscsi_ffi_law.proofs.FitParting.{closed_on}
 abbrev pub has_joined : List Link → ℕ → Bool
 has_joined links c = list_any (λ (l : Link). l.conn == c && l.joined) links
 
-abbrev JoinsOn : Link → Link → Type 0
+abbrev pub JoinsOn : Link → Link → Type 0
 JoinsOn l m = (m.conn ≡ l.conn) × (l.joined ≡ true → m.joined ≡ true)
 
 joins_queue : IsQueueRule JoinsOn
 joins_queue = record { same = λ l. (refl, λ h. h); queued = λ l queue. (refl, λ h. h); then = λ l m n f g. (g.0 ∙ f.0, λ h. g.1 (f.1 h)) }
 
-joins_close : IsCloseRule JoinsOn
+pub joins_close : IsCloseRule JoinsOn
 joins_close = record { queue = joins_queue; closed = λ l. (refl, λ h. h); cut = λ l. (refl, λ h. h) }
 
 joins_call : IsCallRule JoinsOn
@@ -55,7 +55,7 @@ joined_map c f (l ∷ links) stays h = by_first (joined_map c f links stays) (l.
         or_first ((f l).conn == c && (f l).joined) (has_joined (map f links) c) (and_both ((f l).conn == c) (f l).joined (ap (λ n. n == c) (stays l).0 ∙ parts.0) ((stays l).1 parts.1))
     by_first further false is k = or_second ((f l).conn == c && (f l).joined) (has_joined (map f links) c) (further k)
 
-joined_moved : (c : ℕ) (ls ms : List Link) → Moves JoinsOn ls ms → has_joined ls c ≡ true → has_joined ms c ≡ true
+pub joined_moved : (c : ℕ) (ls ms : List Link) → Moves JoinsOn ls ms → has_joined ls c ≡ true → has_joined ms c ≡ true
 joined_moved c ls ms v h = ap (λ xs. has_joined xs c) v.is ∙ joined_map c v.by ls v.each h
 
 joined_next : (o : Opening) (b : Box) (conn c : ℕ) → has_joined b.links c ≡ true → has_joined (after_call o b (Nexts conn)).links c ≡ true
@@ -84,13 +84,13 @@ served_more links links' t t' f g a h = ⊎_elim (λ x. inl (f (connection_of a.
 abbrev pub IsOver : Trace → Link → Type 0
 IsOver t l = l.lost ≡ true → is_closed l.conn t ≡ true
 
-abbrev SameLost : Link → Link → Type 0
+abbrev pub SameLost : Link → Link → Type 0
 SameLost l m = (m.conn ≡ l.conn) × (m.lost ≡ l.lost)
 
 lost_queue : IsQueueRule SameLost
 lost_queue = record { same = λ l. (refl, refl); queued = λ l queue. (refl, refl); then = λ l m n f g. (g.0 ∙ f.0, g.1 ∙ f.1) }
 
-lost_close : IsCloseRule SameLost
+pub lost_close : IsCloseRule SameLost
 lost_close = record { queue = lost_queue; closed = λ l. (refl, refl); cut = λ l. (refl, refl) }
 
 lost_kept : IsKeptRule SameLost
@@ -101,7 +101,7 @@ lost_kept = record {
   joined = λ stat_sn l. (refl, refl);
 }
 
-over_same : (t t' : Trace) → ((c : ℕ) → is_closed c t ≡ true → is_closed c t' ≡ true) → (l m : Link) → SameLost l m → IsOver t l → IsOver t' m
+pub over_same : (t t' : Trace) → ((c : ℕ) → is_closed c t ≡ true → is_closed c t' ≡ true) → (l m : Link) → SameLost l m → IsOver t l → IsOver t' m
 over_same t t' g l m s h lost = ap (λ n. is_closed n t') s.0 ∙ g l.conn (h (sym s.1 ∙ lost))
 
 -- .. or is the one that is lost now

@@ -46,12 +46,12 @@ outs_more n m le b h = record {
   undue = each-weaken (λ (a : Answer). IsBefore n a.out.sent) (λ (a : Answer). IsBefore m a.out.sent) b.undue (λ a. within_more n m le a.out.sent) h.undue;
 }
 
-handed_more : (n m : ℕ) → n ≤ m → (links : List Link) → AreHanded n links → AreHanded m links
+pub handed_more : (n m : ℕ) → n ≤ m → (links : List Link) → AreHanded n links → AreHanded m links
 handed_more n m le links h =
     each-weaken (λ (l : Link). EachOf (λ (g : Handed). IsBefore n g.out.sent) l.handed) (λ (l : Link). EachOf (λ (g : Handed). IsBefore m g.out.sent) l.handed) links
     (λ l k. each-weaken (λ (g : Handed). IsBefore n g.out.sent) (λ (g : Handed). IsBefore m g.out.sent) l.handed (λ g. within_more n m le g.out.sent) k) h
 
-still_handed : (n : ℕ) (ls ms : List Link) → Moves Stays ls ms → AreHanded n ls → AreHanded n ms
+pub still_handed : (n : ℕ) (ls ms : List Link) → Moves Stays ls ms → AreHanded n ls → AreHanded n ms
 still_handed n ls ms v h =
     moved_each Stays (λ (l : Link). EachOf (λ (g : Handed). IsBefore n g.out.sent) l.handed) (λ (l : Link). EachOf (λ (g : Handed). IsBefore n g.out.sent) l.handed) ls ms v (λ l m s k. subst (EachOf (λ (g : Handed). IsBefore n g.out.sent)) (sym s.1) k) h
 

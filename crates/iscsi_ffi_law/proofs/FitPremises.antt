@@ -1,5 +1,5 @@
 -- The premises of the calls of a side, of what holds of it.
-use Rattle.std.proofs.Common.{◌≡◌, ℕ, zero, suc, ◌+◌, ◌-◌, ◌^◌, ◌<◌, ◌≤◌, nat_lt, true, false, List, [], ◌∷◌, ◌++◌, length, Option, Some, None, refl, ap, sym, subst, ◌∙◌, arith}
+use Rattle.std.proofs.Common.{cond, eq-eqb, ◌≡◌, ℕ, zero, suc, ◌+◌, ◌-◌, ◌^◌, ◌<◌, ◌≤◌, nat_lt, true, false, List, [], ◌∷◌, ◌++◌, length, Option, Some, None, refl, ap, sym, subst, ◌∙◌, arith}
 use Rattle.std.proofs.lemmas.Bool.{and_parts, ltb-true}
 use Rattle.std.proofs.lemmas.List.{length-map}
 use Rattle.iscsi_wire.specs.Fields.{connection_of}
@@ -10,7 +10,13 @@ use Rattle.iscsi_history.specs.promises.Order.{in_parts}
 use Rattle.iscsi_history.specs.rules.Agenda.{command_of}
 use Rattle.iscsi_history.specs.rules.Run.{entry_of}
 use Rattle.iscsi_history.specs.rules.Settings.{are_distinct, is_known}
-use Rattle.iscsi_history.specs.rules.Trace.{Command, is_closed, live}
+use Rattle.std.specs.List.{cons_option}
+use Rattle.iscsi_wire.specs.Fields.{cmd_sn, request_of}
+use Rattle.iscsi_history.specs.rules.Execution.{exp_of, rejected}
+use Rattle.iscsi_history.specs.rules.Settings.{Setting}
+use Rattle.iscsi_history.specs.rules.Trace.{Admits, Arrival, Command, Executes, Ignores, Mark, Trace, Waits, after_items, first_of, is_closed, is_received, live}
+use Rattle.iscsi_history.proofs.CloseRuns.{Sounds, event_sound}
+use Rattle.iscsi_history.proofs.Forms.{marks_done}
 use Rattle.iscsi_outbox_rules.specs.promises.Room.{Both, FitItems, Happens, Other, after_step, is_read_with_room, places}
 use Rattle.iscsi_outbox_rules.specs.rules.Boxes.{Box, Link}
 use Rattle.iscsi_outbox_rules.specs.rules.Calls as outbox
@@ -24,16 +30,23 @@ use Rattle.iscsi_ffi_rules.specs.rules.Clearing.{next_withheld, status_of}
 use Rattle.iscsi_ffi_rules.specs.rules.Happening.{Told, happening, other, withholding}
 use Rattle.iscsi_ffi_rules.specs.rules.Run.{heard_in, is_lost, parting, refusal_of}
 use Rattle.iscsi_ffi_rules.specs.rules.Sides.{Side}
-use Rattle.iscsi_ffi_law.specs.Arrived.{AreBefore}
+use Rattle.iscsi_ffi_law.specs.Arrived.{AreBefore, IsReceivable, arrived, items_then}
 use Rattle.iscsi_ffi_law.specs.Done.{AllDone, AreDoneFit, IsDoneFit, IsRegular}
 use Rattle.iscsi_ffi_law.specs.Fit.{IsFit}
-use Rattle.iscsi_ffi_law.specs.Sides.{AreItemsFit, IsLossFit, IsOpening, IsSideFit, IsTakenFit, asking}
+use Rattle.iscsi_ffi_law.specs.Sides.{AreBytes, AreItemsFit, IsLossFit, IsOpening, IsSideFit, IsTakenFit, asking}
 use Rattle.iscsi_ffi_law.proofs.DoneShape.{done_effects, done_entry, entry_is, one_part}
 use Rattle.iscsi_ffi_law.proofs.FitFacts.{limits, takes_reply, takes_reply_at, there_live, ticket_is}
-use Rattle.iscsi_ffi_law.proofs.FitFollows.{live_there, tickets_up, units_there}
+use Rattle.iscsi_ffi_law.proofs.FitFollows.{together_event, live_there, tickets_up, units_there}
 use Rattle.iscsi_ffi_law.proofs.FitHolds.{Holds, arrival_read, arrival_room, holds_arrival, holds_done, holds_heard, holds_loss, loss_read}
 use Rattle.iscsi_ffi_law.proofs.FitNumbers.{all_sends, item_spent, spent}
 use Rattle.iscsi_ffi_law.proofs.FitPlaces.{placed_call}
+use Rattle.iscsi_ffi_law.proofs.FitReceived.{distinct_forms, receivable, wired, wired_bytes}
+use Rattle.iscsi_ffi_law.proofs.FitRefusals.{taken_in}
+use Rattle.iscsi_history.specs.rules.Management.{MOST_WAITING, waiting_on}
+use Rattle.iscsi_history.specs.rules.Trace.{waiting}
+use Rattle.iscsi_ffi_law.proofs.Members.{in_each}
+use Rattle.iscsi_ffi_law.proofs.Turns.{Becomes, IsExecuted, IsIgnored, IsPostponed, IsReceived, IsRejected, becomes}
+use Rattle.iscsi_ffi_law.proofs.FitPrompt.{prompt_arrival}
 use Rattle.iscsi_ffi_law.proofs.FitReached.{fits_event, fits_reached, sound_event, sound_reached}
 use Rattle.iscsi_ffi_law.proofs.FitReplies.{completes_more}
 use Rattle.iscsi_ffi_law.proofs.FitSides.{IsGood, event_sends, good_event, good_other}
@@ -178,16 +191,48 @@ module _ (i : Interface) (opening : IsOpening i) where
       items_fit (n + 2 ^ 30) r.both.box (in_parts (entry_of i.outbox.session r.both.event r.both.trace e).effects) (sound_event i.outbox distinct r.both e read h.reached) (fits_event i.outbox distinct r.both e read h.reached)
       (omega (arith, sends_few, a, b, early)) (omega (arith, few))
 
-  pub taken_fit : (n : ℕ) (r : Side) (cid : ℕ) (header : List ℕ) (cookie : ℕ) → refusal_of i r cid ≡ None → Holds i n r → n + 2 < 2 ^ 63
+  sounds_below : (o : Setting) (items : List (List Mark)) (t : Trace) → Sounds o (after_items items t) → Sounds o t
+  sounds_below o [] t h = h
+  sounds_below o (item ∷ items) t h = (sounds_below o items (item ∷ t) h).1
+
+  -- it is a new one
+  new_received : (s : Side) (cid : ℕ) (header : List ℕ) (rest : List (List Mark)) → items_then i s cid header ≡ (Admits (arrived i s cid header) ∷ []) ∷ rest → is_received s.both.trace (arrived i s cid header).number ≡ false
+  new_received s cid header rest same = new_by (becomes i.outbox.session s.both.trace (arrived i s cid header))
+    where
+      new_by : Becomes i.outbox.session s.both.trace (arrived i s cid header) (items_then i s cid header) → is_received s.both.trace (arrived i s cid header).number ≡ false
+      new_by (IsIgnored why is) = absurd (let z : (Ignores why ∷ []) ∷ [] ≡ (Admits (arrived i s cid header) ∷ []) ∷ rest = sym is ∙ same in cc)
+      new_by (IsRejected is) = absurd (let z : rejected (arrived i s cid header) ∷ [] ≡ (Admits (arrived i s cid header) ∷ []) ∷ rest = sym is ∙ same in cc)
+      new_by (IsReceived more later new is due) = new
+      new_by (IsExecuted d more now done is due) = absurd (let z : (Executes (arrived i s cid header) ∷ marks_done (arrived i s cid header) d) ∷ more ≡ (Admits (arrived i s cid header) ∷ []) ∷ rest = sym is ∙ same in cc)
+      new_by (IsPostponed more now room is due) = absurd (let z : (Waits (arrived i s cid header) ∷ []) ∷ more ≡ (Admits (arrived i s cid header) ∷ []) ∷ rest = sym is ∙ same in cc)
+
+  received_fit : (n : ℕ) (s : Side) (cid : ℕ) (header : List ℕ) → is_known cid i.outbox.session.conns ≡ true → cmd_sn (request_of cid header) < 2 ^ 32 → Holds i n s
+      → (rest : List (List Mark)) → items_then i s cid header ≡ (Admits (arrived i s cid header) ∷ []) ∷ rest → IsReceivable i.outbox.session s.both.trace (arrived i s cid header)
+  received_fit n s cid header known fits h rest same =
+      let o : Setting = i.outbox.session in
+      let t : Trace = s.both.trace in
+      let a : Arrival = arrived i s cid header in
+      let sounds : Sounds o ((Admits a ∷ []) ∷ t) = sounds_below o rest ((Admits a ∷ []) ∷ t) (subst (λ items. Sounds o (after_items items t)) same (event_sound o s.both.event t (Arrive cid header) known h.together.sounds)) in
+      let range = sounds.0.range a.number a (ap (λ v. first_of (cons_option (cond v (Some a) None) [])) (eq-eqb a.number a.number refl)) in
+      receivable o t s.both.event h.together.forms h.turned h.together.sounds h.wires (limits i opening).window a (wired s.both.event (exp_of o t) cid header fits) (new_received s cid header rest same) range.0 range.1
+
+  refusal_known : (r : Side) (cid : ℕ) → refusal_of i r cid ≡ None → is_known cid i.outbox.session.conns ≡ true
+  refusal_known r cid is = (taken_in i r cid is).known
+
+  pub taken_fit : (n : ℕ) (r : Side) (cid : ℕ) (header : List ℕ) (cookie : ℕ) → refusal_of i r cid ≡ None → AreBytes header → Holds i n r → n + 2 < 2 ^ 63
       → (let w = happening i (asking (heard_in i r cid header) cookie) (Arrive cid header) in withholding i (length (live w.side.both.trace)) w).side.both.event ≤ 2 ^ 30
       → (let w = happening i (asking (heard_in i r cid header) cookie) (Arrive cid header) in withholding i (length (live w.side.both.trace)) w).side.both.event ≤ i.outbox.session.events
       → IsTakenFit i r cid header cookie
-  taken_fit n r cid header cookie is h few early left =
+  taken_fit n r cid header cookie is bytes h few early left =
       let w : Told = happening i (asking (heard_in i r cid header) cookie) (Arrive cid header) in
       let later = on_withholding i (λ k s. r.both.event + 1 ≤ s.both.event) (later_walk i (r.both.event + 1)) 0 (length (live w.side.both.trace)) w (omega arith) in
       let s : Side = heard_in i r cid header in
       let g = holds_heard i distinct n r cid header h in
       let read = arrival_read i distinct n r cid header is h in
+      let after : Both = after_step i.outbox s.both (Happens (Arrive cid header)) in
+      let together = together_event i.outbox s.both (Arrive cid header) (refusal_known r cid is) g.together in
+      let many = same_count i.outbox after.box after.trace together.lives in
+      let fits' = fits_reached i.outbox distinct after (good_event i.outbox (n + 1) s.both (Arrive cid header) read g.good).reached in
       record {
         before = record { asked = h.asked; answers = h.answers; entered = h.earlier.entered_by; admitted = h.earlier.admitted; waiting = h.earlier.waits };
         heard = fit_with n (n + 1) r.both s.both h.good g.good (omega (arith, few)) (omega (arith, few)) (omega (arith, early, later)) (omega (arith, early, later));
@@ -195,12 +240,17 @@ module _ (i : Interface) (opening : IsOpening i) where
           fit = fit_with (n + 1) (n + 1) s.both (after_step i.outbox s.both (Happens (Arrive cid header))) g.good (good_event i.outbox (n + 1) s.both (Arrive cid header) read g.good) (omega (arith, few)) (omega (arith, few)) (omega (arith, early, later)) (omega (arith, early, later));
           items = event_items_fit (n + 1) s (Arrive cid header) read g.good (omega (arith, few)) (omega (arith, early, later));
           stale = (sound_reached i.outbox distinct s.both g.good.reached).1;
-          events = omega (arith, left, later);
           sent = (let x = g.good.sent_is in omega (arith, x, early, later));
           replies = room_left (arrival_room i distinct n r cid header is h);
           handed = g.placed.handed;
+          few = (let tasks = fits'.tasks in omega (arith, tasks, many));
+          regular = record { ascending = tickets_up i.outbox after together; units = units_there i.outbox after together };
+          prompt = λ rest same. prompt_arrival i.outbox.session s.both.event s.both.trace (arrived i s cid header) g.turned (new_received s cid header rest same) (received_fit (n + 1) s cid header (refusal_known r cid is) (wired_bytes cid header bytes) g rest same).untaken rest same;
+          waits = in_each (λ (b : Arrival). waiting_on (connection_of b.request) s.both.trace ≤ MOST_WAITING) (waiting s.both.trace) (λ b at. g.turned.four (connection_of b.request));
+          distinct = distinct_forms i.outbox.session s.both.trace s.both.event g.together.forms;
+          received = λ rest same. received_fit (n + 1) s cid header (refusal_known r cid is) (wired_bytes cid header bytes) g rest same;
         };
-        withheld = withheld_fit (n + 1) w (holds_arrival i distinct n r cid header cookie is h) (omega (arith, few)) early left;
+        withheld = withheld_fit (n + 1) w (holds_arrival i distinct n r cid header cookie is bytes h) (omega (arith, few)) early left;
       }
     where
       room_left : may_take i.outbox (heard_in i r cid header).both.box ≡ true → replies_waiting (heard_in i r cid header).both.box < places i.outbox

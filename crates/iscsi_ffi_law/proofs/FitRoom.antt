@@ -1,13 +1,11 @@
 -- What the calls premise of the state of the steps: room to tell, a free place, and no more uses than are counted.
-use Rattle.std.proofs.Common.{◌≡◌, ℕ, ◌+◌, ◌*◌, ◌≤◌, ◌<◌, nat_lt, true, [], length, count_by, Some, None, is_some, ap, arith, mul-le-mul, add-mul}
-use Rattle.std.proofs.lemmas.Bool.{and_parts, ltb-true}
+use Rattle.std.proofs.Common.{◌≡◌, ℕ, ◌+◌, ◌*◌, ◌≤◌, ◌<◌, true, [], length, count_by, Some, is_some, ap, arith, mul-le-mul, add-mul}
 use Rattle.std.proofs.lemmas.List.{length-map}
-use Rattle.iscsi_outbox_rules.specs.rules.Words.{owing, replies_waiting, room}
+use Rattle.iscsi_outbox_rules.specs.rules.Words.{replies_waiting}
 use Rattle.iscsi_requests.specs.Conns.{count_all}
 use Rattle.iscsi_requests.specs.Cookies.{next_place, uses_at}
-use Rattle.iscsi_requests.specs.Numbers.{size_for}
 use Rattle.iscsi_ffi_rules.specs.rules.Calls.{Interface}
-use Rattle.iscsi_ffi_rules.specs.rules.Run.{cids, refusal_of}
+use Rattle.iscsi_ffi_rules.specs.rules.Run.{cids}
 use Rattle.iscsi_ffi_rules.specs.rules.Sides.{Side}
 use Rattle.iscsi_ffi_steps.specs.Steps.{Side as StepsSide}
 use Rattle.iscsi_ffi_law.specs.Arrived.{IsPlaced}
@@ -16,11 +14,11 @@ use Rattle.iscsi_ffi_law.specs.Stands.{Stands}
 use Rattle.iscsi_ffi_law.specs.Uses.{is_used}
 use Rattle.iscsi_ffi_law.proofs.DoneRoom.{all_few}
 use Rattle.iscsi_ffi_law.proofs.FitFacts.{AreLimits, limits}
-use Rattle.iscsi_ffi_law.proofs.FitFree.{place_free, requests_few, size_few, uses_most}
+use Rattle.iscsi_ffi_law.proofs.FitFree.{place_free, requests_few, somes, uses_most}
+use Rattle.iscsi_ffi_law.proofs.FitHeld.{held_few}
 use Rattle.iscsi_ffi_law.proofs.FitHolds.{Holds}
 use Rattle.iscsi_ffi_law.proofs.FitPlaced.{last_there}
 use Rattle.iscsi_ffi_law.proofs.FitReached.{fits_reached}
-use Rattle.iscsi_ffi_law.proofs.FitRefusals.{taken_in}
 use Rattle.iscsi_ffi_law.proofs.FitSized.{AreSized}
 use Rattle.iscsi_ffi_law.proofs.FitSizes.{few_commands}
 use Rattle.iscsi_ffi_law.proofs.FitUsed.{used_few}
@@ -34,7 +32,7 @@ module _ (i : Interface) (opening : IsOpening i) (n : ℕ) (s : StepsSide) (r : 
 
   -- all uses that are kept
   abbrev kept : ℕ
-  kept = length s.state.held.places + count_all s.state.functions.waiting + count_by (is_used s.state.outbox) s.state.commands.items + count_all s.state.replies.waiting + count_all s.state.noted.handed + count_all s.state.unwritten.handed
+  kept = length (somes s.state.held.places) + count_all s.state.functions.waiting + count_by (is_used s.state.outbox) s.state.commands.items + count_all s.state.replies.waiting + count_all s.state.noted.handed + count_all s.state.unwritten.handed
 
   as_many : length (cids i) ≡ conns
   as_many = length-map i.outbox.session.conns (λ (c : ℕ × ℕ). c.0)
@@ -77,14 +75,12 @@ module _ (i : Interface) (opening : IsOpening i) (n : ℕ) (s : StepsSide) (r : 
       let same = st.requests.uses place in
       let most = uses_most s.state place in
       let l : AreLimits i.outbox.session = limits i opening in
-      let least = l.least in
-      let held = z.held in
-      let size = size_few window least in
+      let held = held_few i opening n s r st h in
       let wide = l.window in
       let many = l.conns in
       let own : i.outbox.own * conns ≤ 1024 * 64 = mul-le-mul opening.own many in
       let unwritten : i.unwritten * conns ≤ 1024 * 64 = mul-le-mul opening.unwritten many in
-      omega (arith, same, most, held, size, wide, many, own, unwritten, own_few, unwritten_few, replies_few, replies_most, used_most, functions_few)
+      omega (arith, same, most, held, wide, many, own, unwritten, own_few, unwritten_few, replies_few, replies_most, used_most, functions_few)
 
   -- there is room to tell of all commands
   pub room_to_tell : length s.state.commands.items + 2 * length (cids i) ≤ s.state.room
@@ -104,19 +100,9 @@ module _ (i : Interface) (opening : IsOpening i) (n : ℕ) (s : StepsSide) (r : 
       let same = z.commands_room in
       record { low = low; high = omega (arith, high, room, same) }
 
-  -- a place is free as a request is taken
-  pub free_taken : (cid : ℕ) → refusal_of i r cid ≡ None → is_some (next_place s.state.cookies) ≡ true
-  free_taken cid is =
-      let may = (taken_in i r cid is).room in
-      let parts = and_parts (nat_lt (replies_waiting r.both.box) (room i.outbox)) (nat_lt (owing i.outbox r.both.box) (room i.outbox)) may in
-      let waiting = ltb-true (replies_waiting r.both.box) (room i.outbox) parts.0 in
-      let least = (limits i opening).least in
-      let held = z.held in
-      let size = size_few window least in
-      place_free s.state.cookies z.places (omega (arith, requests_most, room_is, held, size, waiting, as_many, own_few, unwritten_few, replies_few, used_most, functions_few))
-
-  -- .. and whenever the table of numbers isn't much longer than the window
-  pub free_always : size_for window < window + 8 * conns → is_some (next_place s.state.cookies) ≡ true
-  free_always spare =
-      let held = z.held in
-      place_free s.state.cookies z.places (omega (arith, requests_most, room_is, held, spare, own_few, unwritten_few, replies_few, replies_most, used_most, functions_few))
+  -- a place is free
+  pub free : is_some (next_place s.state.cookies) ≡ true
+  free =
+      let held = held_few i opening n s r st h in
+      let some = (limits i opening).some in
+      place_free s.state.cookies z.places (omega (arith, requests_most, room_is, held, some, own_few, unwritten_few, replies_few, replies_most, used_most, functions_few))

@@ -31,10 +31,15 @@ IsSimple (outbox.Takes effects numbers) = ⊥
 IsSimple (outbox.Loses conn) = ⊥
 IsSimple _ = Unit {0}
 
--- what holds of a side behind so many calls, through a call
-pub record SideWalk (i : Interface) (P : ℕ → Side → Type 0) : Type 0 where
+-- what holds of the header that arrives in a call
+abbrev pub OfCall : (List ℕ → Type 0) → Call → Type 0
+OfCall H (Arrives cid header cookie) = H header
+OfCall H _ = Unit {0}
+
+-- what holds of a side behind so many calls, through a call; `H`: of the headers that arrive
+pub record SideWalk (i : Interface) (H : List ℕ → Type 0) (P : ℕ → Side → Type 0) : Type 0 where
   pub completes : (k : ℕ) (s : Side) (ticket status : ℕ) (c : Command) → command_of s.both.trace ticket ≡ Some c → P k s → P k (happening i s (Done ticket status)).side
-  pub arrives : (k : ℕ) (s : Side) (cid : ℕ) (header : List ℕ) (cookie : ℕ) → refusal_of i s cid ≡ None → P k s → P (k + 1) (happening i (asking (heard_in i s cid header) cookie) (Arrive cid header)).side
+  pub arrives : (k : ℕ) (s : Side) (cid : ℕ) (header : List ℕ) (cookie : ℕ) → refusal_of i s cid ≡ None → H header → P k s → P (k + 1) (happening i (asking (heard_in i s cid header) cookie) (Arrive cid header)).side
   pub loses : (k : ℕ) (s : Side) (cid : ℕ) → is_known cid i.outbox.session.conns ≡ true → is_lost s cid ≡ false → is_closed cid s.both.trace ≡ false → P k s
       → P (k + 1) (happening i (other i s (outbox.Loses cid)) (Arrive cid (parting cid))).side
   pub loses_closed : (k : ℕ) (s : Side) (cid : ℕ) → is_known cid i.outbox.session.conns ≡ true → is_lost s cid ≡ false → is_closed cid s.both.trace ≡ true → P k s → P (k + 1) (other i s (outbox.Loses cid))
@@ -66,7 +71,7 @@ going_there s ticket is = by_command (command_of s.both.trace ticket) refl is
     by_command (Some c) found k = (c, found)
     by_command None found k = absurd (false≢true k)
 
-module _ (i : Interface) (P : ℕ → Side → Type 0) (w : SideWalk i P) where
+module _ (i : Interface) {H : List ℕ → Type 0} (P : ℕ → Side → Type 0) (w : SideWalk i H P) where
   pub on_withholding : (k n : ℕ) (t : Told) → P k t.side → P k (withholding i n t).side
   on_withholding k zero t h = h
   on_withholding k (suc n) t h = by_next (on_withholding k n) (next_withheld t.side) refl
@@ -84,8 +89,8 @@ module _ (i : Interface) (P : ℕ → Side → Type 0) (w : SideWalk i P) where
   pub on_withheld : (k : ℕ) (t : Told) → P k t.side → P k (withheld i t).side
   on_withheld k t h = on_withholding k (length (live t.side.both.trace)) t h
 
-  on_arrive : (k : ℕ) (s : Side) (cid : ℕ) (header : List ℕ) (cookie : ℕ) → P k s → P (k + 1) (arrive i s cid header cookie).told.side
-  on_arrive k s cid header cookie h = by_refusal (refusal_of i s cid) refl
+  on_arrive : (k : ℕ) (s : Side) (cid : ℕ) (header : List ℕ) (cookie : ℕ) → H header → P k s → P (k + 1) (arrive i s cid header cookie).told.side
+  on_arrive k s cid header cookie of h = by_refusal (refusal_of i s cid) refl
     where
       by_refusal : (x : Option Refusal) → refusal_of i s cid ≡ x → P (k + 1) (elim x as (λ y. Answered) [
         | Some refusal ↦ answers s (Refused refusal)
@@ -94,7 +99,7 @@ module _ (i : Interface) (P : ℕ → Side → Type 0) (w : SideWalk i P) where
             done (happens i (record s' { asked = s'.asked ++ record { event = s'.both.event; cookie = cookie } ∷ [] }) (Arrive cid header))
       ]).told.side
       by_refusal (Some refusal) is = w.more k s h
-      by_refusal None is = on_withheld (k + 1) (happening i (asking (heard_in i s cid header) cookie) (Arrive cid header)) (w.arrives k s cid header cookie is h)
+      by_refusal None is = on_withheld (k + 1) (happening i (asking (heard_in i s cid header) cookie) (Arrive cid header)) (w.arrives k s cid header cookie is of h)
 
   on_stopped : (k : ℕ) (s : Side) (ticket : ℕ) → P k s → P (k + 1) (stopped i s ticket).told.side
   on_stopped k s ticket h =
@@ -154,31 +159,47 @@ module _ (i : Interface) (P : ℕ → Side → Type 0) (w : SideWalk i P) where
       by_refusal (Some why) = w.calls k s (outbox.Puts p) tt h
       by_refusal None = w.beside (k + 1) (other i s (outbox.Puts p)) (s.noted ++ noted_with p cookie) s.awake s.over (w.calls k s (outbox.Puts p) tt h)
 
-  on_called : (k : ℕ) (s : Side) (c : Call) → P k s → P (k + 1) (called i s c).told.side
-  on_called k s (Arrives cid header cookie) h = on_arrive k s cid header cookie h
-  on_called k s (Completes ticket status) h = on_complete k s ticket status h
-  on_called k s (Stops ticket) h = on_stops k s ticket h
-  on_called k s (Nexts cid) h = on_next k s cid h
-  on_called k s (Puts p cookie) h = on_put k s p cookie h
-  on_called k s (Writes cid) h = w.calls k s (outbox.Writes cid) tt h
-  on_called k s (Hears cid exp_stat_sn tag) h = w.calls k s (outbox.Hears cid exp_stat_sn tag) tt h
-  on_called k s (Joins cid stat_sn) h = w.calls k s (outbox.Joins cid stat_sn) tt h
-  on_called k s (Loses cid) h = on_lose k s cid h
-  on_called k s (Clears unit) h = on_clear k s unit h
-  on_called k s (Cleared unit) h = w.calls k s (outbox.Clears unit) tt h
+  on_called : (k : ℕ) (s : Side) (c : Call) → OfCall H c → P k s → P (k + 1) (called i s c).told.side
+  on_called k s (Arrives cid header cookie) of h = on_arrive k s cid header cookie of h
+  on_called k s (Completes ticket status) of h = on_complete k s ticket status h
+  on_called k s (Stops ticket) of h = on_stops k s ticket h
+  on_called k s (Nexts cid) of h = on_next k s cid h
+  on_called k s (Puts p cookie) of h = on_put k s p cookie h
+  on_called k s (Writes cid) of h = w.calls k s (outbox.Writes cid) tt h
+  on_called k s (Hears cid exp_stat_sn tag) of h = w.calls k s (outbox.Hears cid exp_stat_sn tag) tt h
+  on_called k s (Joins cid stat_sn) of h = w.calls k s (outbox.Joins cid stat_sn) tt h
+  on_called k s (Loses cid) of h = on_lose k s cid h
+  on_called k s (Clears unit) of h = on_clear k s unit h
+  on_called k s (Cleared unit) of h = w.calls k s (outbox.Clears unit) tt h
 
-  pub on_call : (k : ℕ) (s : Side) (c : Call) → P k s → P (k + 1) (after_call i s c).told.side
-  on_call k s c h =
+  pub on_call : (k : ℕ) (s : Side) (c : Call) → OfCall H c → P k s → P (k + 1) (after_call i s c).told.side
+  on_call k s c of h =
       let t : Told = (called i s c).told in
       let left : Side = (ended i t).side in
-      w.beside (k + 1) (record t.side { asked = left.asked }) left.noted left.awake left.over (w.forgets (k + 1) t.side _ (on_called k s c h))
+      w.beside (k + 1) (record t.side { asked = left.asked }) left.noted left.awake left.over (w.forgets (k + 1) t.side _ (on_called k s c of h))
 
 -- ---- events don't come to fewer
 
-pub later_walk : (i : Interface) (m : ℕ) → SideWalk i (λ k s. m ≤ s.both.event)
+abbrev pub IsAny : List ℕ → Type 0
+IsAny header = Unit {0}
+
+any_call : (c : Call) → OfCall IsAny c
+any_call (Arrives cid header cookie) = tt
+any_call (Completes ticket status) = tt
+any_call (Stops ticket) = tt
+any_call (Nexts cid) = tt
+any_call (Puts p cookie) = tt
+any_call (Writes cid) = tt
+any_call (Hears cid exp_stat_sn tag) = tt
+any_call (Joins cid stat_sn) = tt
+any_call (Loses cid) = tt
+any_call (Clears unit) = tt
+any_call (Cleared unit) = tt
+
+pub later_walk : (i : Interface) (m : ℕ) → SideWalk i IsAny (λ k s. m ≤ s.both.event)
 later_walk i m = record {
   completes = λ k s ticket status c is h. omega (arith, h);
-  arrives = λ k s cid header cookie is h. omega (arith, h);
+  arrives = λ k s cid header cookie is of h. omega (arith, h);
   loses = λ k s cid known kept unclosed h. omega (arith, h);
   loses_closed = λ k s cid known kept closed h. h;
   calls = λ k s c simple h. h;
@@ -189,7 +210,7 @@ later_walk i m = record {
 }
 
 pub no_fewer : (i : Interface) (r : Side) (c : Call) → r.both.event ≤ (after_call i r c).told.side.both.event
-no_fewer i r c = on_call i (λ k s. r.both.event ≤ s.both.event) (later_walk i r.both.event) 0 r c (omega arith)
+no_fewer i r c = on_call i (λ k s. r.both.event ≤ s.both.event) (later_walk i r.both.event) 0 r c (any_call c) (omega arith)
 
 pub no_fewer_then : (i : Interface) (r : Side) (cs : List Call) → r.both.event ≤ (side_after i r cs).both.event
 no_fewer_then i r [] = omega arith

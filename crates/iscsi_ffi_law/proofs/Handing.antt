@@ -227,4 +227,5 @@ module _ (i : Interface) (s : StepsSide) (r : Side) (h : Stands i s r) (p : ℕ)
           withheld = h.withheld;
           calm = h.calm;
           slots = h.slots;
+          functions = h.functions;
         }) left.some (record { event = s.event; trace = s.trace; doing = record { state = s'; actions = []; forgets = [] } }) refl h.event h.trace

@@ -1,13 +1,12 @@
 -- The items of an event that are due, one after the other.
-use Rattle.std.proofs.Common.{◌≡◌, ℕ, ◌+◌, ◌<◌, ◌≤◌, ◌==◌, cond, Bool, true, false, List, [], ◌∷◌, ◌++◌, length, map, Option, Some, None, refl, ap, sym, subst, ◌∙◌, arith}
-use Rattle.std.specs.List.{list_all, list_any}
+use Rattle.std.proofs.Common.{◌≡◌, ℕ, ◌+◌, ◌<◌, ◌≤◌, ◌==◌, ◌&&◌, cond, Bool, true, false, List, [], ◌∷◌, ◌++◌, length, map, Option, Some, None, refl, ap, sym, subst, ◌∙◌, arith}
+use Rattle.std.specs.List.{list_all}
 use Rattle.std.proofs.lemmas.Bool.{false≢true}
 use Rattle.iscsi_wire.specs.declared.reply.Reply.{Reply}
 use Rattle.iscsi_wire.specs.Fields.{connection_of}
-use Rattle.iscsi_history.specs.rules.Items.{is_waiting}
 use Rattle.iscsi_history.specs.rules.Run.{effects_of, effects_of_item}
 use Rattle.iscsi_history.specs.rules.Settings.{are_distinct}
-use Rattle.iscsi_history.specs.rules.Trace.{Arrival, ClosesConn, ClosesSession, Command as RulesCommand, Empties, Enters, Leaves, Mark, Sends, Trace, Voids, entered, waiting}
+use Rattle.iscsi_history.specs.rules.Trace.{Arrival, ClosesConn, ClosesSession, Command as RulesCommand, Empties, Enters, Leaves, Mark, Sends, Trace, Voids, entered}
 use Rattle.iscsi_history.proofs.BoolLemmas.{and_parts}
 use Rattle.iscsi_history.proofs.Forms.{AfterWaiting, AtArrival, AtTurn, Deeds, Each, EntersAs, IsDone, Start, if_some, marks_done, start_mark}
 use Rattle.iscsi_outbox_rules.proofs.ClosedParts.{EachOn, effects_each}
@@ -21,56 +20,56 @@ use Rattle.iscsi_ffi_rules.specs.rules.Calls.{Interface}
 use Rattle.iscsi_ffi_rules.specs.rules.Sides.{Side}
 use Rattle.iscsi_ffi_steps.specs.State.{State}
 use Rattle.iscsi_ffi_steps.specs.Walk.{on_effects}
-use Rattle.iscsi_ffi_law.specs.Arrived.{AreStepsFit, IsStepFit, effects_by, is_plain, side_behind}
+use Rattle.iscsi_ffi_law.specs.Arrived.{AreStepsFit, IsStepFit, effects_by, is_plain, side_behind, starts_late}
 use Rattle.iscsi_ffi_law.specs.Names.{Name, Note}
 use Rattle.iscsi_ffi_law.proofs.Between.{IsBetween, IsHeaded, turn_headed}
-use Rattle.iscsi_ffi_law.proofs.Plain.{one_enters, plain_item, plain_marks, waits_turn}
+use Rattle.iscsi_ffi_law.proofs.Plain.{one_enters, plain_item, plain_marks}
 use Rattle.iscsi_ffi_law.proofs.Stepping.{GoesOn, IsCalm, SameLinks, all_calm_on, links_then, links_unmoved}
 use Rattle.iscsi_ffi_law.proofs.TailEnters.{goes_entered}
 use Rattle.iscsi_ffi_law.proofs.TailOver.{goes_over}
 use Rattle.iscsi_ffi_law.proofs.TailSends.{executed_answering, goes_sent}
 use Rattle.iscsi_ffi_law.proofs.Turns.{IsDue, IsDueBy}
+use Rattle.iscsi_ffi_law.proofs.Waited.{waited_headed}
 use Rattle.iscsi_ffi_law.proofs.Walking.{is_led, walk_at}
 
 -- ---- what a request does by which nothing is taken out or closed
 
-module _ (now : ℕ) where
-  abbrev Plain : List Mark → Type 0
-  Plain ms = list_all (is_plain now) ms ≡ true
+abbrev Plain : List Mark → Type 0
+Plain ms = list_all is_plain ms ≡ true
 
-  none_closed : (x : Option ℕ) (b : Bool) → Plain (if_some ClosesConn x ++ cond b (ClosesSession ∷ []) []) → if_some ClosesConn x ++ cond b (ClosesSession ∷ []) [] ≡ []
-  none_closed (Some conn) b h = absurd (false≢true h)
-  none_closed None true h = absurd (false≢true h)
-  none_closed None false h = refl
+none_closed : (x : Option ℕ) (b : Bool) → Plain (if_some ClosesConn x ++ cond b (ClosesSession ∷ []) []) → if_some ClosesConn x ++ cond b (ClosesSession ∷ []) [] ≡ []
+none_closed (Some conn) b h = absurd (false≢true h)
+none_closed None true h = absurd (false≢true h)
+none_closed None false h = refl
 
-  replied_plain : (conn : ℕ) (y : Option Reply) (zs : List Mark) → (Plain zs → zs ≡ []) → Plain (if_some (Sends conn) y ++ zs) → if_some (Sends conn) y ++ zs ≡ if_some (Sends conn) y
-  replied_plain conn None zs none h = none h
-  replied_plain conn (Some reply) zs none h = ap (λ ms. Sends conn reply ∷ ms) (none h)
+replied_plain : (conn : ℕ) (y : Option Reply) (zs : List Mark) → (Plain zs → zs ≡ []) → Plain (if_some (Sends conn) y ++ zs) → if_some (Sends conn) y ++ zs ≡ if_some (Sends conn) y
+replied_plain conn None zs none h = none h
+replied_plain conn (Some reply) zs none h = ap (λ ms. Sends conn reply ∷ ms) (none h)
 
-  entered_plain : (e : Option RulesCommand) (zs ys : List Mark) → (Plain zs → zs ≡ ys) → Plain (if_some Enters e ++ zs) → if_some Enters e ++ zs ≡ if_some Enters e ++ ys
-  entered_plain None zs ys same h = same h
-  entered_plain (Some c) zs ys same h = ap (λ ms. Enters c ∷ ms) (same h)
+entered_plain : (e : Option RulesCommand) (zs ys : List Mark) → (Plain zs → zs ≡ ys) → Plain (if_some Enters e ++ zs) → if_some Enters e ++ zs ≡ if_some Enters e ++ ys
+entered_plain None zs ys same h = same h
+entered_plain (Some c) zs ys same h = ap (λ ms. Enters c ∷ ms) (same h)
 
-  emptied_plain : (as' : List Arrival) (zs ys : List Mark) → (Plain zs → zs ≡ ys) → Plain (map Empties as' ++ zs) → map Empties as' ++ zs ≡ ys
-  emptied_plain [] zs ys same h = same h
-  emptied_plain (a ∷ as') zs ys same h = absurd (false≢true h)
+emptied_plain : (as' : List Arrival) (zs ys : List Mark) → (Plain zs → zs ≡ ys) → Plain (map Empties as' ++ zs) → map Empties as' ++ zs ≡ ys
+emptied_plain [] zs ys same h = same h
+emptied_plain (a ∷ as') zs ys same h = absurd (false≢true h)
 
-  left_plain : (cs : List RulesCommand) (zs ys : List Mark) → (Plain zs → zs ≡ ys) → Plain (map Leaves cs ++ zs) → map Leaves cs ++ zs ≡ ys
-  left_plain [] zs ys same h = same h
-  left_plain (c ∷ cs) zs ys same h = absurd (false≢true h)
+left_plain : (cs : List RulesCommand) (zs ys : List Mark) → (Plain zs → zs ≡ ys) → Plain (map Leaves cs ++ zs) → map Leaves cs ++ zs ≡ ys
+left_plain [] zs ys same h = same h
+left_plain (c ∷ cs) zs ys same h = absurd (false≢true h)
 
-  voided_plain : (v : Option ℕ) (zs ys : List Mark) → (Plain zs → zs ≡ ys) → Plain (if_some Voids v ++ zs) → if_some Voids v ++ zs ≡ if_some Voids v ++ ys
-  voided_plain None zs ys same h = same h
-  voided_plain (Some n) zs ys same h = ap (λ ms. Voids n ∷ ms) (same h)
+voided_plain : (v : Option ℕ) (zs ys : List Mark) → (Plain zs → zs ≡ ys) → Plain (if_some Voids v ++ zs) → if_some Voids v ++ zs ≡ if_some Voids v ++ ys
+voided_plain None zs ys same h = same h
+voided_plain (Some n) zs ys same h = ap (λ ms. Voids n ∷ ms) (same h)
 
-  pub deeds_plain : (a : Arrival) (d : Deeds) → Plain (marks_done a d) → marks_done a d ≡ plain_marks a d.void d.entering d.reply
-  deeds_plain a d h =
-      let ends : List Mark = if_some ClosesConn d.closing ++ cond d.ending (ClosesSession ∷ []) [] in
-      voided_plain d.void (map Leaves d.leaving ++ (map Empties d.emptied ++ (if_some Enters d.entering ++ (if_some (Sends (connection_of a.request)) d.reply ++ ends)))) (if_some Enters d.entering ++ if_some (Sends (connection_of a.request)) d.reply)
-      (left_plain d.leaving (map Empties d.emptied ++ (if_some Enters d.entering ++ (if_some (Sends (connection_of a.request)) d.reply ++ ends))) (if_some Enters d.entering ++ if_some (Sends (connection_of a.request)) d.reply)
-      (emptied_plain d.emptied (if_some Enters d.entering ++ (if_some (Sends (connection_of a.request)) d.reply ++ ends)) (if_some Enters d.entering ++ if_some (Sends (connection_of a.request)) d.reply)
-      (entered_plain d.entering (if_some (Sends (connection_of a.request)) d.reply ++ ends) (if_some (Sends (connection_of a.request)) d.reply)
-      (replied_plain (connection_of a.request) d.reply ends (none_closed d.closing d.ending))))) h
+pub deeds_plain : (a : Arrival) (d : Deeds) → Plain (marks_done a d) → marks_done a d ≡ plain_marks a d.void d.entering d.reply
+deeds_plain a d h =
+    let ends : List Mark = if_some ClosesConn d.closing ++ cond d.ending (ClosesSession ∷ []) [] in
+    voided_plain d.void (map Leaves d.leaving ++ (map Empties d.emptied ++ (if_some Enters d.entering ++ (if_some (Sends (connection_of a.request)) d.reply ++ ends)))) (if_some Enters d.entering ++ if_some (Sends (connection_of a.request)) d.reply)
+    (left_plain d.leaving (map Empties d.emptied ++ (if_some Enters d.entering ++ (if_some (Sends (connection_of a.request)) d.reply ++ ends))) (if_some Enters d.entering ++ if_some (Sends (connection_of a.request)) d.reply)
+    (emptied_plain d.emptied (if_some Enters d.entering ++ (if_some (Sends (connection_of a.request)) d.reply ++ ends)) (if_some Enters d.entering ++ if_some (Sends (connection_of a.request)) d.reply)
+    (entered_plain d.entering (if_some (Sends (connection_of a.request)) d.reply ++ ends) (if_some (Sends (connection_of a.request)) d.reply)
+    (replied_plain (connection_of a.request) d.reply ends (none_closed d.closing d.ending))))) h
 
 -- ---- several items
 
@@ -88,7 +87,7 @@ pub record AllGo (i : Interface) (names : List Name) (notes : List Note) (s : St
   pub few : length ended ≤ length xs + length items
   pub links : SameLinks r.both.box (side_after i r items).both.box
   pub calm : EachOf (IsCalm (side_after i r items).both.box) (effects_of i.outbox.session r.both.trace items)
-  pub walk : (o : OutboxState) → o.limits ≡ limits_of i.outbox → (acts : List Action) (first : Bool)
+  pub walk : (o : OutboxState) → o.limits ≡ limits_of i.outbox → (acts : List Action) (first : Bool) → (first && starts_late r.both.event items) ≡ false
       → on_effects first (effects_of i.outbox.session r.both.trace items) (walk_at o s acts xs own r.both.box.sent) ≡ walk_at o state acts ended None (side_after i r items).both.box.sent
 
 -- one, and these
@@ -104,7 +103,7 @@ goes_then i names notes s r own xs item items g later led = record {
   links = links_then r.both.box (side_behind i r item).both.box (side_after i (side_behind i r item) items).both.box g.links later.links;
   calm = each-append (IsCalm (side_after i (side_behind i r item) items).both.box) (effects_by i r item) (effects_of i.outbox.session (item ∷ r.both.trace) items)
       (all_calm_on (side_behind i r item).both.box (side_after i (side_behind i r item) items).both.box later.links (effects_by i r item) g.calm) later.calm;
-  walk = λ o limits acts first. g.walk o limits acts first (effects_of i.outbox.session (item ∷ r.both.trace) items) led ∙ later.walk o limits acts false;
+  walk = λ o limits acts first late. g.walk o limits acts first late (effects_of i.outbox.session (item ∷ r.both.trace) items) led ∙ later.walk o limits acts false refl;
 }
 
 pub first_sound : (i : Interface) (r : Side) (items : List (List Mark)) → AreStepsFit i r items → IsSound i.outbox r.both.box
@@ -142,36 +141,29 @@ module _ (i : Interface) (names : List Name) (notes : List Note) (distinct : are
     silent = k.silent;
   }
 
-  pub executed_goes : (s : State) (r : Side) (own : Option ℕ) (xs : List (Option ℕ)) (k : IsBetween i names notes s r own xs) (start : Start) (a : Arrival) (d : Deeds) → list_all (is_plain r.both.event) (marks_done a d) ≡ true → IsDone i.outbox.session r.both.trace start a d
+  pub executed_goes : (s : State) (r : Side) (own : Option ℕ) (xs : List (Option ℕ)) (k : IsBetween i names notes s r own xs) (start : Start) (a : Arrival) (d : Deeds) → list_all is_plain (marks_done a d) ≡ true → IsDone i.outbox.session r.both.trace start a d
       → IsStepFit i r (start_mark start a ∷ marks_done a d) → IsSound i.outbox (side_behind i r (start_mark start a ∷ marks_done a d)).both.box → IsHeaded i names notes s r own xs (plain_item start a d.void d.entering d.reply) start a
       → GoesOn i names notes s r own xs (start_mark start a ∷ marks_done a d)
   executed_goes s r own xs k start a d plain done fit sound h =
-      let same : start_mark start a ∷ marks_done a d ≡ plain_item start a d.void d.entering d.reply = ap (λ ms. start_mark start a ∷ ms) (deeds_plain r.both.event a d plain) in
+      let same : start_mark start a ∷ marks_done a d ≡ plain_item start a d.void d.entering d.reply = ap (λ ms. start_mark start a ∷ ms) (deeds_plain a d plain) in
       subst (GoesOn i names notes s r own xs) (sym same)
       (tail_goes s r own xs k start a d.void d.entering d.reply (subst (IsStepFit i r) same fit) (subst (λ item. IsSound i.outbox (side_behind i r item).both.box) same sound) h (entering_now r r.both.trace a d d.entering refl done.enters))
 
   -- one that is due
-  pub due_goes : (s : State) (r : Side) (xs : List (Option ℕ)) (k : IsBetween i names notes s r None xs) (item : List Mark) → IsDue i.outbox.session r.both.trace item → ((a : Arrival) → is_waiting a r.both.trace ≡ true → (a.event == r.both.event) ≡ false)
-      → list_all (is_plain r.both.event) item ≡ true → IsStepFit i r item → IsSound i.outbox (side_behind i r item).both.box → GoesOn i names notes s r None xs item
-  due_goes s r xs k item due waited plain fit sound =
+  pub due_goes : (s : State) (r : Side) (xs : List (Option ℕ)) (k : IsBetween i names notes s r None xs) (item : List Mark) → IsDue i.outbox.session r.both.trace item → list_all is_plain item ≡ true → IsStepFit i r item → IsSound i.outbox (side_behind i r item).both.box
+      → GoesOn i names notes s r None xs item
+  due_goes s r xs k item due plain fit sound =
       subst (GoesOn i names notes s r None xs) (sym due.is)
-      (by_start due.start due.due due.done (subst (λ ms. list_all (is_plain r.both.event) ms ≡ true) due.is plain) (subst (IsStepFit i r) due.is fit) (subst (λ ms. IsSound i.outbox (side_behind i r ms).both.box) due.is sound))
+      (by_start due.start due.due due.done (subst (λ ms. list_all is_plain ms ≡ true) due.is plain) (subst (IsStepFit i r) due.is fit) (subst (λ ms. IsSound i.outbox (side_behind i r ms).both.box) due.is sound))
     where
-      by_start : (start : Start) → IsDueBy r.both.trace start due.a → IsDone i.outbox.session r.both.trace start due.a due.deeds → list_all (is_plain r.both.event) (start_mark start due.a ∷ marks_done due.a due.deeds) ≡ true → IsStepFit i r (start_mark start due.a ∷ marks_done due.a due.deeds)
+      by_start : (start : Start) → IsDueBy r.both.trace start due.a → IsDone i.outbox.session r.both.trace start due.a due.deeds → list_all is_plain (start_mark start due.a ∷ marks_done due.a due.deeds) ≡ true → IsStepFit i r (start_mark start due.a ∷ marks_done due.a due.deeds)
           → IsSound i.outbox (side_behind i r (start_mark start due.a ∷ marks_done due.a due.deeds)).both.box → GoesOn i names notes s r None xs (start_mark start due.a ∷ marks_done due.a due.deeds)
       by_start AtTurn is done plain' fit' sound' = executed_goes s r None xs k AtTurn due.a due.deeds plain' done fit' sound' (turn_headed i names notes s r xs k due.a is due.deeds.void due.deeds.entering due.deeds.reply)
       by_start AtArrival is done plain' fit' sound' = absurd is
-      by_start AfterWaiting is done plain' fit' sound' = absurd (false≢true (sym (waited due.a is) ∙ (and_parts (due.a.event == r.both.event) (list_all (is_plain r.both.event) (marks_done due.a due.deeds)) plain').0))
-
-  -- it is its turn, so what waits waits still
-  due_waits : (r : Side) (item : List Mark) → IsDue i.outbox.session r.both.trace item → ((a : Arrival) → is_waiting a r.both.trace ≡ true → (a.event == r.both.event) ≡ false) → list_all (is_plain r.both.event) item ≡ true → waiting (item ∷ r.both.trace) ≡ waiting r.both.trace
-  due_waits r item due waited plain =
-      ap (λ ms. waiting (ms ∷ r.both.trace)) due.is ∙ by_start due.start due.due (subst (λ ms. list_all (is_plain r.both.event) ms ≡ true) due.is plain)
-    where
-      by_start : (start : Start) → IsDueBy r.both.trace start due.a → list_all (is_plain r.both.event) (start_mark start due.a ∷ marks_done due.a due.deeds) ≡ true → waiting ((start_mark start due.a ∷ marks_done due.a due.deeds) ∷ r.both.trace) ≡ waiting r.both.trace
-      by_start AtTurn is plain' = ap (λ ms. waiting ((start_mark AtTurn due.a ∷ ms) ∷ r.both.trace)) (deeds_plain r.both.event due.a due.deeds plain') ∙ waits_turn r.both.trace due.a due.deeds.void due.deeds.entering due.deeds.reply
-      by_start AtArrival is plain' = absurd is
-      by_start AfterWaiting is plain' = absurd (false≢true (sym (waited due.a is) ∙ (and_parts (due.a.event == r.both.event) (list_all (is_plain r.both.event) (marks_done due.a due.deeds)) plain').0))
+      by_start AfterWaiting is done plain' fit' sound' =
+          let w = fit'.waited due.a refl is in
+          executed_goes s r None xs k AfterWaiting due.a due.deeds plain' done fit' sound'
+          (waited_headed i names notes s r xs k distinct due.a w.0 w.1 (fit'.fit.item_sound.known due.a.request refl) due.deeds.void due.deeds.entering due.deeds.reply)
 
   -- ---- all of them
 
@@ -186,14 +178,12 @@ module _ (i : Interface) (names : List Name) (notes : List Note) (distinct : are
       by_start AfterWaiting a ms = refl
 
   pub none_more : (s : State) (r : Side) (xs : List (Option ℕ)) → IsBetween i names notes s r None xs → AllGo i names notes s r None xs []
-  none_more s r xs k = record { state = s; ended = xs; between = k; outbox = refl; room = refl; few = omega arith; links = links_unmoved r.both.box r.both.box refl; calm = tt; walk = λ o limits acts first. refl }
+  none_more s r xs k = record { state = s; ended = xs; between = k; outbox = refl; room = refl; few = omega arith; links = links_unmoved r.both.box r.both.box refl; calm = tt; walk = λ o limits acts first late. refl }
 
-  pub all_due : (items : List (List Mark)) (s : State) (r : Side) (xs : List (Option ℕ)) → IsBetween i names notes s r None xs → EachOn (IsDue i.outbox.session) r.both.trace items → ((a : Arrival) → is_waiting a r.both.trace ≡ true → (a.event == r.both.event) ≡ false)
-      → list_all (list_all (is_plain r.both.event)) items ≡ true → AreStepsFit i r items → AllGo i names notes s r None xs items
-  all_due [] s r xs k due waited plain fit = none_more s r xs k
-  all_due (item ∷ items) s r xs k due waited plain fit =
-      let parts = and_parts (list_all (is_plain r.both.event) item) (list_all (list_all (is_plain r.both.event)) items) plain in
-      let g : GoesOn i names notes s r None xs item = due_goes s r xs k item due.0 waited parts.0 fit.0 (first_sound i (side_behind i r item) items fit.1) in
-      let later : AllGo i names notes g.state (side_behind i r item) None g.ended items =
-      all_due items g.state (side_behind i r item) g.ended g.between due.1 (λ a is. waited a (ap (list_any (λ (b : Arrival). b.event == a.event)) (sym (due_waits r item due.0 waited parts.0)) ∙ is)) parts.1 fit.1 in
-      goes_then i names notes s r None xs item items g later (led_due (item ∷ r.both.trace) items due.1)
+  pub all_due : (items : List (List Mark)) (s : State) (r : Side) (xs : List (Option ℕ)) → IsBetween i names notes s r None xs → EachOn (IsDue i.outbox.session) r.both.trace items → list_all (list_all is_plain) items ≡ true → AreStepsFit i r items
+      → AllGo i names notes s r None xs items
+  all_due [] s r xs k due plain fit = none_more s r xs k
+  all_due (item ∷ items) s r xs k due plain fit =
+      let parts = and_parts (list_all is_plain item) (list_all (list_all is_plain) items) plain in
+      let g : GoesOn i names notes s r None xs item = due_goes s r xs k item due.0 parts.0 fit.0 (first_sound i (side_behind i r item) items fit.1) in
+      goes_then i names notes s r None xs item items g (all_due items g.state (side_behind i r item) g.ended g.between due.1 parts.1 fit.1) (led_due (item ∷ r.both.trace) items due.1)

@@ -8,6 +8,7 @@ mod Notes
 mod Flags
 mod Kept
 mod Slots
+mod Functions
 mod Admitting
 mod Ended
 mod Words
@@ -28,6 +29,7 @@ mod Noting
 mod Next
 mod Sleeping
 mod NextCalls
+mod Postponing
 mod PutQueues
 mod Putting
 mod Refusing
@@ -61,6 +63,7 @@ mod QuietSends
 mod QuietItems
 mod Plain
 mod Between
+mod Waited
 mod Stepping
 mod TailOver
 mod TailSends
@@ -69,6 +72,7 @@ mod Turns
 mod ItemsGo
 mod StartsAfter
 mod EventRules
+mod HeldNews
 mod EventGoes
 mod EventEnds
 mod EventLaw
@@ -84,6 +88,7 @@ mod Doing
 mod Ascending
 mod DoneCounts
 mod DoneHeld
+mod DoneAfter
 mod DoneMid
 mod DoneChain
 mod DoneCalls
@@ -112,6 +117,14 @@ mod FitSizes
 mod FitSized
 mod FitUsed
 mod FitFree
+mod FitHeld
 mod FitRoom
+mod FitMarks
+mod FitTurns
+mod FitPrompt
+mod FitReceived
+mod FitOnce
+mod FitItems
+mod FitEvents
 mod FitAll
 mod FitAlike

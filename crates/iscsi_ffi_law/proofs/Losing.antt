@@ -307,6 +307,7 @@ module _ (i : Interface) (s : StepsSide) (r : Side) (h : Stands i s r) (cid : â„
         withheld = h.withheld;
         calm = h.calm;
         slots = h.slots;
+        functions = h.functions;
       }) (omega (arith, all, others, mapped, room p))
       (record { event = s.event; trace = s.trace; doing = (let d' = drop_waiting p (record { state = record s.state { outbox = lost cid s.state.outbox }; actions = []; forgets = [] }) in drop_unwritten (length (of_conn p d'.state.unwritten.handed)) p d') })
       (all_dropped p (record { state = record s.state { outbox = lost cid s.state.outbox }; actions = []; forgets = [] }) (omega (arith, at.within, long_replies)) (omega (arith, at.within, long_noted)) (omega (arith, at.within, long_unwritten))) h.event h.trace

@@ -15,7 +15,7 @@ use Rattle.iscsi_ffi_rules.specs.rules.Run.{cids}
 use Rattle.iscsi_ffi_rules.specs.rules.Sides.{opened}
 use Rattle.iscsi_ffi_steps.specs.State.{opened as opened_state}
 use Rattle.iscsi_ffi_steps.specs.Steps.{begun}
-use Rattle.iscsi_ffi_law.specs.Parts.{IsAbout, IsAnswered, IsConn, noted_in}
+use Rattle.iscsi_ffi_law.specs.Parts.{IsAbout, IsAnswered, IsConn, IsFunctionAt, noted_in}
 use Rattle.iscsi_ffi_law.specs.Stands.{Stands}
 use Rattle.iscsi_ffi_law.specs.Uses.{count_held, count_functions, count_replies, count_noted, count_unwritten, is_place, uses_of}
 use Rattle.iscsi_ffi_law.proofs.Lists.{conn_new, lists_new, none_placed}
@@ -122,6 +122,11 @@ module _ (i : Interface) where
       size_is = length-replicate (size_for i.outbox.session.window) None;
       there = λ n a is. absurd (let none : ⊥ = cc in none);
       once = λ place. omega (arith, none_placed place (size_for i.outbox.session.window));
+    };
+    functions = record {
+      each = λ p within. subst (λ xs. PairsOf (IsFunctionAt []) xs []) (sym (conn_new {X = WaitingFunction} (length (cids i)) p)) tt;
+      once = λ place. let none = lists_new (λ (f : WaitingFunction). f.request == place) (length (cids i)) in omega (arith, none);
+      room = refl;
     };
     withheld = refl;
     calm = refl;

@@ -364,6 +364,7 @@ module _ (i : Interface) (s : StepsSide) (r : Side) (h : Stands i s r) (p : OwnP
           withheld = h.withheld;
           calm = h.calm;
           slots = h.slots;
+          functions = h.functions;
         }) fit'.some (record { event = s.event; trace = s.trace; doing = record { state = s'; actions = []; forgets = [] } }) refl h.event h.trace
 
     -- there is room for it

@@ -12,6 +12,8 @@ use Rattle.iscsi_outbox_law.specs.Commands.{link_in}
 use Rattle.iscsi_outbox_law.specs.Pairs.{EachOf, PairsOf}
 use Rattle.iscsi_outbox_law.proofs.PairLemmas.{each-weaken, pairs-weaken}
 use Rattle.iscsi_requests.specs.Conns.{of_conn}
+use Rattle.iscsi_requests.specs.Functions.{WaitingFunctions}
+use Rattle.iscsi_requests.specs.declared.functions.WaitingFunction.{WaitingFunction}
 use Rattle.iscsi_requests.specs.Numbers.{HeldNumbers}
 use Rattle.iscsi_requests.specs.declared.replies.WaitingReply.{WaitingReply}
 use Rattle.iscsi_ffi_rules.specs.rules.Needs.{is_about, is_of_event, is_ticket_of, left_to_write}
@@ -20,7 +22,7 @@ use Rattle.iscsi_ffi_steps.specs.State.{State}
 use Rattle.iscsi_ffi_law.specs.Names.{Name, Note}
 use Rattle.iscsi_ffi_law.specs.Parts.{IsAbout, IsCommand, IsConn, IsCovered, IsKnownOut, IsLiveNamed, IsNote, IsOfCommand, IsQueued, IsReplyOf, IsRequest, covers, is_live_ticket, is_named}
 use Rattle.iscsi_ffi_law.specs.Stands.{AreRequests}
-use Rattle.iscsi_ffi_law.specs.Uses.{count_held, is_place}
+use Rattle.iscsi_ffi_law.specs.Uses.{count_functions, count_held, count_lists, is_place}
 
 -- ---- in the session
 
@@ -86,10 +88,10 @@ module _ (names : List Name) (notes : List Note) (pending : ℕ → ℕ) (gone :
       by_ticket None = refl
       by_ticket (Some k) = ap (list_any (λ (c : RulesCommand). is_of_event e c.arrival && c.ticket == k)) (entered_on r.both.trace item u)
 
-  pub requests_on : (held : HeldNumbers) (pending' : ℕ → ℕ) → ((place : ℕ) → count_by (is_place place) held.places + pending' place ≡ count_held place s + pending place)
-      → EachOf (IsRequest (record s { held = held }) (item ∷ r.both.trace)) names → EachOf (IsNote (record s { held = held }) r.both.box.links) notes
-      → AreRequests names notes pending' gone (record s { held = held }) side_on
-  requests_on held pending' uses named noted = record {
+  pub requests_on : (held : HeldNumbers) (functions : WaitingFunctions) (pending' : ℕ → ℕ) → ((place : ℕ) → count_by (is_place place) held.places + count_lists (λ (f : WaitingFunction). f.request == place) functions.waiting + pending' place ≡ count_held place s + count_functions place s + pending place)
+      → EachOf (IsRequest (record s { held = held; functions = functions }) (item ∷ r.both.trace)) names → EachOf (IsNote (record s { held = held; functions = functions }) r.both.box.links) notes
+      → AreRequests names notes pending' gone (record s { held = held; functions = functions }) side_on
+  requests_on held functions pending' uses named noted = record {
     asked = a.asked;
     noted = a.noted;
     apart = a.apart;

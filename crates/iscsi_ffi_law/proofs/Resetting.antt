@@ -160,6 +160,7 @@ module _ (i : Interface) (s : StepsSide) (r : Side) (h : Stands i s r) (unit : â
     withheld = h.withheld;
     calm = h.calm;
     slots = h.slots;
+    functions = h.functions;
   }
 
   clear_ends : EndsAlike i (clear unit s).going r' acts

@@ -121,6 +121,7 @@ module _ (i : Interface) (s : StepsSide) (r : Side) (h : Stands i s r) (left : I
         withheld = h.withheld;
         calm = h.calm;
         slots = h.slots;
+        functions = h.functions;
       }) left.some (record { event = s.event; trace = s.trace; doing = record { state = record s.state { awake = flags }; actions = []; forgets = [] } }) refl h.event h.trace
 
   pub sleeps_there : (p cid : ℕ) → Apart (cids i) → p < length (cids i) → get_or (cids i) p 0 ≡ cid → EndsAlike i (going (asleep p s)) (rules.asleep cid r) []

@@ -1,26 +1,30 @@
 -- The slots of what is held: what stands there as a request is received, and as its turn comes.
-use Rattle.std.proofs.Common.{◌≡◌, ℕ, zero, suc, ◌+◌, ◌%◌, ◌<◌, ◌≤◌, ◌==◌, ⊎_elim, inl, inr, cond, slice_index_or, slice_set, Bool, true, false, List, [], ◌∷◌, ◌++◌, length, count_by, filter, filter_map, find, Option, Some, None, is_some, nat_lt, refl, ap, sym, subst, ◌∙◌, arith, le-ltb, length-set}
+use Rattle.std.proofs.Common.{◌≡◌, ℕ, zero, suc, ◌+◌, ◌%◌, ◌<◌, ◌≤◌, ◌==◌, ⊎_elim, inl, inr, cond, get_or, slice_index_or, slice_set, Bool, true, false, List, [], ◌∷◌, ◌++◌, length, count_by, filter, filter_map, find, Option, Some, None, is_some, nat_lt, refl, ap, sym, subst, ◌∙◌, arith, le-ltb, length-set}
 use Rattle.std.proofs.lemmas.Bool.{eqb-true, eq-eqb, false≢true}
 use Rattle.std.proofs.lemmas.List.{append-nil, get_or-set_other}
 use Rattle.std.proofs.lemmas.Nat.{mod_below}
-use Rattle.iscsi_wire.specs.Fields.{cmd_sn}
-use Rattle.iscsi_history.specs.rules.Trace.{Admits, Arrival, ClosesConn, ClosesSession, Delivers, Empties, Enters, Executes, Ignores, Leaves, Mark, Sends, Trace, Voids, Waits, admits_at, held, shown}
+use Rattle.iscsi_wire.specs.Fields.{cmd_sn, connection_of}
+use Rattle.iscsi_history.specs.rules.Trace.{Admits, Arrival, ClosesConn, ClosesSession, Delivers, Empties, Enters, Executes, Ignores, Leaves, Mark, Sends, Trace, Voids, Waits, admits_at, held, shown, waiting}
 use Rattle.iscsi_history.proofs.CountLemmas.{one, count-cons}
 use Rattle.iscsi_history.proofs.ElementLemmas.{In, append-in_first, append-in_second, first-in, in-append, in-cons}
 use Rattle.iscsi_history.proofs.HeldLemmas.{admitted_of_held, held-number}
-use Rattle.iscsi_outbox_law.specs.Pairs.{EachOf}
-use Rattle.iscsi_outbox_law.proofs.PairLemmas.{each-append, each-filter}
+use Rattle.iscsi_outbox_law.specs.Pairs.{EachOf, PairsOf}
+use Rattle.iscsi_outbox_law.proofs.PairLemmas.{each-append, each-filter, pairs-weaken}
+use Rattle.iscsi_requests.specs.Conns.{of_conn}
+use Rattle.iscsi_requests.specs.Functions.{WaitingFunctions}
+use Rattle.iscsi_requests.specs.declared.functions.WaitingFunction.{WaitingFunction}
 use Rattle.iscsi_requests.specs.Numbers.{HeldNumbers, index_of, with_held}
 use Rattle.iscsi_ffi_rules.specs.rules.Needs.{admitted_by, is_held, is_of_event, is_waiting}
 use Rattle.iscsi_ffi_steps.specs.State.{State}
 use Rattle.iscsi_outbox_rules.specs.rules.Boxes.{Link}
 use Rattle.iscsi_ffi_law.specs.Arrived.{AreDistinct}
 use Rattle.iscsi_ffi_law.specs.Names.{Name, Note}
-use Rattle.iscsi_ffi_law.specs.Parts.{AreApart, AreHeld, IsHeldAt, IsNote, IsRequest, IsWithin}
-use Rattle.iscsi_ffi_law.specs.Uses.{count_held, is_place}
+use Rattle.iscsi_ffi_law.specs.Parts.{AreApart, AreFunctions, AreHeld, IsFunctionAt, IsHeldAt, IsNote, IsRequest, IsWithin}
+use Rattle.iscsi_ffi_law.specs.Uses.{count_held, count_lists, is_place}
 use Rattle.iscsi_ffi_law.proofs.Asked.{named_still}
 use Rattle.iscsi_ffi_law.proofs.Kept.{named_used}
-use Rattle.iscsi_ffi_law.proofs.Members.{each_in, find_in, in_each, two_counted}
+use Rattle.iscsi_ffi_law.proofs.Lists.{lists_at}
+use Rattle.iscsi_ffi_law.proofs.Members.{in_counted, each_in, find_in, in_each, two_counted}
 use Rattle.iscsi_ffi_law.proofs.NameLemmas.{Named, found_named, place_event, same_place}
 
 -- ---- slots
@@ -88,7 +92,7 @@ held_in t n a is = admitted_in n t a (first-in (shown (admits_at n) t) a (admitt
 
 module _ (t : Trace) (d : AreDistinct t) where
   pub same_arrival : (a b : Arrival) → In a (shown admitted_by t) → In b (shown admitted_by t) → a.event ≡ b.event → a ≡ b
-  same_arrival a b at there same = two_counted (λ (x : Arrival). x.event == b.event) (shown admitted_by t) a b (d.events b.event) at there (eq-eqb a.event b.event same) (eq-eqb b.event b.event refl)
+  same_arrival a b at there same = two_counted (λ (x : Arrival). x.event == b.event) (shown admitted_by t) a b (let few = d.events b.event in omega (arith, few)) at there (eq-eqb a.event b.event same) (eq-eqb b.event b.event refl)
 
   pub same_number : (a b : Arrival) → In a (shown admitted_by t) → In b (shown admitted_by t) → a.number ≡ b.number → a ≡ b
   same_number a b at there same = two_counted (λ (x : Arrival). x.number == b.number) (shown admitted_by t) a b (d.numbers b.number) at there (eq-eqb a.number b.number same) (eq-eqb b.number b.number refl)
@@ -126,6 +130,31 @@ slots_same size room names v t t' same h = record {
   size_is = h.size_is;
   there = λ n a is. let k : IsHeldAt names v a = h.there n a (sym (same n) ∙ is) in record { place = k.place; named = k.named; slot = k.slot };
   once = h.once;
+}
+
+-- ---- functions that wait
+
+pub functions_used : (cids : List ℕ) (names : List Name) (notes : List Note) → AreApart names notes → (v : WaitingFunctions) (ws : List Arrival) → AreFunctions cids names v ws → (used : ℕ → Bool) → ((p : ℕ) → 1 ≤ count_lists (λ (f : WaitingFunction). f.request == p) v.waiting → used p ≡ true)
+    → AreFunctions cids (filter (λ (n : Name). used n.place) names) v ws
+functions_used cids names notes apart v ws h used still = record {
+  each = λ p within. all p (of_conn p v.waiting) (filter (λ (a : Arrival). connection_of a.request == get_or cids p 0) ws) (λ f there. there) (h.each p within);
+  once = h.once;
+  room = h.room;
+}
+  where
+    all : (p : ℕ) (fs : List WaitingFunction) (as' : List Arrival) → ((f : WaitingFunction) → In f fs → In f (of_conn p v.waiting)) → PairsOf (IsFunctionAt names) fs as' → PairsOf (IsFunctionAt (filter (λ (n : Name). used n.place) names)) fs as'
+    all p [] [] inside k = tt
+    all p [] (a ∷ as') inside k = absurd k
+    all p (f ∷ fs) [] inside k = absurd k
+    all p (f ∷ fs) (a ∷ as') inside k =
+        let some : 1 ≤ count_by (λ (g : WaitingFunction). g.request == f.request) (of_conn p v.waiting) = in_counted (λ (g : WaitingFunction). g.request == f.request) (of_conn p v.waiting) f (inside f (inl refl)) (eq-eqb f.request f.request refl) in
+        (record { number = k.0.number; named = named_used used names notes apart a.event f.request k.0.named (still f.request (omega (arith, some, lists_at (λ (g : WaitingFunction). g.request == f.request) v.waiting p))) }, all p fs as' (λ g there. inside g (inr there)) k.1)
+
+pub functions_named : (cids : List ℕ) (names : List Name) (v : WaitingFunctions) (ws : List Arrival) → AreFunctions cids names v ws → (n : Name) → AreFunctions cids (names ++ n ∷ []) v ws
+functions_named cids names v ws h n = record {
+  each = λ p within. pairs-weaken (IsFunctionAt names) (IsFunctionAt (names ++ n ∷ [])) (of_conn p v.waiting) (filter (λ (a : Arrival). connection_of a.request == get_or cids p 0) ws) (λ f a k. record { number = k.number; named = named_still names n a.event f.request k.named }) (h.each p within);
+  once = h.once;
+  room = h.room;
 }
 
 -- ---- its turn comes, or it is taken out
@@ -193,10 +222,10 @@ module _ (size room : ℕ) (names : List Name) (notes : List Note) (apart : AreA
   shown_same : shown admitted_by (item ∷ t) ≡ shown admitted_by t
   shown_same = ap (λ xs. shown admitted_by t ++ xs) turn.admits ∙ append-nil (shown admitted_by t)
 
-  pub distinct_then : AreDistinct (item ∷ t)
-  distinct_then = record {
+  pub distinct_then : waiting (item ∷ t) ≡ waiting t → AreDistinct (item ∷ t)
+  distinct_then waits = record {
     numbers = λ n. subst (λ xs. count_by (λ (x : Arrival). x.number == n) xs ≤ 1) (sym shown_same) (d.numbers n);
-    events = λ e. subst (λ xs. count_by (λ (x : Arrival). x.event == e) xs ≤ 1) (sym shown_same) (d.events e);
+    events = λ e. subst (λ ws. count_by (λ (x : Arrival). x.event == e) (shown admitted_by (item ∷ t)) + count_by (λ (x : Arrival). x.event == e) ws ≤ 1) (sym waits) (subst (λ xs. count_by (λ (x : Arrival). x.event == e) xs + count_by (λ (x : Arrival). x.event == e) (waiting t) ≤ 1) (sym shown_same) (d.events e));
   }
 
   by_shown : ℕ → Option Arrival → Bool

@@ -91,7 +91,7 @@ find_none_left p q (x ∷ xs) none = by_test (find_none_left p q xs) (p x) refl 
         by_kept true = ap (λ v. cond v (Some x) (find p (filter q xs))) is ∙ rest h
         by_kept false = rest h
 
-find_one_left : (p q : Command → Bool) (xs : List Command) (c : Command) → count_by p xs ≤ 1 → find p xs ≡ Some c → find p (filter q xs) ≡ cond (q c) (Some c) None
+pub find_one_left : (p q : Command → Bool) (xs : List Command) (c : Command) → count_by p xs ≤ 1 → find p xs ≡ Some c → find p (filter q xs) ≡ cond (q c) (Some c) None
 find_one_left p q [] c few is = absurd (let no : ⊥ = cc in no)
 find_one_left p q (x ∷ xs) c few is = by_test (find_one_left p q xs c) (p x) refl is
   where
@@ -130,7 +130,7 @@ any_kept p q (x ∷ xs) all = by_test (any_kept p q xs (λ y there. all y (inr t
     by_test rest true is false k = absurd (false≢true (sym k ∙ all x (inl refl) is))
     by_test rest false is false k = rest ∙ ap (λ u. u || list_any p xs) (sym is)
 
-filter_restaged : (keep : ℕ → Bool) (f : Command → Command) (xs : List Command) → ((c : Command) → (f c).request ≡ c.request) → map f (filter (λ (c : Command). keep c.request) xs) ≡ filter (λ (c : Command). keep c.request) (map f xs)
+pub filter_restaged : (keep : ℕ → Bool) (f : Command → Command) (xs : List Command) → ((c : Command) → (f c).request ≡ c.request) → map f (filter (λ (c : Command). keep c.request) xs) ≡ filter (λ (c : Command). keep c.request) (map f xs)
 filter_restaged keep f [] same = refl
 filter_restaged keep f (x ∷ xs) same = by_test (filter_restaged keep f xs same) (keep x.request) refl
   where
@@ -249,6 +249,12 @@ module _ (v' : Cookies) (keep : ℕ → Bool) (fs : List Action) where
 -- ---- where these uses have ended
 
 -- .. from a state in which so many uses have ended
+-- .. by the requests alone
+pub rel_is : (s : State) (acts : List Action) (xs : List (Option ℕ)) → releases xs (record { state = s; actions = acts; forgets = [] }) ≡ rel (cookies_all xs s.cookies) (keeps_all xs s.cookies) (forgets_all s.room xs s.cookies []) (record { state = s; actions = acts; forgets = [] })
+rel_is s acts xs =
+    all_released_core xs (record { state = s; actions = acts; forgets = [] })
+    ∙ ap (λ (k : Core). record { state = record s { cookies = k.cookies; commands = k.commands }; actions = acts; forgets = k.forgets }) (core_is s.room xs (record { cookies = s.cookies; commands = s.commands; forgets = [] }))
+
 module _ (s : State) (acts : List Action) (xs : List (Option ℕ)) (counted : AreCounted s.cookies) (r : Released s acts (releases xs (record { state = s; actions = acts; forgets = [] }))) where
   abbrev found : Doing
   found = record { state = s; actions = acts; forgets = [] }
@@ -264,7 +270,7 @@ module _ (s : State) (acts : List Action) (xs : List (Option ℕ)) (counted : Ar
   both_cookies : cookies_all xs s.cookies ≡ r.cookies
   both_cookies = ap (λ (d : Doing). d.state.cookies) (sym by_parts ∙ r.is)
 
-  kept_used : (c : Command) → In c s.commands.items → is_used_place s c.request ≡ true → keeps_all xs s.cookies c.request ≡ true
+  pub kept_used : (c : Command) → In c s.commands.items → is_used_place s c.request ≡ true → keeps_all xs s.cookies c.request ≡ true
   kept_used c there used =
       (in-filter (λ (x : Command). keeps_all xs s.cookies x.request) s.commands.items c
       (subst (In c) (sym both_items) (filter-in (λ (x : Command). is_used_place s x.request) s.commands.items c there used))).1

@@ -26,7 +26,7 @@ use Rattle.iscsi_ffi_rules.specs.rules.Calls.{Interface}
 use Rattle.iscsi_ffi_rules.specs.rules.Sides.{Side}
 use Rattle.iscsi_ffi_steps.specs.State.{State}
 use Rattle.iscsi_ffi_steps.specs.Walk.{on_effects}
-use Rattle.iscsi_ffi_law.specs.Arrived.{IsStepFit, effects_by, side_behind}
+use Rattle.iscsi_ffi_law.specs.Arrived.{IsStepFit, effects_by, is_late, side_behind}
 use Rattle.iscsi_ffi_law.specs.Names.{Name, Note}
 use Rattle.iscsi_ffi_law.proofs.Between.{IsBetween}
 use Rattle.iscsi_ffi_law.proofs.Moved.{run_same}
@@ -87,7 +87,7 @@ pub record GoesOn (i : Interface) (names : List Name) (notes : List Note) (s : S
   pub few : length ended ≤ length xs + 1
   pub links : SameLinks r.both.box (side_behind i r item).both.box
   pub calm : EachOf (IsCalm (side_behind i r item).both.box) (effects_by i r item)
-  pub walk : (o : OutboxState) → o.limits ≡ limits_of i.outbox → (acts : List Action) (first : Bool) (rest : List Effect) → is_led rest ≡ true
+  pub walk : (o : OutboxState) → o.limits ≡ limits_of i.outbox → (acts : List Action) (first : Bool) → (first && is_late r.both.event item) ≡ false → (rest : List Effect) → is_led rest ≡ true
       → on_effects first (effects_by i r item ++ rest) (walk_at o s acts xs own r.both.box.sent) ≡ on_effects false rest (walk_at o state acts ended None (side_behind i r item).both.box.sent)
 
 module _ (i : Interface) (names : List Name) (notes : List Note) (s : State) (r : Side) (own : Option ℕ) (xs : List (Option ℕ)) (k : IsBetween i names notes s r own xs) (item : List Mark) (fit : IsStepFit i r item) (distinct : are_distinct i.outbox.session.conns ≡ true)

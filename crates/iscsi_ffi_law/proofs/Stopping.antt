@@ -170,6 +170,7 @@ module _ (i : Interface) (s : StepsSide) (r : Side) (h : Stands i s r) (ticket :
           withheld = h.withheld;
           calm = h.calm;
           slots = h.slots;
+          functions = h.functions;
         }) fit.some (record { event = s.event; trace = s.trace; doing = release_if x (record { state = with_outbox s.state (stopped ticket s.state.outbox); actions = []; forgets = [] }) }) refl h.event h.trace
 
     -- its request is used once less

@@ -21,7 +21,7 @@ use Rattle.iscsi_outbox_law.specs.Pairs.{EachOf}
 use Rattle.iscsi_outbox_law.specs.Sound.{HasHome, IsSound, entries_of, entry_of}
 use Rattle.iscsi_outbox_law.proofs.PairLemmas.{each-weaken}
 use Rattle.iscsi_outbox_law.proofs.Stops.{stops_answered}
-use Rattle.iscsi_outbox_steps.specs.State.{State as OutboxState}
+use Rattle.iscsi_outbox_steps.specs.State.{State as OutboxState, limits_of}
 use Rattle.iscsi_outbox_steps.specs.Steps.{after_item as steps_after_item, is_running_ticket}
 use Rattle.iscsi_requests.specs.Conns.{of_conn}
 use Rattle.iscsi_ffi_commands.specs.declared.command.Command.{Command}
@@ -33,7 +33,7 @@ use Rattle.iscsi_ffi_rules.specs.rules.Calls.{Interface}
 use Rattle.iscsi_ffi_rules.specs.rules.Sides.{Side}
 use Rattle.iscsi_ffi_steps.specs.State.{State}
 use Rattle.iscsi_ffi_steps.specs.Walk.{Walk, on_effects}
-use Rattle.iscsi_ffi_law.specs.Arrived.{IsFreshCommand, IsStepFit, effects_by, side_behind}
+use Rattle.iscsi_ffi_law.specs.Arrived.{IsFreshCommand, IsStepFit, effects_by, is_late, side_behind}
 use Rattle.iscsi_ffi_law.specs.Names.{Name, Note, place_named}
 use Rattle.iscsi_ffi_law.specs.Parts.{IsCommand, IsWithin, is_named}
 use Rattle.iscsi_ffi_law.specs.Stands.{AreRequests}
@@ -137,7 +137,7 @@ module _ (i : Interface) (names : List Name) (notes : List Note) (s : State) (r 
   outbox' = steps_after_item (effects_by i r item) s.outbox
 
   abbrev state1 : State
-  state1 = record s { held = h.held; commands = commands.entered command s.commands }
+  state1 = record s { held = h.held; functions = h.functions; commands = commands.entered command s.commands }
 
   abbrev side1 : Side
   side1 = record r { both = record r.both { trace = item ∷ r.both.trace } }
@@ -149,7 +149,7 @@ module _ (i : Interface) (names : List Name) (notes : List Note) (s : State) (r 
   pending' p = ending None p + endings xs p
 
   requests1 : AreRequests names notes pending' (λ q. []) state1 side1
-  requests1 = requests_entered names notes (λ p. ending own p + endings xs p) (λ q. []) s r k.requests item c (one_enters start a void c) (leaves_no start a void c) fresh h.place named_it idle apart_handed r.both.event h.held pending'
+  requests1 = requests_entered names notes (λ p. ending own p + endings xs p) (λ q. []) s r k.requests item c (one_enters start a void c) (leaves_no start a void c) fresh h.place named_it idle apart_handed r.both.event h.held h.functions pending'
       (λ p. omega (arith, h.uses p)) h.requests h.noted
 
   all1 : AllQueued names (item ∷ r.both.trace) r.answers (λ q. of_conn q s.replies.waiting) (λ q. length (of_conn q s.noted.handed)) r.both.box.links r.both.box.undue
@@ -169,7 +169,7 @@ module _ (i : Interface) (names : List Name) (notes : List Note) (s : State) (r 
   })
 
   abbrev state' : State
-  state' = record s { held = h.held; commands = commands.entered command s.commands; outbox = steps_after_item (effects_by i r item) s.outbox }
+  state' = record s { held = h.held; functions = h.functions; commands = commands.entered command s.commands; outbox = steps_after_item (effects_by i r item) s.outbox }
 
   requests2 : AreRequests names notes pending' (λ q. []) state' (side_behind i r item)
   requests2 = subst (λ as'. AreRequests names notes pending' (λ q. []) state' (record (side_behind i r item) { answers = as' })) (sym (append-nil r.answers) ∙ ap (λ as'. r.answers ++ as') (sym (answers_plain r.both.event start a void (Some c) None)))
@@ -179,10 +179,11 @@ module _ (i : Interface) (names : List Name) (notes : List Note) (s : State) (r 
   between = record {
     requests = requests2;
     slots = h.slots;
+    functions = h.functions_are;
     outbox = stands_then i names notes s r own xs k item fit distinct sound;
     sizes = record {
       room = k.sizes.room;
-      functions = k.sizes.functions;
+      functions = h.long_functions ∙ k.sizes.functions;
       replies = k.sizes.replies;
       noted = k.sizes.noted;
       unwritten = k.sizes.unwritten;
@@ -231,11 +232,11 @@ module _ (i : Interface) (names : List Name) (notes : List Note) (s : State) (r 
       (lt-ltb c.unit s.commands.units (let units = k.counts.units in omega (arith, unit, units)))
       (le-test 1 h.place (let low = placed.low in omega (arith, low, place_is))) (le-test h.place s.commands.room (let high = placed.high in omega (arith, high, place_is))) (ap not none_of_it)
 
-  walk : (o : OutboxState) (acts : List Action) (first : Bool) (rest : List Effect) → is_led rest ≡ true
+  walk : (o : OutboxState) → o.limits ≡ limits_of i.outbox → (acts : List Action) (first : Bool) → (first && is_late r.both.event item) ≡ false → (rest : List Effect) → is_led rest ≡ true
       → on_effects first (effects_by i r item ++ rest) (walk_at o s acts xs own r.both.box.sent) ≡ on_effects false rest (walk_at o state' acts xs None (side_behind i r item).both.box.sent)
-  walk o acts first rest led =
+  walk o limits acts first late rest led =
       ap (λ es'. on_effects first (es' ++ rest) (walk_at o s acts xs own r.both.box.sent)) effects_are
-      ∙ ap (λ w. on_effects false ((void_effects void ++ (Enter c.ticket c.unit c.attr ∷ enables ns)) ++ rest) w) (h.walk o acts first r.both.box.sent)
+      ∙ ap (λ w. on_effects false ((void_effects void ++ (Enter c.ticket c.unit c.attr ∷ enables ns)) ++ rest) w) (h.walk o limits acts first r.both.box.sent late)
       ∙ ap (λ es'. on_effects false es' after_head) (append_assoc (void_effects void) (Enter c.ticket c.unit c.attr ∷ enables ns) rest)
       ∙ voids_past void (Enter c.ticket c.unit c.attr ∷ (enables ns ++ rest)) after_head
       ∙ ap (on_effects false (enables ns ++ rest)) (enters_walk o s1 acts xs c.ticket c.unit h.place command refl may h.fresh None (Some (h.by)) r.both.box.sent)
@@ -244,13 +245,13 @@ module _ (i : Interface) (names : List Name) (notes : List Note) (s : State) (r 
       ∙ ap (λ n. on_effects false rest (walk_at o state' acts xs None n)) (sym moved.sent)
     where
       s1 : State
-      s1 = record s { held = h.held }
+      s1 = record s { held = h.held; functions = h.functions }
 
       after_head : Walk
-      after_head = walk_in o (record s { held = h.held }) acts xs (Some (h.place)) None (Some (h.by)) r.both.box.sent
+      after_head = walk_in o (record s { held = h.held; functions = h.functions }) acts xs (Some (h.place)) None (Some (h.by)) r.both.box.sent
 
       after_enter : Walk
-      after_enter = walk_in o (record s { held = h.held; commands = commands.entered command s.commands }) acts xs None None (Some (h.by)) r.both.box.sent
+      after_enter = walk_in o (record s { held = h.held; functions = h.functions; commands = commands.entered command s.commands }) acts xs None None (Some (h.by)) r.both.box.sent
 
   pub goes_entered : GoesOn i names notes s r own xs (plain_item start a void (Some c) None)
   goes_entered = record {
@@ -262,5 +263,5 @@ module _ (i : Interface) (names : List Name) (notes : List Note) (s : State) (r 
     few = omega arith;
     links = subst (SameLinks r.both.box) (sym box_is) (record { long = settled.long; same = settled.same });
     calm = subst (EachOf (IsCalm (side_behind i r item).both.box)) (sym effects_are) (calm_plain i r item start a void (Some c) None ns (λ reply is. absurd (let no : ⊥ = cc in no)));
-    walk = λ o limits acts first rest led. walk o acts first rest led;
+    walk = λ o limits acts first late rest led. walk o limits acts first late rest led;
   }

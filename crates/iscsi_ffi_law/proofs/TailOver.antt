@@ -18,17 +18,18 @@ use Rattle.iscsi_outbox_law.specs.Pairs.{EachOf}
 use Rattle.iscsi_wire.specs.declared.reply.Reply.{Reply}
 use Rattle.std.specs.List.{list_any}
 use Rattle.iscsi_outbox_law.specs.Sound.{IsSound}
-use Rattle.iscsi_outbox_steps.specs.State.{State as OutboxState}
+use Rattle.iscsi_outbox_steps.specs.State.{State as OutboxState, limits_of}
 use Rattle.iscsi_outbox_steps.specs.Steps.{after_item as steps_after_item}
+use Rattle.iscsi_requests.specs.declared.functions.WaitingFunction.{WaitingFunction}
 use Rattle.iscsi_ffi_rules.specs.declared.action.Action.{Action}
 use Rattle.iscsi_ffi_rules.specs.rules.Calls.{Interface}
 use Rattle.iscsi_ffi_rules.specs.rules.Sides.{Side}
 use Rattle.iscsi_ffi_steps.specs.State.{State}
 use Rattle.iscsi_ffi_steps.specs.Walk.{Walk, on_effects}
-use Rattle.iscsi_ffi_law.specs.Arrived.{IsStepFit, effects_by, side_behind}
+use Rattle.iscsi_ffi_law.specs.Arrived.{IsStepFit, effects_by, is_late, side_behind}
 use Rattle.iscsi_ffi_law.specs.Names.{Name, Note}
 use Rattle.iscsi_ffi_law.specs.Stands.{AreRequests}
-use Rattle.iscsi_ffi_law.specs.Uses.{count_held, is_place}
+use Rattle.iscsi_ffi_law.specs.Uses.{count_functions, count_held, count_lists, is_place}
 use Rattle.iscsi_ffi_law.proofs.Between.{IsBetween, IsHeaded}
 use Rattle.iscsi_ffi_law.proofs.Core.{endings_more}
 use Rattle.iscsi_ffi_law.proofs.Moved.{IsMoved, requests_moved}
@@ -82,16 +83,16 @@ module _ (i : Interface) (names : List Name) (notes : List Note) (s : State) (r 
   xs' = xs ++ Some (h.place) ∷ []
 
   abbrev s1 : State
-  s1 = record s { held = h.held }
+  s1 = record s { held = h.held; functions = h.functions }
 
   abbrev r1 : Side
   r1 = record r { both = record r.both { trace = item ∷ r.both.trace } }
 
   abbrev state' : State
-  state' = record s { held = h.held; outbox = steps_after_item (effects_by i r item) s.outbox }
+  state' = record s { held = h.held; functions = h.functions; outbox = steps_after_item (effects_by i r item) s.outbox }
 
   requests1 : AreRequests names notes (λ p. ending None p + endings (xs ++ Some (h.place) ∷ []) p) (λ q. []) s1 r1
-  requests1 = requests_on names notes (λ p. ending own p + endings xs p) (λ q. []) s r k.requests item u r.both.event h.held (λ p. ending None p + endings (xs ++ Some (h.place) ∷ []) p)
+  requests1 = requests_on names notes (λ p. ending own p + endings xs p) (λ q. []) s r k.requests item u r.both.event h.held h.functions (λ p. ending None p + endings (xs ++ Some (h.place) ∷ []) p)
       (λ p. omega (arith, h.uses p, endings_more xs (Some (h.place)) p)) h.requests h.noted
 
   moved : IsMoved names s1 r1 (after_item i.outbox r.both.box (effects_by i r (plain_item start a void None None)))
@@ -105,20 +106,23 @@ module _ (i : Interface) (names : List Name) (notes : List Note) (s : State) (r 
       (requests_moved names notes (λ p. ending None p + endings (xs ++ Some (h.place) ∷ []) p) (λ q. []) s1 r1 requests1 outbox' (after_item i.outbox r.both.box (effects_by i r item))
       (runs_then i names notes s r own xs k item fit distinct sound (λ ticket. ap (λ (b : Box). is_running b ticket) box_same)) moved)
 
-  over : (p : ℕ) → 1 ≤ endings (xs ++ Some (h.place) ∷ []) p → count_by (is_place p) h.held.places ≡ 0
+  abbrev left_of : ℕ → ℕ
+  left_of p = count_by (is_place p) h.held.places + count_lists (λ (f : WaitingFunction). f.request == p) h.functions.waiting
+
+  over : (p : ℕ) → 1 ≤ endings (xs ++ Some (h.place) ∷ []) p → left_of p ≡ 0
   over p some = ⊎_elim
-      (λ (same : h.place ≡ p). subst (λ q. count_by (is_place q) h.held.places ≡ 0) same h.over)
+      (λ (same : h.place ≡ p). subst (λ q. left_of q ≡ 0) same h.over)
       (λ other. by_test (h.place == p) refl other)
       (cases_eq h.place p)
     where
-      by_test : (v : Bool) → (h.place == p) ≡ v → (h.place ≡ p → ⊥) → count_by (is_place p) h.held.places ≡ 0
+      by_test : (v : Bool) → (h.place == p) ≡ v → (h.place ≡ p → ⊥) → left_of p ≡ 0
       by_test true is other = absurd (other (eqb-true h.place p is))
       by_test false is other =
           let none : one (h.place == p) ≡ 0 = ap one is in
-          let before : count_held p s ≡ 0 = k.over p (omega (arith, some, none, endings_more xs (Some (h.place)) p)) in
+          let before : count_held p s + count_functions p s ≡ 0 = k.over p (omega (arith, some, none, endings_more xs (Some (h.place)) p)) in
           by_own own refl none before
         where
-          by_own : (x : Option ℕ) → own ≡ x → one (h.place == p) ≡ 0 → count_held p s ≡ 0 → count_by (is_place p) h.held.places ≡ 0
+          by_own : (x : Option ℕ) → own ≡ x → one (h.place == p) ≡ 0 → count_held p s + count_functions p s ≡ 0 → left_of p ≡ 0
           by_own None is_own none before = let nothing : ending own p ≡ 0 = ap (λ z. ending z p) is_own in omega (arith, h.uses p, none, before, nothing)
           by_own (Some q) is_own none before = absurd (let first : endings xs p ≡ 0 = ap (λ ys. endings ys p) (k.own_first q is_own) in let no : ⊥ = omega (arith, some, none, first, endings_more xs (Some (h.place)) p) in no)
 
@@ -126,10 +130,11 @@ module _ (i : Interface) (names : List Name) (notes : List Note) (s : State) (r 
   between = record {
     requests = requests2;
     slots = h.slots;
+    functions = h.functions_are;
     outbox = stands_then i names notes s r own xs k item fit distinct sound;
     sizes = record {
       room = k.sizes.room;
-      functions = k.sizes.functions;
+      functions = h.long_functions ∙ k.sizes.functions;
       replies = k.sizes.replies;
       noted = k.sizes.noted;
       unwritten = k.sizes.unwritten;
@@ -149,11 +154,11 @@ module _ (i : Interface) (names : List Name) (notes : List Note) (s : State) (r 
     own_first = λ p none. absurd (let no : ⊥ = cc in no);
   }
 
-  walk : (o : OutboxState) (acts : List Action) (first : Bool) (rest : List Effect) → is_led rest ≡ true
+  walk : (o : OutboxState) → o.limits ≡ limits_of i.outbox → (acts : List Action) (first : Bool) → (first && is_late r.both.event item) ≡ false → (rest : List Effect) → is_led rest ≡ true
       → on_effects first (effects_by i r item ++ rest) (walk_at o s acts xs own r.both.box.sent) ≡ on_effects false rest (walk_at o state' acts (xs ++ Some (h.place) ∷ []) None (side_behind i r item).both.box.sent)
-  walk o acts first rest led =
+  walk o limits acts first late rest led =
       ap (λ es. on_effects first (es ++ rest) (walk_at o s acts xs own r.both.box.sent)) effects_are
-      ∙ ap (λ w. on_effects false ((void_effects void ++ []) ++ rest) w) (h.walk o acts first r.both.box.sent)
+      ∙ ap (λ w. on_effects false ((void_effects void ++ []) ++ rest) w) (h.walk o limits acts first r.both.box.sent late)
       ∙ ap (λ es. on_effects false (es ++ rest) after_head) (append-nil (void_effects void))
       ∙ voids_past void rest after_head
       ∙ led_end rest led after_head
@@ -173,5 +178,5 @@ module _ (i : Interface) (names : List Name) (notes : List Note) (s : State) (r 
     few = (let long = length-append xs (Some (h.place) ∷ []) in omega (arith, long));
     links = links_unmoved r.both.box (after_item i.outbox r.both.box (effects_by i r item)) box_same;
     calm = subst (EachOf (IsCalm (side_behind i r item).both.box)) (sym effects_are) (calm_plain i r item start a void None None [] (λ reply is. absurd (let no : ⊥ = cc in no)));
-    walk = λ o limits acts first rest led. walk o acts first rest led;
+    walk = λ o limits acts first late rest led. walk o limits acts first late rest led;
   }

@@ -8,7 +8,7 @@ use Rattle.iscsi_wire.specs.Fields.{connection_of}
 use Rattle.iscsi_history.specs.declared.effect.Effect.{Effect}
 use Rattle.iscsi_history.specs.declared.effect.Effect.TheVariants.{Send}
 use Rattle.iscsi_history.specs.rules.Settings.{are_distinct}
-use Rattle.iscsi_history.specs.rules.Trace.{Arrival, Mark, Sends, first_of}
+use Rattle.iscsi_history.specs.rules.Trace.{Arrival, Mark, Sends, first_of, waiting}
 use Rattle.iscsi_history.specs.rules.Run.{stat_sn_of}
 use Rattle.iscsi_history.proofs.BoolLemmas.{and_parts}
 use Rattle.iscsi_history.proofs.CountLemmas.{one}
@@ -30,22 +30,25 @@ use Rattle.iscsi_requests.specs.Conns.{of_conn}
 use Rattle.iscsi_requests.specs.Replies.{pushed}
 use Rattle.iscsi_ffi_rules.specs.declared.action.Action.{Action}
 use Rattle.iscsi_ffi_rules.specs.rules.Calls.{Interface}
+use Rattle.iscsi_ffi_rules.specs.rules.Run.{cids}
 use Rattle.iscsi_ffi_rules.specs.rules.Sides.{Side}
 use Rattle.iscsi_ffi_steps.specs.State.{State}
 use Rattle.iscsi_ffi_steps.specs.Walk.{Walk, may_wait, on_effect, on_effects}
-use Rattle.iscsi_ffi_law.specs.Arrived.{AreDistinct, IsSendFit, IsStepFit, effects_by, side_behind}
+use Rattle.iscsi_ffi_law.specs.Arrived.{AreDistinct, IsSendFit, IsStepFit, effects_by, is_late, side_behind}
 use Rattle.iscsi_ffi_law.specs.Names.{Name, Note, place_named}
 use Rattle.iscsi_ffi_law.specs.Stands.{AreRequests}
-use Rattle.iscsi_ffi_law.specs.Uses.{count_held, is_place}
+use Rattle.iscsi_ffi_law.specs.Uses.{count_functions, count_held, count_lists, is_place}
 use Rattle.iscsi_ffi_law.proofs.Between.{IsBetween, IsHeaded, distinct_same, held_same}
 use Rattle.iscsi_ffi_law.proofs.DoneShape.{enables}
 use Rattle.iscsi_ffi_law.proofs.QuietItems.{IsUnheld, is_held_on}
 use Rattle.iscsi_ffi_law.proofs.Slots.{slots_same}
 use Rattle.iscsi_outbox_law.specs.Pairs.{EachOf}
 use Rattle.iscsi_outbox_law.proofs.PairLemmas.{each-weaken}
+use Rattle.iscsi_requests.specs.Functions.{WaitingFunctions}
+use Rattle.iscsi_requests.specs.declared.functions.WaitingFunction.{WaitingFunction}
 use Rattle.iscsi_requests.specs.Numbers.{HeldNumbers, size_for}
 use Rattle.iscsi_wire.specs.declared.request.Request.{Request}
-use Rattle.iscsi_ffi_law.specs.Parts.{AreHeld, IsNote, IsRequest}
+use Rattle.iscsi_ffi_law.specs.Parts.{AreFunctions, AreHeld, IsNote, IsRequest}
 use Rattle.iscsi_ffi_rules.specs.rules.Happening.{answers_in}
 use Rattle.iscsi_ffi_rules.specs.declared.action.StopReason.{StopReason}
 use Rattle.iscsi_ffi_law.proofs.QuietBox.{IsQuietPart}
@@ -66,16 +69,17 @@ use Rattle.iscsi_ffi_law.proofs.Walking.{is_led, led_end, sends_walk, walk_at, w
 
 -- uses that have ended in an event are of requests that aren't held, also where the one that executes isn't any more
 pub over_still : (i : Interface) (names : List Name) (notes : List Note) (s : State) (r : Side) (own : Option ℕ) (xs : List (Option ℕ)) (k : IsBetween i names notes s r own xs) (item : List Mark) (start : Start) (a : Arrival) (h : IsHeaded i names notes s r own xs item start a)
-    → (p : ℕ) → 1 ≤ endings xs p → count_by (is_place p) h.held.places ≡ 0
+    → (p : ℕ) → 1 ≤ endings xs p → count_by (is_place p) h.held.places + count_lists (λ (f : WaitingFunction). f.request == p) h.functions.waiting ≡ 0
 over_still i names notes s r own xs k item start a h p some = by_own own refl
   where
-    by_own : (x : Option ℕ) → own ≡ x → count_by (is_place p) h.held.places ≡ 0
+    by_own : (x : Option ℕ) → own ≡ x → count_by (is_place p) h.held.places + count_lists (λ (f : WaitingFunction). f.request == p) h.functions.waiting ≡ 0
     by_own None is = let nothing : ending own p ≡ 0 = ap (λ z. ending z p) is in let before = k.over p some in omega (arith, h.uses p, nothing, before)
     by_own (Some q) is = absurd (let first : endings xs p ≡ 0 = ap (λ ys. endings ys p) (k.own_first q is) in let no : ⊥ = omega (arith, some, first) in no)
 
 -- a request is answered by the item: it has a use that isn't any yet, which comes to be that of its reply
 pub record IsAnswering (i : Interface) (names : List Name) (notes : List Note) (s : State) (r : Side) (own : Option ℕ) (xs : List (Option ℕ)) (item : List Mark) (x : Option Request) (cid event : ℕ) (reply : Reply) : Type 0 where
   pub held : HeldNumbers
+  pub functions : WaitingFunctions
   pub place : ℕ
   pub sn : ℕ
   pub effects : List Effect
@@ -87,17 +91,19 @@ pub record IsAnswering (i : Interface) (names : List Name) (notes : List Note) (
   pub part : IsQuietPart effects x (Some (cid, reply))
   pub answers : answers_in r.both.event item ≡ event ∷ []
   pub long : length held.places ≡ length s.held.places
+  pub long_functions : length functions.waiting ≡ length s.functions.waiting
+  pub functions_are : AreFunctions (cids i) names functions (waiting (item ∷ r.both.trace))
   pub named : place_named names event ≡ Some place
-  pub uses : (p : ℕ) → count_by (is_place p) held.places + (one (place == p) + endings xs p) ≡ count_held p s + (ending own p + endings xs p)
-  pub requests : EachOf (IsRequest (record s { held = held }) (item ∷ r.both.trace)) names
-  pub noted : EachOf (IsNote (record s { held = held }) r.both.box.links) notes
+  pub uses : (p : ℕ) → count_by (is_place p) held.places + count_lists (λ (f : WaitingFunction). f.request == p) functions.waiting + (one (place == p) + endings xs p) ≡ count_held p s + count_functions p s + (ending own p + endings xs p)
+  pub requests : EachOf (IsRequest (record s { held = held; functions = functions }) (item ∷ r.both.trace)) names
+  pub noted : EachOf (IsNote (record s { held = held; functions = functions }) r.both.box.links) notes
   pub slots : AreHeld (size_for i.outbox.session.window) s.commands.room names held (item ∷ r.both.trace)
   pub distinct : AreDistinct (item ∷ r.both.trace)
-  pub over : (p : ℕ) → 1 ≤ endings xs p → count_by (is_place p) held.places ≡ 0
+  pub over : (p : ℕ) → 1 ≤ endings xs p → count_by (is_place p) held.places + count_lists (λ (f : WaitingFunction). f.request == p) functions.waiting ≡ 0
   pub calm : (b : Box) → list_any (λ (l : Link). l.conn == cid && takes_more l) b.links ≡ true → EachOf (IsCalm b) effects
   pub of_it : ◌≡◌ {A = Option ℕ} (elim current [ Some q ↦ Some q | None ↦ own_then ]) (Some place)
-  pub walk : (o : OutboxState) (acts : List Action) (first : Bool) (rest : List Effect) (sent : ℕ)
-      → on_effects first (effects ++ rest) (walk_at o s acts xs own sent) ≡ on_effects false rest (on_effect false (Send cid sn reply) (walk_in o (record s { held = held }) acts xs current own_then by sent))
+  pub walk : (o : OutboxState) → o.limits ≡ limits_of i.outbox → (acts : List Action) (first : Bool) → (first && is_late r.both.event item) ≡ false → (rest : List Effect) (sent : ℕ)
+      → on_effects first (effects ++ rest) (walk_at o s acts xs own sent) ≡ on_effects false rest (on_effect false (Send cid sn reply) (walk_in o (record s { held = held; functions = functions }) acts xs current own_then by sent))
 
 module _ (i : Interface) (names : List Name) (notes : List Note) (s : State) (r : Side) (own : Option ℕ) (xs : List (Option ℕ)) (k : IsBetween i names notes s r own xs) (item : List Mark) (x : Option Request) (cid event : ℕ) (reply : Reply)
     (fit : IsStepFit i r item) (distinct : are_distinct i.outbox.session.conns ≡ true) (sound : IsSound i.outbox (side_behind i r item).both.box) (h : IsAnswering i names notes s r own xs item x cid event reply) where
@@ -141,7 +147,7 @@ module _ (i : Interface) (names : List Name) (notes : List Note) (s : State) (r 
   outbox' = steps_after_item (effects_by i r item) s.outbox
 
   abbrev s1 : State
-  s1 = record s { held = h.held }
+  s1 = record s { held = h.held; functions = h.functions }
 
   abbrev r1 : Side
   r1 = record r { both = record r.both { trace = item ∷ r.both.trace } }
@@ -150,7 +156,7 @@ module _ (i : Interface) (names : List Name) (notes : List Note) (s : State) (r 
   pending1 q = one (h.place == q) + endings xs q
 
   requests1 : AreRequests names notes pending1 (λ q. []) s1 r1
-  requests1 = requests_on names notes (λ q. ending own q + endings xs q) (λ q. []) s r k.requests item h.untouched r.both.event h.held pending1 (λ q. omega (arith, h.uses q)) h.requests h.noted
+  requests1 = requests_on names notes (λ q. ending own q + endings xs q) (λ q. []) s r k.requests item h.untouched r.both.event h.held h.functions pending1 (λ q. omega (arith, h.uses q)) h.requests h.noted
 
   replied : IsReplied names s1 r1 event there.place h.place (after_item i.outbox r.both.box (effects_by i r item))
   replied = subst (IsReplied names s1 r1 event there.place h.place) (sym box_is)
@@ -162,7 +168,7 @@ module _ (i : Interface) (names : List Name) (notes : List Note) (s : State) (r 
       ∙ ap (λ ts. is_running (record r.both.box { tasks = ts }) ticket) (settled_tasks i.outbox [] sent_box.undue sent_box ∙ sent_tasks i.outbox x (Some (cid, reply)) r.both.box)
 
   abbrev state' : State
-  state' = record s { held = h.held; outbox = steps_after_item (effects_by i r item) s.outbox; replies = pushed there.place (record { log_place = r.both.box.sent; request = h.place }) s.replies }
+  state' = record s { held = h.held; functions = h.functions; outbox = steps_after_item (effects_by i r item) s.outbox; replies = pushed there.place (record { log_place = r.both.box.sent; request = h.place }) s.replies }
 
   requests2 : AreRequests names notes (λ q. ending None q + endings xs q) (λ q. []) state' (side_behind i r item)
   requests2 = subst (λ as'. AreRequests names notes (λ q. ending None q + endings xs q) (λ q. []) state' (record (side_behind i r item) { answers = r.answers ++ as' })) (sym h.answers)
@@ -173,10 +179,11 @@ module _ (i : Interface) (names : List Name) (notes : List Note) (s : State) (r 
   between = record {
     requests = requests2;
     slots = h.slots;
+    functions = h.functions_are;
     outbox = stands_then i names notes s r own xs k item fit distinct sound;
     sizes = record {
       room = k.sizes.room;
-      functions = k.sizes.functions;
+      functions = h.long_functions ∙ k.sizes.functions;
       replies = length-set s.replies.waiting there.place (of_conn there.place s.replies.waiting ++ record { log_place = r.both.box.sent; request = h.place } ∷ []) ∙ k.sizes.replies;
       noted = k.sizes.noted;
       unwritten = k.sizes.unwritten;
@@ -198,14 +205,14 @@ module _ (i : Interface) (names : List Name) (notes : List Note) (s : State) (r 
 
   may : may_wait r.both.box.sent s.replies ≡ true
   may = may_wait_more i names notes pending1 (λ q. []) s1 r1 requests1 k.outbox
-      (record { room = k.sizes.room; functions = k.sizes.functions; replies = k.sizes.replies; noted = k.sizes.noted; unwritten = k.sizes.unwritten; noted_room = k.sizes.noted_room; unwritten_room = k.sizes.unwritten_room; replies_room = k.sizes.replies_room; slots = (let l = h.long in let some = k.sizes.slots in omega (arith, l, some)); few = k.sizes.few })
+      (record { room = k.sizes.room; functions = h.long_functions ∙ k.sizes.functions; replies = k.sizes.replies; noted = k.sizes.noted; unwritten = k.sizes.unwritten; noted_room = k.sizes.noted_room; unwritten_room = k.sizes.unwritten_room; replies_room = k.sizes.replies_room; slots = (let l = h.long in let some = k.sizes.slots in omega (arith, l, some)); few = k.sizes.few })
       sends.sent sends.replies
 
-  walk : (o : OutboxState) → o.limits ≡ limits_of i.outbox → (acts : List Action) (first : Bool) (rest : List Effect) → is_led rest ≡ true
+  walk : (o : OutboxState) → o.limits ≡ limits_of i.outbox → (acts : List Action) (first : Bool) → (first && is_late r.both.event item) ≡ false → (rest : List Effect) → is_led rest ≡ true
       → on_effects first (effects_by i r item ++ rest) (walk_at o s acts xs own r.both.box.sent) ≡ on_effects false rest (walk_at o state' acts xs None (side_behind i r item).both.box.sent)
-  walk o limits acts first rest led =
+  walk o limits acts first late rest led =
       ap (λ es. on_effects first (es ++ rest) (walk_at o s acts xs own r.both.box.sent)) h.effects_are
-      ∙ h.walk o acts first rest r.both.box.sent
+      ∙ h.walk o limits acts first late rest r.both.box.sent
       ∙ ap (on_effects false rest)
       (sends_walk o s1 acts xs cid h.sn there.place h.place reply h.current h.own_then h.by r.both.box.sent (places_same i names notes s r own xs k item fit distinct sound o limits cid ∙ place_is) h.of_it may
       (let lt = sends.sent in omega (arith, lt)))
@@ -228,7 +235,7 @@ module _ (i : Interface) (names : List Name) (notes : List Note) (s : State) (r 
     few = omega arith;
     links = same_links;
     calm = subst (EachOf (IsCalm (side_behind i r item).both.box)) (sym h.effects_are) (h.calm (side_behind i r item).both.box (all_calm_on r.both.box (side_behind i r item).both.box same_links (Send cid h.sn reply ∷ []) (sends.takes, tt)).0);
-    walk = λ o limits acts first rest led. walk o limits acts first rest led;
+    walk = λ o limits acts first late rest led. walk o limits acts first late rest led;
   }
 
 -- ---- a request that executes
@@ -246,6 +253,7 @@ module _ (i : Interface) (names : List Name) (notes : List Note) (s : State) (r 
   pub executed_answering : IsAnswering i names notes s r own xs (plain_item start a void None (Some reply)) (Some (a.request)) (connection_of a.request) a.event reply
   executed_answering = record {
     held = h.held;
+    functions = h.functions;
     place = h.place;
     sn = number;
     effects = plain_effects number start a void None (Some reply) [];
@@ -258,6 +266,8 @@ module _ (i : Interface) (names : List Name) (notes : List Note) (s : State) (r 
     part = quiet_plain number start a void (Some reply);
     answers = answers_plain r.both.event start a void None (Some reply);
     long = h.long;
+    long_functions = h.long_functions;
+    functions_are = h.functions_are;
     named = h.named;
     uses = h.uses;
     requests = h.requests;
@@ -267,10 +277,10 @@ module _ (i : Interface) (names : List Name) (notes : List Note) (s : State) (r 
     over = over_still i names notes s r own xs k (plain_item start a void None (Some reply)) start a h;
     calm = λ b takes. each_plain (IsCalm b) number start a void None (Some reply) [] (first_calm b start) (λ n. tt) (λ c. tt) (λ x is. takes) (λ q u. tt);
     of_it = refl;
-    walk = λ o acts first rest sent.
-        ap (λ w. on_effects false ((void_effects void ++ (Send (connection_of a.request) number reply ∷ [])) ++ rest) w) (h.walk o acts first sent)
-        ∙ ap (λ es. on_effects false es (walk_in o (record s { held = h.held }) acts xs (Some (h.place)) None (Some (h.by)) sent)) (append_assoc (void_effects void) (Send (connection_of a.request) number reply ∷ []) rest)
-        ∙ voids_past void (Send (connection_of a.request) number reply ∷ rest) (walk_in o (record s { held = h.held }) acts xs (Some (h.place)) None (Some (h.by)) sent);
+    walk = λ o limits acts first late rest sent.
+        ap (λ w. on_effects false ((void_effects void ++ (Send (connection_of a.request) number reply ∷ [])) ++ rest) w) (h.walk o limits acts first sent late)
+        ∙ ap (λ es. on_effects false es (walk_in o (record s { held = h.held; functions = h.functions }) acts xs (Some (h.place)) None (Some (h.by)) sent)) (append_assoc (void_effects void) (Send (connection_of a.request) number reply ∷ []) rest)
+        ∙ voids_past void (Send (connection_of a.request) number reply ∷ rest) (walk_in o (record s { held = h.held; functions = h.functions }) acts xs (Some (h.place)) None (Some (h.by)) sent);
   }
 
 -- ---- one that is rejected for its opcode
@@ -288,6 +298,7 @@ module _ (i : Interface) (names : List Name) (notes : List Note) (s : State) (r 
   pub rejected_answering : IsAnswering i names notes s r (Some place) xs (Sends cid reply ∷ []) None cid r.both.event reply
   rejected_answering = record {
     held = s.held;
+    functions = s.functions;
     place = place;
     sn = stat_sn_of i.outbox.session r.both.trace cid;
     effects = Send cid (stat_sn_of i.outbox.session r.both.trace cid) reply ∷ [];
@@ -299,14 +310,16 @@ module _ (i : Interface) (names : List Name) (notes : List Note) (s : State) (r 
     part = record { enables = refl; left = refl; entries = refl; entering = λ x. refl; closing = λ links. refl; executes = refl; sends = refl };
     answers = refl;
     long = refl;
+    long_functions = refl;
+    functions_are = k.functions;
     named = k.own_named place refl;
     uses = λ p. omega arith;
     requests = each-weaken (IsRequest s r.both.trace) (IsRequest s (rejection ∷ r.both.trace)) names (λ n e. record { held = is_held_on r.both.trace rejection v n.event ∙ e.held; waiting = e.waiting }) k.requests.named;
     noted = k.requests.noted_apart;
     slots = slots_same (size_for i.outbox.session.window) s.commands.room names s.held r.both.trace (rejection ∷ r.both.trace) (held_same r.both.trace rejection v) k.slots;
-    distinct = distinct_same r.both.trace rejection v k.distinct;
+    distinct = distinct_same r.both.trace rejection v (λ e. omega arith) k.distinct;
     over = λ p some. k.over p some;
     calm = λ b takes. (takes, tt);
     of_it = refl;
-    walk = λ o acts first rest sent. refl;
+    walk = λ o limits acts first late rest sent. refl;
   }

@@ -1,5 +1,6 @@
 -- The items of an event by which a request arrives: what the first one is, and that those behind it are due by it.
-use Rattle.std.proofs.Common.{◌≡◌, ℕ, zero, suc, ◌+◌, ◌-◌, ◌==◌, ◌&&◌, ◌||◌, not, cond, Bool, true, false, List, [], ◌∷◌, ◌++◌, filter, Option, Some, None, refl, ap, ◌∙◌, nat_lt, nat_le}
+use Rattle.std.proofs.Common.{◌≡◌, ℕ, zero, suc, ◌+◌, ◌-◌, ◌<◌, ◌==◌, ◌&&◌, ◌||◌, ⊎_elim, not, cond, Bool, true, false, List, [], ◌∷◌, ◌++◌, filter, Option, Some, None, refl, ap, sym, ◌∙◌, nat_lt, nat_le}
+use Rattle.std.proofs.lemmas.Bool.{cases_lt, false≢true, le-leb}
 use Rattle.iscsi_wire.specs.declared.reply.Reply.{Reply}
 use Rattle.iscsi_wire.specs.declared.reply.Reply.TheVariants.{Reject, Task}
 use Rattle.iscsi_wire.specs.Fields.{connection_of, header_of, is_immediate, itt, opcode}
@@ -73,7 +74,7 @@ module _ (o : Setting) where
     IsRejected : items ≡ rejected a ∷ [] → Becomes t a items
     IsReceived : (rest : List (List Mark)) → is_immediate a.request ≡ false → is_received t a.number ≡ false → items ≡ (Admits a ∷ []) ∷ rest → AreDue ((Admits a ∷ []) ∷ t) rest → Becomes t a items
     IsExecuted : (d : Deeds) (rest : List (List Mark)) → is_immediate a.request ≡ true → IsDone o t AtArrival a d → items ≡ (Executes a ∷ marks_done a d) ∷ rest → AreDue ((Executes a ∷ marks_done a d) ∷ t) rest → Becomes t a items
-    IsPostponed : (rest : List (List Mark)) → is_immediate a.request ≡ true → items ≡ (Waits a ∷ []) ∷ rest → AreDue ((Waits a ∷ []) ∷ t) rest → Becomes t a items
+    IsPostponed : (rest : List (List Mark)) → is_immediate a.request ≡ true → waiting_on (connection_of a.request) t < MOST_WAITING → items ≡ (Waits a ∷ []) ∷ rest → AreDue ((Waits a ∷ []) ∷ t) rest → Becomes t a items
 
   turns : (t : Trace) (item : List Mark) → AreDue (item ∷ t) (agenda o (exp_of o t) (exp_of o (item ∷ t) - exp_of o t) (item ∷ t))
   turns t item = agenda_due (exp_of o t) (exp_of o (item ∷ t) - exp_of o t) (item ∷ t)
@@ -86,20 +87,20 @@ module _ (o : Setting) where
 
   data AtOnce (t : Trace) (a : Arrival) (item : List Mark) : Type 0 where
     Now : Starts t a item → AtOnce t a item
-    Later : item ≡ Waits a ∷ [] → AtOnce t a item
+    Later : waiting_on (connection_of a.request) t < MOST_WAITING → item ≡ Waits a ∷ [] → AtOnce t a item
 
   starts : (t : Trace) (a : Arrival) (ms : List Mark) → Does o t AtArrival a ms → AtOnce t a (Executes a ∷ ms)
   starts t a ms d = Now (record { deeds = d.deeds; is = ap (λ xs. Executes a ∷ xs) d.is; done = d.done })
 
   waiting_once : (t : Trace) (a : Arrival) → AtOnce t a (waiting_item o t a)
-  waiting_once t a = by_tests (nat_lt (max_of o t + 1) a.number) (nat_lt (exp_of o t) a.number) (nat_le MOST_WAITING (waiting_on (connection_of a.request) t))
+  waiting_once t a = by_tests (nat_lt (max_of o t + 1) a.number) (nat_lt (exp_of o t) a.number) (nat_le MOST_WAITING (waiting_on (connection_of a.request) t)) refl
     where
-      by_tests : (b c d : Bool)
+      by_tests : (b c d : Bool) → nat_le MOST_WAITING (waiting_on (connection_of a.request) t) ≡ d
           → AtOnce t a (cond b (Executes a ∷ reply_on a (Task (itt a.request) 255)) (cond (not c) (execution o t (Executes a) a) (cond d (Executes a ∷ reply_on a (Reject 6 (header_of a.request))) (Waits a ∷ []))))
-      by_tests true c d = starts t a _ (does_reply o t AtArrival a (Task (itt a.request) 255) refl)
-      by_tests false false d = starts t a _ (does_after o t AtArrival a)
-      by_tests false true true = starts t a _ (does_reply o t AtArrival a (Reject 6 (header_of a.request)) refl)
-      by_tests false true false = Later refl
+      by_tests true c d is = starts t a _ (does_reply o t AtArrival a (Task (itt a.request) 255) refl)
+      by_tests false false d is = starts t a _ (does_after o t AtArrival a)
+      by_tests false true true is = starts t a _ (does_reply o t AtArrival a (Reject 6 (header_of a.request)) refl)
+      by_tests false true false is = Later (⊎_elim (λ few. few) (λ many. absurd (false≢true (sym is ∙ le-leb MOST_WAITING (waiting_on (connection_of a.request) t) many))) (cases_lt (waiting_on (connection_of a.request) t) MOST_WAITING)) refl
 
   immediate_once : (t : Trace) (a : Arrival) → AtOnce t a (immediate_item o t a)
   immediate_once t a = by_tests (opcode a.request == 0x02 && may_wait a.request) (refusal_of_function o a.request)
@@ -119,8 +120,8 @@ module _ (o : Setting) where
           elim_is : (x y : List Mark) → x ≡ y → IsDone o t AtArrival a s.deeds → (d : Deeds) → y ≡ Executes a ∷ marks_done a s.deeds → Becomes t a (with_turns o t x)
           elim_is x y xy done d yd =
               IsExecuted s.deeds (agenda o (exp_of o t) (exp_of o ((Executes a ∷ marks_done a s.deeds) ∷ t) - exp_of o t) ((Executes a ∷ marks_done a s.deeds) ∷ t)) is done (ap (with_turns o t) (xy ∙ yd)) (turns t (Executes a ∷ marks_done a s.deeds))
-      by_item item same (Later waits) =
-          IsPostponed (agenda o (exp_of o t) (exp_of o ((Waits a ∷ []) ∷ t) - exp_of o t) ((Waits a ∷ []) ∷ t)) is (ap (with_turns o t) waits) (turns t (Waits a ∷ []))
+      by_item item same (Later few waits) =
+          IsPostponed (agenda o (exp_of o t) (exp_of o ((Waits a ∷ []) ∷ t) - exp_of o t) ((Waits a ∷ []) ∷ t)) is few (ap (with_turns o t) waits) (turns t (Waits a ∷ []))
 
   numbered_becomes : (t : Trace) (a : Arrival) → is_immediate a.request ≡ false → Becomes t a (numbered o t a)
   numbered_becomes t a is =

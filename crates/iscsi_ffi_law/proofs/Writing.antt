@@ -241,6 +241,7 @@ module _ (i : Interface) (s : StepsSide) (r : Side) (h : Stands i s r) (cid : â„
           withheld = h.withheld;
           calm = h.calm;
           slots = h.slots;
+          functions = h.functions;
         }) fit.some (record { event = s.event; trace = s.trace; doing = release_if x (record { state = s'; actions = []; forgets = [] }) }) refl h.event h.trace
 
   -- ---- all of it

@@ -1,17 +1,18 @@
 -- What is premised of a request that is taken: of the rules' side alone.
-use Rattle.std.specs.Prelude.{◌≡◌, ◌<◌, ◌≤◌, ◌-◌, ◌^◌, ◌==◌, ◌&&◌, ◌||◌, ℕ, Bool, true, false, count_by, length, Some, None, List, [], ◌∷◌, ◌++◌}
-use Rattle.std.specs.List.{filter_map, list_all, list_any}
+use Rattle.std.specs.Prelude.{◌≡◌, ◌<◌, ◌≤◌, ◌+◌, ◌-◌, ◌^◌, ◌==◌, ◌&&◌, ◌||◌, not, ℕ, Bool, true, false, count_by, length, Some, List, [], ◌∷◌, ◌++◌}
+use Rattle.std.specs.List.{filter_map, find, list_all, list_any}
 use Rattle.iscsi_wire.specs.declared.reply.Reply.{Reply}
-use Rattle.iscsi_wire.specs.Fields.{cmd_sn, request_of}
+use Rattle.iscsi_wire.specs.Fields.{cmd_sn, connection_of, request_of}
 use Rattle.iscsi_wire.specs.Serial.{wire}
 use Rattle.iscsi_history.specs.declared.effect.Effect.{Effect}
 use Rattle.iscsi_history.specs.declared.event.Event.TheVariants.{Arrive}
 use Rattle.iscsi_history.specs.rules.Agenda.{arrival_of, items_of}
 use Rattle.iscsi_history.specs.rules.Execution.{exp_of}
+use Rattle.iscsi_history.specs.rules.Management.{MOST_WAITING, waiting_on}
 use Rattle.iscsi_history.specs.rules.Settings.{Setting}
 use Rattle.iscsi_requests.specs.Numbers.{IsInWindow, size_for}
 use Rattle.iscsi_history.specs.rules.Run.{effects_of_item, entry_of}
-use Rattle.iscsi_history.specs.rules.Trace.{Admits, Arrival, ClosesConn, ClosesSession, Command, Empties, Executes, Leaves, Mark, Trace, Waits, enters, entered, first_of, has, held, is_among, is_delivered, is_emptied, leaves_ticket, shown, waiting}
+use Rattle.iscsi_history.specs.rules.Trace.{Admits, Arrival, ClosesConn, ClosesSession, Command, Empties, Executes, Leaves, Mark, Trace, enters, entered, first_of, has, held, is_among, is_delivered, is_emptied, leaves_ticket, live, shown, waiting}
 use Rattle.iscsi_outbox_rules.specs.promises.Room.{Fits, places}
 use Rattle.iscsi_outbox_rules.specs.rules.Boxes.{Box, Handed, Link}
 use Rattle.iscsi_outbox_rules.specs.rules.Calls as outbox
@@ -23,12 +24,12 @@ use Rattle.iscsi_outbox_rules.specs.rules.Words.{contains, is_running, replies_w
 use Rattle.iscsi_outbox_law.specs.Pairs.{EachOf}
 use Rattle.iscsi_outbox_law.specs.Sound.{IsItemSound, IsSound, NoneIsFresh}
 use Rattle.iscsi_ffi_rules.specs.rules.Calls.{Interface}
-use Rattle.iscsi_ffi_rules.specs.rules.Clearing.{is_withheld, next_withheld}
-use Rattle.iscsi_ffi_rules.specs.rules.Happening.{answers_in, happening, live_with, stepped}
+use Rattle.iscsi_ffi_rules.specs.rules.Happening.{answers_in, happening, stepped}
 use Rattle.iscsi_ffi_rules.specs.rules.Needs.{admitted_by}
 use Rattle.iscsi_ffi_rules.specs.rules.Run.{heard_in, tag_heard, word_at}
 use Rattle.iscsi_ffi_rules.specs.rules.Sides.{Asked, Side}
 use Rattle.iscsi_ffi_steps.specs.State.{State}
+use Rattle.iscsi_ffi_law.specs.Done.{AreDoneFit, IsRegular}
 use Rattle.iscsi_ffi_law.specs.Fit.{IsFit}
 use Rattle.iscsi_ffi_law.specs.Parts.{IsBefore}
 
@@ -40,10 +41,10 @@ pub record AreBefore (r : Side) : Type 0 where
   pub admitted : EachOf (λ (a : Arrival). a.event < r.both.event) (shown admitted_by r.both.trace)
   pub waiting : EachOf (λ (a : Arrival). a.event < r.both.event) (waiting r.both.trace)
 
--- no number is received twice, and no event has two arrivals
+-- no number is received twice, and no event has two arrivals: one that is received, or a function that waits
 pub record AreDistinct (t : Trace) : Type 0 where
   pub numbers : (n : ℕ) → count_by (λ (a : Arrival). a.number == n) (shown admitted_by t) ≤ 1
-  pub events : (e : ℕ) → count_by (λ (a : Arrival). a.event == e) (shown admitted_by t) ≤ 1
+  pub events : (e : ℕ) → count_by (λ (a : Arrival). a.event == e) (shown admitted_by t) + count_by (λ (a : Arrival). a.event == e) (waiting t) ≤ 1
 
 -- a request that is received: its number lies in the window, as those of the others that are held, and was never taken
 pub record IsReceivable (o : Setting) (t : Trace) (a : Arrival) : Type 0 where
@@ -79,11 +80,16 @@ pub record IsFreshCommand (r : Side) (c : Command) : Type 0 where
 abbrev pub effects_by : Interface → Side → List Mark → List Effect
 effects_by i r item = effects_of_item i.outbox.session r.both.trace item
 
+-- a function that has waited, in an earlier event, is the first that waits on its connection with its number
+abbrev pub is_first_waiting : Trace → Arrival → Type 0
+is_first_waiting t a = find (λ (b : Arrival). connection_of b.request == connection_of a.request && cmd_sn b.request == cmd_sn a.request) (waiting t) ≡ Some a
+
 -- so it is before each item, with the trace and the box that the items before it left
 pub record IsStepFit (i : Interface) (r : Side) (item : List Mark) : Type 0 where
   pub fit : IsItemFit i.outbox r.both.box (effects_by i r item)
   pub sends : (conn : ℕ) (reply : Reply) → first_of (filter_map reply_sent (effects_by i r item)) ≡ Some (conn, reply) → IsSendFit i.outbox r.both.box conn
   pub enters : (c : Command) → filter_map enters item ≡ c ∷ [] → IsFreshCommand r c
+  pub waited : (a : Arrival) → first_of item ≡ Some (Executes a) → list_any (λ (b : Arrival). b.event == a.event) (waiting r.both.trace) ≡ true → ((a.event == r.both.event) ≡ false) × is_first_waiting r.both.trace a
 
 -- the side behind an item
 abbrev pub side_behind : Interface → Side → List Mark → Side
@@ -109,18 +115,32 @@ items_then i r cid header = items_of i.outbox.session r.both.event r.both.trace 
 abbrev pub arrived : Interface → Side → ℕ → List ℕ → Arrival
 arrived i r cid header = arrival_of i.outbox.session r.both.event r.both.trace (request_of cid header)
 
+-- a function executes that has waited
+abbrev pub is_late : ℕ → List Mark → Bool
+is_late now (Executes a ∷ ms) = not (a.event == now)
+is_late now _ = false
+
+abbrev pub starts_late : ℕ → List (List Mark) → Bool
+starts_late now (item ∷ items) = is_late now item
+starts_late now [] = false
+
 -- so it is before each event of a session in which a header arrives
 pub record IsEventFit (i : Interface) (r : Side) (cid : ℕ) (header : List ℕ) : Type 0 where
   pub fit : IsFit i r.both.box (after_call i.outbox r.both.box (arrive_call i r cid header))
   pub steps : AreStepsFit i r (items_of i.outbox.session r.both.event r.both.trace (Arrive cid header))
   pub stale : NoneIsFresh r.both.box
-  -- the session takes one event more; it has no more items, and enables no more commands, than there are places for
-  pub events : r.both.event < i.outbox.session.events
+  -- it has no more items, enables no more commands, and leaves no more of them live than there are places for
   pub sent : r.both.box.sent < 2 ^ 64 - 1
   pub short : length (items_of i.outbox.session r.both.event r.both.trace (Arrive cid header)) ≤ places i.outbox
   pub enabled : length (filter_map ticket_enabled (effects_then i r cid header)) ≤ places i.outbox
+  pub few : length (live (stepped i r (Arrive cid header)).both.trace) ≤ places i.outbox
+  -- tickets go up, and units are the session's, also of the commands that enter
+  pub regular : IsRegular i (stepped i r (Arrive cid header))
   pub distinct : AreDistinct r.both.trace
   pub received : (rest : List (List Mark)) → items_of i.outbox.session r.both.event r.both.trace (Arrive cid header) ≡ (Admits (arrived i r cid header) ∷ []) ∷ rest → IsReceivable i.outbox.session r.both.trace (arrived i r cid header)
+  -- what waits, waits for a number that is still to come
+  pub prompt : (rest : List (List Mark)) → items_of i.outbox.session r.both.event r.both.trace (Arrive cid header) ≡ (Admits (arrived i r cid header) ∷ []) ∷ rest → starts_late r.both.event rest ≡ false
+  pub waits : EachOf (λ (b : Arrival). waiting_on (connection_of b.request) r.both.trace ≤ MOST_WAITING) (waiting r.both.trace)
 
 -- .. where its numbers are heard first
 pub record IsArrivalFit (i : Interface) (r : Side) (cid : ℕ) (header : List ℕ) : Type 0 where
@@ -130,28 +150,21 @@ pub record IsArrivalFit (i : Interface) (r : Side) (cid : ℕ) (header : List �
 
 -- ---- what becomes of it
 
--- nothing is taken out by it or closed, and no function waits, or has waited
-abbrev pub is_plain : ℕ → Mark → Bool
-is_plain now (Executes a) = a.event == now
-is_plain now (Empties a) = false
-is_plain now (Waits a) = false
-is_plain now (Leaves c) = false
-is_plain now (ClosesConn conn) = false
-is_plain now ClosesSession = false
-is_plain now _ = true
+-- nothing is taken out by it or closed
+abbrev pub is_plain : Mark → Bool
+is_plain (Empties a) = false
+is_plain (Leaves c) = false
+is_plain (ClosesConn conn) = false
+is_plain ClosesSession = false
+is_plain _ = true
 
-abbrev pub are_plain : ℕ → List (List Mark) → Bool
-are_plain now items = list_all (list_all (is_plain now)) items
+abbrev pub are_plain : List (List Mark) → Bool
+are_plain items = list_all (list_all is_plain) items
 
--- the commands that it enables, and that are live then
-abbrev pub enabled_then : Interface → Side → ℕ → List ℕ → List Command
-enabled_then i r cid header = filter_map (live_with (stepped i r (Arrive cid header)).both.trace) (filter_map ticket_enabled (effects_then i r cid header))
-
--- its items are plain, and no command is withheld then
+-- its items are plain; those that it enables and that are withheld complete behind it, one after the other
 pub record IsPlainArrival (i : Interface) (r : Side) (cid : ℕ) (header : List ℕ) : Type 0 where
-  pub plain : are_plain r.both.event (items_then i r cid header) ≡ true
-  pub started : list_any (is_withheld (stepped i r (Arrive cid header))) (enabled_then i r cid header) ≡ false
-  pub calm : next_withheld (happening i r (Arrive cid header)).side ≡ None
+  pub plain : are_plain (items_then i r cid header) ≡ true
+  pub withheld : let w = happening i r (Arrive cid header) in AreDoneFit i (length (live w.side.both.trace)) w
 
 -- the place of its request is one of those that there are
 pub record IsPlaced (s : State) (place : ℕ) : Type 0 where

@@ -1,7 +1,7 @@
 -- The parts of what the steps keep, and what they stand for in the rules.
-use Rattle.std.specs.Prelude.{◌≡◌, ◌<◌, ◌≤◌, ℕ, ◌+◌, ◌==◌, ◌&&◌, ◌||◌, not, Bool, true, false, List, [], ◌∷◌, ◌++◌, length, map, filter, count_by, nat_lt, Option, Some, None, is_some, if◌then◌else◌}
+use Rattle.std.specs.Prelude.{◌≡◌, ◌<◌, ◌≤◌, ℕ, ◌+◌, ◌*◌, ◌==◌, ◌&&◌, ◌||◌, not, Bool, true, false, List, [], ◌∷◌, ◌++◌, length, map, filter, count_by, nat_lt, get_or, Option, Some, None, is_some, if◌then◌else◌}
 use Rattle.std.specs.List.{find, list_any}
-use Rattle.iscsi_wire.specs.Fields.{cmd_sn}
+use Rattle.iscsi_wire.specs.Fields.{cmd_sn, connection_of}
 use Rattle.iscsi_history.specs.rules.Trace.{Arrival, Command as RulesCommand, Trace, entered, has, held, leaves_ticket, was_free}
 use Rattle.iscsi_outbox_rules.specs.rules.Boxes.{Answer, Handed, Link, Notices, Outgoing, Owns, Pdu, Pings, Replies}
 use Rattle.iscsi_outbox_rules.specs.rules.Words.{contains, is_reply}
@@ -12,7 +12,9 @@ use Rattle.iscsi_outbox_law.specs.Pairs.{PairsOf, EachOf}
 use Rattle.iscsi_requests.specs.Conns.{of_conn}
 use Rattle.iscsi_requests.specs.Cookies as cookies
 use Rattle.iscsi_requests.specs.Cookies.{Cookies}
+use Rattle.iscsi_requests.specs.Functions.{WaitingFunctions}
 use Rattle.iscsi_requests.specs.Numbers.{HeldNumbers, held_at}
+use Rattle.iscsi_requests.specs.declared.functions.WaitingFunction.{WaitingFunction}
 use Rattle.iscsi_requests.specs.Replies.{has_log_place}
 use Rattle.iscsi_requests.specs.declared.replies.WaitingReply.{WaitingReply}
 use Rattle.iscsi_ffi_commands.specs.declared.command.Command.{Command}
@@ -23,7 +25,7 @@ use Rattle.iscsi_ffi_steps.specs.State.{State}
 use Rattle.iscsi_outbox_steps.specs.State.{State as OutboxState}
 use Rattle.iscsi_outbox_steps.specs.Steps.{is_running_ticket}
 use Rattle.iscsi_ffi_law.specs.Names.{Name, Note, count_words, place_named}
-use Rattle.iscsi_ffi_law.specs.Uses.{count_functions, count_held, is_place}
+use Rattle.iscsi_ffi_law.specs.Uses.{count_functions, count_held, count_lists, is_place}
 
 -- ---- names
 
@@ -72,6 +74,17 @@ pub record AreHeld (size room : ℕ) (names : List Name) (v : HeldNumbers) (t : 
   pub size_is : length v.places ≡ size
   pub there : (n : ℕ) (a : Arrival) → held t n ≡ Some a → IsHeldAt names v a
   pub once : (place : ℕ) → count_by (is_place place) v.places ≤ 1
+
+-- a function that waits, by both
+pub record IsFunctionAt (names : List Name) (f : WaitingFunction) (a : Arrival) : Type 0 where
+  pub number : f.number ≡ cmd_sn a.request
+  pub named : place_named names a.event ≡ Some (f.request)
+
+-- so those of each connection, in the order in which they arrived; no place stands twice, and there is room for four of each
+pub record AreFunctions (cids : List ℕ) (names : List Name) (v : WaitingFunctions) (ws : List Arrival) : Type 0 where
+  pub each : (p : ℕ) → p < length cids → PairsOf (IsFunctionAt names) (of_conn p v.waiting) (filter (λ (a : Arrival). connection_of a.request == get_or cids p 0) ws)
+  pub once : (place : ℕ) → count_lists (λ (f : WaitingFunction). f.request == place) v.waiting ≤ 1
+  pub room : v.room ≡ 4 * length cids
 
 -- a command by both
 pub record IsCommand (names : List Name) (r : Side) (c : Command) (d : RulesCommand) : Type 0 where

@@ -2,9 +2,11 @@
 use Rattle.std.specs.Prelude.{◌≡◌, ◌<◌, ◌≤◌, ◌-◌, ◌^◌, ◌&&◌, ◌++◌, ℕ, true, false, List, [], ◌∷◌, length, None, if◌then◌else◌}
 use Rattle.iscsi_history.specs.declared.effect.Effect.{Effect}
 use Rattle.iscsi_history.specs.declared.event.Event.TheVariants.{Arrive}
+use Rattle.iscsi_wire.specs.Fields.{connection_of}
+use Rattle.iscsi_history.specs.rules.Management.{MOST_WAITING, waiting_on}
 use Rattle.iscsi_history.specs.promises.Order.{in_parts}
 use Rattle.iscsi_history.specs.rules.Settings.{is_known, is_valid}
-use Rattle.iscsi_history.specs.rules.Trace.{is_closed, live}
+use Rattle.iscsi_history.specs.rules.Trace.{Admits, Arrival, Mark, is_closed, live, waiting}
 use Rattle.iscsi_outbox_rules.specs.promises.Room.{is_other, places}
 use Rattle.iscsi_outbox_rules.specs.rules.Boxes.{Box, Handed, Link}
 use Rattle.iscsi_outbox_rules.specs.rules.Calls as outbox
@@ -17,10 +19,10 @@ use Rattle.iscsi_outbox_law.specs.Sound.{NoneIsFresh}
 use Rattle.iscsi_ffi_rules.specs.promises.Deeds.{side_of}
 use Rattle.iscsi_ffi_rules.specs.rules.Calls.{Arrives, Call, Completes, Interface, Loses, Stops}
 use Rattle.iscsi_ffi_rules.specs.rules.Clearing.{TASK_ABORTED}
-use Rattle.iscsi_ffi_rules.specs.rules.Happening.{happening, other}
+use Rattle.iscsi_ffi_rules.specs.rules.Happening.{happening, other, stepped}
 use Rattle.iscsi_ffi_rules.specs.rules.Run.{after_call, heard_in, is_going, is_lost, parting, refusal_of, tag_heard, word_at}
 use Rattle.iscsi_ffi_rules.specs.rules.Sides.{Side}
-use Rattle.iscsi_ffi_law.specs.Arrived.{AreBefore, IsItemFit, arrive_call, effects_then}
+use Rattle.iscsi_ffi_law.specs.Arrived.{AreBefore, AreDistinct, IsItemFit, IsReceivable, arrive_call, arrived, effects_then, items_then, starts_late}
 use Rattle.iscsi_ffi_law.specs.Done.{AllDone, AreDoneFit, IsRegular}
 use Rattle.iscsi_ffi_law.specs.Fit.{IsFit, IsOrderly}
 use Rattle.iscsi_ffi_law.specs.Parts.{IsBefore}
@@ -37,6 +39,15 @@ pub record IsShort (i : Interface) (calls : List Call) : Type 0 where
   pub many : length calls < 2 ^ 62
   pub few : (side_of i calls).both.event ≤ 2 ^ 30
   pub events : (side_of i calls).both.event ≤ i.outbox.session.events
+
+-- a header is of bytes
+abbrev pub AreBytes : List ℕ → Type 0
+AreBytes header = EachOf (λ (b : ℕ). b < 256) header
+
+-- so is each that arrives
+abbrev pub IsOfBytes : Call → Type 0
+IsOfBytes (Arrives cid header cookie) = AreBytes header
+IsOfBytes _ = Unit {0}
 
 -- ---- between the calls
 
@@ -65,10 +76,15 @@ pub record IsHeardFit (i : Interface) (r : Side) (cid : ℕ) (header : List ℕ)
   pub fit : IsFit i r.both.box (after_box_call i.outbox r.both.box (arrive_call i r cid header))
   pub items : AreItemsFit i.outbox r.both.box (in_parts (effects_then i r cid header))
   pub stale : NoneIsFresh r.both.box
-  pub events : r.both.event < i.outbox.session.events
   pub sent : r.both.box.sent < 2 ^ 64 - 1
   pub replies : replies_waiting r.both.box < places i.outbox
   pub handed : EachOf (λ (l : Link). EachOf (λ (h : Handed). IsBefore r.both.box.sent h.out.sent) l.handed) r.both.box.links
+  pub few : length (live (stepped i r (Arrive cid header)).both.trace) ≤ places i.outbox
+  pub regular : IsRegular i (stepped i r (Arrive cid header))
+  pub prompt : (rest : List (List Mark)) → items_then i r cid header ≡ (Admits (arrived i r cid header) ∷ []) ∷ rest → starts_late r.both.event rest ≡ false
+  pub waits : EachOf (λ (b : Arrival). waiting_on (connection_of b.request) r.both.trace ≤ MOST_WAITING) (waiting r.both.trace)
+  pub distinct : AreDistinct r.both.trace
+  pub received : (rest : List (List Mark)) → items_then i r cid header ≡ (Admits (arrived i r cid header) ∷ []) ∷ rest → IsReceivable i.outbox.session r.both.trace (arrived i r cid header)
 
 -- a request that isn't refused arrives, and behind it commands that are withheld then complete
 pub record IsTakenFit (i : Interface) (r : Side) (cid : ℕ) (header : List ℕ) (cookie : ℕ) : Type 0 where

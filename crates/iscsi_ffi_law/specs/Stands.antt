@@ -1,6 +1,6 @@
 -- When what the steps keep of a side stands for what the rules have of it.
 use Rattle.std.specs.Prelude.{◌≡◌, ◌<◌, ◌≤◌, ℕ, ◌+◌, ◌*◌, true, List, [], length, map, count_by, Option, None}
-use Rattle.iscsi_history.specs.rules.Trace.{are_apart, entered}
+use Rattle.iscsi_history.specs.rules.Trace.{are_apart, entered, waiting}
 use Rattle.iscsi_outbox_rules.specs.rules.Words.{contains}
 use Rattle.iscsi_outbox_law.specs.Commands.{link_in}
 use Rattle.iscsi_outbox_law.specs.Pairs.{EachOf}
@@ -18,7 +18,7 @@ use Rattle.iscsi_ffi_steps.specs.State.{State, actions_room}
 use Rattle.iscsi_ffi_steps.specs.Steps.{Side as StepsSide}
 use Rattle.iscsi_ffi_law.specs.Names.{Name, Note, asked_of, noted_of}
 use Rattle.iscsi_ffi_law.specs.Uses.{count_lists, uses_of}
-use Rattle.iscsi_ffi_law.specs.Parts.{AreApart, AreCommands, AreCounted, AreHeld, AreKept, IsBefore, IsConn, IsLiveNamed, IsNote, IsOneUse, IsRequest, IsUndue}
+use Rattle.iscsi_ffi_law.specs.Parts.{AreApart, AreCommands, AreCounted, AreFunctions, AreHeld, AreKept, IsBefore, IsConn, IsLiveNamed, IsNote, IsOneUse, IsRequest, IsUndue}
 
 pub record AreSizes (i : Interface) (s : State) : Type 0 where
   pub room : s.room ≡ actions_room i.unwritten (limits_of i.outbox)
@@ -77,6 +77,7 @@ pub record Stands (i : Interface) (s : StepsSide) (r : Side) : Type 0 where
   pub counts : AreCounts i s.state r
   pub requests : AreRequests names notes (λ place. 0) (λ p. []) s.state r
   pub slots : AreHeld (size_for i.outbox.session.window) s.state.commands.room names s.state.held r.both.trace
+  pub functions : AreFunctions (cids i) names s.state.functions (waiting r.both.trace)
   pub withheld : s.state.withheld ≡ []
   -- no command waits to be completed that never starts
   pub calm : next_withheld r ≡ None

@@ -1,0 +1,84 @@
+-- The event in which a request arrives that is taken: each of its items is fit.
+use Rattle.std.proofs.Common.{◌≡◌, ℕ, ◌+◌, ◌^◌, ◌≤◌, cond, Bool, true, false, List, [], ◌∷◌, None, ap, subst, arith, inl}
+use Rattle.iscsi_history.specs.declared.effect.Effect.{Effect}
+use Rattle.iscsi_history.specs.declared.event.Event.{Event}
+use Rattle.iscsi_history.specs.declared.event.Event.TheVariants.{Arrive}
+use Rattle.iscsi_history.specs.promises.Order.{in_parts}
+use Rattle.iscsi_history.specs.rules.Agenda.{items_of}
+use Rattle.iscsi_history.specs.rules.Run.{effects_of}
+use Rattle.iscsi_history.specs.rules.Trace.{is_closed}
+use Rattle.iscsi_history.proofs.CloseRuns.{event_sound}
+use Rattle.iscsi_history.proofs.FormRuns.{event_going as event_forms}
+use Rattle.iscsi_outbox_rules.specs.rules.Boxes.{Box}
+use Rattle.iscsi_outbox_rules.specs.rules.Calls as outbox
+use Rattle.iscsi_outbox_rules.specs.rules.Items.{after_item}
+use Rattle.iscsi_outbox_rules.proofs.ClosedParts.{Parts, effects_each, event_parts}
+use Rattle.iscsi_outbox_rules.proofs.RoomSends.{Formed, event_going}
+use Rattle.iscsi_outbox_law.specs.Sound.{IsSound}
+use Rattle.iscsi_outbox_law.proofs.SoundRuns.{SoundItems}
+use Rattle.iscsi_ffi_rules.specs.rules.Calls.{Interface}
+use Rattle.iscsi_ffi_rules.specs.rules.Run.{heard_in, refusal_of, tag_heard, word_at}
+use Rattle.iscsi_ffi_rules.specs.rules.Sides.{Side}
+use Rattle.iscsi_ffi_law.specs.Arrived.{AreStepsFit, items_then}
+use Rattle.iscsi_ffi_law.specs.Left.{AreStepsLeft}
+use Rattle.iscsi_ffi_law.specs.Sides.{AreItemsFit, IsHeardFit, IsOpening}
+use Rattle.iscsi_ffi_law.proofs.FitArrivals.{event_items}
+use Rattle.iscsi_ffi_law.proofs.FitFacts.{limits}
+use Rattle.iscsi_ffi_law.proofs.FitHolds.{Holds, arrival_read, holds_heard, joined_there}
+use Rattle.iscsi_ffi_law.proofs.FitItems.{Q, steps_fit}
+use Rattle.iscsi_ffi_law.proofs.FitJoined.{has_joined, joined_other}
+use Rattle.iscsi_ffi_law.proofs.FitNumbers.{all_sends}
+use Rattle.iscsi_ffi_law.proofs.FitReached.{sound_event, sound_reached}
+use Rattle.iscsi_ffi_law.proofs.FitRefusals.{taken_in}
+use Rattle.iscsi_ffi_law.proofs.FitSides.{event_sends}
+use Rattle.iscsi_ffi_law.proofs.QuietBox.{empty_item}
+
+module _ (i : Interface) (opening : IsOpening i) (n : ℕ) (r : Side) (cid : ℕ) (header : List ℕ) (is : refusal_of i r cid ≡ None) (h : Holds i n r) (early : r.both.event + 1 ≤ 2 ^ 30) where
+  abbrev s : Side
+  s = heard_in i r cid header
+
+  abbrev e : Event
+  e = Arrive cid header
+
+  abbrev each : List (List Effect)
+  each = effects_each i.outbox.session s.both.trace (items_of i.outbox.session s.both.event s.both.trace e)
+
+  abbrev whole : List (List Effect)
+  whole = in_parts (effects_of i.outbox.session s.both.trace (items_of i.outbox.session s.both.event s.both.trace e))
+
+  g : Holds i (n + 1) s
+  g = holds_heard i (limits i opening).distinct n r cid header h
+
+  parts : Parts i.outbox.session s.both.trace (items_of i.outbox.session s.both.event s.both.trace e)
+  parts = event_parts i.outbox.session (Formed i.outbox.session (λ c. false)) (λ u item x. x) s.both.event s.both.trace e (event_going i.outbox.session (λ c. false) s.both.event s.both.trace e).each
+
+  -- what holds of the parts holds of the items
+  by_parts : (X : Box → List (List Effect) → Type 0) → ((ps : List (List Effect)) → X s.both.box ([] ∷ ps) → X (after_item i.outbox s.both.box []) ps) → X s.both.box whole → X s.both.box each
+  by_parts X without x = by_lead parts.lead (subst (X s.both.box) parts.are x)
+    where
+      sound : IsSound i.outbox s.both.box
+      sound = (sound_reached i.outbox (limits i opening).distinct s.both g.good.reached).0
+
+      by_lead : (v : Bool) → X s.both.box (cond v ([] ∷ each) each) → X s.both.box each
+      by_lead true y = subst (λ b. X b each) (empty_item i.outbox s.both.box sound) (without each y)
+      by_lead false y = y
+
+  pub taken_steps : IsHeardFit i s cid header → AreStepsLeft i s (items_then i s cid header) → AreStepsFit i s (items_then i s cid header)
+  taken_steps w left =
+      let t = taken_in i r cid is in
+      let joined = joined_other i.outbox r.both.box (outbox.Hears cid (word_at 28 header) (tag_heard header)) cid tt (joined_there i r cid t.joined) in
+      let sends = event_sends i.outbox s.both.event s.both.trace e in
+      let sent = g.good.sent_is in
+      let same = ap all_sends parts.are in
+      steps_fit i s.both.event (has_joined s.both.box.links) (λ c. is_closed c s.both.trace) (items_then i s cid header) s (s.both.event + 1)
+      (event_forms i.outbox.session s.both.event s.both.trace e g.together.forms)
+      (event_sound i.outbox.session s.both.event s.both.trace e t.known g.together.sounds)
+      (event_items i.outbox.session s.both.event (Q i s.both.event (has_joined s.both.box.links) (λ c. is_closed c s.both.trace)) s.both.trace e (inl joined) g.served.served)
+      (by_parts (SoundItems i.outbox) (λ ps x. x.1.1) (sound_event i.outbox (limits i opening).distinct s.both e (arrival_read i (limits i opening).distinct n r cid header is h) g.good.reached))
+      (by_parts (AreItemsFit i.outbox) (λ ps x. x.1) w.items)
+      (record { closed = g.together.closed; homes = g.together.homes; cuts = g.together.cuts; over = g.served.over; handed = g.placed.handed })
+      (λ c k. k) (λ c k. k) (let few = as_few parts.lead in omega (arith, few, same, sends, sent, early)) g.told g.marked left
+    where
+      as_few : (v : Bool) → all_sends each ≤ all_sends (cond v ([] ∷ each) each)
+      as_few true = omega arith
+      as_few false = omega arith
