@@ -72,9 +72,9 @@ def long_runs():
     return [pings(1000), pings(1000, THREADS)]
 
 
-def help_run():
-    """The help, as the program gives it where nothing fails. Its text isn't fixed."""
-    return Run("the help", ["--help"], b"", 0, common.run(["--help"], program=common.PROGRAM).out)
+def help_run(program=common.PROGRAM):
+    """The help, as the program, or what starts it, gives it where nothing fails. Its text isn't fixed."""
+    return Run("the help", ["--help"], b"", 0, common.run(["--help"], program=program).out)
 
 
 def replays():
@@ -90,11 +90,11 @@ def replays():
     ]
 
 
-def all_runs():
+def all_runs(program=common.PROGRAM):
     """Runs of each kind: replays, the help, and command lines that are refused."""
     return [
         *replays(),
-        help_run(),
+        help_run(program),
         Run("a refused option", ["--window", "0"], ONE.data, 2, b"", None),
         Run("a refused first CmdSN", ["--first", "1"], ONE.data, 2, b"", REFUSED_FIRST),
     ]

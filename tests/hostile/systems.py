@@ -205,7 +205,8 @@ def closed_descriptors():
     """Some of the three standard descriptors are closed at the start, of the program and of its launcher."""
     tally = common.Tally("closed descriptors", 140)
     choices = chain.from_iterable(combinations(range(3), count) for count in (1, 2, 3))
-    for closed, run, program in product(choices, all_runs(), (common.PROGRAM, LAUNCHER)):
+    runs = [(run, program) for program in (common.PROGRAM, LAUNCHER) for run in all_runs(program)]
+    for closed, (run, program) in product(choices, runs):
         ran = by_shell(run, " ".join(f"{descriptor}>&-" for descriptor in closed), program)
         status, out, err = answer(run, 0 not in closed, 1 not in closed)
         wrong = differs(ran, status, b"" if 1 in closed else out, b"" if 2 in closed else err)
@@ -555,10 +556,11 @@ def size_limits():
 def size_limits_of_the_help():
     """Files may have so many bytes at most, and the help may have more."""
     tally = common.Tally("limits of file size for the help", 50)
-    run = help_run()
-    length = len(run.out)
-    sizes = (0, 1, 2, 3, 10, 50, 100, 511, 512, length - 2, length - 1, length, length + 1)
-    judge_limits(tally, run, sizes, (*LIMITED, *LAUNCHED))
+    for program, hows in ((common.PROGRAM, LIMITED), (LAUNCHER, LAUNCHED)):
+        run = help_run(program)
+        lengths = {len(help_run().out), len(run.out)}
+        sizes = {0, 1, 2, 3, 10, 50, 100, 511, 512, *(length + by for length in lengths for by in (-2, -1, 0, 1))}
+        judge_limits(tally, run, sorted(sizes), hows)
     return tally
 
 
