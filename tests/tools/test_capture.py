@@ -212,6 +212,7 @@ class Splitting(unittest.TestCase):
             self.assertFalse(is_plausible(header, not from_initiator))
             self.assertFalse(is_plausible(b"\x80" + header[1:], from_initiator))
         self.assertFalse(is_plausible(b"\1\x81\1" + command(1, 1)[3:], True))
+        self.assertFalse(is_plausible(bytes(48), True))
 
 
 class Finding(unittest.TestCase):

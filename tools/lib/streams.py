@@ -7,7 +7,8 @@ the same; where a header lies there, the next one is looked for where a segment 
 import heapq
 from dataclasses import dataclass
 
-from .pdu import DATA_IN, DATA_OUT, HEADER_SIZE, LOGIN, LOGIN_RESPONSE, NO_TAG, REJECT, REPLIES, REQUESTS, SCSI_RESPONSE, number
+from .pdu import DATA_IN, DATA_OUT, HEADER_SIZE, LOGIN, LOGIN_RESPONSE, NO_TAG, NOP_OUT, REJECT, REPLIES, REQUESTS, SCSI_COMMAND, \
+    SCSI_RESPONSE, TEXT, number
 
 DIGEST_SIZE = 4
 OF_TARGET = 0x20
@@ -122,7 +123,8 @@ def is_plausible(header, from_initiator):
     if opcode == DATA_OUT:
         return not any(header[1:4]) or header[1:4] == b"\x80\0\0"
     if from_initiator:
-        return header[2:4] == b"\0\0" and (number(header, 16, 19) != NO_TAG or opcode == 0)
+        is_final = header[1] & 0x80 or opcode in (SCSI_COMMAND, TEXT)
+        return bool(is_final) and header[2:4] == b"\0\0" and (number(header, 16, 19) != NO_TAG or opcode == NOP_OUT)
     if header[0] & 0x40:
         return False
     return opcode == DATA_IN or header[1] & 0x80 != 0
