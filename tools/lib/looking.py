@@ -33,7 +33,7 @@ th {{ background: #f6f8fa; }} td.number {{ text-align: right; font-variant-numer
 
 
 class Looked:
-    """What is shown of one session."""
+    """What is shown of one session: its row and its section in the index. What it was made of is let go."""
 
     def __init__(self, made):
         self.made = made
@@ -41,6 +41,9 @@ class Looked:
         self.write_report()
         self.figures = self.write_timeline()
         self.write_differences()
+        self.row, self.section = self.row_words(), "".join(self.section_words())
+        made.session.items.clear()
+        self.made = self.figures = None
 
     def write_report(self):
         write(f"{self.made.base}.report", self.made.recording.report)
@@ -63,7 +66,7 @@ class Looked:
 
     # ---- the index
 
-    def row(self):
+    def row_words(self):
         """The row of the session in the first table."""
         session, figures, counts = self.made.session, self.figures, self.made.comparison.counts
         seconds = "" if figures.seconds is None else f"{figures.seconds:.3f}"
@@ -74,7 +77,7 @@ class Looked:
                  figures.commands, figures.aborted, escape(statuses), f'<span class="sick">{escape(sick)}</span>')
         return "<tr>" + "".join(f"<td>{cell}</td>" for cell in cells) + "</tr>"
 
-    def section(self):
+    def section_words(self):
         """What the index says of the session."""
         base = escape(self.name)
         yield f'<h2 id="{base}">{base}</h2>\n<p>{escape("; ".join(self.made.parts))}</p>\n<p>'
@@ -130,9 +133,8 @@ def write_index(folder, capture, looked, left_out):
     with writing(path) as file:
         file.write(HEAD.format(title=escape(os.fsencode(os.path.basename(capture)).decode("utf-8", "backslashreplace"))))
         file.write("<table><tr>" + "".join(f"<th>{head}</th>" for head in heads) + "</tr>\n")
-        file.writelines(one.row() + "\n" for one in looked)
+        file.writelines(one.row + "\n" for one in looked)
         file.write("</table>\n" + "".join(f'<p class="quiet">left out: {escape(words)}</p>\n' for words in left_out))
-        for one in looked:
-            file.writelines(one.section())
+        file.writelines(one.section for one in looked)
         file.write("</body>\n</html>\n")
     return path
