@@ -5,7 +5,7 @@ A request that was answered is made up with its tag, as one of the kind that suc
 NOP-Out: without a tag where no answer is lacking, for it has none then.
 """
 
-from bisect import bisect_right
+from bisect import bisect_left, bisect_right
 from dataclasses import dataclass
 
 from .pdu import ASYNC, DATA_IN, LOGOUT, LOGOUT_RESPONSE, NO_TAG, NOP_IN, NOP_OUT, REJECT, SCSI_COMMAND, SCSI_RESPONSE, \
@@ -154,15 +154,17 @@ class Repair:
                               for one in (*self.put.get(place, ()), *self.items[place:place + 1])]
 
     def make_request(self, place):
-        """Makes up the request that a reply answers: with the lowest number that is lacking and that the target had received; or, if it
-        was outstanding as the capture began, in front of all others; else as an immediate one."""
+        """Makes up the request that a reply answers. A command has the lowest number that is lacking and that the target had received; or, if
+        it was outstanding as the capture began, it stands in front of all others. What isn't answered by a unit is answered as it comes, so
+        it is an immediate one."""
         item = self.items[place]
         header = self.request_for(item)
-        value = None if item.reply.opcode == TASK_MANAGEMENT_RESPONSE else self.take_missing(self.expected[place])
+        is_command = item.reply.ends_command
+        value = self.take_missing(self.first, self.expected[place]) if is_command else None
         if value is not None:
             header[24:28] = (value % MODULUS).to_bytes(4, "big")
             self.insert(self.before(value, item.cid, place), header, item.cid)
-        elif self.session.is_late and (item.reply.ends_command or item.reply.opcode == NOP_IN):
+        elif self.session.is_late and is_command:
             self.front.append((header, item.cid))
         else:
             header[0] |= IMMEDIATE
@@ -170,11 +172,13 @@ class Repair:
             self.insert(place, header, item.cid)
 
     def make_front(self):
-        """Gives what was outstanding as the capture began the numbers before all others."""
+        """Gives what was outstanding as the capture began the numbers before all others, and puts it in front of them."""
         self.first -= len(self.front)
+        behind = self.put.pop(0, [])
         for value, (header, cid) in enumerate(self.front, self.first):
             header[24:28] = (value % MODULUS).to_bytes(4, "big")
             self.insert(0, header, cid, first=True)
+        self.put.setdefault(0, []).extend(behind)
 
     def request_for(self, item):
         """The header of a request that such a reply answers; a Reject gives it back."""
@@ -222,7 +226,7 @@ class Repair:
                 self.insert(place, self.good(item, tag), cid, is_reply=True)
         else:
             tag = self.new_tag()
-            value = self.take_missing(self.expected[place])
+            value = self.take_missing(self.expected_before(place), received)
             header = self.header(NOP_OUT, tag, item.reply.exp_cmd_sn if value is None else value)
             header[0] |= IMMEDIATE if value is None else 0
             self.insert(place if value is None else self.before(value, cid, place), header, cid)
@@ -254,9 +258,14 @@ class Repair:
         self.tags.add(tag)
         return tag
 
-    def take_missing(self, below):
-        """Takes the lowest number that is lacking, if it is below another one."""
-        return self.missing.pop(0) if self.missing and self.missing[0] < below else None
+    def take_missing(self, least, below):
+        """Takes the lowest number that is lacking, is no lower than one number and lower than another one."""
+        place = bisect_left(self.missing, least)
+        return self.missing.pop(place) if place < len(self.missing) and self.missing[place] < below else None
+
+    def expected_before(self, place):
+        """What the target had told to expect before a reply."""
+        return next((self.expected[other] for other in range(place - 1, -1, -1) if other in self.expected), self.first)
 
     def before(self, value, cid, at_most=None):
         """Before which item a request with this number stands: before those of its connection with a higher number, and before
