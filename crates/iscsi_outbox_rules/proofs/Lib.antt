@@ -70,7 +70,7 @@ mod ResponseHomes
 mod ResponseRuns
 mod ResponseCalls
 mod ResponseTheorem
-mod ScopeConns
+pub mod ScopeConns
 mod ScopeTasks
 mod TaskPhases
 mod ScopeWakes
@@ -94,25 +94,25 @@ mod PlaceTheorem
 pub mod PromisesTheorem
 mod WordTheorem
 mod PlaceRoom
-mod RoomFair
+pub mod RoomFair
 pub mod RoomSteps
-mod RoomMarks
-mod RoomLimits
-mod RoomTurns
-mod RoomStored
-mod RoomBound
-mod RoomReplies
+pub mod RoomMarks
+pub mod RoomLimits
+pub mod RoomTurns
+pub mod RoomStored
+pub mod RoomBound
+pub mod RoomReplies
 pub mod RoomSends
-mod RoomTheorem
+pub mod RoomTheorem
 pub mod RoomTasks
 pub mod RoomLives
-mod RoomOwing
-mod RoomEnters
-mod RoomWeights
-mod RoomTaken
-mod RoomCalls
-mod RoomKept
-mod RoomKeeps
+pub mod RoomOwing
+pub mod RoomEnters
+pub mod RoomWeights
+pub mod RoomTaken
+pub mod RoomCalls
+pub mod RoomKept
+pub mod RoomKeeps
 mod ShownReplies
 mod ShownTasks
 mod ShownAnswers
