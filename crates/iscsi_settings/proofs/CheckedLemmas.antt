@@ -27,7 +27,7 @@ use Rattle.clap.specs.declared.parser.matches.MatchedArg.{MatchedArg}
 use Rattle.clap.proofs.CallerLemmas.{default_present, entry_by_id, same_rules_by_id}
 use Rattle.clap.proofs.SimpleLemmas.{is_false, ready_simple, simple_groups}
 use Rattle.clap.proofs.WalkLemmas.{both, first_value-rows}
-use Rattle.iscsi_settings.specs.Command.{AreChecked, HasNumber, SaysWhetherGiven, first_rule, number_rule, replay_app}
+use Rattle.iscsi_settings.specs.Command.{AreChecked, HasNumber, first_rule, number_rule, replay_app}
 
 -- no two rules have one id
 abbrev all_differ : List Rule → Bool
@@ -248,10 +248,9 @@ number_at c m p replay k name high given lt at named help version =
     rw v.1 (v.2 (vp.Unsigned 1 high) refl)
 
 -- what a parse of the command line gives
-pub values_checked : (c : Command) (m : ArgMatches) → app_of c ≡ replay_app → IsParsedFrom c m → SaysWhetherGiven (codes "threads") (rows_of (found_of m))
-    → AreChecked (rows_of (found_of m))
+pub values_checked : (c : Command) (m : ArgMatches) → app_of c ≡ replay_app → IsParsedFrom c m → AreChecked (rows_of (found_of m))
 unfolding replay_app
-values_checked c m is p says =
+values_checked c m is p =
     let replay = replay_options c is in
     let six : length (rules_of c) ≡ 6 = ap length replay.rules in
     let at : (k : ℕ) (d : Rule) → slice_index_or (rules_of c) k d ≡ slice_index_or replay_app.top.rules k d =
@@ -263,5 +262,4 @@ values_checked c m is p says =
       units = number_at c m p replay 2 (codes "units") 256 (codes "1") (omega arith) (at 2) (omega arith) refl refl;
       depth = number_at c m p replay 3 (codes "depth") 1024 (codes "64") (omega arith) (at 3) (omega arith) refl refl;
       level = number_at c m p replay 4 (codes "level") 2 (codes "1") (omega arith) (at 4) (omega arith) refl refl;
-      threads = says;
     }

@@ -1,2 +1,1 @@
 pub mod CheckedLemmas
-pub mod FlagLemmas

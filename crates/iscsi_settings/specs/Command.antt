@@ -5,8 +5,7 @@ use Rattle.std.specs.Int.{w32, from_be_bytes}
 use Rattle.std.specs.Str.Parse.{digits_value, without_leading_plus}
 use Rattle.hex.specs.Hex.{decode_sized}
 use Rattle.clap.specs.Takes.{is_given}
-use Rattle.clap.specs.Values.{bool_text}
-use Rattle.clap.specs.Words.{App, Rule, Text, new_app, new_rule, with_rule, Row, first_of, one_of, IsUnsignedIn}
+use Rattle.clap.specs.Words.{App, Rule, Text, new_app, new_rule, with_rule, Row, first_of, IsUnsignedIn}
 use Rattle.clap.specs.declared.builder.value_parser.ValueParser.TheVariants as vp
 use Rattle.clap.specs.declared.builder.action.ArgAction.TheVariants.{Set, SetTrue}
 use Rattle.iscsi_settings.specs.declared.settings.Settings.{Settings}
@@ -52,18 +51,13 @@ HasNumber high (Some text) = IsUnsignedIn 1 high text
 abbrev pub HasFlag : List Row → Bool → Type 0
 HasFlag rows t = is_given (codes "threads") rows ≡ t
 
--- the value of a flag says whether the words gave it
-abbrev pub SaysWhetherGiven : Text → List Row → Type 0
-SaysWhetherGiven name rows = one_of name rows ≡ Some (bool_text (is_given name rows))
-
--- each option has a value: those that take a number one within its limits, and the flag one that says if it was given
+-- each option has a value, those that take a number one within its limits
 pub record AreChecked (rows : List Row) : Type 0 where
   pub first : IsSome (first_of (codes "first") rows)
   pub window : HasNumber 1024 (first_of (codes "window") rows)
   pub units : HasNumber 256 (first_of (codes "units") rows)
   pub depth : HasNumber 1024 (first_of (codes "depth") rows)
   pub level : HasNumber 2 (first_of (codes "level") rows)
-  pub threads : SaysWhetherGiven (codes "threads") rows
 
 -- the text is there, and is n in decimal digits, from 1 to high
 abbrev pub IsNumberIn : Option Text → ℕ → ℕ → Type 0

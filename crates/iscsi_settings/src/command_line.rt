@@ -3,10 +3,11 @@
 ghost use Rattle.std.specs.Prelude.{◌≡◌, IfOk, false, map, option_map};
 ghost use Rattle.clap.specs.Takes.{is_given};
 ghost use Rattle.clap.specs.Words.{app_of, FailsBy, found_of, rows_of, rule_of, fault_of, matches_of, first_of};
-ghost use Rattle.iscsi_settings.specs.Command.{first_rule, number_rule, threads_rule, begun_app, replay_app, number_of_digits, HasNumber, SaysWhetherGiven, AreChecked, IsNumberIn, SettingsAre};
+ghost use Rattle.iscsi_settings.specs.Command.{first_rule, number_rule, threads_rule, begun_app, replay_app, number_of_digits, HasNumber, AreChecked, IsNumberIn, SettingsAre};
 
 use crate::settings::Settings;
 use clap::builder::ValueParser;
+use clap::parser::ValueSource;
 use clap::{Arg, ArgAction, ArgMatches, Command, Error};
 use std::alloc::{AllocError, Global};
 
@@ -92,7 +93,7 @@ fn command<'a>(alloc: Global) -> Result<Command<'a>, AllocError>
 /// The matches of the words.
 fn parse<'a>(alloc: Global, words: &'a [&'a str]) -> Result<ArgMatches<'a>, Error>
     ensures ok { IfOk result (λ m. rows_of (found_of m) ≡ matches_of replay_app (map (λ w. w.now) words.entry.now)) }
-    // The parser checked each number against its limits, and the value of the flag is from the words.
+    // The parser checked each number against its limits.
     ensures checked { IfOk result (λ m. AreChecked (rows_of (found_of m))) }
     ensures kinds { FailsBy (fault_of replay_app (map (λ w. w.now) words.entry.now)) result }
 {
@@ -123,10 +124,9 @@ fn number_of(matches: &ArgMatches<'_>, id: &str, high: u32) -> u32
 
 /// Whether the words gave a flag.
 fn has_flag(matches: &ArgMatches<'_>, id: &str) -> bool
-    requires { SaysWhetherGiven id.now (rows_of (found_of matches.now)) }
     ensures { result ≡ is_given id.now (rows_of (found_of matches.now)) }
 {
-    matches.get_flag(id)
+    matches.contains_id(id) && !matches!(matches.value_source(id), Some(ValueSource::DefaultValue))
 }
 
 /// The number that eight hexadecimal digits, of either case, stand for.

@@ -1,10 +1,8 @@
-use Rattle.std.proofs.Common.{ap, codes, refl, sym, true, ◌≡◌, ◌∙◌, subst, List, map}
+use Rattle.std.proofs.Common.{ap, refl, true, ◌≡◌, ◌∙◌, subst, List, map}
 use Rattle.std.proofs.lemmas.Result.{IfOk-weaker}
-use Rattle.clap.proofs.WalkLemmas.{IfOk-both}
-use Rattle.clap.specs.Words.{App, Row, Text, app_of, found_of, is_simple, is_simple_and_free, matches_of, FailsBy, fault_of, rows_of}
-use Rattle.iscsi_settings.specs.Command.{SaysWhetherGiven, replay_app}
+use Rattle.clap.specs.Words.{App, Text, app_of, found_of, is_simple, is_simple_and_free, matches_of, FailsBy, fault_of, rows_of}
+use Rattle.iscsi_settings.specs.Command.{replay_app}
 use Rattle.iscsi_settings.proofs.CheckedLemmas.{values_checked}
-use Rattle.iscsi_settings.proofs.FlagLemmas.{flag_says}
 use Rattle.iscsi_settings.proofs.command_line.parse.Goals as goal
 
 simple : is_simple replay_app ≡ true
@@ -24,8 +22,6 @@ returns c =
     (λ m h. (h (ap is_simple app_is ∙ simple)).0 ∙ ap (λ (a : App). matches_of a words) app_is) run.ensures.matches in
     record {
       ok = matched;
-      checked = IfOk-weaker run.result _ _ (λ m h. values_checked c.in_ok-command.command m app_is h.0
-          (subst (λ (rows : List Row). SaysWhetherGiven (codes "threads") rows) (sym h.1) (flag_says words)))
-          (IfOk-both run.result _ _ run.ensures.parsed matched);
+      checked = IfOk-weaker run.result _ _ (λ m h. values_checked c.in_ok-command.command m app_is h) run.ensures.parsed;
       kinds = subst (λ (a : App). FailsBy (fault_of a words) run.result) app_is (run.ensures.kinds (ap is_simple_and_free app_is ∙ free));
     }
