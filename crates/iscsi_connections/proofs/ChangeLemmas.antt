@@ -1,5 +1,5 @@
 -- The connections, after one of them changed at the place of its CID.
-use Rattle.std.proofs.Common.{◌≡◌, ℕ, ◌+◌, ◌-◌, ◌%◌, ◌^◌, ◌<◌, ◌≤◌, ◌==◌, cond, List, length, map, get_or, set, position, Some, refl, ap, sym, ◌∙◌, arith}
+use Rattle.std.proofs.Common.{None, [], ◌∷◌, ◌≡◌, ℕ, ◌+◌, ◌-◌, ◌%◌, ◌^◌, ◌<◌, ◌≤◌, ◌==◌, cond, List, length, map, get_or, set, position, Some, refl, ap, sym, ◌∙◌, arith}
 use Rattle.std.proofs.lemmas.List.{get_or-map, get_or_default, length-map, map-set}
 use Rattle.std.proofs.Math.Seq.{map-set_same}
 use Rattle.std.proofs.lemmas.List.Quantifiers.{position-Some}
@@ -84,3 +84,13 @@ module _ (list : List Connection) (cid k : ℕ) (found : position (has_cid cid) 
   pub counting_down : (other : ℕ) → 1 ≤ read.immediate → counted_on other (map cid_and_stat_sn list) (map count_of (set list k (counting read (read.immediate - 1)))) + cond (cid == other) 1 0 ≡ counted_on other (map cid_and_stat_sn list) (map count_of list)
   counting_down other some =
       cc (map-set count_of list k (counting read (read.immediate - 1)), counted_down (map cid_and_stat_sn list) (map count_of list) cid k found counts_long read.immediate other read_count some)
+
+-- ---- a CID of no connection
+
+pub unknown_number : (conns : List (ℕ × ℕ)) (cid : ℕ) → position (has_cid cid) conns ≡ None → stat_sn_on cid conns ≡ 0
+unknown_number [] cid none = refl
+unknown_number (c ∷ conns) cid none = grind (arith, unknown_number conns cid)
+
+pub unknown_count : (conns : List (ℕ × ℕ)) (cid : ℕ) → position (has_cid cid) conns ≡ None → count_reply cid conns ≡ conns
+unknown_count [] cid none = refl
+unknown_count (c ∷ conns) cid none = grind (arith, unknown_count conns cid)

@@ -109,11 +109,12 @@ impl Connections {
 
     /// Takes the StatSN of a connection's next reply.
     pub fn assign_stat_sn(&mut self, cid: u16) -> u32
-        requires { known_in cid self.old.conns ≡ true }
         ensures number { result ≡ stat_sn_on cid self.old.conns }
         ensures state { self.new ≡ record self.old { conns = count_reply cid self.old.conns } }
     {
-        let place = self.place_of(cid).unwrap();
+        let Some(place) = self.place_of(cid) else {
+            return 0;
+        };
         let connection = &mut self.list[place];
         let stat_sn = connection.stat_sn;
         connection.stat_sn = stat_sn.wrapping_add(1);

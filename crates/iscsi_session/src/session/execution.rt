@@ -72,7 +72,6 @@ impl Session {
 
     /// Rejects a request for its opcode.
     pub(crate) fn reject_opcode(&mut self, request: &Request, out: &mut Vec<Effect>)
-        requires known { known_in (connection_of request.now) self.old.conns ≡ true }
         requires room { vec_len out.old + 1 ≤ vec_capacity out.old }
         ensures session { self.new ≡ with_reply self.old (connection_of request.now) }
         ensures effects { out.new.items ≡ out.old.items
@@ -190,7 +189,6 @@ impl Session {
 
     /// A reply goes out on a connection.
     pub(crate) fn reply(&mut self, conn: u16, reply: Reply, out: &mut Vec<Effect>)
-        requires known { known_in conn self.old.conns ≡ true }
         requires room { vec_len out.old + 1 ≤ vec_capacity out.old }
         ensures session { self.new ≡ with_reply self.old conn }
         ensures effects { out.new.items ≡ out.old.items ++ reply_effects self.old conn reply }

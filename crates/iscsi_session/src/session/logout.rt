@@ -28,7 +28,6 @@ impl Session {
 
     /// Executes a Logout Request.
     pub(crate) fn log_out(&mut self, request: &Request, out: &mut Vec<Effect>)
-        requires known { known_in (connection_of request.now) self.old.conns ≡ true }
         requires room { vec_len out.old + owed self.old.live self.old.sets + 6 * count_by is_held self.old.window.places
             + 3 ≤ vec_capacity out.old }
         ensures session { self.new ≡ closed_as self.old request.now (closing_by self.old request.now) }
@@ -79,7 +78,6 @@ impl Session {
     /// Carries a Logout out, of a connection or for None of the session: what of it is live leaves, what is held is
     /// discarded, what waits is dropped, and it closes.
     fn carry_out_logout(&mut self, request: &Request, scope: Option<u16>, out: &mut Vec<Effect>)
-        requires known { known_in (connection_of request.now) self.old.conns ≡ true }
         requires room { vec_len out.old + owed self.old.live self.old.sets + 6 * count_by is_held self.old.window.places
             + 3 ≤ vec_capacity out.old }
         ensures session { self.new ≡ logged_out self.old request.now scope }

@@ -121,7 +121,6 @@ impl Session {
 
     /// An immediate function is refused for its number.
     fn refuse(&mut self, request: Request, reply: Reply, out: &mut Vec<Effect>)
-        requires known { known_in (connection_of request) self.old.conns ≡ true }
         requires room { vec_len out.old + 2 ≤ vec_capacity out.old }
         ensures session { self.new ≡ with_reply self.old (connection_of request) }
         ensures effects { out.new.items ≡ out.old.items ++ Effect.Immediate request
@@ -164,7 +163,6 @@ impl Session {
         event: u64,
         out: &mut Vec<Effect>,
     )
-        requires known { known_in (connection_of request.now) self.old.conns ≡ true }
         requires voids { may_wait_named request.now ≡ false → is_immediate request.now ≡ true →
             (self.old.window.turned + count_by is_some self.old.window.places < self.old.taken)
             × (self.old.entered + count_by is_some self.old.window.places < self.old.taken) }
@@ -206,7 +204,6 @@ impl Session {
 
     /// Executes a function that isn't refused.
     fn perform(&mut self, request: &Request, number: i64, event: u64, out: &mut Vec<Effect>)
-        requires known { known_in (connection_of request.now) self.old.conns ≡ true }
         requires voids { may_wait_named request.now ≡ false → is_immediate request.now ≡ true →
             (self.old.window.turned + count_by is_some self.old.window.places < self.old.taken)
             × (self.old.entered + count_by is_some self.old.window.places < self.old.taken) }
@@ -227,7 +224,6 @@ impl Session {
     /// Does what a function to a unit comes to, and answers it.
     fn carry_out(&mut self, request: &Request, unit: u16, outcome: Outcome, out: &mut Vec<Effect>)
         requires unit { unit < length self.old.sets }
-        requires known { known_in (connection_of request.now) self.old.conns ≡ true }
         requires held { (w : ℕ) → outcome ≡ Outcome.Empty w →
             is_some (held_at self.old.window (place_in self.old.window w)) ≡ true }
         requires inside { (w : ℕ) → outcome ≡ Outcome.Void w → IsInside (place_in self.old.window w) }
@@ -266,7 +262,6 @@ impl Session {
 
     /// A function is answered.
     fn respond(&mut self, request: &Request, response: Response, out: &mut Vec<Effect>)
-        requires known { known_in (connection_of request.now) self.old.conns ≡ true }
         requires room { vec_len out.old + 1 ≤ vec_capacity out.old }
         ensures session { self.new ≡ with_reply self.old (connection_of request.now) }
         ensures effects { out.new.items ≡ out.old.items

@@ -4,12 +4,6 @@ use Rattle.iscsi_session.specs.private.Closing.{units_of, covers_of, left_to}
 use Rattle.iscsi_session.proofs.LoggedOutLemmas.{Keeps, left_keeps, kept_conns, kept_emptying, kept_close}
 use Rattle.iscsi_session.proofs.session.Session.carry_out_logout.Goals as goal
 
-pub reply-requires-clause-known : goal.reply-requires-clause-known
-reply-requires-clause-known c =
-    let s : Core = c.args.self.now in
-    let k : Keeps s (left_to s c.args.scope) = left_keeps s (units_of s) (covers_of c.args.scope) in
-    rw (c.conn.ensures, c.drop_waiting.ensures.session, c.empty_all.ensures.session, c.leave_all.ensures.session, kept_conns s (left_to s c.args.scope) k c.args.scope) c.requires.known
-
 pub returns-clause-effects : goal.returns-clause-effects
 returns-clause-effects c =
     let s : Core = c.args.self.now in

@@ -76,9 +76,6 @@ finished_parts : (w v : Received) (l : Live) (left all : ℕ) → v ≡ finished
     → (v.turned ≡ w.turned) × ((v.places ≡ w.places) × ((v.unfinished ≤ w.unfinished) × (left ≤ v.unfinished)))
 finished_parts w v l left all is counted few = grind arith
 
-pub assign_stat_sn-stat_sn-requires : goal.assign_stat_sn-stat_sn-requires
-assign_stat_sn-stat_sn-requires c = (command (goal.at.assign_stat_sn-stat_sn-requires c).In-Some).known
-
 pub finish-requires-clause-numbered : goal.finish-requires-clause-numbered
 finish-requires-clause-numbered c = λ no.
     let f = command (goal.at.finish-requires-clause-numbered c).In-Some in

@@ -2,10 +2,8 @@ use Rattle.std.proofs.Common.{w64, to_z, ◌≡◌, ◌==◌, ◌≤◌, ◌+◌
 use Rattle.std.proofs.lemmas.Bool.{false≢true}
 use Rattle.std.proofs.lemmas.Int.{ints, to_z_pos}
 use Rattle.iscsi_wire.specs.Serial.{number_of_first}
-use Rattle.iscsi_wire.specs.Fields.{connection_of}
 use Rattle.iscsi_window.specs.Windows.{number_expected}
 use Rattle.iscsi_slots.specs.Queued.{Queued, queued}
-use Rattle.iscsi_history.specs.rules.Settings.{is_known}
 use Rattle.iscsi_history.specs.rules.Management.{may_wait}
 use Rattle.iscsi_session.specs.private.Standing.{Core}
 use Rattle.iscsi_history.specs.declared.effect.Effect.TheVariants.{Immediate}
@@ -63,11 +61,6 @@ pub invariant_of-self-2 : goal.invariant_of-self-2
 invariant_of-self-2 c =
     let here = (goal.at.invariant_of-self-2 c).In-Some in
     fewer_sound c.self.invariant (λ v. not (v.event == c.in-Some.function.event)) (items_left here) (omega (arith, ap (λ (q : Queued Waiting). q.room) (left here)))
-
-pub perform-requires-clause-known : goal.perform-requires-clause-known
-perform-requires-clause-known c =
-    find-passes (λ w. w.turn == c.self.inside.window.turned) (λ w. is_known (connection_of w.request) c.self.inside.connections.conns) c.self.inside.waiting.items c.in-Some.function
-    c.self.invariant.functions.known (found (goal.at.perform-requires-clause-known c).In-Some)
 
 pub perform-requires-clause-voids : goal.perform-requires-clause-voids
 perform-requires-clause-voids c = λ waits_not immediate. absurd (false≢true (sym waits_not ∙ may (goal.at.perform-requires-clause-voids c).In-Some))
