@@ -12,8 +12,7 @@ use Rattle.iscsi_slots.proofs.SortedLemmas.{not_greater, same_place}
 use Rattle.iscsi_commands.specs.declared.live.Live.{Live}
 use Rattle.iscsi_commands.specs.declared.entry.Entry.{Entry}
 use Rattle.iscsi_commands.specs.Commands.{AreAscending as AreTicketsAscending, AreTagsApart, find_ticket, find_tag, without_ticket}
-use Rattle.iscsi_commands.specs.Kept.{BLANK}
-use Rattle.iscsi_commands.specs.Log.{NOTHING, entry_at, tag_at, ticket_of, IsLiveAt, ended, live_in, group_of, AreTagged, AreLogged}
+use Rattle.iscsi_commands.specs.Log.{BLANK, NOTHING, entry_at, tag_at, ticket_of, IsLiveAt, ended, live_in, group_of, AreTagged, AreLogged}
 
 pub group_below : (itt : ℕ) → group_of itt < 4096
 unfolding group_of

@@ -1,5 +1,5 @@
 -- The live commands, as callers see them.
-use Rattle.std.specs.Prelude.{◌≡◌, ◌≢◌, ℕ, ◌<◌, ◌==◌, false, not, List, length, All, filter, find, slice_index_or, Option, MatchOption}
+use Rattle.std.specs.Prelude.{◌≢◌, ℕ, ◌<◌, ◌==◌, not, List, filter, find, Option}
 use Rattle.std.specs.List.{AllPairs}
 use Rattle.iscsi_commands.specs.declared.live.Live.{Live}
 
@@ -19,9 +19,6 @@ find_ticket ticket lives = find (λ l. l.ticket == ticket) lives
 abbrev pub find_tag : ℕ → List Live → Option Live
 find_tag itt lives = find (λ l. l.itt == itt) lives
 
--- the place of the command with this ticket, or none
-abbrev pub IsTicketPlace : List Live → ℕ → Option ℕ → Type 0
-IsTicketPlace lives ticket r = MatchOption r (All (λ l. (l.ticket == ticket) ≡ false) lives) (λ k. (k < length lives) × ((d : Live) → (slice_index_or lives k d).ticket ≡ ticket))
-
+-- .. without the one with this ticket
 abbrev pub without_ticket : ℕ → List Live → List Live
 without_ticket ticket lives = filter (λ l. not (l.ticket == ticket)) lives

@@ -5,7 +5,10 @@ use Rattle.iscsi_slots.specs.Places.{AreAscending}
 use Rattle.iscsi_commands.specs.declared.live.Live.{Live}
 use Rattle.iscsi_commands.specs.declared.entry.Entry.{Entry}
 use Rattle.iscsi_commands.specs.Commands.{AreTagsApart}
-use Rattle.iscsi_commands.specs.Kept.{BLANK}
+
+-- any command, which stands for none
+abbrev pub BLANK : Live
+BLANK = record { ticket = 0; unit = 0; conn = 0; itt = 0; immediate = false }
 
 -- no command, which isn't live
 abbrev pub NOTHING : Entry

@@ -1,10 +1,10 @@
-//! The live commands beside plain ones, which find each by a search: both answer the same after each of many calls. And
-//! with each live command the slot is found that it entered with.
+//! The live commands beside a plain list, in which each is found by a search: both answer the same after each of many
+//! calls. And with each live command the slot is found that it entered with.
 
-ghost use Rattle.std.specs.Prelude.{◌≡◌, ◌==◌, ◌<◌, ◌≤◌, true, false, All};
-ghost use Rattle.std.specs.List.{list_any};
+ghost use Rattle.std.specs.Prelude.{◌≡◌, ◌==◌, ◌≤◌, nat_lt, vec_capacity};
+ghost use Rattle.std.specs.List.{list_all, list_any};
 
-use iscsi_commands::{Commands, Live, LiveCommands, Placed};
+use iscsi_commands::{Live, LiveCommands, Placed};
 use std::alloc::{AllocError, Global};
 use std::test::Fail;
 
@@ -12,10 +12,11 @@ use std::test::Fail;
 #[derive(Drop)]
 struct Both {
     live: LiveCommands,
-    plain: Commands,
+    plain: Vec<Live>,
     room: usize,
-    ghost same: { live ≡ plain },
-    ghost roomy: { plain.room ≡ room },
+    ghost same: { live.items ≡ plain.items },
+    ghost live_room: { live.room ≡ room },
+    ghost plain_room: { room ≤ vec_capacity plain },
 }
 
 impl Both {
@@ -24,7 +25,7 @@ impl Both {
     {
         Ok(Both {
             live: LiveCommands::with_room(alloc, room)?,
-            plain: Commands::with_room(alloc, room)?,
+            plain: Vec::with_capacity(alloc, room)?,
             room,
         })
     }
@@ -33,52 +34,64 @@ impl Both {
     fn push(&mut self, command: Live) -> bool {
         let may_enter = self.plain.len() < self.room
             && is_newest(&self.plain, command.ticket)
-            && is_unused(&self.plain, command.itt);
+            && !is_used(&self.plain, command.itt);
         if may_enter {
             self.live.push(command, slot_of(&command));
-            self.plain.push(command);
+            self.plain.push_reserved(command);
         }
         may_enter
     }
 
     fn remove(&mut self, ticket: u64) {
         self.live.remove(ticket);
-        self.plain.remove(ticket);
+        self.plain.retain(|command| command.ticket != ticket);
     }
 
     /// Both find the same by a ticket, and by a tag.
     fn agree_on(&self, ticket: u64, itt: u32) -> bool {
-        is_same(self.live.find(ticket), self.plain.find(ticket))
-            && is_placed_as(self.live.find_placed(ticket), self.plain.find(ticket))
-            && is_same(self.live.find_tagged(itt), self.plain.find_tagged(itt))
+        let by_ticket = with_ticket(&self.plain, ticket);
+        is_same(self.live.find(ticket), by_ticket)
+            && is_placed_as(self.live.find_placed(ticket), by_ticket)
+            && is_same(self.live.find_tagged(itt), with_tag(&self.plain, itt))
     }
 
     /// Both have as many commands, and each is found by its ticket and by its tag.
     fn agree_on_all(&self) -> bool {
         let mut agree = self.live.len() == self.plain.len();
-        for k in 0..self.plain.len() {
-            let command = *self.plain.at(k);
-            agree &= is_same(self.live.find(command.ticket), Some(command));
-            agree &= is_placed_as(self.live.find_placed(command.ticket), Some(command));
-            agree &= is_same(self.live.find_tagged(command.itt), Some(command));
+        for command in &self.plain {
+            agree &= is_same(self.live.find(command.ticket), Some(*command));
+            agree &= is_placed_as(self.live.find_placed(command.ticket), Some(*command));
+            agree &= is_same(self.live.find_tagged(command.itt), Some(*command));
         }
         agree
     }
 }
 
-/// Whether a ticket is greater than all others.
-fn is_newest(plain: &Commands, ticket: u64) -> bool
-    ensures { result ≡ true → All (λ l. l.ticket < ticket) plain.now.items }
-{
-    let len = plain.len();
-    len == 0 || plain.at(len - 1).ticket < ticket
+/// The command with this ticket.
+fn with_ticket(plain: &[Live], ticket: u64) -> Option<Live> {
+    plain
+        .iter()
+        .find(|command| command.ticket == ticket)
+        .copied()
 }
 
-/// Whether no command has a tag.
-fn is_unused(plain: &Commands, itt: u32) -> bool
-    ensures { result ≡ true → list_any (λ l. l.itt == itt) plain.now.items ≡ false }
+/// The command with this tag.
+fn with_tag(plain: &[Live], itt: u32) -> Option<Live> {
+    plain.iter().find(|command| command.itt == itt).copied()
+}
+
+/// Whether a ticket is greater than all others.
+fn is_newest(plain: &[Live], ticket: u64) -> bool
+    ensures { result ≡ list_all (λ l. nat_lt l.ticket ticket) plain.now }
 {
-    plain.find_tagged(itt).is_none()
+    plain.iter().all(|command| command.ticket < ticket)
+}
+
+/// Whether a command has this tag.
+fn is_used(plain: &[Live], itt: u32) -> bool
+    ensures { result ≡ list_any (λ l. l.itt == itt) plain.now }
+{
+    plain.iter().any(|command| command.itt == itt)
 }
 
 /// The slot with which a command enters: any, and mostly another one than those of the others.
@@ -180,9 +193,9 @@ impl Calls {
 
     /// The ticket of the newest command, or 0.
     fn newest(&self) -> u64 {
-        match self.both.plain.len() {
-            0 => 0,
-            len => self.both.plain.at(len - 1).ticket,
+        match self.both.plain.last() {
+            Some(newest) => newest.ticket,
+            None => 0,
         }
     }
 
@@ -220,7 +233,7 @@ impl Calls {
             1 => len - 1,
             _ => (number / 4 % len as u64) as usize,
         };
-        let ticket = self.both.plain.at(k).ticket;
+        let ticket = self.both.plain[k].ticket;
         if number % 32 == 0 {
             ticket.wrapping_sub(1 + number / 32 % 4096)
         } else {
