@@ -140,7 +140,7 @@ module _ (p : Mark → Bool) (leaves : (c : Command) → p (Leaves c) ≡ false)
 -- a view that sees nothing but numbers that are voided
 module _ {B : Type 0} (view : Mark → Option B) (leaves : (c : Command) → view (Leaves c) ≡ None) (empties : (a : Arrival) → view (Empties a) ≡ None) (enters : (c : Command) → view (Enters c) ≡ None)
     (sends : (conn : ℕ) (reply : Reply) → view (Sends conn reply) ≡ None) (closes : (conn : ℕ) → view (ClosesConn conn) ≡ None) (ends : view ClosesSession ≡ None) where
-  voids_viewed : (a : Arrival) (d : Deeds) → filter_map view (marks_done a d) ≡ filter_map view (if_some Voids d.void)
+  pub voids_viewed : (a : Arrival) (d : Deeds) → filter_map view (marks_done a d) ≡ filter_map view (if_some Voids d.void)
   voids_viewed a d =
       filter_map-append view (if_some Voids d.void) _
       ∙ ap (λ xs. filter_map view (if_some Voids d.void) ++ xs)

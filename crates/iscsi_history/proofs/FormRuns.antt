@@ -129,7 +129,7 @@ waiting_form o now t a here = by_tests (nat_lt (max_of o t + 1) a.number) (nat_l
     by_tests false true true = executed_form o now t AtArrival a _ here (does_reply o t AtArrival a (Reject 6 (header_of a.request)) refl)
     by_tests false true false = record { form = Postponed a; is = refl; formed = here }
 
-immediate_form : (o : Setting) (now : ℕ) (t : Trace) (a : Arrival) → a.event ≡ now → HasForm o now t (immediate_item o t a)
+pub immediate_form : (o : Setting) (now : ℕ) (t : Trace) (a : Arrival) → a.event ≡ now → HasForm o now t (immediate_item o t a)
 immediate_form o now t a here = by_tests (opcode a.request == 0x02 && may_wait a.request) (refusal_of_function o a.request)
   where
     by_tests : (b : Bool) (x : Option Reply) → HasForm o now t (cond b (elim x [ Some reply ↦ execution o t (Executes a) a | None ↦ waiting_item o t a ]) (execution o t (Executes a) a))
