@@ -20,18 +20,17 @@ use Rattle.iscsi_history.specs.rules.Logout.{is_open, is_last_open, live_of_unit
 use Rattle.iscsi_history.specs.rules.Items.{marks_after}
 use Rattle.iscsi_history.specs.promises.Aborts.{is_set_abort, is_abort, is_complete}
 use Rattle.iscsi_history.specs.promises.Answers.{Answers}
-use Rattle.iscsi_history.proofs.AbortMarks.{refused_incomplete}
 use Rattle.iscsi_history.proofs.BoolLemmas.{and_first, and_parts, not_true, or_false}
 use Rattle.iscsi_history.proofs.ListLemmas.{fewer_counted}
 use Rattle.iscsi_history.proofs.ElementLemmas.{In, in-filter, first-in}
 use Rattle.iscsi_history.proofs.TraceLemmas.{live-quiet}
 use Rattle.iscsi_history.proofs.HeldLemmas.{held-number}
-use Rattle.iscsi_history.proofs.VerdictLemmas.{verdict_below, verdict_answers, refusal_answers}
+use Rattle.iscsi_history.proofs.VerdictLemmas.{verdict_below, verdict_answers, refusal_answers, refused_incomplete}
 use Rattle.iscsi_history.proofs.Forms.{Start, AtTurn, AtArrival, AfterWaiting, Deeds, idle, marks_done, begun, Each, is_closing, is_completed_by, Sweeps, IsDone}
 
 -- ---- the mark by which a request executes changes nothing else
 
-live-begun : (start : Start) (a : Arrival) (t : Trace) → live (begun start a t) ≡ live t
+pub live-begun : (start : Start) (a : Arrival) (t : Trace) → live (begun start a t) ≡ live t
 live-begun AtTurn a t = live-quiet (Delivers a ∷ []) t refl (λ k. refl)
 live-begun AtArrival a t = live-quiet (Executes a ∷ []) t refl (λ k. refl)
 live-begun AfterWaiting a t = live-quiet (Executes a ∷ []) t refl (λ k. refl)
@@ -121,7 +120,7 @@ known_last t closing k (c ∷ conns) all known =
     ] refl known
 
 -- a function of this number is no abort of a whole set
-unset : (r : Request) (n : ℕ) → (function r == n) ≡ true → (n == 2 || n == 4 || n == 5) ≡ false → is_set_abort r ≡ false
+pub unset : (r : Request) (n : ℕ) → (function r == n) ≡ true → (n == 2 || n == 4 || n == 5) ≡ false → is_set_abort r ≡ false
 unset r n is other = ap (λ m. m == 2 || m == 4 || m == 5) (eqb-true (function r) n is) ∙ other
 
 pub record Does (o : Setting) (t : Trace) (start : Start) (a : Arrival) (ms : List Mark) : Type 0 where
@@ -148,7 +147,7 @@ module _ (o : Setting) (t : Trace) (start : Start) (a : Arrival) where
   idle_done : IsDone o t start a idle
   idle_done = record { voids = tt; missing = tt; leaves = λ p. omega arith; empties = λ b h. absurd h; enters = tt; answers = tt; takes_out = λ h. absurd (false≢true h) }
 
-  reply_done : (reply : Reply) → Answers a.request reply → IsDone o t start a (record idle { reply = Some reply })
+  pub reply_done : (reply : Reply) → Answers a.request reply → IsDone o t start a (record idle { reply = Some reply })
   reply_done reply fits = record { voids = tt; missing = tt; leaves = λ p. omega arith; empties = λ b h. absurd h; enters = tt; answers = fits; takes_out = λ h. absurd (false≢true h) }
 
   does_nothing : Does o t start a []

@@ -1,23 +1,23 @@
 -- Which numbers an event and its items receive: none, or one.
-use Rattle.std.proofs.Common.{List, ℕ, [], ◌∷◌, ◌≡◌, ◌⊎◌, ◌++◌, refl, ◌&&◌, cond, false, inl, inr, true, ap, None, Option, Some, ◌==◌, ◌∙◌, sym, subst, ◌||◌}
+use Rattle.std.proofs.Common.{Bool, List, ℕ, [], ◌∷◌, ◌≡◌, ◌⊎◌, ◌++◌, refl, ◌&&◌, cond, false, inl, inr, true, ap, None, Option, Some, ◌==◌, ◌∙◌, sym, subst, ◌||◌}
 use Rattle.std.specs.List.{filter_map, list_all}
 use Rattle.std.proofs.lemmas.Bool.{eqb-true, false≢true}
 use Rattle.std.proofs.lemmas.List.{append-nil}
-use Rattle.iscsi_wire.specs.Fields.{is_immediate, function}
+use Rattle.iscsi_wire.specs.Fields.{is_immediate, function, opcode}
 use Rattle.iscsi_wire.specs.declared.request.Request.{Request}
-use Rattle.iscsi_history.specs.rules.Trace.{Mark, number_received, Arrival, Trace, Voids, after_items, received}
+use Rattle.iscsi_history.specs.rules.Trace.{Executes, Mark, number_received, Arrival, Trace, Voids, after_items, received}
 use Rattle.iscsi_history.specs.rules.Execution.{ignored}
 use Rattle.iscsi_history.specs.rules.Settings.{Setting}
-use Rattle.iscsi_history.specs.rules.Management.{may_wait}
-use Rattle.iscsi_history.specs.rules.Items.{function_item, item_of, immediate_item, functions, is_waiting}
+use Rattle.iscsi_history.specs.rules.Management.{may_wait, refusal_of_function}
+use Rattle.iscsi_history.specs.rules.Items.{execution, function_item, item_of, waiting_item, immediate_item, functions, is_waiting}
 use Rattle.iscsi_history.specs.promises.Flow.{HasOneMore}
 use Rattle.iscsi_history.specs.declared.kind.Kind.TheVariants.{PassedOver, Unknown, Executes as ExecutesKind}
 use Rattle.iscsi_history.specs.rules.Agenda.{arrival_as, arrival_open, kind_of, arrival_of, numbered, with_turns}
 use Rattle.iscsi_history.specs.declared.effect.Why.{Why}
 use Rattle.iscsi_history.proofs.BoolLemmas.{and_false, and_parts}
-use Rattle.iscsi_history.proofs.Forms.{Start, AtTurn, AtArrival, AfterWaiting, start_mark, Deeds, if_some, marks_done, Form, Ignored, Rejected, Received, Postponed, Completed, Executed, marks_of_form, Each, HasForm}
+use Rattle.iscsi_history.proofs.Forms.{Start, AtTurn, AtArrival, AfterWaiting, start_mark, Deeds, if_some, marks_done, Form, Ignored, Rejected, Received, Postponed, Completed, Executed, marks_of_form, Each}
 use Rattle.iscsi_history.proofs.FormItems.{Does, does_function, does_after}
-use Rattle.iscsi_history.proofs.FormRuns.{immediate_form}
+use Rattle.iscsi_history.proofs.FormRuns.{AnyArrival, immediate_stands}
 use Rattle.iscsi_history.proofs.FateLemmas.{voids_viewed}
 
 abbrev received_by : List Mark → List ℕ
@@ -77,7 +77,14 @@ turn_receives_none o t a numbered = receives_none o t AtTurn a _ (does_after o t
 
 -- an immediate request's arrival
 pub immediate_receives_one : (o : Setting) (t : Trace) (a : Arrival) → AtMostOne (received_by (immediate_item o t a))
-immediate_receives_one o t a = let f : HasForm o a.event t (immediate_item o t a) = immediate_form o a.event t a refl in subst (λ ms. AtMostOne (received_by ms)) (sym f.is) (one_received f.form)
+immediate_receives_one o t a = by_test (is_immediate a.request) refl
+  where
+    by_test : (b : Bool) → is_immediate a.request ≡ b → AtMostOne (received_by (immediate_item o t a))
+    by_test true is = let s = immediate_stands AnyArrival o a.event t a refl tt is in subst (λ ms. AtMostOne (received_by ms)) (sym s.has.is) (one_received s.has.form)
+    by_test false is =
+        let never : (opcode a.request == 0x02 && may_wait a.request) ≡ false = ap (λ b. opcode a.request == 0x02 && (b && (function a.request == 2 || function a.request == 4 || function a.request == 5))) is ∙ and_false (opcode a.request == 0x02) in
+        subst (λ b. AtMostOne (received_by (cond b (elim (refusal_of_function o a.request) [ Some reply ↦ execution o t (Executes a) a | None ↦ waiting_item o t a ]) (execution o t (Executes a) a)))) (sym never)
+        (inl (receives_none o t AtArrival a _ (does_after o t AtArrival a) (ap (λ b. b && (function a.request == 1)) is)))
 
 -- ---- an arrival that isn't numbered
 

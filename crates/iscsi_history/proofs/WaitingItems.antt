@@ -1,5 +1,5 @@
 -- Which functions wait after an item, and the functions of a number.
-use Rattle.std.proofs.Common.{List, ◌≡◌, ◌++◌, [], ◌∷◌, Bool, filter, refl, ℕ, cond, false, true, is_some, ◌==◌, not, ◌||◌, ap, sym, ◌∙◌, eq-eqb}
+use Rattle.std.proofs.Common.{List, ◌≡◌, ◌++◌, [], ◌∷◌, Bool, filter, refl, ℕ, cond, false, true, is_some, ◌==◌, not, ◌||◌, ap, sym, subst, ◌∙◌, eq-eqb}
 use Rattle.std.specs.List.{list_any}
 use Rattle.std.proofs.lemmas.Bool.{eqb-true, false≢true}
 use Rattle.iscsi_history.specs.rules.Trace.{Arrival, Mark, waiting_through, Trace, Executes, waiting, after_items}
@@ -7,6 +7,7 @@ use Rattle.iscsi_history.specs.rules.Management.{function_marks}
 use Rattle.iscsi_history.specs.rules.Settings.{Setting}
 use Rattle.iscsi_history.specs.rules.Items.{function_item, is_waiting, functions, functions_at}
 use Rattle.iscsi_history.proofs.BoolLemmas.{or_second, or_first}
+use Rattle.iscsi_history.proofs.ElementLemmas.{In, filter-in}
 use Rattle.iscsi_history.proofs.ListLemmas.{filter-swap}
 use Rattle.iscsi_history.proofs.Forms.{AfterWaiting, Deeds, marks_done, is_closing}
 use Rattle.iscsi_history.proofs.FormItems.{DoesFunction, function_does}
@@ -73,6 +74,18 @@ gone event x (y ∷ ws) is =
       | false ↦ λ apart. ap (λ b. b || list_any (λ (z : Arrival). z.event == x.event) (without_event event ws)) (ap (λ n. y.event == n) (eqb-true x.event event is) ∙ apart) ∙ gone event x ws is
     ] refl
 
+-- one that waits still, once a function executed, came in another event
+still_apart : (o : Setting) (t : Trace) (a x : Arrival) → is_waiting x (function_item o t a ∷ t) ≡ true → not (x.event == a.event) ≡ true
+still_apart o t a x still = elim (x.event == a.event) as (λ b. (x.event == a.event) ≡ b → not b ≡ true) [
+  | false ↦ λ is. refl
+  | true ↦ λ is. absurd (false≢true (sym (ap (list_any (λ (y : Arrival). y.event == x.event)) (waiting_after_function o t a) ∙ gone a.event x (waiting t) is) ∙ still))
+] refl
+
+-- so it is still there
+pub still_in : (o : Setting) (t : Trace) (a x : Arrival) → (is_waiting x t ≡ true → In x (waiting t)) → is_waiting x (function_item o t a ∷ t) ≡ true → In x (waiting (function_item o t a ∷ t))
+still_in o t a x before still =
+    subst (In x) (sym (waiting_after_function o t a)) (filter-in (λ (b : Arrival). not (b.event == a.event)) (waiting t) x (before (still_waiting o t a x still)) (still_apart o t a x still))
+
 -- the functions of a number, the first of which is this one
 pub first_function : (o : Setting) (n : ℕ) (t : Trace) (a : Arrival) (as' : List Arrival) → filter (λ b. b.number == n) (waiting t) ≡ a ∷ as' → is_waiting a t ≡ true → functions_at o n t ≡ function_item o t a ∷ functions_at o n (function_item o t a ∷ t)
 first_function o n t a as' these waits =
@@ -84,13 +97,7 @@ first_function o n t a as' these waits =
     ∙ ap (λ b. cond (not b) (a ∷ without_event a.event as') (without_event a.event as')) (eq-eqb a.event a.event refl) in
     ap (λ bs. functions o bs t) these
     ∙ ap (λ b. let now : List (List Mark) = cond b (function_item o t a ∷ []) [] in now ++ functions o as' (after_items now t)) waits
-    ∙ ap (λ items. function_item o t a ∷ items) (sym (left_out o (λ b. not (b.event == a.event)) as' t' others) ∙ ap (λ bs. functions o bs t') (sym later))
-  where
-    others : (x : Arrival) → is_waiting x (function_item o t a ∷ t) ≡ true → not (x.event == a.event) ≡ true
-    others x still = elim (x.event == a.event) as (λ b. (x.event == a.event) ≡ b → not b ≡ true) [
-      | false ↦ λ is. refl
-      | true ↦ λ is. absurd (false≢true (sym (ap (list_any (λ (y : Arrival). y.event == x.event)) (waiting_after_function o t a) ∙ gone a.event x (waiting t) is) ∙ still))
-    ] refl
+    ∙ ap (λ items. function_item o t a ∷ items) (sym (left_out o (λ b. not (b.event == a.event)) as' t' (still_apart o t a)) ∙ ap (λ bs. functions o bs t') (sym later))
 
 -- what is first among some is one of them
 pub waits_itself : (p : Arrival → Bool) (ws : List Arrival) (a : Arrival) (as' : List Arrival) → filter p ws ≡ a ∷ as' → list_any (λ (x : Arrival). x.event == a.event) ws ≡ true
