@@ -1,16 +1,8 @@
--- Marks of commands that leave, and of things that are taken out one after the other.
-use Rattle.std.proofs.Common.{◌≡◌, ℕ, ◌==◌, ◌||◌, Bool, true, false, List, [], ◌∷◌, ◌++◌, map, Option, None, refl, ap, ◌∙◌}
+-- Where no part has a thing, nothing has it: marks and commands one after the other.
+use Rattle.std.proofs.Common.{◌≡◌, ℕ, ◌==◌, ◌||◌, Bool, false, List, [], ◌∷◌, map, Option, None, refl, ap, ◌∙◌}
 use Rattle.std.specs.List.{list_any, filter_map, cons_option, flat_map}
 use Rattle.std.proofs.lemmas.List.Folds.{list_any-append}
-use Rattle.iscsi_history.specs.rules.Trace.{Command, Mark, Leaves, leaves_ticket, is_among}
-
-or_group : (a b c : Bool) → (a || (b || c)) ≡ ((a || b) || c)
-or_group true b c = refl
-or_group false b c = refl
-
-pub leaves_are : (k : ℕ) (cs : List Command) (ms : List Mark) → list_any (leaves_ticket k) (map Leaves cs ++ ms) ≡ (is_among k cs || list_any (leaves_ticket k) ms)
-leaves_are k [] ms = refl
-leaves_are k (c ∷ cs) ms = ap (λ b. (c.ticket == k) || b) (leaves_are k cs ms) ∙ or_group (c.ticket == k) (is_among k cs) (list_any (leaves_ticket k) ms)
+use Rattle.iscsi_history.specs.rules.Trace.{Command, Mark, is_among}
 
 pub none_among : (k : ℕ) (f : ℕ → List Command) (units : List ℕ) → ((unit : ℕ) → is_among k (f unit) ≡ false) → is_among k (flat_map f units) ≡ false
 none_among k f [] none = refl

@@ -162,7 +162,7 @@ emptied_at n d = list_any (λ (b : Arrival). b.number == n) d.emptied
 abbrev delivered_at : ℕ → Start → Arrival → Bool
 delivered_at n start a = list_any (delivers_number n) (start_mark start a ∷ [])
 
-done_at : (n : ℕ) (a : Arrival) (d : Deeds) → ItemAt n (marks_done a d) (void_at n d) (void_at n d) (emptied_at n d) false []
+pub done_at : (n : ℕ) (a : Arrival) (d : Deeds) → ItemAt n (marks_done a d) (void_at n d) (void_at n d) (emptied_at n d) false []
 done_at n a d = record {
   receives = ap (λ ns. contains ns n) (voids_viewed number_received (λ c. refl) (λ b. refl) (λ c. refl) (λ conn reply. refl) (λ conn. refl) refl a d) ∙ numbers d.void;
   voided = tested (voids_number n) (λ c. refl) (λ c. refl) (λ conn reply. refl) (λ conn. refl) refl a d ∙ ap (λ b. void_at n d || b) (none_mapped (voids_number n) Empties d.emptied (λ b. refl)) ∙ or_false (void_at n d);

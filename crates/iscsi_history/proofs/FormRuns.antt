@@ -25,7 +25,7 @@ use Rattle.iscsi_history.proofs.ElementLemmas.{In, in-filter, first-in}
 use Rattle.iscsi_history.proofs.HeldLemmas.{held-number}
 use Rattle.iscsi_history.proofs.Missing.{exp_item}
 use Rattle.iscsi_history.proofs.WaitingItems.{still_in}
-use Rattle.iscsi_history.proofs.Forms.{Start, AtTurn, AtArrival, AfterWaiting, start_mark, Deeds, idle, Form, Ignored, Rejected, Received, Postponed, Completed, Executed, Starts, begun, is_completed_by, Sweeps, HasForm, is_arrival, HaveForms}
+use Rattle.iscsi_history.proofs.Forms.{Start, AtTurn, AtArrival, AfterWaiting, start_mark, Deeds, idle, Form, Ignored, Rejected, Received, Postponed, Completed, Executed, Starts, begun, is_completed_by, Sweeps, HasForm, is_arrival, is_turn, HaveForms}
 use Rattle.iscsi_history.proofs.FormItems.{Does, function_does, any_does, reply_done}
 
 -- ---- where an item stands: at a place in the order of numbers
@@ -57,7 +57,7 @@ module _ (Q : Trace → Arrival → Type 0) (o : Setting) (now : ℕ) where
   -- the items from p to e, in the event that has begun
   abbrev pub Turns : ℕ → ℕ → Trace → List (List Mark) → Type 0
   Turns p e t [] = p ≤ e
-  Turns p e t (item ∷ items) = (q : ℕ) × ((p ≤ q) × ((s : Stands q t item) × ((is_arrival s.has.form ≡ false) × Turns q e (item ∷ t) items)))
+  Turns p e t (item ∷ items) = (q : ℕ) × ((p ≤ q) × ((s : Stands q t item) × ((is_turn s.has.form ≡ true) × Turns q e (item ∷ t) items)))
 
   -- the items of an event: the first one stands at ExpCmdSN
   abbrev pub TurnsOf : Trace → List (List Mark) → Type 0
@@ -223,7 +223,18 @@ HaveForms-on : (o : Setting) (p q : ℕ) (t : Trace) → p ≤ q → HaveForms o
 HaveForms-on o p q [] on x = tt
 HaveForms-on o p q (item ∷ t) on x = (x.0, ((let z : x.0 < q = omega (arith, x.1.0) in z), x.1.1))
 
--- one item more: the first of its event, or one that begins no arrival
+-- an item that has its turn begins no arrival
+turn_arrives_not : (form : Form) → is_turn form ≡ true → is_arrival form ≡ false
+turn_arrives_not (Ignored why) h = refl
+turn_arrives_not (Rejected a) h = refl
+turn_arrives_not (Received a) h = absurd (false≢true h)
+turn_arrives_not (Postponed a) h = absurd (false≢true h)
+turn_arrives_not (Completed c status) h = refl
+turn_arrives_not (Executed AtTurn a d) h = refl
+turn_arrives_not (Executed AtArrival a d) h = absurd (false≢true h)
+turn_arrives_not (Executed AfterWaiting a d) h = refl
+
+-- one item more: the first of its event, or one that has its turn
 HaveForms-more : (o : Setting) (now : ℕ) (t : Trace) (item : List Mark) (f : HasForm o now t item) → HaveForms o (cond (is_arrival f.form) now (now + 1)) t → HaveForms o (now + 1) (item ∷ t)
 HaveForms-more o now t item f x = (now, ((let z : now < now + 1 = omega arith in z), (f, x)))
 
@@ -231,7 +242,7 @@ turns_going : (o : Setting) (now p e : ℕ) (t : Trace) (items : List (List Mark
 turns_going o now p e t [] s x = x
 turns_going o now p e t (item ∷ items) s x =
     let f : HasForm o now t item = s.1.1.0.has in
-    turns_going o now s.0 e (item ∷ t) items s.1.1.1.1 (HaveForms-more o now t item f (subst (λ b. HaveForms o (cond b now (now + 1)) t) (sym s.1.1.1.0) x))
+    turns_going o now s.0 e (item ∷ t) items s.1.1.1.1 (HaveForms-more o now t item f (subst (λ b. HaveForms o (cond b now (now + 1)) t) (sym (turn_arrives_not f.form s.1.1.1.0)) x))
 
 pub event_going : (o : Setting) (now : ℕ) (t : Trace) (e : Event) → HaveForms o now t → HaveForms o (now + 1) (after_event o now t e)
 event_going o now t e x = by_items (items_of o now t e) (event_stands AnyArrival o now t e (any_brought o now t e))

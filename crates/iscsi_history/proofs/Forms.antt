@@ -147,6 +147,12 @@ is_arrival (Postponed a) = true
 is_arrival (Executed AtArrival a d) = true
 is_arrival _ = false
 
+-- the item has its turn in the agenda
+abbrev pub is_turn : Form → Bool
+is_turn (Executed AtTurn a d) = true
+is_turn (Executed AfterWaiting a d) = true
+is_turn _ = false
+
 -- each item has a form. Those of a trace are of events before `next`; before an arrival those of earlier events stand
 abbrev pub HaveForms : Setting → ℕ → Trace → Type 0
 HaveForms o next [] = Unit {0}
