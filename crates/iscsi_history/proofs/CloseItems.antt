@@ -1,5 +1,5 @@
 -- Each item does and brings what is on open connections, and takes out what is going on on those that it closes.
-use Rattle.std.proofs.Common.{◌≡◌, ℕ, ◌+◌, ◌-◌, ◌<◌, ◌≤◌, ◌==◌, ◌||◌, inl, ⊎_elim, is_some, cond, Bool, true, false, List, [], ◌∷◌, Option, Some, None, refl, ap, sym, subst, ◌∙◌, arith, eq-eqb}
+use Rattle.std.proofs.Common.{◌≡◌, ℕ, ◌+◌, ◌-◌, ◌<◌, ◌≤◌, ◌==◌, ◌||◌, inl, ⊎_elim, cond, Bool, true, false, List, [], ◌∷◌, Option, Some, None, refl, ap, sym, subst, ◌∙◌, arith, eq-eqb}
 use Rattle.std.specs.List.{list_any, list_all, filter_map, range_with_len, cons_option}
 use Rattle.std.proofs.lemmas.Bool.{false≢true, eqb-true}
 use Rattle.iscsi_wire.specs.Serial.{number_of_first}
@@ -16,7 +16,7 @@ use Rattle.iscsi_history.proofs.Missing.{exp_item, expected_low}
 use Rattle.iscsi_history.proofs.Forms.{Start, Starts, AtTurn, AtArrival, AfterWaiting, start_mark, Deeds, marks_done, Form, Ignored, Rejected, Received, Postponed, Completed, Executed, marks_of_form, begun, EntersAs, is_closing, TakesOut, IsFormed}
 use Rattle.iscsi_history.proofs.FormItems.{live-begun}
 use Rattle.iscsi_history.proofs.FormRuns.{IsDue, StandsAt, Stands}
-use Rattle.iscsi_history.proofs.DeedLemmas.{each_is, begun_any, none_done}
+use Rattle.iscsi_history.proofs.DeedLemmas.{each_is, begun_any, none_done, unended, unparted}
 use Rattle.iscsi_history.proofs.TouchLemmas.{EntersNext, entering_in, enters_form, entering_next, leaves_form}
 use Rattle.iscsi_history.proofs.FateLemmas.{executed_at, held-kept}
 use Rattle.iscsi_history.proofs.ReplyForms.{in_among}
@@ -133,20 +133,24 @@ module _ (o : Setting) (now p : ℕ) (t : Trace) (start : Start) (a : Arrival) (
   sound_staying : is_closing d ≡ false → Sound o t marks
   sound_staying stays =
       sound_open o t (connection_of a.request) marks home only (units_form o now t (Executed start a d) x) (range_form o now p t (Executed start a d) at)
-      (λ k. unclosed k (λ is. false≢true (sym stays ∙ or_first d.ending (is_some d.closing) is)) (λ conn is. absurd (false≢true (sym stays ∙ or_second d.ending (is_some d.closing) (ap is_some is)))))
+      (λ k. unclosed k (unended a d stays) (λ conn is. absurd (unparted a d stays conn is)))
 
   module _ (s : TakesOut o (begun start a t) d) where
     -- it takes out what there is of an open connection that it closes
     closes_these : (k : ℕ) → is_open o t k ≡ true → closed_by marks k ≡ true → s.of_these k ≡ true
-    closes_these k on closed =
-        by_bool (s.of_these k ≡ true) (s.of_these k) (λ is. is)
-        (λ apart. absurd (false≢true (sym (unclosed k (λ is. false≢true (sym apart ∙ s.ending is k (still start)))
-        (λ conn is. by_bool ((conn == k) ≡ false) (conn == k) (λ same. absurd (false≢true (sym apart ∙ ap s.of_these (sym (eqb-true conn k same)) ∙ each_is (λ n. s.of_these n ≡ true) d.closing conn s.closing is))) (λ no_one. no_one))) ∙ closed)))
+    closes_these k on closed = by_bool (s.of_these k ≡ true) (s.of_these k) (λ is. is) (λ apart. absurd (false≢true (sym (none apart) ∙ closed)))
       where
         still : (s : Start) → is_open o (begun s a t) k ≡ true
         still AtTurn = open-item o (Delivers a ∷ []) t k on refl
         still AtArrival = open-item o (Executes a ∷ []) t k on refl
         still AfterWaiting = open-item o (Executes a ∷ []) t k on refl
+
+        other : s.of_these k ≡ false → (conn : ℕ) → d.closing ≡ Some conn → (v : Bool) → (conn == k) ≡ v → v ≡ false
+        other apart conn is true same = absurd (false≢true (sym apart ∙ ap s.of_these (sym (eqb-true conn k same)) ∙ each_is (λ n. s.of_these n ≡ true) d.closing conn s.closing is))
+        other apart conn is false same = refl
+
+        none : s.of_these k ≡ false → closed_by marks k ≡ false
+        none apart = unclosed k (λ is. false≢true (sym apart ∙ s.ending is k (still start))) (λ conn is. other apart conn is (conn == k) refl)
 
     live_leaves : (e : Command) → In e (live t) → closed_by marks (connection_of e.arrival.request) ≡ true → list_any (leaves_ticket e.ticket) marks ≡ true
     live_leaves e there closed =

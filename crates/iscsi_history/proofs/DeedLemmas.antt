@@ -1,11 +1,13 @@
 -- The marks of what a request does, one by one.
-use Rattle.std.proofs.Common.{◌≡◌, ℕ, ◌||◌, inl, inr, cond, Bool, true, false, List, [], ◌∷◌, ◌++◌, map, Option, Some, None, refl, ap, subst, ◌∙◌}
+use Rattle.std.proofs.Common.{◌≡◌, ℕ, ◌||◌, inl, inr, cond, Bool, true, false, List, [], ◌∷◌, ◌++◌, map, Option, Some, None, is_some, refl, ap, sym, subst, ◌∙◌}
 use Rattle.std.specs.List.{list_any}
+use Rattle.std.proofs.lemmas.Bool.{false≢true}
 use Rattle.iscsi_wire.specs.declared.reply.Reply.{Reply}
 use Rattle.iscsi_wire.specs.Fields.{connection_of}
 use Rattle.iscsi_history.specs.rules.Trace.{Arrival, Command, Mark, Delivers, Executes, Voids, Empties, Leaves, Enters, Sends, ClosesConn, ClosesSession}
+use Rattle.iscsi_history.proofs.BoolLemmas.{or_first, or_second}
 use Rattle.iscsi_history.proofs.ElementLemmas.{In}
-use Rattle.iscsi_history.proofs.Forms.{Start, AtTurn, AtArrival, AfterWaiting, start_mark, Deeds, if_some, marks_done, Each}
+use Rattle.iscsi_history.proofs.Forms.{Start, AtTurn, AtArrival, AfterWaiting, start_mark, Deeds, if_some, marks_done, Each, is_closing}
 
 pub each_is : {A : Type 0} (P : A → Type 0) (x : Option A) (y : A) → Each P x → x ≡ Some y → P y
 each_is P (Some z) y h is = let same : z ≡ y = cc in subst P same h
@@ -18,6 +20,13 @@ begun_any p AtArrival a ms delivers executes = ap (λ b. b || list_any p ms) exe
 begun_any p AfterWaiting a ms delivers executes = ap (λ b. b || list_any p ms) executes
 
 module _ (a : Arrival) (d : Deeds) where
+  -- where it closes nothing
+  pub unended : is_closing d ≡ false → d.ending ≡ true → ⊥
+  unended stays is = false≢true (sym stays ∙ or_first d.ending (is_some d.closing) is)
+
+  pub unparted : is_closing d ≡ false → (conn : ℕ) → d.closing ≡ Some conn → ⊥
+  unparted stays conn is = false≢true (sym stays ∙ or_second d.ending (is_some d.closing) (ap is_some is))
+
   -- what holds of no marks, and of each of these before others, holds of all
   pub each_done : (P : List Mark → Type 0) → P [] → ((n : ℕ) → d.void ≡ Some n → (ms : List Mark) → P ms → P (Voids n ∷ ms)) → ((c : Command) → In c d.leaving → (ms : List Mark) → P ms → P (Leaves c ∷ ms))
       → ((b : Arrival) → In b d.emptied → (ms : List Mark) → P ms → P (Empties b ∷ ms)) → ((c : Command) → d.entering ≡ Some c → (ms : List Mark) → P ms → P (Enters c ∷ ms))

@@ -74,6 +74,10 @@ module _ (Q : Trace → Arrival → Type 0) (o : Setting) (now : ℕ) where
   abbrev executed : (p : ℕ) (t : Trace) (start : Start) (a : Arrival) (ms : List Mark) → Starts now t start a → IsDue p t start a → (d : Does o t start a ms) → Reaches o p t start a d.deeds → Stands p t (start_mark start a ∷ ms)
   executed p t start a ms starts due d reaches = record { has = record { form = Executed start a d.deeds; is = ap (λ xs. start_mark start a ∷ xs) d.is; formed = (starts, d.done) }; at = (due, reaches) }
 
+  -- an item that has its turn at n, and those after it
+  turn_first : (n e : ℕ) (t : Trace) (item : List Mark) (items : List (List Mark)) (s : Stands n t item) → is_turn s.has.form ≡ true → Turns n e (item ∷ t) items → Turns n e t (item ∷ items)
+  turn_first n e t item items s turn rest = (n, ((let z : n ≤ n = omega arith in z), (s, (turn, rest))))
+
   -- the functions of a number, which are due at it
   functions_stand : (n e : ℕ) (as' : List Arrival) (t : Trace) → n ≤ e → ((a : Arrival) → In a as' → (a.number ≡ n) × (is_waiting a t ≡ true → In a (waiting t))) → Turns n e t (functions o as' t)
   functions_stand n e [] t last wait = last
@@ -82,19 +86,9 @@ module _ (Q : Trace → Arrival → Type 0) (o : Setting) (now : ℕ) where
         | true ↦ λ is.
             let here = wait a (inl refl) in
             let number : a.number ≡ n = here.0 in
-            let f = function_does o t AfterWaiting a in (
-              n,
-              (
-                (let z : n ≤ n = omega arith in z),
-                (
-                  executed n t AfterWaiting a _ is (number, here.1 is) f.does (λ aborts set done. ((let z : a.number ≤ n = omega (arith, number) in z), f.sweeps set done)),
-                  (
-                    refl,
-                    functions_stand n e as' (function_item o t a ∷ t) last (λ x later. let there = wait x (inr later) in (there.0, still_in o t a x there.1)),
-                  ),
-                ),
-              ),
-            )
+            let f = function_does o t AfterWaiting a in
+            turn_first n e t _ _ (executed n t AfterWaiting a _ is (number, here.1 is) f.does (λ aborts set done. ((let z : a.number ≤ n = omega (arith, number) in z), f.sweeps set done))) refl
+            (functions_stand n e as' (function_item o t a ∷ t) last (λ x later. let there = wait x (inr later) in (there.0, still_in o t a x there.1)))
         | false ↦ λ is. functions_stand n e as' t last (λ x later. wait x (inr later))
       ] refl
 
@@ -107,7 +101,7 @@ module _ (Q : Trace → Arrival → Type 0) (o : Setting) (now : ℕ) where
         | Some a ↦ λ is.
             let number : a.number ≡ n = held-number t n a is in
             let x = any_does o t AtTurn a in
-            (n, ((let z : n ≤ n = omega arith in z), (executed n t AtTurn a _ (ap (held t) number ∙ is) number x.does (λ aborts set done. ((let z : a.number ≤ n = omega (arith, number) in z), x.sweeps aborts set done)), (refl, last))))
+            turn_first n e t _ [] (executed n t AtTurn a _ (ap (held t) number ∙ is) number x.does (λ aborts set done. ((let z : a.number ≤ n = omega (arith, number) in z), x.sweeps aborts set done))) refl last
         | None ↦ λ is. last
       ] refl
 

@@ -1,5 +1,5 @@
 -- Which functions wait after an item, and the functions of a number.
-use Rattle.std.proofs.Common.{List, ◌≡◌, ◌++◌, [], ◌∷◌, Bool, filter, refl, ℕ, cond, false, true, is_some, ◌==◌, not, ◌||◌, ap, sym, subst, ◌∙◌, eq-eqb}
+use Rattle.std.proofs.Common.{List, ◌≡◌, ◌++◌, [], ◌∷◌, Bool, filter, refl, ℕ, cond, false, true, ◌==◌, not, ◌||◌, ap, sym, subst, ◌∙◌, eq-eqb}
 use Rattle.std.specs.List.{list_any}
 use Rattle.std.proofs.lemmas.Bool.{eqb-true, false≢true}
 use Rattle.iscsi_history.specs.rules.Trace.{Arrival, Mark, waiting_through, Trace, Executes, waiting, after_items}
@@ -11,7 +11,7 @@ use Rattle.iscsi_history.proofs.ElementLemmas.{In, filter-in}
 use Rattle.iscsi_history.proofs.ListLemmas.{filter-swap}
 use Rattle.iscsi_history.proofs.Forms.{AfterWaiting, Deeds, marks_done, is_closing}
 use Rattle.iscsi_history.proofs.FormItems.{DoesFunction, function_does}
-use Rattle.iscsi_history.proofs.DeedLemmas.{each_done}
+use Rattle.iscsi_history.proofs.DeedLemmas.{each_done, unended, unparted}
 
 -- ---- those that wait, once a function executed
 
@@ -19,7 +19,7 @@ use Rattle.iscsi_history.proofs.DeedLemmas.{each_done}
 calm_done : (a : Arrival) (d : Deeds) → is_closing d ≡ false → (ws : List Arrival) → waiting_through (marks_done a d) ws ≡ ws
 calm_done a d stays =
     each_done a d (λ ms. (ws : List Arrival) → waiting_through ms ws ≡ ws) (λ ws. refl) (λ n is ms rest. rest) (λ c there ms rest. rest) (λ b there ms rest. rest) (λ c is ms rest. rest) (λ reply is ms rest. rest)
-    (λ conn is. absurd (false≢true (sym stays ∙ or_second d.ending (is_some d.closing) (ap is_some is)))) (λ is. absurd (false≢true (sym stays ∙ or_first d.ending (is_some d.closing) is)))
+    (λ conn is. absurd (unparted a d stays conn is)) (λ is. absurd (unended a d stays is))
 
 abbrev pub without_event : ℕ → List Arrival → List Arrival
 without_event event ws = filter (λ b. not (b.event == event)) ws
