@@ -1,30 +1,25 @@
 -- Each item does and brings what is on open connections, and takes out what is going on on those that it closes.
-use Rattle.std.proofs.Common.{◌≡◌, ℕ, ◌+◌, ◌-◌, ◌<◌, ◌≤◌, ◌==◌, ◌&&◌, ◌||◌, ◌⊎◌, inl, inr, ⊎_elim, not, cond, Bool, true, false, List, [], ◌∷◌, ◌++◌, map, filter, Option, Some, None, refl, ap, sym, subst, ◌∙◌, arith, eq-eqb, append_assoc, nat_lt, nat_le}
+use Rattle.std.proofs.Common.{◌≡◌, ℕ, ◌+◌, ◌-◌, ◌<◌, ◌≤◌, ◌==◌, ◌||◌, inl, ⊎_elim, cond, Bool, true, false, List, [], ◌∷◌, Option, Some, None, refl, ap, sym, subst, ◌∙◌, arith, eq-eqb}
 use Rattle.std.specs.List.{list_any, list_all, filter_map, range_with_len, cons_option}
 use Rattle.std.proofs.lemmas.Bool.{false≢true, eqb-true}
-use Rattle.std.proofs.lemmas.List.{append-nil}
-use Rattle.std.proofs.lemmas.List.Folds.{list_any-append}
-use Rattle.iscsi_wire.specs.declared.reply.Reply.{Reply}
-use Rattle.iscsi_wire.specs.declared.reply.Reply.TheVariants.{Task, Logout, Reject}
-use Rattle.iscsi_wire.specs.Serial.{lift, number_of_first}
-use Rattle.iscsi_wire.specs.Fields.{connection_of, header_of, is_immediate, opcode, function, itt, rtt, cid, ref_cmd_sn}
+use Rattle.iscsi_wire.specs.Serial.{number_of_first}
+use Rattle.iscsi_wire.specs.Fields.{connection_of}
 use Rattle.iscsi_history.specs.declared.effect.Why.{Why}
-use Rattle.iscsi_history.specs.declared.verdict.Verdict.{Verdict}
-use Rattle.iscsi_history.specs.declared.verdict.Verdict.TheVariants.{Nothing, Answer, Enter}
-use Rattle.iscsi_history.specs.rules.Settings.{Setting, is_known}
-use Rattle.iscsi_history.specs.rules.Trace.{Arrival, Command, Mark, Admits, Delivers, Executes, Voids, Empties, Waits, Leaves, Enters, ClosesConn, ClosesSession, Ignores, Trace, has, shown, first_of, is_received, admits_at, delivers_number, is_delivered, empties_number, is_emptied, held, enters, entered, leaves_ticket, live, live_in, closes_conn, closes_session, is_ended, is_closed}
-use Rattle.iscsi_history.specs.rules.Execution.{exp_of, max_of, NO_TAG, unit_named, verdict_of, marks_of, next_command, rejected, reply_on}
-use Rattle.iscsi_history.specs.rules.Management.{may_wait, refusal_of_function, MOST_WAITING, waiting_on, answer, held_command, live_with_tag, abort_missing, abort_task, is_before, abort_all, query, function_to, function_marks, management_marks}
-use Rattle.iscsi_history.specs.rules.Logout.{is_open, is_last_open, live_of_units, all_held, taken_out, parting, end_session, close_conn, logout_marks}
-use Rattle.iscsi_history.specs.rules.Items.{execution, item_of, waiting_item, immediate_item, function_item}
-use Rattle.iscsi_history.proofs.BoolLemmas.{and_parts, or_first, or_second, or_false, not_true}
-use Rattle.iscsi_history.proofs.ApartLemmas.{eq_sym}
-use Rattle.iscsi_history.proofs.TraceLemmas.{live-quiet}
+use Rattle.iscsi_history.specs.rules.Settings.{Setting}
+use Rattle.iscsi_history.specs.rules.Trace.{Arrival, Command, Mark, Delivers, Executes, Ignores, Trace, first_of, admits_at, delivers_number, empties_number, held, enters, entered, leaves_ticket, live, live_in, closes_conn, closes_session, is_ended}
+use Rattle.iscsi_history.specs.rules.Execution.{exp_of, unfinished}
+use Rattle.iscsi_history.specs.rules.Logout.{is_open, live_of_units, all_held}
+use Rattle.iscsi_history.proofs.BoolLemmas.{or_first, or_second}
+use Rattle.iscsi_history.proofs.ElementLemmas.{In, in-cons, in-any, in-filter, filter-in, flat_map-in, range-in}
 use Rattle.iscsi_history.proofs.HeldLemmas.{held-number, admitted_of_held}
-use Rattle.iscsi_history.proofs.AbortMarks.{any_taken}
-use Rattle.iscsi_history.proofs.AbortRuns.{exp_item}
-use Rattle.iscsi_history.proofs.VerdictLemmas.{verdict_below}
-use Rattle.iscsi_history.proofs.ElementLemmas.{In, in-filter, filter-in, flat_map-in, range-in}
+use Rattle.iscsi_history.proofs.Missing.{exp_item, expected_low}
+use Rattle.iscsi_history.proofs.Forms.{Start, Starts, AtTurn, AtArrival, AfterWaiting, start_mark, Deeds, marks_done, Form, Ignored, Rejected, Received, Postponed, Completed, Executed, marks_of_form, begun, EntersAs, is_closing, TakesOut, IsFormed}
+use Rattle.iscsi_history.proofs.FormItems.{live-begun}
+use Rattle.iscsi_history.proofs.FormRuns.{IsDue, StandsAt, Stands}
+use Rattle.iscsi_history.proofs.DeedLemmas.{each_is, begun_any, none_done, unended, unparted}
+use Rattle.iscsi_history.proofs.TouchLemmas.{EntersNext, entering_in, enters_form, entering_next, leaves_form}
+use Rattle.iscsi_history.proofs.FateLemmas.{executed_at, held-kept}
+use Rattle.iscsi_history.proofs.ReplyForms.{in_among}
 use Rattle.iscsi_history.proofs.CloseLemmas.{is_at, brings, ignores, closed_by, entered_brought, admitted_brought, Sound, Clear, open-item, open-unended, by_bool}
 
 -- ---- items on one open connection
@@ -72,307 +67,137 @@ module _ (o : Setting) (t : Trace) (conn : ℕ) (item : List Mark) (here : is_op
     ended = going_on;
   }
 
--- ---- marks that bring nothing and close nothing
+-- ---- what comes to be live and to be held
 
-record Plain (conn : ℕ) (ms : List Mark) : Type 0 where
-  only : Only conn ms
-  brings_none : list_any brings ms ≡ false
-  session : list_any closes_session ms ≡ false
-  conns : (k : ℕ) → list_any (closes_conn k) ms ≡ false
+-- a command that enters has a unit of the session
+units_form : (o : Setting) (now : ℕ) (t : Trace) (form : Form) → IsFormed o now t form → (c : Command) → In c (filter_map enters (marks_of_form form)) → c.unit < o.units
+units_form o now t form x c h =
+    ⊎_elim (λ is. (each_is (EntersNext o t form) (entering_in form) c (entering_next o now t form x) is).below) (λ none. absurd none)
+    (in-cons (entering_in form) [] c (subst (In c) (enters_form form) h))
 
-plain_none : (conn : ℕ) → Plain conn []
-plain_none conn = record { only = λ k apart. refl; brings_none = refl; session = refl; conns = λ k. refl }
+-- a number that is neither below ExpCmdSN nor above MaxCmdSN
+in_window : (e window unfinished n : ℕ) → 1 ≤ e → e ≤ n → n ≤ e + window - 1 - unfinished → n < e + window
+in_window e window unfinished n some low high = omega arith
 
-plain_reply : (a : Arrival) (reply : Reply) → Plain (connection_of a.request) (reply_on a reply)
-plain_reply a reply = record { only = λ k apart. ap (λ b. b || false) apart; brings_none = refl; session = refl; conns = λ k. refl }
+-- the arrivals that aren't passed over are on open connections
+abbrev pub OnOpen : Setting → Trace → Arrival → Type 0
+OnOpen o t a = is_open o t (connection_of a.request) ≡ true
 
-plain_leaves : (conn : ℕ) (cs : List Command) (ms : List Mark) → Plain conn ms → Plain conn (map Leaves cs ++ ms)
-plain_leaves conn [] ms p = p
-plain_leaves conn (c ∷ cs) ms p = let rest : Plain conn (map Leaves cs ++ ms) = plain_leaves conn cs ms p in record { only = rest.only; brings_none = rest.brings_none; session = rest.session; conns = rest.conns }
-
-plain_all : (t : Trace) (a : Arrival) (unit : ℕ) (covers : Command → Bool) → Plain (connection_of a.request) (abort_all t a unit covers)
-plain_all t a unit covers = plain_leaves (connection_of a.request) (filter covers (live_in unit t)) (answer a 0) (plain_reply a (Task (itt a.request) 0))
-
-plain_missing : (o : Setting) (t : Trace) (a : Arrival) (n : ℕ) → Plain (connection_of a.request) (abort_missing o t a n)
-plain_missing o t a n = by_tests (is_immediate a.request && nat_le (exp_of o t) n && nat_le n (max_of o t) && nat_lt n a.number) (is_received t n)
+-- what is received is in the window
+range_form : (o : Setting) (now p : ℕ) (t : Trace) (form : Form) → StandsAt (OnOpen o) o now p t form → (n : ℕ) (b : Arrival) → first_of (filter_map (admits_at n) (marks_of_form form)) ≡ Some b → (number_of_first o.first ≤ n) × (n < exp_of o t + o.window)
+range_form o now p t (Ignored why) at n b h = absurd cc
+range_form o now p t (Rejected a) at n b h = absurd cc
+range_form o now p t (Received a) at n b h = by_test (a.number == n) refl h
   where
-    by_tests : (b c : Bool) → Plain (connection_of a.request) (cond b (cond c [] (Voids n ∷ []) ++ answer a 0) (answer a 1))
-    by_tests true true = plain_reply a (Task (itt a.request) 0)
-    by_tests true false = record { only = λ k apart. ap (λ b. b || false) apart; brings_none = refl; session = refl; conns = λ k. refl }
-    by_tests false c = plain_reply a (Task (itt a.request) 1)
+    by_test : (v : Bool) → (a.number == n) ≡ v → first_of (cons_option (cond v (Some a) None) []) ≡ Some b → (number_of_first o.first ≤ n) × (n < exp_of o t + o.window)
+    by_test false is found = absurd cc
+    by_test true is found =
+        let same : a.number ≡ n = eqb-true a.number n is in
+        let start : number_of_first o.first ≤ exp_of o t = expected_low o.first t in
+        let low : exp_of o t ≤ a.number = at.1.0 in
+        let high : a.number < exp_of o t + o.window = in_window (exp_of o t) o.window (unfinished t) a.number (omega (arith, start)) low at.1.1 in
+        ((let z : number_of_first o.first ≤ n = omega (arith, start, low, same) in z), (let z : n < exp_of o t + o.window = omega (arith, high, same) in z))
+range_form o now p t (Postponed a) at n b h = absurd cc
+range_form o now p t (Completed c status) at n b h = absurd cc
+range_form o now p t (Executed start a d) at n b h = absurd (let none : None ≡ Some b = sym (ap first_of (executed_at n start a d).admits) ∙ h in cc)
 
-plain_task : (o : Setting) (t : Trace) (a : Arrival) (unit : ℕ) → Plain (connection_of a.request) (abort_task o t a unit)
-plain_task o t a unit = by_found (live_with_tag t (rtt a.request) unit) (held_command o t (rtt a.request) unit a.number)
-  where
-    by_found : (x : Option Command) (y : Option Arrival)
-        → Plain (connection_of a.request) (elim x [ Some c ↦ Leaves c ∷ answer a 0 | None ↦ elim y [ Some h ↦ Empties h ∷ answer a 0 | None ↦ abort_missing o t a (lift (exp_of o t) (ref_cmd_sn a.request)) ] ])
-    by_found (Some c) y = record { only = λ k apart. ap (λ b. b || false) apart; brings_none = refl; session = refl; conns = λ k. refl }
-    by_found None (Some h) = record { only = λ k apart. ap (λ b. b || false) apart; brings_none = refl; session = refl; conns = λ k. refl }
-    by_found None None = plain_missing o t a (lift (exp_of o t) (ref_cmd_sn a.request))
+-- ---- a request that executes
 
-plain_to : (o : Setting) (t : Trace) (a : Arrival) (unit : ℕ) → Plain (connection_of a.request) (function_to o t a unit)
-plain_to o t a unit = by_tests (function a.request == 1) (function a.request == 5) (function a.request == 9) (function a.request == 10)
-  where
-    by_tests : (b c d e : Bool) → Plain (connection_of a.request) (cond b (abort_task o t a unit) (cond c (abort_all t a unit (λ x. true)) (cond d (query a (list_any (λ x. itt x.arrival.request == rtt a.request) (live_in unit t))) (cond e (query a (list_any (λ x. true) (live_in unit t))) (abort_all t a unit (is_before a))))))
-    by_tests true c d e = plain_task o t a unit
-    by_tests false true d e = plain_all t a unit (λ x. true)
-    by_tests false false true e = plain_reply a (Task (itt a.request) (cond (list_any (λ x. itt x.arrival.request == rtt a.request) (live_in unit t)) 7 0))
-    by_tests false false false true = plain_reply a (Task (itt a.request) (cond (list_any (λ x. true) (live_in unit t)) 7 0))
-    by_tests false false false false = plain_all t a unit (is_before a)
+module _ (o : Setting) (now p : ℕ) (t : Trace) (start : Start) (a : Arrival) (d : Deeds) (x : IsFormed o now t (Executed start a d)) (at : StandsAt (OnOpen o) o now p t (Executed start a d)) (c : Clear o t) where
+  abbrev marks : List Mark
+  marks = marks_of_form (Executed start a d)
 
-plain_function : (o : Setting) (t : Trace) (a : Arrival) → Plain (connection_of a.request) (function_marks o t a)
-plain_function o t a =
-    elim (unit_named o.units a.request) as (λ x. Plain (connection_of a.request) (elim x [ Some unit ↦ function_to o t a unit | None ↦ [] ])) [
-      | Some unit ↦ plain_to o t a unit
-      | None ↦ plain_none (connection_of a.request)
-    ]
+  -- its connection is open
+  home : is_open o t (connection_of a.request) ≡ true
+  home = by_start start x.0 at.0
+    where
+      by_start : (s : Start) → Starts now t s a → IsDue (OnOpen o) o now p t s a → is_open o t (connection_of a.request) ≡ true
+      by_start AtTurn held here = c.holds a.number a held
+      by_start AtArrival arrived here = here
+      by_start AfterWaiting waits here = c.waits a here.1
 
-plain_management : (o : Setting) (t : Trace) (a : Arrival) → Plain (connection_of a.request) (management_marks o t a)
-plain_management o t a =
-    elim (refusal_of_function o a.request) as (λ x. Plain (connection_of a.request) (elim x [ Some reply ↦ reply_on a reply | None ↦ function_marks o t a ])) [
-      | Some reply ↦ plain_reply a reply
-      | None ↦ plain_function o t a
-    ]
+  only : Only (connection_of a.request) marks
+  only k apart =
+      begun_any (is_at k) start a (marks_done a d) apart apart
+      ∙ none_done a d (is_at k) (λ n is. refl) (λ e there. refl) (λ b there. refl)
+      (λ e is. let enters : EntersAs o t a d e = each_is (EntersAs o t a d) d.entering e x.1.enters is in ap (λ (y : Command). connection_of y.arrival.request == k) enters.next ∙ apart)
+      (λ reply is. apart) (λ conn is. refl) (λ is. refl)
 
-sound_plain : (o : Setting) (t : Trace) (conn : ℕ) (item : List Mark) → is_open o t conn ≡ true → Plain conn item → Sound o t item
-sound_plain o t conn item here p =
-    sound_closing o t conn item here p.only p.brings_none
-    (λ c there h. absurd (false≢true (sym (stays (connection_of c.arrival.request)) ∙ h)))
-    (λ n a there h. absurd (false≢true (sym (stays (connection_of a.request)) ∙ h)))
-  where
-    stays : (k : ℕ) → closed_by item k ≡ false
-    stays k = ap (λ b. b || list_any (closes_conn k) item) p.session ∙ p.conns k
+  -- a connection that it doesn't close
+  unclosed : (k : ℕ) → (d.ending ≡ true → ⊥) → ((conn : ℕ) → d.closing ≡ Some conn → (conn == k) ≡ false) → closed_by marks k ≡ false
+  unclosed k goes_on others =
+      ap (λ b. b || list_any (closes_conn k) marks)
+      (begun_any closes_session start a (marks_done a d) refl refl ∙ none_done a d closes_session (λ n is. refl) (λ e there. refl) (λ b there. refl) (λ e is. refl) (λ reply is. refl) (λ conn is. refl) (λ is. absurd (goes_on is)))
+      ∙ begun_any (closes_conn k) start a (marks_done a d) refl refl ∙ none_done a d (closes_conn k) (λ n is. refl) (λ e there. refl) (λ b there. refl) (λ e is. refl) (λ reply is. refl) others (λ is. refl)
 
--- ---- what a Logout takes out
+  sound_staying : is_closing d ≡ false → Sound o t marks
+  sound_staying stays =
+      sound_open o t (connection_of a.request) marks home only (units_form o now t (Executed start a d) x) (range_form o now p t (Executed start a d) at)
+      (λ k. unclosed k (unended a d stays) (λ conn is. absurd (unparted a d stays conn is)))
 
-any_leaves : (cs : List Command) (c : Command) → In c cs → list_any (leaves_ticket c.ticket) (map Leaves cs) ≡ true
-any_leaves [] c h = absurd h
-any_leaves (d ∷ cs) c h =
-    ⊎_elim
-    (λ same. or_first (d.ticket == c.ticket) (list_any (leaves_ticket c.ticket) (map Leaves cs)) (eq-eqb d.ticket c.ticket (ap (λ (x : Command). x.ticket) same)))
-    (λ later. or_second (d.ticket == c.ticket) (list_any (leaves_ticket c.ticket) (map Leaves cs)) (any_leaves cs c later)) h
-
-any_empties : (as' : List Arrival) (a : Arrival) → In a as' → list_any (empties_number a.number) (map Empties as') ≡ true
-any_empties [] a h = absurd h
-any_empties (b ∷ as') a h =
-    ⊎_elim
-    (λ same. or_first (b.number == a.number) (list_any (empties_number a.number) (map Empties as')) (eq-eqb b.number a.number (ap (λ (x : Arrival). x.number) same)))
-    (λ later. or_second (b.number == a.number) (list_any (empties_number a.number) (map Empties as')) (any_empties as' a later)) h
-
--- ---- a mark by which a request begins to execute
-
-record Starts (t : Trace) (mark : Mark) (a : Arrival) : Type 0 where
-  only : (k : ℕ) → (connection_of a.request == k) ≡ false → is_at k mark ≡ false
-  brings_no : brings mark ≡ false
-  session_no : closes_session mark ≡ false
-  conns_no : (k : ℕ) → closes_conn k mark ≡ false
-  leaves_no : (k : ℕ) → leaves_ticket k mark ≡ false
-  enters_no : enters mark ≡ None
-  admits_no : (n : ℕ) → admits_at n mark ≡ None
-  held_or : (n : ℕ) (b : Arrival) → held t n ≡ Some b → (held ((mark ∷ []) ∷ t) n ≡ Some b) ⊎ (delivers_number n mark ≡ true)
-
-starts_executes : (t : Trace) (a : Arrival) → Starts t (Executes a) a
-starts_executes t a = record {
-  only = λ k apart. apart;
-  brings_no = refl;
-  session_no = refl;
-  conns_no = λ k. refl;
-  leaves_no = λ k. refl;
-  enters_no = refl;
-  admits_no = λ n. refl;
-  held_or = λ n b h. inl (ap (λ xs. cond (is_delivered t n || is_emptied t n) None (first_of xs)) (append-nil (shown (admits_at n) t)) ∙ h);
-}
-
-starts_delivers : (t : Trace) (a : Arrival) → Starts t (Delivers a) a
-starts_delivers t a = record {
-  only = λ k apart. apart;
-  brings_no = refl;
-  session_no = refl;
-  conns_no = λ k. refl;
-  leaves_no = λ k. refl;
-  enters_no = refl;
-  admits_no = λ n. refl;
-  held_or = λ n b h. by_bool ((held ((Delivers a ∷ []) ∷ t) n ≡ Some b) ⊎ ((a.number == n) ≡ true)) (a.number == n) (λ here. inr here)
-      (λ apart. inl (
-      ap (λ c. cond (((c || false) || is_delivered t n) || is_emptied t n) None (first_of (shown (admits_at n) t ++ []))) apart
-      ∙ ap (λ xs. cond (is_delivered t n || is_emptied t n) None (first_of xs)) (append-nil (shown (admits_at n) t)) ∙ h));
-}
-
--- the connection that is closed with the last others
-known_last : (t : Trace) (closing k : ℕ) (conns : List (ℕ × ℕ)) → list_all (λ (c : ℕ × ℕ). (c.0 == closing) || is_closed c.0 t) conns ≡ true → is_known k conns ≡ true → ((k == closing) || is_closed k t) ≡ true
-known_last t closing k [] all known = absurd (false≢true known)
-known_last t closing k (c ∷ conns) all known =
-    let parts = and_parts ((c.0 == closing) || is_closed c.0 t) (list_all (λ (x : ℕ × ℕ). (x.0 == closing) || is_closed x.0 t) conns) all in
-    elim (c.0 == k) as (λ b. (c.0 == k) ≡ b → (b || is_known k conns) ≡ true → ((k == closing) || is_closed k t) ≡ true) [
-      | true ↦ λ is found. subst (λ n. ((n == closing) || is_closed n t) ≡ true) (eqb-true c.0 k is) parts.0
-      | false ↦ λ is found. known_last t closing k conns parts.1 found
-    ] refl known
-
-module _ (o : Setting) (t : Trace) (mark : Mark) (a : Arrival) (b : Starts t mark a) (c : Clear o t) (here : is_open o t (connection_of a.request) ≡ true) where
-  -- what follows is plain
-  sound_begun : (ms : List Mark) → Plain (connection_of a.request) ms → Sound o t (mark ∷ ms)
-  sound_begun ms p = sound_plain o t (connection_of a.request) (mark ∷ ms) here (record {
-    only = λ k apart. ap (λ x. x || list_any (is_at k) ms) (b.only k apart) ∙ p.only k apart;
-    brings_none = ap (λ x. x || list_any brings ms) b.brings_no ∙ p.brings_none;
-    session = ap (λ x. x || list_any closes_session ms) b.session_no ∙ p.session;
-    conns = λ k. ap (λ x. x || list_any (closes_conn k) ms) (b.conns_no k) ∙ p.conns k;
-  })
-
-  -- a command enters
-  sound_enters : (d : Command) → d.unit < o.units → connection_of d.arrival.request ≡ connection_of a.request → Sound o t (mark ∷ Enters d ∷ [])
-  sound_enters d below same =
-      sound_open o t (connection_of a.request) (mark ∷ Enters d ∷ []) here
-      (λ k apart. ap (λ x. x || ((connection_of d.arrival.request == k) || false)) (b.only k apart) ∙ ap (λ n. (n == k) || false) same ∙ ap (λ x. x || false) apart)
-      (λ e h. ⊎_elim (λ is. subst (λ (x : Command). x.unit < o.units) is below) (λ none. absurd none) (subst (λ x. In e (cons_option x (d ∷ []))) b.enters_no h))
-      (λ n e h. absurd (let none : None ≡ Some e = sym (ap (λ x. first_of (cons_option x [])) (b.admits_no n)) ∙ h in cc))
-      (λ k. ap (λ x. (x || false) || (closes_conn k mark || false)) b.session_no ∙ ap (λ x. x || false) (b.conns_no k))
-
-  live_same : live ((mark ∷ []) ∷ t) ≡ live t
-  live_same = live-quiet (mark ∷ []) t (ap (λ x. cons_option x []) b.enters_no) (λ k. ap (λ x. x || false) (b.leaves_no k))
-
-  module _ (of_these : ℕ → Bool) (tail : List Mark) where
-    leaving : List Command
-    leaving = filter (λ (d : Command). of_these (connection_of d.arrival.request)) (live_of_units o ((mark ∷ []) ∷ t))
-
-    emptied : List Arrival
-    emptied = filter (λ (d : Arrival). of_these (connection_of d.request)) (all_held o ((mark ∷ []) ∷ t))
-
-    passed : (p : Mark → Bool) → ((d : Command) → p (Leaves d) ≡ false) → ((d : Arrival) → p (Empties d) ≡ false) → p mark ≡ false
-        → list_any p (mark ∷ (taken_out o ((mark ∷ []) ∷ t) of_these ++ tail)) ≡ list_any p tail
-    passed p leaves empties unlike =
-        ap (λ x. x || list_any p (taken_out o ((mark ∷ []) ∷ t) of_these ++ tail)) unlike
-        ∙ list_any-append p (taken_out o ((mark ∷ []) ∷ t) of_these) tail
-        ∙ ap (λ x. x || list_any p tail) (any_taken o ((mark ∷ []) ∷ t) of_these p leaves empties)
-
-    leaves_taken : (d : Command) → In d (live t) → of_these (connection_of d.arrival.request) ≡ true → list_any (leaves_ticket d.ticket) (mark ∷ (taken_out o ((mark ∷ []) ∷ t) of_these ++ tail)) ≡ true
-    unfolding leaving emptied
-    leaves_taken d there of =
-        let below : d.unit < o.units = c.units d (in-filter (λ (x : Command). not (has (leaves_ticket x.ticket) t)) (entered t) d there).0 in
-        let in_unit : In d (live_in d.unit ((mark ∷ []) ∷ t)) = filter-in (λ (x : Command). x.unit == d.unit) (live ((mark ∷ []) ∷ t)) d (subst (In d) (sym live_same) there) (eq-eqb d.unit d.unit refl) in
-        let among : In d leaving =
-        filter-in (λ (x : Command). of_these (connection_of x.arrival.request)) (live_of_units o ((mark ∷ []) ∷ t)) d
-        (flat_map-in (λ unit. live_in unit ((mark ∷ []) ∷ t)) (range_with_len 0 o.units) d.unit d (range-in 0 o.units d.unit (omega arith) (omega (arith, below))) in_unit) of in
-        or_second (leaves_ticket d.ticket mark) (list_any (leaves_ticket d.ticket) (taken_out o ((mark ∷ []) ∷ t) of_these ++ tail))
-        (list_any-append (leaves_ticket d.ticket) (taken_out o ((mark ∷ []) ∷ t) of_these) tail
-        ∙ or_first (list_any (leaves_ticket d.ticket) (taken_out o ((mark ∷ []) ∷ t) of_these)) (list_any (leaves_ticket d.ticket) tail)
-        (list_any-append (leaves_ticket d.ticket) (map Leaves leaving) (map Empties emptied)
-        ∙ or_first (list_any (leaves_ticket d.ticket) (map Leaves leaving)) (list_any (leaves_ticket d.ticket) (map Empties emptied)) (any_leaves leaving d among)))
-
-    empties_taken : (n : ℕ) (d : Arrival) → held t n ≡ Some d → of_these (connection_of d.request) ≡ true
-        → (list_any (delivers_number n) (mark ∷ (taken_out o ((mark ∷ []) ∷ t) of_these ++ tail)) || list_any (empties_number n) (mark ∷ (taken_out o ((mark ∷ []) ∷ t) of_these ++ tail))) ≡ true
-    unfolding leaving emptied
-    empties_taken n d there of =
-        ⊎_elim
-        (λ still.
-        let number : d.number ≡ n = held-number t n d there in
-        let r : (number_of_first o.first ≤ n) × (n < exp_of o t + o.window) = c.range n d (admitted_of_held t n d there) in
-        let more : exp_of o t ≤ exp_of o ((mark ∷ []) ∷ t) = exp_item o (mark ∷ []) t in
-        let e : ℕ = exp_of o ((mark ∷ []) ∷ t) in
-        let among : In d emptied =
-        filter-in (λ (x : Arrival). of_these (connection_of x.request)) (all_held o ((mark ∷ []) ∷ t)) d
-        (flat_map-in (λ k. elim (held ((mark ∷ []) ∷ t) k) [ Some x ↦ x ∷ [] | None ↦ [] ]) (range_with_len (number_of_first o.first) (e + o.window - number_of_first o.first)) n d
-        (range-in (number_of_first o.first) (e + o.window - number_of_first o.first) n r.0 (omega (arith, r.0, r.1, more)))
-        (subst (λ (x : Option Arrival). In d (elim x [ Some y ↦ y ∷ [] | None ↦ [] ])) (sym still) (inl refl))) of in
-        or_second (list_any (delivers_number n) (mark ∷ (taken_out o ((mark ∷ []) ∷ t) of_these ++ tail))) (list_any (empties_number n) (mark ∷ (taken_out o ((mark ∷ []) ∷ t) of_these ++ tail)))
-        (or_second (empties_number n mark) (list_any (empties_number n) (taken_out o ((mark ∷ []) ∷ t) of_these ++ tail))
-        (list_any-append (empties_number n) (taken_out o ((mark ∷ []) ∷ t) of_these) tail
-        ∙ or_first (list_any (empties_number n) (taken_out o ((mark ∷ []) ∷ t) of_these)) (list_any (empties_number n) tail)
-        (list_any-append (empties_number n) (map Leaves leaving) (map Empties emptied)
-        ∙ or_second (list_any (empties_number n) (map Leaves leaving)) (list_any (empties_number n) (map Empties emptied))
-        (subst (λ k. list_any (empties_number k) (map Empties emptied) ≡ true) number (any_empties emptied d among))))))
-        (λ now. or_first (list_any (delivers_number n) (mark ∷ (taken_out o ((mark ∷ []) ∷ t) of_these ++ tail))) (list_any (empties_number n) (mark ∷ (taken_out o ((mark ∷ []) ∷ t) of_these ++ tail)))
-        (or_first (delivers_number n mark) (list_any (delivers_number n) (taken_out o ((mark ∷ []) ∷ t) of_these ++ tail)) now))
-        (b.held_or n d there)
-
-    sound_taken : Only (connection_of a.request) tail → list_any brings tail ≡ false → ((k : ℕ) → is_open o t k ≡ true → closed_by tail k ≡ true → of_these k ≡ true) → Sound o t (mark ∷ (taken_out o ((mark ∷ []) ∷ t) of_these ++ tail))
-    sound_taken only none covers =
-        sound_closing o t (connection_of a.request) (mark ∷ (taken_out o ((mark ∷ []) ∷ t) of_these ++ tail)) here
-        (λ k apart. passed (is_at k) (λ d. refl) (λ d. refl) (b.only k apart) ∙ only k apart)
-        (passed brings (λ d. refl) (λ d. refl) b.brings_no ∙ none)
-        (λ d there h. leaves_taken d there (covers (connection_of d.arrival.request) (c.lives d there) (sym (closed_same (connection_of d.arrival.request)) ∙ h)))
-        (λ n d there h. empties_taken n d there (covers (connection_of d.request) (c.holds n d there) (sym (closed_same (connection_of d.request)) ∙ h)))
+  module _ (s : TakesOut o (begun start a t) d) where
+    -- it takes out what there is of an open connection that it closes
+    closes_these : (k : ℕ) → is_open o t k ≡ true → closed_by marks k ≡ true → s.of_these k ≡ true
+    closes_these k on closed = by_bool (s.of_these k ≡ true) (s.of_these k) (λ is. is) (λ apart. absurd (false≢true (sym (none apart) ∙ closed)))
       where
-        closed_same : (k : ℕ) → closed_by (mark ∷ (taken_out o ((mark ∷ []) ∷ t) of_these ++ tail)) k ≡ closed_by tail k
-        closed_same k =
-            ap (λ x. x || list_any (closes_conn k) (mark ∷ (taken_out o ((mark ∷ []) ∷ t) of_these ++ tail))) (passed closes_session (λ d. refl) (λ d. refl) b.session_no)
-            ∙ ap (λ x. list_any closes_session tail || x) (passed (closes_conn k) (λ d. refl) (λ d. refl) (b.conns_no k))
+        still : (s : Start) → is_open o (begun s a t) k ≡ true
+        still AtTurn = open-item o (Delivers a ∷ []) t k on refl
+        still AtArrival = open-item o (Executes a ∷ []) t k on refl
+        still AfterWaiting = open-item o (Executes a ∷ []) t k on refl
 
-  -- ---- a Logout
+        other : s.of_these k ≡ false → (conn : ℕ) → d.closing ≡ Some conn → (v : Bool) → (conn == k) ≡ v → v ≡ false
+        other apart conn is true same = absurd (false≢true (sym apart ∙ ap s.of_these (sym (eqb-true conn k same)) ∙ each_is (λ n. s.of_these n ≡ true) d.closing conn s.closing is))
+        other apart conn is false same = refl
 
-  sound_end : Sound o t (mark ∷ end_session o ((mark ∷ []) ∷ t) a)
-  sound_end =
-      subst (λ ms. Sound o t (mark ∷ ms)) (sym (append_assoc (taken_out o ((mark ∷ []) ∷ t) (λ conn. true)) (parting a 0) (ClosesSession ∷ [])))
-      (sound_taken (λ conn. true) (parting a 0 ++ ClosesSession ∷ []) (λ k apart. ap (λ x. x || false) apart) refl (λ k on h. refl))
+        none : s.of_these k ≡ false → closed_by marks k ≡ false
+        none apart = unclosed k (λ is. false≢true (sym apart ∙ s.ending is k (still start))) (λ conn is. other apart conn is (conn == k) refl)
 
-  -- a connection that isn't closed yet and is in the item is the one that it closes
-  closed_last : (closing : ℕ) (last : Bool) → is_last_open o ((mark ∷ []) ∷ t) closing ≡ last → (k : ℕ) → is_open o t k ≡ true → closed_by (parting a 0 ++ ClosesConn closing ∷ cond last (ClosesSession ∷ []) []) k ≡ true → (k == closing) ≡ true
-  closed_last closing true is k on h =
-      let still : is_open o ((mark ∷ []) ∷ t) k ≡ true = open-item o (mark ∷ []) t k on (ap (λ x. (x || false) || (closes_conn k mark || false)) b.session_no ∙ ap (λ x. x || false) (b.conns_no k)) in
-      let parts = and_parts (is_known k o.conns) (not (is_closed k ((mark ∷ []) ∷ t))) still in
-      let unclosed : is_closed k ((mark ∷ []) ∷ t) ≡ false = not_true (is_closed k ((mark ∷ []) ∷ t)) parts.1 in
-      sym (or_false (k == closing)) ∙ ap (λ x. (k == closing) || x) (sym unclosed) ∙ known_last ((mark ∷ []) ∷ t) closing k o.conns is parts.0
-  closed_last closing false is k on h = eq_sym k closing ∙ sym (or_false (closing == k)) ∙ h
+    live_leaves : (e : Command) → In e (live t) → closed_by marks (connection_of e.arrival.request) ≡ true → list_any (leaves_ticket e.ticket) marks ≡ true
+    live_leaves e there closed =
+        let below : e.unit < o.units = c.units e (in-filter _ (entered t) e there).0 in
+        let in_unit : In e (live_in e.unit (begun start a t)) = filter-in (λ (y : Command). y.unit == e.unit) (live (begun start a t)) e (subst (In e) (sym (live-begun start a t)) there) (eq-eqb e.unit e.unit refl) in
+        let among : In e (live_of_units o (begun start a t)) = flat_map-in (λ unit. live_in unit (begun start a t)) (range_with_len 0 o.units) e.unit e (range-in 0 o.units e.unit (omega arith) (omega (arith, below))) in_unit in
+        leaves_form e.ticket (Executed start a d)
+        ∙ in_among d.leaving e (subst (In e) (sym s.leaving) (filter-in (λ (y : Command). s.of_these (connection_of y.arrival.request)) (live_of_units o (begun start a t)) e among (closes_these (connection_of e.arrival.request) (c.lives e there) closed)))
 
-  sound_close : (closing : ℕ) → Sound o t (mark ∷ close_conn o ((mark ∷ []) ∷ t) a closing)
-  sound_close closing =
-      let last : Bool = is_last_open o ((mark ∷ []) ∷ t) closing in
-      subst (λ ms. Sound o t (mark ∷ ms)) (sym (append_assoc (taken_out o ((mark ∷ []) ∷ t) (λ conn. conn == closing)) (parting a 0) (ClosesConn closing ∷ cond last (ClosesSession ∷ []) [])))
-      (sound_taken (λ conn. conn == closing) (parting a 0 ++ ClosesConn closing ∷ cond last (ClosesSession ∷ []) [])
-      (λ k apart. ap (λ x. x || list_any (is_at k) (cond last (ClosesSession ∷ []) [])) apart ∙ none_at k last)
-      (none_brought last)
-      (closed_last closing last refl))
-    where
-      none_at : (k : ℕ) (last : Bool) → list_any (is_at k) (cond last (ClosesSession ∷ []) []) ≡ false
-      none_at k true = refl
-      none_at k false = refl
+    held_goes : (n : ℕ) (b : Arrival) → held t n ≡ Some b → closed_by marks (connection_of b.request) ≡ true → (list_any (delivers_number n) marks || list_any (empties_number n) marks) ≡ true
+    held_goes n b there closed =
+        by_bool ((list_any (delivers_number n) marks || list_any (empties_number n) marks) ≡ true) (list_any (delivers_number n) (start_mark start a ∷ []))
+        (λ now. or_first (list_any (delivers_number n) marks) (list_any (empties_number n) marks) ((executed_at n start a d).delivered ∙ now))
+        (λ later. or_second (list_any (delivers_number n) marks) (list_any (empties_number n) marks) ((executed_at n start a d).emptied ∙ in-any (λ (y : Arrival). y.number == n) d.emptied b (emptied later) (eq-eqb b.number n (held-number t n b there))))
+      where
+        kept : (s : Start) → list_any (delivers_number n) (start_mark s a ∷ []) ≡ false → held (begun s a t) n ≡ Some b
+        kept AtTurn later = held-kept t n (Delivers a ∷ []) refl later refl ∙ there
+        kept AtArrival later = held-kept t n (Executes a ∷ []) refl refl refl ∙ there
+        kept AfterWaiting later = held-kept t n (Executes a ∷ []) refl refl refl ∙ there
 
-      none_brought : (last : Bool) → list_any brings (cond last (ClosesSession ∷ []) []) ≡ false
-      none_brought true = refl
-      none_brought false = refl
+        emptied : list_any (delivers_number n) (start_mark start a ∷ []) ≡ false → In b d.emptied
+        emptied later =
+            let r : (number_of_first o.first ≤ n) × (n < exp_of o t + o.window) = c.range n b (admitted_of_held t n b there) in
+            let low : number_of_first o.first ≤ n = r.0 in
+            let e : ℕ = exp_of o (begun start a t) in
+            let more : exp_of o t ≤ e = exp_item o (start_mark start a ∷ []) t in
+            subst (In b) (sym s.emptied)
+            (filter-in (λ (y : Arrival). s.of_these (connection_of y.request)) (all_held o (begun start a t)) b
+            (flat_map-in (λ k. elim (held (begun start a t) k) [ Some y ↦ y ∷ [] | None ↦ [] ]) (range_with_len (number_of_first o.first) (e + o.window - number_of_first o.first)) n b
+            (range-in (number_of_first o.first) (e + o.window - number_of_first o.first) n low (omega (arith, low, r.1, more)))
+            (subst (λ (y : Option Arrival). In b (elim y [ Some z ↦ z ∷ [] | None ↦ [] ])) (sym (kept start later)) (inl refl)))
+            (closes_these (connection_of b.request) (c.holds n b there) closed))
 
-  sound_logout : Sound o t (mark ∷ logout_marks o ((mark ∷ []) ∷ t) a)
-  sound_logout = by_tests (itt a.request == NO_TAG) (function a.request == 0) (function a.request == 1) (is_open o ((mark ∷ []) ∷ t) (cid a.request)) (function a.request == 2)
-    where
-      by_tests : (d e f g i : Bool) → Sound o t (mark ∷ cond d (reply_on a (Reject 9 (header_of a.request))) (cond e (end_session o ((mark ∷ []) ∷ t) a) (cond f (cond g (close_conn o ((mark ∷ []) ∷ t) a (cid a.request)) (parting a 1)) (cond i (parting a 2) (reply_on a (Reject 9 (header_of a.request)))))))
-      by_tests true e f g i = sound_begun (reply_on a (Reject 9 (header_of a.request))) (plain_reply a (Reject 9 (header_of a.request)))
-      by_tests false true f g i = sound_end
-      by_tests false false true true i = sound_close (cid a.request)
-      by_tests false false true false i = sound_begun (parting a 1) (plain_reply a (Logout (itt a.request) 1))
-      by_tests false false false g true = sound_begun (parting a 2) (plain_reply a (Logout (itt a.request) 2))
-      by_tests false false false g false = sound_begun (reply_on a (Reject 9 (header_of a.request))) (plain_reply a (Reject 9 (header_of a.request)))
+    sound_parting : Sound o t marks
+    sound_parting =
+        sound_closing o t (connection_of a.request) marks home only
+        (begun_any brings start a (marks_done a d) refl refl
+        ∙ none_done a d brings (λ n is. refl) (λ e there. refl) (λ b there. refl) (λ e is. absurd (let none : None ≡ Some e = sym s.entering ∙ is in cc)) (λ reply is. refl) (λ conn is. refl) (λ is. refl))
+        live_leaves held_goes
 
-  -- ---- the item of a request that executes
+  sound_executed : Sound o t marks
+  sound_executed = by_bool (Sound o t marks) (is_closing d) (λ closes. sound_parting (x.1.takes_out closes)) sound_staying
 
-  sound_verdict : (v : Verdict) → verdict_of o ((mark ∷ []) ∷ t) a.request ≡ v → Sound o t (mark ∷ marks_of ((mark ∷ []) ∷ t) a v)
-  sound_verdict Nothing is = sound_begun [] (plain_none (connection_of a.request))
-  sound_verdict (Answer reply) is = sound_begun (reply_on a reply) (plain_reply a reply)
-  sound_verdict (Enter unit) is = sound_enters (next_command ((mark ∷ []) ∷ t) a unit) (verdict_below o ((mark ∷ []) ∷ t) a unit is) refl
-
-  sound_execution : Sound o t (execution o t mark a)
-  sound_execution = by_opcode (opcode a.request == 0x02) (opcode a.request == 0x06)
-    where
-      by_opcode : (d e : Bool) → Sound o t (mark ∷ cond d (management_marks o ((mark ∷ []) ∷ t) a) (cond e (logout_marks o ((mark ∷ []) ∷ t) a) (marks_of ((mark ∷ []) ∷ t) a (verdict_of o ((mark ∷ []) ∷ t) a.request))))
-      by_opcode true e = sound_begun (management_marks o ((mark ∷ []) ∷ t) a) (plain_management o ((mark ∷ []) ∷ t) a)
-      by_opcode false true = sound_logout
-      by_opcode false false = sound_verdict (verdict_of o ((mark ∷ []) ∷ t) a.request) refl
-
--- ---- the items
-
--- the item of a turn
-pub sound_item : (o : Setting) (t : Trace) (a : Arrival) → Clear o t → is_open o t (connection_of a.request) ≡ true → Sound o t (item_of o t a)
-sound_item o t a c here = sound_execution o t (Delivers a) a (starts_delivers t a) c here
-
--- a function that has waited: it closes nothing
-pub sound_function : (o : Setting) (t : Trace) (a : Arrival) → Clear o t → is_open o t (connection_of a.request) ≡ true → Sound o t (function_item o t a)
-sound_function o t a c here = sound_begun o t (Executes a) a (starts_executes t a) c here (function_marks o ((Executes a ∷ []) ∷ t) a) (plain_function o ((Executes a ∷ []) ∷ t) a)
-
-pub function_closes_none : (o : Setting) (t : Trace) (a : Arrival) (conn : ℕ) → closed_by (function_item o t a) conn ≡ false
-function_closes_none o t a conn =
-    let p : Plain (connection_of a.request) (function_marks o ((Executes a ∷ []) ∷ t) a) = plain_function o ((Executes a ∷ []) ∷ t) a in
-    ap (λ b. b || list_any (closes_conn conn) (function_marks o ((Executes a ∷ []) ∷ t) a)) p.session ∙ p.conns conn
+-- ---- an item of any form
 
 -- an event is passed over
-pub sound_ignored : (o : Setting) (t : Trace) (why : Why) → Sound o t (Ignores why ∷ [])
+sound_ignored : (o : Setting) (t : Trace) (why : Why) → Sound o t (Ignores why ∷ [])
 sound_ignored o t why = record {
   on_open = λ k off. refl;
   units = λ c h. absurd h;
@@ -383,52 +208,14 @@ sound_ignored o t why = record {
   ended = λ over. refl;
 }
 
-pub sound_rejected : (o : Setting) (t : Trace) (a : Arrival) → is_open o t (connection_of a.request) ≡ true → Sound o t (rejected a)
-sound_rejected o t a here = sound_plain o t (connection_of a.request) (rejected a) here (plain_reply a (Reject 5 (header_of a.request)))
+sound_form : (o : Setting) (now p : ℕ) (t : Trace) (form : Form) → IsFormed o now t form → StandsAt (OnOpen o) o now p t form → Clear o t → Sound o t (marks_of_form form)
+sound_form o now p t (Ignored why) x at c = sound_ignored o t why
+sound_form o now p t (Rejected a) x at c = sound_open o t (connection_of a.request) _ at (λ k apart. ap (λ b. b || false) apart) (units_form o now t (Rejected a) x) (range_form o now p t (Rejected a) at) (λ k. refl)
+sound_form o now p t (Received a) x at c = sound_open o t (connection_of a.request) _ at.0 (λ k apart. ap (λ b. b || false) apart) (units_form o now t (Received a) x) (range_form o now p t (Received a) at) (λ k. refl)
+sound_form o now p t (Postponed a) x at c = sound_open o t (connection_of a.request) _ at (λ k apart. ap (λ b. b || false) apart) (units_form o now t (Postponed a) x) (range_form o now p t (Postponed a) at) (λ k. refl)
+sound_form o now p t (Completed d status) x at c =
+    sound_open o t (connection_of d.arrival.request) _ (c.lives d x) (λ k apart. ap (λ b. b || false) apart) (units_form o now t (Completed d status) x) (range_form o now p t (Completed d status) at) (λ k. refl)
+sound_form o now p t (Executed start a d) x at c = sound_executed o now p t start a d x at c
 
--- a numbered request is received
-pub sound_admitted : (o : Setting) (t : Trace) (a : Arrival) → is_open o t (connection_of a.request) ≡ true → number_of_first o.first ≤ a.number → a.number < exp_of o t + o.window → Sound o t (Admits a ∷ [])
-sound_admitted o t a here low high =
-    sound_open o t (connection_of a.request) (Admits a ∷ []) here (λ k apart. ap (λ x. x || false) apart) (λ c h. absurd h)
-    (λ n b h. elim (a.number == n) as (λ v. (a.number == n) ≡ v → first_of (cons_option (cond v (Some a) None) []) ≡ Some b → (number_of_first o.first ≤ n) × (n < exp_of o t + o.window)) [
-      | true ↦ λ is found.
-          let same : a.number ≡ n = eqb-true a.number n is in
-          ((let z : number_of_first o.first ≤ n = omega (arith, low, same) in z), (let z : n < exp_of o t + o.window = omega (arith, high, same) in z))
-      | false ↦ λ is found. absurd cc
-    ] refl h)
-    (λ k. refl)
-
--- a completion, of a live command
-pub sound_completed : (o : Setting) (t : Trace) (c : Command) (reply : Reply) → is_open o t (connection_of c.arrival.request) ≡ true → Sound o t (Leaves c ∷ reply_on c.arrival reply)
-sound_completed o t c reply here =
-    sound_plain o t (connection_of c.arrival.request) (Leaves c ∷ reply_on c.arrival reply) here
-    (record { only = λ k apart. ap (λ b. b || false) apart; brings_none = refl; session = refl; conns = λ k. refl })
-
--- ---- an immediate request, at its arrival
-
-sound_refused : (o : Setting) (t : Trace) (a : Arrival) (reply : Reply) → Clear o t → is_open o t (connection_of a.request) ≡ true → Sound o t (Executes a ∷ reply_on a reply)
-sound_refused o t a reply c here = sound_begun o t (Executes a) a (starts_executes t a) c here (reply_on a reply) (plain_reply a reply)
-
-sound_waits : (o : Setting) (t : Trace) (a : Arrival) → is_open o t (connection_of a.request) ≡ true → Sound o t (Waits a ∷ [])
-sound_waits o t a here =
-    sound_open o t (connection_of a.request) (Waits a ∷ []) here (λ k apart. ap (λ x. x || false) apart) (λ c h. absurd h) (λ n b h. absurd cc) (λ k. refl)
-
-sound_waiting : (o : Setting) (t : Trace) (a : Arrival) → Clear o t → is_open o t (connection_of a.request) ≡ true → Sound o t (waiting_item o t a)
-sound_waiting o t a c here = by_tests (nat_lt (max_of o t + 1) a.number) (nat_lt (exp_of o t) a.number) (nat_le MOST_WAITING (waiting_on (connection_of a.request) t))
-  where
-    by_tests : (d e f : Bool)
-        → Sound o t (cond d (Executes a ∷ reply_on a (Task (itt a.request) 255)) (cond (not e) (execution o t (Executes a) a) (cond f (Executes a ∷ reply_on a (Reject 6 (header_of a.request))) (Waits a ∷ []))))
-    by_tests true e f = sound_refused o t a (Task (itt a.request) 255) c here
-    by_tests false false f = sound_execution o t (Executes a) a (starts_executes t a) c here
-    by_tests false true true = sound_refused o t a (Reject 6 (header_of a.request)) c here
-    by_tests false true false = sound_waits o t a here
-
-pub sound_immediate : (o : Setting) (t : Trace) (a : Arrival) → Clear o t → is_open o t (connection_of a.request) ≡ true → Sound o t (immediate_item o t a)
-sound_immediate o t a c here =
-    elim (opcode a.request == 0x02 && may_wait a.request) as (λ b. Sound o t (cond b (elim (refusal_of_function o a.request) [ Some reply ↦ execution o t (Executes a) a | None ↦ waiting_item o t a ]) (execution o t (Executes a) a))) [
-      | true ↦ elim (refusal_of_function o a.request) as (λ x. Sound o t (elim x [ Some reply ↦ execution o t (Executes a) a | None ↦ waiting_item o t a ])) [
-        | Some reply ↦ sound_execution o t (Executes a) a (starts_executes t a) c here
-        | None ↦ sound_waiting o t a c here
-      ]
-      | false ↦ sound_execution o t (Executes a) a (starts_executes t a) c here
-    ]
+pub item_sound : (o : Setting) (now p : ℕ) (t : Trace) (item : List Mark) → Stands (OnOpen o) o now p t item → Clear o t → Sound o t item
+item_sound o now p t item s c = subst (Sound o t) (sym s.has.is) (sound_form o now p t s.has.form s.has.formed s.at c)

@@ -1,7 +1,8 @@
 -- How many of a list pass tests, one weaker than the other.
-use Rattle.std.proofs.Common.{◌≡◌, ℕ, ◌+◌, ◌≤◌, ◌&&◌, not, ⊎_elim, cond, Bool, true, false, List, [], ◌∷◌, filter, count_by, refl, ap, sym, ◌∙◌, arith, length, ◌<◌, get_or, set, suc, zero, Some, find, ◌++◌, None, Option, drop, replicate}
+use Rattle.std.proofs.Common.{◌≡◌, ℕ, ◌+◌, ◌≤◌, ◌==◌, ◌&&◌, ◌||◌, not, ⊎_elim, cond, Bool, true, false, List, [], ◌∷◌, filter, count_by, refl, ap, sym, ◌∙◌, arith, length, ◌<◌, get_or, set, suc, zero, Some, find, ◌++◌, None, Option, drop, replicate}
 use Rattle.std.proofs.lemmas.Bool.{false≢true}
 use Rattle.std.proofs.lemmas.List.Sums.{sum_by-cons, sum_by-append}
+use Rattle.iscsi_history.specs.rules.Trace.{Command, is_among}
 use Rattle.iscsi_history.proofs.ElementLemmas.{In}
 use Rattle.std.specs.List.{range_with_len}
 
@@ -67,6 +68,26 @@ pub count-split : {A : Type 0} (p q : A → Bool) (xs : List A) → count_by (λ
 count-split p q [] = refl
 count-split p q (x ∷ xs) =
     omega (arith, count-cons p x xs, count-cons (λ y. q y && p y) x xs, count-cons (λ y. not (q y) && p y) x xs, split_one (q x) (p x), count-split p q xs)
+
+-- ---- commands with a ticket
+
+-- what is among some that are counted is counted
+pub among_counted : (k : ℕ) (cs : List Command) → is_among k cs ≡ true → 1 ≤ count_by (λ (c : Command). c.ticket == k) cs
+among_counted k [] h = absurd (false≢true h)
+among_counted k (c ∷ cs) h = by_test (c.ticket == k) (sum_by-cons (λ (x : Command). cond (x.ticket == k) 1 0) c cs) (among_counted k cs) h
+  where
+    by_test : (v : Bool) → count_by (λ (x : Command). x.ticket == k) (c ∷ cs) ≡ cond v 1 0 + count_by (λ (x : Command). x.ticket == k) cs → (is_among k cs ≡ true → 1 ≤ count_by (λ (x : Command). x.ticket == k) cs) → (v || is_among k cs) ≡ true
+        → 1 ≤ count_by (λ (x : Command). x.ticket == k) (c ∷ cs)
+    by_test true all rest h = omega arith
+    by_test false all rest h = omega (arith, rest h)
+
+pub counted_among : (k : ℕ) (cs : List Command) → 1 ≤ count_by (λ (c : Command). c.ticket == k) cs → is_among k cs ≡ true
+counted_among k [] h = absurd (omega arith)
+counted_among k (c ∷ cs) h = by_test (c.ticket == k) (sum_by-cons (λ (x : Command). cond (x.ticket == k) 1 0) c cs) (counted_among k cs)
+  where
+    by_test : (v : Bool) → count_by (λ (x : Command). x.ticket == k) (c ∷ cs) ≡ cond v 1 0 + count_by (λ (x : Command). x.ticket == k) cs → (1 ≤ count_by (λ (x : Command). x.ticket == k) cs → is_among k cs ≡ true) → (v || is_among k cs) ≡ true
+    by_test true all rest = refl
+    by_test false all rest = rest (omega arith)
 
 -- ---- one element after the other
 

@@ -1,9 +1,10 @@
 -- The elements of lists.
 use Rattle.std.proofs.Common.{◌≡◌, ℕ, zero, suc, ◌+◌, ◌<◌, ◌≤◌, ◌⊎◌, inl, inr, ⊎_elim, cond, Bool, true, false, List, [], ◌∷◌, ◌++◌, length, filter, get_or, Option, Some, None, refl, ap, sym, subst, ◌∙◌, arith}
-use Rattle.std.specs.List.{flat_map, range_with_len, cons_option}
+use Rattle.std.specs.List.{list_any, flat_map, range_with_len, cons_option}
 use Rattle.std.specs.Prelude.{Contains}
 use Rattle.std.proofs.lemmas.Bool.{false≢true, cases_eq}
 use Rattle.iscsi_history.specs.rules.Trace.{first_of}
+use Rattle.iscsi_history.proofs.BoolLemmas.{or_first, or_second}
 
 -- x is an element
 abbrev pub In : {A : Type 0} → A → List A → Type 0
@@ -51,6 +52,11 @@ range-in a (suc count) n low high = ⊎_elim (λ same. inl (sym same)) (λ apart
 pub in-cons : {A : Type 0} (x : Option A) (xs : List A) (y : A) → In y (cons_option x xs) → (x ≡ Some y) ⊎ In y xs
 in-cons None xs y h = inr h
 in-cons (Some x) xs y h = ⊎_elim (λ same. inl (ap Some same)) (λ later. inr later) h
+
+-- where an element passes, some does
+pub in-any : {A : Type 0} (p : A → Bool) (xs : List A) (x : A) → In x xs → p x ≡ true → list_any p xs ≡ true
+in-any p [] x h passes = absurd h
+in-any p (y ∷ ys) x h passes = ⊎_elim (λ same. or_first (p y) (list_any p ys) (ap p same ∙ passes)) (λ later. or_second (p y) (list_any p ys) (in-any p ys x later passes)) h
 
 -- std's word for it
 pub in-contains : {A : Type 0} (xs : List A) (x : A) → Contains xs x → In x xs

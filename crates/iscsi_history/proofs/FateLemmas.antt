@@ -69,7 +69,7 @@ admitted-first : (t : Trace) (n : ℕ) (item : List Mark) (a : Arrival) → is_r
 admitted-first t n item a new here = ap (λ xs. first_of (xs ++ filter_map (admits_at n) item)) (unadmitted n t new) ∙ ap first_of here
 
 -- it is held as before, where the item neither takes it out nor delivers it
-held-kept : (t : Trace) (n : ℕ) (item : List Mark) → list_any (empties_number n) item ≡ false → list_any (delivers_number n) item ≡ false → filter_map (admits_at n) item ≡ [] → held (item ∷ t) n ≡ held t n
+pub held-kept : (t : Trace) (n : ℕ) (item : List Mark) → list_any (empties_number n) item ≡ false → list_any (delivers_number n) item ≡ false → filter_map (admits_at n) item ≡ [] → held (item ∷ t) n ≡ held t n
 held-kept t n item unemptied undelivered none =
     held_by (item ∷ t) n (is_emptied t n) (is_delivered t n) (admitted t n) (ap (λ b. b || is_emptied t n) unemptied) (ap (λ b. b || is_delivered t n) undelivered) (admitted-same t n item none)
 
@@ -140,7 +140,7 @@ module _ (p : Mark → Bool) (leaves : (c : Command) → p (Leaves c) ≡ false)
 -- a view that sees nothing but numbers that are voided
 module _ {B : Type 0} (view : Mark → Option B) (leaves : (c : Command) → view (Leaves c) ≡ None) (empties : (a : Arrival) → view (Empties a) ≡ None) (enters : (c : Command) → view (Enters c) ≡ None)
     (sends : (conn : ℕ) (reply : Reply) → view (Sends conn reply) ≡ None) (closes : (conn : ℕ) → view (ClosesConn conn) ≡ None) (ends : view ClosesSession ≡ None) where
-  voids_viewed : (a : Arrival) (d : Deeds) → filter_map view (marks_done a d) ≡ filter_map view (if_some Voids d.void)
+  pub voids_viewed : (a : Arrival) (d : Deeds) → filter_map view (marks_done a d) ≡ filter_map view (if_some Voids d.void)
   voids_viewed a d =
       filter_map-append view (if_some Voids d.void) _
       ∙ ap (λ xs. filter_map view (if_some Voids d.void) ++ xs)
@@ -162,7 +162,7 @@ emptied_at n d = list_any (λ (b : Arrival). b.number == n) d.emptied
 abbrev delivered_at : ℕ → Start → Arrival → Bool
 delivered_at n start a = list_any (delivers_number n) (start_mark start a ∷ [])
 
-done_at : (n : ℕ) (a : Arrival) (d : Deeds) → ItemAt n (marks_done a d) (void_at n d) (void_at n d) (emptied_at n d) false []
+pub done_at : (n : ℕ) (a : Arrival) (d : Deeds) → ItemAt n (marks_done a d) (void_at n d) (void_at n d) (emptied_at n d) false []
 done_at n a d = record {
   receives = ap (λ ns. contains ns n) (voids_viewed number_received (λ c. refl) (λ b. refl) (λ c. refl) (λ conn reply. refl) (λ conn. refl) refl a d) ∙ numbers d.void;
   voided = tested (voids_number n) (λ c. refl) (λ c. refl) (λ conn reply. refl) (λ conn. refl) refl a d ∙ ap (λ b. void_at n d || b) (none_mapped (voids_number n) Empties d.emptied (λ b. refl)) ∙ or_false (void_at n d);
@@ -183,7 +183,7 @@ done_at n a d = record {
     undelivered None = refl
     undelivered (Some k) = refl
 
-executed_at : (n : ℕ) (start : Start) (a : Arrival) (d : Deeds) → ItemAt n (start_mark start a ∷ marks_done a d) (void_at n d) (void_at n d) (emptied_at n d) (delivered_at n start a) []
+pub executed_at : (n : ℕ) (start : Start) (a : Arrival) (d : Deeds) → ItemAt n (start_mark start a ∷ marks_done a d) (void_at n d) (void_at n d) (emptied_at n d) (delivered_at n start a) []
 executed_at n AtTurn a d = record { receives = (done_at n a d).receives; voided = (done_at n a d).voided; emptied = (done_at n a d).emptied; delivered = ap (λ b. (a.number == n) || b) (done_at n a d).delivered; admits = (done_at n a d).admits }
 executed_at n AtArrival a d = record { receives = (done_at n a d).receives; voided = (done_at n a d).voided; emptied = (done_at n a d).emptied; delivered = (done_at n a d).delivered; admits = (done_at n a d).admits }
 executed_at n AfterWaiting a d = record { receives = (done_at n a d).receives; voided = (done_at n a d).voided; emptied = (done_at n a d).emptied; delivered = (done_at n a d).delivered; admits = (done_at n a d).admits }
@@ -252,7 +252,7 @@ touch_executed o now t n start a d starts x = by_tests (void_at n d) (emptied_at
     by_tests false true true p q r i = absurd (false≢true (sym (out q).1.apart ∙ r))
 
 -- so does an item of any form
-touch_form : (o : Setting) (now : ℕ) (t : Trace) (n : ℕ) (form : Form) → IsFormed o now t form → Touch t n (marks_of_form form)
+pub touch_form : (o : Setting) (now : ℕ) (t : Trace) (n : ℕ) (form : Form) → IsFormed o now t form → Touch t n (marks_of_form form)
 touch_form o now t n (Ignored why) x = NotTouched (record { receives = refl; voided = refl; emptied = refl; delivered = refl; admits = refl })
 touch_form o now t n (Rejected a) x = NotTouched (record { receives = refl; voided = refl; emptied = refl; delivered = refl; admits = refl })
 touch_form o now t n (Received a) x = by_test (a.number == n) refl

@@ -1,32 +1,36 @@
 -- Each item has a form: what a request does that executes.
-use Rattle.std.proofs.Common.{◌≡◌, ℕ, zero, suc, ◌+◌, ◌<◌, ◌≤◌, ◌==◌, ◌&&◌, ⊎_elim, cond, Bool, true, false, List, [], ◌∷◌, ◌++◌, length, map, filter, count_by, Option, Some, None, refl, ap, sym, subst, ◌∙◌, arith, nat_lt, nat_le, append_assoc}
-use Rattle.std.specs.List.{list_any, flat_map, range_with_len}
+use Rattle.std.proofs.Common.{◌≡◌, ℕ, zero, suc, ◌+◌, ◌<◌, ◌≤◌, ◌==◌, ◌&&◌, ◌||◌, not, ⊎_elim, cond, Bool, true, false, List, [], ◌∷◌, ◌++◌, length, filter, count_by, Option, Some, None, refl, ap, sym, subst, ◌∙◌, arith, nat_lt, nat_le, append_assoc, eq-eqb}
+use Rattle.std.specs.List.{list_any, list_all, flat_map, range_with_len}
+use Rattle.std.proofs.lemmas.Bool.{false≢true, eqb-true}
 use Rattle.std.proofs.lemmas.Bool.Decides.{nat_tests}
 use Rattle.std.proofs.lemmas.List.{append-nil}
 use Rattle.std.proofs.lemmas.List.Sums.{sum_by-cons, sum_by-append}
 use Rattle.iscsi_wire.specs.declared.reply.Reply.{Reply}
+use Rattle.iscsi_wire.specs.declared.request.Request.{Request}
 use Rattle.iscsi_wire.specs.declared.reply.Reply.TheVariants.{Task, Logout, Reject}
 use Rattle.iscsi_wire.specs.Serial.{lift}
 use Rattle.iscsi_wire.specs.Fields.{attr_code, connection_of, header_of, is_immediate, opcode, function, itt, rtt, cid, ref_cmd_sn}
 use Rattle.iscsi_history.specs.declared.verdict.Verdict.{Verdict}
 use Rattle.iscsi_history.specs.declared.verdict.Verdict.TheVariants.{Nothing, Answer, Enter}
-use Rattle.iscsi_history.specs.rules.Settings.{Setting}
-use Rattle.iscsi_history.specs.rules.Trace.{Arrival, Command, Mark, Delivers, Executes, Voids, Empties, Leaves, Enters, Trace, first_of, received, is_received, held, held_among, entered, live, live_in}
+use Rattle.iscsi_history.specs.rules.Settings.{Setting, is_known}
+use Rattle.iscsi_history.specs.rules.Trace.{Arrival, Command, Mark, Delivers, Executes, Voids, Empties, Leaves, Enters, Trace, first_of, received, is_received, held, held_among, entered, live, live_in, is_closed}
 use Rattle.iscsi_history.specs.rules.Execution.{attr_of, exp_of, max_of, NO_TAG, unit_named, is_tag_live, is_crowded, place_named, verdict_of, reply_on, next_command, marks_of}
 use Rattle.iscsi_history.specs.rules.Management.{refusal_of_function, answer, held_requests, held_command, live_with_tag, abort_missing, abort_task, is_before, abort_all, query, function_to, function_marks, management_marks}
 use Rattle.iscsi_history.specs.rules.Logout.{is_open, is_last_open, live_of_units, all_held, parting, end_session, close_conn, logout_marks}
 use Rattle.iscsi_history.specs.rules.Items.{marks_after}
+use Rattle.iscsi_history.specs.promises.Aborts.{is_set_abort, is_abort, is_complete}
 use Rattle.iscsi_history.specs.promises.Answers.{Answers}
+use Rattle.iscsi_history.proofs.BoolLemmas.{and_first, and_parts, not_true, or_false}
 use Rattle.iscsi_history.proofs.ListLemmas.{fewer_counted}
 use Rattle.iscsi_history.proofs.ElementLemmas.{In, in-filter, first-in}
 use Rattle.iscsi_history.proofs.TraceLemmas.{live-quiet}
 use Rattle.iscsi_history.proofs.HeldLemmas.{held-number}
-use Rattle.iscsi_history.proofs.VerdictLemmas.{verdict_below, verdict_answers, refusal_answers}
-use Rattle.iscsi_history.proofs.Forms.{Start, AtTurn, AtArrival, AfterWaiting, Deeds, idle, marks_done, begun, IsDone}
+use Rattle.iscsi_history.proofs.VerdictLemmas.{verdict_below, verdict_answers, refusal_answers, refused_incomplete}
+use Rattle.iscsi_history.proofs.Forms.{Start, AtTurn, AtArrival, AfterWaiting, Deeds, idle, marks_done, begun, Each, is_closing, is_completed_by, Sweeps, IsDone}
 
 -- ---- the mark by which a request executes changes nothing else
 
-live-begun : (start : Start) (a : Arrival) (t : Trace) → live (begun start a t) ≡ live t
+pub live-begun : (start : Start) (a : Arrival) (t : Trace) → live (begun start a t) ≡ live t
 live-begun AtTurn a t = live-quiet (Delivers a ∷ []) t refl (λ k. refl)
 live-begun AtArrival a t = live-quiet (Executes a ∷ []) t refl (λ k. refl)
 live-begun AfterWaiting a t = live-quiet (Executes a ∷ []) t refl (λ k. refl)
@@ -105,28 +109,52 @@ in-held_among t (n ∷ ns) b h = by_held (in-held_among t ns b) (held t n) refl 
 
 -- ---- what is done, after the mark by which a request executes
 
+-- the connection that is closed with the last others
+known_last : (t : Trace) (closing k : ℕ) (conns : List (ℕ × ℕ)) → list_all (λ (c : ℕ × ℕ). (c.0 == closing) || is_closed c.0 t) conns ≡ true → is_known k conns ≡ true → ((k == closing) || is_closed k t) ≡ true
+known_last t closing k [] all known = absurd (false≢true known)
+known_last t closing k (c ∷ conns) all known =
+    let parts = and_parts ((c.0 == closing) || is_closed c.0 t) (list_all (λ (x : ℕ × ℕ). (x.0 == closing) || is_closed x.0 t) conns) all in
+    elim (c.0 == k) as (λ b. (c.0 == k) ≡ b → (b || is_known k conns) ≡ true → ((k == closing) || is_closed k t) ≡ true) [
+      | true ↦ λ is found. subst (λ n. ((n == closing) || is_closed n t) ≡ true) (eqb-true c.0 k is) parts.0
+      | false ↦ λ is found. known_last t closing k conns parts.1 found
+    ] refl known
+
+-- a function of this number is no abort of a whole set
+pub unset : (r : Request) (n : ℕ) → (function r == n) ≡ true → (n == 2 || n == 4 || n == 5) ≡ false → is_set_abort r ≡ false
+unset r n is other = ap (λ m. m == 2 || m == 4 || m == 5) (eqb-true (function r) n is) ∙ other
+
 pub record Does (o : Setting) (t : Trace) (start : Start) (a : Arrival) (ms : List Mark) : Type 0 where
   pub deeds : Deeds
   pub is : ms ≡ marks_done a deeds
   pub done : IsDone o t start a deeds
 
+-- a function closes nothing, and where it is an abort of a whole set that is completed it takes out what that covers
+pub record DoesFunction (o : Setting) (t : Trace) (start : Start) (a : Arrival) (ms : List Mark) : Type 0 where
+  pub does : Does o t start a ms
+  pub stays : is_closing does.deeds ≡ false
+  pub sweeps : is_set_abort a.request ≡ true → is_completed_by a does.deeds ≡ true → Sweeps o (begun start a t) a does.deeds
+
+-- where any request is an abort of a whole set that is completed it wasn't refused, and takes out what that covers
+pub record DoesAny (o : Setting) (t : Trace) (start : Start) (a : Arrival) (ms : List Mark) : Type 0 where
+  pub does : Does o t start a ms
+  pub accepted : is_abort a.request ≡ true → is_completed_by a does.deeds ≡ true → refusal_of_function o a.request ≡ None
+  pub sweeps : is_abort a.request ≡ true → is_set_abort a.request ≡ true → is_completed_by a does.deeds ≡ true → Sweeps o (begun start a t) a does.deeds
+
 module _ (o : Setting) (t : Trace) (start : Start) (a : Arrival) where
   t' : Trace
   t' = begun start a t
 
+  idle_done : IsDone o t start a idle
+  idle_done = record { voids = tt; missing = tt; leaves = λ p. omega arith; empties = λ b h. absurd h; enters = tt; answers = tt; takes_out = λ h. absurd (false≢true h) }
+
+  pub reply_done : (reply : Reply) → Answers a.request reply → IsDone o t start a (record idle { reply = Some reply })
+  reply_done reply fits = record { voids = tt; missing = tt; leaves = λ p. omega arith; empties = λ b h. absurd h; enters = tt; answers = fits; takes_out = λ h. absurd (false≢true h) }
+
   does_nothing : Does o t start a []
-  does_nothing = record {
-    deeds = idle;
-    is = refl;
-    done = record { voids = tt; leaves = λ p. omega arith; empties = λ b h. absurd h; enters = tt; answers = tt };
-  }
+  does_nothing = record { deeds = idle; is = refl; done = idle_done }
 
   pub does_reply : (reply : Reply) → Answers a.request reply → Does o t start a (reply_on a reply)
-  does_reply reply fits = record {
-    deeds = record idle { reply = Some reply };
-    is = refl;
-    done = record { voids = tt; leaves = λ p. omega arith; empties = λ b h. absurd h; enters = tt; answers = fits };
-  }
+  does_reply reply fits = record { deeds = record idle { reply = Some reply }; is = refl; done = reply_done reply fits }
 
   does_enter : (unit : ℕ) → unit < o.units → Does o t start a (Enters (next_command t' a unit) ∷ [])
   unfolding t'
@@ -135,105 +163,138 @@ module _ (o : Setting) (t : Trace) (start : Start) (a : Arrival) where
     is = refl;
     done = record {
       voids = tt;
+      missing = tt;
       leaves = λ p. omega arith;
       empties = λ b h. absurd h;
       enters = record { unit = unit; next = ap (λ cs. record { ticket = length cs + 1; unit = unit; attr = attr_of (attr_code a.request); arrival = a }) (entered-begun start a t); below = below; stays = refl; silent = refl };
       answers = tt;
+      takes_out = λ h. absurd (false≢true h);
     };
   }
 
-  does_leave : (cs : List Command) → ((p : Command → Bool) → count_by p cs ≤ count_by p (live t')) → Does o t start a (map Leaves cs ++ answer a 0)
+  leave_done : (cs : List Command) → ((p : Command → Bool) → count_by p cs ≤ count_by p (live t')) → IsDone o t start a (record idle { leaving = cs; reply = Some (Task (itt a.request) 0) })
   unfolding t'
-  does_leave cs few = record {
-    deeds = record idle { leaving = cs; reply = Some (Task (itt a.request) 0) };
-    is = refl;
-    done = record {
-      voids = tt;
-      leaves = λ p. omega (arith, few p, ap (count_by p) (live-begun start a t));
-      empties = λ b h. absurd h;
-      enters = tt;
-      answers = refl;
-    };
+  leave_done cs few = record {
+    voids = tt;
+    missing = tt;
+    leaves = λ p. omega (arith, few p, ap (count_by p) (live-begun start a t));
+    empties = λ b h. absurd h;
+    enters = tt;
+    answers = refl;
+    takes_out = λ h. absurd (false≢true h);
   }
 
-  does_empty : (b : Arrival) → held t' b.number ≡ Some b → Does o t start a (Empties b ∷ answer a 0)
+  empty_done : (b : Arrival) → held t' b.number ≡ Some b → IsDone o t start a (record idle { emptied = b ∷ []; reply = Some (Task (itt a.request) 0) })
   unfolding t'
-  does_empty b there = record {
-    deeds = record idle { emptied = b ∷ []; reply = Some (Task (itt a.request) 0) };
-    is = refl;
-    done = record {
-      voids = tt;
-      leaves = λ p. omega arith;
-      empties = λ d h. ⊎_elim (λ same. subst (λ (x : Arrival). held t' x.number ≡ Some x) same there) (λ none. absurd none) h;
-      enters = tt;
-      answers = refl;
-    };
+  empty_done b there = record {
+    voids = tt;
+    missing = tt;
+    leaves = λ p. omega arith;
+    empties = λ d h. ⊎_elim (λ same. subst (λ (x : Arrival). held t' x.number ≡ Some x) same there) (λ none. absurd none) h;
+    enters = tt;
+    answers = refl;
+    takes_out = λ h. absurd (false≢true h);
   }
 
   -- ---- functions
 
-  does_missing : (n : ℕ) → Does o t start a (abort_missing o t' a n)
-  unfolding t'
-  does_missing n =
-      elim (is_immediate a.request && nat_le (exp_of o t') n && nat_le n (max_of o t') && nat_lt n a.number) as (λ b. Does o t start a (cond b (cond (is_received t' n) [] (Voids n ∷ []) ++ answer a 0) (answer a 1))) [
-        | true ↦ elim (is_received t' n) as (λ b. is_received t' n ≡ b → Does o t start a (cond b [] (Voids n ∷ []) ++ answer a 0)) [
-          | true ↦ λ is. does_reply (Task (itt a.request) 0) refl
-          | false ↦ λ is. record {
-            deeds = record idle { void = Some n; reply = Some (Task (itt a.request) 0) };
-            is = refl;
-            done = record { voids = ap (λ ns. list_any (λ k. k == n) ns) (sym (received-begun start a t)) ∙ is; leaves = λ p. omega arith; empties = λ b h. absurd h; enters = tt; answers = refl };
-          }
-        ] refl
-        | false ↦ does_reply (Task (itt a.request) 1) refl
-      ]
+  -- one that is no abort of a whole set
+  does_other : (d : Deeds) → IsDone o t start a d → is_closing d ≡ false → is_set_abort a.request ≡ false → DoesFunction o t start a (marks_done a d)
+  does_other d done stays other = record { does = record { deeds = d; is = refl; done = done }; stays = stays; sweeps = λ set h. absurd (false≢true (sym other ∙ set)) }
 
-  does_task : (unit : ℕ) → Does o t start a (abort_task o t' a unit)
+  does_answer : (response : ℕ) → is_set_abort a.request ≡ false → DoesFunction o t start a (answer a response)
+  does_answer response other = does_other (record idle { reply = Some (Task (itt a.request) response) }) (reply_done (Task (itt a.request) response) refl) refl other
+
+  does_missing : (n : ℕ) → (function a.request == 1) ≡ true → is_set_abort a.request ≡ false → DoesFunction o t start a (abort_missing o t' a n)
   unfolding t'
-  does_task unit = by_live (live_with_tag t' (rtt a.request) unit) refl
+  does_missing n one other =
+      elim (is_immediate a.request && nat_le (exp_of o t') n && nat_le n (max_of o t') && nat_lt n a.number) as (λ b. (is_immediate a.request && nat_le (exp_of o t') n && nat_le n (max_of o t') && nat_lt n a.number) ≡ b
+      → DoesFunction o t start a (cond b (cond (is_received t' n) [] (Voids n ∷ []) ++ answer a 0) (answer a 1))) [
+        | true ↦ λ tests. elim (is_received t' n) as (λ b. is_received t' n ≡ b → DoesFunction o t start a (cond b [] (Voids n ∷ []) ++ answer a 0)) [
+          | true ↦ λ is. does_answer 0 other
+          | false ↦ λ is. does_other (record idle { void = Some n; reply = Some (Task (itt a.request) 0) })
+              (record {
+                voids = ap (λ ns. list_any (λ k. k == n) ns) (sym (received-begun start a t)) ∙ is;
+                missing = (and_first (is_immediate a.request) (nat_le (exp_of o t') n) (and_first (is_immediate a.request && nat_le (exp_of o t') n) (nat_le n (max_of o t')) (and_first _ (nat_lt n a.number) tests)), one);
+                leaves = λ p. omega arith;
+                empties = λ b h. absurd h;
+                enters = tt;
+                answers = refl;
+                takes_out = λ h. absurd (false≢true h);
+              }) refl other
+        ] refl
+        | false ↦ λ tests. does_answer 1 other
+      ] refl
+
+  does_task : (unit : ℕ) → (function a.request == 1) ≡ true → is_set_abort a.request ≡ false → DoesFunction o t start a (abort_task o t' a unit)
+  unfolding t'
+  does_task unit one other = by_live (live_with_tag t' (rtt a.request) unit) refl
     where
-      by_held : (y : Option Arrival) → held_command o t' (rtt a.request) unit a.number ≡ y → Does o t start a (elim y [ Some h ↦ Empties h ∷ answer a 0 | None ↦ abort_missing o t' a (lift (exp_of o t') (ref_cmd_sn a.request)) ])
-      by_held (Some h) is = does_empty h (in-held_among t' _ h (in-filter _ (held_requests o t') h (first-in _ h is)).0)
-      by_held None is = does_missing (lift (exp_of o t') (ref_cmd_sn a.request))
+      by_held : (y : Option Arrival) → held_command o t' (rtt a.request) unit a.number ≡ y → DoesFunction o t start a (elim y [ Some h ↦ Empties h ∷ answer a 0 | None ↦ abort_missing o t' a (lift (exp_of o t') (ref_cmd_sn a.request)) ])
+      by_held (Some h) is = does_other _ (empty_done h (in-held_among t' _ h (in-filter _ (held_requests o t') h (first-in _ h is)).0)) refl other
+      by_held None is = does_missing (lift (exp_of o t') (ref_cmd_sn a.request)) one other
 
       by_live : (x : Option Command) → live_with_tag t' (rtt a.request) unit ≡ x
-          → Does o t start a (elim x [ Some c ↦ Leaves c ∷ answer a 0 | None ↦ elim (held_command o t' (rtt a.request) unit a.number) [ Some h ↦ Empties h ∷ answer a 0 | None ↦ abort_missing o t' a (lift (exp_of o t') (ref_cmd_sn a.request)) ] ])
-      by_live (Some c) is = does_leave (c ∷ []) (λ p. omega (arith, first_counted p _ c is, fewer_counted p (λ (d : Command). itt d.arrival.request == rtt a.request) (live_in unit t'), fewer_counted p (λ (d : Command). d.unit == unit) (live t')))
+          → DoesFunction o t start a (elim x [ Some c ↦ Leaves c ∷ answer a 0 | None ↦ elim (held_command o t' (rtt a.request) unit a.number) [ Some h ↦ Empties h ∷ answer a 0 | None ↦ abort_missing o t' a (lift (exp_of o t') (ref_cmd_sn a.request)) ] ])
+      by_live (Some c) is =
+          does_other _ (leave_done (c ∷ []) (λ p. omega (arith, first_counted p _ c is, fewer_counted p (λ (d : Command). itt d.arrival.request == rtt a.request) (live_in unit t'), fewer_counted p (λ (d : Command). d.unit == unit) (live t')))) refl other
       by_live None is = by_held (held_command o t' (rtt a.request) unit a.number) refl
 
-  does_all : (unit : ℕ) (covers : Command → Bool) → Does o t start a (abort_all t' a unit covers)
+  -- it takes out these of the unit's set
+  does_all : (unit : ℕ) → unit_named o.units a.request ≡ Some unit → (covers : Command → Bool) → ((c : Command) → is_before a c ≡ true → covers c ≡ true) → ((function a.request == 5) ≡ true → (c : Command) → covers c ≡ true)
+      → DoesFunction o t start a (abort_all t' a unit covers)
   unfolding t'
-  does_all unit covers = does_leave (filter covers (live_in unit t')) (λ p. omega (arith, fewer_counted p covers (live_in unit t'), fewer_counted p (λ (d : Command). d.unit == unit) (live t')))
+  does_all unit named covers early whole = record {
+    does = record {
+      deeds = record idle { leaving = filter covers (live_in unit t'); reply = Some (Task (itt a.request) 0) };
+      is = refl;
+      done = leave_done (filter covers (live_in unit t')) (λ p. omega (arith, fewer_counted p covers (live_in unit t'), fewer_counted p (λ (d : Command). d.unit == unit) (live t')));
+    };
+    stays = refl;
+    sweeps = λ set h. record { unit = unit; named = named; covers = covers; early = early; whole = whole; is = refl };
+  }
 
-  does_to : (unit : ℕ) → Does o t start a (function_to o t' a unit)
+  does_to : (unit : ℕ) → unit_named o.units a.request ≡ Some unit → DoesFunction o t start a (function_to o t' a unit)
   unfolding t'
-  does_to unit = by_tests (function a.request == 1) (function a.request == 5) (function a.request == 9) (function a.request == 10)
+  does_to unit named = by_tests (function a.request == 1) (function a.request == 5) (function a.request == 9) (function a.request == 10) refl refl refl refl
     where
-      by_tests : (b c d e : Bool) → Does o t start a (cond b (abort_task o t' a unit) (cond c (abort_all t' a unit (λ x. true)) (cond d (query a (list_any (λ x. itt x.arrival.request == rtt a.request) (live_in unit t'))) (cond e (query a (list_any (λ x. true) (live_in unit t'))) (abort_all t' a unit (is_before a))))))
-      by_tests true c d e = does_task unit
-      by_tests false true d e = does_all unit (λ x. true)
-      by_tests false false true e = does_reply (Task (itt a.request) (cond (list_any (λ x. itt x.arrival.request == rtt a.request) (live_in unit t')) 7 0)) refl
-      by_tests false false false true = does_reply (Task (itt a.request) (cond (list_any (λ x. true) (live_in unit t')) 7 0)) refl
-      by_tests false false false false = does_all unit (is_before a)
+      by_tests : (b c d e : Bool) → (function a.request == 1) ≡ b → (function a.request == 5) ≡ c → (function a.request == 9) ≡ d → (function a.request == 10) ≡ e
+          → DoesFunction o t start a (cond b (abort_task o t' a unit) (cond c (abort_all t' a unit (λ x. true)) (cond d (query a (list_any (λ x. itt x.arrival.request == rtt a.request) (live_in unit t'))) (cond e (query a (list_any (λ x. true) (live_in unit t'))) (abort_all t' a unit (is_before a))))))
+      by_tests true c d e one five nine ten = does_task unit one (unset a.request 1 one refl)
+      by_tests false true d e one five nine ten = does_all unit named (λ x. true) (λ c h. refl) (λ h c. refl)
+      by_tests false false true e one five nine ten = does_answer (cond (list_any (λ x. itt x.arrival.request == rtt a.request) (live_in unit t')) 7 0) (unset a.request 9 nine refl)
+      by_tests false false false true one five nine ten = does_answer (cond (list_any (λ x. true) (live_in unit t')) 7 0) (unset a.request 10 ten refl)
+      by_tests false false false false one five nine ten = does_all unit named (is_before a) (λ c h. h) (λ h c. absurd (false≢true (sym five ∙ h)))
+
+  pub function_does : DoesFunction o t start a (function_marks o (begun start a t) a)
+  unfolding t'
+  function_does =
+      elim (unit_named o.units a.request) as (λ x. unit_named o.units a.request ≡ x → DoesFunction o t start a (elim x [ Some unit ↦ function_to o t' a unit | None ↦ [] ])) [
+        | Some unit ↦ λ named. does_to unit named
+        | None ↦ λ named. record { does = record { deeds = idle; is = refl; done = idle_done }; stays = refl; sweeps = λ set h. absurd (false≢true h) }
+      ] refl
 
   pub does_function : Does o t start a (function_marks o (begun start a t) a)
-  unfolding t'
-  does_function =
-      elim (unit_named o.units a.request) as (λ x. Does o t start a (elim x [ Some unit ↦ function_to o t' a unit | None ↦ [] ])) [
-        | Some unit ↦ does_to unit
-        | None ↦ does_nothing
-      ]
+  does_function = function_does.does
 
-  does_management : Does o t start a (management_marks o t' a)
+  does_management : DoesAny o t start a (management_marks o t' a)
   unfolding t'
   does_management = by_refusal (refusal_of_function o a.request) refl
     where
-      by_refusal : (x : Option Reply) → refusal_of_function o a.request ≡ x → Does o t start a (elim x [ Some reply ↦ reply_on a reply | None ↦ function_marks o t' a ])
-      by_refusal (Some reply) is = does_reply reply (refusal_answers o.level o.units a.request reply is)
-      by_refusal None is = does_function
+      by_refusal : (x : Option Reply) → refusal_of_function o a.request ≡ x → DoesAny o t start a (elim x [ Some reply ↦ reply_on a reply | None ↦ function_marks o t' a ])
+      by_refusal (Some reply) is =
+          let incomplete : is_complete (itt a.request) reply ≡ false = refused_incomplete o a.request reply (itt a.request) is in
+          record {
+            does = record { deeds = record idle { reply = Some reply }; is = refl; done = reply_done reply (refusal_answers o.level o.units a.request reply is) };
+            accepted = λ aborts h. absurd (false≢true (sym incomplete ∙ h));
+            sweeps = λ aborts set h. absurd (false≢true (sym incomplete ∙ h));
+          }
+      by_refusal None is = record { does = function_does.does; accepted = λ aborts h. is; sweeps = λ aborts set h. function_does.sweeps set h }
 
   -- ---- Logout
 
-  does_part : (of_these : ℕ → Bool) (closing : Option ℕ) (ending : Bool)
+  -- it takes out what there is of these connections
+  does_part : (of_these : ℕ → Bool) (closing : Option ℕ) (ending : Bool) → Each (λ conn. of_these conn ≡ true) closing → (ending ≡ true → (conn : ℕ) → is_open o t' conn ≡ true → of_these conn ≡ true)
       → Does o t start a (marks_done a (record {
         void = None;
         leaving = filter (λ (c : Command). of_these (connection_of c.arrival.request)) (live_of_units o t');
@@ -244,7 +305,7 @@ module _ (o : Setting) (t : Trace) (start : Start) (a : Arrival) where
         ending = ending;
       }))
   unfolding t'
-  does_part of_these closing ending = record {
+  does_part of_these closing ending closes ends = record {
     deeds = record {
       void = None;
       leaving = filter (λ (c : Command). of_these (connection_of c.arrival.request)) (live_of_units o t');
@@ -257,20 +318,27 @@ module _ (o : Setting) (t : Trace) (start : Start) (a : Arrival) where
     is = refl;
     done = record {
       voids = tt;
+      missing = tt;
       leaves = λ p. omega (arith, fewer_counted p (λ (c : Command). of_these (connection_of c.arrival.request)) (live_of_units o t'), units_counted p (live t') 0 o.units, fewer_counted p (λ (c : Command). nat_le 0 c.unit) (live t'), ap (count_by p) (live-begun start a t));
       empties = λ b h. in-held_among t' _ b (in-filter (λ (x : Arrival). of_these (connection_of x.request)) (all_held o t') b h).0;
       enters = tt;
       answers = refl;
+      takes_out = λ h. record { of_these = of_these; leaving = refl; emptied = refl; entering = refl; closing = closes; ending = ends };
     };
   }
 
   does_end : Does o t start a (end_session o t' a)
   unfolding t'
-  does_end = subst (Does o t start a) (simp append_assoc) (does_part (λ conn. true) None true)
+  does_end = subst (Does o t start a) (simp append_assoc) (does_part (λ conn. true) None true tt (λ ends conn here. refl))
 
   does_close : (closing : ℕ) → Does o t start a (close_conn o t' a closing)
   unfolding t'
-  does_close closing = subst (Does o t start a) (simp append_assoc) (does_part (λ conn. conn == closing) (Some closing) (is_last_open o t' closing))
+  does_close closing = subst (Does o t start a) (simp append_assoc) (does_part (λ conn. conn == closing) (Some closing) (is_last_open o t' closing) (eq-eqb closing closing refl) last)
+    where
+      last : is_last_open o t' closing ≡ true → (conn : ℕ) → is_open o t' conn ≡ true → (conn == closing) ≡ true
+      last ends conn here =
+          let parts = and_parts (is_known conn o.conns) (not (is_closed conn t')) here in
+          sym (or_false (conn == closing)) ∙ ap (λ x. (conn == closing) || x) (sym (not_true (is_closed conn t') parts.1)) ∙ known_last t' closing conn o.conns ends parts.0
 
   does_logout : Does o t start a (logout_marks o t' a)
   unfolding t'
@@ -293,11 +361,17 @@ module _ (o : Setting) (t : Trace) (start : Start) (a : Arrival) where
   does_verdict (Enter unit) is = does_enter unit (verdict_below o t' a unit is)
 
   -- what any request does that executes
-  pub does_after : Does o t start a (marks_after o (begun start a t) a)
+  pub any_does : DoesAny o t start a (marks_after o (begun start a t) a)
   unfolding t'
-  does_after = by_opcode (opcode a.request == 0x02) (opcode a.request == 0x06)
+  any_does = by_opcode (opcode a.request == 0x02) (opcode a.request == 0x06) refl
     where
-      by_opcode : (d e : Bool) → Does o t start a (cond d (management_marks o t' a) (cond e (logout_marks o t' a) (marks_of t' a (verdict_of o t' a.request))))
-      by_opcode true e = does_management
-      by_opcode false true = does_logout
-      by_opcode false false = does_verdict (verdict_of o t' a.request) refl
+      no_function : (ms : List Mark) → Does o t start a ms → (opcode a.request == 0x02) ≡ false → DoesAny o t start a ms
+      no_function ms d other = record { does = d; accepted = λ aborts h. absurd (false≢true (sym other ∙ and_first (opcode a.request == 0x02) (function a.request == 1 || is_set_abort a.request) aborts)); sweeps = λ aborts set h. absurd (false≢true (sym other ∙ and_first (opcode a.request == 0x02) (function a.request == 1 || is_set_abort a.request) aborts)) }
+
+      by_opcode : (d e : Bool) → (opcode a.request == 0x02) ≡ d → DoesAny o t start a (cond d (management_marks o t' a) (cond e (logout_marks o t' a) (marks_of t' a (verdict_of o t' a.request))))
+      by_opcode true e is = does_management
+      by_opcode false true is = no_function _ does_logout is
+      by_opcode false false is = no_function _ (does_verdict (verdict_of o t' a.request) refl) is
+
+  pub does_after : Does o t start a (marks_after o (begun start a t) a)
+  does_after = any_does.does

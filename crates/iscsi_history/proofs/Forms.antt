@@ -1,13 +1,16 @@
 -- The form of an item: each item that the definitions give has one, and what a law asks of items is read off it.
-use Rattle.std.specs.Prelude.{◌≡◌, ◌≤◌, ◌<◌, ℕ, ◌+◌, Bool, true, false, List, [], ◌∷◌, ◌++◌, map, count_by, Option, Some, None, if◌then◌else◌}
+use Rattle.std.specs.Prelude.{◌≡◌, ◌≤◌, ◌<◌, ℕ, ◌+◌, Bool, true, false, List, [], ◌∷◌, ◌++◌, map, count_by, Option, Some, None, if◌then◌else◌, filter, is_some, ◌==◌, ◌||◌}
 use Rattle.iscsi_wire.specs.declared.reply.Reply.{Reply}
 use Rattle.iscsi_wire.specs.declared.reply.Reply.TheVariants.{Scsi}
-use Rattle.iscsi_wire.specs.Fields.{connection_of, itt}
+use Rattle.iscsi_wire.specs.Fields.{connection_of, function, is_immediate, itt}
 use Rattle.iscsi_history.specs.declared.effect.Why.{Why}
 use Rattle.iscsi_history.specs.rules.Settings.{Setting}
-use Rattle.iscsi_history.specs.rules.Trace.{Arrival, Command, Mark, Admits, Delivers, Executes, Voids, Empties, Waits, Leaves, Enters, Sends, ClosesConn, ClosesSession, Ignores, Trace, is_received, held, live}
-use Rattle.iscsi_history.specs.rules.Execution.{rejected, reply_on, sense_of_status, next_command}
+use Rattle.iscsi_history.specs.rules.Trace.{Arrival, Command, Mark, Admits, Delivers, Executes, Voids, Empties, Waits, Leaves, Enters, Sends, ClosesConn, ClosesSession, Ignores, Trace, is_received, held, live, live_in}
+use Rattle.iscsi_history.specs.rules.Execution.{rejected, reply_on, sense_of_status, next_command, unit_named}
+use Rattle.iscsi_history.specs.rules.Management.{is_before}
+use Rattle.iscsi_history.specs.rules.Logout.{is_open, live_of_units, all_held}
 use Rattle.iscsi_history.specs.rules.Items.{is_waiting}
+use Rattle.iscsi_history.specs.promises.Aborts.{is_complete}
 use Rattle.iscsi_history.specs.promises.Answers.{Answers}
 use Rattle.iscsi_history.proofs.ElementLemmas.{In}
 
@@ -85,15 +88,43 @@ pub record EntersAs (o : Setting) (t : Trace) (a : Arrival) (d : Deeds) (c : Com
 abbrev pub begun : Start → Arrival → Trace → Trace
 begun start a t = (start_mark start a ∷ []) ∷ t
 
+-- it closes a connection, or the session
+abbrev pub is_closing : Deeds → Bool
+is_closing d = d.ending || is_some d.closing
+
+-- a closing takes out what there is of these connections, which it closes: the commands, and the requests that are held
+pub record TakesOut (o : Setting) (t : Trace) (d : Deeds) : Type 0 where
+  pub of_these : ℕ → Bool
+  pub leaving : d.leaving ≡ filter (λ (c : Command). of_these (connection_of c.arrival.request)) (live_of_units o t)
+  pub emptied : d.emptied ≡ filter (λ (b : Arrival). of_these (connection_of b.request)) (all_held o t)
+  pub entering : d.entering ≡ None
+  pub closing : Each (λ conn. of_these conn ≡ true) d.closing
+  pub ending : d.ending ≡ true → (conn : ℕ) → is_open o t conn ≡ true → of_these conn ≡ true
+
+-- Function complete is its answer
+abbrev pub is_completed_by : Arrival → Deeds → Bool
+is_completed_by a d = elim d.reply [ Some reply ↦ is_complete (itt a.request) reply | None ↦ false ]
+
+-- an abort of a whole set takes out what it covers of a unit's set: the earlier ones at the least, and all of them after LOGICAL UNIT RESET
+pub record Sweeps (o : Setting) (t : Trace) (a : Arrival) (d : Deeds) : Type 0 where
+  pub unit : ℕ
+  pub named : unit_named o.units a.request ≡ Some unit
+  pub covers : Command → Bool
+  pub early : (c : Command) → is_before a c ≡ true → covers c ≡ true
+  pub whole : (function a.request == 5) ≡ true → (c : Command) → covers c ≡ true
+  pub is : d.leaving ≡ filter covers (live_in unit t)
+
 pub record IsDone (o : Setting) (t : Trace) (start : Start) (a : Arrival) (d : Deeds) : Type 0 where
-  -- a number that is voided wasn't received
+  -- a number that is voided wasn't received, and it is an immediate ABORT TASK that voids it
   pub voids : Each (λ n. is_received t n ≡ false) d.void
+  pub missing : Each (λ n. (is_immediate a.request ≡ true) × ((function a.request == 1) ≡ true)) d.void
   -- those that leave are live, each once
   pub leaves : (p : Command → Bool) → count_by p d.leaving ≤ count_by p (live t)
   -- those that are taken out are held, and aren't the one that executes
   pub empties : (b : Arrival) → In b d.emptied → held (begun start a t) b.number ≡ Some b
   pub enters : Each (EntersAs o t a d) d.entering
   pub answers : Each (Answers a.request) d.reply
+  pub takes_out : is_closing d ≡ true → TakesOut o (begun start a t) d
 
 -- what holds of an item of this form, after t, in the event `now`
 abbrev pub IsFormed : Setting → ℕ → Trace → Form → Type 0
@@ -115,6 +146,12 @@ is_arrival (Received a) = true
 is_arrival (Postponed a) = true
 is_arrival (Executed AtArrival a d) = true
 is_arrival _ = false
+
+-- the item has its turn in the agenda
+abbrev pub is_turn : Form → Bool
+is_turn (Executed AtTurn a d) = true
+is_turn (Executed AfterWaiting a d) = true
+is_turn _ = false
 
 -- each item has a form. Those of a trace are of events before `next`; before an arrival those of earlier events stand
 abbrev pub HaveForms : Setting → ℕ → Trace → Type 0

@@ -19,6 +19,7 @@ pub mod CloseTheorem
 pub mod MomentLemmas
 pub mod VerdictLemmas
 pub mod Forms
+pub mod DeedLemmas
 pub mod FormItems
 pub mod FormRuns
 pub mod NewlyLemmas

@@ -1,9 +1,8 @@
 -- What the definitions mean, said once more in other words, holds of every trace.
-use Rattle.std.proofs.Common.{◌≡◌, ℕ, ◌+◌, ◌≤◌, ◌==◌, ◌&&◌, ◌||◌, not, cond, Bool, true, false, List, [], ◌∷◌, count_by, length, refl, ap, sym, ◌∙◌, arith}
+use Rattle.std.proofs.Common.{◌≡◌, ℕ, ◌==◌, ◌&&◌, ◌||◌, not, Bool, true, false, List, [], ◌∷◌, length, refl, ap, sym, ◌∙◌}
 use Rattle.std.specs.List.{list_any, filter_map}
 use Rattle.std.proofs.lemmas.Bool.{false≢true, eqb-true}
 use Rattle.std.proofs.lemmas.List.Folds.{list_any-append}
-use Rattle.std.proofs.lemmas.List.Sums.{sum_by-cons}
 use Rattle.iscsi_history.specs.declared.event.Event.{Event}
 use Rattle.iscsi_history.specs.rules.Settings.{Setting}
 use Rattle.iscsi_history.specs.rules.Trace.{Command, Trace, has, enters, entered, leaves_ticket, live, is_among}
@@ -14,7 +13,7 @@ use Rattle.iscsi_history.proofs.BoolLemmas.{or_first, and_first, and_true, and_f
 use Rattle.iscsi_history.proofs.Missing.{expected_low, expected_gone, expected_below}
 use Rattle.iscsi_history.proofs.Forms.{HasForm, HaveForms}
 use Rattle.iscsi_history.proofs.FormRuns.{trace_has_forms}
-use Rattle.iscsi_history.proofs.TouchLemmas.{leaving_in, leaves_form, leaving_few}
+use Rattle.iscsi_history.proofs.TouchLemmas.{leaving_live}
 use Rattle.iscsi_history.proofs.FateLemmas.{fate, one_fate}
 
 -- ---- commands that entered
@@ -41,24 +40,6 @@ live_among k t = any_filter (λ (c : Command). c.ticket == k) (λ (c : Command).
         ∙ ap (λ b. ((c.ticket == k) && not (has (leaves_ticket k) t)) || b) (by_ticket cs)
         ∙ apart_or (c.ticket == k) (is_among k cs) (not (has (leaves_ticket k) t))
 
--- what is among some that are counted is counted
-among_counted : (k : ℕ) (cs : List Command) → is_among k cs ≡ true → 1 ≤ count_by (λ (c : Command). c.ticket == k) cs
-among_counted k [] h = absurd (false≢true h)
-among_counted k (c ∷ cs) h = by_test (c.ticket == k) (sum_by-cons (λ (x : Command). cond (x.ticket == k) 1 0) c cs) (among_counted k cs) h
-  where
-    by_test : (v : Bool) → count_by (λ (x : Command). x.ticket == k) (c ∷ cs) ≡ cond v 1 0 + count_by (λ (x : Command). x.ticket == k) cs → (is_among k cs ≡ true → 1 ≤ count_by (λ (x : Command). x.ticket == k) cs) → (v || is_among k cs) ≡ true
-        → 1 ≤ count_by (λ (x : Command). x.ticket == k) (c ∷ cs)
-    by_test true all rest h = omega arith
-    by_test false all rest h = omega (arith, rest h)
-
-counted_among : (k : ℕ) (cs : List Command) → 1 ≤ count_by (λ (c : Command). c.ticket == k) cs → is_among k cs ≡ true
-counted_among k [] h = absurd (omega arith)
-counted_among k (c ∷ cs) h = by_test (c.ticket == k) (sum_by-cons (λ (x : Command). cond (x.ticket == k) 1 0) c cs) (counted_among k cs)
-  where
-    by_test : (v : Bool) → count_by (λ (x : Command). x.ticket == k) (c ∷ cs) ≡ cond v 1 0 + count_by (λ (x : Command). x.ticket == k) cs → (1 ≤ count_by (λ (x : Command). x.ticket == k) cs → is_among k cs ≡ true) → (v || is_among k cs) ≡ true
-    by_test true all rest = refl
-    by_test false all rest = rest (omega arith)
-
 -- nothing leaves that didn't enter
 left_entered : (o : Setting) (k : ℕ) (t : Trace) (next : ℕ) → HaveForms o next t → has (leaves_ticket k) t ≡ true → is_among k (entered t) ≡ true
 left_entered o k [] next x h = absurd (false≢true h)
@@ -66,14 +47,11 @@ left_entered o k (item ∷ t) next x h =
     let f : HasForm o x.0 t item = x.1.1.0 in
     list_any-append (λ (c : Command). c.ticket == k) (entered t) (filter_map enters item)
     ∙ or_first (is_among k (entered t)) (is_among k (filter_map enters item))
-    (by_item (list_any (leaves_ticket k) item) (leaving_in f.form) (sym (leaves_form k f.form) ∙ sym (ap (list_any (leaves_ticket k)) f.is)) (leaving_few o x.0 t f.form f.formed (λ (c : Command). c.ticket == k)) (left_entered o k t _ x.1.1.1) h)
+    (by_item (list_any (leaves_ticket k) item) (λ here. leaving_live o x.0 t f.form f.formed k (sym (ap (list_any (leaves_ticket k)) f.is) ∙ here)) (left_entered o k t _ x.1.1.1) h)
   where
-    by_item : (v : Bool) (cs : List Command) → is_among k cs ≡ v → count_by (λ (c : Command). c.ticket == k) cs ≤ count_by (λ (c : Command). c.ticket == k) (live t) → (has (leaves_ticket k) t ≡ true → is_among k (entered t) ≡ true)
-        → (v || has (leaves_ticket k) t) ≡ true → is_among k (entered t) ≡ true
-    by_item true cs leaves few before h =
-        and_first (is_among k (entered t)) (not (has (leaves_ticket k) t))
-        (sym (live_among k t) ∙ counted_among k (live t) (omega (arith, among_counted k cs leaves, few)))
-    by_item false cs leaves few before h = before h
+    by_item : (v : Bool) → (v ≡ true → is_among k (live t) ≡ true) → (has (leaves_ticket k) t ≡ true → is_among k (entered t) ≡ true) → (v || has (leaves_ticket k) t) ≡ true → is_among k (entered t) ≡ true
+    by_item true lives before h = and_first (is_among k (entered t)) (not (has (leaves_ticket k) t)) (sym (live_among k t) ∙ lives refl)
+    by_item false lives before h = before h
 
 entered_parted : (a l : Bool) → (l ≡ true → a ≡ true) → a ≡ ((a && not l) || l)
 entered_parted true true h = refl

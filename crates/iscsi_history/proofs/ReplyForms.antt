@@ -1,5 +1,5 @@
 -- What an item of each form does to the requests of an event: which wait for their turn, execute, are live and are answered.
-use Rattle.std.proofs.Common.{◌≡◌, ℕ, ◌+◌, ◌≤◌, ◌==◌, ◌&&◌, not, inl, inr, ⊎_elim, cond, Bool, true, false, List, [], ◌∷◌, ◌++◌, map, filter, length, count_by, Option, Some, None, refl, ap, sym, ◌∙◌, arith, eq-eqb, length-append}
+use Rattle.std.proofs.Common.{◌≡◌, ℕ, ◌+◌, ◌≤◌, ◌==◌, ◌&&◌, not, inl, inr, cond, Bool, true, false, List, [], ◌∷◌, ◌++◌, map, filter, length, count_by, Option, Some, None, refl, ap, sym, ◌∙◌, arith, eq-eqb, length-append}
 use Rattle.std.specs.List.{list_any, filter_map}
 use Rattle.std.proofs.lemmas.Bool.{false≢true}
 use Rattle.std.proofs.lemmas.List.{append-nil}
@@ -10,10 +10,9 @@ use Rattle.iscsi_wire.specs.Fields.{connection_of}
 use Rattle.iscsi_history.specs.rules.Settings.{Setting}
 use Rattle.iscsi_history.specs.rules.Trace.{Arrival, Command, Mark, Voids, Empties, Leaves, Enters, Sends, ClosesConn, ClosesSession, Trace, has, enters, entered, leaves_ticket, live, is_among}
 use Rattle.iscsi_history.specs.promises.Replies.{is_answer_to, reply_sent, replies_to}
-use Rattle.iscsi_history.proofs.BoolLemmas.{or_first, or_second}
 use Rattle.iscsi_history.proofs.ListLemmas.{fewer_counted}
 use Rattle.iscsi_history.proofs.CountLemmas.{one, count-cons, count-filter, count-weaker, count-split}
-use Rattle.iscsi_history.proofs.ElementLemmas.{In}
+use Rattle.iscsi_history.proofs.ElementLemmas.{In, in-any}
 use Rattle.iscsi_history.proofs.TraceLemmas.{live-item}
 use Rattle.iscsi_history.proofs.AbortMarks.{none_viewed}
 use Rattle.iscsi_history.proofs.Forms.{AtTurn, AtArrival, AfterWaiting, Deeds, if_some, marks_done, Form, Ignored, Rejected, Received, Postponed, Completed, Executed, marks_of_form, IsFormed}
@@ -84,10 +83,8 @@ pub entered_form : (p : Command → Bool) (form : Form) (t : Trace) → count_by
 entered_form p form t =
     sum_by-append (λ c. one (p c)) (entered t) (filter_map enters (marks_of_form form)) ∙ ap (λ cs. count_by p (entered t) + count_by p cs) (enters_form form)
 
-in_among : (cs : List Command) (c : Command) → In c cs → is_among c.ticket cs ≡ true
-in_among [] c h = absurd h
-in_among (d ∷ cs) c h =
-    ⊎_elim (λ same. or_first (d.ticket == c.ticket) (is_among c.ticket cs) (eq-eqb d.ticket c.ticket (ap (λ (x : Command). x.ticket) same))) (λ later. or_second (d.ticket == c.ticket) (is_among c.ticket cs) (in_among cs c later)) h
+pub in_among : (cs : List Command) (c : Command) → In c cs → is_among c.ticket cs ≡ true
+in_among cs c h = in-any (λ (d : Command). d.ticket == c.ticket) cs c h (eq-eqb c.ticket c.ticket refl)
 
 among_in : (p : Command → Bool) (cs : List Command) → count_by (λ c. is_among c.ticket cs && p c) cs ≡ count_by p cs
 among_in p cs = all cs cs (λ c h. h)

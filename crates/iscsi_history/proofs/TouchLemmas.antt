@@ -13,8 +13,10 @@ use Rattle.iscsi_history.specs.rules.Settings.{Setting}
 use Rattle.iscsi_history.specs.rules.Trace.{Arrival, Command, Mark, Admits, Delivers, Executes, Voids, Empties, Waits, Leaves, Enters, Sends, ClosesConn, ClosesSession, Ignores, Trace, enters, entered, leaves_ticket, live, is_among}
 use Rattle.iscsi_history.specs.rules.Run.{effects_of_mark, newly_enabled, effects_of_item}
 use Rattle.iscsi_history.specs.promises.Lives.{names_ticket, life_of}
-use Rattle.iscsi_history.proofs.AbortMarks.{leaves_are, none_viewed, none_mapped}
+use Rattle.iscsi_history.proofs.AbortMarks.{none_viewed, none_mapped}
 use Rattle.iscsi_history.proofs.BoolLemmas.{or_false}
+use Rattle.iscsi_history.proofs.CommandItems.{leaves_only}
+use Rattle.iscsi_history.proofs.CountLemmas.{among_counted, counted_among}
 use Rattle.iscsi_history.proofs.ElementLemmas.{In}
 use Rattle.iscsi_history.proofs.Forms.{Start, AtTurn, AtArrival, AfterWaiting, start_mark, Deeds, if_some, marks_done, Form, Ignored, Rejected, Received, Postponed, Completed, Executed, marks_of_form, Each, EntersAs, IsFormed}
 use Rattle.iscsi_history.proofs.NumberingLemmas.{to_list, unseen, passed}
@@ -107,7 +109,7 @@ leaves_form k (Executed start a d) = by_start start
     done : list_any (leaves_ticket k) (marks_done a d) ≡ is_among k d.leaving
     done =
         none_some Voids d.void _ (λ n. refl)
-        ∙ leaves_are k d.leaving _
+        ∙ leaves_only d.leaving _ k
         ∙ ap (λ b. is_among k d.leaving || b)
         (list_any-append (leaves_ticket k) (map Empties d.emptied) _
         ∙ ap (λ b. b || list_any (leaves_ticket k) (if_some Enters d.entering ++ (if_some (Sends (connection_of a.request)) d.reply ++ (if_some ClosesConn d.closing ++ cond d.ending (ClosesSession ∷ []) [])))) (none_mapped (leaves_ticket k) Empties d.emptied (λ b. refl))
@@ -218,6 +220,9 @@ leaving_few o now t (Completed c status) x p = one_of (live t) x
         let one : count_by p (c ∷ []) ≡ cond (p c) 1 0 + 0 = sum_by-cons (λ y. cond (p y) 1 0) c [] in
         ⊎_elim (λ same. omega (arith, all, one, ap {B = ℕ} (λ (y : Command). cond (p y) 1 0) same)) (λ later. omega (arith, all, one_of cs later)) h
 leaving_few o now t (Executed start a d) x p = x.1.leaves p
+
+pub leaving_live : (o : Setting) (now : ℕ) (t : Trace) (form : Form) → IsFormed o now t form → (k : ℕ) → list_any (leaves_ticket k) (marks_of_form form) ≡ true → is_among k (live t) ≡ true
+leaving_live o now t form x k h = counted_among k (live t) (omega (arith, among_counted k (leaving_in form) (sym (leaves_form k form) ∙ h), leaving_few o now t form x (λ (c : Command). c.ticket == k)))
 
 -- the one that enters has the next ticket, and a unit of the session, and none leaves then
 pub record EntersNext (o : Setting) (t : Trace) (form : Form) (c : Command) : Type 0 where

@@ -1,49 +1,15 @@
 -- Turns: which numbers an item delivers and empties. What is emptied is never delivered.
-use Rattle.std.proofs.Common.{◌≡◌, ℕ, ◌==◌, ◌||◌, inl, inr, ⊎_elim, cond, Bool, true, false, List, [], ◌∷◌, ◌++◌, map, Option, Some, None, refl, ap, sym, ◌∙◌}
+use Rattle.std.proofs.Common.{◌≡◌, ℕ, ◌==◌, ◌||◌, inl, inr, ⊎_elim, cond, Bool, true, false, List, [], ◌∷◌, Some, None, refl, ap, sym, ◌∙◌}
 use Rattle.std.specs.List.{list_any}
 use Rattle.std.proofs.lemmas.Bool.{false≢true, eqb-true, or_cases}
-use Rattle.std.proofs.lemmas.List.Folds.{list_any-append}
-use Rattle.iscsi_wire.specs.declared.reply.Reply.{Reply}
-use Rattle.iscsi_wire.specs.Fields.{connection_of}
 use Rattle.iscsi_history.specs.rules.Settings.{Setting}
-use Rattle.iscsi_history.specs.rules.Trace.{Arrival, Command, Mark, Voids, Empties, Leaves, Enters, Sends, ClosesConn, ClosesSession, Trace, admitted, delivers_number, is_delivered, empties_number, is_emptied, held}
+use Rattle.iscsi_history.specs.rules.Trace.{Arrival, Trace, admitted, delivers_number, is_delivered, empties_number, is_emptied, held}
 use Rattle.iscsi_history.specs.promises.Replies.{executed_in}
 use Rattle.iscsi_history.proofs.BoolLemmas.{or_false}
-use Rattle.iscsi_history.proofs.ListLemmas.{list_any-map}
 use Rattle.iscsi_history.proofs.ElementLemmas.{In}
 use Rattle.iscsi_history.proofs.HeldLemmas.{held_unemptied}
-use Rattle.iscsi_history.proofs.AbortMarks.{none_mapped}
-use Rattle.iscsi_history.proofs.Forms.{Start, AtTurn, AtArrival, AfterWaiting, start_mark, Deeds, if_some, marks_done, Form, Ignored, Rejected, Received, Postponed, Completed, Executed, marks_of_form, begun, IsFormed, HasForm, HaveForms}
-
--- ---- the marks of an item
-
-none_some : {A : Type 0} (test : Mark → Bool) (f : A → Mark) (x : Option A) → ((y : A) → test (f y) ≡ false) → list_any test (if_some f x) ≡ false
-none_some test f None no_mark = refl
-none_some test f (Some y) no_mark = ap (λ b. b || false) (no_mark y)
-
-skipped : (test : Mark → Bool) (xs ys : List Mark) → list_any test xs ≡ false → list_any test (xs ++ ys) ≡ list_any test ys
-skipped test xs ys h = list_any-append test xs ys ∙ ap (λ b. b || list_any test ys) h
-
--- a test that no more of the marks that are done pass than those of requests that are taken out
-module _ (test : Mark → Bool) (voids : (n : ℕ) → test (Voids n) ≡ false) (leaves : (c : Command) → test (Leaves c) ≡ false) (enter : (c : Command) → test (Enters c) ≡ false)
-    (sends : (conn : ℕ) (reply : Reply) → test (Sends conn reply) ≡ false) (closes : (conn : ℕ) → test (ClosesConn conn) ≡ false) (ends : test ClosesSession ≡ false) where
-  tests_done : (a : Arrival) (d : Deeds) → list_any test (marks_done a d) ≡ list_any test (map Empties d.emptied)
-  tests_done a d =
-      skipped test (if_some Voids d.void) _ (none_some test Voids d.void voids)
-      ∙ skipped test (map Leaves d.leaving) _ (none_mapped test Leaves d.leaving leaves)
-      ∙ list_any-append test (map Empties d.emptied) _
-      ∙ ap (λ b. list_any test (map Empties d.emptied) || b)
-      (skipped test (if_some Enters d.entering) _ (none_some test Enters d.entering enter)
-      ∙ skipped test (if_some (Sends (connection_of a.request)) d.reply) _ (none_some test (Sends (connection_of a.request)) d.reply (sends (connection_of a.request)))
-      ∙ skipped test (if_some ClosesConn d.closing) _ (none_some test ClosesConn d.closing closes)
-      ∙ elim d.ending as (λ b. list_any test (cond b (ClosesSession ∷ []) []) ≡ false) [ true ↦ ap (λ b. b || false) ends | false ↦ refl ])
-      ∙ or_false (list_any test (map Empties d.emptied))
-
-delivers_done : (n : ℕ) (a : Arrival) (d : Deeds) → list_any (delivers_number n) (marks_done a d) ≡ false
-delivers_done n a d = tests_done (delivers_number n) (λ k. refl) (λ c. refl) (λ c. refl) (λ conn reply. refl) (λ conn. refl) refl a d ∙ none_mapped (delivers_number n) Empties d.emptied (λ b. refl)
-
-empties_done : (n : ℕ) (a : Arrival) (d : Deeds) → list_any (empties_number n) (marks_done a d) ≡ list_any (λ b. b.number == n) d.emptied
-empties_done n a d = tests_done (empties_number n) (λ k. refl) (λ c. refl) (λ c. refl) (λ conn reply. refl) (λ conn. refl) refl a d ∙ list_any-map (empties_number n) Empties d.emptied
+use Rattle.iscsi_history.proofs.FateLemmas.{done_at}
+use Rattle.iscsi_history.proofs.Forms.{Start, AtTurn, AtArrival, AfterWaiting, start_mark, marks_done, Form, Ignored, Rejected, Received, Postponed, Completed, Executed, marks_of_form, begun, IsFormed, HasForm, HaveForms}
 
 -- ---- an item
 
@@ -58,9 +24,9 @@ delivers_form n (Rejected a) = refl
 delivers_form n (Received a) = refl
 delivers_form n (Postponed a) = refl
 delivers_form n (Completed c status) = refl
-delivers_form n (Executed AtTurn a d) = ap (λ b. (a.number == n) || b) (delivers_done n a d) ∙ or_false (a.number == n)
-delivers_form n (Executed AtArrival a d) = delivers_done n a d
-delivers_form n (Executed AfterWaiting a d) = delivers_done n a d
+delivers_form n (Executed AtTurn a d) = ap (λ b. (a.number == n) || b) (done_at n a d).delivered ∙ or_false (a.number == n)
+delivers_form n (Executed AtArrival a d) = (done_at n a d).delivered
+delivers_form n (Executed AfterWaiting a d) = (done_at n a d).delivered
 
 -- what is held isn't delivered
 held_undelivered : (t : Trace) (n : ℕ) (a : Arrival) → held t n ≡ Some a → is_delivered t n ≡ false
@@ -87,8 +53,8 @@ emptied_form o now n t (Received a) x h = absurd (false≢true h)
 emptied_form o now n t (Postponed a) x h = absurd (false≢true h)
 emptied_form o now n t (Completed c status) x h = absurd (false≢true h)
 emptied_form o now n t (Executed start a d) x h =
-    ap (λ b. (delivers_number n (start_mark start a) || b) || is_delivered t n) (delivers_done n a d)
-    ∙ some_emptied (begun start a t) n d.emptied (λ b there. held_undelivered (begun start a t) b.number b (x.1.empties b there)) (sym (empties_done n a d) ∙ by_start start h)
+    ap (λ b. (delivers_number n (start_mark start a) || b) || is_delivered t n) (done_at n a d).delivered
+    ∙ some_emptied (begun start a t) n d.emptied (λ b there. held_undelivered (begun start a t) b.number b (x.1.empties b there)) (sym (done_at n a d).emptied ∙ by_start start h)
   where
     by_start : (s : Start) → list_any (empties_number n) (start_mark s a ∷ marks_done a d) ≡ true → list_any (empties_number n) (marks_done a d) ≡ true
     by_start AtTurn h = h

@@ -1,5 +1,5 @@
 -- What verdicts say: one by which a command enters, and one that is a reply.
-use Rattle.std.proofs.Common.{◌≡◌, ℕ, ◌<◌, ◌==◌, not, cond, Bool, true, false, nat_lt, Option, Some, None, option_map, refl, ap, subst, ◌∙◌, arith}
+use Rattle.std.proofs.Common.{◌≡◌, ℕ, ◌<◌, ◌==◌, not, cond, Bool, true, false, nat_lt, Option, Some, None, option_map, refl, ap, sym, subst, ◌∙◌, arith}
 use Rattle.std.proofs.lemmas.Bool.Decides.{nat_tests}
 use Rattle.iscsi_wire.specs.declared.request.Request.{Request}
 use Rattle.iscsi_wire.specs.declared.reply.Reply.{Reply}
@@ -9,9 +9,11 @@ use Rattle.iscsi_history.specs.declared.verdict.Verdict.{Verdict}
 use Rattle.iscsi_history.specs.declared.verdict.Verdict.TheVariants.{Nothing, Answer, Enter as EnterUnit}
 use Rattle.iscsi_history.specs.rules.Settings.{Setting}
 use Rattle.iscsi_history.specs.rules.Trace.{Arrival, Trace}
-use Rattle.iscsi_history.specs.rules.Execution.{is_tag_live, is_full, is_crowded, place_named, verdict_of, no_unit, unit_named, scsi_to, scsi_verdict, nop_verdict, request_verdict}
-use Rattle.iscsi_history.specs.rules.Management.{is_supported, refusal_to}
+use Rattle.iscsi_history.specs.rules.Execution.{NO_TAG, is_tag_live, is_full, is_crowded, place_named, verdict_of, no_unit, unit_named, scsi_to, scsi_verdict, nop_verdict, request_verdict}
+use Rattle.iscsi_history.specs.rules.Management.{is_supported, refusal_to, refusal_of_function}
+use Rattle.iscsi_history.specs.promises.Aborts.{is_complete}
 use Rattle.iscsi_history.specs.promises.Answers.{Answers}
+use Rattle.iscsi_history.proofs.BoolLemmas.{and_false}
 
 -- ---- the verdict
 
@@ -124,3 +126,14 @@ by_place r used crowded place tag attr unused =
     ap (λ b. cond b (Answer (Reject 9 r.bytes)) (cond (nat_lt 3 (attr_code r)) (Answer (Reject 9 r.bytes)) (cond used (Answer (Reject 7 r.bytes)) (scsi_to r crowded place)))) tag
     ∙ ap (λ b. cond b (Answer (Reject 9 r.bytes)) (cond used (Answer (Reject 7 r.bytes)) (scsi_to r crowded place))) attr
     ∙ ap (λ b. cond b (Answer (Reject 7 r.bytes)) (scsi_to r crowded place)) unused
+
+-- and isn't Function complete
+pub refused_incomplete : (o : Setting) (r : Request) (reply : Reply) (tag : ℕ) → refusal_of_function o r ≡ Some reply → is_complete tag reply ≡ false
+refused_incomplete o r reply tag is = by_tests (itt r == NO_TAG) (function r == 8) (not (is_supported o.level (function r))) (unit_named o.units r) is
+  where
+    by_tests : (a b c : Bool) (x : Option ℕ) → cond a (Some (Reject 9 (header_of r))) (cond b (Some (Task (itt r) 4)) (cond c (Some (Task (itt r) 5)) (elim x [ Some u ↦ None | None ↦ Some (Task (itt r) 2) ]))) ≡ Some reply → is_complete tag reply ≡ false
+    by_tests true b c x h = let same : Reject 9 (header_of r) ≡ reply = cc in sym (ap (is_complete tag) same)
+    by_tests false true c x h = let same : Task (itt r) 4 ≡ reply = cc in sym (ap (is_complete tag) same) ∙ and_false (itt r == tag)
+    by_tests false false true x h = let same : Task (itt r) 5 ≡ reply = cc in sym (ap (is_complete tag) same) ∙ and_false (itt r == tag)
+    by_tests false false false (Some u) h = absurd cc
+    by_tests false false false None h = let same : Task (itt r) 2 ≡ reply = cc in sym (ap (is_complete tag) same) ∙ and_false (itt r == tag)

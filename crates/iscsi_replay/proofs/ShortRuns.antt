@@ -1,28 +1,26 @@
 -- No effect of a run is long: requests with long headers or great CIDs don't come in.
-use Rattle.std.proofs.Common.{◌≡◌, ℕ, zero, suc, ◌+◌, ◌^◌, ◌<◌, ◌==◌, ◌&&◌, ◌||◌, not, cond, Bool, true, false, nat_lt, nat_le, List, [], ◌∷◌, ◌++◌, length, map, filter, Option, Some, None, refl, arith}
-use Rattle.std.specs.List.{list_any, flat_map, filter_map, cons_option, All}
+use Rattle.std.proofs.Common.{◌≡◌, ℕ, ◌+◌, ◌^◌, ◌<◌, ◌==◌, ⊎_elim, cond, Bool, true, false, List, [], ◌∷◌, length, map, Option, Some, None, refl, sym, subst, arith}
+use Rattle.std.specs.List.{flat_map, filter_map, All}
 use Rattle.std.proofs.lemmas.List.Elements.{All-nil, All-cons, All-head, All-tail, All-append}
 use Rattle.std.proofs.lemmas.Fmt.{length-decimal-le}
 use Rattle.iscsi_wire.specs.declared.reply.Sense.{Sense}
 use Rattle.iscsi_wire.specs.declared.reply.Reply.{Reply}
 use Rattle.iscsi_wire.specs.declared.reply.Reply.TheVariants.{Scsi, Task, Logout, Nop, Reject}
-use Rattle.iscsi_wire.specs.Fields.{request_of, connection_of, header_of, is_immediate, opcode, function, itt, rtt, cid, ref_cmd_sn, attr_code}
-use Rattle.iscsi_wire.specs.Serial.{lift}
+use Rattle.iscsi_wire.specs.Fields.{connection_of, header_of, itt}
 use Rattle.iscsi_history.specs.declared.effect.Effect.TheVariants.{Enable}
 use Rattle.iscsi_history.specs.declared.event.Event.{Event}
 use Rattle.iscsi_history.specs.declared.event.Event.TheVariants.{Arrive, Done}
-use Rattle.iscsi_history.specs.declared.kind.Kind.{Kind}
-use Rattle.iscsi_history.specs.declared.kind.Kind.TheVariants.{PassedOver, Unknown, Executes as ExecutesKind}
-use Rattle.iscsi_history.specs.declared.verdict.Verdict.{Verdict}
-use Rattle.iscsi_history.specs.declared.verdict.Verdict.TheVariants.{Nothing, Answer, Enter}
 use Rattle.iscsi_history.specs.rules.Settings.{Setting}
-use Rattle.iscsi_history.specs.rules.Trace.{Arrival, Command, Mark, Admits, Delivers, Executes, Voids, Empties, Waits, Leaves, Enters, Sends, ClosesConn, ClosesSession, Ignores, Trace, after_items, shown, first_of, admits_at, is_delivered, is_emptied, is_received, admitted, held, waiting, live_in, is_closed}
-use Rattle.iscsi_history.specs.rules.Execution.{exp_of, max_of, NO_TAG, unit_named, no_unit, scsi_to, scsi_verdict, request_verdict, verdict_of, is_tag_live, is_crowded, place_named, reply_on, marks_of, sense_of_status, completion}
-use Rattle.iscsi_history.specs.rules.Management.{is_supported, may_wait, refusal_to, refusal_of_function, MOST_WAITING, waiting_on, answer, held_command, live_with_tag, abort_missing, abort_task, is_before, abort_all, query, function_to, function_marks, management_marks}
-use Rattle.iscsi_history.specs.rules.Logout.{is_open, is_last_open, live_of_units, all_held, taken_out, parting, end_session, close_conn, logout_marks}
-use Rattle.iscsi_history.specs.rules.Items.{marks_after, execution, item_of, waiting_item, immediate_item, function_item, is_waiting, functions, functions_at, turn_at, at_number, agenda}
-use Rattle.iscsi_history.specs.rules.Agenda.{with_turns, numbered, kind_of, arrival_as, arrival, arrival_of, command_of, items_of}
+use Rattle.iscsi_history.specs.rules.Trace.{Arrival, Command, Mark, Admits, Delivers, Executes, Voids, Empties, Waits, Leaves, Enters, Sends, ClosesConn, ClosesSession, Ignores, Trace, after_items, shown, admits_at, held, waiting, waiting_by, waiting_through}
+use Rattle.iscsi_history.specs.rules.Execution.{sense_of_status}
+use Rattle.iscsi_history.specs.rules.Agenda.{items_of}
 use Rattle.iscsi_history.specs.rules.Run.{after_event, effects_of_mark, newly_enabled, effects_of_item, effects_of, entries_from, entry_of, run_of}
+use Rattle.iscsi_history.specs.promises.Answers.{Answers}
+use Rattle.iscsi_history.proofs.ElementLemmas.{In, in-append, in-cons, in-filter, first-in}
+use Rattle.iscsi_history.proofs.HeldLemmas.{admitted_of_held}
+use Rattle.iscsi_history.proofs.Forms.{Start, AtTurn, AtArrival, AfterWaiting, start_mark, marks_done, Form, Ignored, Rejected, Received, Postponed, Completed, Executed, marks_of_form, Starts, IsFormed}
+use Rattle.iscsi_history.proofs.FormRuns.{IsDue, StandsAt, Stands, Turns, TurnsOf, Brings, event_stands}
+use Rattle.iscsi_history.proofs.DeedLemmas.{each_is, each_done}
 use Rattle.iscsi_replay.specs.Again.{IsRecordableEvent}
 use Rattle.iscsi_recording.proofs.FieldLemmas.{decimal_length}
 use Rattle.iscsi_recording.proofs.EffectLemmas.{IsShortReply, IsShortEffect}
@@ -70,14 +68,6 @@ abbrev AreShortItems : List (List Mark) → Type 0
 AreShortItems [] = Unit {0}
 AreShortItems (item ∷ items) = AreShortMarks item × AreShortItems items
 
-marks_joined : (ms ns : List Mark) → AreShortMarks ms → AreShortMarks ns → AreShortMarks (ms ++ ns)
-marks_joined [] ns x y = y
-marks_joined (m ∷ ms) ns x y = (x.0, marks_joined ms ns x.1 y)
-
-items_joined : (now later : List (List Mark)) → AreShortItems now → AreShortItems later → AreShortItems (now ++ later)
-items_joined [] later x y = y
-items_joined (item ∷ now) later x y = (x.0, items_joined now later x.1 y)
-
 after_short : (items : List (List Mark)) (t : Trace) → AreShortItems items → AreShortItems t → AreShortItems (after_items items t)
 after_short [] t x y = y
 after_short (item ∷ items) t x y = after_short items (item ∷ t) x.1 (x.0, y)
@@ -85,289 +75,114 @@ after_short (item ∷ items) t x y = after_short items (item ∷ t) x.1 (x.0, y)
 -- ---- requests that are held, and functions that wait
 
 abbrev AreSmall : List Arrival → Type 0
-AreSmall [] = Unit {0}
-AreSmall (a ∷ as') = IsSmall a × AreSmall as'
+AreSmall as' = (a : Arrival) → In a as' → IsSmall a
 
-small_joined : (as' bs : List Arrival) → AreSmall as' → AreSmall bs → AreSmall (as' ++ bs)
-small_joined [] bs x y = y
-small_joined (a ∷ as') bs x y = (x.0, small_joined as' bs x.1 y)
-
-small_filter : (p : Arrival → Bool) (as' : List Arrival) → AreSmall as' → AreSmall (filter p as')
-small_filter p [] x = tt
-small_filter p (a ∷ as') x = elim (p a) as (λ b. AreSmall (cond b (a ∷ filter p as') (filter p as'))) [
-  | true ↦ (x.0, small_filter p as' x.1)
-  | false ↦ small_filter p as' x.1
-]
-
-abbrev IsSmallIf : Option Arrival → Type 0
-IsSmallIf None = Unit {0}
-IsSmallIf (Some a) = IsSmall a
-
-small_cons : (o : Option Arrival) (as' : List Arrival) → IsSmallIf o → AreSmall as' → AreSmall (cons_option o as')
-small_cons None as' x y = y
-small_cons (Some a) as' x y = (x, y)
-
-admits_small : (n : ℕ) (m : Mark) → IsShortMark m → IsSmallIf (admits_at n m)
-admits_small n (Admits a) x = elim (a.number == n) as (λ b. IsSmallIf (cond b (Some a) None)) [ true ↦ x | false ↦ tt ]
-admits_small n (Delivers a) x = tt
-admits_small n (Executes a) x = tt
-admits_small n (Voids k) x = tt
-admits_small n (Empties a) x = tt
-admits_small n (Waits a) x = tt
-admits_small n (Leaves c) x = tt
-admits_small n (Enters c) x = tt
-admits_small n (Sends conn reply) x = tt
-admits_small n (ClosesConn conn) x = tt
-admits_small n ClosesSession x = tt
-admits_small n (Ignores why) x = tt
+mark_admits : (n : ℕ) (m : Mark) (a : Arrival) → IsShortMark m → admits_at n m ≡ Some a → IsSmall a
+mark_admits n (Admits b) a x is = elim (b.number == n) as (λ v. cond v (Some b) None ≡ Some a → IsSmall a) [ true ↦ λ found. let same : b ≡ a = cc in subst IsSmall same x | false ↦ λ found. absurd cc ] is
+mark_admits n (Delivers b) a x is = absurd cc
+mark_admits n (Executes b) a x is = absurd cc
+mark_admits n (Voids k) a x is = absurd cc
+mark_admits n (Empties b) a x is = absurd cc
+mark_admits n (Waits b) a x is = absurd cc
+mark_admits n (Leaves c) a x is = absurd cc
+mark_admits n (Enters c) a x is = absurd cc
+mark_admits n (Sends conn reply) a x is = absurd cc
+mark_admits n (ClosesConn conn) a x is = absurd cc
+mark_admits n ClosesSession a x is = absurd cc
+mark_admits n (Ignores why) a x is = absurd cc
 
 item_admits : (n : ℕ) (item : List Mark) → AreShortMarks item → AreSmall (filter_map (admits_at n) item)
-item_admits n [] x = tt
-item_admits n (m ∷ ms) x = small_cons (admits_at n m) (filter_map (admits_at n) ms) (admits_small n m x.0) (item_admits n ms x.1)
+item_admits n [] x a h = absurd h
+item_admits n (m ∷ ms) x a h = ⊎_elim (λ is. mark_admits n m a x.0 is) (λ later. item_admits n ms x.1 a later) (in-cons (admits_at n m) (filter_map (admits_at n) ms) a h)
 
 trace_admits : (n : ℕ) (t : Trace) → AreShortItems t → AreSmall (shown (admits_at n) t)
-trace_admits n [] x = tt
-trace_admits n (item ∷ t) x = small_joined (shown (admits_at n) t) (filter_map (admits_at n) item) (trace_admits n t x.1) (item_admits n item x.0)
+trace_admits n [] x a h = absurd h
+trace_admits n (item ∷ t) x a h = ⊎_elim (λ before. trace_admits n t x.1 a before) (λ now. item_admits n item x.0 a now) (in-append (shown (admits_at n) t) (filter_map (admits_at n) item) a h)
 
-first_small : (as' : List Arrival) → AreSmall as' → IsSmallIf (first_of as')
-first_small [] x = tt
-first_small (a ∷ as') x = x.0
+held_small : (t : Trace) (n : ℕ) (a : Arrival) → AreShortItems t → held t n ≡ Some a → IsSmall a
+held_small t n a x is = trace_admits n t x a (first-in (shown (admits_at n) t) a (admitted_of_held t n a is))
 
-held_small : (t : Trace) (n : ℕ) → AreShortItems t → IsSmallIf (held t n)
-held_small t n x = elim (is_delivered t n || is_emptied t n) as (λ b. IsSmallIf (cond b None (admitted t n))) [
-  | true ↦ tt
-  | false ↦ first_small (shown (admits_at n) t) (trace_admits n t x)
-]
+mark_waits : (m : Mark) (ws : List Arrival) → IsShortMark m → AreSmall ws → AreSmall (waiting_by m ws)
+mark_waits (Waits b) ws h x a there = ⊎_elim (λ before. x a before) (λ now. ⊎_elim (λ same. subst IsSmall same h) (λ none. absurd none) now) (in-append ws (b ∷ []) a there)
+mark_waits (Executes b) ws h x a there = x a (in-filter _ ws a there).0
+mark_waits (ClosesConn conn) ws h x a there = x a (in-filter _ ws a there).0
+mark_waits ClosesSession ws h x a there = absurd there
+mark_waits (Admits b) ws h x a there = x a there
+mark_waits (Delivers b) ws h x a there = x a there
+mark_waits (Voids n) ws h x a there = x a there
+mark_waits (Empties b) ws h x a there = x a there
+mark_waits (Leaves c) ws h x a there = x a there
+mark_waits (Enters c) ws h x a there = x a there
+mark_waits (Sends conn reply) ws h x a there = x a there
+mark_waits (Ignores why) ws h x a there = x a there
 
--- ---- what a request that executes does
+item_waits : (item : List Mark) (ws : List Arrival) → AreShortMarks item → AreSmall ws → AreSmall (waiting_through item ws)
+item_waits [] ws h x a there = x a there
+item_waits (m ∷ ms) ws h x a there = item_waits ms (waiting_by m ws) h.1 (mark_waits m ws h.0 x) a there
 
-reply_short : (a : Arrival) (reply : Reply) → IsShortReply (connection_of a.request) reply → AreShortMarks (reply_on a reply)
-reply_short a reply h = (h, tt)
+waiting_small : (t : Trace) → AreShortItems t → AreSmall (waiting t)
+waiting_small [] x a h = absurd h
+waiting_small (item ∷ t) x a h = item_waits item (waiting t) x.0 (waiting_small t x.1) a h
 
-answer_short : (a : Arrival) (response : ℕ) → AreShortMarks (answer a response)
-answer_short a response = (short_task (connection_of a.request) (itt a.request) response, tt)
-
-abbrev IsShortVerdict : Arrival → Verdict → Type 0
-IsShortVerdict a Nothing = Unit {0}
-IsShortVerdict a (Answer reply) = IsShortReply (connection_of a.request) reply
-IsShortVerdict a (Enter unit) = Unit {0}
+-- ---- items
 
 -- either way
 pub either : {A : Type 0} (P : A → Type 0) (b : Bool) (x y : A) → P x → P y → P (cond b x y)
 either P true x y h k = h
 either P false x y h k = k
 
-scsi_to_short : (a : Arrival) (crowded : Bool) (place : Option (ℕ × Bool)) → IsSmall a → IsShortVerdict a (scsi_to a.request crowded place)
-scsi_to_short a crowded None small = short_scsi (connection_of a.request) (itt a.request) 2 (Some no_unit)
-scsi_to_short a crowded (Some place) small =
-    either (IsShortVerdict a) crowded _ _ (short_reject a 6 small)
-    (either (IsShortVerdict a) place.1 _ _ (short_scsi (connection_of a.request) (itt a.request) 40 None) tt)
+-- a reply to the request itself
+own_short : (a : Arrival) (reply : Reply) → IsSmall a → Answers a.request reply → IsShortReply (connection_of a.request) reply
+own_short a (Scsi tag status sense) small own = short_scsi (connection_of a.request) tag status sense
+own_short a (Task tag response) small own = short_task (connection_of a.request) tag response
+own_short a (Logout tag response) small own = short_logout (connection_of a.request) tag response
+own_short a (Nop tag) small own = short_nop (connection_of a.request) tag
+own_short a (Reject reason header) small own = rw own (short_reject a reason small)
 
-scsi_short : (a : Arrival) (used crowded : Bool) (place : Option (ℕ × Bool)) → IsSmall a → IsShortVerdict a (scsi_verdict a.request used crowded place)
-scsi_short a used crowded place small =
-    either (IsShortVerdict a) (itt a.request == NO_TAG) _ _ (short_reject a 9 small)
-    (either (IsShortVerdict a) (nat_lt 3 (attr_code a.request)) _ _ (short_reject a 9 small)
-    (either (IsShortVerdict a) used _ _ (short_reject a 7 small) (scsi_to_short a crowded place small)))
+-- an arrival is small
+abbrev Small : Trace → Arrival → Type 0
+Small t a = IsSmall a
 
-verdict_short : (a : Arrival) (used crowded : Bool) (place : Option (ℕ × Bool)) → IsSmall a → IsShortVerdict a (request_verdict a.request used crowded place)
-verdict_short a used crowded place small =
-    either (IsShortVerdict a) (opcode a.request == 0) _ _
-    (either (IsShortVerdict a) (itt a.request == NO_TAG) _ _ tt (short_nop (connection_of a.request) (itt a.request)))
-    (either (IsShortVerdict a) (opcode a.request == 4) _ _ (short_reject a 5 small) (scsi_short a used crowded place small))
-
-marks_short : (t : Trace) (a : Arrival) (v : Verdict) → IsShortVerdict a v → AreShortMarks (marks_of t a v)
-marks_short t a Nothing h = tt
-marks_short t a (Answer reply) h = (h, tt)
-marks_short t a (Enter unit) h = (tt, tt)
-
--- ---- functions
-
-leaves_short : (cs : List Command) (ms : List Mark) → AreShortMarks ms → AreShortMarks (map Leaves cs ++ ms)
-leaves_short [] ms h = h
-leaves_short (c ∷ cs) ms h = (tt, leaves_short cs ms h)
-
-all_short : (t : Trace) (a : Arrival) (unit : ℕ) (covers : Command → Bool) → AreShortMarks (abort_all t a unit covers)
-all_short t a unit covers = leaves_short (filter covers (live_in unit t)) (answer a 0) (answer_short a 0)
-
-query_short : (a : Arrival) (there : Bool) → AreShortMarks (query a there)
-query_short a there = answer_short a (cond there 7 0)
-
-missing_short : (o : Setting) (t : Trace) (a : Arrival) (n : ℕ) → AreShortMarks (abort_missing o t a n)
-missing_short o t a n =
-    either AreShortMarks (is_immediate a.request && nat_le (exp_of o t) n && nat_le n (max_of o t) && nat_lt n a.number) _ _
-    (marks_joined (cond (is_received t n) [] (Voids n ∷ [])) (answer a 0) (either AreShortMarks (is_received t n) [] (Voids n ∷ []) tt (tt, tt)) (answer_short a 0))
-    (answer_short a 1)
-
-task_short : (o : Setting) (t : Trace) (a : Arrival) (unit : ℕ) → AreShortMarks (abort_task o t a unit)
-task_short o t a unit = by_live (live_with_tag t (rtt a.request) unit)
+form_short : (o : Setting) (now p : ℕ) (t : Trace) (form : Form) → IsFormed o now t form → StandsAt Small o now p t form → AreShortItems t → AreShortMarks (marks_of_form form)
+form_short o now p t (Ignored why) x at short = (tt, tt)
+form_short o now p t (Rejected a) x at short = (short_reject a 5 at, tt)
+form_short o now p t (Received a) x at short = (at.0, tt)
+form_short o now p t (Postponed a) x at short = (at, tt)
+form_short o now p t (Completed c status) x at short = (tt, (short_scsi (connection_of c.arrival.request) (itt c.arrival.request) status (sense_of_status status), tt))
+form_short o now p t (Executed start a d) x at short = (by_mark start, done (small start x.0 at.0))
   where
-    by_held : (y : Option Arrival) → AreShortMarks (elim y [ Some h ↦ Empties h ∷ answer a 0 | None ↦ abort_missing o t a (lift (exp_of o t) (ref_cmd_sn a.request)) ])
-    by_held (Some h) = (tt, answer_short a 0)
-    by_held None = missing_short o t a (lift (exp_of o t) (ref_cmd_sn a.request))
+    small : (s : Start) → Starts now t s a → IsDue Small o now p t s a → IsSmall a
+    small AtTurn is due = held_small t a.number a short is
+    small AtArrival is due = due
+    small AfterWaiting is due = waiting_small t short a due.1
 
-    by_live : (x : Option Command) → AreShortMarks (elim x [
-      | Some c ↦ Leaves c ∷ answer a 0
-      | None ↦ elim (held_command o t (rtt a.request) unit a.number) [ Some h ↦ Empties h ∷ answer a 0 | None ↦ abort_missing o t a (lift (exp_of o t) (ref_cmd_sn a.request)) ]
-    ])
-    by_live (Some c) = (tt, answer_short a 0)
-    by_live None = by_held (held_command o t (rtt a.request) unit a.number)
+    by_mark : (s : Start) → IsShortMark (start_mark s a)
+    by_mark AtTurn = tt
+    by_mark AtArrival = tt
+    by_mark AfterWaiting = tt
 
-to_short : (o : Setting) (t : Trace) (a : Arrival) (unit : ℕ) → AreShortMarks (function_to o t a unit)
-to_short o t a unit =
-    either AreShortMarks (function a.request == 1) _ _ (task_short o t a unit)
-    (either AreShortMarks (function a.request == 5) _ _ (all_short t a unit (λ c. true))
-    (either AreShortMarks (function a.request == 9) _ _ (query_short a (list_any (λ c. itt c.arrival.request == rtt a.request) (live_in unit t)))
-    (either AreShortMarks (function a.request == 10) _ _ (query_short a (list_any (λ c. true) (live_in unit t))) (all_short t a unit (is_before a)))))
+    done : IsSmall a → AreShortMarks (marks_done a d)
+    done of_request =
+        each_done a d AreShortMarks tt (λ n is ms rest. (tt, rest)) (λ c there ms rest. (tt, rest)) (λ b there ms rest. (tt, rest)) (λ c is ms rest. (tt, rest))
+        (λ reply is ms rest. (own_short a reply of_request (each_is (Answers a.request) d.reply reply x.1.answers is), rest)) (λ conn is ms rest. (tt, rest)) (λ is ms rest. (tt, rest))
 
-function_short : (o : Setting) (t : Trace) (a : Arrival) → AreShortMarks (function_marks o t a)
-function_short o t a = by_unit (unit_named o.units a.request)
-  where
-    by_unit : (u : Option ℕ) → AreShortMarks (elim u [ Some unit ↦ function_to o t a unit | None ↦ [] ])
-    by_unit (Some unit) = to_short o t a unit
-    by_unit None = tt
+item_short : (o : Setting) (now p : ℕ) (t : Trace) (item : List Mark) → Stands Small o now p t item → AreShortItems t → AreShortMarks item
+item_short o now p t item s short = subst AreShortMarks (sym s.has.is) (form_short o now p t s.has.form s.has.formed s.at short)
 
-abbrev IsShortIf : Arrival → Option Reply → Type 0
-IsShortIf a None = Unit {0}
-IsShortIf a (Some reply) = IsShortReply (connection_of a.request) reply
-
-refusal_short : (a : Arrival) (level units : ℕ) → IsSmall a → IsShortIf a (refusal_to level units a.request)
-refusal_short a level units small =
-    either (IsShortIf a) (itt a.request == NO_TAG) _ _ (short_reject a 9 small)
-    (either (IsShortIf a) (function a.request == 8) _ _ (short_task (connection_of a.request) (itt a.request) 4)
-    (either (IsShortIf a) (not (is_supported level (function a.request))) _ _ (short_task (connection_of a.request) (itt a.request) 5) (by_unit (unit_named units a.request))))
-  where
-    by_unit : (u : Option ℕ) → IsShortIf a (elim u [ Some k ↦ None | None ↦ Some (Task (itt a.request) 2) ])
-    by_unit (Some k) = tt
-    by_unit None = short_task (connection_of a.request) (itt a.request) 2
-
-management_short : (o : Setting) (t : Trace) (a : Arrival) → IsSmall a → AreShortMarks (management_marks o t a)
-management_short o t a small = by_refusal (refusal_of_function o a.request) (refusal_short a o.level o.units small)
-  where
-    by_refusal : (x : Option Reply) → IsShortIf a x → AreShortMarks (elim x [ Some reply ↦ reply_on a reply | None ↦ function_marks o t a ])
-    by_refusal (Some reply) h = (h, tt)
-    by_refusal None h = function_short o t a
-
--- ---- Logout
-
-empties_short : (as' : List Arrival) → AreShortMarks (map Empties as')
-empties_short [] = tt
-empties_short (a ∷ as') = (tt, empties_short as')
-
-taken_short : (o : Setting) (t : Trace) (of_these : ℕ → Bool) → AreShortMarks (taken_out o t of_these)
-taken_short o t of_these =
-    leaves_short (filter (λ (c : Command). of_these (connection_of c.arrival.request)) (live_of_units o t)) _
-    (empties_short (filter (λ (a : Arrival). of_these (connection_of a.request)) (all_held o t)))
-
-parting_short : (a : Arrival) (response : ℕ) → AreShortMarks (parting a response)
-parting_short a response = (short_logout (connection_of a.request) (itt a.request) response, tt)
-
--- those are taken out, the Logout is answered, and then comes a closing
-closed_short : (o : Setting) (t : Trace) (a : Arrival) (of_these : ℕ → Bool) (last : List Mark) → AreShortMarks last → AreShortMarks (taken_out o t of_these ++ parting a 0 ++ last)
-closed_short o t a of_these last =
-    marks_joined (taken_out o t of_these ++ parting a 0) last
-    (marks_joined (taken_out o t of_these) (parting a 0) (taken_short o t of_these) (parting_short a 0))
-
-end_short : (o : Setting) (t : Trace) (a : Arrival) → AreShortMarks (end_session o t a)
-end_short o t a = closed_short o t a (λ conn. true) (ClosesSession ∷ []) (tt, tt)
-
-close_short : (o : Setting) (t : Trace) (a : Arrival) (closing : ℕ) → AreShortMarks (close_conn o t a closing)
-close_short o t a closing =
-    closed_short o t a (λ conn. conn == closing) (ClosesConn closing ∷ cond (is_last_open o t closing) (ClosesSession ∷ []) [])
-    (tt, either AreShortMarks (is_last_open o t closing) (ClosesSession ∷ []) [] (tt, tt) tt)
-
-logout_short : (o : Setting) (t : Trace) (a : Arrival) → IsSmall a → AreShortMarks (logout_marks o t a)
-logout_short o t a small =
-    either AreShortMarks (itt a.request == NO_TAG) _ _ (short_reject a 9 small, tt)
-    (either AreShortMarks (function a.request == 0) _ _ (end_short o t a)
-    (either AreShortMarks (function a.request == 1) _ _
-    (either AreShortMarks (is_open o t (cid a.request)) _ _ (close_short o t a (cid a.request)) (parting_short a 1))
-    (either AreShortMarks (function a.request == 2) _ _ (parting_short a 2) (short_reject a 9 small, tt))))
-
--- ---- items
-
-after_mark : (o : Setting) (t : Trace) (a : Arrival) → IsSmall a → AreShortMarks (marks_after o t a)
-after_mark o t a small =
-    either AreShortMarks (opcode a.request == 2) _ _ (management_short o t a small)
-    (either AreShortMarks (opcode a.request == 6) _ _ (logout_short o t a small)
-    (marks_short t a (verdict_of o t a.request) (verdict_short a (is_tag_live t (itt a.request)) (is_crowded t a.request) (place_named o t a.request) small)))
-
-executes_short : (o : Setting) (t : Trace) (a : Arrival) → IsSmall a → AreShortMarks (execution o t (Executes a) a)
-executes_short o t a small = (tt, after_mark o ((Executes a ∷ []) ∷ t) a small)
-
-item_short : (o : Setting) (t : Trace) (a : Arrival) → IsSmall a → AreShortMarks (item_of o t a)
-item_short o t a small = (tt, after_mark o ((Delivers a ∷ []) ∷ t) a small)
-
-waiting_short : (o : Setting) (t : Trace) (a : Arrival) → IsSmall a → AreShortMarks (waiting_item o t a)
-waiting_short o t a small =
-    either AreShortMarks (nat_lt (max_of o t + 1) a.number) _ _ (tt, answer_short a 255)
-    (either AreShortMarks (not (nat_lt (exp_of o t) a.number)) _ _ (executes_short o t a small)
-    (either AreShortMarks (nat_le MOST_WAITING (waiting_on (connection_of a.request) t)) _ _ (tt, reply_short a (Reject 6 (header_of a.request)) (short_reject a 6 small)) (small, tt)))
-
-immediate_short : (o : Setting) (t : Trace) (a : Arrival) → IsSmall a → AreShortMarks (immediate_item o t a)
-immediate_short o t a small = either AreShortMarks (opcode a.request == 2 && may_wait a.request) _ _ (by_refusal (refusal_of_function o a.request)) (executes_short o t a small)
-  where
-    by_refusal : (x : Option Reply) → AreShortMarks (elim x [ Some reply ↦ execution o t (Executes a) a | None ↦ waiting_item o t a ])
-    by_refusal (Some reply) = executes_short o t a small
-    by_refusal None = waiting_short o t a small
-
--- ---- the agenda
-
-functions_short : (o : Setting) (as' : List Arrival) (t : Trace) → AreShortItems (functions o as' t)
-functions_short o [] t = tt
-functions_short o (a ∷ as') t =
-    elim (is_waiting a t) as (λ b. AreShortItems (let now : List (List Mark) = cond b (function_item o t a ∷ []) [] in now ++ functions o as' (after_items now t))) [
-      | true ↦ ((tt, function_short o ((Executes a ∷ []) ∷ t) a), functions_short o as' (function_item o t a ∷ t))
-      | false ↦ functions_short o as' t
-    ]
-
-turn_short : (o : Setting) (n : ℕ) (t : Trace) → AreShortItems t → AreShortItems (turn_at o n t)
-turn_short o n t x = by_held (held t n) (held_small t n x)
-  where
-    by_held : (y : Option Arrival) → IsSmallIf y → AreShortItems (elim y [ Some a ↦ item_of o t a ∷ [] | None ↦ [] ])
-    by_held (Some a) small = (item_short o t a small, tt)
-    by_held None small = tt
-
-functions_at_short : (o : Setting) (n : ℕ) (t : Trace) → AreShortItems (functions_at o n t)
-functions_at_short o n t = functions_short o (filter (λ a. a.number == n) (waiting t)) t
-
-number_short : (o : Setting) (n : ℕ) (t : Trace) → AreShortItems t → AreShortItems (at_number o n t)
-number_short o n t x =
-    let before : List (List Mark) = functions_at o n t in
-    items_joined before (turn_at o n (after_items before t)) (functions_at_short o n t)
-    (turn_short o n (after_items before t) (after_short before t (functions_at_short o n t) x))
-
-agenda_short : (o : Setting) (n m : ℕ) (t : Trace) → AreShortItems t → AreShortItems (agenda o n m t)
-agenda_short o n zero t x = functions_at_short o n t
-agenda_short o n (suc m) t x =
-    let now : List (List Mark) = at_number o n t in
-    let now_short : AreShortItems now = number_short o n t x in
-    items_joined now (agenda o (n + 1) m (after_items now t)) now_short (agenda_short o (n + 1) m (after_items now t) (after_short now t now_short x))
-
--- ---- an event
-
-turns_short : (o : Setting) (t : Trace) (item : List Mark) → AreShortItems t → AreShortMarks item → AreShortItems (with_turns o t item)
-turns_short o t item x m = (m, agenda_short o _ _ (item ∷ t) (m, x))
-
-numbered_short : (o : Setting) (t : Trace) (a : Arrival) → AreShortItems t → IsSmall a → AreShortItems (numbered o t a)
-numbered_short o t a x small =
-    either AreShortItems (nat_lt a.number (exp_of o t) || nat_lt (max_of o t) a.number) _ _ ((tt, tt), tt)
-    (either AreShortItems (is_received t a.number) _ _ ((tt, tt), tt) (turns_short o t (Admits a ∷ []) x (small, tt)))
-
-arrival_short : (o : Setting) (t : Trace) (a : Arrival) → AreShortItems t → IsSmall a → AreShortItems (arrival o t a)
-arrival_short o t a x small = either AreShortItems (is_closed (connection_of a.request) t) _ _ ((tt, tt), tt) (by_kind (kind_of a.request))
-  where
-    by_kind : (k : Kind) → AreShortItems (arrival_as o t a k)
-    by_kind PassedOver = ((tt, tt), tt)
-    by_kind Unknown = (reply_short a (Reject 5 (header_of a.request)) (short_reject a 5 small), tt)
-    by_kind ExecutesKind = either AreShortItems (is_immediate a.request) _ _ (turns_short o t (immediate_item o t a) x (immediate_short o t a small)) (numbered_short o t a x small)
-
-completion_short : (status : ℕ) (c : Option Command) → AreShortItems (completion status c)
-completion_short status None = ((tt, tt), tt)
-completion_short status (Some c) = ((tt, (short_scsi (connection_of c.arrival.request) (itt c.arrival.request) status (sense_of_status status), tt)), tt)
+turns_short : (o : Setting) (now p e : ℕ) (t : Trace) (items : List (List Mark)) → Turns Small o now p e t items → AreShortItems t → AreShortItems items
+turns_short o now p e t [] s short = tt
+turns_short o now p e t (item ∷ items) s short = let this : AreShortMarks item = item_short o now s.0 t item s.1.1.0 short in (this, turns_short o now s.0 e (item ∷ t) items s.1.1.1.1 (this, short))
 
 event_short : (o : Setting) (event : ℕ) (t : Trace) (e : Event) → AreShortItems t → IsRecordableEvent e → AreShortItems (items_of o event t e)
-event_short o event t (Arrive conn header) x h = arrival_short o t (arrival_of o event t (request_of conn header)) x (h.0, h.1)
-event_short o event t (Done ticket status) x h = completion_short status (command_of t ticket)
+event_short o event t e short h = by_items (items_of o event t e) (event_stands Small o event t e (comes e h))
+  where
+    comes : (e : Event) → IsRecordableEvent e → Brings Small o event t e
+    comes (Arrive conn header) h = λ is. (h.0, h.1)
+    comes (Done ticket status) h = tt
+
+    by_items : (items : List (List Mark)) → TurnsOf Small o event t items → AreShortItems items
+    by_items [] s = tt
+    by_items (item ∷ items) s = let this : AreShortMarks item = item_short o event _ t item s.0 short in (this, turns_short o event _ _ (item ∷ t) items s.1 (this, short))
 
 -- ---- effects
 

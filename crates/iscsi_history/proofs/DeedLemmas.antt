@@ -1,0 +1,60 @@
+-- The marks of what a request does, one by one.
+use Rattle.std.proofs.Common.{◌≡◌, ℕ, ◌||◌, inl, inr, cond, Bool, true, false, List, [], ◌∷◌, ◌++◌, map, Option, Some, None, is_some, refl, ap, sym, subst, ◌∙◌}
+use Rattle.std.specs.List.{list_any}
+use Rattle.std.proofs.lemmas.Bool.{false≢true}
+use Rattle.iscsi_wire.specs.declared.reply.Reply.{Reply}
+use Rattle.iscsi_wire.specs.Fields.{connection_of}
+use Rattle.iscsi_history.specs.rules.Trace.{Arrival, Command, Mark, Delivers, Executes, Voids, Empties, Leaves, Enters, Sends, ClosesConn, ClosesSession}
+use Rattle.iscsi_history.proofs.BoolLemmas.{or_first, or_second}
+use Rattle.iscsi_history.proofs.ElementLemmas.{In}
+use Rattle.iscsi_history.proofs.Forms.{Start, AtTurn, AtArrival, AfterWaiting, start_mark, Deeds, if_some, marks_done, Each, is_closing}
+
+pub each_is : {A : Type 0} (P : A → Type 0) (x : Option A) (y : A) → Each P x → x ≡ Some y → P y
+each_is P (Some z) y h is = let same : z ≡ y = cc in subst P same h
+each_is P None y h is = absurd cc
+
+-- a test that the mark doesn't pass by which the request executes
+pub begun_any : (p : Mark → Bool) (start : Start) (a : Arrival) (ms : List Mark) → p (Delivers a) ≡ false → p (Executes a) ≡ false → list_any p (start_mark start a ∷ ms) ≡ list_any p ms
+begun_any p AtTurn a ms delivers executes = ap (λ b. b || list_any p ms) delivers
+begun_any p AtArrival a ms delivers executes = ap (λ b. b || list_any p ms) executes
+begun_any p AfterWaiting a ms delivers executes = ap (λ b. b || list_any p ms) executes
+
+module _ (a : Arrival) (d : Deeds) where
+  -- where it closes nothing
+  pub unended : is_closing d ≡ false → d.ending ≡ true → ⊥
+  unended stays is = false≢true (sym stays ∙ or_first d.ending (is_some d.closing) is)
+
+  pub unparted : is_closing d ≡ false → (conn : ℕ) → d.closing ≡ Some conn → ⊥
+  unparted stays conn is = false≢true (sym stays ∙ or_second d.ending (is_some d.closing) (ap is_some is))
+
+  -- what holds of no marks, and of each of these before others, holds of all
+  pub each_done : (P : List Mark → Type 0) → P [] → ((n : ℕ) → d.void ≡ Some n → (ms : List Mark) → P ms → P (Voids n ∷ ms)) → ((c : Command) → In c d.leaving → (ms : List Mark) → P ms → P (Leaves c ∷ ms))
+      → ((b : Arrival) → In b d.emptied → (ms : List Mark) → P ms → P (Empties b ∷ ms)) → ((c : Command) → d.entering ≡ Some c → (ms : List Mark) → P ms → P (Enters c ∷ ms))
+      → ((reply : Reply) → d.reply ≡ Some reply → (ms : List Mark) → P ms → P (Sends (connection_of a.request) reply ∷ ms)) → ((conn : ℕ) → d.closing ≡ Some conn → (ms : List Mark) → P ms → P (ClosesConn conn ∷ ms))
+      → (d.ending ≡ true → (ms : List Mark) → P ms → P (ClosesSession ∷ ms)) → P (marks_done a d)
+  each_done P none voids leaves empties enter sends closes ends =
+      of_some Voids d.void _ voids (of_all Leaves d.leaving _ leaves (of_all Empties d.emptied _ empties
+      (of_some Enters d.entering _ enter (of_some (Sends (connection_of a.request)) d.reply _ sends (of_some ClosesConn d.closing _ closes (of_end d.ending refl))))))
+    where
+      of_some : {A : Type 0} (f : A → Mark) (x : Option A) (ms : List Mark) → ((y : A) → x ≡ Some y → (ns : List Mark) → P ns → P (f y ∷ ns)) → P ms → P (if_some f x ++ ms)
+      of_some f (Some y) ms h rest = h y refl ms rest
+      of_some f None ms h rest = rest
+
+      of_all : {A : Type 0} (f : A → Mark) (xs : List A) (ms : List Mark) → ((y : A) → In y xs → (ns : List Mark) → P ns → P (f y ∷ ns)) → P ms → P (map f xs ++ ms)
+      of_all f [] ms h rest = rest
+      of_all f (x ∷ xs) ms h rest = h x (inl refl) (map f xs ++ ms) (of_all f xs ms (λ y there. h y (inr there)) rest)
+
+      of_end : (b : Bool) → d.ending ≡ b → P (cond b (ClosesSession ∷ []) [])
+      of_end true is = ends is [] none
+      of_end false is = none
+
+  -- a test that none of them passes
+  pub none_done : (p : Mark → Bool) → ((n : ℕ) → d.void ≡ Some n → p (Voids n) ≡ false) → ((c : Command) → In c d.leaving → p (Leaves c) ≡ false) → ((b : Arrival) → In b d.emptied → p (Empties b) ≡ false)
+      → ((c : Command) → d.entering ≡ Some c → p (Enters c) ≡ false) → ((reply : Reply) → d.reply ≡ Some reply → p (Sends (connection_of a.request) reply) ≡ false) → ((conn : ℕ) → d.closing ≡ Some conn → p (ClosesConn conn) ≡ false)
+      → (d.ending ≡ true → p ClosesSession ≡ false) → list_any p (marks_done a d) ≡ false
+  none_done p voids leaves empties enter sends closes ends =
+      each_done (λ ms. list_any p ms ≡ false) refl (λ n is ms rest. first (voids n is) rest) (λ c there ms rest. first (leaves c there) rest) (λ b there ms rest. first (empties b there) rest)
+      (λ c is ms rest. first (enter c is) rest) (λ reply is ms rest. first (sends reply is) rest) (λ conn is ms rest. first (closes conn is) rest) (λ is ms rest. first (ends is) rest)
+    where
+      first : {x y : Bool} → x ≡ false → y ≡ false → (x || y) ≡ false
+      first {x} {y} h k = ap (λ b. b || y) h ∙ k
