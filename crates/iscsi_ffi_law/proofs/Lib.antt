@@ -124,6 +124,7 @@ mod FitTurns
 mod FitPrompt
 mod FitReceived
 mod FitOnce
+mod FitFirst
 mod FitItems
 mod FitEvents
 mod FitAll
