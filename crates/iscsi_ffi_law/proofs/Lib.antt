@@ -125,6 +125,7 @@ mod FitPrompt
 mod FitReceived
 mod FitOnce
 mod FitFirst
+mod FitCounts
 mod FitItems
 mod FitEvents
 mod FitAll
