@@ -126,6 +126,7 @@ mod FitReceived
 mod FitOnce
 mod FitFirst
 mod FitCounts
+mod FitWaiting
 mod FitItems
 mod FitEvents
 mod FitAll
