@@ -35,6 +35,7 @@ use Rattle.iscsi_ffi_law.specs.Done.{AllDone, AreDoneFit, IsDoneFit, IsRegular}
 use Rattle.iscsi_ffi_law.specs.Fit.{IsFit}
 use Rattle.iscsi_ffi_law.specs.Sides.{AreBytes, AreItemsFit, IsLossFit, IsOpening, IsSideFit, IsTakenFit, asking}
 use Rattle.iscsi_ffi_law.proofs.DoneShape.{done_effects, done_entry, entry_is, one_part}
+use Rattle.iscsi_ffi_law.proofs.FitEvents.{taken_enabled, taken_short}
 use Rattle.iscsi_ffi_law.proofs.FitFacts.{limits, takes_reply, takes_reply_at, there_live, ticket_is}
 use Rattle.iscsi_ffi_law.proofs.FitFollows.{together_event, live_there, tickets_up, units_there}
 use Rattle.iscsi_ffi_law.proofs.FitHolds.{Holds, arrival_read, arrival_room, holds_arrival, holds_done, holds_heard, holds_loss, loss_read}
@@ -243,6 +244,8 @@ module _ (i : Interface) (opening : IsOpening i) where
           sent = (let x = g.good.sent_is in omega (arith, x, early, later));
           replies = room_left (arrival_room i distinct n r cid header is h);
           handed = g.placed.handed;
+          short = taken_short i opening n r cid header is h;
+          enabled = taken_enabled i opening n r cid header is h;
           few = (let tasks = fits'.tasks in omega (arith, tasks, many));
           regular = record { ascending = tickets_up i.outbox after together; units = units_there i.outbox after together };
           prompt = λ rest same. prompt_arrival i.outbox.session s.both.event s.both.trace (arrived i s cid header) g.turned (new_received s cid header rest same) (received_fit (n + 1) s cid header (refusal_known r cid is) (wired_bytes cid header bytes) g rest same).untaken rest same;

@@ -127,6 +127,9 @@ mod FitOnce
 mod FitFirst
 mod FitCounts
 mod FitWaiting
+mod FitLimits
+mod FitOrder
+mod FitReady
 mod FitItems
 mod FitEvents
 mod FitAll
