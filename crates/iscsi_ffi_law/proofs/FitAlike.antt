@@ -23,7 +23,7 @@ use Rattle.iscsi_ffi_law.specs.Lists.{AreAlike, Meets}
 use Rattle.iscsi_ffi_law.specs.Sides.{AreFitFrom, IsCallFit, IsOfBytes, IsOpening, IsShort, IsSideFit, asking}
 use Rattle.iscsi_ffi_law.specs.Stands.{Stands}
 use Rattle.iscsi_ffi_law.proofs.AllCalls.{goes}
-use Rattle.iscsi_ffi_law.proofs.FitAll.{all_fit, of_call}
+use Rattle.iscsi_ffi_law.proofs.FitAll.{all_fit, few_events, of_call}
 use Rattle.iscsi_ffi_law.proofs.FitFacts.{limits}
 use Rattle.iscsi_ffi_law.proofs.FitEvents.{taken_steps}
 use Rattle.iscsi_ffi_law.proofs.FitHolds.{Holds, holds_begun, holds_walk}
@@ -53,7 +53,7 @@ done_asked i (suc m) s asked acts acts' h = by_next (done_asked i m) (next_withh
         (record { fit = d.fit; room = d.room; stale = d.stale; events = d.events; sent = d.sent; replies = d.replies; few = d.few; there = d.there; takes = d.takes; handed = d.handed }, further g.side asked (acts ++ g.actions) (acts' ++ (happening i (record s { asked = asked }) (Done c.ticket (status_of s c))).actions) k.1)
 
 -- an event more, of no more than so many
-taken_early : (i : Interface) (r : Side) (cid : ℕ) (header : List ℕ) (cookie : ℕ) → refusal_of i r cid ≡ None → (after_call i r (Arrives cid header cookie)).told.side.both.event ≤ 2 ^ 30 → r.both.event + 1 ≤ 2 ^ 30
+taken_early : (i : Interface) (r : Side) (cid : ℕ) (header : List ℕ) (cookie : ℕ) → refusal_of i r cid ≡ None → (after_call i r (Arrives cid header cookie)).told.side.both.event ≤ 2 ^ 48 → r.both.event + 1 ≤ 2 ^ 48
 taken_early i r cid header cookie is few =
     let s : Side = heard_in i r cid header in
     let w : Told = happening i (asking s cookie) (Arrive cid header) in
@@ -63,7 +63,7 @@ taken_early i r cid header cookie is few =
 
 module _ (i : Interface) (opening : IsOpening i) where
   module _ (n : ℕ) (s : StepsSide) (r : Side) (st : Stands i s r) (z : AreSized i s.state) (h : Holds i n r) (fit : IsSideFit i r) where
-    meets_arrival : (cid : ℕ) (header : List ℕ) (cookie : ℕ) → (after_call i r (Arrives cid header cookie)).told.side.both.event ≤ 2 ^ 30 → IsCallFit i r (Arrives cid header cookie) → Left i s r (Arrives cid header cookie) → (x : Option Refusal) → refusal_of i r cid ≡ x → Meets i s r (Arrives cid header cookie)
+    meets_arrival : (cid : ℕ) (header : List ℕ) (cookie : ℕ) → (after_call i r (Arrives cid header cookie)).told.side.both.event ≤ 2 ^ 48 → IsCallFit i r (Arrives cid header cookie) → Left i s r (Arrives cid header cookie) → (x : Option Refusal) → refusal_of i r cid ≡ x → Meets i s r (Arrives cid header cookie)
     meets_arrival cid header cookie few call left (Some why) is = inl (fit.leaves (outbox.Hears cid 0 0) refl, (why, is))
     meets_arrival cid header cookie few call left None is =
         let k = call is in
@@ -99,7 +99,7 @@ module _ (i : Interface) (opening : IsOpening i) where
     meets_loss cid left true false true known lost closed = inr (inl (record { leaves = fit.leaves (outbox.Loses cid) refl; orderly = fit.orderly; closed = closed; known = known; kept = lost }))
     meets_loss cid left true false false known lost closed = inr (inr (left known lost closed))
 
-    meets : (c : Call) → (after_call i r c).told.side.both.event ≤ 2 ^ 30 → IsCallFit i r c → Left i s r c → Meets i s r c
+    meets : (c : Call) → (after_call i r c).told.side.both.event ≤ 2 ^ 48 → IsCallFit i r c → Left i s r c → Meets i s r c
     meets (Arrives cid header cookie) few call left = meets_arrival cid header cookie few call left (refusal_of i r cid) refl
     meets (Completes ticket status) few call left = meets_completed ticket status call (is_going r ticket) refl
     meets (Stops ticket) few call left = meets_stopped ticket call (is_going r ticket && contains r.marked ticket) refl
@@ -112,7 +112,7 @@ module _ (i : Interface) (opening : IsOpening i) where
     meets (Clears unit) few call left = record { fit = fit.fit; room = room_to_tell i opening n s r st z h }
     meets (Cleared unit) few call left = fit.leaves (outbox.Clears unit) refl
 
-  alike_from : (n : ℕ) (s : StepsSide) (r : Side) (calls : List Call) → EachOf IsOfBytes calls → Stands i s r → AreSized i s.state → Holds i n r → (side_after i r calls).both.event ≤ 2 ^ 30 → AreFitFrom i r calls → LeftFrom i s r calls → AreAlike i s r calls
+  alike_from : (n : ℕ) (s : StepsSide) (r : Side) (calls : List Call) → EachOf IsOfBytes calls → Stands i s r → AreSized i s.state → Holds i n r → (side_after i r calls).both.event ≤ 2 ^ 48 → AreFitFrom i r calls → LeftFrom i s r calls → AreAlike i s r calls
   alike_from n s r [] bytes st z h few fit left = tt
   alike_from n s r (c ∷ cs) bytes st z h few fit left =
       let later = no_fewer_then i (after_call i r c).told.side cs in
@@ -123,4 +123,4 @@ module _ (i : Interface) (opening : IsOpening i) where
       )
 
 pub all_alike : (i : Interface) (calls : List Call) → IsOpening i → IsShort i calls → EachOf IsOfBytes calls → LeftFrom i (begun i) (opened i) calls → AreAlike i (begun i) (opened i) calls
-all_alike i calls opening short bytes left = alike_from i opening 0 (begun i) (opened i) calls bytes (stands_begun i) (sized_begun i) (holds_begun i) short.few (all_fit i calls opening short bytes) left
+all_alike i calls opening short bytes left = alike_from i opening 0 (begun i) (opened i) calls bytes (stands_begun i) (sized_begun i) (holds_begun i) (few_events i opening calls short) (all_fit i calls opening short bytes) left

@@ -120,7 +120,7 @@ module _ (i : Interface) (opening : IsOpening i) (n : ℕ) (r : Side) (cid : ℕ
       let some = (limits i opening).some in
       omega (arith, many, few, some)
 
-  pub taken_steps : r.both.event + 1 ≤ 2 ^ 30 → IsHeardFit i s cid header → AreStepsFit i s (items_then i s cid header)
+  pub taken_steps : r.both.event + 1 ≤ 2 ^ 48 → IsHeardFit i s cid header → AreStepsFit i s (items_then i s cid header)
   taken_steps early w =
       let t = taken_in i r cid is in
       let joined = joined_other i.outbox r.both.box (outbox.Hears cid (word_at 28 header) (tag_heard header)) cid tt (joined_there i r cid t.joined) in

@@ -130,6 +130,7 @@ mod FitWaiting
 mod FitLimits
 mod FitOrder
 mod FitReady
+mod FitShown
 mod FitItems
 mod FitEvents
 mod FitAll

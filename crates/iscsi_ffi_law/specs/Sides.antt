@@ -35,10 +35,9 @@ pub record IsOpening (i : Interface) : Type 0 where
   pub own : i.outbox.own ≤ 1024
   pub unwritten : i.unwritten ≤ 1024
 
--- not too many calls come, and the session takes not too many events by them: no more than its options allow, and 2^30 at the most
+-- not too many calls come, and the session takes no more events by them than its options allow
 pub record IsShort (i : Interface) (calls : List Call) : Type 0 where
   pub many : length calls < 2 ^ 62
-  pub few : (side_of i calls).both.event ≤ 2 ^ 30
   pub events : (side_of i calls).both.event ≤ i.outbox.session.events
 
 -- a header is of bytes
