@@ -80,7 +80,7 @@ module _ (i : Interface) (opening : IsOpening i) where
       )
 
 -- the options allow no more events than that
-pub few_events : (i : Interface) → IsOpening i → (calls : List Call) → IsShort i calls → (side_of i calls).both.event ≤ 2 ^ 48
+few_events : (i : Interface) → IsOpening i → (calls : List Call) → IsShort i calls → (side_of i calls).both.event ≤ 2 ^ 48
 few_events i opening calls short = let most = (limits i opening).events in let some = short.events in omega (arith, most, some)
 
 pub all_fit : (i : Interface) (calls : List Call) → IsOpening i → IsShort i calls → EachOf IsOfBytes calls → AreFitFrom i (opened i) calls

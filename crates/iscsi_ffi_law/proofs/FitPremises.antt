@@ -35,7 +35,7 @@ use Rattle.iscsi_ffi_law.specs.Done.{AllDone, AreDoneFit, IsDoneFit, IsRegular}
 use Rattle.iscsi_ffi_law.specs.Fit.{IsFit}
 use Rattle.iscsi_ffi_law.specs.Sides.{AreBytes, AreItemsFit, IsLossFit, IsOpening, IsSideFit, IsTakenFit, asking}
 use Rattle.iscsi_ffi_law.proofs.DoneShape.{done_effects, done_entry, entry_is, one_part}
-use Rattle.iscsi_ffi_law.proofs.FitEvents.{taken_enabled, taken_short}
+use Rattle.iscsi_ffi_law.proofs.FitEvents.{taken_enabled, taken_short, taken_steps}
 use Rattle.iscsi_ffi_law.proofs.FitFacts.{limits, takes_reply, takes_reply_at, there_live, ticket_is}
 use Rattle.iscsi_ffi_law.proofs.FitFollows.{together_event, live_there, tickets_up, units_there}
 use Rattle.iscsi_ffi_law.proofs.FitHolds.{Holds, arrival_read, arrival_room, holds_arrival, holds_done, holds_heard, holds_loss, loss_read}
@@ -235,12 +235,14 @@ module _ (i : Interface) (opening : IsOpening i) where
       let together = together_event i.outbox s.both (Arrive cid header) (refusal_known r cid is) g.together in
       let many = same_count i.outbox after.box after.trace together.lives in
       let fits' = fits_reached i.outbox distinct after (good_event i.outbox (n + 1) s.both (Arrive cid header) read g.good).reached in
+      let items = event_items_fit (n + 1) s (Arrive cid header) read g.good (omega (arith, few)) (omega (arith, early, later)) in
       record {
         before = record { asked = h.asked; answers = h.answers; entered = h.earlier.entered_by; admitted = h.earlier.admitted; waiting = h.earlier.waits };
         heard = fit_with n (n + 1) r.both s.both h.good g.good (omega (arith, few)) (omega (arith, few)) (omega (arith, early, later)) (omega (arith, early, later));
         event = record {
           fit = fit_with (n + 1) (n + 1) s.both (after_step i.outbox s.both (Happens (Arrive cid header))) g.good (good_event i.outbox (n + 1) s.both (Arrive cid header) read g.good) (omega (arith, few)) (omega (arith, few)) (omega (arith, early, later)) (omega (arith, early, later));
-          items = event_items_fit (n + 1) s (Arrive cid header) read g.good (omega (arith, few)) (omega (arith, early, later));
+          items = items;
+          steps = taken_steps i opening n r cid header is h (omega (arith, early, later)) items;
           stale = (sound_reached i.outbox distinct s.both g.good.reached).1;
           sent = (let x = g.good.sent_is in omega (arith, x, early, later));
           replies = room_left (arrival_room i distinct n r cid header is h);
