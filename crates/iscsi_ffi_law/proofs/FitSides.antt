@@ -1,5 +1,5 @@
 -- What holds of a session and its outbox behind so many calls, each call keeps.
-use Rattle.std.proofs.Common.{◌≡◌, ℕ, ◌+◌, ◌≤◌, ◌||◌, not, cond, Bool, true, false, List, [], ◌∷◌, map, length, count_by, filter_map, Option, Some, None, refl, ap, ◌∙◌, arith, filter, nat_lt, max, length-append}
+use Rattle.std.proofs.Common.{◌≡◌, ℕ, ◌+◌, ◌≤◌, cond, Bool, true, false, List, [], ◌∷◌, map, length, filter_map, Option, Some, None, refl, ap, ◌∙◌, arith, nat_lt, max, length-append}
 use Rattle.std.proofs.lemmas.Bool.{cond_both, false≢true}
 use Rattle.iscsi_wire.specs.declared.reply.Reply.{Reply}
 use Rattle.iscsi_history.specs.declared.effect.Effect.{Effect}
@@ -7,8 +7,7 @@ use Rattle.iscsi_history.specs.declared.event.Event.{Event}
 use Rattle.iscsi_history.specs.promises.Order.{in_parts}
 use Rattle.iscsi_history.specs.rules.Agenda.{items_of}
 use Rattle.iscsi_history.specs.rules.Run.{entry_of}
-use Rattle.iscsi_history.specs.rules.Trace.{Arrival, Command, Trace, after_items, first_of, is_delivered, is_emptied, live, shown, waiting}
-use Rattle.iscsi_history.proofs.ReplyTurns.{admits_request}
+use Rattle.iscsi_history.specs.rules.Trace.{Trace, after_items, first_of}
 use Rattle.iscsi_history.proofs.CountLemmas.{count-cons, one}
 use Rattle.iscsi_outbox_rules.specs.rules.Boxes.{Link}
 use Rattle.iscsi_outbox_rules.specs.rules.Calls.{Call, Clears, Hears, Joins, Loses, Nexts, Opening, Puts, Stops, Takes, Writes}
@@ -18,6 +17,7 @@ use Rattle.iscsi_outbox_rules.specs.rules.Words.{is_open}
 use Rattle.iscsi_outbox_rules.specs.promises.Room.{Both, Happens, Other, after_step, begun, is_other, is_read_with_room}
 use Rattle.iscsi_outbox_rules.proofs.ClosedParts.{Parts, effects_each, event_parts}
 use Rattle.iscsi_outbox_rules.proofs.RoomSends.{Formed, Going, event_going, sending}
+use Rattle.iscsi_outbox_rules.proofs.RoomStored.{at_once}
 use Rattle.iscsi_outbox_law.specs.Pairs.{EachOf}
 use Rattle.iscsi_outbox_law.proofs.PairLemmas.{each-new, each-weaken}
 use Rattle.iscsi_outbox_law.proofs.PlaceLemmas.{conns_of}
@@ -27,11 +27,6 @@ use Rattle.iscsi_ffi_law.proofs.FitNumbers.{all_sends, call_sent, call_spent, ev
 use Rattle.iscsi_ffi_law.proofs.FitReached.{Reached, reached_begun, reached_step}
 
 -- ---- what the session has at once
-
-abbrev pub at_once : Trace → ℕ
-at_once t =
-    count_by (λ (a : Arrival). true) (waiting t) + count_by (λ (a : Arrival). true) (filter (λ (a : Arrival). not (is_delivered t a.number || is_emptied t a.number)) (shown admits_request t))
-    + count_by (λ (c : Command). true) (live t)
 
 -- what an event sends, with what there is at once then, is one more at the most
 module _ (o : Opening) where
