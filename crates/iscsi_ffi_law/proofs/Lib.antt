@@ -124,6 +124,13 @@ mod FitTurns
 mod FitPrompt
 mod FitReceived
 mod FitOnce
+mod FitFirst
+mod FitCounts
+mod FitWaiting
+mod FitLimits
+mod FitOrder
+mod FitReady
+mod FitShown
 mod FitItems
 mod FitEvents
 mod FitAll
