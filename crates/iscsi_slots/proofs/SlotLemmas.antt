@@ -1,8 +1,8 @@
 -- The slots of a queue, and the values in them.
 use Rattle.std.proofs.Common.{◌≡◌, ◌≢◌, ℕ, zero, suc, ◌+◌, ◌<◌, ◌≤◌, cond, false, List, [], ◌∷◌, ◌++◌, length, map, take, drop, drop-drop, get_or, set, refl, ap, sym, subst, ◌∙◌, arith, ⊎_elim, eq-eqb, ne_eqb}
 use Rattle.std.specs.List.{remove, insert}
-use Rattle.std.proofs.lemmas.Bool.{cases_eq, cases_lt}
-use Rattle.std.proofs.lemmas.List.{length-drop, get_or-set_other, get_or-set_same, get_or_append_left}
+use Rattle.std.proofs.lemmas.Bool.{cases_eq}
+use Rattle.std.proofs.lemmas.List.{length-drop, get_or-set_other}
 use Rattle.iscsi_slots.specs.Slots.{times, values}
 
 -- a slot that stands first is counted
@@ -32,21 +32,6 @@ module _ {X : Type 0} (blank : X) (slots : List X) where
       (λ same. absurd (let first = times_first s order in let is : times s (s ∷ order) ≡ 0 = subst (λ n. times n (s ∷ order) ≡ 0) (sym same) none in omega (arith, first, is)))
       (λ apart. let more = times_apart slot s order apart in
       ap (λ x. x ∷ values blank (set slots slot value) order) (get_or-set_other slots slot s value blank apart) ∙ ap (λ xs. get_or slots s blank ∷ xs) (values_other slot value order (omega (arith, more, none))))
-      (cases_eq s slot)
-
-  -- the value of a slot is written
-  pub values_written : (value : X) (order : List ℕ) (k : ℕ) → k < length order → times (get_or order k 0) order ≤ 1 → get_or order k 0 < length slots → values blank (set slots (get_or order k 0) value) order ≡ set (values blank slots order) k value
-  values_written value [] k within once here = absurd (omega arith)
-  values_written value (s ∷ order) zero within once here =
-      let first = times_first s order in
-      ap (λ x. x ∷ values blank (set slots s value) order) (get_or-set_same slots s value blank here) ∙ ap (λ xs. value ∷ xs) (values_other s value order (omega (arith, first, once)))
-  values_written value (s ∷ order) (suc k) within once here =
-      let slot : ℕ = get_or order k 0 in
-      let there = times_at order k (omega arith) in
-      ⊎_elim
-      (λ same. absurd (let first = times_first s order in let both : times s (s ∷ order) ≤ 1 = subst (λ n. times n (s ∷ order) ≤ 1) (sym same) once in let one : 1 ≤ times s order = subst (λ n. 1 ≤ times n order) (sym same) there in omega (arith, first, both, one)))
-      (λ apart. let more = times_apart slot s order apart in
-      ap (λ x. x ∷ values blank (set slots slot value) order) (get_or-set_other slots slot s value blank apart) ∙ ap (λ xs. get_or slots s blank ∷ xs) (values_written value order k (omega arith) (omega (arith, more, once)) here))
       (cases_eq s slot)
 
 -- ---- lists of slots
@@ -90,15 +75,6 @@ drop-moved_block xs m f n k i sum within is =
     ∙ ap (drop f) (drop-moved_down xs m (f + k) i (omega (arith, sum, within)) (omega (arith, sum, is)))
     ∙ drop-remove (drop m xs) f k (omega (arith, length-drop m xs, sum, within))
     ∙ ap (λ ys. remove ys k) (drop-drop f m xs ∙ ap (λ j. drop j xs) (sym sum))
-
-module _ {X : Type 0} (blank : X) (slots : List X) where
-  -- the values of slots that were there are the same behind a new one
-  pub values_added : (value : X) (order : List ℕ) → ((slot : ℕ) → length slots ≤ slot → times slot order ≡ 0) → values blank (slots ++ value ∷ []) order ≡ values blank slots order
-  values_added value [] none = refl
-  values_added value (s ∷ order) none =
-      let here : s < length slots = ⊎_elim (λ below. below) (λ above. let first = times_first s order in let is = none s above in absurd (omega (arith, first, is))) (cases_lt s (length slots)) in
-      ap (λ x. x ∷ values blank (slots ++ value ∷ []) order) (get_or_append_left slots (value ∷ []) blank s here)
-      ∙ ap (λ xs. get_or slots s blank ∷ xs) (values_added value order (λ slot above. let is = none slot above in omega (arith, is)))
 
 pub drop-insert : {X : Type 0} (xs : List X) (n k : ℕ) (x : X) → n + k ≤ length xs → drop n (insert xs (n + k) x) ≡ insert (drop n xs) k x
 drop-insert xs zero k x within = let same : 0 + k ≡ k = omega arith in ap (λ i. insert xs i x) same

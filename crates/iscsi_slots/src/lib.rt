@@ -1,8 +1,7 @@
-//! Values that don't move when others are taken out: each has a slot of its own, and orders are lists of slots.
+//! Orders of slots. What is kept in slots doesn't move when other things are taken out: what moves is an order, a list of
+//! slots.
 #![tactic(auto)]
 
 mod order;
-mod slots;
 
 pub use order::Order;
-pub use slots::Slots;

@@ -86,6 +86,13 @@ impl Order {
         inserted.unwrap();
     }
 
+    /// Has no slots from now on.
+    pub fn clear(&mut self)
+        ensures { self.new ≡ queued [] self.old.room }
+    {
+        self.head = self.places.len();
+    }
+
     /// Has the slots of another order from now on, in its order. It takes no memory.
     pub fn copy_from(&mut self, other: &Order)
         requires { length other.now.items ≤ self.old.room }

@@ -162,3 +162,7 @@ module _ (s : Members) (covers : Task → Bool) (h : List Change) (order : InOrd
       (λ yes. subst (λ (x : Members). StandsFor x (after_all_left ts h)) (sym (ap (λ b. cond b (record s { list = after_moment (uncovered covers s.list) }) s) yes)) (some_case yes))
       (λ no. subst (λ (x : Members). StandsFor x (after_all_left ts h)) (sym (ap (λ b. cond b (record s { list = after_moment (uncovered covers s.list) }) s) no)) (none_case no))
       (cases_Bool (list_any (λ (m : Member). covers m.task) s.list))
+
+-- so does the set that became so
+pub StandsFor-staying : (s : Members) (covers : Task → Bool) (h : List Change) → InOrder s.list → StandsFor s h → (t : Members) → t ≡ set_staying covers s → StandsFor t (after_all_left (filter covers (live h)) h)
+StandsFor-staying s covers h order st t is = subst (λ (x : Members). StandsFor x (after_all_left (filter covers (live h)) h)) (sym is) (StandsFor-all_left s covers h order st)

@@ -2,7 +2,7 @@
 use Rattle.std.proofs.Common.{◌≡◌, ℕ, zero, suc, ◌+◌, ◌-◌, ◌<◌, ◌≤◌, ◌==◌, ◌&&◌, ◌≢◌, ◌⊎◌, inl, inr, not, min, max, cond, Bool, true, false, List, [], ◌∷◌, ◌++◌, length, map, take, drop, set, get_or, All, count_by, refl, ap, sym, ◌∙◌, arith, subst, ⊎_elim, true≢false, ne_eqb, eqb-true, lt-ltb, le-ltb}
 use Rattle.std.specs.List.{position_or_len, remove}
 use Rattle.std.proofs.lemmas.Bool.{cases_lt, cases_eq, cases_Bool, and_parts, and_right, cond-true, cond-false}
-use Rattle.std.proofs.lemmas.List.{length_push, length-take-le, get_or_append_left, get_or_push, get_or_default, get_or-take, get_or-set_same, get_or-set_other, length-set, take_more}
+use Rattle.std.proofs.lemmas.List.{length_push, get_or_append_left, get_or_push, get_or-set_same, get_or-set_other, length-set}
 use Rattle.std.proofs.lemmas.List.Edits.{length-remove, get_or-remove_below, get_or-remove_above}
 use Rattle.std.proofs.lemmas.List.Elements.{All-push}
 use Rattle.std.proofs.lemmas.List.Folds.{position_or_len_push, position_or_len-set}
@@ -11,9 +11,8 @@ use Rattle.std.proofs.lemmas.List.Sums.{fails_before_first, sum_by-remove, sum_b
 use Rattle.iscsi_tasks.specs.declared.task.Attr.{Attr}
 use Rattle.iscsi_tasks.specs.declared.task.Task.{Task}
 use Rattle.iscsi_tasks.specs.declared.member.Member.{Member}
-use Rattle.iscsi_tasks.specs.declared.counts.Counts.{Counts}
-use Rattle.iscsi_tasks.specs.Sets.{InOrder, is_head_of, is_new}
-use Rattle.iscsi_tasks.specs.Counted.{IsCounted, AreHeadsEnabled, is_head_in, is_ordered_in, plus_one_if, shifted_by, new_from_with, new_to_with, with_last, without_one, with_enabled, enabled_now, given_now}
+use Rattle.iscsi_tasks.specs.Sets.{is_head_of, is_new}
+use Rattle.iscsi_tasks.specs.Counted.{Counts, IsCounted, is_head_in, is_ordered_in, plus_one_if, shifted_by, new_from_with, new_to_with, with_last, without_one, with_enabled, enabled_now, given_now}
 
 -- a first place is within the list or its end
 pub first-le : {X : Type 0} (p : X → Bool) (xs : List X) → position_or_len p xs ≤ length xs
@@ -124,19 +123,6 @@ module _ (c : Counts) (list : List Member) (counted : IsCounted c list) (m : Mem
             (λ e yes.
             (subst (λ t. cond t (new_from_with c len) c.new_from ≤ k) (sym yes) (let low : new_from_with c len ≤ len = new_from-le c len in omega arith), subst (λ t. k < cond t (len + 1) c.new_to) (sym yes) (omega arith)));
       }
-
--- one more of some commands that are in order
-pub counted_more : (c : Counts) (list : List Member) (k : ℕ) (m : Member) → k < length list → get_or list k m ≡ m → InOrder list → AreHeadsEnabled list → IsCounted c (take k list) → IsCounted (with_last c k m) (take (k + 1) list)
-counted_more c list k m within here order heads counted =
-    let long : length (take k list) ≡ k = length-take-le k list (omega arith) in
-    let newest : All (λ x. x.task.ticket < m.task.ticket) (take k list) = λ j d l.
-    let up : (get_or list j d).task.ticket < (get_or list k d).task.ticket = order j k d (omega (arith, long)) within in
-    let same : get_or list k d ≡ m = get_or_default list k d m within ∙ here in
-    subst (λ (x : Member). x.task.ticket < m.task.ticket) (sym (get_or-take k list j d (omega (arith, long)))) (subst (λ (x : Member). (get_or list j d).task.ticket < x.task.ticket) same up) in
-    let head : is_head_in m ≡ true → m.enabled ≡ true = subst (λ (x : Member). is_head_in x ≡ true → x.enabled ≡ true) here (heads k m within) in
-    subst (λ n. IsCounted (with_last c n m) (take (k + 1) list)) long
-    (subst (IsCounted (with_last c (length (take k list)) m)) (sym (take_more list k m within ∙ ap (λ (x : Member). take k list ++ x ∷ []) here))
-    (counted_push c (take k list) counted m newest head))
 
 -- ---- a command leaves
 

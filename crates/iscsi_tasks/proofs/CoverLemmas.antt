@@ -8,18 +8,18 @@ use Rattle.iscsi_tasks.proofs.ListLemmas.{find-map}
 use Rattle.iscsi_tasks.proofs.PlaceLemmas.{place_is, none_at_position}
 use Rattle.iscsi_tasks.proofs.SearchLemmas.{find_place, find_nowhere}
 
-module _ (passes : Task → Bool) (s inside : Members) (same : inside ≡ s) where
+module _ (passes : Task → Bool) (s : Members) where
   -- none passes
-  pub absent : position (λ m. passes m.task) inside.list ≡ None → find passes (tasks_in s) ≡ None
+  pub absent : position (λ m. passes m.task) s.list ≡ None → find passes (tasks_in s) ≡ None
   absent none =
-      ap (λ (x : Members). find passes (tasks_in x)) (sym same) ∙ find-map passes (λ (m : Member). m.task) inside.list
-      ∙ ap (option_map (λ (m : Member). m.task)) (find_nowhere (λ (m : Member). passes m.task) inside.list (none_at_position (λ (m : Member). passes m.task) inside.list none))
+      find-map passes (λ (m : Member). m.task) s.list
+      ∙ ap (option_map (λ (m : Member). m.task)) (find_nowhere (λ (m : Member). passes m.task) s.list (none_at_position (λ (m : Member). passes m.task) s.list none))
 
   -- the one at this place is the oldest that passes
-  pub present : (at : ℕ) (task : Task) → position (λ m. passes m.task) inside.list ≡ Some at → ((d : Member) → task ≡ (get_or s.list at d).task) → find passes (tasks_in s) ≡ Some task
+  pub present : (at : ℕ) (task : Task) → position (λ m. passes m.task) s.list ≡ Some at → ((d : Member) → task ≡ (get_or s.list at d).task) → find passes (tasks_in s) ≡ Some task
   present at task place is =
       let d : Member = record { task = task; enabled = false; given = false } in
-      let here = position-Some (λ (m : Member). passes m.task) s.list at d (ap (λ (x : Members). position (λ m. passes m.task) x.list) (sym same) ∙ place) in
+      let here = position-Some (λ (m : Member). passes m.task) s.list at d place in
       find-map passes (λ (m : Member). m.task) s.list
       ∙ ap (option_map (λ (m : Member). m.task)) (find_place (λ (m : Member). passes m.task) s.list at d (place_is (λ (m : Member). passes m.task) s.list at d here.0 here.2 here.1) here.0)
       ∙ ap Some (sym (is d))

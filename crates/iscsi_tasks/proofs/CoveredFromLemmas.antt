@@ -1,5 +1,5 @@
 -- From which number on functions may cover commands of a set.
-use Rattle.std.proofs.Common.{◌≡◌, ◌∙◌, ◌&&◌, ◌==◌, not, Bool, ℕ, zero, suc, ◌<◌, ℤ, pos, ◌+ℤ◌, ◌≤ℤ◌, cond, true, false, nat_lt, int_lt, List, [], ◌∷◌, ◌++◌, length, map, get_or, find, All, None, ap, sym, subst, arith, ⊎_elim}
+use Rattle.std.proofs.Common.{◌≡◌, ◌∙◌, ◌&&◌, ◌==◌, not, Bool, ℕ, zero, suc, ◌<◌, ℤ, pos, ◌+ℤ◌, ◌≤ℤ◌, cond, true, false, nat_lt, int_lt, List, [], ◌∷◌, ◌++◌, length, map, get_or, All, ap, sym, subst, arith, ⊎_elim}
 use Rattle.std.specs.Int.{int_min}
 use Rattle.std.specs.List.{fold}
 use Rattle.std.specs.Ordering.{int_eq}
@@ -12,11 +12,10 @@ use Rattle.iscsi_tasks.specs.declared.cover.Cover.{Cover}
 use Rattle.iscsi_tasks.specs.declared.cover.Cover.TheVariants.{All as AllOfThem, Conn, Below}
 use Rattle.iscsi_tasks.specs.declared.member.Member.{Member}
 use Rattle.iscsi_tasks.specs.Sets.{is_covered, after_moment, without, uncovered, list_staying}
-use Rattle.iscsi_tasks.specs.Counted.{IsCoveredFrom, is_below, covered_from, greatest_number, covered_from_with, covered_from_in, covered_from_after, covered_from_first, IsAscending}
+use Rattle.iscsi_tasks.specs.Counted.{IsCoveredFrom, is_below, covered_from, greatest_number, covered_from_with, covered_from_in, covered_from_first, IsAscending}
 use Rattle.iscsi_tasks.proofs.HistoryLemmas.{tasks-looked}
 use Rattle.iscsi_tasks.proofs.ListLemmas.{filter-map}
 use Rattle.iscsi_tasks.proofs.StayingLemmas.{staying_cases}
-use Rattle.iscsi_tasks.proofs.SearchLemmas.{find_nowhere}
 
 -- a function doesn't cover a command of a greater number, nor a numbered one of its own
 not_lower : (t : Task) (at : ℤ) (event : ℕ) → at ≤ℤ t.pos → (t.immediate && int_eq t.pos at) ≡ false → is_covered (Below at event) t ≡ false
@@ -84,12 +83,6 @@ pub covered_from_all : (list : List Member) → IsCoveredFrom (covered_from_in l
 covered_from_all list cover below = All-map (λ t. is_covered cover t ≡ false) (λ (m : Member). m.task) list
     (λ k d l. let m = get_or list k d in none_below m.task cover (is_below-le _ (covered_from m.task) cover ((least greatest_number list).1 k d l) below))
 
--- a function covered nothing
-pub covered_from_past : (number : ℤ) (list : List Member) (cover : Cover) → IsCoveredFrom number (map (λ m. m.task) list) → IsCoveredFrom (covered_from_after number cover list) (map (λ m. m.task) list)
-covered_from_past number list AllOfThem kept = kept
-covered_from_past number list (Conn cid) kept = kept
-covered_from_past number list (Below at event) kept = covered_from_all list
-
 -- the oldest was looked at
 oldest : (m : Member) (ms : List Member) → IsAscending (m ∷ ms) → (k : ℕ) (d : Member) → k < length (m ∷ ms) → covered_from m.task ≤ℤ covered_from (get_or (m ∷ ms) k d).task
 oldest m ms up zero d within = omega (arith, ints)
@@ -99,7 +92,3 @@ pub covered_from_oldest : (list : List Member) → IsAscending list → IsCovere
 covered_from_oldest [] up cover below = All-nil (λ t. is_covered cover t ≡ false)
 covered_from_oldest (m ∷ ms) up cover below = All-map (λ t. is_covered cover t ≡ false) (λ (x : Member). x.task) (m ∷ ms)
     (λ k d l. let x = get_or (m ∷ ms) k d in none_below x.task cover (is_below-le (covered_from m.task) (covered_from x.task) cover (oldest m ms up k d l) below))
-
--- a function with a number below that of the set covers nothing
-pub nothing_covered : (number : ℤ) (tasks : List Task) (cover : Cover) → IsCoveredFrom number tasks → is_below number cover ≡ true → find (is_covered cover) tasks ≡ None
-nothing_covered number tasks cover kept below = find_nowhere (is_covered cover) tasks (kept cover below)

@@ -10,10 +10,9 @@ use Rattle.iscsi_tasks.specs.declared.task.Attr.{Attr}
 use Rattle.iscsi_tasks.specs.declared.task.Attr.TheVariants.{Simple, Ordered, Head}
 use Rattle.iscsi_tasks.specs.declared.task.Task.{Task}
 use Rattle.iscsi_tasks.specs.declared.member.Member.{Member}
-use Rattle.iscsi_tasks.specs.declared.counts.Counts.{Counts}
 use Rattle.iscsi_tasks.specs.Rules.{is_head_of}
 use Rattle.iscsi_tasks.specs.Sets.{queued, is_free, is_free_among, looked_at, after_moment}
-use Rattle.iscsi_tasks.specs.Counted.{IsCounted, IsSettled, is_head_in, is_ordered_in, is_free_behind}
+use Rattle.iscsi_tasks.specs.Counted.{Counts, IsCounted, IsSettled, is_head_in, is_ordered_in, is_free_behind}
 use Rattle.iscsi_tasks.proofs.MomentLemmas.{bars_in, free_among, free_none, free_barred, free_head, head_bars, ordered_bars, older_bars, younger_passes, simple_passes, none_counted, some_counted, map-looked_same}
 use Rattle.iscsi_tasks.proofs.CountLemmas.{first-le}
 

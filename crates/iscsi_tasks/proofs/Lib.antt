@@ -12,8 +12,6 @@ pub mod CoverLemmas
 pub mod CoveredFromLemmas
 pub mod StayingLemmas
 pub mod AllLeftLemmas
-pub mod RosterLemmas
-pub mod KeepLemmas
 pub mod FrontLemmas
 pub mod AloneLemmas
 pub mod ChainLemmas

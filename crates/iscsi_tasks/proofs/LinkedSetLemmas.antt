@@ -6,10 +6,12 @@ use Rattle.iscsi_slots.specs.Slots.{times}
 use Rattle.iscsi_tasks.specs.declared.task.Attr.{Attr}
 use Rattle.iscsi_tasks.specs.declared.task.Attr.TheVariants.{Simple, Ordered, Head}
 use Rattle.iscsi_tasks.specs.declared.member.Member.{Member}
+use Rattle.iscsi_tasks.specs.declared.task.Task.{Task}
 use Rattle.iscsi_tasks.specs.declared.marks.Marks.{Marks}
-use Rattle.iscsi_tasks.specs.Rosters.{BLANK}
-use Rattle.iscsi_tasks.specs.Sets.{after_moment, looked_at, without, with_ticket, is_enabled_in}
+use Rattle.iscsi_tasks.specs.Chains.{BLANK}
+use Rattle.iscsi_tasks.specs.Sets.{tasks_in, after_moment, looked_at, without, with_ticket, is_enabled_in}
 use Rattle.iscsi_tasks.specs.Counted.{IsCoveredFrom, IsSettled, IsAscendingTo, is_free_behind, is_ordered_in}
+use Rattle.iscsi_tasks.specs.Linked.{Linked, linked, IsInSlots}
 use Rattle.iscsi_tasks.specs.Marked.{IsMarked, IsKeptLinked, HasTicket, is_free_by}
 use Rattle.std.proofs.lemmas.Bool.{cases_lt}
 use Rattle.iscsi_tasks.proofs.ChainLemmas.{not_end}
@@ -52,6 +54,15 @@ kept_none_yet depth number most least few = record {
   };
 }
 
+pub in_slots : {depth looked room : ℕ} {number : ℤ} {ascends : Bool} {most : ℤ} {m : Marks} {slots : List ℕ} {list : List Member} → IsKeptLinked depth room number ascends most m slots list → IsInSlots (linked (record { depth = depth; looked = looked; list = list }) slots)
+in_slots kept = record {
+  order = kept.marked.counted.order;
+  long = kept.marked.long;
+  within = kept.kept.kept.within;
+  least = kept.kept.kept.least;
+  most = kept.kept.kept.most;
+}
+
 -- a command that enters is free by the marks where it is by the counts
 pub free_is : {m : Marks} {slots : List ℕ} {list : List Member} (marked : IsMarked m slots list) (attr : Attr) → is_free_by m (length list) attr ≡ is_free_behind marked.counts (length list) attr
 free_is marked Head = refl
@@ -64,28 +75,28 @@ free_is {m} {slots} {list} marked Simple =
     (λ past. eq-eqb m.ordered 0 (marked.ordered ∙ get_or_past slots marked.counts.ordered_at 0 past) ∙ sym (eq-eqb marked.counts.ordered_at (length list) (omega (arith, past, le, is, long))))
     (cases_lt marked.counts.ordered_at (length slots)))
 
+-- ---- the command with a ticket
+
+module _ {l : Linked} (sound : IsInSlots l) (ticket slot : ℕ) (at : HasTicket l.slots l.shown.list ticket slot) where
+  pub place_in : at.place < length l.slots
+  place_in = let inside = at.inside in let long = sound.long in omega (arith, inside, long)
+
+  pub slot_there : 1 ≤ times slot l.slots
+  slot_there = some_at l.slots at.place slot place_in at.there
+
+  -- it is the one that was read
+  pub task_found : (task : Task) → ((k : ℕ) (d : Member) → k < length l.slots → get_or l.slots k 0 ≡ slot → task ≡ (get_or l.shown.list k d).task) → with_ticket ticket (tasks_in l.shown) ≡ Some task
+  task_found task read = found l.shown.list sound.order ticket at.place at.inside at.ticket_is BLANK ∙ ap Some (sym (read at.place BLANK place_in at.there))
+
+  pub enabled_found : (one : Member) → ((k : ℕ) (d : Member) → k < length l.slots → get_or l.slots k 0 ≡ slot → one ≡ get_or l.shown.list k d) → one.enabled ≡ is_enabled_in ticket l.shown.list
+  enabled_found one read = ap (λ (x : Member). x.enabled) (read at.place BLANK place_in at.there) ∙ enabled_at l.shown.list sound.order ticket at.place at.inside at.ticket_is BLANK
+
 -- ---- the command with a ticket leaves
 
 module _ {depth room : ℕ} {number : ℤ} {ascends : Bool} {most : ℤ} {m : Marks} {slots : List ℕ} {list : List Member} (kept : IsKeptLinked depth room number ascends most m slots list) (ticket slot : ℕ) (at : HasTicket slots list ticket slot) where
-  pub place_in : at.place < length slots
-  place_in = let l = at.inside in let long = kept.marked.long in omega (arith, l, long)
-
-  pub slot_there : 1 ≤ times slot slots
-  slot_there = some_at slots at.place slot place_in at.there
-
-  -- it is the one that was read
-  pub task_found : (one : Member) → ((k : ℕ) (d : Member) → k < length slots → get_or slots k 0 ≡ slot → one ≡ get_or list k d) → with_ticket ticket (map (λ x. x.task) list) ≡ Some one.task
-  task_found one read = found list kept.marked.counted.order ticket at.place at.inside at.ticket_is BLANK ∙ ap (λ (x : Member). Some x.task) (sym (read at.place BLANK place_in at.there))
-
-  pub enabled_found : (one : Member) → ((k : ℕ) (d : Member) → k < length slots → get_or slots k 0 ≡ slot → one ≡ get_or list k d) → one.enabled ≡ is_enabled_in ticket list
-  enabled_found one read = ap (λ (x : Member). x.enabled) (read at.place BLANK place_in at.there) ∙ enabled_at list kept.marked.counted.order ticket at.place at.inside at.ticket_is BLANK
-
-  pub ticket_read : (one : Member) → ((k : ℕ) (d : Member) → k < length slots → get_or slots k 0 ≡ slot → one ≡ get_or list k d) → one.task.ticket ≡ ticket
-  ticket_read one read = ap (λ (x : Member). x.task.ticket) (read at.place BLANK place_in at.there) ∙ at.ticket_is BLANK
-
   -- what is left of the set
   pub left_is : (now : List Member) → ((k : ℕ) → k < length slots → get_or slots k 0 ≡ slot → now ≡ after_moment (remove list k)) → now ≡ after_moment (without ticket list)
-  left_is now is = is at.place place_in at.there ∙ ap after_moment (remove_is list at.place BLANK kept.marked.counted.order at.inside ∙ ap (λ t. without t list) (at.ticket_is BLANK))
+  left_is now is = is at.place (let inside = at.inside in let long = kept.marked.long in omega (arith, inside, long)) at.there ∙ ap after_moment (remove_is list at.place BLANK kept.marked.counted.order at.inside ∙ ap (λ t. without t list) (at.ticket_is BLANK))
 
   pub kept_left : {after : Marks} {slots_after : List ℕ} {now : List Member} {room_after : ℕ} → IsMarked after slots_after now → now ≡ after_moment (without ticket list) → room_after ≡ room → IsKeptLinked depth room_after number ascends most after slots_after now
   kept_left {now = now} marked is same =

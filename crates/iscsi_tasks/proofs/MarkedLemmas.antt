@@ -8,11 +8,10 @@ use Rattle.iscsi_slots.specs.Slots.{times}
 use Rattle.iscsi_slots.proofs.SlotLemmas.{times_at, times_remove}
 use Rattle.iscsi_tasks.specs.declared.task.Attr.{Attr}
 use Rattle.iscsi_tasks.specs.declared.member.Member.{Member}
-use Rattle.iscsi_tasks.specs.declared.counts.Counts.{Counts}
 use Rattle.iscsi_tasks.specs.declared.marks.Marks.{Marks}
 use Rattle.iscsi_tasks.specs.Rules.{is_head_of, is_ordered_of}
 use Rattle.iscsi_tasks.specs.Sets.{is_new}
-use Rattle.iscsi_tasks.specs.Counted.{IsCounted, is_head_in, is_ordered_in, plus_one_if, shifted_by, new_from_with, with_last, without_one, with_enabled, given_now}
+use Rattle.iscsi_tasks.specs.Counted.{Counts, IsCounted, is_head_in, is_ordered_in, plus_one_if, shifted_by, new_from_with, with_last, without_one, with_enabled, given_now}
 use Rattle.iscsi_tasks.specs.Chains.{AreApart}
 use Rattle.iscsi_tasks.specs.Marked.{IsMarked, IsPastNone, IsSpan, moved_off, pushed_by, left_by, enabled_by, is_none_marked}
 use Rattle.iscsi_tasks.proofs.ChainLemmas.{not_end, same_to_end}

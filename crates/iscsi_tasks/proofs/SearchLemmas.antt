@@ -1,29 +1,22 @@
 -- A command is found by its ticket, since tickets go up along the set.
-use Rattle.std.proofs.Common.{◌≡◌, ℕ, zero, suc, ◌<◌, ◌==◌, ◌&&◌, ◌≢◌, not, cond, Bool, true, false, List, [], ◌∷◌, length, map, filter, find, position, get_or, All, Option, Some, None, is_some, option_map, slice_get, refl, ap, sym, ◌∙◌, arith, subst, ⊎_elim, ne_eqb, eq-eqb}
+use Rattle.std.proofs.Common.{◌≡◌, ℕ, zero, suc, ◌<◌, ◌==◌, ◌&&◌, ◌≢◌, not, cond, Bool, true, false, List, [], ◌∷◌, length, map, filter, find, position, get_or, All, Some, None, option_map, slice_get, refl, ap, sym, ◌∙◌, arith, subst, ⊎_elim, ne_eqb, eq-eqb}
 use Rattle.std.specs.List.{list_any, remove, position_or_len}
 use Rattle.std.proofs.lemmas.Bool.{cases_eq, cases_lt, cases_Bool, and_from, and_left, and_right}
 use Rattle.std.proofs.lemmas.List.{get_or_default}
+use Rattle.std.proofs.lemmas.Option.{slice_get-get_or}
 use Rattle.std.proofs.lemmas.List.Folds.{find_at, list_any_at, list_any_none}
 use Rattle.std.proofs.lemmas.List.Elements.{All-head, All-tail}
 use Rattle.iscsi_tasks.specs.declared.member.Member.{Member}
-use Rattle.iscsi_tasks.specs.declared.task.Task.{Task}
-use Rattle.iscsi_tasks.specs.Sets.{Members, InOrder, without, is_enabled_with, is_enabled_in, with_ticket, tasks_in}
-use Rattle.iscsi_tasks.specs.Rosters.{BLANK}
-use Rattle.iscsi_tasks.specs.Counted.{IsPlaceOf, IsEnabledPlace}
+use Rattle.iscsi_tasks.specs.Sets.{InOrder, without, is_enabled_with, is_enabled_in, with_ticket}
 use Rattle.iscsi_tasks.proofs.GivingLemmas.{InOrder-head, InOrder-tail}
 use Rattle.iscsi_tasks.proofs.ListLemmas.{find-map}
 use Rattle.iscsi_tasks.proofs.PlaceLemmas.{place_is, no_place, position_of, position_none}
 
 -- ---- the command at a place
 
-slice_get_at : {X : Type 0} (xs : List X) (k : ℕ) (d : X) → k < length xs → slice_get xs k ≡ Some (get_or xs k d)
-slice_get_at [] k d within = absurd (omega arith)
-slice_get_at (x ∷ xs) zero d within = refl
-slice_get_at (x ∷ xs) (suc k) d within = slice_get_at xs k d (omega arith)
-
 -- the first that passes is the one at the first place that does
 pub find_place : {X : Type 0} (p : X → Bool) (xs : List X) (k : ℕ) (d : X) → position_or_len p xs ≡ k → k < length xs → find p xs ≡ Some (get_or xs k d)
-find_place p xs k d is within = find_at p xs ∙ ap (slice_get xs) is ∙ slice_get_at xs k d within
+find_place p xs k d is within = find_at p xs ∙ ap (slice_get xs) is ∙ slice_get-get_or xs k d within
 
 pub find_nowhere : {X : Type 0} (p : X → Bool) (xs : List X) → All (λ x. p x ≡ false) xs → find p xs ≡ None
 find_nowhere p [] none = refl
@@ -66,35 +59,27 @@ module _ (list : List Member) (order : InOrder list) (ticket k : ℕ) (within : 
       (cases_eq j k))))
       (cases_Bool (get_or list k d).enabled)
 
+  -- and of the one that was read there
+  pub enabled_read : (m : Member) → ((d : Member) → m ≡ get_or list k d) → m.enabled ≡ is_enabled_in ticket list
+  enabled_read m read = ap (λ (x : Member). x.enabled) (read m) ∙ enabled_at m
+
 pub not_found : (list : List Member) (ticket : ℕ) → All (λ m. (m.task.ticket == ticket) ≡ false) list → with_ticket ticket (map (λ m. m.task) list) ≡ None
 not_found list ticket none = find-map (λ t. t.ticket == ticket) (λ m. m.task) list ∙ ap (option_map (λ (m : Member). m.task)) (find_nowhere (λ m. m.task.ticket == ticket) list none)
 
 pub not_enabled : (list : List Member) (ticket : ℕ) → All (λ m. (m.task.ticket == ticket) ≡ false) list → is_enabled_in ticket list ≡ false
 not_enabled list ticket none = list_any_none (λ m. m.task.ticket == ticket && m.enabled) list (λ j e l. and_left _ _ (none j e l))
 
--- the one at this place has it
-pub present_at : (s inside : Members) (ticket at : ℕ) (task : Task) → inside ≡ s → InOrder inside.list → IsPlaceOf inside.list ticket (Some at) → ((d : Member) → task ≡ (get_or s.list at d).task) → with_ticket ticket (tasks_in s) ≡ Some task
-present_at s inside ticket at task same order place is =
-    let d : Member = record { task = task; enabled = false; given = false } in
-    let order_here : InOrder s.list = subst (λ (x : Members). InOrder x.list) same order in
-    let here : IsPlaceOf s.list ticket (Some at) = subst (λ (x : Members). IsPlaceOf x.list ticket (Some at)) same place in
-    found s.list order_here ticket at here.0 here.1 d ∙ ap Some (sym (is d))
-
--- a place is found where the command is enabled
-pub enabled_found : (list : List Member) (ticket : ℕ) (r : Option ℕ) → IsEnabledPlace list ticket r → is_some r ≡ is_enabled_in ticket list
-enabled_found list ticket None none = sym none
-enabled_found list ticket (Some k) found = sym found.1
-
 -- where no element passes, none at a place does
 none_passes : {X : Type 0} (p : X → Bool) (xs : List X) → list_any p xs ≡ false → (k : ℕ) (d : X) → k < length xs → p (get_or xs k d) ≡ false
 none_passes p xs none k d within = ⊎_elim (λ passes. absurd (let yes = list_any_at p xs k d within passes in cc)) (λ fails. fails) (cases_Bool (p (get_or xs k d)))
 
--- and it is the first place where one is
-pub enabled_place_is : (list : List Member) (ticket : ℕ) (r : Option ℕ) → InOrder list → IsEnabledPlace list ticket r → r ≡ position (is_enabled_with ticket) list
-enabled_place_is list ticket None order off = position_none (is_enabled_with ticket) list (no_place (is_enabled_with ticket) list (λ j d l. none_passes (is_enabled_with ticket) list off j d l))
-enabled_place_is list ticket (Some k) order found =
-    let d : Member = BLANK in
-    let is : (get_or list k d).enabled ≡ true = enabled_at list order ticket k found.0.0 found.0.1 d ∙ found.1 in
+-- so there is no place of one that is enabled
+pub enabled_nowhere : (list : List Member) (ticket : ℕ) → is_enabled_in ticket list ≡ false → None ≡ position (is_enabled_with ticket) list
+enabled_nowhere list ticket off = position_none (is_enabled_with ticket) list (no_place (is_enabled_with ticket) list (λ j d l. none_passes (is_enabled_with ticket) list off j d l))
+
+-- and else it is that of the command with the ticket
+pub enabled_here : (list : List Member) (order : InOrder list) (ticket k : ℕ) (within : k < length list) (here : (d : Member) → (get_or list k d).task.ticket ≡ ticket) (d : Member) → (get_or list k d).enabled ≡ true → Some k ≡ position (is_enabled_with ticket) list
+enabled_here list order ticket k within here d is =
     position_of (is_enabled_with ticket) list k
-    (place_is (is_enabled_with ticket) list k d found.0.0 (λ j l. and_left _ _ (apart list order ticket k found.0.0 found.0.1 j d (omega arith) (λ e. omega arith))) (and_from _ _ (eq-eqb _ _ (found.0.1 d)) is))
-    found.0.0
+    (place_is (is_enabled_with ticket) list k d within (λ j l. and_left _ _ (apart list order ticket k within here j d (omega arith) (λ e. omega arith))) (and_from _ _ (eq-eqb _ _ (here d)) is))
+    within

@@ -1,8 +1,9 @@
 -- How the members of a linked set are kept: each in a slot, with the slots of those beside it. For private contracts alone.
-use Rattle.std.specs.Prelude.{◌≡◌, ℕ, zero, suc, false, ◌+◌, ◌-◌, ◌<◌, ◌≤◌, ◌⊎◌, ◌++◌, List, [], ◌∷◌, length, slice_index_or, slice_set}
+use Rattle.std.specs.Prelude.{◌≡◌, ℕ, zero, suc, pos, false, ◌+◌, ◌-◌, ◌<◌, ◌≤◌, ◌⊎◌, ◌++◌, List, [], ◌∷◌, length, slice_index_or, slice_set}
+use Rattle.iscsi_tasks.specs.declared.task.Attr.TheVariants.{Simple}
+use Rattle.iscsi_tasks.specs.declared.task.Task.{Task}
 use Rattle.iscsi_tasks.specs.declared.member.Member.{Member}
 use Rattle.iscsi_tasks.specs.declared.node.Node.{Node}
-use Rattle.iscsi_tasks.specs.Rosters.{BLANK_TASK}
 use Rattle.iscsi_slots.specs.Slots.{times, AreShared}
 
 -- the members, the oldest first, the slot of each, and how many there may be
@@ -19,7 +20,13 @@ pub record AreApart (slots : List ℕ) : Type 0 where
   pub once : (slot : ℕ) → times slot slots ≤ 1
   pub some : times 0 slots ≡ 0
 
--- any node, which stands for none
+-- any member and any node, which stand for none
+abbrev pub BLANK_TASK : Task
+BLANK_TASK = record { ticket = 0; conn = 0; itt = 0; attr = Simple; immediate = false; pos = pos 0; event = 0 }
+
+abbrev pub BLANK : Member
+BLANK = record { task = BLANK_TASK; enabled = false; given = false }
+
 abbrev pub BLANK_NODE : Node
 BLANK_NODE = record { task = BLANK_TASK; enabled = false; given = false; before = 0; after = 0 }
 

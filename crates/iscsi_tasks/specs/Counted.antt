@@ -1,5 +1,5 @@
 -- What a set keeps beside its commands, so that none of them is tested again.
-use Rattle.std.specs.Prelude.{◌≡◌, ℕ, ℤ, pos, ◌+ℤ◌, ◌≤ℤ◌, int_lt, map, ◌+◌, ◌-◌, ◌^◌, ◌<◌, ◌≤◌, ◌==◌, ◌&&◌, ◌||◌, not, max, min, nat_lt, Bool, true, false, List, [], ◌∷◌, ◌++◌, length, All, slice_index_or, count_by, Option, Some, MatchOption, if◌then◌else◌}
+use Rattle.std.specs.Prelude.{◌≡◌, ℕ, ℤ, pos, ◌+ℤ◌, ◌≤ℤ◌, int_lt, map, ◌+◌, ◌-◌, ◌^◌, ◌<◌, ◌≤◌, ◌==◌, ◌&&◌, ◌||◌, not, max, min, nat_lt, Bool, true, false, List, [], ◌∷◌, ◌++◌, length, All, slice_index_or, count_by, Option, MatchOption, if◌then◌else◌}
 use Rattle.std.specs.Int.{int_min}
 use Rattle.std.specs.List.{position_or_len, fold, AllPairs}
 use Rattle.iscsi_tasks.specs.declared.task.Attr.{Attr}
@@ -8,8 +8,7 @@ use Rattle.iscsi_tasks.specs.declared.task.Task.{Task}
 use Rattle.iscsi_tasks.specs.declared.cover.Cover.{Cover}
 use Rattle.iscsi_tasks.specs.declared.cover.Cover.TheVariants.{All as AllOfThem, Conn, Below}
 use Rattle.iscsi_tasks.specs.declared.member.Member.{Member}
-use Rattle.iscsi_tasks.specs.declared.counts.Counts.{Counts}
-use Rattle.iscsi_tasks.specs.Sets.{Members, is_head_of, is_ordered_of, is_new, is_covered, is_enabled_in, InOrder, is_free_among}
+use Rattle.iscsi_tasks.specs.Sets.{Members, is_head_of, is_ordered_of, is_new, is_covered, InOrder, is_free_among}
 
 abbrev pub is_head_in : Member → Bool
 is_head_in m = is_head_of m.task.attr
@@ -21,13 +20,17 @@ is_ordered_in m = is_ordered_of m.task.attr
 abbrev pub IsPlaceOf : List Member → ℕ → Option ℕ → Type 0
 IsPlaceOf list ticket r = MatchOption r (All (λ m. (m.task.ticket == ticket) ≡ false) list) (λ k. (k < length list) × ((d : Member) → (slice_index_or list k d).task.ticket ≡ ticket))
 
--- the same, of one that is enabled
-abbrev pub IsEnabledPlace : List Member → ℕ → Option ℕ → Type 0
-IsEnabledPlace list ticket r = MatchOption r (is_enabled_in ticket list ≡ false) (λ k. IsPlaceOf list ticket (Some k) × (is_enabled_in ticket list ≡ true))
-
 -- a HEAD OF QUEUE command is enabled
 abbrev pub AreHeadsEnabled : List Member → Type 0
 AreHeadsEnabled list = All (λ m. is_head_in m ≡ true → m.enabled ≡ true) list
+
+-- counts of a set, and places in it from 0 on. Marks of a set are slots at such places, so contracts need no counts
+pub record Counts : Type 0 where
+  pub heads : ℕ  -- how many commands are HEAD OF QUEUE
+  pub ordered_at : ℕ  -- the place of the oldest ORDERED one, and the number of commands where there is none
+  pub enabled_to : ℕ  -- the commands before this place are enabled
+  pub new_from : ℕ  -- the commands that are enabled and weren't given are from this place on ..
+  pub new_to : ℕ  -- .. and before this one
 
 -- the counts are those of the set
 pub record IsCounted (c : Counts) (list : List Member) : Type 0 where
@@ -70,10 +73,6 @@ abbrev pub is_free_behind : Counts → ℕ → Attr → Bool
 is_free_behind c len Head = true
 is_free_behind c len Ordered = len == 0
 is_free_behind c len Simple = c.heads == 0 && c.ordered_at == len
-
--- where no HEAD OF QUEUE is in the set: how many commands, from the oldest on, are free
-abbrev pub free_to : Counts → ℕ → ℕ
-free_to c len = min len (max 1 c.ordered_at)
 
 abbrev pub plus_one_if : Bool → ℕ → ℕ
 plus_one_if b n = if b then n + 1 else n
@@ -149,12 +148,6 @@ covered_from_with number len t = if len == 0 then covered_from t else int_min nu
 -- the least one of these commands
 abbrev pub covered_from_in : List Member → ℤ
 covered_from_in list = fold (λ n m. int_min n (covered_from m.task)) greatest_number list
-
--- that of the set, of which this covered nothing
-abbrev pub covered_from_after : ℤ → Cover → List Member → ℤ
-covered_from_after number AllOfThem list = number
-covered_from_after number (Conn cid) list = number
-covered_from_after number (Below at event) list = covered_from_in list
 
 -- that of the oldest
 abbrev pub covered_from_first : List Member → ℤ

@@ -2,6 +2,6 @@ pub mod Rules
 pub mod Sets
 pub mod Changes
 pub mod Counted
-pub mod Rosters
 pub mod Chains
 pub mod Marked
+pub mod Linked

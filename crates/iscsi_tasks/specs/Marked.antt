@@ -4,11 +4,10 @@ use Rattle.iscsi_tasks.specs.declared.task.Attr.{Attr}
 use Rattle.iscsi_tasks.specs.declared.task.Task.{Task}
 use Rattle.iscsi_tasks.specs.declared.task.Attr.TheVariants.{Simple, Ordered, Head}
 use Rattle.iscsi_tasks.specs.declared.member.Member.{Member}
-use Rattle.iscsi_tasks.specs.declared.counts.Counts.{Counts}
 use Rattle.iscsi_tasks.specs.declared.marks.Marks.{Marks}
 use Rattle.iscsi_tasks.specs.Rules.{is_head_of, is_ordered_of}
 use Rattle.iscsi_tasks.specs.Sets.{is_new}
-use Rattle.iscsi_tasks.specs.Counted.{IsCounted, IsKeptInFront, is_ordered_in, plus_one_if}
+use Rattle.iscsi_tasks.specs.Counted.{Counts, IsCounted, IsKeptInFront, is_ordered_in, plus_one_if}
 use Rattle.iscsi_tasks.specs.Chains.{AreApart}
 
 -- the marks are the slots at the places that counts of the set tell

@@ -5,18 +5,16 @@
 #![tactic(auto)]
 
 mod chain;
-mod counts;
 mod cover;
 mod fault;
 mod linked_front;
 mod linked_queue;
 mod linked_set;
+mod linked_tasks;
 mod marks;
 mod member;
 mod node;
 mod numbers;
-mod queue;
-mod roster;
 mod set;
 mod task;
 

@@ -100,6 +100,8 @@ pub(crate) fn let_go(chain: &mut Chain, marks: &mut Marks, slot: u16)
     requires there { 1 ≤ times slot chain.old.slots }
     ensures members { (k : ℕ) → k < length chain.old.slots → slice_index_or chain.old.slots k 0 ≡ slot →
         chain.new.members ≡ after_moment (remove chain.old.members k) }
+    ensures slots { (k : ℕ) → k < length chain.old.slots → slice_index_or chain.old.slots k 0 ≡ slot →
+        chain.new.slots ≡ remove chain.old.slots k }
     ensures room { chain.new.room ≡ chain.old.room }
     ensures marked { IsMarked marks.new chain.new.slots chain.new.members }
 {

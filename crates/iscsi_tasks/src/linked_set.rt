@@ -1,20 +1,13 @@
 //! The task set whose commands stay in their slots.
 
-ghost use Rattle.std.specs.Prelude.{Err, ◌≡◌, ◌+◌, ◌<◌, ◌≤◌, ◌⊎◌, ◌↔◌, ◌++◌, List, [], ◌∷◌, ◌&&◌, true, false, length, filter, map, IsTrue, IfOk, IfErr, OnOk, OnErr, vec_len, vec_capacity, if◌then◌else◌, None};
-ghost use Rattle.iscsi_tasks.specs.Sets.{tasks_in, opened, InOrder, IsNewest, entered_to, refused_by, left_by, with_ticket, is_covered, ticket_if, set_staying, is_enabled_in, next_in, given_by};
+ghost use Rattle.std.specs.Prelude.{Err, ◌≡◌, ◌+◌, ◌<◌, ◌≤◌, ◌⊎◌, ◌↔◌, ◌++◌, List, [], ◌∷◌, true, false, length, filter, map, IsTrue, IfOk, IfErr, OnOk, OnErr, vec_len, vec_capacity, if◌then◌else◌, None};
+ghost use Rattle.iscsi_tasks.specs.Sets.{tasks_in, opened, InOrder, IsNewest, entered_to, refused_by, left_by, with_ticket, is_covered, set_staying, is_enabled_in, next_in, given_by};
 ghost use Rattle.iscsi_tasks.specs.Changes.{Change, Entered as EnteredOne, AllBelow, StandsFor, live, IsEnabled, next_after, after_giving, after_leaving, after_all_left};
-ghost use Rattle.iscsi_tasks.specs.Counted.{taken_in};
-ghost use Rattle.iscsi_tasks.specs.Marked.{is_free_by};
 
-use crate::chain::Chain;
 use crate::cover::Cover;
 use crate::fault::TaskFault;
-use crate::linked_front::{first_number, numbers_along, remove_covered};
-use crate::linked_queue::{give_next, let_go, push, slot_of};
-use crate::marks::Marks;
-use crate::numbers::ascends_with;
-use crate::set::{MOST_TASKS, covered_from_with};
-use crate::task::{Attr, Task};
+use crate::linked_tasks::LinkedTasks;
+use crate::task::{Task, ticket_if};
 use std::alloc::Global;
 use std::marker::Model;
 
@@ -35,44 +28,24 @@ pub struct Entered {
 /// that entered after it. So nothing is searched for where the caller tells the slot, and nothing closes up as a
 /// command leaves. A slot that isn't that of the command costs a walk along the set, and changes no answer.
 pub struct LinkedTaskSet {
-    depth: u32,
-    /// How many commands the last call of `enter_and_give` tested for being free. Contracts speak of it alone.
-    looked: u32,
-    /// No function with a number below this one covers a command of the set.
-    covered_from: i64,
-    /// Whether the numbers from which on functions may cover the commands go up along the set ..
-    ascends: bool,
-    /// .. and none is above this one then.
-    ascends_to: i64,
-    marks: Marks,
-    chain: Chain,
+    tasks: LinkedTasks,
 }
 
 impl Drop for LinkedTaskSet {
     fn drop(self) {
-        let LinkedTaskSet {
-            depth: _depth,
-            looked: _looked,
-            covered_from: _covered_from,
-            ascends: _ascends,
-            ascends_to: _ascends_to,
-            marks: _marks,
-            chain: _chain,
-        } = self;
+        let LinkedTaskSet { tasks: _tasks } = self;
     }
 }
 
 impl Model for LinkedTaskSet {
-    ghost use Rattle.std.specs.Prelude.{◌≡◌};
     ghost use Rattle.iscsi_tasks.specs.Sets.{Members};
-    ghost use Rattle.iscsi_tasks.specs.Marked.{IsKeptLinked};
+    ghost use Rattle.iscsi_tasks.specs.Linked.{IsInSlots};
 
     ghost Value = { Members };
 
-    ghost view = { λ s. record { depth = s.depth; looked = s.looked; list = s.chain.members } };
+    ghost view = { λ s. s.tasks.shown };
 
-    ghost invariant = { λ s. IsKeptLinked s.depth s.chain.room s.covered_from s.ascends s.ascends_to s.marks
-        s.chain.slots s.chain.members };
+    ghost invariant = { λ s. IsInSlots s.tasks };
 }
 
 impl LinkedTaskSet {
@@ -84,19 +57,8 @@ impl LinkedTaskSet {
         ensures bad_depth { (result ≡ Err TaskFault.BadDepth) ↔ ((depth < 1) ⊎ (1024 < depth)) }
         ensures stands { IfOk result (λ s. StandsFor s []) }
     {
-        if depth < 1 || depth > MOST_TASKS {
-            return Err(TaskFault::BadDepth);
-        }
-        let chain = Chain::with_room(alloc, depth as usize).map_err(|_| TaskFault::NoMemory)?;
-        Ok(LinkedTaskSet {
-            depth,
-            looked: 0,
-            covered_from: i64::MAX,
-            ascends: true,
-            ascends_to: i64::MAX,
-            marks: Marks::new(),
-            chain,
-        })
+        let tasks = LinkedTasks::open(alloc, depth)?;
+        Ok(LinkedTaskSet { tasks })
     }
 
     /// How many commands the set holds.
@@ -106,7 +68,7 @@ impl LinkedTaskSet {
         ensures order { InOrder self.now.list }
         ensures stands { (h : List Change) → StandsFor self.now h → result ≡ length (live h) }
     {
-        self.chain.len() as u32
+        self.tasks.len() as u32
     }
 
     /// The most commands that the set may hold.
@@ -114,7 +76,7 @@ impl LinkedTaskSet {
         ensures depth { result ≡ self.now.depth }
         ensures range { (1 ≤ self.now.depth) × (self.now.depth ≤ 1024) }
     {
-        self.depth
+        self.tasks.depth()
     }
 
     /// The command enters the set, behind all others: its ticket is greater than all before. And the oldest enabled
@@ -133,10 +95,10 @@ impl LinkedTaskSet {
             × StandsFor self.new (after_giving e.ticket (EnteredOne task ∷ h))) }
         ensures stands_full { (h : List Change) → StandsFor self.old h → OnErr result (StandsFor self.new h) }
     {
-        let is_alone = self.marks.is_none_new();
-        let taken = self.take_in(task, is_alone)?;
+        let is_alone = self.tasks.is_none_new();
+        let taken = self.tasks.take_in(task, is_alone)?;
         if !is_alone {
-            let ticket = self.next_new();
+            let ticket = self.tasks.next_new();
             return Ok(Entered {
                 slot: taken.slot,
                 ticket,
@@ -159,10 +121,8 @@ impl LinkedTaskSet {
         ensures stands { (h : List Change) → StandsFor self.old h →
             (result ≡ with_ticket ticket (live h)) × StandsFor self.new (after_leaving result h) }
     {
-        let slot = slot_of(&self.chain, ticket, slot)?;
-        let task = self.chain.at(slot).task;
-        let_go(&mut self.chain, &mut self.marks, slot);
-        Some(task)
+        let slot = self.tasks.slot_of(ticket, slot)?;
+        Some(self.tasks.let_go(slot))
     }
 
     /// The command with this ticket leaves if it is enabled, and the result tells whether it was. Else nothing changes.
@@ -176,13 +136,13 @@ impl LinkedTaskSet {
         ensures stands { (h : List Change) → StandsFor self.old h →
             StandsFor self.new (after_leaving (if result then with_ticket ticket (live h) else None) h) }
     {
-        let Some(slot) = slot_of(&self.chain, ticket, slot) else {
+        let Some(slot) = self.tasks.slot_of(ticket, slot) else {
             return false;
         };
-        if !self.chain.at(slot).enabled {
+        if !self.tasks.at(slot).enabled {
             return false;
         }
-        let_go(&mut self.chain, &mut self.marks, slot);
+        self.tasks.let_go(slot);
         true
     }
 
@@ -204,11 +164,7 @@ impl LinkedTaskSet {
         ensures stands { (h : List Change) → StandsFor self.old h →
             StandsFor self.new (after_all_left (filter (is_covered cover.now) (live h)) h) }
     {
-        if cover.is_below(self.covered_from) {
-            return;
-        }
-        remove_covered(&mut self.chain, &mut self.marks, self.ascends, cover, left);
-        self.renumber(cover);
+        self.tasks.leave_covered(cover, left);
     }
 
     /// The oldest enabled ticket that no call gave before.
@@ -221,72 +177,6 @@ impl LinkedTaskSet {
         ensures stands { (h : List Change) → StandsFor self.old h →
             (result ≡ next_after h) × StandsFor self.new (after_giving result h) }
     {
-        give_next(&mut self.chain, &mut self.marks)
+        self.tasks.next_new()
     }
-
-    /// The command enters behind all others. Where it `gives`, its ticket is given at once if it is enabled. Where the
-    /// set is full it comes back.
-    fn take_in(&mut self, task: Task, gives: bool) -> Result<Taken, Task>
-        requires { IsNewest task.ticket self.old }
-        ensures ok { IfOk result (λ taken. (length self.old.list < self.old.depth)
-            × (self.new ≡ taken_in self.old task taken.enabled (gives && taken.enabled))
-            × (entered_to self.old task ≡ taken_in self.old task taken.enabled false)) }
-        ensures full { OnErr result ((length self.old.list ≡ self.old.depth) × (self.new ≡ refused_by self.old)) }
-        ensures back { IfErr result (λ t. t ≡ task) }
-    {
-        let len = self.chain.len();
-        self.looked = 0;
-        if len == self.depth as usize {
-            return Err(task);
-        }
-        let enabled = test_free(&mut self.looked, &self.marks, len, task.attr);
-        self.covered_from = covered_from_with(self.covered_from, len, &task);
-        self.ascends = ascends_with(self.ascends, self.ascends_to, len, &task);
-        self.ascends_to = task.covered_from();
-        let given = gives && enabled;
-        let slot = push(&mut self.chain, &mut self.marks, task, enabled, given);
-        Ok(Taken { slot, enabled })
-    }
-
-    /// Determines anew from which number on functions may cover commands, once one has covered some or looked for them,
-    /// so that the next one like it needn't look along the set. Where they didn't go up along it they may do so now.
-    fn renumber(&mut self, cover: &Cover)
-        ensures { self.new ≡ self.old }
-    {
-        let Cover::Below { .. } = *cover else {
-            return;
-        };
-        if self.ascends {
-            self.covered_from = first_number(&self.chain);
-            return;
-        }
-        let numbers = numbers_along(&self.chain);
-        self.covered_from = numbers.least;
-        self.ascends = numbers.ascends;
-        self.ascends_to = numbers.most;
-    }
-}
-
-/// A command that was taken in.
-#[derive(Clone, Copy)]
-struct Taken {
-    slot: u16,
-    enabled: bool,
-}
-
-/// Whether a command is free, when it enters behind `len` others. Each such test is made here, and counted.
-fn test_free(looked: &mut u32, marks: &Marks, len: usize, attr: Attr) -> bool
-    requires { looked.old < 1 }
-    ensures value { result ≡ is_free_by marks.now len attr }
-    ensures looked { looked.new ≡ looked.old + 1 }
-{
-    *looked += 1;
-    marks.is_free_behind(len, attr)
-}
-
-/// The ticket of a command, if it is given.
-fn ticket_if(given: bool, task: &Task) -> Option<u64>
-    ensures { result ≡ ticket_if given task.now }
-{
-    if given { Some(task.ticket) } else { None }
 }

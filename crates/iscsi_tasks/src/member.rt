@@ -1,8 +1,5 @@
 //! A command within its set.
 
-ghost use Rattle.std.specs.Prelude.{◌≡◌};
-ghost use Rattle.iscsi_tasks.specs.Sets.{is_new};
-
 use crate::task::Task;
 
 /// A command of a set.
@@ -13,13 +10,4 @@ pub struct Member {
     pub(crate) enabled: bool,
     /// Whether its ticket was given as a new one.
     pub(crate) given: bool,
-}
-
-impl Member {
-    /// Whether it is enabled and its ticket wasn't given yet.
-    pub(crate) fn is_new(&self) -> bool
-        ensures { result ≡ is_new self.now }
-    {
-        self.enabled && !self.given
-    }
 }

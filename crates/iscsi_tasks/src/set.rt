@@ -3,23 +3,19 @@
 ghost use Rattle.std.specs.Prelude.{Err, ◌≡◌, ◌+◌, ◌<◌, ◌≤◌, ◌⊎◌, ◌↔◌, List, [], ◌∷◌, length, filter, slice_index_or, position, IsSome, Option, Some, false, All, IsTrue, IfSome, IfOk, IfErr, OnOk, OnErr};
 ghost use Rattle.iscsi_tasks.specs.Sets.{tasks_in, opened, InOrder, IsNewest, entered_to, refused_by, left_by, with_ticket, with_tag, first_covered, is_covered, covered_at, set_staying, is_enabled_in, is_enabled_with, next_in, given_by, StaysFree};
 ghost use Rattle.iscsi_tasks.specs.Changes.{Change, Entered, Left, AllBelow, StandsFor, live, IsEnabled, next_after, after_giving, after_leaving, after_all_left};
-ghost use Rattle.iscsi_tasks.specs.Counted.{is_free_behind, covered_from_with, covered_from_after};
+ghost use Rattle.iscsi_slots.specs.Queued.{queued};
+ghost use Rattle.iscsi_tasks.specs.declared.member.Member.{Member};
+ghost use Rattle.iscsi_tasks.specs.Linked.{IsInSlots};
 
-use crate::counts::Counts;
 use crate::cover::Cover;
 use crate::fault::TaskFault;
-use crate::member::Member;
-use crate::queue::{
-    covered_at, covered_from_in, enable_free, enabled_place, first_covered, give_next, place_of,
-    push, remove, remove_covered, with_tag,
-};
-use crate::roster::Roster;
-use crate::task::{Attr, Task};
+use crate::linked_tasks::LinkedTasks;
+use crate::task::{Task, ticket_if};
+use iscsi_slots::Order;
 use std::alloc::Global;
 use std::marker::Model;
 
-/// The most commands that a task set may hold.
-pub(crate) const MOST_TASKS: u32 = 1024;
+mod places;
 
 /// The commands of one logical unit that entered its task set and didn't leave it, and which of them the unit may
 /// execute (SAM-5).
@@ -29,40 +25,37 @@ pub(crate) const MOST_TASKS: u32 = 1024;
 /// it was free at some moment since it entered, a moment being after each entering and after each leaving. It stays
 /// enabled until it leaves.
 ///
-/// The set tests no command twice. Counts and the order of entering tell what a leaving enables, and tickets, which go
-/// up along the set, are found by halving. And it keeps a number below which no function covers a command, so that a
-/// function with a lower one looks at none.
+/// The set tests no command twice: what a leaving enables it knows by what it keeps of its commands. Tickets, which go
+/// up along it, are found by halving. And it keeps a number below which no function covers a command, so that a function
+/// with a lower one looks at none.
 pub struct TaskSet {
-    depth: u32,
-    looked: u32,
-    /// No function with a number below this one covers a command of the set.
-    covered_from: i64,
-    counts: Counts,
-    members: Roster,
+    tasks: LinkedTasks,
+    /// The slots of the commands in the order of entering, so that the command at a place is found at once.
+    order: Order,
+    /// The tickets of commands that left together, of which nobody asks.
+    left: Vec<u64>,
 }
 
 impl Drop for TaskSet {
     fn drop(self) {
         let TaskSet {
-            depth: _depth,
-            looked: _looked,
-            covered_from: _covered_from,
-            counts: _counts,
-            members: _members,
+            tasks: _tasks,
+            order: _order,
+            left: _left,
         } = self;
     }
 }
 
 impl Model for TaskSet {
-    ghost use Rattle.std.specs.Prelude.{◌≡◌};
+    ghost use Rattle.std.specs.Prelude.{vec_capacity};
     ghost use Rattle.iscsi_tasks.specs.Sets.{Members};
-    ghost use Rattle.iscsi_tasks.specs.Counted.{IsKept};
+    ghost use Rattle.iscsi_tasks.specs.Linked.{IsPlaced};
 
     ghost Value = { Members };
 
-    ghost view = { λ s. record { depth = s.depth; looked = s.looked; list = s.members.items } };
+    ghost view = { λ s. s.tasks.shown };
 
-    ghost invariant = { λ s. IsKept s.depth s.members.room s.covered_from s.counts s.members.items };
+    ghost invariant = { λ s. IsPlaced s.tasks s.order.items s.order.room (vec_capacity s.left) };
 }
 
 impl TaskSet {
@@ -74,17 +67,11 @@ impl TaskSet {
         ensures bad_depth { (result ≡ Err TaskFault.BadDepth) ↔ ((depth < 1) ⊎ (1024 < depth)) }
         ensures stands { IfOk result (λ s. StandsFor s []) }
     {
-        if depth < 1 || depth > MOST_TASKS {
-            return Err(TaskFault::BadDepth);
-        }
-        let members = Roster::with_room(alloc, depth as usize).map_err(|_| TaskFault::NoMemory)?;
-        Ok(TaskSet {
-            depth,
-            looked: 0,
-            covered_from: i64::MAX,
-            counts: Counts::new(),
-            members,
-        })
+        let tasks = LinkedTasks::open(alloc, depth)?;
+        let room = depth as usize;
+        let order = Order::with_room(alloc, room).map_err(|_| TaskFault::NoMemory)?;
+        let left = Vec::with_capacity(alloc, room).map_err(|_| TaskFault::NoMemory)?;
+        Ok(TaskSet { tasks, order, left })
     }
 
     /// How many commands the set holds.
@@ -94,7 +81,7 @@ impl TaskSet {
         ensures order { InOrder self.now.list }
         ensures stands { (h : List Change) → StandsFor self.now h → result ≡ length (live h) }
     {
-        self.members.len() as u32
+        self.tasks.len() as u32
     }
 
     /// The most commands that the set may hold.
@@ -102,7 +89,7 @@ impl TaskSet {
         ensures depth { result ≡ self.now.depth }
         ensures range { (1 ≤ self.now.depth) × (self.now.depth ≤ 1024) }
     {
-        self.depth
+        self.tasks.depth()
     }
 
     /// How many commands the last call of `enter` tested for being free: 1 where the command entered, and 0 where the
@@ -110,7 +97,7 @@ impl TaskSet {
     pub fn looked(&self) -> u32
         ensures { result ≡ self.now.looked }
     {
-        self.looked
+        self.tasks.looked()
     }
 
     /// The command enters the set, behind all others: its ticket is greater than all before. Where the set is full it
@@ -124,14 +111,8 @@ impl TaskSet {
             OnOk result (StandsFor self.new (Entered task ∷ h)) }
         ensures stands_full { (h : List Change) → StandsFor self.old h → OnErr result (StandsFor self.new h) }
     {
-        let len = self.members.len();
-        self.looked = 0;
-        if len == self.depth as usize {
-            return Err(task);
-        }
-        let enabled = test_free(&mut self.looked, &self.counts, len, task.attr);
-        self.covered_from = covered_from_with(self.covered_from, len, &task);
-        push(&mut self.members, &mut self.counts, task, enabled);
+        let taken = self.tasks.take_in(task, false)?;
+        self.order.push(taken.slot);
         Ok(())
     }
 
@@ -146,7 +127,7 @@ impl TaskSet {
             (result ≡ with_ticket ticket (live h)) × StandsFor self.new (after_leaving result h) }
         ensures stays_free { StaysFree }
     {
-        let at = place_of(&self.members, ticket, 0)?;
+        let at = self.place_of(ticket, 0)?;
         Some(self.take_out(at))
     }
 
@@ -172,11 +153,11 @@ impl TaskSet {
         ensures stands { (h : List Change) → StandsFor self.old h →
             (result ≡ first_covered cover.now (live h)) × StandsFor self.new (after_leaving result h) }
     {
-        if cover.is_below(self.covered_from) {
+        if !self.may_cover(cover) {
             return None;
         }
-        let Some(at) = first_covered(&self.members, cover) else {
-            self.covered_from = covered_from_after(self.covered_from, cover, &self.members);
+        let Some(at) = self.first_covered(cover) else {
+            self.tasks.renumber(cover);
             return None;
         };
         Some(self.take_out(at))
@@ -186,7 +167,7 @@ impl TaskSet {
     pub fn may_cover(&self, cover: &Cover) -> bool
         ensures none { result ≡ false → All (λ t. is_covered cover.now t ≡ false) (tasks_in self.now) }
     {
-        !cover.is_below(self.covered_from)
+        self.tasks.may_cover(cover)
     }
 
     /// The ticket of the command at this place, counted from the oldest, if it is covered.
@@ -194,24 +175,26 @@ impl TaskSet {
         ensures answer { result ≡ covered_at cover.now (tasks_in self.now) at }
         ensures stands { (h : List Change) → StandsFor self.now h → result ≡ covered_at cover.now (live h) at }
     {
-        covered_at(&self.members, at as usize, cover)
+        let task = self.task_at(at as usize)?;
+        ticket_if(cover.covers(&task), &task)
     }
 
     /// All covered commands leave, and what becomes enabled does so in one moment behind them. Where none is covered,
     /// nothing changes.
     ///
-    /// It looks at each command, and counts those that stay anew. It looks at none where `may_cover` is false.
+    /// It looks at each command that is covered or stays. It looks at none where `may_cover` is false.
     pub fn leave_covered(&mut self, cover: &Cover)
         ensures state { self.new ≡ set_staying (is_covered cover.now) self.old }
         // It is as if they left one after the other, the oldest first.
         ensures stands { (h : List Change) → StandsFor self.old h →
             StandsFor self.new (after_all_left (filter (is_covered cover.now) (live h)) h) }
     {
-        if cover.is_below(self.covered_from) {
+        if !self.may_cover(cover) {
             return;
         }
-        remove_covered(&mut self.members, &mut self.counts, cover);
-        self.covered_from = covered_from_after(self.covered_from, cover, &self.members);
+        self.left.clear();
+        self.tasks.leave_covered(cover, &mut self.left);
+        order_anew(&mut self.order, &self.tasks);
     }
 
     /// The place of the command with this ticket, counted from the oldest, if it is in the set and enabled.
@@ -224,7 +207,10 @@ impl TaskSet {
             with_ticket ticket (tasks_in self.now) ≡ Some (slice_index_or self.now.list k d).task)) }
         ensures since { (h : List Change) → StandsFor self.now h → IsSome result ↔ IsEnabled ticket h }
     {
-        let at = enabled_place(&self.members, ticket, guess)?;
+        let at = self.place_of(ticket, guess)?;
+        if !self.at(at).enabled {
+            return None;
+        }
         Some(at as u32)
     }
 
@@ -233,7 +219,10 @@ impl TaskSet {
         ensures answer { result ≡ is_enabled_in ticket self.now.list }
         ensures since { (h : List Change) → StandsFor self.now h → IsTrue result ↔ IsEnabled ticket h }
     {
-        enabled_place(&self.members, ticket, 0).is_some()
+        let Some(at) = self.place_of(ticket, 0) else {
+            return false;
+        };
+        self.at(at).enabled
     }
 
     /// The oldest command with this Initiator Task Tag.
@@ -243,7 +232,13 @@ impl TaskSet {
         ensures answer { result ≡ with_tag itt (tasks_in self.now) }
         ensures stands { (h : List Change) → StandsFor self.now h → result ≡ with_tag itt (live h) }
     {
-        with_tag(&self.members, itt)
+        for place in 0..self.len() as usize {
+            let task = self.at(place).task;
+            if task.itt == itt {
+                return Some(task);
+            }
+        }
+        None
     }
 
     /// The oldest enabled ticket that no call gave before.
@@ -256,7 +251,7 @@ impl TaskSet {
         ensures stands { (h : List Change) → StandsFor self.old h →
             (result ≡ next_after h) × StandsFor self.new (after_giving result h) }
     {
-        give_next(&mut self.members, &mut self.counts)
+        self.tasks.next_new()
     }
 
     /// The command at this place leaves.
@@ -264,42 +259,24 @@ impl TaskSet {
         requires { at < length self.old.list }
         ensures answer { (d : Member) → result ≡ (slice_index_or self.old.list at d).task }
         ensures state { self.new ≡ left_by self.old (Some result) }
+        ensures stands { (h : List Change) → StandsFor self.old h → StandsFor self.new (Left result.ticket ∷ h) }
     {
-        let task = self.members.at(at).task;
-        remove(&mut self.members, &mut self.counts, at);
-        enable_free(&mut self.members, &mut self.counts);
-        task
+        let slot = self.order.at(at);
+        self.order.remove(at);
+        self.tasks.let_go(slot)
     }
 }
 
-/// Whether a command is free, when it enters behind `len` others. Each such test is made here, and counted.
-fn test_free(looked: &mut u32, counts: &Counts, len: usize, attr: Attr) -> bool
-    requires { looked.old < 1 }
-    ensures value { result ≡ is_free_behind counts.now len attr }
-    ensures looked { looked.new ≡ looked.old + 1 }
+/// The order has these slots from now on.
+fn order_anew(order: &mut Order, tasks: &LinkedTasks)
+    requires sound { IsInSlots tasks.now }
+    requires room { tasks.now.shown.depth ≤ order.old.room }
+    ensures { order.new ≡ queued tasks.now.slots order.old.room }
 {
-    *looked += 1;
-    counts.is_free_behind(len, attr)
-}
-
-/// From which number on functions may cover commands of a set, once this one has entered it behind `len` others.
-pub(crate) fn covered_from_with(covered_from: i64, len: usize, task: &Task) -> i64
-    ensures { result ≡ covered_from_with covered_from len task.now }
-{
-    if len == 0 {
-        task.covered_from()
-    } else {
-        covered_from.min(task.covered_from())
-    }
-}
-
-/// From which number on functions may cover commands of a set, once this has covered none of them. For a function it is
-/// determined anew, so that the next one like it needn't look along the set.
-fn covered_from_after(covered_from: i64, cover: &Cover, members: &Roster) -> i64
-    ensures { result ≡ covered_from_after covered_from cover.now members.now.items }
-{
-    match *cover {
-        Cover::Below { .. } => covered_from_in(members),
-        _ => covered_from,
+    order.clear();
+    let mut slot = tasks.oldest();
+    for _ in 0..tasks.len() {
+        order.push(slot);
+        slot = tasks.after(slot);
     }
 }

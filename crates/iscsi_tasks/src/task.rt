@@ -2,6 +2,7 @@
 
 ghost use Rattle.std.specs.Prelude.{◌≡◌};
 ghost use Rattle.iscsi_tasks.specs.Rules.{is_head_of, is_ordered_of};
+ghost use Rattle.iscsi_tasks.specs.Sets.{ticket_if};
 ghost use Rattle.iscsi_tasks.specs.Counted.{covered_from};
 
 /// The task attribute of a command (SAM-5 section 8).
@@ -66,4 +67,11 @@ impl Task {
             self.pos.saturating_add(1)
         }
     }
+}
+
+/// The ticket of a command, if it is told.
+pub(crate) fn ticket_if(told: bool, task: &Task) -> Option<u64>
+    ensures { result ≡ ticket_if told task.now }
+{
+    if told { Some(task.ticket) } else { None }
 }

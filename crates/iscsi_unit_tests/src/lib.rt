@@ -13,7 +13,7 @@ mod live_commands;
 #[cfg(test)]
 mod logical_unit;
 #[cfg(test)]
-mod plain_scan;
+mod plain_set;
 #[cfg(test)]
 mod reply;
 #[cfg(test)]

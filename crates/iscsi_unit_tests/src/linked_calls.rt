@@ -1,4 +1,4 @@
-//! Linked task sets beside the plain ones, in calls at random.
+//! Both task sets beside a plain list, in calls at random.
 
 use crate::linked_set::{Both, DEPTH};
 use iscsi_tasks::{Attr, Cover, Task};
@@ -101,7 +101,7 @@ impl Calls {
         }
     }
 
-    /// One call on both, and whether they answer the same.
+    /// One call on all, and whether they answer the same.
     fn step(&mut self, grows: bool) -> bool {
         let random = self.random();
         let share = if grows { 11 } else { 4 };
@@ -130,12 +130,13 @@ impl Calls {
         };
         // Now and then tickets that are new wait for more calls.
         let gave = random / 256 % 4 == 0 || self.both.give_all();
-        agree && gave && self.both.agree()
+        let placed = random / 1024 % 16 != 0 || self.both.agree();
+        agree && gave && placed && self.both.are_as_long()
     }
 }
 
 #[test]
-fn linked_sets_answer_as_plain_ones_do(rt: HostRuntime) -> Result<(), Fail> {
+fn task_sets_answer_as_a_plain_list_does(rt: HostRuntime) -> Result<(), Fail> {
     for depth in [1, 2, 9, DEPTH] {
         for (ordered, heads) in [(0, 0), (16, 0), (0, 16), (24, 24), (128, 64)] {
             for strays in [false, true] {

@@ -1,7 +1,8 @@
-//! Linked task sets beside the plain ones, which close up and search: both answer the same after each of many calls.
+//! Both task sets beside a plain list of which the rules are asked anew: all answer the same after each of many calls.
 
 ghost use Rattle.std.specs.Prelude.{◌≡◌, ◌≤◌, vec_capacity};
 
+use crate::plain_set::PlainSet;
 use crate::task_set::{covered, enter, is_newest, shape_tasks};
 use iscsi_tasks::{Attr, Cover, LinkedTaskSet, Task, TaskFault, TaskSet};
 use std::alloc::Global;
@@ -10,11 +11,12 @@ use std::test::Fail;
 /// The greatest depth of a set here.
 pub(crate) const DEPTH: u32 = 300;
 
-/// The same commands, kept in two ways, and the slot that each got.
+/// The same commands in both task sets and in a plain list, and the slot that each got.
 #[derive(Drop)]
 pub(crate) struct Both {
     pub(crate) linked: LinkedTaskSet,
-    plain: TaskSet,
+    placed: TaskSet,
+    plain: PlainSet,
     /// For each ticket modulo 4,096 the slot of the command that entered last.
     slots: Vec<u16>,
     /// For each slot the ticket of the command that got it last.
@@ -27,7 +29,7 @@ pub(crate) struct Both {
     used: usize,
     /// The tickets of commands that left together.
     left: Vec<u64>,
-    ghost same: { linked ≡ plain },
+    ghost same: { linked ≡ placed },
     ghost roomy: { 1024 ≤ vec_capacity left },
 }
 
@@ -37,7 +39,8 @@ impl Both {
     {
         Ok(Both {
             linked: LinkedTaskSet::open(alloc, depth)?,
-            plain: TaskSet::open(alloc, depth)?,
+            placed: TaskSet::open(alloc, depth)?,
+            plain: PlainSet::open(alloc, depth)?,
             slots: vec![in alloc; 0; 4096]?,
             holders: vec![in alloc; 0; 1025]?,
             freed: vec![in alloc; 0; 1025]?,
@@ -83,31 +86,36 @@ impl Both {
         if let Some(noted) = self.holders.get_mut(usize::from(slot)) {
             *noted = ticket;
         }
-        // The command with this ticket itself entered the plain set before.
-        let is_free = holder != ticket && !is_member(&self.plain, holder);
+        // The command with this ticket itself entered the plain list before.
+        let is_free = holder != ticket && !self.plain.has(holder);
         let is_next = usize::from(slot) == self.next_slot();
         is_next && is_free && 1 <= slot && u32::from(slot) <= self.linked.depth()
     }
 
-    /// The command enters, if its ticket may be the newest one. It gets the slot that is next, and both give the same
+    /// The command enters, if its ticket may be the newest one. It gets the slot that is next, and all give the same
     /// ticket then.
     pub(crate) fn enter(&mut self, task: Task) -> bool {
-        if !is_newest(&self.plain, task.ticket) {
+        if !is_newest(&self.placed, task.ticket) {
             return false;
         }
-        match (self.linked.enter_and_give(task), self.plain.enter(task)) {
+        let is_taken = self.plain.enter(task);
+        match (self.linked.enter_and_give(task), self.placed.enter(task)) {
             (Ok(entered), Ok(())) => {
-                let gives_same = entered.ticket == self.plain.next_new();
-                self.note(task.ticket, entered.slot) && gives_same
+                let placed = self.placed.next_new();
+                let plain = self.plain.next_new();
+                let gives_same = entered.ticket == plain && placed == plain;
+                self.note(task.ticket, entered.slot) && gives_same && is_taken
             }
-            (Err(back), Err(plain)) => back == plain,
+            (Err(linked), Err(placed)) => linked == task && placed == task && !is_taken,
             _ => false,
         }
     }
 
     pub(crate) fn leave(&mut self, ticket: u64, slot: u16) -> bool {
-        let left = self.linked.leave(ticket, slot);
-        let agree = left == self.plain.leave(ticket);
+        let linked = self.linked.leave(ticket, slot);
+        let placed = self.placed.leave(ticket);
+        let left = self.plain.leave(ticket);
+        let agree = linked == left && placed == left;
         if left.is_some() {
             self.note_left(ticket);
         }
@@ -116,14 +124,15 @@ impl Both {
 
     pub(crate) fn leave_enabled(&mut self, ticket: u64, slot: u16) -> bool {
         let is_enabled = self.plain.is_enabled(ticket);
+        let agree = self.placed.is_enabled(ticket) == is_enabled;
+        if self.linked.leave_enabled(ticket, slot) {
+            self.placed.leave(ticket);
+        }
         if is_enabled {
             self.plain.leave(ticket);
-        }
-        let agree = self.linked.leave_enabled(ticket, slot) == is_enabled;
-        if is_enabled {
             self.note_left(ticket);
         }
-        agree
+        agree && self.are_as_long()
     }
 
     /// The covered commands leave, and `left` tells their tickets, the oldest one's first. `is_within` is for the
@@ -132,14 +141,15 @@ impl Both {
         let is_within = self.linked.len() <= self.linked.depth();
         self.left.clear();
         self.linked.leave_covered(cover, &mut self.left);
-        let agree = are_covered(&self.left, &self.plain, cover);
+        let agree = self.plain.are_covered(&self.left, cover);
+        self.placed.leave_covered(cover);
         self.plain.leave_covered(cover);
         for k in 0..self.left.len() {
             if let Some(&ticket) = self.left.get(k) {
                 self.note_left(ticket);
             }
         }
-        agree && is_within
+        agree && is_within && self.agree()
     }
 
     /// The covered commands leave together, and another set one by one. All hold and give the same then.
@@ -148,23 +158,23 @@ impl Both {
         for _ in 0..5 {
             apart.leave_first(cover);
         }
-        let all = Cover::All;
-        let same = covered(&self.plain, &all) == covered(apart, &all);
-        agree && same && self.gives(apart.next_new())
+        agree && self.plain.is_as(apart) && self.gives(apart.next_new())
     }
 
-    /// Both give this ticket.
+    /// All give this ticket.
     fn gives(&mut self, ticket: Option<u64>) -> bool {
         let linked = self.linked.next_new();
+        let placed = self.placed.next_new();
         let plain = self.plain.next_new();
-        linked == ticket && plain == ticket
+        linked == ticket && placed == ticket && plain == ticket
     }
 
-    /// Both give the same tickets, until there is none.
+    /// All give the same tickets, until there is none.
     pub(crate) fn give_all(&mut self) -> bool {
         for _ in 0..=DEPTH {
             let ticket = self.linked.next_new();
-            if ticket != self.plain.next_new() {
+            let placed = self.placed.next_new();
+            if placed != ticket || self.plain.next_new() != ticket {
                 return false;
             }
             if ticket.is_none() {
@@ -183,16 +193,7 @@ impl Both {
         let mut attrs = shape;
         let mut leaving = leavers;
         for k in 1..6 {
-            let ticket = before.wrapping_add(u64::from(k));
-            agree &= self.enter(Task {
-                ticket,
-                conn: 1,
-                itt: 0,
-                attr: [Attr::Simple, Attr::Ordered, Attr::Head][(attrs % 3) as usize],
-                immediate: false,
-                pos: i64::from(k),
-                event: ticket,
-            });
+            agree &= self.enter(numbered(before, k, attrs % 3));
             let leaver = leaving % (k + 1);
             if leaver > 0 {
                 let ticket = before.wrapping_add(u64::from(leaver));
@@ -206,35 +207,60 @@ impl Both {
         agree && self.give_all() && self.leave_covered(&Cover::All) && self.linked.len() == 0
     }
 
-    pub(crate) fn agree(&self) -> bool {
-        (self.linked.len(), self.linked.depth()) == (self.plain.len(), self.plain.depth())
-    }
-}
-
-/// Whether the set has a command with this ticket.
-fn is_member(set: &TaskSet, ticket: u64) -> bool {
-    let mut is_member = false;
-    for place in 0..set.len() {
-        is_member |= set.covered_at(place, &Cover::All) == Some(ticket);
-    }
-    is_member
-}
-
-/// Whether these are the tickets of the covered commands.
-fn are_covered(tickets: &[u64], set: &TaskSet, cover: &Cover) -> bool {
-    let mut agree = true;
-    let mut covered: usize = 0;
-    for place in 0..set.len() {
-        if let Some(ticket) = set.covered_at(place, cover) {
-            agree &= tickets.get(covered) == Some(&ticket);
-            covered = covered.wrapping_add(1);
+    /// Five commands enter as above, and then they leave: `order` is from 0 to 119, and says at each leaving how many
+    /// older commands stay.
+    fn run_out(&mut self, before: u64, shape: u32, order: u32) -> bool {
+        let mut agree = true;
+        let mut attrs = shape;
+        for k in 1..6 {
+            agree &= self.enter(numbered(before, k, attrs % 3)) && self.agree();
+            attrs /= 3;
         }
+        let mut leaving = order;
+        for left in 0..5 {
+            let place = leaving % (5 - left);
+            leaving /= 5 - left;
+            let ticket = self.plain.ticket_at(place as usize).unwrap_or(before);
+            let slot = self.slot_of(ticket);
+            agree &= self.leave(ticket, slot) && self.give_all() && self.agree();
+        }
+        agree && self.linked.len() == 0
     }
-    agree && tickets.len() == covered
+
+    /// All have as many commands.
+    pub(crate) fn are_as_long(&self) -> bool {
+        let len = self.plain.len();
+        self.linked.len() as usize == len
+            && self.placed.len() as usize == len
+            && self.linked.depth() == self.placed.depth()
+    }
+
+    /// All have as many commands, and the same ones are at the same places.
+    pub(crate) fn agree(&self) -> bool {
+        self.are_as_long() && self.plain.is_as(&self.placed)
+    }
+}
+
+/// The kth one of some commands with tickets behind this one.
+fn numbered(before: u64, k: u32, attr: u32) -> Task {
+    let ticket = before.wrapping_add(u64::from(k));
+    Task {
+        ticket,
+        conn: 1,
+        itt: 0,
+        attr: match attr {
+            0 => Attr::Simple,
+            1 => Attr::Ordered,
+            _ => Attr::Head,
+        },
+        immediate: false,
+        pos: i64::from(k),
+        event: ticket,
+    }
 }
 
 #[test]
-fn any_five_commands_leave_a_linked_set_as_a_plain_one(rt: HostRuntime) -> Result<(), Fail> {
+fn any_five_commands_leave_both_sets_as_a_plain_list(rt: HostRuntime) -> Result<(), Fail> {
     let mut both = Both::open(rt.alloc(), 5)?;
     let mut ticket: u64 = 0;
     for shape in 0..243 {
@@ -249,7 +275,20 @@ fn any_five_commands_leave_a_linked_set_as_a_plain_one(rt: HostRuntime) -> Resul
 }
 
 #[test]
-fn a_function_takes_out_of_a_linked_set_what_it_covers_in_any_order(
+fn five_commands_leave_both_sets_as_a_plain_list_in_any_order(rt: HostRuntime) -> Result<(), Fail> {
+    let mut both = Both::open(rt.alloc(), 5)?;
+    let mut ticket: u64 = 0;
+    for shape in 0..243 {
+        for order in 0..120 {
+            assert!(rt; both.run_out(ticket, shape, order), "{shape}, {order}");
+            ticket = ticket.wrapping_add(5);
+        }
+    }
+    Ok(())
+}
+
+#[test]
+fn a_function_takes_out_of_both_sets_what_it_covers_in_any_order(
     rt: HostRuntime,
 ) -> Result<(), Fail> {
     for shape in 0..1024 {

@@ -9,7 +9,7 @@ use Rattle.iscsi_tasks.specs.declared.task.Task.{Task}
 use Rattle.iscsi_tasks.specs.declared.member.Member.{Member}
 use Rattle.iscsi_tasks.specs.Sets.{is_covered}
 use Rattle.iscsi_tasks.specs.Counted.{IsAscending, covered_from}
-use Rattle.iscsi_tasks.specs.Rosters.{BLANK}
+use Rattle.iscsi_tasks.specs.Chains.{BLANK}
 use Rattle.iscsi_tasks.specs.Chains.{Chained, member_of}
 use Rattle.iscsi_tasks.specs.Marked.{covered_tickets}
 use Rattle.iscsi_tasks.proofs.PassingLemmas.{kept_yet, passed, yet_at, yet_inside, yet_without, yet_with, yet_all, tickets_more, tickets_all}

@@ -4,7 +4,7 @@ use Rattle.std.proofs.lemmas.List.{get_or_default}
 use Rattle.std.proofs.lemmas.List.Edits.{map_over_more}
 use Rattle.iscsi_slots.specs.Slots.{times}
 use Rattle.iscsi_tasks.specs.declared.member.Member.{Member}
-use Rattle.iscsi_tasks.specs.Rosters.{BLANK}
+use Rattle.iscsi_tasks.specs.Chains.{BLANK}
 use Rattle.iscsi_tasks.specs.Counted.{enabled_now}
 use Rattle.iscsi_tasks.specs.Chains.{Chained, chained}
 use Rattle.iscsi_tasks.proofs.ChainLemmas.{same_to_end}

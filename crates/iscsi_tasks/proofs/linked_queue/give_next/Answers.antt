@@ -4,7 +4,7 @@ use Rattle.std.proofs.lemmas.List.Quantifiers.{position-Some}
 use Rattle.iscsi_tasks.specs.declared.member.Member.{Member}
 use Rattle.iscsi_tasks.specs.Sets.{is_new}
 use Rattle.iscsi_tasks.specs.Counted.{given_now}
-use Rattle.iscsi_tasks.specs.Rosters.{BLANK}
+use Rattle.iscsi_tasks.specs.Chains.{BLANK}
 use Rattle.iscsi_tasks.specs.Chains.{Chained, chained}
 use Rattle.iscsi_tasks.specs.Marked.{IsMarked, IsFirstNew}
 use Rattle.iscsi_tasks.proofs.PlaceLemmas.{none_at_position}

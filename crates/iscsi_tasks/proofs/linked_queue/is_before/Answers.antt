@@ -1,7 +1,7 @@
 use Rattle.std.proofs.Common.{◌≡◌, ◌∙◌, ◌<◌, length, get_or, ap, sym, arith, ⊎_elim}
 use Rattle.std.proofs.lemmas.Bool.{cases_eq, cases_lt, ltb-true, ltb-false}
 use Rattle.iscsi_tasks.specs.declared.member.Member.{Member}
-use Rattle.iscsi_tasks.specs.Rosters.{BLANK}
+use Rattle.iscsi_tasks.specs.Chains.{BLANK}
 use Rattle.iscsi_tasks.proofs.ChainLemmas.{not_end}
 use Rattle.iscsi_tasks.proofs.MarkedLemmas.{some_at, within_some}
 use Rattle.iscsi_tasks.proofs.linked_queue.is_before.Goals as goal

@@ -4,7 +4,7 @@ use Rattle.iscsi_slots.proofs.SlotLemmas.{stands}
 use Rattle.iscsi_tasks.specs.declared.member.Member.{Member}
 use Rattle.iscsi_tasks.specs.declared.marks.Marks.{Marks}
 use Rattle.iscsi_tasks.specs.Counted.{is_ordered_in}
-use Rattle.iscsi_tasks.specs.Rosters.{BLANK}
+use Rattle.iscsi_tasks.specs.Chains.{BLANK}
 use Rattle.iscsi_tasks.specs.Chains.{Chained}
 use Rattle.iscsi_tasks.specs.Marked.{IsMarked, IsPastNone, left_by, moved_off}
 use Rattle.iscsi_tasks.proofs.MarkedLemmas.{past_none, one_head, marked_left}

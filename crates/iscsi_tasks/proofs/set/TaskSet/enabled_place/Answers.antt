@@ -1,40 +1,49 @@
-use Rattle.std.proofs.Common.{◌≡◌, ◌∙◌, ◌<◌, length, get_or, IfSome, ap, sym, subst, None, Some, false, true, position, Option, ℕ, IsSome}
+use Rattle.std.proofs.Common.{◌≡◌, ◌∙◌, ◌<◌, length, get_or, IfSome, arith, ap, sym, subst, Some, false, true, Option, ℕ, IsSome}
 use Rattle.iscsi_tasks.specs.declared.member.Member.{Member}
-use Rattle.iscsi_tasks.specs.Sets.{Members, tasks_in, with_ticket, is_enabled_with, is_enabled_in}
+use Rattle.iscsi_tasks.specs.Sets.{tasks_in, with_ticket}
 use Rattle.iscsi_tasks.specs.Changes.{IsEnabled}
-use Rattle.iscsi_tasks.proofs.SearchLemmas.{found, enabled_place_is}
+use Rattle.iscsi_tasks.specs.Chains.{member_of}
+use Rattle.iscsi_tasks.proofs.SearchLemmas.{found, enabled_read, not_enabled, enabled_nowhere, enabled_here}
 use Rattle.iscsi_tasks.proofs.EnabledLemmas.{enabled_is}
 use Rattle.iscsi_tasks.proofs.set.TaskSet.enabled_place.Goals as goal
 
+-- no command has the ticket
 pub returns-in_err-at-clause-answer : goal.returns-in_err-at-clause-answer
 returns-in_err-at-clause-answer c =
-    c.from_residual.ensures
-    ∙ enabled_place_is c.self.inside.members.items c.args.ticket None c.self.invariant.counted.order c.in_err-at.ensures
-    ∙ ap (λ (s : Members). position (is_enabled_with c.args.ticket) s.list) c.self.view_is
+    c.from_residual.ensures ∙ enabled_nowhere c.args.self.now.list c.args.ticket (not_enabled c.args.self.now.list c.args.ticket c.in_err-at.ensures.place)
 
 pub returns-in_err-at-clause-command : goal.returns-in_err-at-clause-command
 returns-in_err-at-clause-command c =
     subst (λ (r : Option ℕ). IfSome r (λ k. (k < length c.args.self.now.list) × ((d : Member) → with_ticket c.args.ticket (tasks_in c.args.self.now) ≡ Some (get_or c.args.self.now.list k d).task))) (sym c.from_residual.ensures) tt
 
-pub returns-clause-command : goal.returns-clause-command
-returns-clause-command c =
-    let list = c.self.inside.members.items in
-    let place = c.in_ok-at.ensures.0 in
-    let view : Members = record { depth = c.self.inside.depth; looked = c.self.inside.looked; list = list } in
-    subst (λ (s : Members). (c.in_ok-at.at < length s.list) × ((d : Member) → with_ticket c.args.ticket (tasks_in s) ≡ Some (get_or s.list c.in_ok-at.at d).task)) c.self.view_is
-    (let v : (c.in_ok-at.at < length view.list) × ((d : Member) → with_ticket c.args.ticket (tasks_in view) ≡ Some (get_or view.list c.in_ok-at.at d).task) = (place.0, λ d. found list c.self.invariant.counted.order c.args.ticket c.in_ok-at.at place.0 place.1 d) in v)
-
 pub returns-in_err-at-clause-since : goal.returns-in_err-at-clause-since
 returns-in_err-at-clause-since c = λ h st.
     subst (λ (r : Option ℕ). (IsSome r → IsEnabled c.args.ticket h) × (IsEnabled c.args.ticket h → IsSome r)) (sym c.from_residual.ensures)
-    (enabled_is c.args.self.now c.args.ticket false
-    (sym c.in_err-at.ensures ∙ ap (λ (s : Members). is_enabled_in c.args.ticket s.list) c.self.view_is) h st)
+    (enabled_is c.args.self.now c.args.ticket false (sym (not_enabled c.args.self.now.list c.args.ticket c.in_err-at.ensures.place)) h st)
+
+pub returns-then-not-at-clause-answer : goal.returns-then-not-at-clause-answer
+returns-then-not-at-clause-answer c =
+    let place = c.in_ok-at.ensures.place in
+    enabled_nowhere c.args.self.now.list c.args.ticket (sym (enabled_read c.args.self.now.list c.in_ok-at.ensures.order c.args.ticket c.in_ok-at.at place.0 place.1 (member_of c.at.result.now) c.at.ensures.member) ∙ c.if-not-at.true)
+
+pub returns-then-not-at-clause-since : goal.returns-then-not-at-clause-since
+returns-then-not-at-clause-since c =
+    let place = c.in_ok-at.ensures.place in
+    enabled_is c.args.self.now c.args.ticket false (sym c.if-not-at.true ∙ enabled_read c.args.self.now.list c.in_ok-at.ensures.order c.args.ticket c.in_ok-at.at place.0 place.1 (member_of c.at.result.now) c.at.ensures.member)
+
+pub overflow_cast-result : goal.overflow_cast-result
+overflow_cast-result c = let place = c.in_ok-at.ensures.place in let few = c.at.ensures.few in let within = place.0 in omega (arith, few, within)
 
 pub returns-clause-answer : goal.returns-clause-answer
 returns-clause-answer c =
-    enabled_place_is c.self.inside.members.items c.args.ticket (Some c.in_ok-at.at) c.self.invariant.counted.order c.in_ok-at.ensures
-    ∙ ap (λ (s : Members). position (is_enabled_with c.args.ticket) s.list) c.self.view_is
+    let place = c.in_ok-at.ensures.place in
+    let m : Member = member_of c.at.result.now in
+    enabled_here c.args.self.now.list c.in_ok-at.ensures.order c.args.ticket c.in_ok-at.at place.0 place.1 m (ap (λ (x : Member). x.enabled) (sym (c.at.ensures.member m)) ∙ c.if-not-at.false)
+
+pub returns-clause-command : goal.returns-clause-command
+returns-clause-command c = let place = c.in_ok-at.ensures.place in (place.0, λ d. found c.args.self.now.list c.in_ok-at.ensures.order c.args.ticket c.in_ok-at.at place.0 place.1 d)
 
 pub returns-clause-since : goal.returns-clause-since
 returns-clause-since c =
-    enabled_is c.args.self.now c.args.ticket true (sym c.in_ok-at.ensures.1 ∙ ap (λ (s : Members). is_enabled_in c.args.ticket s.list) c.self.view_is)
+    let place = c.in_ok-at.ensures.place in
+    enabled_is c.args.self.now c.args.ticket true (sym c.if-not-at.false ∙ enabled_read c.args.self.now.list c.in_ok-at.ensures.order c.args.ticket c.in_ok-at.at place.0 place.1 (member_of c.at.result.now) c.at.ensures.member)

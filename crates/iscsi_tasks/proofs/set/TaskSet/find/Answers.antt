@@ -1,12 +1,31 @@
-use Rattle.std.proofs.Common.{◌==◌, ◌∙◌, ap, sym}
-use Rattle.iscsi_tasks.specs.Sets.{Members, tasks_in, with_tag}
+use Rattle.std.proofs.Common.{◌==◌, ◌<◌, ◌∙◌, ℕ, Some, option_map, length, ap, sym, arith, eq-eqb}
+use Rattle.iscsi_tasks.specs.declared.member.Member.{Member}
+use Rattle.iscsi_tasks.specs.Sets.{with_tag}
+use Rattle.iscsi_tasks.specs.Chains.{member_of}
 use Rattle.iscsi_tasks.proofs.ListLemmas.{find-map}
+use Rattle.iscsi_tasks.proofs.PlaceLemmas.{place_is}
+use Rattle.iscsi_tasks.proofs.SearchLemmas.{find_place, find_nowhere}
 use Rattle.iscsi_tasks.proofs.set.TaskSet.find.Goals as goal
+
+pub returns-then-task-itt-clause-answer : goal.returns-then-task-itt-clause-answer
+returns-then-task-itt-clause-answer c =
+    let list = c.args.self.now.list in
+    let k : ℕ = c.loop-place.place in
+    let m : Member = member_of c.at.result.now in
+    let tagged = λ (x : Member). x.task.itt == c.args.itt in
+    let within : k < length list = omega arith in
+    let first = place_is tagged list k m within (λ j l. c.loop-place.invariant j m l) (ap tagged (sym (c.at.ensures.member m)) ∙ eq-eqb m.task.itt c.args.itt c.if-task-itt.true) in
+    ap (λ (x : Member). Some x.task) (c.at.ensures.member m)
+    ∙ sym (find-map (λ t. t.itt == c.args.itt) (λ (x : Member). x.task) list ∙ ap (option_map (λ (x : Member). x.task)) (find_place tagged list k m first within))
+
+pub returns-then-task-itt-clause-stands : goal.returns-then-task-itt-clause-stands
+returns-then-task-itt-clause-stands c = λ h st. returns-then-task-itt-clause-answer c ∙ ap (with_tag c.args.itt) st.tasks
 
 pub returns-clause-answer : goal.returns-clause-answer
 returns-clause-answer c =
-    c.with_tag.ensures ∙ sym (find-map (λ t. t.itt == c.args.itt) (λ m. m.task) c.self.inside.members.items)
-    ∙ ap (λ (s : Members). with_tag c.args.itt (tasks_in s)) c.self.view_is
+    let list = c.args.self.now.list in
+    sym (find-map (λ t. t.itt == c.args.itt) (λ (x : Member). x.task) list
+    ∙ ap (option_map (λ (x : Member). x.task)) (find_nowhere (λ (x : Member). x.task.itt == c.args.itt) list (λ j d l. c.loop-place.invariant j d (omega arith))))
 
 pub returns-clause-stands : goal.returns-clause-stands
 returns-clause-stands c = λ h st. returns-clause-answer c ∙ ap (with_tag c.args.itt) st.tasks

@@ -1,42 +1,46 @@
-use Rattle.std.proofs.Common.{◌≡◌, ◌<◌, ◌+◌, ◌∙◌, Some, List, length, map, ap, sym, subst, arith}
-use Rattle.std.proofs.lemmas.List.{length-map}
-use Rattle.std.proofs.lemmas.List.Edits.{length-remove}
-use Rattle.iscsi_tasks.specs.declared.member.Member.{Member}
-use Rattle.iscsi_tasks.specs.Sets.{Members, left_by, after_moment, without, looked_at}
-use Rattle.iscsi_tasks.specs.Counted.{IsSettled, IsCoveredFrom}
-use Rattle.iscsi_tasks.proofs.CoveredFromLemmas.{covered_from_left}
-use Rattle.iscsi_tasks.proofs.MomentLemmas.{settled_after}
-use Rattle.iscsi_tasks.proofs.SearchLemmas.{remove_is}
+use Rattle.std.proofs.Common.{◌≡◌, ◌∙◌, ◌<◌, Some, ℕ, List, length, get_or, ap, sym, subst, arith}
+use Rattle.std.specs.List.{remove}
+use Rattle.iscsi_slots.specs.Queued.{Queued}
+use Rattle.iscsi_tasks.specs.Sets.{Members, left_by}
+use Rattle.iscsi_tasks.specs.Changes.{StandsFor}
+use Rattle.iscsi_tasks.specs.Chains.{BLANK}
+use Rattle.iscsi_tasks.specs.Linked.{Linked, linked, IsPlaced}
+use Rattle.iscsi_tasks.proofs.MarkedLemmas.{some_at}
 use Rattle.iscsi_tasks.proofs.set.TaskSet.take_out.Goals as goal
 
--- the set after the moment is the set without the command
-after : (c : goal.After-enable_free) → c.enable_free.new.members.items ≡ after_moment (without c.at.result.now.task.ticket c.self.inside.members.items)
-after c =
-    let i = c.self.inside in
-    let d : Member = c.at.result.now in
-    let at : c.args.at < length i.members.items = subst (λ (s : Members). c.args.at < length s.list) (sym c.self.view_is) c.requires in
-    c.enable_free.ensures.items
-    ∙ ap after_moment (c.remove.ensures.items ∙ remove_is i.members.items c.args.at d c.self.invariant.counted.order at
-    ∙ ap (λ (m : Member). without m.task.ticket i.members.items) (sym (c.at.ensures d)))
+-- the slot at a place
+within : {l : Linked} {order : List ℕ} {order_room left_room : ℕ} (s : Members) (at : ℕ) → IsPlaced l order order_room left_room → l.shown ≡ s → at < length s.list → at < length l.slots
+within {l} s at placed same inside =
+    let long = placed.in_slots.long in
+    let here : at < length l.shown.list = subst (λ (x : Members). at < length x.list) (sym same) inside in
+    omega (arith, long, here)
+
+there : {l : Linked} {order : List ℕ} {order_room left_room : ℕ} (at slot : ℕ) → IsPlaced l order order_room left_room → slot ≡ get_or order at 0 → get_or l.slots at 0 ≡ slot
+there at slot placed is = sym (is ∙ ap (λ o. get_or o at 0) placed.same)
+
+pub let_go-requires : goal.let_go-requires
+let_go-requires c =
+    some_at c.self.inside.tasks.slots c.args.at c.at-slot.result (within c.args.self.now c.args.at c.self.invariant c.self.view_is c.requires)
+    (there c.args.at c.at-slot.result c.self.invariant c.at-slot.ensures)
+
+left : (c : goal.After-let_go) → c.let_go.new.self ≡ linked (left_by c.self.inside.tasks.shown (Some c.let_go.result)) (remove c.self.inside.tasks.slots c.args.at)
+left c = (c.let_go.ensures.state c.args.at BLANK (within c.args.self.now c.args.at c.self.invariant c.self.view_is c.requires) (there c.args.at c.at-slot.result c.self.invariant c.at-slot.ensures)).1
 
 pub invariant_of-self : goal.invariant_of-self
 invariant_of-self c =
-    let i = c.self.inside in
-    let at : c.args.at < length i.members.items = subst (λ (s : Members). c.args.at < length s.list) (sym c.self.view_is) c.requires in
-    let removed : length c.remove.new.members.items + 1 ≡ length i.members.items = ap (λ xs. length xs + 1) c.remove.ensures.items ∙ length-remove i.members.items c.args.at at in
-    let kept : length c.enable_free.new.members.items ≡ length c.remove.new.members.items = ap length c.enable_free.ensures.items ∙ length-map c.remove.new.members.items (looked_at c.remove.new.members.items) in
+    let depth = ap (λ (l : Linked). l.shown.depth) (left c) in
+    let room = ap (λ (q : Queued ℕ). q.room) c.remove.ensures in
+    let for_order = c.self.invariant.for_order in
+    let for_left = c.self.invariant.for_left in
     record {
-      least = c.self.invariant.least;
-      within = omega (arith, removed, kept, c.self.invariant.within);
-      room_left = omega (arith, c.self.invariant.room_left, c.enable_free.ensures.room, c.remove.ensures.room);
-      most = c.self.invariant.most;
-      counted = c.enable_free.ensures.counted;
-      settled = subst IsSettled (sym c.enable_free.ensures.items) (settled_after c.remove.new.members.items);
-      covered_from = subst (λ (list : List Member). IsCoveredFrom i.covered_from (map (λ m. m.task) list)) (sym (after c)) (covered_from_left i.covered_from i.members.items c.at.result.now.task.ticket c.self.invariant.covered_from);
+      in_slots = c.let_go.ensures.sound;
+      same = ap (λ (q : Queued ℕ). q.items) c.remove.ensures ∙ ap (λ o. remove o c.args.at) c.self.invariant.same ∙ sym (ap (λ (l : Linked). l.slots) (left c));
+      for_order = omega (arith, depth, room, for_order);
+      for_left = omega (arith, depth, for_left);
     }
 
 pub returns-clause-state : goal.returns-clause-state
-returns-clause-state c =
-    let i = c.self.inside in
-    subst (λ (s : Members). record { depth = i.depth; looked = i.looked; list = c.enable_free.new.members.items } ≡ left_by s (Some c.at.result.now.task)) c.self.view_is
-    (ap (λ l. record { depth = i.depth; looked = i.looked; list = l }) (after c))
+returns-clause-state c = ap (λ (l : Linked). l.shown) (left c) ∙ ap (λ (s : Members). left_by s (Some c.let_go.result)) c.self.view_is
+
+pub returns-clause-stands : goal.returns-clause-stands
+returns-clause-stands c = λ h st. c.let_go.ensures.stands h (subst (λ (s : Members). StandsFor s h) (sym c.self.view_is) st)

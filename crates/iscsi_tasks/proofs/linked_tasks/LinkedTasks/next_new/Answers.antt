@@ -1,0 +1,48 @@
+use Rattle.std.proofs.Common.{◌≡◌, ◌∙◌, Option, List, ℕ, length, map, ap, sym, subst, arith}
+use Rattle.std.proofs.lemmas.List.{length-map}
+use Rattle.iscsi_tasks.specs.declared.member.Member.{Member}
+use Rattle.iscsi_tasks.specs.Sets.{Members, given_by, given_in}
+use Rattle.iscsi_tasks.specs.Counted.{IsSettled, IsCoveredFrom, IsAscendingTo}
+use Rattle.iscsi_tasks.specs.Chains.{Chained}
+use Rattle.iscsi_tasks.specs.Linked.{Linked}
+use Rattle.iscsi_tasks.specs.Changes.{StandsFor, after_giving}
+use Rattle.iscsi_tasks.proofs.FrontLemmas.{ascending_given}
+use Rattle.iscsi_tasks.proofs.GivingLemmas.{tasks-given, settled-given, StandsFor-giving}
+use Rattle.iscsi_tasks.proofs.LinkedSetLemmas.{in_slots}
+use Rattle.iscsi_tasks.proofs.linked_tasks.LinkedTasks.next_new.Goals as goal
+
+pub invariant_of-self : goal.invariant_of-self
+invariant_of-self c =
+    let list = c.self.inside.chain.members in
+    let long : length (given_in list) ≡ length list = sym (length-map (given_in list) (λ m. m.task)) ∙ ap length (tasks-given list) ∙ length-map list (λ m. m.task) in
+    let kept : length c.give_next.new.chain.members ≡ length (given_in list) = ap length (ap (λ (v : Chained). v.members) c.give_next.ensures.state) in
+    let room = ap (λ (v : Chained). v.room) c.give_next.ensures.state in
+    record {
+      marked = c.give_next.ensures.marked;
+      kept = record {
+        kept = record {
+          least = c.self.invariant.kept.kept.least;
+          within = omega (arith, long, kept, c.self.invariant.kept.kept.within);
+          room_left = omega (arith, c.self.invariant.kept.kept.room_left, room);
+          most = c.self.invariant.kept.kept.most;
+          counted = c.give_next.ensures.marked.counted;
+          settled = subst IsSettled (sym (ap (λ (v : Chained). v.members) c.give_next.ensures.state)) (settled-given list c.self.invariant.kept.kept.settled);
+          covered_from = subst (IsCoveredFrom c.self.inside.covered_from) (sym (ap (map (λ m. m.task)) (ap (λ (v : Chained). v.members) c.give_next.ensures.state) ∙ tasks-given list)) c.self.invariant.kept.kept.covered_from;
+        };
+        front = λ yes. subst (IsAscendingTo c.self.inside.ascends_to) (sym (ap (λ (v : Chained). v.members) c.give_next.ensures.state)) (ascending_given c.self.inside.ascends_to list (c.self.invariant.kept.front yes));
+      };
+    }
+
+pub returns-clause-sound : goal.returns-clause-sound
+returns-clause-sound c = in_slots (invariant_of-self c)
+
+pub returns-clause-stands : goal.returns-clause-stands
+returns-clause-stands c = λ h st.
+    let i = c.self.inside in
+    let v : Members = record { depth = i.depth; looked = i.looked; list = i.chain.members } in
+    let same : v ≡ c.args.self.now.shown = (ap (λ (v : Linked). v.shown) c.self.view_is) in
+    let both = StandsFor-giving v h c.self.invariant.marked.counted.order (subst (λ (s : Members). StandsFor s h) (sym same) st) in (
+      c.give_next.ensures.ticket ∙ both.0,
+      subst (λ (l : List Member). StandsFor (record { depth = i.depth; looked = i.looked; list = l }) (after_giving c.give_next.result h)) (sym (ap (λ (v : Chained). v.members) c.give_next.ensures.state))
+          (subst (λ (o : Option ℕ). StandsFor (given_by v) (after_giving o h)) (sym c.give_next.ensures.ticket) both.1),
+    )
