@@ -73,7 +73,7 @@ module _ (i : Interface) (opening : IsOpening i) where
           fit = record {
             before = k.before;
             heard = k.heard;
-            event = record { fit = w.fit; steps = taken_steps i opening n r cid header is h early w e.steps; stale = w.stale; sent = w.sent; short = e.short; enabled = e.enabled; few = w.few; regular = w.regular; distinct = w.distinct; received = w.received; prompt = w.prompt; waits = w.waits };
+            event = record { fit = w.fit; steps = taken_steps i opening n r cid header is h early w e.steps; stale = w.stale; sent = w.sent; found = w.found; short = e.short; enabled = e.enabled; few = w.few; regular = w.regular; distinct = w.distinct; received = w.received; prompt = w.prompt; waits = w.waits };
           };
           taken = is;
           room = free i opening n s r st z h;

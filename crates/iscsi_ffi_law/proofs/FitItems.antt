@@ -233,6 +233,7 @@ module _ (i : Interface) where
             };
             enters = λ c is. fresh r item c below.0 behind.0 below.1 f.0 f.1 mid told marked behind.1 is;
             waited = left.0.waited;
+            leaves = left.0.leaves;
           },
           steps_fit items (side_behind i r item) next forms sounds of.2 sound.1.1 fits.1 (mid_item f.0 t b item f.1 mid) (λ c k. joined_moved c b.links (after_item i.outbox b es).links (moved_item i.outbox JoinsOn joins_close b es) (joins c k))
               (λ c k. closed_on c (item ∷ []) t (closes c k)) (omega (arith, sent, more)) (still r.told told) (still r.marked marked) left.1,
