@@ -70,7 +70,7 @@ none_enabled o t (ClosesConn conn ∷ ms) = none_enabled o t ms
 none_enabled o t (ClosesSession ∷ ms) = none_enabled o t ms
 none_enabled o t (Ignores why ∷ ms) = none_enabled o t ms
 
-item_enabled : (o : Setting) (t : Trace) (item : List Mark) → filter_map ticket_enabled (effects_of_item o t item) ≡ tickets_of (newly_enabled o t item)
+pub item_enabled : (o : Setting) (t : Trace) (item : List Mark) → filter_map ticket_enabled (effects_of_item o t item) ≡ tickets_of (newly_enabled o t item)
 item_enabled o t item =
     filter_map-append ticket_enabled (flat_map (effects_of_mark o t) item) (enables (newly_enabled o t item))
     ∙ ap (λ ks. ks ++ filter_map ticket_enabled (enables (newly_enabled o t item))) (none_enabled o t item) ∙ enabled_tickets (newly_enabled o t item)

@@ -1,17 +1,20 @@
 -- The event in which a request arrives that is taken: each of its items is fit.
-use Rattle.std.proofs.Common.{◌≡◌, ℕ, ◌+◌, ◌^◌, ◌≤◌, cond, Bool, true, false, List, [], ◌∷◌, None, ap, subst, arith, inl}
+use Rattle.std.proofs.Common.{◌≡◌, ℕ, ◌+◌, ◌^◌, ◌≤◌, cond, Bool, true, false, List, [], ◌∷◌, None, refl, ap, subst, arith, inl}
+use Rattle.iscsi_wire.specs.Fields.{request_of}
 use Rattle.iscsi_history.specs.declared.effect.Effect.{Effect}
 use Rattle.iscsi_history.specs.declared.event.Event.{Event}
 use Rattle.iscsi_history.specs.declared.event.Event.TheVariants.{Arrive}
 use Rattle.iscsi_history.specs.promises.Order.{in_parts}
-use Rattle.iscsi_history.specs.rules.Agenda.{items_of}
+use Rattle.iscsi_history.specs.rules.Agenda.{arrival_of, items_of}
 use Rattle.iscsi_history.specs.rules.Run.{effects_of}
-use Rattle.iscsi_history.specs.rules.Trace.{is_closed}
+use Rattle.iscsi_history.specs.rules.Trace.{Arrival, Command, is_closed, live, was_free}
 use Rattle.iscsi_history.proofs.CloseRuns.{event_sound}
+use Rattle.iscsi_history.proofs.ElementLemmas.{In}
 use Rattle.iscsi_history.proofs.FormRuns.{event_going as event_forms}
 use Rattle.iscsi_outbox_rules.specs.rules.Boxes.{Box}
 use Rattle.iscsi_outbox_rules.specs.rules.Calls as outbox
 use Rattle.iscsi_outbox_rules.specs.rules.Items.{after_item}
+use Rattle.iscsi_outbox_rules.specs.rules.Words.{contains}
 use Rattle.iscsi_outbox_rules.proofs.ClosedParts.{Parts, effects_each, event_parts}
 use Rattle.iscsi_outbox_rules.proofs.RoomSends.{Formed, event_going}
 use Rattle.iscsi_outbox_law.specs.Sound.{IsSound}
@@ -27,11 +30,15 @@ use Rattle.iscsi_ffi_law.proofs.FitFacts.{limits}
 use Rattle.iscsi_ffi_law.proofs.FitHolds.{Holds, arrival_read, holds_heard, joined_there}
 use Rattle.iscsi_ffi_law.proofs.FitItems.{Q, steps_fit}
 use Rattle.iscsi_ffi_law.proofs.FitJoined.{has_joined, joined_other}
+use Rattle.iscsi_ffi_law.proofs.FitLeaving.{AreLeavingFit, arrival_fit, mid_begun}
 use Rattle.iscsi_ffi_law.proofs.FitNumbers.{all_sends}
+use Rattle.iscsi_ffi_law.proofs.FitPhases.{AreFreed, freed_call}
 use Rattle.iscsi_ffi_law.proofs.FitReached.{sound_event, sound_reached}
 use Rattle.iscsi_ffi_law.proofs.FitRefusals.{taken_in}
+use Rattle.iscsi_ffi_law.proofs.FitReplied.{AreReplied}
 use Rattle.iscsi_ffi_law.proofs.FitSides.{event_sends}
 use Rattle.iscsi_ffi_law.proofs.QuietBox.{empty_item}
+use Rattle.iscsi_ffi_law.proofs.Turns.{becomes}
 
 module _ (i : Interface) (opening : IsOpening i) (n : ℕ) (r : Side) (cid : ℕ) (header : List ℕ) (is : refusal_of i r cid ≡ None) (h : Holds i n r) (early : r.both.event + 1 ≤ 2 ^ 30) where
   abbrev s : Side
@@ -63,8 +70,17 @@ module _ (i : Interface) (opening : IsOpening i) (n : ℕ) (r : Side) (cid : ℕ
       by_lead true y = subst (λ b. X b each) (empty_item i.outbox s.both.box sound) (without each y)
       by_lead false y = y
 
-  pub taken_steps : IsHeardFit i s cid header → AreStepsLeft i s (items_then i s cid header) → AreStepsFit i s (items_then i s cid header)
-  taken_steps w left =
+  -- what is known of the commands that leave
+  pub taken_leaves : IsHeardFit i s cid header → AreReplied r.both.event r.both.trace r.answers → AreFreed i.outbox r.both.trace r.both.box → ((c : Command) → In c (live r.both.trace) → contains r.told c.ticket ≡ was_free c r.both.trace) → AreLeavingFit i s (items_then i s cid header)
+  taken_leaves w replied freed told_is =
+      let a : Arrival = arrival_of i.outbox.session s.both.event s.both.trace (request_of cid header) in
+      let sound : IsSound i.outbox s.both.box = (sound_reached i.outbox (limits i opening).distinct s.both g.good.reached).0 in
+      let freed_then = freed_call i.outbox r.both.box (outbox.Hears cid (word_at 28 header) (tag_heard header)) r.both.trace tt freed in
+      arrival_fit i s (s.both.event + 1) a refl g.together.forms (items_then i s cid header) (becomes i.outbox.session s.both.trace a) (event_forms i.outbox.session s.both.event s.both.trace e g.together.forms) (by_parts (AreItemsFit i.outbox) (λ ps x. x.1) w.items)
+      (mid_begun i s replied freed_then g.told g.together.lives sound w.stale told_is)
+
+  pub taken_steps : IsHeardFit i s cid header → AreLeavingFit i s (items_then i s cid header) → AreStepsLeft i s (items_then i s cid header) → AreStepsFit i s (items_then i s cid header)
+  taken_steps w leaves left =
       let t = taken_in i r cid is in
       let joined = joined_other i.outbox r.both.box (outbox.Hears cid (word_at 28 header) (tag_heard header)) cid tt (joined_there i r cid t.joined) in
       let sends = event_sends i.outbox s.both.event s.both.trace e in
@@ -77,7 +93,7 @@ module _ (i : Interface) (opening : IsOpening i) (n : ℕ) (r : Side) (cid : ℕ
       (by_parts (SoundItems i.outbox) (λ ps x. x.1.1) (sound_event i.outbox (limits i opening).distinct s.both e (arrival_read i (limits i opening).distinct n r cid header is h) g.good.reached))
       (by_parts (AreItemsFit i.outbox) (λ ps x. x.1) w.items)
       (record { closed = g.together.closed; homes = g.together.homes; cuts = g.together.cuts; over = g.served.over; handed = g.placed.handed })
-      (λ c k. k) (λ c k. k) (let few = as_few parts.lead in omega (arith, few, same, sends, sent, early)) g.told g.marked left
+      (λ c k. k) (λ c k. k) (let few = as_few parts.lead in omega (arith, few, same, sends, sent, early)) g.told g.marked leaves left
     where
       as_few : (v : Bool) → all_sends each ≤ all_sends (cond v ([] ∷ each) each)
       as_few true = omega arith

@@ -137,6 +137,10 @@ mod FitTurns
 mod FitPrompt
 mod FitReceived
 mod FitOnce
+mod FitPhases
+mod FitReplied
+mod FitLasts
+mod FitLeaving
 mod FitItems
 mod FitEvents
 mod FitAll

@@ -7,21 +7,17 @@ use Rattle.iscsi_history.specs.rules.Trace.{Arrival, Executes, Mark, first_of, i
 use Rattle.iscsi_outbox_rules.specs.promises.Room.{places}
 use Rattle.iscsi_outbox_rules.specs.rules.Items.{reply_sent, ticket_enabled}
 use Rattle.iscsi_outbox_rules.specs.rules.Words.{replies_waiting}
-use Rattle.iscsi_outbox_law.specs.Pairs.{EachOf}
 use Rattle.iscsi_ffi_rules.specs.rules.Calls.{Arrives, Call, Interface, Loses}
-use Rattle.iscsi_ffi_rules.specs.rules.Happening.{leaving}
 use Rattle.iscsi_ffi_rules.specs.rules.Run.{after_call, heard_in, is_lost, refusal_of}
 use Rattle.iscsi_ffi_rules.specs.rules.Sides.{Side}
 use Rattle.iscsi_ffi_steps.specs.Steps.{Side as StepsSide, after, called, ended}
-use Rattle.iscsi_ffi_law.specs.Arrived.{IsLeavingFit, are_plain, effects_by, effects_then, is_first_waiting, items_then, side_behind}
+use Rattle.iscsi_ffi_law.specs.Arrived.{are_plain, effects_by, effects_then, is_first_waiting, items_then, side_behind}
 use Rattle.iscsi_ffi_law.specs.Lists.{Goes}
 
--- what is still premised of an item: where a reply goes out, there is a place for it; a function that has waited is the first one; what is known
--- of a command that leaves (`IsLeavingFit`)
+-- what is still premised of an item: where a reply goes out, there is a place for it; a function that has waited is the first one
 pub record IsStepLeft (i : Interface) (r : Side) (item : List Mark) : Type 0 where
   pub replies : (conn : ℕ) (reply : Reply) → first_of (filter_map reply_sent (effects_by i r item)) ≡ Some (conn, reply) → replies_waiting r.both.box < places i.outbox
   pub waited : (a : Arrival) → first_of item ≡ Some (Executes a) → list_any (λ (b : Arrival). b.event == a.event) (waiting r.both.trace) ≡ true → ((a.event == r.both.event) ≡ false) × is_first_waiting r.both.trace a
-  pub leaves : EachOf (IsLeavingFit i r item) (filter_map leaving item)
 
 abbrev pub AreStepsLeft : Interface → Side → List (List Mark) → Type 0
 AreStepsLeft i r [] = Unit {0}
