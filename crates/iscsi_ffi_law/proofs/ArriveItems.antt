@@ -50,7 +50,7 @@ use Rattle.iscsi_ffi_law.proofs.QuietRequests.{entered_on, requests_on}
 use Rattle.iscsi_ffi_law.proofs.Releases.{endings}
 use Rattle.iscsi_ffi_law.proofs.Releasing.{ending}
 use Rattle.iscsi_ffi_law.proofs.Slots.{slots_same}
-use Rattle.iscsi_ffi_law.proofs.Stepping.{GoesOn, IsCalm, last_then, links_then, links_unmoved, runs_then, stands_then}
+use Rattle.iscsi_ffi_law.proofs.Stepping.{GoesOn, IsCalm, ItemGoes, last_then, links_then, links_unmoved, plain_goes, runs_then, stands_then}
 use Rattle.iscsi_ffi_law.proofs.TailSends.{goes_sent, rejected_answering}
 use Rattle.iscsi_ffi_law.proofs.Turns.{IsDue}
 use Rattle.iscsi_ffi_law.proofs.Walking.{ends_with_it, walk_at}
@@ -143,7 +143,7 @@ module _ (i : Interface) (names : List Name) (notes : List Note) (distinct : are
       };
       outbox = refl;
       room = refl;
-      few = omega arith;
+      few = record { lives = omega arith; going = omega arith };
       links = links_unmoved r.both.box (after_item i.outbox r.both.box (effects_by i r item)) box_same;
       calm = subst (EachOf (IsCalm (side_behind i r item).both.box)) (sym effects_are) (tt, tt);
       walk = λ o limits acts first late rest led.
@@ -243,12 +243,13 @@ module _ (i : Interface) (names : List Name) (notes : List Note) (distinct : are
           outbox = later.outbox;
           room = later.room;
           few = omega (arith, later.few);
+          stops = later.stops;
           links = links_then r.both.box (side_behind i r admission).both.box (side_after i (side_behind i r admission) rest).both.box (links_unmoved r.both.box (after_item i.outbox r.both.box (effects_by i r admission)) box_still) later.links;
           calm = subst (λ es. EachOf (IsCalm (side_after i (side_behind i r admission) rest).both.box) (es ++ effects_of i.outbox.session (admission ∷ r.both.trace) rest)) (sym none_effects) later.calm;
-          walk = λ o limits acts first late.
+          walk = λ o limits acts first late room.
               ap (λ es. on_effects first (es ++ effects_of i.outbox.session (admission ∷ r.both.trace) rest) (walk_at o s1 acts [] None r.both.box.sent)) none_effects
               ∙ ap (λ (b : Box). on_effects first (effects_of i.outbox.session (admission ∷ r.both.trace) rest) (walk_at o s1 acts [] None b.sent)) (sym box_still)
-              ∙ later.walk o limits acts first (ap (λ v. first && v) prompt ∙ and_none first);
+              ∙ later.walk o limits acts first (ap (λ v. first && v) prompt ∙ and_none first) room;
         }
       where
         and_none : (v : Bool) → (v && false) ≡ false
@@ -259,12 +260,13 @@ module _ (i : Interface) (names : List Name) (notes : List Note) (distinct : are
 
   pub ignored_go : (s : State) (r : Side) (place : ℕ) (k : IsBetween i names notes s r (Some place) []) (why : Why) → AreStepsFit i r ((Ignores why ∷ []) ∷ []) → AllGo i names notes s r (Some place) [] ((Ignores why ∷ []) ∷ [])
   ignored_go s r place k why fit =
-      let g : GoesOn i names notes s r (Some place) [] (Ignores why ∷ []) = ignored_goes s r place k why fit.0 fit.1 in
+      let g : ItemGoes i names notes s r (Some place) [] (Ignores why ∷ []) = plain_goes i names notes s r (Some place) [] (Ignores why ∷ []) refl (ignored_goes s r place k why fit.0 fit.1) in
       goes_then i names notes s r (Some place) [] (Ignores why ∷ []) [] g (none_more i names notes distinct g.state (side_behind i r (Ignores why ∷ [])) g.ended g.between) refl
 
   pub rejected_go : (s : State) (r : Side) (place : ℕ) (k : IsBetween i names notes s r (Some place) []) (cid : ℕ) (reply : Reply) → AreStepsFit i r ((Sends cid reply ∷ []) ∷ []) → AllGo i names notes s r (Some place) [] ((Sends cid reply ∷ []) ∷ [])
   rejected_go s r place k cid reply fit =
-      let g : GoesOn i names notes s r (Some place) [] (Sends cid reply ∷ []) = goes_sent i names notes s r (Some place) [] k (Sends cid reply ∷ []) None cid r.both.event reply fit.0 distinct fit.1 (rejected_answering i names notes s r place [] k cid reply) in
+      let g : ItemGoes i names notes s r (Some place) [] (Sends cid reply ∷ [])
+      = plain_goes i names notes s r (Some place) [] (Sends cid reply ∷ []) refl (goes_sent i names notes s r (Some place) [] k (Sends cid reply ∷ []) None cid r.both.event reply fit.0 distinct fit.1 (rejected_answering i names notes s r place [] k cid reply)) in
       goes_then i names notes s r (Some place) [] (Sends cid reply ∷ []) [] g (none_more i names notes distinct g.state (side_behind i r (Sends cid reply ∷ [])) g.ended g.between) refl
 
   pub executed_go : (s : State) (r : Side) (place : ℕ) (k : IsBetween i names notes s r (Some place) []) (a : Arrival) (now : a.event ≡ r.both.event) (before : EachOf (λ (b : Arrival). b.event < r.both.event) (waiting r.both.trace)) (d : Deeds) (rest : List (List Mark)) → IsDone i.outbox.session r.both.trace AtArrival a d
@@ -273,7 +275,7 @@ module _ (i : Interface) (names : List Name) (notes : List Note) (distinct : are
   executed_go s r place k a now before d rest done due plain fit =
       let item : List Mark = Executes a ∷ marks_done a d in
       let parts = and_parts (list_all is_plain (Executes a ∷ marks_done a d)) (list_all (list_all is_plain) rest) plain in
-      let g : GoesOn i names notes s r (Some place) [] (Executes a ∷ marks_done a d)
+      let g : ItemGoes i names notes s r (Some place) [] (Executes a ∷ marks_done a d)
       = executed_goes i names notes distinct s r (Some place) [] k AtArrival a d parts.0 done fit.0 (first_sound i (side_behind i r item) rest fit.1) (arrival_headed i names notes s r place [] k a now before d.void d.entering d.reply) in
       goes_then i names notes s r (Some place) [] (Executes a ∷ marks_done a d) rest g
       (all_due i names notes distinct rest g.state (side_behind i r item) g.ended g.between due parts.1 fit.1)
@@ -284,6 +286,6 @@ module _ (i : Interface) (names : List Name) (notes : List Note) (distinct : are
       → (rest : List (List Mark)) → EachOn (IsDue i.outbox.session) ((Waits a ∷ []) ∷ r.both.trace) rest → list_all (list_all is_plain) rest ≡ true → AreStepsFit i r ((Waits a ∷ []) ∷ rest) → AllGo i names notes s r (Some place) [] ((Waits a ∷ []) ∷ rest)
   postponed_go s r place k a now before waits_before known all_wait one_waits rest due plain fit =
       let item : List Mark = Waits a ∷ [] in
-      let g : GoesOn i names notes s r (Some place) [] (Waits a ∷ [])
-      = postponed_goes i names notes distinct s r place k a now before waits_before known all_wait one_waits fit.0 (first_sound i (side_behind i r item) rest fit.1) in
+      let g : ItemGoes i names notes s r (Some place) [] (Waits a ∷ [])
+      = plain_goes i names notes s r (Some place) [] (Waits a ∷ []) refl (postponed_goes i names notes distinct s r place k a now before waits_before known all_wait one_waits fit.0 (first_sound i (side_behind i r item) rest fit.1)) in
       goes_then i names notes s r (Some place) [] (Waits a ∷ []) rest g (all_due i names notes distinct rest g.state (side_behind i r item) g.ended g.between due plain fit.1) (led_due i names notes distinct (item ∷ r.both.trace) rest due)

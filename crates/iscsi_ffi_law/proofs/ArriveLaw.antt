@@ -1,5 +1,5 @@
 -- A request arrives that has a place: both go on alike.
-use Rattle.std.proofs.Common.{◌≡◌, ℕ, ◌+◌, ◌<◌, not, cond, Bool, true, false, List, [], ◌∷◌, ◌++◌, Option, Some, None, refl, ap, sym, subst, ◌∙◌, arith}
+use Rattle.std.proofs.Common.{◌≡◌, ℕ, ◌+◌, ◌<◌, not, cond, Bool, true, false, List, [], ◌∷◌, ◌++◌, length, map, filter, Option, Some, None, refl, ap, sym, subst, ◌∙◌, arith}
 use Rattle.std.specs.List.{list_all}
 use Rattle.std.proofs.lemmas.Bool.{and_from, eq-eqb}
 use Rattle.iscsi_wire.specs.Fields.{connection_of, header_of, is_immediate, request_of}
@@ -12,9 +12,10 @@ use Rattle.iscsi_history.specs.declared.event.Event.TheVariants.{Arrive}
 use Rattle.iscsi_history.specs.rules.Execution.{rejected}
 use Rattle.iscsi_history.specs.rules.Management.{MOST_WAITING, waiting_on}
 use Rattle.iscsi_history.specs.rules.Run.{effects_of, effects_of_item}
-use Rattle.iscsi_history.specs.rules.Trace.{Admits, Arrival, Command, Executes, Ignores, Mark, Trace, Waits, is_received}
+use Rattle.iscsi_history.specs.rules.Trace.{Admits, Arrival, Command, Enters, Executes, Ignores, Leaves, Mark, Sends, Trace, Waits, entered, is_received}
 use Rattle.iscsi_history.proofs.BoolLemmas.{and_parts}
-use Rattle.iscsi_history.proofs.Forms.{AfterWaiting, AtArrival, AtTurn, Deeds, IsDone, Start, marks_done, start_mark}
+use Rattle.iscsi_history.proofs.Forms.{AfterWaiting, AtArrival, AtTurn, Deeds, IsDone, Start, if_some, marks_done, start_mark}
+use Rattle.iscsi_history.proofs.ElementLemmas.{filter-in}
 use Rattle.iscsi_history.proofs.NewlyLemmas.{newly-untouched}
 use Rattle.iscsi_outbox_rules.specs.rules.Run.{after_call}
 use Rattle.iscsi_outbox_rules.proofs.ClosedParts.{EachOn}
@@ -27,18 +28,20 @@ use Rattle.iscsi_ffi_steps.specs.State.{State}
 use Rattle.iscsi_ffi_steps.specs.Steps.{Going, arriving, changed, done, happens, hold, is_held_first}
 use Rattle.iscsi_ffi_law.specs.Arrived.{AreStepsFit, IsPlainArrival, arrive_call, arrived, is_plain, items_then, side_behind, starts_late}
 use Rattle.iscsi_ffi_law.specs.Names.{Name, Note}
+use Rattle.iscsi_ffi_law.specs.Parts.{IsCommand, IsLiveNamed, is_named}
 use Rattle.iscsi_ffi_law.proofs.ArriveItems.{arrived_unheld, executed_go, held_now, ignored_go, postponed_go, received_go, rejected_go}
 use Rattle.iscsi_ffi_law.proofs.ArriveOpens.{IsFoundAt}
 use Rattle.iscsi_ffi_law.proofs.Between.{IsBetween, pending_as}
 use Rattle.iscsi_ffi_law.proofs.DoneShape.{enables}
 use Rattle.iscsi_ffi_law.proofs.Ends.{GoesTo}
-use Rattle.iscsi_ffi_law.proofs.EventEnds.{IsEventOf}
+use Rattle.iscsi_ffi_law.proofs.EventEnds.{AreBegun, IsEventOf}
 use Rattle.iscsi_ffi_law.proofs.EventGoes.{first_between, outbox_first, parts}
-use Rattle.iscsi_ffi_law.proofs.EventLaw.{event_goes}
+use Rattle.iscsi_ffi_law.proofs.EventLaw.{event_goes, pairs_live}
 use Rattle.iscsi_ffi_law.proofs.EventRules.{admits_alone}
 use Rattle.iscsi_ffi_law.proofs.HeldNews.{enters_once}
-use Rattle.iscsi_ffi_law.proofs.ItemsGo.{AllGo, deeds_plain, side_after}
-use Rattle.iscsi_ffi_law.proofs.Plain.{plain_marks}
+use Rattle.iscsi_ffi_law.proofs.ItemsGo.{AllGo, deeds_plain, open_marks, side_after}
+use Rattle.iscsi_ffi_law.proofs.Marking.{named_first}
+use Rattle.iscsi_ffi_law.proofs.Members.{each_in, in_pairs}
 use Rattle.iscsi_ffi_law.proofs.Releases.{endings}
 use Rattle.iscsi_ffi_law.proofs.Releasing.{ending}
 use Rattle.iscsi_ffi_law.proofs.Turns.{Becomes, IsDue, IsExecuted, IsIgnored, IsPostponed, IsReceived, IsRejected, becomes}
@@ -58,23 +61,24 @@ due_alone i (item ∷ items) t due = and_from (admits_alone item) (list_all admi
     by_start AfterWaiting a ms = refl
 
 -- one command enters by each, if any does
-once_marks : (a : Arrival) (void : Option ℕ) (entering : Option Command) (reply : Option Reply) → enters_once (plain_marks a void entering reply) ≡ true
-once_marks a None None None = refl
-once_marks a None None (Some reply) = refl
-once_marks a None (Some c) None = refl
-once_marks a None (Some c) (Some reply) = refl
-once_marks a (Some n) None None = refl
-once_marks a (Some n) None (Some reply) = refl
-once_marks a (Some n) (Some c) None = refl
-once_marks a (Some n) (Some c) (Some reply) = refl
+once_left : (cs : List Command) (conn : ℕ) (entering : Option Command) (reply : Option Reply) → enters_once (map Leaves cs ++ (if_some Enters entering ++ if_some (Sends conn) reply)) ≡ true
+once_left [] conn None None = refl
+once_left [] conn None (Some reply) = refl
+once_left [] conn (Some c) None = refl
+once_left [] conn (Some c) (Some reply) = refl
+once_left (d ∷ cs) conn entering reply = once_left cs conn entering reply
+
+once_marks : (a : Arrival) (void : Option ℕ) (cs : List Command) (entering : Option Command) (reply : Option Reply) → enters_once (open_marks a void cs entering reply) ≡ true
+once_marks a None cs entering reply = once_left cs (connection_of a.request) entering reply
+once_marks a (Some n) cs entering reply = once_left cs (connection_of a.request) entering reply
 
 item_once : (start : Start) (a : Arrival) (d : Deeds) → list_all is_plain (start_mark start a ∷ marks_done a d) ≡ true → enters_once (start_mark start a ∷ marks_done a d) ≡ true
 item_once start a d plain = by_start start plain
   where
     by_start : (x : Start) → list_all is_plain (start_mark x a ∷ marks_done a d) ≡ true → enters_once (start_mark x a ∷ marks_done a d) ≡ true
-    by_start AtTurn k = ap enters_once (deeds_plain a d k) ∙ once_marks a d.void d.entering d.reply
-    by_start AtArrival k = ap enters_once (deeds_plain a d k) ∙ once_marks a d.void d.entering d.reply
-    by_start AfterWaiting k = ap enters_once (deeds_plain a d k) ∙ once_marks a d.void d.entering d.reply
+    by_start AtTurn k = ap enters_once (deeds_plain a d k) ∙ once_marks a d.void d.leaving d.entering d.reply
+    by_start AtArrival k = ap enters_once (deeds_plain a d k) ∙ once_marks a d.void d.leaving d.entering d.reply
+    by_start AfterWaiting k = ap enters_once (deeds_plain a d k) ∙ once_marks a d.void d.leaving d.entering d.reply
 
 due_once : (i : Interface) (items : List (List Mark)) (t : Trace) → EachOn (IsDue i.outbox.session) t items → list_all (list_all is_plain) items ≡ true → list_all enters_once items ≡ true
 due_once i [] t due plain = refl
@@ -116,6 +120,20 @@ module _ (i : Interface) (names : List Name) (notes : List Note) (s : State) (r 
     own_first = λ n is. refl;
   }
 
+  -- commands before it
+  begun_with : AreBegun i s r
+  begun_with = record {
+    few =
+        let lives = pairs_live names r s.commands.items (filter (is_named names) (entered r.both.trace)) f.requests.commands in
+        let named = ap length (named_first names r.both.trace (entered r.both.trace) f.requests.live_named) in
+        let few = f.fit.found in
+        omega (arith, lives, named, few);
+    freed = λ c there lives told.
+        let named : is_named names c ≡ true = each_in (IsLiveNamed names r.both.trace) (entered r.both.trace) c there f.requests.live_named lives in
+        let pair = in_pairs (IsCommand names r) s.commands.items (filter (is_named names) (entered r.both.trace)) c (filter-in (is_named names) (entered r.both.trace) c there named) f.requests.commands in
+        pair.2.freed told;
+  }
+
   abbrev lead : Bool
   lead = (parts i r e).lead
 
@@ -133,7 +151,6 @@ module _ (i : Interface) (names : List Name) (notes : List Note) (s : State) (r 
     sent = f.fit.sent;
     short = f.fit.short;
     enabled = f.fit.enabled;
-    plain = p.plain;
     prompt = prompt;
     few = f.fit.few;
     regular = f.fit.regular;
@@ -150,7 +167,7 @@ module _ (i : Interface) (names : List Name) (notes : List Note) (s : State) (r 
   not_held : is_held_first request (effects_of i.outbox.session r.both.trace (items_then i r cid header)) ≡ false → list_all admits_alone (items_then i r cid header) ≡ true → starts_late r.both.event (items_then i r cid header) ≡ false → list_all enters_once (items_then i r cid header) ≡ true → AllGo i names notes s0 r (Some place) [] (items_then i r cid header) → ArrivesTo
   not_held isnt alone prompt once go =
       subst (λ v. GoesTo i (done (cond v (happens i None e (changed (hold request place) begins)) (happens i (Some place) e begins))) (rules.done (happens_there i r e))) (sym isnt)
-      (event_goes i names notes s r (Some place) e (event_of alone prompt once) f.outbox go f.calm p.withheld)
+      (event_goes i names notes s r (Some place) e (event_of alone prompt once) begun_with f.outbox go f.calm p.withheld)
 
   over : (why : Why) → items_then i r cid header ≡ (Ignores why ∷ []) ∷ [] → ArrivesTo
   over why is =
@@ -207,7 +224,7 @@ module _ (i : Interface) (names : List Name) (notes : List Note) (s : State) (r 
     holds =
         subst (λ v. GoesTo i (done (cond v (happens i None e (changed (hold request place) begins)) (happens i (Some place) e begins))) (rules.done (happens_there i r e)))
         (sym (ap (λ ms. is_held_first request (effects_of i.outbox.session r.both.trace ms)) is ∙ held_first))
-        (event_goes i names notes held_state r None e (event_of (ap (list_all admits_alone) is ∙ due_alone i rest ((Admits a ∷ []) ∷ r.both.trace) due) (ap (starts_late r.both.event) is) (once_by ((Admits a ∷ []) ∷ rest) is (due_once i rest ((Admits a ∷ []) ∷ r.both.trace) due plain_rest))) f.outbox
+        (event_goes i names notes held_state r None e (event_of (ap (list_all admits_alone) is ∙ due_alone i rest ((Admits a ∷ []) ∷ r.both.trace) due) (ap (starts_late r.both.event) is) (once_by ((Admits a ∷ []) ∷ rest) is (due_once i rest ((Admits a ∷ []) ∷ r.both.trace) due plain_rest))) (record { few = begun_with.few; freed = begun_with.freed }) f.outbox
         (subst (AllGo i names notes (record held_state { outbox = outbox_first i r e lead s.outbox }) r None []) (sym is)
         (received_go i names notes f.fit.fit.distinct s0 r place first a refl f.before.admitted f.before.waiting new (f.fit.received rest is) steps.0 (behind_first rest steps.1) rest due (f.fit.prompt rest is) plain_rest steps.1)) f.calm p.withheld)
 

@@ -1,5 +1,6 @@
 -- A request is taken: its numbers are heard, and it has a place and a word.
 use Rattle.std.proofs.Common.{◌≡◌, ℕ, ◌+◌, ◌<◌, ◌==◌, ⊎_elim, not, cond, inl, inr, nat_le, Bool, true, false, List, [], ◌∷◌, ◌++◌, Some, None, refl, sym, ◌∙◌, arith}
+use Rattle.std.specs.List.{filter_map}
 use Rattle.std.proofs.lemmas.Bool.{cases_lt, false≢true, le-leb}
 use Rattle.iscsi_history.proofs.ElementLemmas.{In}
 use Rattle.iscsi_history.specs.rules.Settings.{is_known}
@@ -10,6 +11,7 @@ use Rattle.iscsi_outbox_rules.specs.rules.Queues.{at_link}
 use Rattle.iscsi_outbox_rules.specs.rules.Words.{may_take}
 use Rattle.iscsi_outbox_rules.specs.rules.Run.{after_call, link_heard}
 use Rattle.iscsi_outbox_law.specs.Stands.{Stands as OutboxStands}
+use Rattle.iscsi_outbox_law.proofs.PairLemmas.{each-weaken}
 use Rattle.iscsi_outbox_law.proofs.Hearing.{hears_stands}
 use Rattle.iscsi_outbox_law.proofs.TurningCount.{call_last}
 use Rattle.iscsi_outbox_steps.specs.State.{State as OutboxState}
@@ -19,11 +21,12 @@ use Rattle.iscsi_requests.specs.Numbers.{size_for}
 use Rattle.iscsi_ffi_rules.specs.rules.Calls.{Interface}
 use Rattle.iscsi_ffi_rules.specs.rules.Clearing.{next_withheld}
 use Rattle.iscsi_ffi_rules.specs.declared.refusal.Refusal.TheVariants.{Busy, Exhausted, NotJoined, UnknownConnection}
+use Rattle.iscsi_ffi_rules.specs.rules.Happening.{leaving}
 use Rattle.iscsi_ffi_rules.specs.rules.Run.{cids, heard_in, is_joined, kept_back, refusal_of, tag_heard, word_at}
 use Rattle.iscsi_ffi_rules.specs.rules.Sides.{Asked, Side}
 use Rattle.iscsi_ffi_steps.specs.State.{State}
 use Rattle.iscsi_ffi_steps.specs.Steps.{Side as StepsSide}
-use Rattle.iscsi_ffi_law.specs.Arrived.{AreBefore, AreStepsFit, IsArrivalFit, IsEventFit, IsFreshCommand, IsPlaced, items_then, side_behind}
+use Rattle.iscsi_ffi_law.specs.Arrived.{AreBefore, AreStepsFit, IsArrivalFit, IsEventFit, IsFreshCommand, IsLeavingFit, IsPlaced, items_then, side_behind}
 use Rattle.iscsi_ffi_law.specs.Names.{Name, Note, place_named}
 use Rattle.iscsi_ffi_law.specs.Parts.{AreFunctions, AreHeld}
 use Rattle.iscsi_ffi_law.specs.Stands.{AreCounts, AreFlags, AreRequests, AreSizes, Stands}
@@ -43,6 +46,7 @@ steps_asked i asked (item ∷ items) r h = (
     sends = h.0.sends;
     enters = λ c is. let k : IsFreshCommand r c = h.0.enters c is in record { unentered = k.unentered; unleft = k.unleft; untold = k.untold; unmarked = k.unmarked; idle = k.idle; unarrived = k.unarrived };
     waited = h.0.waited;
+    leaves = each-weaken (IsLeavingFit i r item) (IsLeavingFit i (record r { asked = asked }) item) (filter_map leaving item) (λ d k. record { held = k.held; waiting = k.waiting; unanswered = k.unanswered; runs = k.runs }) h.0.leaves;
   },
   steps_asked i asked items (side_behind i r item) h.1,
 )
@@ -109,7 +113,7 @@ module _ (i : Interface) (s : StepsSide) (r : Side) (h : Stands i s r) (cid : �
         withheld = h.withheld;
         calm = h.calm;
         before = record { asked = tt; answers = fit.before.answers; entered = fit.before.entered; admitted = fit.before.admitted; waiting = fit.before.waiting };
-        fit = record { fit = fit.event.fit; steps = steps_asked i (r.asked ++ record { event = r.both.event; cookie = cookie } ∷ []) (items_then i (heard_in i r cid header) cid header) (heard_in i r cid header) fit.event.steps; stale = fit.event.stale; sent = fit.event.sent; short = fit.event.short; enabled = fit.event.enabled; few = fit.event.few; regular = record { ascending = fit.event.regular.ascending; units = fit.event.regular.units }; distinct = fit.event.distinct; received = fit.event.received; prompt = fit.event.prompt; waits = fit.event.waits };
+        fit = record { fit = fit.event.fit; steps = steps_asked i (r.asked ++ record { event = r.both.event; cookie = cookie } ∷ []) (items_then i (heard_in i r cid header) cid header) (heard_in i r cid header) fit.event.steps; stale = fit.event.stale; sent = fit.event.sent; found = fit.event.found; short = fit.event.short; enabled = fit.event.enabled; few = fit.event.few; regular = record { ascending = fit.event.regular.ascending; units = fit.event.regular.units }; distinct = fit.event.distinct; received = fit.event.received; prompt = fit.event.prompt; waits = fit.event.waits };
         known = taken.0;
         events = taken.1;
       }

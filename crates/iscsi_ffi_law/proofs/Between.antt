@@ -95,6 +95,7 @@ pub record IsHeaded (i : Interface) (names : List Name) (notes : List Note) (s :
   pub fresh : endings xs place ≡ 0
   pub over : count_by (is_place place) held.places + count_lists (λ (f : WaitingFunction). f.request == place) functions.waiting ≡ 0
   pub by : StopReason
+  pub why : by ≡ reason_by a.request (Some place)
   pub walk : (o : OutboxState) → o.limits ≡ limits_of i.outbox → (acts : List Action) (first : Bool) (sent : ℕ) → (first && is_late r.both.event item) ≡ false → on_effect first (start_effect start a.request) (walk_at o s acts xs own sent) ≡ walk_in o (record s { held = held; functions = functions }) acts xs (Some place) None (Some by) sent
 
 -- ---- its turn comes
@@ -167,6 +168,7 @@ module _ (i : Interface) (names : List Name) (notes : List Note) (s : State) (r 
         let here : one (it_stands.place == it_stands.place) ≡ 1 = ap one (eq-eqb it_stands.place it_stands.place refl) in
         omega (arith, here, counted it_stands.place, k.slots.once it_stands.place, none_waits);
     by = reason_by a.request (Some (it_stands.place));
+    why = refl;
     walk = λ o limits acts first sent late. ap (λ (z : Option ℕ). record (walk_in o (record s { held = held_then size s.commands.room names notes k.requests.apart s r.both.trace k.slots k.distinct k.sizes.slots a is item turn }) acts xs z None (Some (reason_by a.request z)) sent) { own = None }) it_stands.slot;
   }
 
@@ -220,5 +222,6 @@ module _ (i : Interface) (names : List Name) (notes : List Note) (s : State) (r 
     fresh = ap (λ ys. endings ys place) (k.own_first place refl);
     over = k.own_unheld place refl;
     by = reason_by a.request (Some place);
+    why = refl;
     walk = λ o limits acts first sent late. refl;
   }

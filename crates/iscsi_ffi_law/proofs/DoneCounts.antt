@@ -3,13 +3,14 @@ use Rattle.std.proofs.Common.{◌≡◌, ℕ, zero, suc, ◌+◌, ◌<◌, ◌�
 use Rattle.std.specs.List.{flat_map, range_with_len}
 use Rattle.std.proofs.lemmas.Bool.{cases_eq, cases_lt, eq-eqb, false≢true, or_right}
 use Rattle.std.proofs.lemmas.List.Sums.{sum_by-append}
+use Rattle.iscsi_history.specs.rules.Run.{newly_enabled}
 use Rattle.iscsi_history.specs.rules.Settings.{Setting}
-use Rattle.iscsi_history.specs.rules.Trace.{Command, Trace, enabled_in, entered, has, leaves_ticket, live, was_free}
+use Rattle.iscsi_history.specs.rules.Trace.{Command, Mark, Trace, enabled_in, entered, has, leaves_ticket, live, was_free}
 use Rattle.iscsi_history.proofs.BoolLemmas.{and_false, and_parts}
 use Rattle.iscsi_history.proofs.CountLemmas.{one, count-cons, count-filter, count-weaker}
 use Rattle.iscsi_history.proofs.ElementLemmas.{In, filter-in, flat_map-in, in-filter, range-in}
 use Rattle.iscsi_outbox_law.specs.Pairs.{EachOf}
-use Rattle.iscsi_ffi_law.proofs.DoneShape.{done_trace, entered_same, free_still, left_too, news}
+use Rattle.iscsi_ffi_law.proofs.DoneShape.{done_item, done_trace, entered_same, free_still, left_too, news}
 use Rattle.iscsi_ffi_law.proofs.Kept.{count_members, count_nothing}
 use Rattle.iscsi_ffi_law.proofs.Members.{each_in}
 use Rattle.iscsi_ffi_law.proofs.Stopping.{count_sum}
@@ -57,6 +58,30 @@ of_units p f g cs each a (suc n) =
     let split = count_sum (λ (c : Command). is_within a (suc n) c.unit && g c) (λ (c : Command). (c.unit == a) && g c) (λ (c : Command). is_within (a + 1) n c.unit && g c) cs (λ c there. within_more a n c.unit (g c)) in
     omega (arith, rest, all, split, each a)
 
+-- those that an item enables
+module _ (o : Setting) (t : Trace) (item : List Mark) (units : EachOf (λ (c : Command). c.unit < o.units) (entered (item ∷ t))) where
+  unit_behind : (c : Command) → In c (live (item ∷ t)) → c.unit < o.units
+  unit_behind c there = each_in (λ (x : Command). x.unit < o.units) (entered (item ∷ t)) c (in-filter (λ (x : Command). not (has (leaves_ticket x.ticket) (item ∷ t))) (entered (item ∷ t)) c there).0 units
+
+  pub newly_counted : (p : Command → Bool) → count_by p (newly_enabled o t item) ≡ count_by (λ (c : Command). (was_free c (item ∷ t) && not (was_free c t)) && p c) (live (item ∷ t))
+  newly_counted p =
+      of_units p (λ unit. filter (λ c. not (was_free c t)) (enabled_in unit (item ∷ t))) (λ (c : Command). (was_free c (item ∷ t) && not (was_free c t)) && p c) (live (item ∷ t)) in_unit 0 o.units
+      ∙ count_members (λ (c : Command). is_within 0 o.units c.unit && ((was_free c (item ∷ t) && not (was_free c t)) && p c)) (λ (c : Command). (was_free c (item ∷ t) && not (was_free c t)) && p c) (live (item ∷ t))
+      (λ c there. ap (λ v. v && ((was_free c (item ∷ t) && not (was_free c t)) && p c)) (ap (λ v. not v && nat_lt c.unit (0 + o.units)) (le-ltb c.unit 0 (omega arith)) ∙ lt-ltb c.unit (0 + o.units) (let lt = unit_behind c there in omega (arith, lt))))
+    where
+      order : (u v w x : Bool) → (u && (v && (w && x))) ≡ (u && ((v && w) && x))
+      order false v w x = refl
+      order true false w x = refl
+      order true true w x = refl
+
+      in_unit : (u : ℕ) → count_by p (filter (λ c. not (was_free c t)) (enabled_in u (item ∷ t))) ≡ count_by (λ (c : Command). (c.unit == u) && ((was_free c (item ∷ t) && not (was_free c t)) && p c)) (live (item ∷ t))
+      in_unit u =
+          count-filter p (λ c. not (was_free c t)) (enabled_in u (item ∷ t))
+          ∙ count-filter (λ c. not (was_free c t) && p c) (λ c. was_free c (item ∷ t)) (filter (λ (c : Command). c.unit == u) (live (item ∷ t)))
+          ∙ count-filter (λ c. was_free c (item ∷ t) && (not (was_free c t) && p c)) (λ (c : Command). c.unit == u) (live (item ∷ t))
+          ∙ count_members (λ (c : Command). (c.unit == u) && (was_free c (item ∷ t) && (not (was_free c t) && p c))) (λ (c : Command). (c.unit == u) && ((was_free c (item ∷ t) && not (was_free c t)) && p c)) (live (item ∷ t))
+          (λ c there. order (c.unit == u) (was_free c (item ∷ t)) (not (was_free c t)) (p c))
+
 module _ (o : Setting) (t : Trace) (d : Command) (status : ℕ) where
   abbrev t' : Trace
   t' = done_trace t d status
@@ -71,23 +96,7 @@ module _ (o : Setting) (t : Trace) (d : Command) (status : ℕ) where
     unit_of c there = each_in (λ (x : Command). x.unit < o.units) (entered t) c (subst (In c) (entered_same t d status) (in-filter (λ (x : Command). not (has (leaves_ticket x.ticket) (done_trace t d status))) (entered (done_trace t d status)) c there).0) units
 
     pub news_counted : (p : Command → Bool) → count_by p (news o t d status) ≡ count_by (λ (c : Command). is_new c && p c) (live (done_trace t d status))
-    news_counted p =
-        of_units p (λ unit. filter (λ c. not (was_free c t)) (enabled_in unit (done_trace t d status))) (λ (c : Command). is_new c && p c) (live (done_trace t d status)) in_unit 0 o.units
-        ∙ count_members (λ (c : Command). is_within 0 o.units c.unit && (is_new c && p c)) (λ (c : Command). is_new c && p c) (live (done_trace t d status))
-        (λ c there. ap (λ v. v && (is_new c && p c)) (ap (λ v. not v && nat_lt c.unit (0 + o.units)) (le-ltb c.unit 0 (omega arith)) ∙ lt-ltb c.unit (0 + o.units) (let lt = unit_of c there in omega (arith, lt))))
-      where
-        order : (u v w x : Bool) → (u && (v && (w && x))) ≡ (u && ((v && w) && x))
-        order false v w x = refl
-        order true false w x = refl
-        order true true w x = refl
-
-        in_unit : (u : ℕ) → count_by p (filter (λ c. not (was_free c t)) (enabled_in u (done_trace t d status))) ≡ count_by (λ (c : Command). (c.unit == u) && (is_new c && p c)) (live (done_trace t d status))
-        in_unit u =
-            count-filter p (λ c. not (was_free c t)) (enabled_in u (done_trace t d status))
-            ∙ count-filter (λ c. not (was_free c t) && p c) (λ c. was_free c (done_trace t d status)) (filter (λ (c : Command). c.unit == u) (live (done_trace t d status)))
-            ∙ count-filter (λ c. was_free c (done_trace t d status) && (not (was_free c t) && p c)) (λ (c : Command). c.unit == u) (live (done_trace t d status))
-            ∙ count_members (λ (c : Command). (c.unit == u) && (was_free c (done_trace t d status) && (not (was_free c t) && p c))) (λ (c : Command). (c.unit == u) && (is_new c && p c)) (live (done_trace t d status))
-            (λ c there. order (c.unit == u) (was_free c (done_trace t d status)) (not (was_free c t)) (p c))
+    news_counted = newly_counted o t (done_item d status) (subst (EachOf (λ (c : Command). c.unit < o.units)) (sym (entered_same t d status)) units)
 
     -- one that it enables is among them
     pub in_news : (c : Command) → In c (live (done_trace t d status)) → was_free c (done_trace t d status) ≡ true → was_free c t ≡ false → In c (news o t d status)

@@ -1,6 +1,7 @@
 -- An event by the steps as by the rules, from the end of its items to that of the call.
-use Rattle.std.proofs.Common.{◌≡◌, ℕ, ◌+◌, ◌-◌, ◌*◌, ◌<◌, ◌≤◌, ◌==◌, ◌&&◌, ◌||◌, ◌^◌, cond, Bool, true, false, List, [], ◌∷◌, ◌++◌, length, map, count_by, filter, filter_map, Option, None, refl, ap, sym, subst, ◌∙◌, arith, lt-ltb, eq-eqb}
+use Rattle.std.proofs.Common.{◌≡◌, ℕ, ◌+◌, ◌-◌, ◌*◌, ◌<◌, ◌≤◌, ◌==◌, ◌&&◌, ◌||◌, ◌^◌, not, cond, Bool, true, false, List, [], ◌∷◌, ◌++◌, length, map, count_by, filter, filter_map, Option, None, refl, ap, sym, subst, ◌∙◌, arith, lt-ltb, eq-eqb, length-append}
 use Rattle.std.specs.List.{flat_map, list_all, list_any}
+use Rattle.std.proofs.lemmas.Bool.{eqb-true, false≢true, not-true}
 use Rattle.std.proofs.lemmas.List.{length-map}
 use Rattle.iscsi_wire.specs.Serial.{lift}
 use Rattle.iscsi_history.specs.declared.effect.Effect.{Effect}
@@ -10,10 +11,13 @@ use Rattle.iscsi_history.specs.promises.Order.{in_parts}
 use Rattle.iscsi_history.specs.rules.Agenda.{items_of}
 use Rattle.iscsi_history.specs.rules.Run.{effects_of, numbers_of}
 use Rattle.iscsi_history.specs.rules.Trace.{Command as RulesCommand, Mark, Trace, after_items, entered, has, leaves_ticket, live, was_free}
-use Rattle.iscsi_history.proofs.ElementLemmas.{In}
+use Rattle.iscsi_history.proofs.CountLemmas.{count-weaker}
+use Rattle.iscsi_history.proofs.ElementLemmas.{In, in-filter}
+use Rattle.iscsi_history.proofs.ListLemmas.{filter-shorter}
 use Rattle.iscsi_outbox_rules.specs.promises.Room.{places}
 use Rattle.iscsi_outbox_rules.specs.rules.Boxes.{Box, Task}
 use Rattle.iscsi_outbox_rules.specs.rules.Items.{after_event, after_items as box_after_items, phase_told, ticket_enabled}
+use Rattle.iscsi_outbox_rules.specs.rules.Words.{contains}
 use Rattle.iscsi_outbox_rules.proofs.ClosedParts.{effects_each}
 use Rattle.iscsi_outbox_law.specs.Commands.{link_in}
 use Rattle.iscsi_outbox_law.specs.Pairs.{EachOf}
@@ -27,17 +31,19 @@ use Rattle.iscsi_outbox_steps.specs.State.{Limits, State as OutboxState}
 use Rattle.iscsi_outbox_steps.specs.Steps.{after_items as steps_after_items, is_running_ticket, taken}
 use Rattle.iscsi_requests.specs.Conns.{of_conn}
 use Rattle.iscsi_ffi_commands.specs.declared.command.Command.{Command}
-use Rattle.iscsi_ffi_commands.specs.Commands.{is_live}
+use Rattle.iscsi_ffi_commands.specs.declared.command.Stage.{Stage}
+use Rattle.iscsi_ffi_commands.specs.declared.command.Stage.TheVariants.{Cleared, Entered, Marked, Over, Started}
+use Rattle.iscsi_ffi_commands.specs.Commands.{has_ticket, is_going, is_live}
 use Rattle.iscsi_ffi_rules.specs.declared.action.Action.{Action}
 use Rattle.iscsi_ffi_rules.specs.rules.Calls.{Interface}
-use Rattle.iscsi_ffi_rules.specs.rules.Happening.{answers_in, resets_in as resets_there, stepped}
+use Rattle.iscsi_ffi_rules.specs.rules.Happening.{answers_in, resets_in as resets_there, stepped, stops_in}
 use Rattle.iscsi_ffi_rules.specs.rules.Needs.{left_to_write}
 use Rattle.iscsi_ffi_rules.specs.rules.Run.{cids}
 use Rattle.iscsi_ffi_rules.specs.rules.Sides.{Side}
 use Rattle.iscsi_ffi_steps.specs.State.{State}
 use Rattle.iscsi_ffi_steps.specs.Steps.{reset_in, resets_in, start_each, takes, walk_from}
 use Rattle.iscsi_ffi_steps.specs.Walk.{Doing, Walk, in_state, on_effects, sweep, tell_all, touched_by}
-use Rattle.iscsi_ffi_law.specs.Arrived.{AreStepsFit, is_plain, starts_late}
+use Rattle.iscsi_ffi_law.specs.Arrived.{AreStepsFit, starts_late}
 use Rattle.iscsi_ffi_law.specs.Done.{IsRegular}
 use Rattle.iscsi_ffi_law.specs.Fit.{IsFit}
 use Rattle.iscsi_ffi_law.specs.Names.{Name, Note}
@@ -48,11 +54,12 @@ use Rattle.iscsi_ffi_law.proofs.Between.{IsBetween}
 use Rattle.iscsi_ffi_law.proofs.Core.{Core, all_released_core}
 use Rattle.iscsi_ffi_law.proofs.DonePhases.{runs_at, told_runs}
 use Rattle.iscsi_ffi_law.proofs.DoneShape.{tickets_of}
+use Rattle.iscsi_ffi_law.proofs.EventNews.{live_news, news_entered}
 use Rattle.iscsi_ffi_law.proofs.EventGoes.{box_parts, none_swept, outbox_first, outbox_parts, parts}
-use Rattle.iscsi_ffi_law.proofs.EventRules.{admits_alone, all_enabled, all_resets, few_resets, news_live, news_of, side_is}
+use Rattle.iscsi_ffi_law.proofs.EventRules.{admits_alone, all_enabled, all_resets, few_resets, news_of, side_is}
 use Rattle.iscsi_ffi_law.proofs.Flags.{is_used_place}
 use Rattle.iscsi_ffi_law.proofs.ItemsGo.{AllGo, side_after}
-use Rattle.iscsi_ffi_law.proofs.Members.{in_counted}
+use Rattle.iscsi_ffi_law.proofs.Members.{Paired, find_in, in_counted, pairs_in}
 use Rattle.iscsi_ffi_law.proofs.HeldNews.{enters_once}
 use Rattle.iscsi_ffi_law.proofs.Moved.{IsMoved, commands_known, requests_moved, run_same}
 use Rattle.iscsi_ffi_law.proofs.NameLemmas.{found_named}
@@ -63,6 +70,7 @@ use Rattle.iscsi_ffi_law.proofs.Sources.{cookie_named}
 use Rattle.iscsi_ffi_law.proofs.Staging.{HaveCommands}
 use Rattle.iscsi_ffi_law.proofs.Starting.{Starts, all_start}
 use Rattle.iscsi_ffi_law.proofs.StartsAfter.{starts_released}
+use Rattle.iscsi_ffi_law.proofs.StartsOver.{alive_start}
 use Rattle.iscsi_ffi_law.proofs.Stepping.{IsCalm}
 use Rattle.iscsi_ffi_law.proofs.Walking.{core_at, walk_at}
 
@@ -106,7 +114,6 @@ pub record IsEventOf (i : Interface) (r : Side) (e : Event) : Type 0 where
   pub sent : r.both.box.sent < 2 ^ 64 - 1
   pub short : length (items_of i.outbox.session r.both.event r.both.trace e) ≤ places i.outbox
   pub enabled : length (filter_map ticket_enabled (effects_of i.outbox.session r.both.trace (items_of i.outbox.session r.both.event r.both.trace e))) ≤ places i.outbox
-  pub plain : list_all (list_all is_plain) (items_of i.outbox.session r.both.event r.both.trace e) ≡ true
   pub prompt : starts_late r.both.event (items_of i.outbox.session r.both.event r.both.trace e) ≡ false
   pub few : length (live (stepped i r e).both.trace) ≤ places i.outbox
   pub regular : IsRegular i (stepped i r e)
@@ -115,7 +122,23 @@ pub record IsEventOf (i : Interface) (r : Side) (e : Event) : Type 0 where
   pub alone : list_all admits_alone (items_of i.outbox.session r.both.event r.both.trace e) ≡ true
   pub behind : IsSound i.outbox (side_after i r (items_of i.outbox.session r.both.event r.both.trace e)).both.box
 
-module _ (i : Interface) (names : List Name) (notes : List Note) (s : State) (r : Side) (own : Option ℕ) (e : Event) (fit : IsEventOf i r e) (k : OutboxStands i.outbox s.outbox r.both.box)
+-- what is known of commands before it
+pub record AreBegun (i : Interface) (s : State) (r : Side) : Type 0 where
+  pub few : count_by is_live s.commands.items ≤ places i.outbox
+  -- those that were told to start were free
+  pub freed : (c : RulesCommand) → In c (entered r.both.trace) → has (leaves_ticket c.ticket) r.both.trace ≡ false → contains r.told c.ticket ≡ true → was_free c r.both.trace ≡ true
+
+going_live : (c : Command) → is_going c ≡ true → is_live c ≡ true
+going_live c h = by_stage c.stage h
+  where
+    by_stage : (x : Stage) → elim x [ Entered ↦ false | Marked ↦ false | Started ↦ true | Cleared ↦ true | Over ↦ false ] ≡ true → elim x [ Entered ↦ true | Marked ↦ true | Started ↦ true | Cleared ↦ true | Over ↦ false ] ≡ true
+    by_stage Entered k = refl
+    by_stage Marked k = refl
+    by_stage Started k = refl
+    by_stage Cleared k = refl
+    by_stage Over k = absurd (false≢true k)
+
+module _ (i : Interface) (names : List Name) (notes : List Note) (s : State) (r : Side) (own : Option ℕ) (e : Event) (fit : IsEventOf i r e) (first : AreBegun i s r) (k : OutboxStands i.outbox s.outbox r.both.box)
     (go : AllGo i names notes (record s { outbox = outbox_first i r e (parts i r e).lead s.outbox }) r own [] (items_of i.outbox.session r.both.event r.both.trace e)) where
   abbrev pub items : List (List Mark)
   items = items_of i.outbox.session r.both.event r.both.trace e
@@ -196,8 +219,12 @@ module _ (i : Interface) (names : List Name) (notes : List Note) (s : State) (r 
 
   -- ---- what starts
 
+  -- what it enabled, and of that what is live
+  abbrev all_news : List RulesCommand
+  all_news = news_of i.outbox.session r.both.trace items
+
   abbrev pub ns : List RulesCommand
-  ns = news_of i.outbox.session r.both.trace items
+  ns = live_news i.outbox.session r.both.trace items
 
   abbrev pub side2 : Side
   side2 = record r { both = record { event = r.both.event + 1; trace = t'; box = box' }; answers = answers' }
@@ -205,20 +232,52 @@ module _ (i : Interface) (names : List Name) (notes : List Note) (s : State) (r 
   abbrev pub resets : List Action
   resets = flat_map (resets_there i.outbox) items
 
+  abbrev pub stops : List Action
+  stops = flat_map (stops_in r) items
+
   abbrev pub d3 : Doing
-  d3 = record { state = state2; actions = resets; forgets = [] }
+  d3 = record { state = state2; actions = stops ++ resets; forgets = [] }
 
   pub many : length ns ≤ places i.outbox
-  many = let same = ap length (all_enabled i.outbox.session r.both.trace items) in let long = length-map ns (λ (c : RulesCommand). c.ticket) in let few = fit.enabled in omega (arith, same, long, few)
+  many =
+      let same = ap length (all_enabled i.outbox.session r.both.trace items) in
+      let long = length-map all_news (λ (c : RulesCommand). c.ticket) in
+      let fewer = filter-shorter (λ (c : RulesCommand). not (has (leaves_ticket c.ticket) t')) all_news in
+      let few = fit.enabled in
+      omega (arith, same, long, fewer, few)
 
   pub wide : 21 * (places i.outbox) + 6 * length (cids i) ≤ 3 * go.state.room
   wide = let conns = length-map i.outbox.session.conns (λ (x : ℕ × ℕ). x.0) in let all = between_n.sizes.room in omega (arith, all, conns)
 
-  pub few_told : length resets ≤ places i.outbox
-  few_told = let few = few_resets i.outbox items in let short = fit.short in omega (arith, few, short)
+  pub few_reset : length resets ≤ places i.outbox
+  few_reset = let few = few_resets i.outbox items in let short = fit.short in omega (arith, few, short)
+
+  -- those that stop were live
+  pub few_stopped : length stops ≤ places i.outbox
+  few_stopped =
+      let stopped = go.stops in
+      let fewer = count-weaker is_going is_live s.commands.items going_live in
+      let few = first.few in
+      omega (arith, stopped, fewer, few)
+
+  few_told : length (stops ++ resets) ≤ 2 * places i.outbox
+  few_told = let long = length-append stops resets in omega (arith, few_reset, few_stopped, long)
+
+  pub few_ended : length go.ended ≤ 2 * places i.outbox
+  few_ended = let few = go.few in let short = fit.short in let lives = first.few in omega (arith, few, short, lives)
 
   pub news_are : (x : RulesCommand) → In x ns → In x (entered t') × (has (leaves_ticket x.ticket) t' ≡ false) × (was_free x t' ≡ true)
-  news_are x at = news_live i.outbox.session items r.both.trace fit.plain x at
+  news_are x at =
+      let y = in-filter (λ (c : RulesCommand). not (has (leaves_ticket c.ticket) t')) all_news x at in
+      let z = news_entered i.outbox.session items r.both.trace x y.0 in
+      (z.0, not-true (has (leaves_ticket x.ticket) t') y.1, z.1)
+
+  -- of all that it enabled just those that are live start
+  alive_starts : start_each (tickets_of all_news) d3 ≡ start_each (tickets_of ns) d3
+  alive_starts = alive_start (λ n. not (has (leaves_ticket n) t')) all_news d3 (λ x there dead c found.
+      let at = find_in (has_ticket x.ticket) state2.commands.items c found in
+      let d : Paired (IsCommand names side_e) c (filter (is_named names) (entered t')) = pairs_in (IsCommand names side_e) state2.commands.items (filter (is_named names) (entered t')) c at.0 requests2.commands in
+      d.pair.live ∙ ap (λ n. not (has (leaves_ticket n) t')) (sym d.pair.ticket ∙ eqb-true c.ticket x.ticket at.1) ∙ dead)
 
   pub q : Starts names side2 out' state2.commands.items ns d3 (start_each (tickets_of ns) d3)
   q = all_start names out' state2.commands.items ns side2 requests2.tickets requests2.live_named (λ x at. let y = news_are x at in record { there = y.0; lives = y.1; free = y.2 }) d3
@@ -238,7 +297,7 @@ module _ (i : Interface) (names : List Name) (notes : List Note) (s : State) (r 
   K = core_at go.state go.ended
 
   abbrev walked_to : Doing
-  walked_to = record { state = record go.state { outbox = s.outbox; cookies = K.cookies; commands = K.commands }; actions = []; forgets = K.forgets }
+  walked_to = record { state = record go.state { outbox = s.outbox; cookies = K.cookies; commands = K.commands }; actions = stops; forgets = K.forgets }
 
   sent_is : s.outbox.sent ≡ r.both.box.sent
   sent_is = let e' = k.numbers.sent in let lt = fit.sent in omega (arith, e', lt)
@@ -246,10 +305,10 @@ module _ (i : Interface) (names : List Name) (notes : List Note) (s : State) (r 
   walked : (on_effects true effects (walk_from own (record { state = s; actions = []; forgets = [] }))).doing ≡ walked_to
   walked =
       ap (λ n. (on_effects true effects (walk_at s.outbox (record s { outbox = outbox_first i r e (parts i r e).lead s.outbox }) [] [] own n)).doing) sent_is
-      ∙ ap (λ (w : Walk). w.doing) (go.walk s.outbox k.sizes.limits [] true fit.prompt)
+      ∙ ap (λ (w : Walk). w.doing) (go.walk s.outbox k.sizes.limits [] true fit.prompt (let same = go.room in omega (arith, few_stopped, wide, same)))
 
   abbrev taken_in : Doing
-  taken_in = record { state = record state2 { cookies = K.cookies; commands = K.commands }; actions = []; forgets = K.forgets }
+  taken_in = record { state = record state2 { cookies = K.cookies; commands = K.commands }; actions = stops; forgets = K.forgets }
 
   calm_links : EachOf (IsCalm box') effects
   calm_links = subst (λ (b : Box). EachOf (IsCalm (over b)) effects) (sym same_box) (subst (λ (x : Side). EachOf (IsCalm x.both.box) effects) (side_is i r items) (calm_over go.calm))
@@ -267,9 +326,9 @@ module _ (i : Interface) (names : List Name) (notes : List Note) (s : State) (r 
       by_lead true = refl
       by_lead false = refl
 
-  released : Released state2 resets (releases go.ended d3)
-  released = all_released state2 resets requests2.counted (commands_known names notes (λ p. ending None p + endings go.ended p) (λ q'. []) state2 side_e requests2) go.ended
-      (let few = go.few in let short = fit.short in omega (arith, few, short, wide)) (λ p. requests2.uses p ∙ (let plus : uses_of p state2 + (ending None p + endings go.ended p) ≡ uses_of p state2 + endings go.ended p = omega arith in plus))
+  released : Released state2 (stops ++ resets) (releases go.ended d3)
+  released = all_released state2 (stops ++ resets) requests2.counted (commands_known names notes (λ p. ending None p + endings go.ended p) (λ q'. []) state2 side_e requests2) go.ended
+      (omega (arith, few_ended, wide)) (λ p. requests2.uses p ∙ (let plus : uses_of p state2 + (ending None p + endings go.ended p) ≡ uses_of p state2 + endings go.ended p = omega arith in plus))
 
   live_used : (c : Command) → In c state2.commands.items → is_live c ≡ true → is_used_place state2 c.request ≡ true
   live_used c there lives =
@@ -282,11 +341,12 @@ module _ (i : Interface) (names : List Name) (notes : List Note) (s : State) (r 
       ap behind walked
       ∙ ap from_swept (none_swept i out' box' stands' fit.fit.distinct taken_in refl effects calm_links)
       ∙ ap (λ told. start_each (filter_map ticket_enabled effects) (tell_all told taken_in)) resets_are
-      ∙ ap (start_each (filter_map ticket_enabled effects)) (told_all resets taken_in (omega (arith, few_told, wide)))
-      ∙ ap (λ ks. start_each ks (record taken_in { actions = resets })) (all_enabled i.outbox.session r.both.trace items)
-      ∙ ap (start_each (tickets_of ns)) (sym (all_released_core go.ended d3))
-      ∙ starts_released state2 resets go.ended requests2.counted released (tickets_of ns) live_used (commands_known names notes (λ p. ending None p + endings go.ended p) (λ q'. []) state2 side_e requests2) requests2.numbered
-      (ap (λ (d : Doing). d.state.cookies) q.is) (ap (λ (d : Doing). d.state.room) q.is) (ap (λ (d : Doing). d.forgets) q.is)
+      ∙ ap (start_each (filter_map ticket_enabled effects)) (told_all resets taken_in (let long = length-append stops resets in omega (arith, few_told, wide, long)))
+      ∙ ap (λ ks. start_each ks (record taken_in { actions = stops ++ resets })) (all_enabled i.outbox.session r.both.trace items)
+      ∙ ap (start_each (tickets_of all_news)) (sym (all_released_core go.ended d3))
+      ∙ starts_released state2 (stops ++ resets) go.ended requests2.counted released (tickets_of all_news) live_used (commands_known names notes (λ p. ending None p + endings go.ended p) (λ q'. []) state2 side_e requests2) requests2.numbered
+      (ap (λ (d : Doing). d.state.cookies) (alive_starts ∙ q.is)) (ap (λ (d : Doing). d.state.room) (alive_starts ∙ q.is)) (ap (λ (d : Doing). d.forgets) (alive_starts ∙ q.is))
+      ∙ ap (releases go.ended) alive_starts
     where
       from_swept : Doing → Doing
       from_swept swept = start_each (filter_map ticket_enabled effects) (tell_all (resets_in swept.state effects) swept)

@@ -1,13 +1,12 @@
 -- An event goes by the steps as by the rules, with those that are withheld then.
 use Rattle.std.proofs.Common.{◌≡◌, ℕ, ◌+◌, ◌≤◌, ◌==◌, ◌&&◌, ◌||◌, Bool, count_by, inl, inr, not, cond, true, false, List, [], ◌∷◌, ◌++◌, length, map, filter, filter_map, Option, Some, None, refl, ap, sym, subst, ◌∙◌, arith, lt-ltb, eq-eqb, length-append}
-use Rattle.std.specs.List.{flat_map, list_all}
+use Rattle.std.specs.List.{flat_map}
 use Rattle.std.proofs.lemmas.Bool.{eqb-true, false≢true}
 use Rattle.std.proofs.lemmas.List.{length-map}
 use Rattle.iscsi_history.specs.declared.event.Event.{Event}
 use Rattle.iscsi_history.specs.rules.Agenda.{items_of}
 use Rattle.iscsi_history.specs.rules.Run.{entry_of}
-use Rattle.iscsi_history.specs.rules.Trace.{was_free, Admits, ClosesConn, ClosesSession, Command as RulesCommand, Delivers, Empties, Enters, Executes, Ignores, Leaves, Mark, Sends, Trace, Voids, Waits, after_items, entered, has, leaves_ticket, live}
-use Rattle.iscsi_history.proofs.BoolLemmas.{and_parts}
+use Rattle.iscsi_history.specs.rules.Trace.{was_free, Command as RulesCommand, Mark, Trace, after_items, entered, has, leaves_ticket, live}
 use Rattle.iscsi_history.proofs.CountLemmas.{one, count-cons}
 use Rattle.iscsi_history.proofs.ListLemmas.{filter-shorter}
 use Rattle.iscsi_outbox_rules.specs.rules.Words.{contains}
@@ -20,65 +19,43 @@ use Rattle.iscsi_outbox_law.specs.Stands.{Stands as OutboxStands}
 use Rattle.iscsi_ffi_rules.specs.declared.action.Action.{Action}
 use Rattle.iscsi_ffi_rules.specs.rules.Calls.{Interface}
 use Rattle.iscsi_ffi_rules.specs.rules.Clearing.{is_withheld, next_withheld}
-use Rattle.iscsi_ffi_rules.specs.rules.Happening.{Told, happening as happening_there, happens as happens_there, leaving, live_with, start as start_there, stops_in, withheld, withholding as withholding_there}
+use Rattle.iscsi_ffi_rules.specs.rules.Happening.{Told, happening as happening_there, happens as happens_there, live_with, start as start_there, stops_in, withheld, withholding as withholding_there}
 use Rattle.iscsi_ffi_rules.specs.rules.Run as rules
 use Rattle.iscsi_ffi_rules.specs.rules.Run.{cids}
 use Rattle.iscsi_ffi_rules.specs.rules.Sides.{Side}
 use Rattle.iscsi_ffi_steps.specs.State.{State}
 use Rattle.iscsi_ffi_steps.specs.Steps.{Going, done, happening, happens, start_each, takes, withholding}
 use Rattle.iscsi_ffi_steps.specs.Walk.{Doing}
-use Rattle.iscsi_ffi_law.specs.Arrived.{is_plain}
 use Rattle.iscsi_ffi_law.specs.Done.{AreDoneFit}
 use Rattle.iscsi_ffi_law.specs.Parts.{IsCommand, is_named}
 use Rattle.iscsi_ffi_law.specs.Uses.{is_used, uses_of}
 use Rattle.iscsi_ffi_law.specs.Names.{Name, Note}
 use Rattle.iscsi_ffi_law.specs.Stands.{AreRequests}
 use Rattle.iscsi_ffi_law.proofs.Between.{IsBetween, pending_as}
-use Rattle.iscsi_ffi_law.proofs.Ascending.{all_more, all_up, filtered_up, same_list}
+use Rattle.iscsi_ffi_law.proofs.Ascending.{all_more, all_up, filtered_up, same_list, times}
+use Rattle.iscsi_ffi_law.proofs.Asked.{find_nothing}
 use Rattle.iscsi_ffi_law.proofs.Commands.{one_command}
-use Rattle.iscsi_ffi_law.proofs.DoneChain.{chain, none_first}
+use Rattle.iscsi_ffi_law.proofs.DoneChain.{chain}
 use Rattle.iscsi_ffi_law.proofs.DoneHeld.{held_of}
 use Rattle.iscsi_ffi_law.proofs.DoneMid.{IsMid, requests_held}
-use Rattle.iscsi_ffi_law.proofs.DoneShape.{few_counted, tickets_of}
+use Rattle.iscsi_ffi_law.proofs.DoneShape.{tickets_of}
 use Rattle.iscsi_ffi_law.proofs.Ends.{EndsAlike, GoesTo}
-use Rattle.iscsi_ffi_law.proofs.EventEnds.{IsEventOf, between_n, d3, few_told, many, news_are, out', q, requests2, requests_started, resets, side2, side_e, side_n, stands', state2, takes_is, tracked', wide}
+use Rattle.iscsi_ffi_law.proofs.EventEnds.{AreBegun, IsEventOf, between_n, d3, few_ended, few_reset, few_stopped, news_are, out', q, requests2, requests_started, resets, side2, side_e, side_n, stands', state2, stops, takes_is, tracked', wide}
 use Rattle.iscsi_ffi_law.proofs.EventGoes.{outbox_first, parts}
+use Rattle.iscsi_ffi_law.proofs.EventNews.{few_news, live_news, same_counts}
 use Rattle.iscsi_ffi_law.proofs.EventRules.{all_enabled, news_of}
 use Rattle.iscsi_ffi_law.proofs.Flags.{is_used_place}
-use Rattle.iscsi_ffi_law.proofs.HeldNews.{all_held, withheld_left}
+use Rattle.iscsi_ffi_law.proofs.HeldNews.{held_counts, told_free}
 use Rattle.iscsi_ffi_law.proofs.ItemsGo.{AllGo}
 use Rattle.iscsi_ffi_law.proofs.Marking.{named_first}
 use Rattle.iscsi_ffi_law.proofs.Members.{find_in, in_counted, in_find}
-use Rattle.iscsi_ffi_law.proofs.QuietItems.{stops_none}
 use Rattle.iscsi_ffi_law.proofs.Moved.{commands_known}
 use Rattle.iscsi_ffi_law.proofs.Releases.{all_released, endings, releases}
 use Rattle.iscsi_ffi_law.proofs.Releasing.{Released, ending}
 use Rattle.iscsi_ffi_law.proofs.Starting.{Starts, all_inserted, starting_of, withheld_of}
 
--- nothing stops where nothing leaves
-none_leaving : (ms : List Mark) → list_all is_plain ms ≡ true → filter_map leaving ms ≡ []
-none_leaving [] h = refl
-none_leaving (Admits a ∷ ms) h = none_leaving ms h
-none_leaving (Delivers a ∷ ms) h = none_leaving ms h
-none_leaving (Executes a ∷ ms) h = none_leaving ms h
-none_leaving (Voids n ∷ ms) h = none_leaving ms h
-none_leaving (Empties a ∷ ms) h = none_leaving ms (and_parts false (list_all is_plain ms) h).1
-none_leaving (Waits a ∷ ms) h = none_leaving ms h
-none_leaving (Leaves c ∷ ms) h = absurd (false≢true h)
-none_leaving (Enters c ∷ ms) h = none_leaving ms h
-none_leaving (Sends conn reply ∷ ms) h = none_leaving ms h
-none_leaving (ClosesConn conn ∷ ms) h = none_leaving ms (and_parts false (list_all is_plain ms) h).1
-none_leaving (ClosesSession ∷ ms) h = none_leaving ms (and_parts false (list_all is_plain ms) h).1
-none_leaving (Ignores why ∷ ms) h = none_leaving ms h
-
-none_stop : (r : Side) (xs : List (List Mark)) → list_all (list_all is_plain) xs ≡ true → flat_map (stops_in r) xs ≡ []
-none_stop r [] h = refl
-none_stop r (item ∷ xs) h =
-    let p = and_parts (list_all is_plain item) (list_all (list_all is_plain) xs) h in
-    ap (λ ys. ys ++ flat_map (stops_in r) xs) (stops_none r item (none_leaving item p.0)) ∙ none_stop r xs p.1
-
 -- the commands that are live are so on both sides
-pairs_live : (names : List Name) (r : Side) (cs : List Command) (ds : List RulesCommand) → PairsOf (IsCommand names r) cs ds → length (filter (λ (d : RulesCommand). not (has (leaves_ticket d.ticket) r.both.trace)) ds) ≡ count_by is_live cs
+pub pairs_live : (names : List Name) (r : Side) (cs : List Command) (ds : List RulesCommand) → PairsOf (IsCommand names r) cs ds → length (filter (λ (d : RulesCommand). not (has (leaves_ticket d.ticket) r.both.trace)) ds) ≡ count_by is_live cs
 pairs_live names r [] [] pairs = refl
 pairs_live names r [] (d ∷ ds) pairs = absurd pairs
 pairs_live names r (c ∷ cs) [] pairs = absurd pairs
@@ -99,15 +76,19 @@ live_kept keep (c ∷ cs) kept = by_tests (live_kept keep cs (λ x there. kept x
     by_tests rest false is true is' = let here : one (is_live c) ≡ 0 = ap one is in omega (arith, rest, here, count-cons is_live c cs)
     by_tests rest false is false is' = let here : one (is_live c) ≡ 0 = ap one is in omega (arith, rest, here, count-cons is_live c cs)
 
-module _ (i : Interface) (names : List Name) (notes : List Note) (s : State) (r : Side) (own : Option ℕ) (e : Event) (fit : IsEventOf i r e) (k : OutboxStands i.outbox s.outbox r.both.box)
+module _ (i : Interface) (names : List Name) (notes : List Note) (s : State) (r : Side) (own : Option ℕ) (e : Event) (fit : IsEventOf i r e) (first : AreBegun i s r) (k : OutboxStands i.outbox s.outbox r.both.box)
     (go : AllGo i names notes (record s { outbox = outbox_first i r e (parts i r e).lead s.outbox }) r own [] (items_of i.outbox.session r.both.event r.both.trace e))
     (calm : next_withheld r ≡ None)
     (fits : let w = happening_there i r e in AreDoneFit i (length (live w.side.both.trace)) w) where
+  -- what it enabled, and of that what is live
+  abbrev all_news : List RulesCommand
+  all_news = news_of i.outbox.session r.both.trace (items_of i.outbox.session r.both.event r.both.trace e)
+
   abbrev news : List RulesCommand
-  news = news_of i.outbox.session r.both.trace (items_of i.outbox.session r.both.event r.both.trace e)
+  news = live_news i.outbox.session r.both.trace (items_of i.outbox.session r.both.event r.both.trace e)
 
   abbrev two : Side
-  two = side2 i names notes s r own e fit k go
+  two = side2 i names notes s r own e fit first k go
 
   abbrev t2 : Trace
   t2 = after_items (items_of i.outbox.session r.both.event r.both.trace e) r.both.trace
@@ -116,27 +97,42 @@ module _ (i : Interface) (names : List Name) (notes : List Note) (s : State) (r 
   marks = items_of i.outbox.session r.both.event r.both.trace e
 
   abbrev told : List Action
-  told = resets i names notes s r own e fit k go ++ map (start_there two) (starting_of two news)
+  told = (stops i names notes s r own e fit first k go ++ resets i names notes s r own e fit first k go) ++ map (start_there two) (starting_of two news)
 
   -- ---- the rules
 
   found_live : (x : RulesCommand) → In x news → live_with t2 x.ticket ≡ Some x
   found_live x at =
-      let n = news_are i names notes s r own e fit k go x at in
+      let n = news_are i names notes s r own e fit first k go x at in
       let there = filter-in (λ (d : RulesCommand). not (has (leaves_ticket d.ticket) t2)) (entered t2) x n.0 (ap not n.1) in
       let y = in_find (λ (d : RulesCommand). d.ticket == x.ticket) (live t2) x there (eq-eqb x.ticket x.ticket refl) in
       let found = find_in (λ (d : RulesCommand). d.ticket == x.ticket) (live t2) y.0 y.1 in
       let g = in-filter (λ (d : RulesCommand). not (has (leaves_ticket d.ticket) t2)) (entered t2) y.0 found.0 in
-      let same : y.0 ≡ x = one_command (entered t2) y.0 x (requests2 i names notes s r own e fit k go).tickets g.0 n.0 (eqb-true y.0.ticket x.ticket found.1) in
+      let same : y.0 ≡ x = one_command (entered t2) y.0 x (requests2 i names notes s r own e fit first k go).tickets g.0 n.0 (eqb-true y.0.ticket x.ticket found.1) in
       y.1 ∙ ap (λ (d : RulesCommand). Some d) same
 
-  all_found : (ms : List RulesCommand) → ((x : RulesCommand) → In x ms → live_with t2 x.ticket ≡ Some x) → filter_map (live_with t2) (tickets_of ms) ≡ ms
+  -- one that left isn't found
+  none_found : (k : ℕ) → has (leaves_ticket k) t2 ≡ true → live_with t2 k ≡ None
+  none_found k left = find_nothing (λ (d : RulesCommand). d.ticket == k) (live t2) (λ d there. by_test d there (d.ticket == k) refl)
+    where
+      by_test : (d : RulesCommand) → In d (live t2) → (v : Bool) → (d.ticket == k) ≡ v → v ≡ false
+      by_test d there false is = refl
+      by_test d there true is = absurd (false≢true (ap not (sym (ap (λ n. has (leaves_ticket n) t2) (eqb-true d.ticket k is) ∙ left)) ∙ (in-filter (λ (x : RulesCommand). not (has (leaves_ticket x.ticket) t2)) (entered t2) d there).1))
+
+  all_found : (ms : List RulesCommand) → ((x : RulesCommand) → In x ms → has (leaves_ticket x.ticket) t2 ≡ false → live_with t2 x.ticket ≡ Some x) → filter_map (live_with t2) (tickets_of ms) ≡ filter (λ (x : RulesCommand). not (has (leaves_ticket x.ticket) t2)) ms
   all_found [] each = refl
-  all_found (m ∷ ms) each = ap (λ x. add x (filter_map (live_with t2) (tickets_of ms))) (each m (inl refl)) ∙ ap (λ xs. m ∷ xs) (all_found ms (λ x at. each x (inr at)))
+  all_found (m ∷ ms) each = by_left (has (leaves_ticket m.ticket) t2) refl (all_found ms (λ x at. each x (inr at)))
     where
       add : Option RulesCommand → List RulesCommand → List RulesCommand
       add None xs = xs
       add (Some x) xs = x ∷ xs
+
+      others : List RulesCommand
+      others = filter (λ (x : RulesCommand). not (has (leaves_ticket x.ticket) t2)) ms
+
+      by_left : (v : Bool) → has (leaves_ticket m.ticket) t2 ≡ v → filter_map (live_with t2) (tickets_of ms) ≡ others → filter_map (live_with t2) (tickets_of (m ∷ ms)) ≡ cond (not (has (leaves_ticket m.ticket) t2)) (m ∷ others) others
+      by_left true is rest = ap (λ x. add x (filter_map (live_with t2) (tickets_of ms))) (none_found m.ticket is) ∙ rest ∙ ap (λ v. cond (not v) (m ∷ others) others) (sym is)
+      by_left false is rest = ap (λ x. add x (filter_map (live_with t2) (tickets_of ms))) (each m (inl refl) is) ∙ ap (λ xs. m ∷ xs) rest ∙ ap (λ v. cond (not v) (m ∷ others) others) (sym is)
 
   abbrev side3 : Side
   side3 = record two { told = r.told ++ tickets_of (starting_of two news) }
@@ -144,21 +140,20 @@ module _ (i : Interface) (names : List Name) (notes : List Note) (s : State) (r 
   rules_are : happening_there i r e ≡ record { side = side3; actions = told }
   rules_are =
       ap (λ ks. by_started (filter (λ x. not (is_withheld two x)) (filter_map (live_with t2) ks))) (all_enabled i.outbox.session r.both.trace marks)
-      ∙ ap (λ xs. by_started (filter (λ x. not (is_withheld two x)) xs)) (all_found news found_live)
-      ∙ ap (λ (xs : List Action). record { side = side3; actions = (xs ++ resets i names notes s r own e fit k go) ++ map (start_there two) (starting_of two news) }) (none_stop r marks fit.plain)
+      ∙ ap (λ xs. by_started (filter (λ x. not (is_withheld two x)) xs)) (all_found all_news (λ x at lives. found_live x (filter-in (λ (d : RulesCommand). not (has (leaves_ticket d.ticket) t2)) all_news x at (ap not lives))))
     where
       by_started : List RulesCommand → Told
-      by_started xs = record { side = record two { told = r.told ++ map (λ (x : RulesCommand). x.ticket) xs }; actions = (flat_map (stops_in r) marks ++ resets i names notes s r own e fit k go) ++ map (start_there two) xs }
+      by_started xs = record { side = record two { told = r.told ++ map (λ (x : RulesCommand). x.ticket) xs }; actions = (flat_map (stops_in r) marks ++ resets i names notes s r own e fit first k go) ++ map (start_there two) xs }
 
   -- ---- the steps
 
-  abbrev start : Starts names two (out' i names notes s r own e fit k go) (state2 i names notes s r own e fit k go).commands.items news (d3 i names notes s r own e fit k go) (start_each (tickets_of news) (d3 i names notes s r own e fit k go))
-  start = q i names notes s r own e fit k go
+  abbrev start : Starts names two (out' i names notes s r own e fit first k go) (state2 i names notes s r own e fit first k go).commands.items news (d3 i names notes s r own e fit first k go) (start_each (tickets_of news) (d3 i names notes s r own e fit first k go))
+  start = q i names notes s r own e fit first k go
 
   abbrev last_state : State
-  last_state = record (state2 i names notes s r own e fit k go) { commands = record go.state.commands { items = start.items }; withheld = all_inserted (tickets_of (withheld_of two news)) go.state.withheld }
+  last_state = record (state2 i names notes s r own e fit first k go) { commands = record go.state.commands { items = start.items }; withheld = all_inserted (tickets_of (withheld_of two news)) go.state.withheld }
 
-  started_is : start_each (tickets_of news) (d3 i names notes s r own e fit k go) ≡ record { state = last_state; actions = told; forgets = [] }
+  started_is : start_each (tickets_of news) (d3 i names notes s r own e fit first k go) ≡ record { state = last_state; actions = told; forgets = [] }
   started_is = start.is
 
   abbrev going_then : Going
@@ -167,7 +162,7 @@ module _ (i : Interface) (names : List Name) (notes : List Note) (s : State) (r 
   happening_to : happening i own e (record { event = r.both.event; trace = r.both.trace; doing = record { state = s; actions = []; forgets = [] } }) ≡ going_then
   happening_to =
       ap (λ v. cond v next before) (lt-ltb r.both.event i.outbox.session.events fit.events)
-      ∙ ap (λ (d : Doing). record { event = r.both.event + 1; trace = t2; doing = d }) (takes_is i names notes s r own e fit k go ∙ ap (releases go.ended) started_is)
+      ∙ ap (λ (d : Doing). record { event = r.both.event + 1; trace = t2; doing = d }) (takes_is i names notes s r own e fit first k go ∙ ap (releases go.ended) started_is)
     where
       before : Going
       before = record { event = r.both.event; trace = r.both.trace; doing = record { state = s; actions = []; forgets = [] } }
@@ -177,35 +172,38 @@ module _ (i : Interface) (names : List Name) (notes : List Note) (s : State) (r 
 
   -- ---- the end
 
-  abbrev b : IsBetween i names notes go.state (side_n i names notes s r own e fit k go) None go.ended
-  b = between_n i names notes s r own e fit k go
+  abbrev b : IsBetween i names notes go.state (side_n i names notes s r own e fit first k go) None go.ended
+  b = between_n i names notes s r own e fit first k go
 
   requests3 : AreRequests names notes (λ p. ending None p + endings go.ended p) (λ p. []) last_state side3
-  requests3 = requests_held names notes (λ p. ending None p + endings go.ended p) (λ p. []) (record (state2 i names notes s r own e fit k go) { commands = record go.state.commands { items = start.items } }) side3 (all_inserted (tickets_of (withheld_of two news)) go.state.withheld)
-      (requests_started names notes (λ p. ending None p + endings go.ended p) (state2 i names notes s r own e fit k go) (side_e i names notes s r own e fit k go) (r.both.event + 1) (r.told ++ tickets_of (starting_of two news)) go.state.commands.items start.items
-      (requests2 i names notes s r own e fit k go) refl start.have)
+  requests3 = requests_held names notes (λ p. ending None p + endings go.ended p) (λ p. []) (record (state2 i names notes s r own e fit first k go) { commands = record go.state.commands { items = start.items } }) side3 (all_inserted (tickets_of (withheld_of two news)) go.state.withheld)
+      (requests_started names notes (λ p. ending None p + endings go.ended p) (state2 i names notes s r own e fit first k go) (side_e i names notes s r own e fit first k go) (r.both.event + 1) (r.told ++ tickets_of (starting_of two news)) go.state.commands.items start.items
+      (requests2 i names notes s r own e fit first k go) refl start.have)
 
   plain_pending : AreRequests names notes (endings go.ended) (λ p. []) last_state side3
   plain_pending = pending_as names notes (λ p. ending None p + endings go.ended p) (endings go.ended) (λ p. []) last_state side3 (λ p. omega arith) requests3
 
   room_ended : length go.ended ≤ last_state.room
-  room_ended = let few = go.few in let short = fit.short in let w = wide i names notes s r own e fit k go in omega (arith, few, short, w)
+  room_ended = let few = few_ended i names notes s r own e fit first k go in let w = wide i names notes s r own e fit first k go in omega (arith, few, w)
+
+  -- those that are live, and were told to start before, were free
+  told_before : (c : RulesCommand) → In c (entered t2) → has (leaves_ticket c.ticket) t2 ≡ false → contains r.told c.ticket ≡ was_free c r.both.trace
+  told_before = told_free i marks r fit.steps fit.once (requests2 i names notes s r own e fit first k go).tickets calm first.freed
 
   -- those that are withheld, in the order of their tickets
-  held_news : withheld_of two news ≡ held_of side3
-  held_news = withheld_left (is_withheld two) r.told t2 news
-      (all_held i marks r fit.plain fit.once fit.steps fit.regular.units ∙ ap (λ cs. cs ++ news) (none_first (held_of r) calm)) (requests2 i names notes s r own e fit k go).tickets
+  held_news : (n : ℕ) → times n (tickets_of (withheld_of two news)) ≡ times n (tickets_of (held_of side3))
+  held_news = held_counts (is_withheld two) r.told t2 news (same_counts i.outbox.session marks r.both.trace r.told (requests2 i names notes s r own e fit first k go).tickets fit.regular.units told_before) (requests2 i names notes s r own e fit first k go).tickets
 
   held_then : all_inserted (tickets_of (withheld_of two news)) go.state.withheld ≡ tickets_of (held_of side3)
   held_then =
-      ap (all_inserted (tickets_of (withheld_of two news))) b.withheld ∙ ap (λ cs. all_inserted (tickets_of cs) []) held_news
-      ∙ same_list (all_inserted (tickets_of (held_of side3)) []) (tickets_of (held_of side3)) (all_up (tickets_of (held_of side3)) [] tt)
-      (filtered_up (λ (c : RulesCommand). was_free c t2 && not (contains side3.told c.ticket)) (λ (c : RulesCommand). not (has (leaves_ticket c.ticket) t2)) (entered t2) fit.regular.ascending) (λ n. omega (arith, all_more n (tickets_of (held_of side3)) []))
+      ap (all_inserted (tickets_of (withheld_of two news))) b.withheld
+      ∙ same_list (all_inserted (tickets_of (withheld_of two news)) []) (tickets_of (held_of side3)) (all_up (tickets_of (withheld_of two news)) [] tt)
+      (filtered_up (λ (c : RulesCommand). was_free c t2 && not (contains side3.told c.ticket)) (λ (c : RulesCommand). not (has (leaves_ticket c.ticket) t2)) (entered t2) fit.regular.ascending) (λ n. omega (arith, all_more n (tickets_of (withheld_of two news)) [], held_news n))
 
   mid : IsMid i names notes last_state side3 told (endings go.ended)
   mid = record {
     requests = plain_pending;
-    outbox = stands' i names notes s r own e fit k go;
+    outbox = stands' i names notes s r own e fit first k go;
     sizes = record {
       room = b.sizes.room;
       functions = b.sizes.functions;
@@ -219,20 +217,21 @@ module _ (i : Interface) (names : List Name) (notes : List Note) (s : State) (r 
       few = b.sizes.few;
     };
     flags = record { awake = b.flags.awake; over = b.flags.over };
-    counts = record { units = b.counts.units; last = b.counts.last; tracked = tracked' i names notes s r own e fit k go };
+    counts = record { units = b.counts.units; last = b.counts.last; tracked = tracked' i names notes s r own e fit first k go };
     regular = record { ascending = fit.regular.ascending; units = fit.regular.units };
     slots = b.slots;
     functions = b.functions;
     held = held_then;
     room =
-        let few = few_told i names notes s r own e fit k go in
-        let n = many i names notes s r own e fit k go in
-        let long = length-append (resets i names notes s r own e fit k go) (map (start_there two) (starting_of two news)) in
+        let stopped = few_stopped i names notes s r own e fit first k go in
+        let reset = few_reset i names notes s r own e fit first k go in
+        let first_two = length-append (stops i names notes s r own e fit first k go) (resets i names notes s r own e fit first k go) in
+        let long = length-append (stops i names notes s r own e fit first k go ++ resets i names notes s r own e fit first k go) (map (start_there two) (starting_of two news)) in
         let mapped = length-map (starting_of two news) (start_there two) in
         let fewer = filter-shorter (λ (c : RulesCommand). not (is_withheld two c)) news in
-        let barred = few_counted (λ (c : RulesCommand). not (was_free c t2)) (live t2) in
+        let started = few_news i.outbox.session marks r.both.trace r.told (requests2 i names notes s r own e fit first k go).tickets fit.regular.units told_before in
         let all = fit.few in
-        omega (arith, few, n, long, mapped, fewer, barred, all);
+        omega (arith, stopped, reset, first_two, long, mapped, fewer, started, all);
     sound = fit.fit.sound_after;
     few = fit.fit.short.handed;
   }

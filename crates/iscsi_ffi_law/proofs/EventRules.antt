@@ -1,5 +1,5 @@
 -- What the rules make of an event, by its items: the side behind it, what is reset, and what is enabled.
-use Rattle.std.proofs.Common.{◌≡◌, ℕ, ◌≤◌, ◌&&◌, ◌||◌, ⊎_elim, cond, Bool, true, false, List, [], ◌∷◌, ◌++◌, length, filter_map, Option, Some, None, refl, ap, sym, ◌∙◌, arith, append_assoc, length-append}
+use Rattle.std.proofs.Common.{◌≡◌, ℕ, ◌≤◌, ◌&&◌, ◌||◌, cond, Bool, true, false, List, [], ◌∷◌, ◌++◌, length, filter_map, Option, Some, None, refl, ap, sym, ◌∙◌, arith, append_assoc, length-append}
 use Rattle.std.specs.List.{flat_map, list_all, list_any}
 use Rattle.std.proofs.lemmas.Bool.{false≢true, or_right}
 use Rattle.std.proofs.lemmas.List.{append-nil, map-append}
@@ -10,10 +10,10 @@ use Rattle.iscsi_wire.specs.Fields.{function}
 use Rattle.iscsi_history.specs.rules.Execution.{unit_named}
 use Rattle.iscsi_history.specs.rules.Run.{effects_of, effects_of_item, effects_of_mark, newly_enabled}
 use Rattle.iscsi_history.specs.rules.Settings.{Setting}
-use Rattle.iscsi_history.specs.rules.Trace.{Admits, Arrival, ClosesConn, ClosesSession, Command, Delivers, Empties, Enters, Executes, Ignores, Leaves, Mark, Sends, Trace, Voids, Waits, after_items, entered, enters, has, is_free_at, leaves_ticket, was_free}
+use Rattle.iscsi_history.specs.rules.Trace.{Admits, Arrival, ClosesConn, ClosesSession, Command, Delivers, Empties, Enters, Executes, Ignores, Leaves, Mark, Sends, Trace, Voids, Waits, after_items, entered, enters, is_free_at, was_free}
 use Rattle.iscsi_history.specs.promises.Replies.{executed_in, reply_sent as mark_reply}
 use Rattle.iscsi_history.proofs.BoolLemmas.{and_parts}
-use Rattle.iscsi_history.proofs.ElementLemmas.{In, append-in_first, in-append}
+use Rattle.iscsi_history.proofs.ElementLemmas.{In, append-in_first}
 use Rattle.iscsi_outbox_rules.specs.rules.Calls.{Opening}
 use Rattle.iscsi_outbox_rules.specs.rules.Items.{after_items as box_after_items, executing, reply_sent, ticket_enabled}
 use Rattle.iscsi_outbox_rules.proofs.ClosedItems.{send_of, sent_item}
@@ -24,8 +24,8 @@ use Rattle.iscsi_ffi_rules.specs.rules.Calls.{Interface}
 use Rattle.iscsi_ffi_rules.specs.rules.Happening.{answers_in, is_complete, is_reset, reset, resets_in as resets_there}
 use Rattle.iscsi_ffi_rules.specs.rules.Sides.{Side}
 use Rattle.iscsi_ffi_steps.specs.Steps.{reset_in}
-use Rattle.iscsi_ffi_law.specs.Arrived.{is_plain, side_behind}
-use Rattle.iscsi_ffi_law.proofs.DoneShape.{IsNew, enabled_tickets, enables, new_ones, tickets_of}
+use Rattle.iscsi_ffi_law.specs.Arrived.{side_behind}
+use Rattle.iscsi_ffi_law.proofs.DoneShape.{enabled_tickets, enables, tickets_of}
 use Rattle.iscsi_ffi_law.proofs.ItemsGo.{side_after}
 use Rattle.iscsi_ffi_law.proofs.Members.{in_any}
 
@@ -70,7 +70,7 @@ none_enabled o t (ClosesConn conn ∷ ms) = none_enabled o t ms
 none_enabled o t (ClosesSession ∷ ms) = none_enabled o t ms
 none_enabled o t (Ignores why ∷ ms) = none_enabled o t ms
 
-item_enabled : (o : Setting) (t : Trace) (item : List Mark) → filter_map ticket_enabled (effects_of_item o t item) ≡ tickets_of (newly_enabled o t item)
+pub item_enabled : (o : Setting) (t : Trace) (item : List Mark) → filter_map ticket_enabled (effects_of_item o t item) ≡ tickets_of (newly_enabled o t item)
 item_enabled o t item =
     filter_map-append ticket_enabled (flat_map (effects_of_mark o t) item) (enables (newly_enabled o t item))
     ∙ ap (λ ks. ks ++ filter_map ticket_enabled (enables (newly_enabled o t item))) (none_enabled o t item) ∙ enabled_tickets (newly_enabled o t item)
@@ -91,39 +91,6 @@ entered_later (item ∷ items) t c there = entered_later items (item ∷ t) c (a
 pub free_later : (items : List (List Mark)) (t : Trace) (c : Command) → was_free c t ≡ true → was_free c (after_items items t) ≡ true
 free_later [] t c free = free
 free_later (item ∷ items) t c free = free_later items (item ∷ t) c (or_right (is_free_at c (item ∷ t)) (was_free c t) free)
-
-pub none_leaves : (k : ℕ) (ms : List Mark) → list_all is_plain ms ≡ true → list_any (leaves_ticket k) ms ≡ false
-none_leaves k [] h = refl
-none_leaves k (Admits a ∷ ms) h = none_leaves k ms h
-none_leaves k (Delivers a ∷ ms) h = none_leaves k ms h
-none_leaves k (Executes a ∷ ms) h = none_leaves k ms h
-none_leaves k (Voids n ∷ ms) h = none_leaves k ms h
-none_leaves k (Empties a ∷ ms) h = none_leaves k ms (and_parts false (list_all is_plain ms) h).1
-none_leaves k (Waits a ∷ ms) h = none_leaves k ms h
-none_leaves k (Leaves c ∷ ms) h = absurd (false≢true h)
-none_leaves k (Enters c ∷ ms) h = none_leaves k ms h
-none_leaves k (Sends conn reply ∷ ms) h = none_leaves k ms h
-none_leaves k (ClosesConn conn ∷ ms) h = none_leaves k ms (and_parts false (list_all is_plain ms) h).1
-none_leaves k (ClosesSession ∷ ms) h = none_leaves k ms (and_parts false (list_all is_plain ms) h).1
-none_leaves k (Ignores why ∷ ms) h = none_leaves k ms h
-
-pub left_later : (k : ℕ) (items : List (List Mark)) (t : Trace) → list_all (list_all is_plain) items ≡ true → has (leaves_ticket k) (after_items items t) ≡ has (leaves_ticket k) t
-left_later k [] t h = refl
-left_later k (item ∷ items) t h =
-    let parts = and_parts (list_all is_plain item) (list_all (list_all is_plain) items) h in
-    left_later k items (item ∷ t) parts.1 ∙ ap (λ v. v || has (leaves_ticket k) t) (none_leaves k item parts.0)
-
--- each of these is live, and was barred before the event
-pub news_live : (o : Setting) (items : List (List Mark)) (t : Trace) → list_all (list_all is_plain) items ≡ true → (x : Command) → In x (news_of o t items) → In x (entered (after_items items t)) × (has (leaves_ticket x.ticket) (after_items items t) ≡ false) × (was_free x (after_items items t) ≡ true)
-news_live o [] t h x at = absurd at
-news_live o (item ∷ items) t h x at =
-    let parts = and_parts (list_all is_plain item) (list_all (list_all is_plain) items) h in
-    ⊎_elim
-    (λ here.
-    let k : IsNew t (item ∷ t) x = new_ones o t item x here in
-    (entered_later items (item ∷ t) x k.there, left_later x.ticket items (item ∷ t) parts.1 ∙ k.lives, free_later items (item ∷ t) x k.free))
-    (λ later. news_live o items (item ∷ t) parts.1 x later)
-    (in-append (newly_enabled o t item) (news_of o (item ∷ t) items) x at)
 
 -- ---- what is reset
 

@@ -1,7 +1,7 @@
 -- The calls of a list go alike, by what holds of both sides.
-use Rattle.std.proofs.Common.{zero, suc, ◌++◌, length, ◌≡◌, ℕ, ◌+◌, ◌&&◌, inl, inr, ⊎_elim, Bool, true, false, List, [], ◌∷◌, Option, Some, None, refl}
+use Rattle.std.proofs.Common.{zero, suc, ◌++◌, length, ◌≡◌, ℕ, ◌+◌, ◌&&◌, inl, inr, ⊎_elim, Bool, true, false, List, [], ◌∷◌, Option, Some, None, filter, not, refl}
 use Rattle.iscsi_history.specs.rules.Settings.{is_known}
-use Rattle.iscsi_history.specs.rules.Trace.{Command, is_closed}
+use Rattle.iscsi_history.specs.rules.Trace.{Command, entered, has, is_closed, leaves_ticket, was_free}
 use Rattle.iscsi_outbox_rules.specs.rules.Calls as outbox
 use Rattle.iscsi_outbox_rules.specs.rules.Words.{contains}
 use Rattle.iscsi_ffi_rules.specs.declared.refusal.Refusal.{Refusal}
@@ -24,11 +24,19 @@ use Rattle.iscsi_ffi_law.specs.Stands.{Stands}
 use Rattle.iscsi_ffi_law.proofs.AllCalls.{goes}
 use Rattle.iscsi_ffi_law.proofs.FitAll.{all_fit, of_call}
 use Rattle.iscsi_ffi_law.proofs.FitFacts.{limits}
-use Rattle.iscsi_ffi_law.proofs.FitHolds.{Holds, holds_begun, holds_walk}
+use Rattle.iscsi_ffi_law.proofs.FitEvents.{taken_leaves}
+use Rattle.iscsi_ffi_law.proofs.FitHolds.{Holds}
+use Rattle.iscsi_ffi_law.proofs.FitLasts.{Lasts, lasts_begun, lasts_walk}
+use Rattle.iscsi_ffi_law.proofs.FitReached.{sound_reached}
 use Rattle.iscsi_ffi_law.proofs.FitRoom.{free, placed, room_to_tell, uses_few}
 use Rattle.iscsi_ffi_law.proofs.FitSized.{AreSized, sized_begun, sized_step}
 use Rattle.iscsi_ffi_law.proofs.FitWalks.{on_call}
+use Rattle.iscsi_ffi_law.proofs.HeldNews.{told_free}
+use Rattle.iscsi_ffi_law.proofs.Members.{each_in, in_pairs}
 use Rattle.iscsi_ffi_law.proofs.Opened.{stands_begun}
+use Rattle.iscsi_ffi_law.specs.Parts.{IsCommand, IsLiveNamed, is_named}
+use Rattle.iscsi_history.proofs.BoolLemmas.{not_true}
+use Rattle.iscsi_history.proofs.ElementLemmas.{In, filter-in, in-filter}
 
 -- who asked for what doesn't matter as commands complete
 done_asked : (i : Interface) (m : ℕ) (s : Side) (asked : List Asked) (acts acts' : List Action) → AreDoneFit i m (record { side = s; actions = acts }) → AreDoneFit i m (record { side = record s { asked = asked }; actions = acts' })
@@ -51,7 +59,22 @@ done_asked i (suc m) s asked acts acts' h = by_next (done_asked i m) (next_withh
         (record { fit = d.fit; room = d.room; stale = d.stale; events = d.events; sent = d.sent; replies = d.replies; few = d.few; there = d.there; takes = d.takes; handed = d.handed }, further g.side asked (acts ++ g.actions) (acts' ++ (happening i (record s { asked = asked }) (Done c.ticket (status_of s c))).actions) k.1)
 
 module _ (i : Interface) (opening : IsOpening i) where
-  module _ (n : ℕ) (s : StepsSide) (r : Side) (st : Stands i s r) (z : AreSized i s.state) (h : Holds i n r) (fit : IsSideFit i r) where
+  module _ (n : ℕ) (s : StepsSide) (r : Side) (st : Stands i s r) (z : AreSized i s.state) (lasts : Lasts i n r) (fit : IsSideFit i r) where
+    h : Holds i n r
+    h = lasts.holds
+
+    -- a live command was told to start where it is enabled
+    told_is : (c : Command) → In c (live r.both.trace) → contains r.told c.ticket ≡ was_free c r.both.trace
+    told_is c at =
+        let there = in-filter (λ (d : Command). not (has (leaves_ticket d.ticket) r.both.trace)) (entered r.both.trace) c at in
+        told_free i [] r (sound_reached i.outbox (limits i opening).distinct r.both h.good.reached).0 refl st.requests.tickets st.calm freed c there.0 (not_true (has (leaves_ticket c.ticket) r.both.trace) there.1)
+      where
+        freed : (c : Command) → In c (entered r.both.trace) → has (leaves_ticket c.ticket) r.both.trace ≡ false → contains r.told c.ticket ≡ true → was_free c r.both.trace ≡ true
+        freed c there lives told =
+            let named : is_named st.names c ≡ true = each_in (IsLiveNamed st.names r.both.trace) (entered r.both.trace) c there st.requests.live_named lives in
+            let pair = in_pairs (IsCommand st.names r) s.state.commands.items (filter (is_named st.names) (entered r.both.trace)) c (filter-in (is_named st.names) (entered r.both.trace) c there named) st.requests.commands in
+            pair.2.freed told
+
     meets_arrival : (cid : ℕ) (header : List ℕ) (cookie : ℕ) → IsCallFit i r (Arrives cid header cookie) → Left i s r (Arrives cid header cookie) → (x : Option Refusal) → refusal_of i r cid ≡ x → Meets i s r (Arrives cid header cookie)
     meets_arrival cid header cookie call left (Some why) is = inl (fit.leaves (outbox.Hears cid 0 0) refl, (why, is))
     meets_arrival cid header cookie call left None is =
@@ -61,7 +84,7 @@ module _ (i : Interface) (opening : IsOpening i) where
           fit = record {
             before = k.before;
             heard = k.heard;
-            event = record { fit = w.fit; steps = w.steps; stale = w.stale; sent = w.sent; short = w.short; enabled = w.enabled; few = w.few; regular = w.regular; distinct = w.distinct; received = w.received; prompt = w.prompt; waits = w.waits };
+            event = record { fit = w.fit; steps = w.steps (taken_leaves i opening n r cid header is h w.items w.stale lasts.replied lasts.freed told_is); stale = w.stale; sent = w.sent; found = w.found; short = w.short; enabled = w.enabled; few = w.few; regular = w.regular; distinct = w.distinct; received = w.received; prompt = w.prompt; waits = w.waits };
           };
           taken = is;
           room = free i opening n s r st z h;
@@ -100,14 +123,14 @@ module _ (i : Interface) (opening : IsOpening i) where
     meets (Clears unit) call left = record { fit = fit.fit; room = room_to_tell i opening n s r st z h }
     meets (Cleared unit) call left = fit.leaves (outbox.Clears unit) refl
 
-  alike_from : (n : ℕ) (s : StepsSide) (r : Side) (calls : List Call) → EachOf IsOfBytes calls → Stands i s r → AreSized i s.state → Holds i n r → AreFitFrom i r calls → LeftFrom i s r calls → AreAlike i s r calls
+  alike_from : (n : ℕ) (s : StepsSide) (r : Side) (calls : List Call) → EachOf IsOfBytes calls → Stands i s r → AreSized i s.state → Lasts i n r → AreFitFrom i r calls → LeftFrom i s r calls → AreAlike i s r calls
   alike_from n s r [] bytes st z h fit left = tt
   alike_from n s r (c ∷ cs) bytes st z h fit left =
       let g : GoesAlike i s r c = goes i s r c st (meets n s r st z h fit.0 c fit.1 left.0) in (
         g.answer,
         g.tells,
-        alike_from (n + 1) (after (ended (called i c s).going)) (after_call i r c).told.side cs bytes.1 g.stands (sized_step i s c z) (on_call i (Holds i) (holds_walk i (limits i opening).distinct) n r c (of_call c bytes.0) h) fit.2 left.1,
+        alike_from (n + 1) (after (ended (called i c s).going)) (after_call i r c).told.side cs bytes.1 g.stands (sized_step i s c z) (on_call i (Lasts i) (lasts_walk i (limits i opening).distinct) n r c (of_call c bytes.0) h) fit.2 left.1,
       )
 
 pub all_alike : (i : Interface) (calls : List Call) → IsOpening i → IsShort i calls → EachOf IsOfBytes calls → LeftFrom i (begun i) (opened i) calls → AreAlike i (begun i) (opened i) calls
-all_alike i calls opening short bytes left = alike_from i opening 0 (begun i) (opened i) calls bytes (stands_begun i) (sized_begun i) (holds_begun i) (all_fit i calls opening short bytes) left
+all_alike i calls opening short bytes left = alike_from i opening 0 (begun i) (opened i) calls bytes (stands_begun i) (sized_begun i) (lasts_begun i) (all_fit i calls opening short bytes) left

@@ -126,11 +126,11 @@ homes_empty o t b h = ap (map home_of_task) (item_tasks o b []) ∙ homes_phased
 -- ---- a call that takes no event
 
 -- it lets one command stop at the most
-data Moved (b b' : Box) : Type 0 where
+pub data Moved (b b' : Box) : Type 0 where
   Same : b'.tasks ≡ b.tasks → Moved b b'
   Stopping : (ticket : ℕ) → b'.tasks ≡ map (phased phase_stopped (ticket ∷ [])) b.tasks → Moved b b'
 
-moved : (o : Opening) (b : Box) (c : Call) → TakesNone c → Moved b (after_call o b c)
+pub moved : (o : Opening) (b : Box) (c : Call) → TakesNone c → Moved b (after_call o b c)
 moved o b (Takes effects numbers) none = absurd none
 moved o b (Puts p) none = by_refusal (put_refusal o b p)
   where

@@ -249,6 +249,7 @@ module _ (i : Interface) (opening : IsOpening i) where
           handed = g.placed.handed;
           short = taken_short i opening n r cid header is h;
           enabled = taken_enabled i opening n r cid header is h;
+          found = (let tasks = (fits_reached i.outbox distinct s.both g.good.reached).tasks in let many = same_count i.outbox s.both.box s.both.trace g.together.lives in omega (arith, tasks, many));
           few = (let tasks = fits'.tasks in omega (arith, tasks, many));
           regular = record { ascending = tickets_up i.outbox after together; units = units_there i.outbox after together };
           prompt = λ rest same. prompt_arrival i.outbox.session s.both.event s.both.trace (arrived i s cid header) g.turned (new_received s cid header rest same) (received_fit (n + 1) s cid header (refusal_known r cid is) (wired_bytes cid header bytes) g rest same).untaken rest same;

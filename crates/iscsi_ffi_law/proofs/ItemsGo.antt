@@ -1,12 +1,13 @@
 -- The items of an event that are due, one after the other.
-use Rattle.std.proofs.Common.{◌≡◌, ℕ, ◌+◌, ◌<◌, ◌≤◌, ◌==◌, ◌&&◌, cond, Bool, true, false, List, [], ◌∷◌, ◌++◌, length, map, Option, Some, None, refl, ap, sym, subst, ◌∙◌, arith}
-use Rattle.std.specs.List.{list_all}
+use Rattle.std.proofs.Common.{◌≡◌, ℕ, ◌+◌, ◌<◌, ◌≤◌, ◌==◌, ◌&&◌, cond, Bool, true, false, List, [], ◌∷◌, ◌++◌, length, map, count_by, Option, Some, None, refl, ap, sym, subst, ◌∙◌, arith, length-append}
+use Rattle.std.specs.List.{flat_map, list_all}
 use Rattle.std.proofs.lemmas.Bool.{false≢true}
+use Rattle.std.proofs.lemmas.List.{append-nil, append_assoc}
 use Rattle.iscsi_wire.specs.declared.reply.Reply.{Reply}
 use Rattle.iscsi_wire.specs.Fields.{connection_of}
 use Rattle.iscsi_history.specs.rules.Run.{effects_of, effects_of_item}
 use Rattle.iscsi_history.specs.rules.Settings.{are_distinct}
-use Rattle.iscsi_history.specs.rules.Trace.{Arrival, ClosesConn, ClosesSession, Command as RulesCommand, Empties, Enters, Leaves, Mark, Sends, Trace, Voids, entered}
+use Rattle.iscsi_history.specs.rules.Trace.{Arrival, ClosesConn, ClosesSession, Command as RulesCommand, Empties, Enters, Leaves, Mark, Sends, Trace, Voids, entered, live}
 use Rattle.iscsi_history.proofs.BoolLemmas.{and_parts}
 use Rattle.iscsi_history.proofs.Forms.{AfterWaiting, AtArrival, AtTurn, Deeds, Each, EntersAs, IsDone, Start, if_some, marks_done, start_mark}
 use Rattle.iscsi_outbox_rules.proofs.ClosedParts.{EachOn, effects_each}
@@ -15,24 +16,29 @@ use Rattle.iscsi_outbox_law.proofs.PairLemmas.{each-append}
 use Rattle.iscsi_outbox_law.specs.Sound.{IsSound}
 use Rattle.iscsi_outbox_steps.specs.State.{State as OutboxState, limits_of}
 use Rattle.iscsi_outbox_steps.specs.Steps.{after_items as steps_after_items}
+use Rattle.iscsi_ffi_commands.specs.Commands.{is_going, is_live}
 use Rattle.iscsi_ffi_rules.specs.declared.action.Action.{Action}
 use Rattle.iscsi_ffi_rules.specs.rules.Calls.{Interface}
+use Rattle.iscsi_ffi_rules.specs.rules.Happening.{stops_in}
 use Rattle.iscsi_ffi_rules.specs.rules.Sides.{Side}
 use Rattle.iscsi_ffi_steps.specs.State.{State}
 use Rattle.iscsi_ffi_steps.specs.Walk.{on_effects}
 use Rattle.iscsi_ffi_law.specs.Arrived.{AreStepsFit, IsStepFit, effects_by, is_plain, side_behind, starts_late}
 use Rattle.iscsi_ffi_law.specs.Names.{Name, Note}
 use Rattle.iscsi_ffi_law.proofs.Between.{IsBetween, IsHeaded, turn_headed}
-use Rattle.iscsi_ffi_law.proofs.Plain.{one_enters, plain_item, plain_marks}
-use Rattle.iscsi_ffi_law.proofs.Stepping.{GoesOn, IsCalm, SameLinks, all_calm_on, links_then, links_unmoved}
+use Rattle.iscsi_ffi_law.proofs.Leaving.{left_item}
+use Rattle.iscsi_ffi_law.proofs.LeavingHead.{headed_left}
+use Rattle.iscsi_ffi_law.proofs.Plain.{leaves_none, one_enters, plain_item}
+use Rattle.iscsi_ffi_law.proofs.Stepping.{GoesOn, IsCalm, ItemGoes, SameLinks, all_calm_on, links_then, links_unmoved, plain_goes}
 use Rattle.iscsi_ffi_law.proofs.TailEnters.{goes_entered}
+use Rattle.iscsi_ffi_law.proofs.TailLeaves.{goes_left, goes_left_over}
 use Rattle.iscsi_ffi_law.proofs.TailOver.{goes_over}
 use Rattle.iscsi_ffi_law.proofs.TailSends.{executed_answering, goes_sent}
 use Rattle.iscsi_ffi_law.proofs.Turns.{IsDue, IsDueBy}
 use Rattle.iscsi_ffi_law.proofs.Waited.{waited_headed}
 use Rattle.iscsi_ffi_law.proofs.Walking.{is_led, walk_at}
 
--- ---- what a request does by which nothing is taken out or closed
+-- ---- what a request does by which nothing is closed
 
 abbrev Plain : List Mark → Type 0
 Plain ms = list_all is_plain ms ≡ true
@@ -54,18 +60,22 @@ emptied_plain : (as' : List Arrival) (zs ys : List Mark) → (Plain zs → zs �
 emptied_plain [] zs ys same h = same h
 emptied_plain (a ∷ as') zs ys same h = absurd (false≢true h)
 
-left_plain : (cs : List RulesCommand) (zs ys : List Mark) → (Plain zs → zs ≡ ys) → Plain (map Leaves cs ++ zs) → map Leaves cs ++ zs ≡ ys
+left_plain : (cs : List RulesCommand) (zs ys : List Mark) → (Plain zs → zs ≡ ys) → Plain (map Leaves cs ++ zs) → map Leaves cs ++ zs ≡ map Leaves cs ++ ys
 left_plain [] zs ys same h = same h
-left_plain (c ∷ cs) zs ys same h = absurd (false≢true h)
+left_plain (c ∷ cs) zs ys same h = ap (λ ms. Leaves c ∷ ms) (left_plain cs zs ys same h)
 
 voided_plain : (v : Option ℕ) (zs ys : List Mark) → (Plain zs → zs ≡ ys) → Plain (if_some Voids v ++ zs) → if_some Voids v ++ zs ≡ if_some Voids v ++ ys
 voided_plain None zs ys same h = same h
 voided_plain (Some n) zs ys same h = ap (λ ms. Voids n ∷ ms) (same h)
 
-pub deeds_plain : (a : Arrival) (d : Deeds) → Plain (marks_done a d) → marks_done a d ≡ plain_marks a d.void d.entering d.reply
+-- what is left of its marks
+abbrev pub open_marks : Arrival → Option ℕ → List RulesCommand → Option RulesCommand → Option Reply → List Mark
+open_marks a void cs entering reply = if_some Voids void ++ (map Leaves cs ++ (if_some Enters entering ++ if_some (Sends (connection_of a.request)) reply))
+
+pub deeds_plain : (a : Arrival) (d : Deeds) → Plain (marks_done a d) → marks_done a d ≡ open_marks a d.void d.leaving d.entering d.reply
 deeds_plain a d h =
     let ends : List Mark = if_some ClosesConn d.closing ++ cond d.ending (ClosesSession ∷ []) [] in
-    voided_plain d.void (map Leaves d.leaving ++ (map Empties d.emptied ++ (if_some Enters d.entering ++ (if_some (Sends (connection_of a.request)) d.reply ++ ends)))) (if_some Enters d.entering ++ if_some (Sends (connection_of a.request)) d.reply)
+    voided_plain d.void (map Leaves d.leaving ++ (map Empties d.emptied ++ (if_some Enters d.entering ++ (if_some (Sends (connection_of a.request)) d.reply ++ ends)))) (map Leaves d.leaving ++ (if_some Enters d.entering ++ if_some (Sends (connection_of a.request)) d.reply))
     (left_plain d.leaving (map Empties d.emptied ++ (if_some Enters d.entering ++ (if_some (Sends (connection_of a.request)) d.reply ++ ends))) (if_some Enters d.entering ++ if_some (Sends (connection_of a.request)) d.reply)
     (emptied_plain d.emptied (if_some Enters d.entering ++ (if_some (Sends (connection_of a.request)) d.reply ++ ends)) (if_some Enters d.entering ++ if_some (Sends (connection_of a.request)) d.reply)
     (entered_plain d.entering (if_some (Sends (connection_of a.request)) d.reply ++ ends) (if_some (Sends (connection_of a.request)) d.reply)
@@ -84,14 +94,16 @@ pub record AllGo (i : Interface) (names : List Name) (notes : List Note) (s : St
   pub between : IsBetween i names notes state (side_after i r items) None ended
   pub outbox : state.outbox ≡ steps_after_items (effects_each i.outbox.session r.both.trace items) s.outbox
   pub room : state.room ≡ s.room
-  pub few : length ended ≤ length xs + length items
+  -- what has ended was live, but for a request of each item; what was told to stop was told to start
+  pub few : length ended + count_by is_live state.commands.items ≤ length xs + count_by is_live s.commands.items + length items
+  pub stops : length (flat_map (stops_in r) items) + count_by is_going state.commands.items ≤ count_by is_going s.commands.items
   pub links : SameLinks r.both.box (side_after i r items).both.box
   pub calm : EachOf (IsCalm (side_after i r items).both.box) (effects_of i.outbox.session r.both.trace items)
-  pub walk : (o : OutboxState) → o.limits ≡ limits_of i.outbox → (acts : List Action) (first : Bool) → (first && starts_late r.both.event items) ≡ false
-      → on_effects first (effects_of i.outbox.session r.both.trace items) (walk_at o s acts xs own r.both.box.sent) ≡ walk_at o state acts ended None (side_after i r items).both.box.sent
+  pub walk : (o : OutboxState) → o.limits ≡ limits_of i.outbox → (acts : List Action) (first : Bool) → (first && starts_late r.both.event items) ≡ false → length acts + length (flat_map (stops_in r) items) ≤ s.room
+      → on_effects first (effects_of i.outbox.session r.both.trace items) (walk_at o s acts xs own r.both.box.sent) ≡ walk_at o state (acts ++ flat_map (stops_in r) items) ended None (side_after i r items).both.box.sent
 
 -- one, and these
-pub goes_then : (i : Interface) (names : List Name) (notes : List Note) (s : State) (r : Side) (own : Option ℕ) (xs : List (Option ℕ)) (item : List Mark) (items : List (List Mark)) (g : GoesOn i names notes s r own xs item) → AllGo i names notes g.state (side_behind i r item) None g.ended items
+pub goes_then : (i : Interface) (names : List Name) (notes : List Note) (s : State) (r : Side) (own : Option ℕ) (xs : List (Option ℕ)) (item : List Mark) (items : List (List Mark)) (g : ItemGoes i names notes s r own xs item) → AllGo i names notes g.state (side_behind i r item) None g.ended items
     → is_led (effects_of i.outbox.session (item ∷ r.both.trace) items) ≡ true → AllGo i names notes s r own xs (item ∷ items)
 goes_then i names notes s r own xs item items g later led = record {
   state = later.state;
@@ -99,11 +111,18 @@ goes_then i names notes s r own xs item items g later led = record {
   between = later.between;
   outbox = later.outbox ∙ ap (steps_after_items (effects_each i.outbox.session (item ∷ r.both.trace) items)) g.outbox;
   room = later.room ∙ g.room;
-  few = omega (arith, later.few, g.few);
+  few = (let few = g.few.lives in omega (arith, later.few, few));
+  stops = (let going = g.few.going in let long = length-append (stops_in r item) (flat_map (stops_in r) items) in omega (arith, later.stops, going, long));
   links = links_then r.both.box (side_behind i r item).both.box (side_after i (side_behind i r item) items).both.box g.links later.links;
   calm = each-append (IsCalm (side_after i (side_behind i r item) items).both.box) (effects_by i r item) (effects_of i.outbox.session (item ∷ r.both.trace) items)
       (all_calm_on (side_behind i r item).both.box (side_after i (side_behind i r item) items).both.box later.links (effects_by i r item) g.calm) later.calm;
-  walk = λ o limits acts first late. g.walk o limits acts first late (effects_of i.outbox.session (item ∷ r.both.trace) items) led ∙ later.walk o limits acts false refl;
+  walk = λ o limits acts first late room.
+      let long = length-append (stops_in r item) (flat_map (stops_in r) items) in
+      let more = length-append acts (stops_in r item) in
+      let same = g.room in
+      g.walk o limits acts first late (omega (arith, room, long)) (effects_of i.outbox.session (item ∷ r.both.trace) items) led
+      ∙ later.walk o limits (acts ++ stops_in r item) false refl (omega (arith, room, long, more, same))
+      ∙ ap (λ as'. walk_at o later.state as' later.ended None (side_after i (side_behind i r item) items).both.box.sent) (append_assoc acts (stops_in r item) (flat_map (stops_in r) items));
 }
 
 pub first_sound : (i : Interface) (r : Side) (items : List (List Mark)) → AreStepsFit i r items → IsSound i.outbox r.both.box
@@ -120,7 +139,7 @@ pub record EntersNow (i : Interface) (r : Side) (a : Arrival) (reply : Option Re
   pub silent : reply ≡ None
 
 module _ (i : Interface) (names : List Name) (notes : List Note) (distinct : are_distinct i.outbox.session.conns ≡ true) where
-  pub tail_goes : (s : State) (r : Side) (own : Option ℕ) (xs : List (Option ℕ)) (k : IsBetween i names notes s r own xs) (start : Start) (a : Arrival) (void : Option ℕ) (entering : Option RulesCommand) (reply : Option Reply)
+  tail_goes : (s : State) (r : Side) (own : Option ℕ) (xs : List (Option ℕ)) (k : IsBetween i names notes s r own xs) (start : Start) (a : Arrival) (void : Option ℕ) (entering : Option RulesCommand) (reply : Option Reply)
       → IsStepFit i r (plain_item start a void entering reply) → IsSound i.outbox (side_behind i r (plain_item start a void entering reply)).both.box → IsHeaded i names notes s r own xs (plain_item start a void entering reply) start a
       → Each (EntersNow i r a reply) entering → GoesOn i names notes s r own xs (plain_item start a void entering reply)
   tail_goes s r own xs k start a void None None fit sound h enters = goes_over i names notes s r own xs k start a void fit distinct sound h
@@ -141,23 +160,45 @@ module _ (i : Interface) (names : List Name) (notes : List Note) (distinct : are
     silent = k.silent;
   }
 
+  -- commands leave by it
+  leaving_goes : (s : State) (r : Side) (own : Option ℕ) (xs : List (Option ℕ)) (k : IsBetween i names notes s r own xs) (start : Start) (a : Arrival) (void : Option ℕ) (cs : List RulesCommand) (reply : Option Reply)
+      → IsStepFit i r (left_item start a void cs reply) → IsSound i.outbox (side_behind i r (left_item start a void cs reply)).both.box → IsHeaded i names notes s r own xs (plain_item start a void None reply) start a
+      → ((p : RulesCommand → Bool) → count_by p cs ≤ count_by p (live r.both.trace)) → ItemGoes i names notes s r own xs (left_item start a void cs reply)
+  leaving_goes s r own xs k start a void cs None fit sound h each = goes_left_over i names notes s r own xs k start a void cs fit distinct sound (headed_left i names notes s r own xs start a void cs None h) each
+  leaving_goes s r own xs k start a void cs (Some reply) fit sound h each = goes_left i names notes s r own xs k start a void cs reply fit distinct sound (headed_left i names notes s r own xs start a void cs (Some reply) h) each
+
   pub executed_goes : (s : State) (r : Side) (own : Option ℕ) (xs : List (Option ℕ)) (k : IsBetween i names notes s r own xs) (start : Start) (a : Arrival) (d : Deeds) → list_all is_plain (marks_done a d) ≡ true → IsDone i.outbox.session r.both.trace start a d
       → IsStepFit i r (start_mark start a ∷ marks_done a d) → IsSound i.outbox (side_behind i r (start_mark start a ∷ marks_done a d)).both.box → IsHeaded i names notes s r own xs (plain_item start a d.void d.entering d.reply) start a
-      → GoesOn i names notes s r own xs (start_mark start a ∷ marks_done a d)
-  executed_goes s r own xs k start a d plain done fit sound h =
-      let same : start_mark start a ∷ marks_done a d ≡ plain_item start a d.void d.entering d.reply = ap (λ ms. start_mark start a ∷ ms) (deeds_plain a d plain) in
-      subst (GoesOn i names notes s r own xs) (sym same)
-      (tail_goes s r own xs k start a d.void d.entering d.reply (subst (IsStepFit i r) same fit) (subst (λ item. IsSound i.outbox (side_behind i r item).both.box) same sound) h (entering_now r r.both.trace a d d.entering refl done.enters))
+      → ItemGoes i names notes s r own xs (start_mark start a ∷ marks_done a d)
+  executed_goes s r own xs k start a d plain done fit sound h = by_leaving d.leaving refl d.entering refl
+    where
+      marks_are : start_mark start a ∷ marks_done a d ≡ start_mark start a ∷ open_marks a d.void d.leaving d.entering d.reply
+      marks_are = ap (λ ms. start_mark start a ∷ ms) (deeds_plain a d plain)
+
+      by_leaving : (cs : List RulesCommand) → d.leaving ≡ cs → (e : Option RulesCommand) → d.entering ≡ e → ItemGoes i names notes s r own xs (start_mark start a ∷ marks_done a d)
+      by_leaving [] none e is =
+          let same : start_mark start a ∷ marks_done a d ≡ plain_item start a d.void d.entering d.reply = marks_are ∙ ap (λ cs. start_mark start a ∷ open_marks a d.void cs d.entering d.reply) none in
+          subst (ItemGoes i names notes s r own xs) (sym same)
+          (plain_goes i names notes s r own xs (plain_item start a d.void d.entering d.reply) (leaves_none start a d.void d.entering d.reply)
+          (tail_goes s r own xs k start a d.void d.entering d.reply (subst (IsStepFit i r) same fit) (subst (λ item. IsSound i.outbox (side_behind i r item).both.box) same sound) h (entering_now r r.both.trace a d d.entering refl done.enters)))
+      by_leaving (c ∷ cs) some None is =
+          let same : start_mark start a ∷ marks_done a d ≡ left_item start a d.void d.leaving d.reply = marks_are ∙ ap (λ x. start_mark start a ∷ open_marks a d.void d.leaving x d.reply) is in
+          subst (ItemGoes i names notes s r own xs) (sym same)
+          (leaving_goes s r own xs k start a d.void d.leaving d.reply (subst (IsStepFit i r) same fit) (subst (λ item. IsSound i.outbox (side_behind i r item).both.box) same sound)
+          (subst (λ x. IsHeaded i names notes s r own xs (plain_item start a d.void x d.reply) start a) is h) done.leaves)
+      by_leaving (c ∷ cs) some (Some e) is =
+          let enters : EntersAs i.outbox.session r.both.trace a d e = subst (Each (EntersAs i.outbox.session r.both.trace a d)) is done.enters in
+          absurd (let none : d.leaving ≡ [] = enters.stays in let no : ⊥ = cc in no)
 
   -- one that is due
   pub due_goes : (s : State) (r : Side) (xs : List (Option ℕ)) (k : IsBetween i names notes s r None xs) (item : List Mark) → IsDue i.outbox.session r.both.trace item → list_all is_plain item ≡ true → IsStepFit i r item → IsSound i.outbox (side_behind i r item).both.box
-      → GoesOn i names notes s r None xs item
+      → ItemGoes i names notes s r None xs item
   due_goes s r xs k item due plain fit sound =
-      subst (GoesOn i names notes s r None xs) (sym due.is)
+      subst (ItemGoes i names notes s r None xs) (sym due.is)
       (by_start due.start due.due due.done (subst (λ ms. list_all is_plain ms ≡ true) due.is plain) (subst (IsStepFit i r) due.is fit) (subst (λ ms. IsSound i.outbox (side_behind i r ms).both.box) due.is sound))
     where
       by_start : (start : Start) → IsDueBy r.both.trace start due.a → IsDone i.outbox.session r.both.trace start due.a due.deeds → list_all is_plain (start_mark start due.a ∷ marks_done due.a due.deeds) ≡ true → IsStepFit i r (start_mark start due.a ∷ marks_done due.a due.deeds)
-          → IsSound i.outbox (side_behind i r (start_mark start due.a ∷ marks_done due.a due.deeds)).both.box → GoesOn i names notes s r None xs (start_mark start due.a ∷ marks_done due.a due.deeds)
+          → IsSound i.outbox (side_behind i r (start_mark start due.a ∷ marks_done due.a due.deeds)).both.box → ItemGoes i names notes s r None xs (start_mark start due.a ∷ marks_done due.a due.deeds)
       by_start AtTurn is done plain' fit' sound' = executed_goes s r None xs k AtTurn due.a due.deeds plain' done fit' sound' (turn_headed i names notes s r xs k due.a is due.deeds.void due.deeds.entering due.deeds.reply)
       by_start AtArrival is done plain' fit' sound' = absurd is
       by_start AfterWaiting is done plain' fit' sound' =
@@ -178,12 +219,12 @@ module _ (i : Interface) (names : List Name) (notes : List Note) (distinct : are
       by_start AfterWaiting a ms = refl
 
   pub none_more : (s : State) (r : Side) (xs : List (Option ℕ)) → IsBetween i names notes s r None xs → AllGo i names notes s r None xs []
-  none_more s r xs k = record { state = s; ended = xs; between = k; outbox = refl; room = refl; few = omega arith; links = links_unmoved r.both.box r.both.box refl; calm = tt; walk = λ o limits acts first late. refl }
+  none_more s r xs k = record { state = s; ended = xs; between = k; outbox = refl; room = refl; few = omega arith; stops = omega arith; links = links_unmoved r.both.box r.both.box refl; calm = tt; walk = λ o limits acts first late room. ap (λ as'. walk_at o s as' xs None r.both.box.sent) (sym (append-nil acts)) }
 
   pub all_due : (items : List (List Mark)) (s : State) (r : Side) (xs : List (Option ℕ)) → IsBetween i names notes s r None xs → EachOn (IsDue i.outbox.session) r.both.trace items → list_all (list_all is_plain) items ≡ true → AreStepsFit i r items
       → AllGo i names notes s r None xs items
   all_due [] s r xs k due plain fit = none_more s r xs k
   all_due (item ∷ items) s r xs k due plain fit =
       let parts = and_parts (list_all is_plain item) (list_all (list_all is_plain) items) plain in
-      let g : GoesOn i names notes s r None xs item = due_goes s r xs k item due.0 parts.0 fit.0 (first_sound i (side_behind i r item) items fit.1) in
+      let g : ItemGoes i names notes s r None xs item = due_goes s r xs k item due.0 parts.0 fit.0 (first_sound i (side_behind i r item) items fit.1) in
       goes_then i names notes s r None xs item items g (all_due items g.state (side_behind i r item) g.ended g.between due.1 parts.1 fit.1) (led_due (item ∷ r.both.trace) items due.1)

@@ -298,7 +298,7 @@ module _ (i : Interface) (names : List Name) (notes : List Note) (distinct : are
     };
     outbox = refl;
     room = refl;
-    few = omega arith;
+    few = record { lives = omega arith; going = omega arith };
     links = links_unmoved r.both.box (after_item i.outbox r.both.box (effects_by i r item)) box_same;
     calm = subst (EachOf (IsCalm (side_behind i r item).both.box)) (sym effects_are) (tt, tt);
     walk = λ o limits acts first late rest led.

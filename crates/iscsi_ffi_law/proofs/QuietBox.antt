@@ -23,7 +23,7 @@ map_id : (ts : List Task) → map (λ (t : Task). t) ts ≡ ts
 map_id [] = refl
 map_id (t ∷ ts) = ap (λ us. t ∷ us) (map_id ts)
 
-none_turned : (change : Phase → Phase) (b : Box) → in_phase change [] b ≡ b
+pub none_turned : (change : Phase → Phase) (b : Box) → in_phase change [] b ≡ b
 none_turned change b = ap (λ ts. record b { tasks = ts }) (map_id b.tasks)
 
 none_dropped : (b : Box) → drop_of (contains []) b ≡ b

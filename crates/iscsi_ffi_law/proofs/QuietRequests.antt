@@ -54,7 +54,7 @@ covered_same live live' same (o ∷ queue) h = (by_ticket o.ticket h.0, covered_
     by_ticket None k = k
     by_ticket (Some ticket) k = ap (λ v. is_some o.sent || v) (sym (covers_same live live' same queue ticket)) ∙ k
 
-module _ (names : List Name) (t t' : Trace) (same : entered t' ≡ entered t) (lives : (k : ℕ) → is_live_ticket t' k ≡ is_live_ticket t k) (answers : List ℕ) where
+module _ (names : List Name) (t t' : Trace) (same : entered t' ≡ entered t) (answers : List ℕ) where
   of_command_on : (ticket : Option ℕ) → IsOfCommand names t ticket → IsOfCommand names t' ticket
   of_command_on None k = tt
   of_command_on (Some ticket) k = (k.0, ap (find (λ (e : RulesCommand). e.ticket == ticket)) same ∙ k.1, k.2)
@@ -64,14 +64,15 @@ module _ (names : List Name) (t t' : Trace) (same : entered t' ≡ entered t) (l
   reply_of_on (Some place) None k = tt
   reply_of_on (Some place) (Some ticket) k = (k.0, ap (find (λ (e : RulesCommand). e.ticket == ticket)) same ∙ k.1, k.2)
 
-  known_on : (out : Outgoing) → IsKnownOut names t answers out → IsKnownOut names t' answers out
+  pub known_on : (out : Outgoing) → IsKnownOut names t answers out → IsKnownOut names t' answers out
   known_on out k = record { of_reply = k.of_reply; of_command = of_command_on out.ticket k.of_command; same = reply_of_on out.sent out.ticket k.same; own = k.own }
 
+module _ (names : List Name) (t t' : Trace) (same : entered t' ≡ entered t) (lives : (k : ℕ) → is_live_ticket t' k ≡ is_live_ticket t k) (answers : List ℕ) where
   pub queued_on : (undue : List Answer) (rs : List WaitingReply) (n : ℕ) (l : Link) → IsQueued names t answers undue rs n l → IsQueued names t' answers undue rs n l
   queued_on undue rs n l q = record {
     sent = q.sent;
     noting = q.noting;
-    known = each-weaken (IsKnownOut names t answers) (IsKnownOut names t' answers) l.queue known_on q.known;
+    known = each-weaken (IsKnownOut names t answers) (IsKnownOut names t' answers) l.queue (known_on names t t' same answers) q.known;
     covered = covered_same (is_live_ticket t) (is_live_ticket t') (λ k. sym (lives k)) l.queue q.covered;
   }
 

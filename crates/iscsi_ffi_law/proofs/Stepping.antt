@@ -1,6 +1,7 @@
 -- From between two items of an event to between the next two: the outbox, and what is asked of all that is kept.
-use Rattle.std.proofs.Common.{◌≡◌, ℕ, ◌+◌, ◌<◌, ◌≤◌, ◌==◌, ◌&&◌, Bool, true, false, List, ◌++◌, length, Option, None, refl, ap, sym, subst, ◌∙◌, arith}
-use Rattle.std.specs.List.{list_any, position}
+use Rattle.std.proofs.Common.{◌≡◌, ℕ, ◌+◌, ◌<◌, ◌≤◌, ◌==◌, ◌&&◌, Bool, true, false, List, [], ◌++◌, length, count_by, Option, None, refl, ap, sym, subst, ◌∙◌, arith}
+use Rattle.std.specs.List.{filter_map, list_any, position}
+use Rattle.std.proofs.lemmas.List.{append-nil}
 use Rattle.iscsi_history.specs.declared.effect.Effect.{Effect}
 use Rattle.iscsi_history.specs.declared.effect.Effect.TheVariants.{CloseConn, CloseSession, Deliver, Empty, Enable, Enter, Ignore, Immediate, Leave, Send, Void, Wait}
 use Rattle.iscsi_history.specs.rules.Settings.{are_distinct}
@@ -21,8 +22,11 @@ use Rattle.iscsi_outbox_law.proofs.TakesItem.{item_stands}
 use Rattle.iscsi_outbox_law.proofs.TurningCount.{item_last, newest_item}
 use Rattle.iscsi_outbox_steps.specs.State.{Limits, State as OutboxState, limits_of, place_of}
 use Rattle.iscsi_outbox_steps.specs.Steps.{after_item as steps_after_item, is_running_ticket}
+use Rattle.iscsi_ffi_commands.specs.declared.command.Command.{Command}
+use Rattle.iscsi_ffi_commands.specs.Commands.{is_going, is_live}
 use Rattle.iscsi_ffi_rules.specs.declared.action.Action.{Action}
 use Rattle.iscsi_ffi_rules.specs.rules.Calls.{Interface}
+use Rattle.iscsi_ffi_rules.specs.rules.Happening.{leaving, stops_in}
 use Rattle.iscsi_ffi_rules.specs.rules.Sides.{Side}
 use Rattle.iscsi_ffi_steps.specs.State.{State}
 use Rattle.iscsi_ffi_steps.specs.Walk.{on_effects}
@@ -30,6 +34,7 @@ use Rattle.iscsi_ffi_law.specs.Arrived.{IsStepFit, effects_by, is_late, side_beh
 use Rattle.iscsi_ffi_law.specs.Names.{Name, Note}
 use Rattle.iscsi_ffi_law.proofs.Between.{IsBetween}
 use Rattle.iscsi_ffi_law.proofs.Moved.{run_same}
+use Rattle.iscsi_ffi_law.proofs.QuietItems.{stops_none}
 use Rattle.iscsi_ffi_law.proofs.Walking.{is_led, walk_at}
 
 -- a reply goes out on a connection that takes it, and nothing is closed
@@ -77,18 +82,51 @@ calm_on b c h (Ignore why) k = tt
 pub all_calm_on : (b c : Box) → SameLinks b c → (es : List Effect) → EachOf (IsCalm b) es → EachOf (IsCalm c) es
 all_calm_on b c h es = each-weaken (IsCalm b) (IsCalm c) es (calm_on b c h)
 
--- what an item comes to: the walk goes on, and the same holds behind it
+-- what has ended was live, but for one request; what was told to stop was told to start
+pub record AreFewer (xs ended : List (Option ℕ)) (stops : ℕ) (before after : List Command) : Type 0 where
+  pub lives : length ended + count_by is_live after ≤ length xs + count_by is_live before + 1
+  pub going : stops + count_by is_going after ≤ count_by is_going before
+
+-- what an item comes to by which no command leaves: the walk goes on, and the same holds behind it
 pub record GoesOn (i : Interface) (names : List Name) (notes : List Note) (s : State) (r : Side) (own : Option ℕ) (xs : List (Option ℕ)) (item : List Mark) : Type 0 where
   pub state : State
   pub ended : List (Option ℕ)
   pub between : IsBetween i names notes state (side_behind i r item) None ended
   pub outbox : state.outbox ≡ steps_after_item (effects_by i r item) s.outbox
   pub room : state.room ≡ s.room
-  pub few : length ended ≤ length xs + 1
+  pub few : AreFewer xs ended 0 s.commands.items state.commands.items
   pub links : SameLinks r.both.box (side_behind i r item).both.box
   pub calm : EachOf (IsCalm (side_behind i r item).both.box) (effects_by i r item)
   pub walk : (o : OutboxState) → o.limits ≡ limits_of i.outbox → (acts : List Action) (first : Bool) → (first && is_late r.both.event item) ≡ false → (rest : List Effect) → is_led rest ≡ true
       → on_effects first (effects_by i r item ++ rest) (walk_at o s acts xs own r.both.box.sent) ≡ on_effects false rest (walk_at o state acts ended None (side_behind i r item).both.box.sent)
+
+-- .. and any item: with what it tells to stop
+pub record ItemGoes (i : Interface) (names : List Name) (notes : List Note) (s : State) (r : Side) (own : Option ℕ) (xs : List (Option ℕ)) (item : List Mark) : Type 0 where
+  pub state : State
+  pub ended : List (Option ℕ)
+  pub between : IsBetween i names notes state (side_behind i r item) None ended
+  pub outbox : state.outbox ≡ steps_after_item (effects_by i r item) s.outbox
+  pub room : state.room ≡ s.room
+  pub few : AreFewer xs ended (length (stops_in r item)) s.commands.items state.commands.items
+  pub links : SameLinks r.both.box (side_behind i r item).both.box
+  pub calm : EachOf (IsCalm (side_behind i r item).both.box) (effects_by i r item)
+  pub walk : (o : OutboxState) → o.limits ≡ limits_of i.outbox → (acts : List Action) (first : Bool) → (first && is_late r.both.event item) ≡ false → length acts + length (stops_in r item) ≤ s.room → (rest : List Effect) → is_led rest ≡ true
+      → on_effects first (effects_by i r item ++ rest) (walk_at o s acts xs own r.both.box.sent) ≡ on_effects false rest (walk_at o state (acts ++ stops_in r item) ended None (side_behind i r item).both.box.sent)
+
+pub plain_goes : (i : Interface) (names : List Name) (notes : List Note) (s : State) (r : Side) (own : Option ℕ) (xs : List (Option ℕ)) (item : List Mark) → filter_map leaving item ≡ [] → GoesOn i names notes s r own xs item → ItemGoes i names notes s r own xs item
+plain_goes i names notes s r own xs item none g = record {
+  state = g.state;
+  ended = g.ended;
+  between = g.between;
+  outbox = g.outbox;
+  room = g.room;
+  few = subst (λ (as' : List Action). AreFewer xs g.ended (length as') s.commands.items g.state.commands.items) (sym (stops_none r item none)) g.few;
+  links = g.links;
+  calm = g.calm;
+  walk = λ o limits acts first late room rest led.
+      g.walk o limits acts first late rest led
+      ∙ ap (λ as'. on_effects false rest (walk_at o g.state as' g.ended None (side_behind i r item).both.box.sent)) (sym (ap (λ as'. acts ++ as') (stops_none r item none) ∙ append-nil acts));
+}
 
 module _ (i : Interface) (names : List Name) (notes : List Note) (s : State) (r : Side) (own : Option ℕ) (xs : List (Option ℕ)) (k : IsBetween i names notes s r own xs) (item : List Mark) (fit : IsStepFit i r item) (distinct : are_distinct i.outbox.session.conns ≡ true)
     (sound : IsSound i.outbox (side_behind i r item).both.box) where

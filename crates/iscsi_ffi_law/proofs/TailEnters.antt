@@ -1,9 +1,10 @@
 -- A request executes, and its command enters: its use is that of the command.
-use Rattle.std.proofs.Common.{◌≡◌, ℕ, ◌+◌, ◌<◌, ◌≤◌, ◌==◌, ◌&&◌, Bool, true, false, List, [], ◌∷◌, ◌++◌, length, filter, Option, Some, None, nat_le, nat_lt, not, refl, ap, sym, subst, ◌∙◌, arith, length-append, lt-ltb, eq-eqb, ne_eqb}
+use Rattle.std.proofs.Common.{◌≡◌, ℕ, ◌+◌, ◌<◌, ◌≤◌, ◌==◌, ◌&&◌, cond, Bool, true, false, List, [], ◌∷◌, ◌++◌, length, filter, Option, Some, None, nat_le, nat_lt, not, refl, ap, sym, subst, ◌∙◌, arith, length-append, lt-ltb, eq-eqb, ne_eqb}
 use Rattle.std.specs.List.{list_any}
 use Rattle.std.proofs.lemmas.Bool.{eqb-true, false≢true}
 use Rattle.std.proofs.lemmas.Bool.Decides.{nat_tests}
 use Rattle.std.proofs.lemmas.List.{append-nil, append_assoc}
+use Rattle.std.proofs.lemmas.List.Sums.{sum_by-append}
 use Rattle.iscsi_wire.specs.Fields.{connection_of}
 use Rattle.iscsi_history.specs.declared.effect.Effect.{Effect}
 use Rattle.iscsi_history.specs.declared.effect.Effect.TheVariants.{Enter}
@@ -11,6 +12,7 @@ use Rattle.iscsi_history.specs.rules.Settings.{are_distinct}
 use Rattle.iscsi_history.specs.rules.Trace.{Arrival, Command as RulesCommand, Mark, entered}
 use Rattle.iscsi_history.specs.rules.Run.{newly_enabled, stat_sn_of}
 use Rattle.iscsi_history.proofs.BoolLemmas.{and_parts}
+use Rattle.iscsi_history.proofs.CountLemmas.{count-cons}
 use Rattle.iscsi_history.proofs.ElementLemmas.{in-filter}
 use Rattle.iscsi_history.proofs.Forms.{AfterWaiting, AtArrival, AtTurn, Start}
 use Rattle.iscsi_outbox_rules.specs.rules.Boxes.{Box, Handed, Link, Task}
@@ -26,7 +28,7 @@ use Rattle.iscsi_outbox_steps.specs.Steps.{after_item as steps_after_item, is_ru
 use Rattle.iscsi_requests.specs.Conns.{of_conn}
 use Rattle.iscsi_ffi_commands.specs.declared.command.Command.{Command}
 use Rattle.iscsi_ffi_commands.specs.declared.command.Stage.TheVariants.{Entered}
-use Rattle.iscsi_ffi_commands.specs.Commands.{is_of, may_enter}
+use Rattle.iscsi_ffi_commands.specs.Commands.{is_going, is_live, is_of, may_enter}
 use Rattle.iscsi_ffi_commands.specs.Commands as commands
 use Rattle.iscsi_ffi_rules.specs.declared.action.Action.{Action}
 use Rattle.iscsi_ffi_rules.specs.rules.Calls.{Interface}
@@ -260,7 +262,10 @@ module _ (i : Interface) (names : List Name) (notes : List Note) (s : State) (r 
     between = between;
     outbox = refl;
     room = refl;
-    few = omega arith;
+    few =
+        let lives = sum_by-append (λ (x : Command). cond (is_live x) 1 0) s.commands.items (command ∷ []) in
+        let going = sum_by-append (λ (x : Command). cond (is_going x) 1 0) s.commands.items (command ∷ []) in
+        record { lives = omega (arith, lives, count-cons is_live command []); going = omega (arith, going, count-cons is_going command []) };
     links = subst (SameLinks r.both.box) (sym box_is) (record { long = settled.long; same = settled.same });
     calm = subst (EachOf (IsCalm (side_behind i r item).both.box)) (sym effects_are) (calm_plain i r item start a void (Some c) None ns (λ reply is. absurd (let no : ⊥ = cc in no)));
     walk = λ o limits acts first late rest led. walk o limits acts first late rest led;

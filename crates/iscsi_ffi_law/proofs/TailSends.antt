@@ -1,7 +1,6 @@
 -- A request executes, and is answered: its use is that of the reply that waits.
 use Rattle.std.proofs.Common.{◌≡◌, ℕ, ◌+◌, ◌≤◌, ◌==◌, ◌&&◌, Bool, true, false, List, [], ◌∷◌, ◌++◌, length, count_by, Option, Some, None, refl, ap, sym, subst, ◌∙◌, arith, length-set}
 use Rattle.std.specs.List.{filter_map, list_any}
-use Rattle.std.proofs.lemmas.Bool.{eqb-true}
 use Rattle.std.proofs.lemmas.List.{append_assoc}
 use Rattle.iscsi_wire.specs.declared.reply.Reply.{Reply}
 use Rattle.iscsi_wire.specs.Fields.{connection_of}
@@ -10,20 +9,17 @@ use Rattle.iscsi_history.specs.declared.effect.Effect.TheVariants.{Send}
 use Rattle.iscsi_history.specs.rules.Settings.{are_distinct}
 use Rattle.iscsi_history.specs.rules.Trace.{Arrival, Mark, Sends, first_of, waiting}
 use Rattle.iscsi_history.specs.rules.Run.{stat_sn_of}
-use Rattle.iscsi_history.proofs.BoolLemmas.{and_parts}
 use Rattle.iscsi_history.proofs.CountLemmas.{one}
 use Rattle.iscsi_history.proofs.Forms.{AfterWaiting, AtArrival, AtTurn, Start}
 use Rattle.iscsi_history.proofs.NewlyLemmas.{Untouched, newly-untouched}
 use Rattle.iscsi_outbox_rules.specs.rules.Boxes.{Box, Link}
 use Rattle.iscsi_outbox_rules.specs.rules.Due.{settle}
-use Rattle.iscsi_outbox_rules.specs.rules.Items.{after_item, reply_sent, send}
+use Rattle.iscsi_outbox_rules.specs.rules.Items.{after_item, phase_enabled, reply_sent, send}
 use Rattle.iscsi_outbox_rules.specs.rules.Queues.{takes_more}
 use Rattle.iscsi_outbox_rules.specs.rules.Run.{new_link}
 use Rattle.iscsi_outbox_rules.specs.rules.Words.{is_running}
-use Rattle.iscsi_outbox_law.specs.Commands.{is_under_way, link_in}
+use Rattle.iscsi_outbox_law.specs.Commands.{link_in}
 use Rattle.iscsi_outbox_law.specs.Sound.{IsSound}
-use Rattle.iscsi_outbox_law.proofs.PlaceLemmas.{AreApart as LinksApart, IsPlace, conns_of, none_here, one_place}
-use Rattle.iscsi_outbox_law.proofs.Standing.{links_apart, stands_nowhere, stands_there}
 use Rattle.iscsi_outbox_steps.specs.State.{State as OutboxState, limits_of, place_of}
 use Rattle.iscsi_outbox_steps.specs.Steps.{after_item as steps_after_item}
 use Rattle.iscsi_requests.specs.Conns.{of_conn}
@@ -54,14 +50,16 @@ use Rattle.iscsi_ffi_rules.specs.declared.action.StopReason.{StopReason}
 use Rattle.iscsi_ffi_law.proofs.QuietBox.{IsQuietPart}
 use Rattle.iscsi_ffi_law.proofs.DoneRoom.{may_wait_more}
 use Rattle.iscsi_ffi_law.proofs.Finish.{as_many_links}
-use Rattle.iscsi_ffi_law.proofs.Members.{PassingAt, any_at}
+use Rattle.iscsi_ffi_law.proofs.Members.{PassingAt}
+use Rattle.iscsi_ffi_law.proofs.Moved.{all_queued}
 use Rattle.iscsi_ffi_law.proofs.Plain.{answers_plain, each_plain, effects_plain, plain_effects, plain_item, quiet_plain, start_effect, untouched_plain, void_effects}
 use Rattle.iscsi_ffi_law.proofs.Quiet.{settled_tasks}
-use Rattle.iscsi_ffi_law.proofs.QuietBox.{quiet_item, sent_tasks}
+use Rattle.iscsi_ffi_law.proofs.QuietBox.{none_turned, quiet_item, sent_tasks}
 use Rattle.iscsi_ffi_law.proofs.QuietRequests.{entered_on, requests_on}
 use Rattle.iscsi_ffi_law.proofs.QuietSends.{sends_reply}
 use Rattle.iscsi_ffi_law.proofs.Releases.{endings}
 use Rattle.iscsi_ffi_law.proofs.Releasing.{ending}
+use Rattle.iscsi_ffi_law.proofs.ReplyPlace.{conn_is as reply_conn, place_is as reply_place, takes_it as reply_takes, there as reply_there}
 use Rattle.iscsi_ffi_law.proofs.ReplyRequests.{IsReplied, requests_replied}
 use Rattle.iscsi_ffi_law.proofs.Stepping.{GoesOn, IsCalm, SameLinks, all_calm_on, last_then, places_same, runs_then, stands_then}
 use Rattle.iscsi_ffi_law.proofs.TailOver.{voids_past}
@@ -113,32 +111,20 @@ module _ (i : Interface) (names : List Name) (notes : List Note) (s : State) (r 
   box_is : after_item i.outbox r.both.box (effects_by i r item) ≡ settle i.outbox sent_box
   box_is = ap (after_item i.outbox r.both.box) h.effects_are ∙ quiet_item i.outbox r.both.box h.effects x (Some (cid, reply)) h.part
 
-  sends : IsSendFit i.outbox r.both.box cid
+  abbrev sends : IsSendFit i.outbox r.both.box cid
   sends = fit.sends cid reply (ap (λ (es : List Effect). first_of (filter_map reply_sent es)) h.effects_are ∙ h.part.sends)
 
-  there : PassingAt (λ (l : Link). l.conn == cid && takes_more l) r.both.box.links (new_link 0)
-  there = any_at (λ (l : Link). l.conn == cid && takes_more l) r.both.box.links (new_link 0) sends.takes
-
-  abbrev p : ℕ
-  p = there.place
+  abbrev there : PassingAt (λ (l : Link). l.conn == cid && takes_more l) r.both.box.links (new_link 0)
+  there = reply_there i.outbox s.outbox r.both.box k.outbox distinct cid sends.takes
 
   conn_is : (link_in r.both.box.links there.place).conn ≡ cid
-  conn_is = eqb-true (link_in r.both.box.links there.place).conn (cid) (and_parts ((link_in r.both.box.links there.place).conn == cid) (takes_more (link_in r.both.box.links there.place)) there.passes).0
+  conn_is = reply_conn i.outbox s.outbox r.both.box k.outbox distinct cid sends.takes
 
   takes_it : takes_more (link_in r.both.box.links there.place) ≡ true
-  takes_it = (and_parts ((link_in r.both.box.links there.place).conn == cid) (takes_more (link_in r.both.box.links there.place)) there.passes).1
+  takes_it = reply_takes i.outbox s.outbox r.both.box k.outbox distinct cid sends.takes
 
-  apart_links : LinksApart (conns_of r.both.box.links)
-  apart_links = links_apart (is_under_way i.outbox r.both.box.links) i.outbox s.outbox r.both.box k.outbox distinct
-
-  place_is : place_of s.outbox (cid) ≡ Some (there.place)
-  place_is = by_place (place_of s.outbox cid) refl
-    where
-      by_place : (z : Option ℕ) → place_of s.outbox cid ≡ z → z ≡ Some (there.place)
-      by_place None none = absurd (none_here r.both.box.links cid there.place (stands_nowhere (is_under_way i.outbox r.both.box.links) i.outbox s.outbox r.both.box k.outbox cid none) there.within conn_is)
-      by_place (Some q) found =
-          let at : IsPlace r.both.box.links cid q = stands_there (is_under_way i.outbox r.both.box.links) i.outbox s.outbox r.both.box k.outbox cid q found in
-          ap (λ (v : ℕ). Some v) (one_place r.both.box.links q there.place apart_links at.within there.within (at.is ∙ sym conn_is))
+  place_is : place_of s.outbox cid ≡ Some (there.place)
+  place_is = reply_place i.outbox s.outbox r.both.box k.outbox distinct cid sends.takes
 
   long : length s.replies.waiting ≡ length r.both.box.links
   long = k.sizes.replies ∙ sym (as_many_links i s r k.outbox)
@@ -159,8 +145,8 @@ module _ (i : Interface) (names : List Name) (notes : List Note) (s : State) (r 
   requests1 = requests_on names notes (λ q. ending own q + endings xs q) (λ q. []) s r k.requests item h.untouched r.both.event h.held h.functions pending1 (λ q. omega (arith, h.uses q)) h.requests h.noted
 
   replied : IsReplied names s1 r1 event there.place h.place (after_item i.outbox r.both.box (effects_by i r item))
-  replied = subst (IsReplied names s1 r1 event there.place h.place) (sym box_is)
-      (sends_reply i names notes pending1 (λ q. []) s1 r1 requests1 k.outbox fit.fit.sound distinct event there.place h.place cid there.within conn_is takes_it sends.takes long h.named x reply)
+  replied = subst (IsReplied names s1 r1 event there.place h.place) (sym (box_is ∙ ap (settle i.outbox) (sym (none_turned phase_enabled sent_box))))
+      (sends_reply i names s1 r1 requests1.answers (all_queued i names notes pending1 (λ q. []) s1 r1 requests1 k.outbox distinct fit.fit.sound) [] event there.place h.place cid there.within conn_is takes_it sends.takes long h.named x reply)
 
   runs : (ticket : ℕ) → is_running (after_item i.outbox r.both.box (effects_by i r item)) ticket ≡ is_running r.both.box ticket
   runs ticket =
@@ -232,7 +218,7 @@ module _ (i : Interface) (names : List Name) (notes : List Note) (s : State) (r 
     between = between;
     outbox = refl;
     room = refl;
-    few = omega arith;
+    few = record { lives = omega arith; going = omega arith };
     links = same_links;
     calm = subst (EachOf (IsCalm (side_behind i r item).both.box)) (sym h.effects_are) (h.calm (side_behind i r item).both.box (all_calm_on r.both.box (side_behind i r item).both.box same_links (Send cid h.sn reply ∷ []) (sends.takes, tt)).0);
     walk = λ o limits acts first late rest led. walk o limits acts first late rest led;

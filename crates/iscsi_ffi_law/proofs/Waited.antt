@@ -164,6 +164,7 @@ module _ (i : Interface) (names : List Name) (notes : List Note) (s : State) (r 
     fresh = ⊎_elim (λ some. absurd (let none = k.over its.request (omega (arith, some)) in let no : ⊥ = omega (arith, none, here, counted its.request) in no)) (λ few. omega (arith, few)) (cases_lt 0 (endings xs its.request));
     over = (let o = k.functions.once its.request in omega (arith, unheld, here, o, counted its.request));
     by = reason_by a.request (Some (its.request));
+    why = refl;
     walk = λ o limits acts early sent late. by_first early late o limits acts sent;
   }
     where

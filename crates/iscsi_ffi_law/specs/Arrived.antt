@@ -12,7 +12,7 @@ use Rattle.iscsi_history.specs.rules.Management.{MOST_WAITING, waiting_on}
 use Rattle.iscsi_history.specs.rules.Settings.{Setting}
 use Rattle.iscsi_requests.specs.Numbers.{IsInWindow, size_for}
 use Rattle.iscsi_history.specs.rules.Run.{effects_of_item, entry_of}
-use Rattle.iscsi_history.specs.rules.Trace.{Admits, Arrival, ClosesConn, ClosesSession, Command, Empties, Executes, Leaves, Mark, Trace, enters, entered, first_of, has, held, is_among, is_delivered, is_emptied, leaves_ticket, live, shown, waiting}
+use Rattle.iscsi_history.specs.rules.Trace.{Admits, Arrival, ClosesConn, ClosesSession, Command, Empties, Executes, Mark, Trace, enters, entered, first_of, has, held, is_among, is_delivered, is_emptied, leaves_ticket, live, shown, waiting}
 use Rattle.iscsi_outbox_rules.specs.promises.Room.{Fits, places}
 use Rattle.iscsi_outbox_rules.specs.rules.Boxes.{Box, Handed, Link}
 use Rattle.iscsi_outbox_rules.specs.rules.Calls as outbox
@@ -24,8 +24,8 @@ use Rattle.iscsi_outbox_rules.specs.rules.Words.{contains, is_running, replies_w
 use Rattle.iscsi_outbox_law.specs.Pairs.{EachOf}
 use Rattle.iscsi_outbox_law.specs.Sound.{IsItemSound, IsSound, NoneIsFresh}
 use Rattle.iscsi_ffi_rules.specs.rules.Calls.{Interface}
-use Rattle.iscsi_ffi_rules.specs.rules.Happening.{answers_in, happening, stepped}
-use Rattle.iscsi_ffi_rules.specs.rules.Needs.{admitted_by}
+use Rattle.iscsi_ffi_rules.specs.rules.Happening.{answers_in, happening, leaving, stepped}
+use Rattle.iscsi_ffi_rules.specs.rules.Needs.{admitted_by, is_held, is_waiting}
 use Rattle.iscsi_ffi_rules.specs.rules.Run.{heard_in, tag_heard, word_at}
 use Rattle.iscsi_ffi_rules.specs.rules.Sides.{Asked, Side}
 use Rattle.iscsi_ffi_steps.specs.State.{State}
@@ -84,12 +84,20 @@ effects_by i r item = effects_of_item i.outbox.session r.both.trace item
 abbrev pub is_first_waiting : Trace → Arrival → Type 0
 is_first_waiting t a = find (λ (b : Arrival). connection_of b.request == connection_of a.request && cmd_sn b.request == cmd_sn a.request) (waiting t) ≡ Some a
 
+-- a command leaves as a request executes: its own request is neither held nor waits, and wasn't answered; it runs on just where it was told to start
+pub record IsLeavingFit (i : Interface) (r : Side) (item : List Mark) (d : Command) : Type 0 where
+  pub held : is_held d.arrival.event (item ∷ r.both.trace) ≡ false
+  pub waiting : is_waiting d.arrival.event (item ∷ r.both.trace) ≡ false
+  pub unanswered : contains r.answers d.arrival.event ≡ false
+  pub runs : is_running (after_item i.outbox r.both.box (effects_by i r item)) d.ticket ≡ contains r.told d.ticket
+
 -- so it is before each item, with the trace and the box that the items before it left
 pub record IsStepFit (i : Interface) (r : Side) (item : List Mark) : Type 0 where
   pub fit : IsItemFit i.outbox r.both.box (effects_by i r item)
   pub sends : (conn : ℕ) (reply : Reply) → first_of (filter_map reply_sent (effects_by i r item)) ≡ Some (conn, reply) → IsSendFit i.outbox r.both.box conn
   pub enters : (c : Command) → filter_map enters item ≡ c ∷ [] → IsFreshCommand r c
   pub waited : (a : Arrival) → first_of item ≡ Some (Executes a) → list_any (λ (b : Arrival). b.event == a.event) (waiting r.both.trace) ≡ true → ((a.event == r.both.event) ≡ false) × is_first_waiting r.both.trace a
+  pub leaves : EachOf (IsLeavingFit i r item) (filter_map leaving item)
 
 -- the side behind an item
 abbrev pub side_behind : Interface → Side → List Mark → Side
@@ -101,6 +109,11 @@ side_behind i r item = record r {
 abbrev pub AreStepsFit : Interface → Side → List (List Mark) → Type 0
 AreStepsFit i r [] = IsSound i.outbox r.both.box
 AreStepsFit i r (item ∷ items) = IsStepFit i r item × AreStepsFit i (side_behind i r item) items
+
+-- .. and what is known of the commands that leave by the items
+abbrev pub AreLeavingFit : Interface → Side → List (List Mark) → Type 0
+AreLeavingFit i r [] = Unit {0}
+AreLeavingFit i r (item ∷ items) = EachOf (IsLeavingFit i r item) (filter_map leaving item) × AreLeavingFit i (side_behind i r item) items
 
 abbrev pub effects_then : Interface → Side → ℕ → List ℕ → List Effect
 effects_then i r cid header = (entry_of i.outbox.session r.both.event r.both.trace (Arrive cid header)).effects
@@ -129,8 +142,9 @@ pub record IsEventFit (i : Interface) (r : Side) (cid : ℕ) (header : List ℕ)
   pub fit : IsFit i r.both.box (after_call i.outbox r.both.box (arrive_call i r cid header))
   pub steps : AreStepsFit i r (items_of i.outbox.session r.both.event r.both.trace (Arrive cid header))
   pub stale : NoneIsFresh r.both.box
-  -- it has no more items, enables no more commands, and leaves no more of them live than there are places for
+  -- it finds no more commands live, has no more items, enables no more commands, and leaves no more of them live than there are places for
   pub sent : r.both.box.sent < 2 ^ 64 - 1
+  pub found : length (live r.both.trace) ≤ places i.outbox
   pub short : length (items_of i.outbox.session r.both.event r.both.trace (Arrive cid header)) ≤ places i.outbox
   pub enabled : length (filter_map ticket_enabled (effects_then i r cid header)) ≤ places i.outbox
   pub few : length (live (stepped i r (Arrive cid header)).both.trace) ≤ places i.outbox
@@ -150,10 +164,9 @@ pub record IsArrivalFit (i : Interface) (r : Side) (cid : ℕ) (header : List �
 
 -- ---- what becomes of it
 
--- nothing is taken out by it or closed
+-- no request that is held is taken out by it, and nothing is closed. Commands may leave by it
 abbrev pub is_plain : Mark → Bool
 is_plain (Empties a) = false
-is_plain (Leaves c) = false
 is_plain (ClosesConn conn) = false
 is_plain ClosesSession = false
 is_plain _ = true

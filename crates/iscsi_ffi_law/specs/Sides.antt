@@ -23,7 +23,7 @@ use Rattle.iscsi_ffi_rules.specs.rules.Clearing.{TASK_ABORTED}
 use Rattle.iscsi_ffi_rules.specs.rules.Happening.{happening, other, stepped}
 use Rattle.iscsi_ffi_rules.specs.rules.Run.{after_call, heard_in, is_going, is_lost, parting, refusal_of, tag_heard, word_at}
 use Rattle.iscsi_ffi_rules.specs.rules.Sides.{Side}
-use Rattle.iscsi_ffi_law.specs.Arrived.{AreBefore, AreDistinct, AreStepsFit, IsItemFit, IsReceivable, arrive_call, arrived, effects_then, items_then, starts_late}
+use Rattle.iscsi_ffi_law.specs.Arrived.{AreBefore, AreDistinct, AreLeavingFit, AreStepsFit, IsItemFit, IsReceivable, arrive_call, arrived, effects_then, items_then, starts_late}
 use Rattle.iscsi_ffi_law.specs.Done.{AllDone, AreDoneFit, IsRegular}
 use Rattle.iscsi_ffi_law.specs.Fit.{IsFit, IsOrderly}
 use Rattle.iscsi_ffi_law.specs.Parts.{IsBefore}
@@ -75,7 +75,7 @@ AreItemsFit o b (item ∷ items) = IsItemFit o b item × AreItemsFit o (after_it
 pub record IsHeardFit (i : Interface) (r : Side) (cid : ℕ) (header : List ℕ) : Type 0 where
   pub fit : IsFit i r.both.box (after_box_call i.outbox r.both.box (arrive_call i r cid header))
   pub items : AreItemsFit i.outbox r.both.box (in_parts (effects_then i r cid header))
-  pub steps : AreStepsFit i r (items_then i r cid header)
+  pub steps : AreLeavingFit i r (items_then i r cid header) → AreStepsFit i r (items_then i r cid header)
   pub stale : NoneIsFresh r.both.box
   pub sent : r.both.box.sent < 2 ^ 64 - 1
   pub replies : replies_waiting r.both.box < places i.outbox
@@ -83,6 +83,7 @@ pub record IsHeardFit (i : Interface) (r : Side) (cid : ℕ) (header : List ℕ)
   -- it has no more items, enables no more commands, and leaves no more of them live than there are places for
   pub short : length (items_then i r cid header) ≤ places i.outbox
   pub enabled : length (filter_map ticket_enabled (effects_then i r cid header)) ≤ places i.outbox
+  pub found : length (live r.both.trace) ≤ places i.outbox
   pub few : length (live (stepped i r (Arrive cid header)).both.trace) ≤ places i.outbox
   pub regular : IsRegular i (stepped i r (Arrive cid header))
   pub prompt : (rest : List (List Mark)) → items_then i r cid header ≡ (Admits (arrived i r cid header) ∷ []) ∷ rest → starts_late r.both.event rest ≡ false
