@@ -1,5 +1,5 @@
 -- What a set keeps beside its commands, so that none of them is tested again.
-use Rattle.std.specs.Prelude.{◌≡◌, ℕ, ℤ, pos, ◌+ℤ◌, ◌≤ℤ◌, int_lt, map, ◌+◌, ◌-◌, ◌^◌, ◌<◌, ◌≤◌, ◌==◌, ◌&&◌, ◌||◌, not, max, min, nat_lt, Bool, true, false, List, [], ◌∷◌, ◌++◌, length, All, slice_index_or, count_by, Option, MatchOption, if◌then◌else◌}
+use Rattle.std.specs.Prelude.{◌≡◌, ℕ, ℤ, pos, ◌+ℤ◌, ◌≤ℤ◌, int_lt, ◌+◌, ◌-◌, ◌^◌, ◌<◌, ◌≤◌, ◌==◌, ◌&&◌, ◌||◌, not, max, min, nat_lt, Bool, true, false, List, [], ◌∷◌, ◌++◌, length, All, slice_index_or, count_by, Option, MatchOption, if◌then◌else◌}
 use Rattle.std.specs.Int.{int_min}
 use Rattle.std.specs.List.{position_or_len, fold, AllPairs}
 use Rattle.iscsi_tasks.specs.declared.task.Attr.{Attr}
@@ -56,17 +56,6 @@ is_below number (Below at event) = int_lt at number
 -- no function with a number below this one covers one of the commands
 abbrev pub IsCoveredFrom : ℤ → List Task → Type 0
 IsCoveredFrom number ts = (cover : Cover) → is_below number cover ≡ true → All (λ t. is_covered cover t ≡ false) ts
-
--- what holds of every set: it holds no more than its depth, whose room it has, no command waits to be enabled, and none
--- is covered by a function with a number below the one that the set keeps
-pub record IsKept (depth room : ℕ) (number : ℤ) (c : Counts) (list : List Member) : Type 0 where
-  pub least : 1 ≤ depth
-  pub within : length list ≤ depth
-  pub room_left : depth ≤ room
-  pub most : depth ≤ 1024
-  pub counted : IsCounted c list
-  pub settled : IsSettled list
-  pub covered_from : IsCoveredFrom number (map (λ m. m.task) list)
 
 -- a command that enters behind so many others is free
 abbrev pub is_free_behind : Counts → ℕ → Attr → Bool
@@ -167,8 +156,3 @@ pub record IsAscendingTo (most : ℤ) (list : List Member) : Type 0 where
 -- they go up, once the command entered behind so many others, none of whose is above this one if they go up
 abbrev pub ascends_with : Bool → ℤ → ℕ → Task → Bool
 ascends_with ascends most len t = len == 0 || (ascends && not (int_lt (covered_from t) most))
-
--- what holds of a linked set by counts of it: it is kept, and where it says that they go up, they do
-pub record IsKeptInFront (depth room : ℕ) (number : ℤ) (ascends : Bool) (most : ℤ) (c : Counts) (list : List Member) : Type 0 where
-  pub kept : IsKept depth room number c list
-  pub front : ascends ≡ true → IsAscendingTo most list
