@@ -1,5 +1,5 @@
 -- What a set keeps beside its commands, so that none of them is tested again.
-use Rattle.std.specs.Prelude.{◌≡◌, ℕ, ℤ, pos, ◌+ℤ◌, ◌≤ℤ◌, int_lt, ◌+◌, ◌-◌, ◌^◌, ◌<◌, ◌≤◌, ◌==◌, ◌&&◌, ◌||◌, not, max, min, nat_lt, Bool, true, false, List, [], ◌∷◌, ◌++◌, length, All, slice_index_or, count_by, Option, MatchOption, if◌then◌else◌}
+use Rattle.std.specs.Prelude.{◌≡◌, ℕ, ℤ, pos, ◌+ℤ◌, ◌≤ℤ◌, int_lt, ◌+◌, ◌-◌, ◌^◌, ◌<◌, ◌≤◌, ◌==◌, ◌&&◌, ◌||◌, not, nat_lt, Bool, true, false, List, [], ◌∷◌, ◌++◌, length, All, slice_index_or, count_by, Option, MatchOption, if◌then◌else◌}
 use Rattle.std.specs.Int.{int_min}
 use Rattle.std.specs.List.{position_or_len, fold, AllPairs}
 use Rattle.iscsi_tasks.specs.declared.task.Attr.{Attr}
@@ -70,24 +70,6 @@ plus_one_if b n = if b then n + 1 else n
 abbrev pub shifted_by : ℕ → ℕ → ℕ
 shifted_by at place = if nat_lt at place then place - 1 else place
 
--- the first place of what is new, where what is new begins at this place now
-abbrev pub new_from_with : Counts → ℕ → ℕ
-new_from_with c place = if c.new_from == c.new_to then place else min c.new_from place
-
--- up to where what is new stands, where it ends at this place now
-abbrev pub new_to_with : Counts → ℕ → ℕ
-new_to_with c to = if c.new_from == c.new_to then to else max c.new_to to
-
--- one command more, the last
-abbrev pub with_last : Counts → ℕ → Member → Counts
-with_last c len m = record {
-  heads = plus_one_if (is_head_in m) c.heads;
-  ordered_at = plus_one_if (c.ordered_at == len && not (is_ordered_in m)) c.ordered_at;
-  enabled_to = plus_one_if (c.enabled_to == len && m.enabled) c.enabled_to;
-  new_from = if is_new m then new_from_with c len else c.new_from;
-  new_to = if is_new m then len + 1 else c.new_to;
-}
-
 -- the command at this place left, and the oldest ORDERED one is at that place now
 abbrev pub without_one : Counts → ℕ → Attr → ℕ → Counts
 without_one c at attr ordered_at = record {
@@ -96,16 +78,6 @@ without_one c at attr ordered_at = record {
   enabled_to = shifted_by at c.enabled_to;
   new_from = shifted_by at c.new_from;
   new_to = shifted_by at c.new_to;
-}
-
--- the commands from the last enabled one up to this place are enabled too
-abbrev pub with_enabled : Counts → ℕ → Counts
-with_enabled c to = record {
-  heads = c.heads;
-  ordered_at = c.ordered_at;
-  enabled_to = to;
-  new_from = new_from_with c c.enabled_to;
-  new_to = new_to_with c to;
 }
 
 -- a member that is enabled from now on
