@@ -1,5 +1,5 @@
 -- The counts stay those of the set.
-use Rattle.std.proofs.Common.{◌≡◌, ℕ, zero, suc, ◌+◌, ◌-◌, ◌<◌, ◌≤◌, ◌==◌, ◌&&◌, ◌≢◌, ◌⊎◌, inl, inr, not, min, max, cond, Bool, true, false, List, [], ◌∷◌, ◌++◌, length, map, take, drop, set, get_or, All, count_by, refl, ap, sym, ◌∙◌, arith, subst, ⊎_elim, true≢false, ne_eqb, eqb-true, lt-ltb, le-ltb}
+use Rattle.std.proofs.Common.{◌≡◌, ℕ, zero, suc, ◌+◌, ◌-◌, ◌<◌, ◌≤◌, ◌==◌, ◌&&◌, ◌≢◌, ◌⊎◌, inl, inr, not, cond, Bool, true, false, List, [], ◌∷◌, ◌++◌, length, map, take, drop, set, get_or, All, count_by, refl, ap, sym, ◌∙◌, arith, subst, ⊎_elim, true≢false, eqb-true, lt-ltb, le-ltb}
 use Rattle.std.specs.List.{position_or_len, remove}
 use Rattle.std.proofs.lemmas.Bool.{cases_lt, cases_eq, cases_Bool, and_parts, and_right, cond-true, cond-false}
 use Rattle.std.proofs.lemmas.List.{length_push, get_or_append_left, get_or_push, get_or-set_same, get_or-set_other, length-set}
@@ -12,7 +12,7 @@ use Rattle.iscsi_tasks.specs.declared.task.Attr.{Attr}
 use Rattle.iscsi_tasks.specs.declared.task.Task.{Task}
 use Rattle.iscsi_tasks.specs.declared.member.Member.{Member}
 use Rattle.iscsi_tasks.specs.Sets.{is_head_of, is_new}
-use Rattle.iscsi_tasks.specs.Counted.{Counts, IsCounted, is_head_in, is_ordered_in, plus_one_if, shifted_by, new_from_with, new_to_with, with_last, without_one, with_enabled, enabled_now, given_now}
+use Rattle.iscsi_tasks.specs.Counted.{Counts, IsCounted, is_head_in, is_ordered_in, plus_one_if, shifted_by, without_one, enabled_now, given_now}
 
 -- a first place is within the list or its end
 pub first-le : {X : Type 0} (p : X → Bool) (xs : List X) → position_or_len p xs ≤ length xs
@@ -46,32 +46,19 @@ first_push p xs y at is = ⊎_elim
     ∙ sym (position_or_len_push p xs y ∙ cond-false (position_or_len p xs == length xs) _ _ (ap (λ n. n == length xs) (sym is) ∙ before)))
     (cases_Bool (at == length xs))
 
-new_from-le : (c : Counts) (place : ℕ) → new_from_with c place ≤ place
-new_from-le c place = ⊎_elim
-    (λ yes. subst (λ n. n ≤ place) (sym (ap (λ b. cond b place (min c.new_from place)) yes)) (omega arith))
-    (λ no. subst (λ n. n ≤ place) (sym (ap (λ b. cond b place (min c.new_from place)) no)) (omega arith))
-    (cases_Bool (c.new_from == c.new_to))
+-- one command more, the last, with what is new between these places
+abbrev pub with_last : Counts → ℕ → Member → ℕ → ℕ → Counts
+with_last c len m from to = record {
+  heads = plus_one_if (is_head_in m) c.heads;
+  ordered_at = plus_one_if (c.ordered_at == len && not (is_ordered_in m)) c.ordered_at;
+  enabled_to = plus_one_if (c.enabled_to == len && m.enabled) c.enabled_to;
+  new_from = from;
+  new_to = to;
+}
 
--- what is new now ends at this place or later, and within the set
-new_to-gt : (c : Counts) (to k : ℕ) → k < to → k < new_to_with c to
-new_to-gt c to k h = ⊎_elim
-    (λ yes. subst (λ n. k < n) (sym (ap (λ b. cond b to (max c.new_to to)) yes)) (omega arith))
-    (λ no. subst (λ n. k < n) (sym (ap (λ b. cond b to (max c.new_to to)) no)) (omega arith))
-    (cases_Bool (c.new_from == c.new_to))
-
-new_to-le : (c : Counts) (to n : ℕ) → to ≤ n → c.new_to ≤ n → new_to_with c to ≤ n
-new_to-le c to n h g = ⊎_elim
-    (λ yes. subst (λ m. m ≤ n) (sym (ap (λ b. cond b to (max c.new_to to)) yes)) (omega arith))
-    (λ no. subst (λ m. m ≤ n) (sym (ap (λ b. cond b to (max c.new_to to)) no)) (omega arith))
-    (cases_Bool (c.new_from == c.new_to))
-
--- what was new before is still before the last place
-new_to-before : (c : Counts) (to k : ℕ) → c.new_from ≤ k → k < c.new_to → k < new_to_with c to
-new_to-before c to k from old = subst (λ n. k < n) (sym (ap (λ b. cond b to (max c.new_to to)) (ne_eqb c.new_from c.new_to (λ e. omega arith)))) (omega arith)
-
--- what was new before is still behind the first place
-new_from-before : (c : Counts) (place k : ℕ) → c.new_from ≤ k → k < c.new_to → new_from_with c place ≤ k
-new_from-before c place k from to = subst (λ n. n ≤ k) (sym (ap (λ b. cond b place (min c.new_from place)) (ne_eqb c.new_from c.new_to (λ e. omega arith)))) (omega arith)
+-- the commands up to a place are enabled, with what is new between these places
+abbrev pub with_enabled : Counts → ℕ → ℕ → ℕ → Counts
+with_enabled c end from to = record { heads = c.heads; ordered_at = c.ordered_at; enabled_to = end; new_from = from; new_to = to }
 
 -- the counts of no command
 pub counted_none_yet : IsCounted (record { heads = 0; ordered_at = 0; enabled_to = 0; new_from = 0; new_to = 0 }) []
@@ -87,14 +74,14 @@ counted_none_yet = record {
 }
 
 module _ (c : Counts) (list : List Member) (counted : IsCounted c list) (m : Member) (newest : All (λ x. x.task.ticket < m.task.ticket) list) (head : is_head_in m ≡ true → m.enabled ≡ true) where
-  at_push : (P : Member → Type 0) (k : ℕ) (d : Member) → k < length list + 1 → (k < length list → P (get_or list k d)) → (k ≡ length list → P m) → P (get_or (list ++ m ∷ []) k d)
+  pub at_push : (P : Member → Type 0) (k : ℕ) (d : Member) → k < length list + 1 → (k < length list → P (get_or list k d)) → (k ≡ length list → P m) → P (get_or (list ++ m ∷ []) k d)
   at_push P k d within before last = ⊎_elim
       (λ below. subst P (sym (get_or_append_left list (m ∷ []) d k below)) (before below))
       (λ above. subst P (sym (get_or_push list m d k (omega arith))) (last (omega arith)))
       (cases_lt k (length list))
 
-  pub counted_push : IsCounted (with_last c (length list) m) (list ++ m ∷ [])
-  counted_push =
+  pub counted_push : (from to : ℕ) → to ≤ length list + 1 → ((k : ℕ) (d : Member) → k < length list + 1 → is_new (get_or (list ++ m ∷ []) k d) ≡ true → (from ≤ k) × (k < to)) → IsCounted (with_last c (length list) m from to) (list ++ m ∷ [])
+  counted_push from to upto between =
       let len : ℕ = length list in
       let long : length (list ++ m ∷ []) ≡ len + 1 = length_push list m in
       record {
@@ -111,17 +98,8 @@ module _ (c : Counts) (list : List Member) (counted : IsCounted c list) (m : Mem
             at_push (λ x. x.enabled ≡ true) k d (omega (arith, counted.enabled_to)) (λ b. counted.enabled k d below) (λ e. absurd (omega (arith, counted.enabled_to))))
             (cases_Bool (c.enabled_to == len && m.enabled));
         heads_enabled = All-push (λ k. is_head_in k ≡ true → k.enabled ≡ true) list m counted.heads_enabled head;
-        new_to = ⊎_elim
-            (λ yes. subst (λ n. n ≤ length (list ++ m ∷ [])) (sym (ap (λ b. cond b (len + 1) c.new_to) yes)) (omega (arith, long)))
-            (λ no. subst (λ n. n ≤ length (list ++ m ∷ [])) (sym (ap (λ b. cond b (len + 1) c.new_to) no)) (omega (arith, long, counted.new_to)))
-            (cases_Bool (is_new m));
-        new = λ k d l. at_push (λ x. is_new x ≡ true → (cond (is_new m) (new_from_with c len) c.new_from ≤ k) × (k < cond (is_new m) (len + 1) c.new_to)) k d (omega (arith, long))
-            (λ b new. let was = counted.new k d b new in ⊎_elim
-            (λ yes. (subst (λ t. cond t (new_from_with c len) c.new_from ≤ k) (sym yes) (new_from-before c len k was.0 was.1), subst (λ t. k < cond t (len + 1) c.new_to) (sym yes) (omega arith)))
-            (λ no. (subst (λ t. cond t (new_from_with c len) c.new_from ≤ k) (sym no) was.0, subst (λ t. k < cond t (len + 1) c.new_to) (sym no) was.1))
-            (cases_Bool (is_new m)))
-            (λ e yes.
-            (subst (λ t. cond t (new_from_with c len) c.new_from ≤ k) (sym yes) (let low : new_from_with c len ≤ len = new_from-le c len in omega arith), subst (λ t. k < cond t (len + 1) c.new_to) (sym yes) (omega arith)));
+        new_to = omega (arith, long, upto);
+        new = λ k d l. between k d (omega (arith, l, long));
       }
 
 -- ---- a command leaves
@@ -240,8 +218,8 @@ parts-first [] (suc n) = refl
 parts-first (x ∷ xs) zero = refl
 parts-first (x ∷ xs) (suc n) = ap (λ s. cond {A = ℕ} (not (is_ordered_in x)) (1 + s) 0) (parts-first xs n)
 
-pub counted_enabled : (c : Counts) (list : List Member) (to : ℕ) → IsCounted c list → c.enabled_to < to → to ≤ length list → IsCounted (with_enabled c to) (enabled_up_to to list)
-counted_enabled c list to counted more inside =
+pub counted_enabled : (c : Counts) (list : List Member) (to : ℕ) → IsCounted c list → c.enabled_to < to → to ≤ length list → (new_from new_to : ℕ) → new_from ≤ c.enabled_to → to ≤ new_to → new_to ≤ length list → ((k : ℕ) (d : Member) → k < length list → is_new (get_or list k d) ≡ true → (new_from ≤ k) × (k < new_to)) → IsCounted (with_enabled c to new_from new_to) (enabled_up_to to list)
+counted_enabled c list to counted more inside new_from new_to low high upto between =
     let at : (P : Member → Type 0) (k : ℕ) (d : Member) → k < length list → (k < to → P (enabled_now (get_or list k d))) → (to ≤ k → P (get_or list k d)) → P (get_or (enabled_up_to to list) k d) =
     λ P k d l below above. ⊎_elim
     (λ b. subst P (sym (parts-below list to k d l b)) (below b))
@@ -256,16 +234,15 @@ counted_enabled c list to counted more inside =
       enabled_to = omega (arith, long);
       enabled = λ k d l. at (λ m. m.enabled ≡ true) k d (omega arith) (λ b. refl) (λ a. absurd (omega arith));
       heads_enabled = λ k d l. at (λ m. is_head_in m ≡ true → m.enabled ≡ true) k d (omega (arith, long)) (λ b head. refl) (λ a head. counted.heads_enabled k d (omega (arith, long)) head);
-      new_to = let le = new_to-le c to (length list) inside counted.new_to in omega (arith, long, le);
-      new = λ k d l. at (λ m. is_new m ≡ true → (new_from_with c c.enabled_to ≤ k) × (k < new_to_with c to)) k d (omega (arith, long))
+      new_to = omega (arith, long, upto);
+      new = λ k d l. at (λ m. is_new m ≡ true → (new_from ≤ k) × (k < new_to)) k d (omega (arith, long))
           (λ b new. ⊎_elim
           (λ old.
           let on : (get_or list k d).enabled ≡ true = counted.enabled k d old in
-          let was = counted.new k d (omega (arith, long)) (ap (λ t. t && not (get_or list k d).given) on ∙ new) in
-          (new_from-before c c.enabled_to k was.0 was.1, new_to-gt c to k b))
-          (λ fresh. (let low : new_from_with c c.enabled_to ≤ c.enabled_to = new_from-le c c.enabled_to in omega arith, new_to-gt c to k b))
+          between k d (omega (arith, long)) (ap (λ t. t && not (get_or list k d).given) on ∙ new))
+          (λ fresh. (omega (arith, low, fresh), omega (arith, high, b)))
           (cases_lt k c.enabled_to))
-          (λ a new. let was = counted.new k d (omega (arith, long)) new in (new_from-before c c.enabled_to k was.0 was.1, new_to-before c to k was.0 was.1));
+          (λ a. between k d (omega (arith, long)));
     }
 
 -- ---- a ticket is given

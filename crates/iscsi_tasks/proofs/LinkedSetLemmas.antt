@@ -40,27 +40,48 @@ pub kept_none_yet : (depth : ℕ) (number most : ℤ) → 1 ≤ depth → depth 
 unfolding marked_none_yet
 kept_none_yet depth number most least few = record {
   marked = marked_none_yet;
-  kept = record {
-    kept = record {
-      least = least;
-      within = omega arith;
-      room_left = omega arith;
-      most = few;
-      counted = counted_none_yet;
-      settled = λ k d l. absurd (omega (arith, l));
-      covered_from = λ cover below k d l. absurd (omega (arith, l));
-    };
-    front = λ yes. ascending_none most;
-  };
+  least = least;
+  within = omega arith;
+  room_left = omega arith;
+  few = few;
+  settled = λ k d l. absurd (omega (arith, l));
+  covered_from = λ cover below k d l. absurd (omega (arith, l));
+  front = λ yes. ascending_none most;
+}
+
+-- commands change or leave, and none comes
+pub kept_on : {depth room : ℕ} {number : ℤ} {ascends : Bool} {most : ℤ} {m : Marks} {slots : List ℕ} {list : List Member} → IsKeptLinked depth room number ascends most m slots list → {after : Marks} {slots_after : List ℕ} {now : List Member} {room_after : ℕ} → IsMarked after slots_after now → length now ≤ length list → room_after ≡ room → IsSettled now → IsCoveredFrom number (map (λ x. x.task) now) → (IsAscendingTo most list → IsAscendingTo most now) → IsKeptLinked depth room_after number ascends most after slots_after now
+kept_on kept marked fewer same settled covered_from front = let within = kept.within in let left = kept.room_left in record {
+  marked = marked;
+  least = kept.least;
+  within = omega (arith, within, fewer);
+  room_left = omega (arith, left, same);
+  few = kept.few;
+  settled = settled;
+  covered_from = covered_from;
+  front = λ yes. front (kept.front yes);
+}
+
+-- the numbers from which on functions may cover the commands are determined anew
+pub kept_numbered : {depth room : ℕ} {number : ℤ} {ascends : Bool} {most : ℤ} {m : Marks} {slots : List ℕ} {list : List Member} → IsKeptLinked depth room number ascends most m slots list → {number_now : ℤ} {ascends_now : Bool} {most_now : ℤ} → IsCoveredFrom number_now (map (λ x. x.task) list) → (ascends_now ≡ true → IsAscendingTo most_now list) → IsKeptLinked depth room number_now ascends_now most_now m slots list
+kept_numbered kept covered_from front = record {
+  marked = kept.marked;
+  least = kept.least;
+  within = kept.within;
+  room_left = kept.room_left;
+  few = kept.few;
+  settled = kept.settled;
+  covered_from = covered_from;
+  front = front;
 }
 
 pub in_slots : {depth looked room : ℕ} {number : ℤ} {ascends : Bool} {most : ℤ} {m : Marks} {slots : List ℕ} {list : List Member} → IsKeptLinked depth room number ascends most m slots list → IsInSlots (linked (record { depth = depth; looked = looked; list = list }) slots)
 in_slots kept = record {
   order = kept.marked.counted.order;
   long = kept.marked.long;
-  within = kept.kept.kept.within;
-  least = kept.kept.kept.least;
-  most = kept.kept.kept.most;
+  within = kept.within;
+  least = kept.least;
+  most = kept.few;
 }
 
 -- a command that enters is free by the marks where it is by the counts
@@ -100,22 +121,8 @@ module _ {depth room : ℕ} {number : ℤ} {ascends : Bool} {most : ℤ} {m : Ma
 
   pub kept_left : {after : Marks} {slots_after : List ℕ} {now : List Member} {room_after : ℕ} → IsMarked after slots_after now → now ≡ after_moment (without ticket list) → room_after ≡ room → IsKeptLinked depth room_after number ascends most after slots_after now
   kept_left {now = now} marked is same =
-      let was = kept.kept.kept in
       let short = filter-shorter (λ (x : Member). not (x.task.ticket == ticket)) list in
       let long = ap length is in let mapped = length-map (without ticket list) (looked_at (without ticket list)) in
-      let within = was.within in let left = was.room_left in
-      record {
-        marked = marked;
-        kept = record {
-          kept = record {
-            least = was.least;
-            within = omega (arith, short, long, mapped, within);
-            room_left = omega (arith, left, same);
-            most = was.most;
-            counted = marked.counted;
-            settled = subst IsSettled (sym is) (settled_after (without ticket list));
-            covered_from = subst (λ (l : List Member). IsCoveredFrom number (map (λ x. x.task) l)) (sym is) (covered_from_left number list ticket was.covered_from);
-          };
-          front = λ yes. subst (IsAscendingTo most) (sym is) (ascending_left most list ticket (kept.kept.front yes));
-        };
-      }
+      kept_on kept marked (omega (arith, short, long, mapped)) same (subst IsSettled (sym is) (settled_after (without ticket list)))
+      (subst (λ (l : List Member). IsCoveredFrom number (map (λ x. x.task) l)) (sym is) (covered_from_left number list ticket kept.covered_from))
+      (λ up. subst (IsAscendingTo most) (sym is) (ascending_left most list ticket up))

@@ -11,11 +11,11 @@ use Rattle.iscsi_tasks.specs.declared.member.Member.{Member}
 use Rattle.iscsi_tasks.specs.declared.marks.Marks.{Marks}
 use Rattle.iscsi_tasks.specs.Rules.{is_head_of, is_ordered_of}
 use Rattle.iscsi_tasks.specs.Sets.{is_new}
-use Rattle.iscsi_tasks.specs.Counted.{Counts, IsCounted, is_head_in, is_ordered_in, plus_one_if, shifted_by, new_from_with, with_last, without_one, with_enabled, given_now}
+use Rattle.iscsi_tasks.specs.Counted.{Counts, IsCounted, is_head_in, is_ordered_in, plus_one_if, shifted_by, without_one, given_now}
 use Rattle.iscsi_tasks.specs.Chains.{AreApart}
 use Rattle.iscsi_tasks.specs.Marked.{IsMarked, IsPastNone, IsSpan, moved_off, pushed_by, left_by, enabled_by, is_none_marked}
 use Rattle.iscsi_tasks.proofs.ChainLemmas.{not_end, same_to_end}
-use Rattle.iscsi_tasks.proofs.CountLemmas.{first-le, counted_push, shifted_cases, ordered_shifted, one_less, counted_remove, enabled_up_to, parts-length, counted_enabled, counted_none, counted_given}
+use Rattle.iscsi_tasks.proofs.CountLemmas.{first-le, counted_push, at_push, with_last, with_enabled, shifted_cases, ordered_shifted, one_less, counted_remove, enabled_up_to, parts-length, counted_enabled, counted_none, counted_given}
 
 pub some_at : (slots : List ℕ) (k slot : ℕ) → k < length slots → get_or slots k 0 ≡ slot → 1 ≤ times slot slots
 some_at slots k slot l at = subst (λ s. 1 ≤ times s slots) at (times_at slots k l)
@@ -23,20 +23,6 @@ some_at slots k slot l at = subst (λ s. 1 ≤ times s slots) at (times_at slots
 -- where a slot that is no end stands, there is a place
 pub within_some : (slots : List ℕ) (k slot : ℕ) → slot ≡ get_or slots k 0 → slot ≢ 0 → k < length slots
 within_some slots k slot at some = ⊎_elim (λ below. below) (λ past. absurd (some (at ∙ get_or_past slots k 0 past))) (cases_lt k (length slots))
-
--- ---- other places between which the new ones are
-
-pub ranged : (c : Counts) (list : List Member) → IsCounted c list → (f t : ℕ) → t ≤ length list → ((k : ℕ) (d : Member) → k < length list → is_new (get_or list k d) ≡ true → (f ≤ k) × (k < t)) → IsCounted (record c { new_from = f; new_to = t }) list
-ranged c list counted f t within between = record {
-  order = counted.order;
-  heads = counted.heads;
-  ordered_at = counted.ordered_at;
-  enabled_to = counted.enabled_to;
-  enabled = counted.enabled;
-  heads_enabled = counted.heads_enabled;
-  new_to = within;
-  new = between;
-}
 
 -- ---- a command enters
 
@@ -96,21 +82,15 @@ twice_not : (b : Bool) → not (not b) ≡ b
 twice_not true = refl
 twice_not false = refl
 
--- what is new begins no later than it is told to
-least_from : (c : Counts) (n k : ℕ) → new_from_with c n ≤ k → min c.new_from n ≤ k
-least_from c n k from = ⊎_elim
-    (λ (none : (c.new_from == c.new_to) ≡ true). let at : n ≤ k = subst (λ b. cond b n (min c.new_from n) ≤ k) none from in omega (arith, at))
-    (λ (some : (c.new_from == c.new_to) ≡ false). subst (λ b. cond b n (min c.new_from n) ≤ k) some from)
-    (cases_Bool (c.new_from == c.new_to))
-
 pub marked_push : {m : Marks} {slots : List ℕ} {list : List Member} (marked : IsMarked m slots list) (one : Member) (s : ℕ) → AreApart (slots ++ s ∷ []) → All (λ x. x.task.ticket < one.task.ticket) list → (is_head_in one ≡ true → one.enabled ≡ true)
     → IsMarked (pushed_by m one.task.attr one.enabled one.given s) (slots ++ s ∷ []) (list ++ one ∷ [])
 marked_push {m} {slots} {list} marked one s apart newest head =
     let c : Counts = marked.counts in
-    let pushed = counted_push c list marked.counted one newest head in
     let long = marked.long in
     let grown : length (list ++ one ∷ []) ≡ length list + 1 = length_push list one in
-    let same : IsCounted (with_last c (length slots) one) (list ++ one ∷ []) = subst (λ n. IsCounted (with_last c n one) (list ++ one ∷ [])) (sym long) pushed in
+    let counted : (from to : ℕ) → to ≤ length list + 1 → ((k : ℕ) (d : Member) → k < length list + 1 → is_new (get_or (list ++ one ∷ []) k d) ≡ true → (from ≤ k) × (k < to)) → IsCounted (with_last c (length slots) one from to) (list ++ one ∷ []) =
+    λ from to upto between. subst (λ n. IsCounted (with_last c n one from to) (list ++ one ∷ [])) (sym long) (counted_push c list marked.counted one newest head from to upto between) in
+    let at = at_push c list marked.counted one newest head in
     let ordered_in : c.ordered_at ≤ length slots = let le = first-le is_ordered_in list in let is = marked.counted.ordered_at in omega (arith, le, is, long) in
     let enabled_in : c.enabled_to ≤ length slots = let le = marked.counted.enabled_to in omega (arith, le, long) in
     let ordered = mark_push slots s marked.apart c.ordered_at m.ordered (is_ordered_of one.task.attr) ordered_in marked.ordered in
@@ -119,12 +99,11 @@ marked_push {m} {slots} {list} marked one s apart newest head =
     ∙ ap (λ b. get_or (slots ++ s ∷ []) (plus_one_if (c.enabled_to == length slots && b) c.enabled_to) 0) (twice_not one.enabled) in
     ⊎_elim
     (λ (new : is_new one ≡ true). record {
-      counts = record (with_last c (length slots) one) { new_from = min c.new_from (length slots); new_to = length list + 1 };
-      counted = ranged (with_last c (length slots) one) (list ++ one ∷ []) same (min c.new_from (length slots)) (length list + 1) (omega (arith, grown))
-          (λ k d l is. (
-            least_from c (length slots) k (subst (λ b. cond b (new_from_with c (length slots)) c.new_from ≤ k) new (same.new k d l is).0),
-            omega (arith, l, grown),
-          ));
+      counts = with_last c (length slots) one (min c.new_from (length slots)) (length list + 1);
+      counted = counted (min c.new_from (length slots)) (length list + 1) (omega arith)
+          (λ k d l. at (λ x. is_new x ≡ true → (min c.new_from (length slots) ≤ k) × (k < length list + 1)) k d l
+          (λ b yes. let was = (marked.counted.new k d b yes).0 in (omega (arith, was), l))
+          (λ last yes. (omega (arith, last, long), l)));
       heads = ap (plus_one_if (is_head_of one.task.attr)) marked.heads;
       ordered = ordered;
       dormant = dormant;
@@ -134,18 +113,17 @@ marked_push {m} {slots} {list} marked one s apart newest head =
       long = let a = length_push slots s in omega (arith, a, grown, long);
     })
     (λ (old : is_new one ≡ false). record {
-      counts = record (with_last c (length slots) one) { new_from = bumped slots s marked.apart c.new_from; new_to = bumped slots s marked.apart c.new_to };
-      counted = ranged (with_last c (length slots) one) (list ++ one ∷ []) same (bumped slots s marked.apart c.new_from) (bumped slots s marked.apart c.new_to)
-          (bumped_cases slots s marked.apart (λ n. n ≤ length (list ++ one ∷ [])) c.new_to (λ below. omega (arith, below, long, grown)) (λ past. omega (arith, long, grown)))
-          (λ k d l is.
-          let was : (c.new_from ≤ k) × (k < c.new_to) = (
-            subst (λ b. cond b (cond (c.new_from == c.new_to) (length slots) (min c.new_from (length slots))) c.new_from ≤ k) old (same.new k d l is).0,
-            subst (λ b. k < cond b (length slots + 1) c.new_to) old (same.new k d l is).1,
-          ) in
-          let most = marked.counted.new_to in (
-            bumped_cases slots s marked.apart (λ n. n ≤ k) c.new_from (λ below. was.0) (λ past. absurd (omega (arith, past, was.0, was.1, most, long))),
+      counts = with_last c (length slots) one (bumped slots s marked.apart c.new_from) (bumped slots s marked.apart c.new_to);
+      counted =
+          let most = marked.counted.new_to in
+          counted (bumped slots s marked.apart c.new_from) (bumped slots s marked.apart c.new_to)
+          (bumped_cases slots s marked.apart (λ n. n ≤ length list + 1) c.new_to (λ below. omega (arith, below, long)) (λ past. omega (arith, long)))
+          (λ k d l. at (λ x. is_new x ≡ true → (bumped slots s marked.apart c.new_from ≤ k) × (k < bumped slots s marked.apart c.new_to)) k d l
+          (λ b yes. let was = marked.counted.new k d b yes in (
+            bumped_cases slots s marked.apart (λ n. n ≤ k) c.new_from (λ below. was.0) (λ past. absurd (omega (arith, past, was.0, b, long))),
             bumped_cases slots s marked.apart (λ n. k < n) c.new_to (λ below. was.1) (λ past. omega (arith, past, was.1, most, long)),
-          ));
+          ))
+          (λ last yes. absurd (true≢false (sym yes ∙ old))));
       heads = ap (plus_one_if (is_head_of one.task.attr)) marked.heads;
       ordered = ordered;
       dormant = dormant;
@@ -247,16 +225,10 @@ module _ {m : Marks} {slots : List ℕ} {list : List Member} (marked : IsMarked 
       let c : Counts = marked.counts in
       let long = marked.long in
       let kept = parts-length list to in
-      let c0 : Counts = record c { new_from = c.new_to } in
-      let counted = counted_enabled c0 list to (counted_none c list marked.counted (none_marked none)) more within in
-      let same : (c.new_to == c.new_to) ≡ true = eq-eqb c.new_to c.new_to refl in
       record {
-        counts = record (with_enabled c0 to) { new_from = c.enabled_to; new_to = to };
-        counted = ranged (with_enabled c0 to) (enabled_up_to to list) counted c.enabled_to to (omega (arith, kept, within))
-            (λ k d l new. (
-              subst (λ b. cond b c.enabled_to (min c.new_to c.enabled_to) ≤ k) same (counted.new k d l new).0,
-              subst (λ b. k < cond b to (max c.new_to to)) same (counted.new k d l new).1,
-            ));
+        counts = with_enabled c to c.enabled_to to;
+        counted = counted_enabled c list to marked.counted more within c.enabled_to to (omega arith) (omega arith) within
+            (λ k d l new. absurd (true≢false (sym new ∙ none_marked none k d l)));
         heads = marked.heads;
         ordered = marked.ordered;
         dormant = end_is;
@@ -274,16 +246,10 @@ module _ {m : Marks} {slots : List ℕ} {list : List Member} (marked : IsMarked 
       let long = marked.long in
       let kept = parts-length list to in
       let most = marked.counted.new_to in
-      let counted = counted_enabled c list to marked.counted more within in
-      let other : (c.new_from == c.new_to) ≡ false = ne_eqb c.new_from c.new_to (λ e. true≢false (sym (eq-eqb m.new_from m.new_to (marked.new_from ∙ ap (λ n. get_or slots n 0) e ∙ sym marked.new_to)) ∙ some)) in
       record {
-        counts = record (with_enabled c to) { new_from = min c.enabled_to c.new_from; new_to = max c.new_to to };
-        counted = ranged (with_enabled c to) (enabled_up_to to list) counted (min c.enabled_to c.new_from) (max c.new_to to) (omega (arith, kept, within, most))
-            (λ k d l new.
-            let low : min c.new_from c.enabled_to ≤ k = subst (λ b. cond b c.enabled_to (min c.new_from c.enabled_to) ≤ k) other (counted.new k d l new).0 in (
-              omega (arith, low),
-              subst (λ b. k < cond b to (max c.new_to to)) other (counted.new k d l new).1,
-            ));
+        counts = with_enabled c to (min c.enabled_to c.new_from) (max c.new_to to);
+        counted = counted_enabled c list to marked.counted more within (min c.enabled_to c.new_from) (max c.new_to to) (omega arith) (omega arith) (omega (arith, within, most))
+            (λ k d l new. let was = marked.counted.new k d l new in (omega (arith, was.0), omega (arith, was.1)));
         heads = marked.heads;
         ordered = marked.ordered;
         dormant = end_is;

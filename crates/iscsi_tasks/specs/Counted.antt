@@ -1,5 +1,5 @@
 -- What a set keeps beside its commands, so that none of them is tested again.
-use Rattle.std.specs.Prelude.{◌≡◌, ℕ, ℤ, pos, ◌+ℤ◌, ◌≤ℤ◌, int_lt, map, ◌+◌, ◌-◌, ◌^◌, ◌<◌, ◌≤◌, ◌==◌, ◌&&◌, ◌||◌, not, max, min, nat_lt, Bool, true, false, List, [], ◌∷◌, ◌++◌, length, All, slice_index_or, count_by, Option, MatchOption, if◌then◌else◌}
+use Rattle.std.specs.Prelude.{◌≡◌, ℕ, ℤ, pos, ◌+ℤ◌, ◌≤ℤ◌, int_lt, ◌+◌, ◌-◌, ◌^◌, ◌<◌, ◌≤◌, ◌==◌, ◌&&◌, ◌||◌, not, nat_lt, Bool, true, false, List, [], ◌∷◌, ◌++◌, length, All, slice_index_or, count_by, Option, MatchOption, if◌then◌else◌}
 use Rattle.std.specs.Int.{int_min}
 use Rattle.std.specs.List.{position_or_len, fold, AllPairs}
 use Rattle.iscsi_tasks.specs.declared.task.Attr.{Attr}
@@ -57,17 +57,6 @@ is_below number (Below at event) = int_lt at number
 abbrev pub IsCoveredFrom : ℤ → List Task → Type 0
 IsCoveredFrom number ts = (cover : Cover) → is_below number cover ≡ true → All (λ t. is_covered cover t ≡ false) ts
 
--- what holds of every set: it holds no more than its depth, whose room it has, no command waits to be enabled, and none
--- is covered by a function with a number below the one that the set keeps
-pub record IsKept (depth room : ℕ) (number : ℤ) (c : Counts) (list : List Member) : Type 0 where
-  pub least : 1 ≤ depth
-  pub within : length list ≤ depth
-  pub room_left : depth ≤ room
-  pub most : depth ≤ 1024
-  pub counted : IsCounted c list
-  pub settled : IsSettled list
-  pub covered_from : IsCoveredFrom number (map (λ m. m.task) list)
-
 -- a command that enters behind so many others is free
 abbrev pub is_free_behind : Counts → ℕ → Attr → Bool
 is_free_behind c len Head = true
@@ -81,24 +70,6 @@ plus_one_if b n = if b then n + 1 else n
 abbrev pub shifted_by : ℕ → ℕ → ℕ
 shifted_by at place = if nat_lt at place then place - 1 else place
 
--- the first place of what is new, where what is new begins at this place now
-abbrev pub new_from_with : Counts → ℕ → ℕ
-new_from_with c place = if c.new_from == c.new_to then place else min c.new_from place
-
--- up to where what is new stands, where it ends at this place now
-abbrev pub new_to_with : Counts → ℕ → ℕ
-new_to_with c to = if c.new_from == c.new_to then to else max c.new_to to
-
--- one command more, the last
-abbrev pub with_last : Counts → ℕ → Member → Counts
-with_last c len m = record {
-  heads = plus_one_if (is_head_in m) c.heads;
-  ordered_at = plus_one_if (c.ordered_at == len && not (is_ordered_in m)) c.ordered_at;
-  enabled_to = plus_one_if (c.enabled_to == len && m.enabled) c.enabled_to;
-  new_from = if is_new m then new_from_with c len else c.new_from;
-  new_to = if is_new m then len + 1 else c.new_to;
-}
-
 -- the command at this place left, and the oldest ORDERED one is at that place now
 abbrev pub without_one : Counts → ℕ → Attr → ℕ → Counts
 without_one c at attr ordered_at = record {
@@ -107,16 +78,6 @@ without_one c at attr ordered_at = record {
   enabled_to = shifted_by at c.enabled_to;
   new_from = shifted_by at c.new_from;
   new_to = shifted_by at c.new_to;
-}
-
--- the commands from the last enabled one up to this place are enabled too
-abbrev pub with_enabled : Counts → ℕ → Counts
-with_enabled c to = record {
-  heads = c.heads;
-  ordered_at = c.ordered_at;
-  enabled_to = to;
-  new_from = new_from_with c c.enabled_to;
-  new_to = new_to_with c to;
 }
 
 -- a member that is enabled from now on
@@ -167,8 +128,3 @@ pub record IsAscendingTo (most : ℤ) (list : List Member) : Type 0 where
 -- they go up, once the command entered behind so many others, none of whose is above this one if they go up
 abbrev pub ascends_with : Bool → ℤ → ℕ → Task → Bool
 ascends_with ascends most len t = len == 0 || (ascends && not (int_lt (covered_from t) most))
-
--- what holds of a linked set by counts of it: it is kept, and where it says that they go up, they do
-pub record IsKeptInFront (depth room : ℕ) (number : ℤ) (ascends : Bool) (most : ℤ) (c : Counts) (list : List Member) : Type 0 where
-  pub kept : IsKept depth room number c list
-  pub front : ascends ≡ true → IsAscendingTo most list

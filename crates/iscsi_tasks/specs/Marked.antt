@@ -7,7 +7,7 @@ use Rattle.iscsi_tasks.specs.declared.member.Member.{Member}
 use Rattle.iscsi_tasks.specs.declared.marks.Marks.{Marks}
 use Rattle.iscsi_tasks.specs.Rules.{is_head_of, is_ordered_of}
 use Rattle.iscsi_tasks.specs.Sets.{is_new}
-use Rattle.iscsi_tasks.specs.Counted.{Counts, IsCounted, IsKeptInFront, is_ordered_in, plus_one_if}
+use Rattle.iscsi_tasks.specs.Counted.{Counts, IsCounted, IsSettled, IsCoveredFrom, IsAscendingTo, is_ordered_in, plus_one_if}
 use Rattle.iscsi_tasks.specs.Chains.{AreApart}
 
 -- the marks are the slots at the places that counts of the set tell
@@ -102,10 +102,18 @@ pub record IsSpan (slots : List ℕ) (from to : ℕ) : Type 0 where
   pub from_is : from ≡ slice_index_or slots low 0
   pub to_is : to ≡ slice_index_or slots high 0
 
--- ---- what holds of every linked set
+-- ---- what holds of every linked set: the marks are right, it holds no more than its depth, whose room it has, no command
+-- waits to be enabled, none is covered by a function with a number below the one that the set keeps, and where it says
+-- that the numbers go up along it, they do
 pub record IsKeptLinked (depth room : ℕ) (number : ℤ) (ascends : Bool) (most : ℤ) (m : Marks) (slots : List ℕ) (list : List Member) : Type 0 where
   pub marked : IsMarked m slots list
-  pub kept : IsKeptInFront depth room number ascends most marked.counts list
+  pub least : 1 ≤ depth
+  pub within : length list ≤ depth
+  pub room_left : depth ≤ room
+  pub few : depth ≤ 1024
+  pub settled : IsSettled list
+  pub covered_from : IsCoveredFrom number (map (λ m. m.task) list)
+  pub front : ascends ≡ true → IsAscendingTo most list
 
 -- ---- what leaves
 

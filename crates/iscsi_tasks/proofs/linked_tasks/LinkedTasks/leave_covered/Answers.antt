@@ -1,14 +1,15 @@
-use Rattle.std.proofs.Common.{◌≡◌, ◌∙◌, ◌≤◌, ◌++◌, true, List, length, map, ap, sym, subst, arith}
+use Rattle.std.proofs.Common.{◌∙◌, ◌++◌, List, length, map, ap, sym, subst, arith}
 use Rattle.std.proofs.lemmas.List.{append-nil}
 use Rattle.iscsi_tasks.proofs.PassingLemmas.{none_left}
 use Rattle.iscsi_tasks.specs.declared.task.Task.{Task}
 use Rattle.iscsi_tasks.specs.declared.member.Member.{Member}
-use Rattle.iscsi_tasks.specs.Sets.{Members, tasks_in, InOrder, is_covered, list_staying, set_staying}
+use Rattle.iscsi_tasks.specs.Sets.{Members, tasks_in, InOrder, is_covered, set_staying}
 use Rattle.iscsi_tasks.specs.Linked.{Linked, IsInSlots}
 use Rattle.iscsi_tasks.specs.Counted.{IsSettled, IsCoveredFrom, IsAscendingTo}
 use Rattle.iscsi_tasks.proofs.AllLeftLemmas.{StandsFor-staying}
 use Rattle.iscsi_tasks.proofs.CoveredFromLemmas.{covered_from_staying}
 use Rattle.iscsi_tasks.proofs.FrontLemmas.{ascending_staying}
+use Rattle.iscsi_tasks.proofs.LinkedSetLemmas.{kept_on}
 use Rattle.iscsi_tasks.proofs.StayingLemmas.{length-staying, settled-staying, staying_set, set_stays}
 use Rattle.iscsi_tasks.proofs.linked_tasks.LinkedTasks.leave_covered.Goals as goal
 
@@ -26,30 +27,13 @@ returns-then-not-may_cover-clause-stands c = λ h st. StandsFor-staying c.args.s
 pub invariant_of-self : goal.invariant_of-self
 invariant_of-self c =
     let i = c.self.inside in
-    let cover = c.args.cover.now in
-    let rest : List Member = list_staying (is_covered cover) i.chain.members in
-    let items : c.remove_covered.new.chain.members ≡ rest = c.remove_covered.ensures.members in
-    let long : length c.remove_covered.new.chain.members ≡ length rest = ap length items in
-    let most : length rest ≤ length i.chain.members = length-staying (is_covered cover) i.chain.members in
-    let kept : IsCoveredFrom i.covered_from (map (λ m. m.task) c.remove_covered.new.chain.members) =
-    subst (λ (l : List Member). IsCoveredFrom i.covered_from (map (λ m. m.task) l)) (sym items) (covered_from_staying i.covered_from (is_covered cover) i.chain.members c.self.invariant.kept.kept.covered_from) in
-    let up : i.ascends ≡ true → IsAscendingTo i.ascends_to c.remove_covered.new.chain.members =
-    λ yes. subst (IsAscendingTo i.ascends_to) (sym items) (ascending_staying i.ascends_to (is_covered cover) i.chain.members (c.self.invariant.kept.front yes)) in
-    record {
-      marked = c.remove_covered.ensures.marked;
-      kept = record {
-        kept = record {
-          least = c.self.invariant.kept.kept.least;
-          within = omega (arith, long, most, c.self.invariant.kept.kept.within);
-          room_left = omega (arith, c.self.invariant.kept.kept.room_left, c.remove_covered.ensures.room);
-          most = c.self.invariant.kept.kept.most;
-          counted = c.remove_covered.ensures.marked.counted;
-          settled = subst IsSettled (sym items) (settled-staying (is_covered cover) i.chain.members c.self.invariant.kept.kept.settled);
-          covered_from = kept;
-        };
-        front = up;
-      };
-    }
+    let covers = is_covered c.args.cover.now in
+    let items = c.remove_covered.ensures.members in
+    let long = ap length items in let fewer = length-staying covers i.chain.members in
+    kept_on c.self.invariant c.remove_covered.ensures.marked (omega (arith, long, fewer)) c.remove_covered.ensures.room
+    (subst IsSettled (sym items) (settled-staying covers i.chain.members c.self.invariant.settled))
+    (subst (λ (l : List Member). IsCoveredFrom i.covered_from (map (λ m. m.task) l)) (sym items) (covered_from_staying i.covered_from covers i.chain.members c.self.invariant.covered_from))
+    (λ up. subst (IsAscendingTo i.ascends_to) (sym items) (ascending_staying i.ascends_to covers i.chain.members up))
 
 pub returns-clause-state : goal.returns-clause-state
 returns-clause-state c =
@@ -60,7 +44,7 @@ returns-clause-state c =
 
 pub returns-clause-sound : goal.returns-clause-sound
 returns-clause-sound c =
-    let was = c.self.invariant.kept.kept in
+    let was = c.self.invariant in
     let within = was.within in
     let fewer = length-staying (is_covered c.args.cover.now) c.self.inside.chain.members in
     let long = ap length c.remove_covered.ensures.members in
@@ -69,7 +53,7 @@ returns-clause-sound c =
       long = c.remove_covered.ensures.marked.long;
       within = omega (arith, within, fewer, long);
       least = was.least;
-      most = was.most;
+      most = was.few;
     })
 
 pub returns-clause-stands : goal.returns-clause-stands

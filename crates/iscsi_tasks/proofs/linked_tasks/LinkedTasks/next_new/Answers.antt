@@ -8,30 +8,19 @@ use Rattle.iscsi_tasks.specs.Linked.{Linked}
 use Rattle.iscsi_tasks.specs.Changes.{StandsFor, after_giving}
 use Rattle.iscsi_tasks.proofs.FrontLemmas.{ascending_given}
 use Rattle.iscsi_tasks.proofs.GivingLemmas.{tasks-given, settled-given, StandsFor-giving}
-use Rattle.iscsi_tasks.proofs.LinkedSetLemmas.{in_slots}
+use Rattle.iscsi_tasks.proofs.LinkedSetLemmas.{in_slots, kept_on}
 use Rattle.iscsi_tasks.proofs.linked_tasks.LinkedTasks.next_new.Goals as goal
 
 pub invariant_of-self : goal.invariant_of-self
 invariant_of-self c =
     let list = c.self.inside.chain.members in
+    let given = ap (λ (v : Chained). v.members) c.give_next.ensures.state in
     let long : length (given_in list) ≡ length list = sym (length-map (given_in list) (λ m. m.task)) ∙ ap length (tasks-given list) ∙ length-map list (λ m. m.task) in
-    let kept : length c.give_next.new.chain.members ≡ length (given_in list) = ap length (ap (λ (v : Chained). v.members) c.give_next.ensures.state) in
-    let room = ap (λ (v : Chained). v.room) c.give_next.ensures.state in
-    record {
-      marked = c.give_next.ensures.marked;
-      kept = record {
-        kept = record {
-          least = c.self.invariant.kept.kept.least;
-          within = omega (arith, long, kept, c.self.invariant.kept.kept.within);
-          room_left = omega (arith, c.self.invariant.kept.kept.room_left, room);
-          most = c.self.invariant.kept.kept.most;
-          counted = c.give_next.ensures.marked.counted;
-          settled = subst IsSettled (sym (ap (λ (v : Chained). v.members) c.give_next.ensures.state)) (settled-given list c.self.invariant.kept.kept.settled);
-          covered_from = subst (IsCoveredFrom c.self.inside.covered_from) (sym (ap (map (λ m. m.task)) (ap (λ (v : Chained). v.members) c.give_next.ensures.state) ∙ tasks-given list)) c.self.invariant.kept.kept.covered_from;
-        };
-        front = λ yes. subst (IsAscendingTo c.self.inside.ascends_to) (sym (ap (λ (v : Chained). v.members) c.give_next.ensures.state)) (ascending_given c.self.inside.ascends_to list (c.self.invariant.kept.front yes));
-      };
-    }
+    let kept = ap length given in
+    kept_on c.self.invariant c.give_next.ensures.marked (omega (arith, long, kept)) (ap (λ (v : Chained). v.room) c.give_next.ensures.state)
+    (subst IsSettled (sym given) (settled-given list c.self.invariant.settled))
+    (subst (IsCoveredFrom c.self.inside.covered_from) (sym (ap (map (λ m. m.task)) given ∙ tasks-given list)) c.self.invariant.covered_from)
+    (λ up. subst (IsAscendingTo c.self.inside.ascends_to) (sym given) (ascending_given c.self.inside.ascends_to list up))
 
 pub returns-clause-sound : goal.returns-clause-sound
 returns-clause-sound c = in_slots (invariant_of-self c)

@@ -24,7 +24,7 @@ free c = c.test_free-enabled.ensures.value ∙ ap (λ n. is_free_by c.self.insid
 after : (c : goal.After-push-slot) → after_moment (c.self.inside.chain.members ++ record { task = c.args.task; enabled = false; given = false } ∷ []) ≡ c.self.inside.chain.members ++ record { task = c.args.task; enabled = c.test_free-enabled.result; given = false } ∷ []
 after c =
     let list = c.self.inside.chain.members in
-    moment_entered c.self.invariant.marked.counts c.args.task list c.self.invariant.marked.counted c.self.invariant.kept.kept.settled (newest c)
+    moment_entered c.self.invariant.marked.counts c.args.task list c.self.invariant.marked.counted c.self.invariant.settled (newest c)
     ∙ ap (λ b. list ++ record { task = c.args.task; enabled = b; given = false } ∷ []) (sym (free c))
 
 -- whether its ticket is given
@@ -35,7 +35,7 @@ given_is c = elim c.if-gives.branch [
 ]
 
 room : (c : goal.After-push-slot) → (length c.self.inside.chain.members < c.self.inside.depth) × (length c.push-slot.new.chain.members ≡ length c.self.inside.chain.members + 1)
-room c = (omega (arith, c.self.invariant.kept.kept.within), ap length c.push-slot.ensures.members ∙ length_push c.self.inside.chain.members (record { task = c.args.task; enabled = c.test_free-enabled.result; given = c.if-gives.given }))
+room c = (omega (arith, c.self.invariant.within), ap length c.push-slot.ensures.members ∙ length_push c.self.inside.chain.members (record { task = c.args.task; enabled = c.test_free-enabled.result; given = c.if-gives.given }))
 
 -- no function with a number below the new one covers a command
 covered_on : (c : goal.After-push-slot) → IsCoveredFrom (to_z w64 (of_z w64 c.covered_from_with-self-inside.result)) (map (λ m. m.task) c.push-slot.new.chain.members)
@@ -51,7 +51,7 @@ covered_on c =
     ap (map (λ m. m.task)) c.push-slot.ensures.members ∙ map-append (λ m. m.task) i.chain.members (record { task = c.args.task; enabled = c.test_free-enabled.result; given = c.if-gives.given } ∷ []) in
     subst (λ (ts : List Task). IsCoveredFrom (to_z w64 (of_z w64 c.covered_from_with-self-inside.result)) ts) (sym more)
     (subst (λ (n : ℤ). IsCoveredFrom n (tasks ++ c.args.task ∷ [])) (sym number)
-    (covered_from_push i.covered_from tasks c.args.task c.self.invariant.kept.kept.covered_from))
+    (covered_from_push i.covered_from tasks c.args.task c.self.invariant.covered_from))
 
 -- they go up still, where it says so
 front_on : (c : goal.After-push-slot) → c.ascends_with-self-inside.result ≡ true → IsAscendingTo (to_z w64 (of_z w64 c.covered_from-self-inside.result)) c.push-slot.new.chain.members
@@ -65,24 +65,19 @@ front_on c on =
     let most : to_z w64 (of_z w64 c.covered_from-self-inside.result) ≡ covered_from c.args.task = to_z-of_z w64 c.covered_from-self-inside.result (search rules) ∙ c.covered_from-self-inside.ensures in
     subst (λ (n : ℤ). IsAscendingTo n c.push-slot.new.chain.members) (sym most)
     (subst (IsAscendingTo (covered_from c.args.task)) (sym c.push-slot.ensures.members)
-    (ascending_push i.ascends i.ascends_to i.chain.members m c.self.invariant.kept.front up))
+    (ascending_push i.ascends i.ascends_to i.chain.members m c.self.invariant.front up))
 
 pub invariant_of-self-2 : goal.invariant_of-self-2
 invariant_of-self-2 c = record {
   marked = c.push-slot.ensures.marked;
-  kept = record {
-    kept = record {
-      least = c.self.invariant.kept.kept.least;
-      within = omega (arith, (room c).0, (room c).1);
-      room_left = omega (arith, c.self.invariant.kept.kept.room_left, c.push-slot.ensures.room);
-      most = c.self.invariant.kept.kept.most;
-      counted = c.push-slot.ensures.marked.counted;
-      settled = subst IsSettled (sym c.push-slot.ensures.members)
-          (settled_entered c.self.invariant.marked.counts c.args.task c.self.inside.chain.members c.self.invariant.marked.counted c.self.invariant.kept.kept.settled (newest c) c.test_free-enabled.result c.if-gives.given (free c));
-      covered_from = covered_on c;
-    };
-    front = front_on c;
-  };
+  least = c.self.invariant.least;
+  within = omega (arith, (room c).0, (room c).1);
+  room_left = omega (arith, c.self.invariant.room_left, c.push-slot.ensures.room);
+  few = c.self.invariant.few;
+  settled = subst IsSettled (sym c.push-slot.ensures.members)
+      (settled_entered c.self.invariant.marked.counts c.args.task c.self.inside.chain.members c.self.invariant.marked.counted c.self.invariant.settled (newest c) c.test_free-enabled.result c.if-gives.given (free c));
+  covered_from = covered_on c;
+  front = front_on c;
 }
 
 pub returns-clause-ok : goal.returns-clause-ok
