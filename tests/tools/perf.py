@@ -76,9 +76,11 @@ def write(path, kept, most=None):
 
 
 def spoilt(folder, path):
-    """The capture without its first 1,000 packets, without one in a hundred, and with 160 bytes of each packet. Gives name and path."""
+    """The capture without its first 1,000 packets, without one in a hundred, with 160 bytes of each packet, and with these alone from
+    the 1,001st packet on. Gives name and path."""
     found = list(packets(path))
     lost = set(random.Random(6).sample(range(200, len(found)), len(found) // 100))
     yield "late", write(os.path.join(folder, "late.pcap"), found[1000:])
     yield "lossy", write(os.path.join(folder, "lossy.pcap"), [one for place, one in enumerate(found) if place not in lost])
     yield "cut", write(os.path.join(folder, "cut.pcap"), found, 160)
+    yield "late-and-cut", write(os.path.join(folder, "late-and-cut.pcap"), found[1000:], 160)

@@ -11,6 +11,7 @@ import tempfile
 import unittest
 import unittest.mock
 
+import perf
 from helpers import TOP, replay, run_tool
 
 sys.path.insert(0, os.path.join(TOP, "tools"))
@@ -19,7 +20,7 @@ from lib.answers import target_lines  # noqa: E402
 from lib.captures import sessions_of  # noqa: E402
 from lib.frames import Segment  # noqa: E402
 from lib.packets import packets  # noqa: E402
-from lib.pdu import NO_TAG  # noqa: E402
+from lib.pdu import HEADER_SIZE, NO_TAG  # noqa: E402
 from lib.repairs import repair  # noqa: E402
 from lib.sessions import find  # noqa: E402
 from lib.streams import Chunk, Splitter, Stream, is_plausible  # noqa: E402
@@ -28,6 +29,8 @@ from lib.settling import in_taken_order, units_of  # noqa: E402
 CAPTURES = os.path.join(TOP, "tests", "tools", "captures")
 HAS_TSHARK = shutil.which("tshark") is not None
 PORT = 3260
+# Ethernet with a VLAN, IPv6, TCP.
+HEADERS_OF_FRAME = 18 + 40 + 20
 DIGEST = "2f0530ebc246ba721720a2bd77db767c9842605d4210dc516359dfab197c7782"
 KEYS = b"InitiatorName=iqn.2026-01.example:i\0TargetName=iqn.2026-01.example:t\0"
 
@@ -564,6 +567,16 @@ class Tool(unittest.TestCase):
         self.refused("no session on port 3261: no TCP connection", path, "--port", "3261")
         write_pcap(path, [])
         self.refused("no session: no TCP connection", path)
+
+    def test_frames_that_are_cut_too_short(self):
+        wire = Wire()
+        wire.log_in(0)
+        whole, cut = (os.path.join(self.folder, f"{name}.pcap") for name in ("whole", "short"))
+        write_pcap(whole, wire.segments)
+        perf.write(cut, perf.packets(whole), HEADERS_OF_FRAME + HEADER_SIZE - 1)
+        self.refused("no session: 1 x a connection whose frames are cut too short for headers of 48 bytes", cut)
+        perf.write(cut, perf.packets(whole), HEADERS_OF_FRAME + HEADER_SIZE)
+        self.assertIn("1 connection(s), 0 requests", self.make(cut))
 
     def test_the_ports_are_listed(self):
         wire = Wire()

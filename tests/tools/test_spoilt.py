@@ -12,9 +12,10 @@ import unittest
 
 import perf
 from helpers import run_tool
-from test_capture import Wire, command, login, login_response, response, write_pcap
+from test_capture import Wire, command, login, login_response, pdu, response, write_pcap
 
 COMMANDS, DEPTH, WINDOW = 3000, 32, 129
+DATA_IN, FINAL_WITH_STATUS, NO_TAG = 0x25, 0x81, 0xffffffff
 
 
 def busy_session(seed):
@@ -34,10 +35,16 @@ def busy_session(seed):
         for _ in range(min(chance.randint(0, 3), len(live))):
             stat_sn += 1
             tag = live.pop(chance.randrange(min(len(live), 5)))
-            answers += response(tag, stat_sn, sent + 1, sent + WINDOW)
+            answers += answer(tag, stat_sn, sent, chance.random() < 0.3)
         if answers:
             wire.put(0, False, answers)
     return wire.segments
+
+
+def answer(tag, stat_sn, sent, has_response):
+    """The end of a READ: a SCSI Response, or a Data-In that has the status."""
+    numbers = stat_sn, sent + 1, sent + WINDOW
+    return response(tag, *numbers) if has_response else pdu(DATA_IN, FINAL_WITH_STATUS, tag, (NO_TAG, *numbers), bytes(512))
 
 
 class Spoilt(unittest.TestCase):
@@ -73,7 +80,7 @@ class Spoilt(unittest.TestCase):
                 # Statuses, StatSNs and ExpCmdSNs are the target's, and what the capture lacks is named and counted.
                 self.assertEqual({}, told["counts"])
                 self.assertEqual(replies, told["lost"])
-                self.assertGreater(told["compared"]["target"], 1000)
+                self.assertGreater(told["compared"]["target"], 500)
                 with open(f"{base}.recording", encoding="utf-8") as file:
                     made = sum("made up, since the capture lacks it: " in line for line in file)
                 self.assertGreater(made, 0)

@@ -6,30 +6,13 @@ from html import escape
 from .beside import Beside
 from .answers import read
 from .files import write, writing
-from .page import Page
+from .page import END, Page, begin
 from .picture import connections, paint
 from .places import events_with_places
 from .statistics import Figures
 
 MOST_DIFFERENCES = 30
 INDEX = "index.html"
-HEAD = """<!DOCTYPE html>
-<html lang="en">
-<head>
-<meta charset="utf-8">
-<title>{title}</title>
-<style>
-body {{ font: 14px "DejaVu Sans", "Segoe UI", Helvetica, Arial, sans-serif; color: #24292f; margin: 24px; max-width: 1400px; }}
-h1 {{ font-size: 20px; }} h2 {{ font-size: 16px; margin-top: 32px; border-top: 1px solid #d8dee4; padding-top: 16px; }}
-table {{ border-collapse: collapse; margin: 8px 0; }}
-td, th {{ border: 1px solid #d8dee4; padding: 3px 9px; text-align: left; vertical-align: top; }}
-th {{ background: #f6f8fa; }} td.number {{ text-align: right; font-variant-numeric: tabular-nums; }}
-.sick {{ color: #8e2419; font-weight: bold; }} .quiet {{ color: #57606a; }} li {{ margin: 3px 0; }}
-</style>
-</head>
-<body>
-<h1>{title}</h1>
-"""
 
 
 class Looked:
@@ -131,10 +114,11 @@ def write_index(folder, capture, looked, left_out):
     path = os.path.join(folder, INDEX)
     heads = ("session", "initiator", "port", "seconds", "commands", "taken out", "statuses other than GOOD", "differences")
     with writing(path) as file:
-        file.write(HEAD.format(title=escape(os.fsencode(os.path.basename(capture)).decode("utf-8", "backslashreplace"))))
+        title = os.fsencode(os.path.basename(capture)).decode("utf-8", "backslashreplace")
+        file.write(f"{begin(title, 'index.css')}<h1>{escape(title)}</h1>\n")
         file.write("<table><tr>" + "".join(f"<th>{head}</th>" for head in heads) + "</tr>\n")
         file.writelines(one.row + "\n" for one in looked)
         file.write("</table>\n" + "".join(f'<p class="quiet">left out: {escape(words)}</p>\n' for words in left_out))
         file.writelines(one.section for one in looked)
-        file.write("</body>\n</html>\n")
+        file.write(END)
     return path

@@ -26,7 +26,7 @@ TAKING_OUT = (1, 2, 4, 5)
 NO_UNIT = NO_CID = 0xffff
 SCRIPTS = ("data.js", "find.js", "draw.js", "overview.js", "timeline.js")
 
-HEAD = """<!DOCTYPE html>
+BEGIN = """<!DOCTYPE html>
 <html lang="en">
 <head>
 <meta charset="utf-8">
@@ -35,7 +35,9 @@ HEAD = """<!DOCTYPE html>
 {style}</style>
 </head>
 <body>
-<header>
+"""
+END = "</body>\n</html>\n"
+HEAD = """<header>
 <h1>{title}</h1>
 <label>event <input id="event" type="number" min="{start}" max="{end}" value="{start}"></label>
 <label>find <input id="find" placeholder="tag a1, frame 12, READ"></label>
@@ -52,9 +54,12 @@ HEAD = """<!DOCTYPE html>
 TAIL = """</script>
 <script>
 {script}</script>
-</body>
-</html>
 """
+
+
+def begin(title, *styles):
+    """How a page begins, with these files as its style."""
+    return BEGIN.format(title=escape(title), style="".join(map(part, styles)))
 
 
 def packed(content):
@@ -255,8 +260,9 @@ class Page:
         has_completions = any(flags & 3 == COMPLETION for flags in self.index.flags)
         end = self.start + len(self.index.flags) - 1
         marks, height = legend_marks(0, LEGEND_WIDTH)
-        file.write(HEAD.format(title=escape(title), style=part("page.css") + part("timeline.css"), start=self.start, end=end,
-                               patterns=PATTERNS, legend="".join(marks), legend_width=LEGEND_WIDTH, legend_height=height))
+        file.write(begin(title, "page.css", "timeline.css"))
+        file.write(HEAD.format(title=escape(title), start=self.start, end=end, patterns=PATTERNS, legend="".join(marks),
+                               legend_width=LEGEND_WIDTH, legend_height=height))
         about = {"first": self.start, "count": len(self.index.flags), "block": BLOCK, "names": list(self.index.names),
                  "cids": [*cids, *sorted(seen), *([None] if has_completions else [])], "cidOf": list(self.index.cids),
                  "ours": list(self.ours.items()), "theirs": list(self.theirs.items()), "lanes": sorted(self.lanes.items()),
@@ -268,7 +274,7 @@ class Page:
         for name, place in parts.items():
             self.write_list(file, name, (block[place] if name not in self.left_out else "" for block in self.blocks))
         self.write_list(file, "marks", self.packed_marks)
-        file.write("}\n" + TAIL.format(script="".join(map(part, SCRIPTS))))
+        file.write("}\n" + TAIL.format(script="".join(map(part, SCRIPTS))) + END)
 
     @staticmethod
     def write_list(file, name, packed_blocks):

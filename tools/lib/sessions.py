@@ -91,6 +91,7 @@ class Connection:
         self.is_orphan = False
         self.looked_at = 0
         self.has_hole = False
+        self.is_cut_short = False
         self.keys, self.early = {}, []
         self.login = None
         self.session = None
@@ -108,6 +109,8 @@ class Connection:
             return "a connection of a session whose first login isn't in the capture"
         if self.login:
             return "a login that doesn't succeed"
+        if self.is_cut_short:
+            return "a connection whose frames are cut too short for headers of 48 bytes"
         return "a connection that isn't iSCSI"
 
     def decide(self, initiator, target):
@@ -172,6 +175,7 @@ class Sessions:
 
     def take_chunk(self, connection, source, target, chunk):
         """Takes what is in order of a direction."""
+        connection.is_cut_short |= chunk.cut > 0 and len(chunk.payload) < HEADER_SIZE
         if not connection.is_read or not self.knows_sides(connection, source, target, chunk):
             return
         connection.has_hole |= bool(chunk.hole)

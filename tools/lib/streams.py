@@ -29,11 +29,13 @@ class Pdu:
 
 @dataclass(frozen=True)
 class Chunk:
-    """Bytes of a direction in their order, or a hole of so many: the frame and the time with which they came."""
+    """Bytes of a direction in their order, or a hole of so many: the frame and the time with which they came. Behind the bytes so many
+    of their segment may be cut off."""
     frame: int
     time: float
     payload: bytes = b""
     hole: int = 0
+    cut: int = 0
 
 
 class Stream:
@@ -84,11 +86,12 @@ class Stream:
             place, _, segment = heapq.heappop(self.late)
             rest = segment.payload[self.next_place - place:]
             end = place + len(segment.payload) + segment.missing
+            self.next_place += len(rest)
+            cut = end - self.next_place if end > self.next_place and self.is_cut(end) else 0
             if rest:
-                self.next_place += len(rest)
-                yield self.chunk(segment, payload=rest)
-            if end > self.next_place and self.is_cut(end):
-                yield self.chunk(segment, hole=end - self.next_place)
+                yield self.chunk(segment, payload=rest, cut=cut)
+            if cut:
+                yield self.chunk(segment, hole=cut)
                 self.next_place = end
 
     def chunk(self, segment, **what):
@@ -155,7 +158,7 @@ class Splitter:
     def take(self, chunk):
         """Takes bytes or a hole, and gives the PDUs that are whole with them."""
         if self.is_lost:
-            self.is_lost = not self.begins_in(chunk.payload)
+            self.is_lost = not self.begins_in(chunk.payload, chunk.cut)
         if not self.is_lost:
             yield from self.take_bytes(chunk.payload)
             yield from self.take_hole(chunk.hole)
@@ -220,21 +223,22 @@ class Splitter:
         """The place of the next header is lost."""
         self.is_lost, self.header = True, bytearray()
 
-    def begins_in(self, payload):
-        """Whether a PDU begins with these bytes: the header is plausible, and so is what stands where it ends. Where no login said
-        which digests there are, those are taken with which a PDU ends where the bytes do, or where another one begins."""
+    def begins_in(self, payload, cut):
+        """Whether a PDU begins with these bytes, of a segment that has some more, which were cut off: the header is plausible, and so
+        is what stands where it ends. Where no login said which digests there are, those are taken with which a PDU ends where the
+        segment does, or where another one begins."""
         if len(payload) < HEADER_SIZE or not is_plausible(payload, self.from_initiator):
             return False
         if self.knows_digests:
             return len(payload) < self.extent(payload)[2] + HEADER_SIZE or self.is_header_at(payload, self.extent(payload)[2])
-        return any(self.ends_with(payload, *digests) for digests in ((False, False), (True, True), (True, False), (False, True)))
+        return any(self.ends_with(payload, cut, *digests) for digests in ((False, False), (True, True), (True, False), (False, True)))
 
     def is_header_at(self, payload, place):
         header = payload[place:place + HEADER_SIZE]
         return len(header) == HEADER_SIZE and is_plausible(header, self.from_initiator)
 
-    def ends_with(self, payload, header_digest, data_digest):
-        """Whether a PDU with these digests, which stay then, ends with these bytes, or another one follows."""
+    def ends_with(self, payload, cut, header_digest, data_digest):
+        """Whether a PDU with these digests, which stay then, ends with the segment, or another one follows."""
         self.header_digest, self.data_digest = header_digest, data_digest
         end = self.extent(payload)[2]
-        return len(payload) == end or self.is_header_at(payload, end)
+        return len(payload) + cut == end or self.is_header_at(payload, end)

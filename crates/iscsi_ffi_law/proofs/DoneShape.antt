@@ -113,7 +113,7 @@ new_ones o t item x there = in_units (IsNew t (item ∷ t)) (λ unit. filter (λ
         record { there = e.0; lives = not-true (has (leaves_ticket y.ticket) (item ∷ t)) e.1; free = b.1; barred = not-true (was_free y t) a.1 }
 
 -- no more are enabled than are live
-few_units : (f : ℕ → List Command) (cs : List Command) → ((u : ℕ) → length (f u) ≤ count_by (λ (c : Command). c.unit == u) cs) → (a n : ℕ) → length (flat_map f (range_with_len a n)) ≤ count_by (λ (c : Command). not (nat_lt c.unit a)) cs
+pub few_units : (f : ℕ → List Command) (cs : List Command) → ((u : ℕ) → length (f u) ≤ count_by (λ (c : Command). c.unit == u) cs) → (a n : ℕ) → length (flat_map f (range_with_len a n)) ≤ count_by (λ (c : Command). not (nat_lt c.unit a)) cs
 few_units f cs few a zero = omega arith
 few_units f cs few a (suc n) =
     let rest = few_units f cs few (a + 1) n in

@@ -1,5 +1,5 @@
 -- The calls of a list go alike, by what holds of both sides.
-use Rattle.std.proofs.Common.{zero, suc, ◌++◌, ◌≤◌, ◌^◌, length, ap, arith, ◌≡◌, ℕ, ◌+◌, ◌&&◌, inl, inr, ⊎_elim, Bool, true, false, List, [], ◌∷◌, Option, Some, None, filter, not, refl}
+use Rattle.std.proofs.Common.{zero, suc, ◌++◌, length, ◌≡◌, ℕ, ◌+◌, ◌&&◌, inl, inr, ⊎_elim, Bool, true, false, List, [], ◌∷◌, Option, Some, None, filter, not, refl}
 use Rattle.iscsi_history.specs.rules.Settings.{is_known}
 use Rattle.iscsi_history.specs.rules.Trace.{Command, entered, has, is_closed, leaves_ticket, was_free}
 use Rattle.iscsi_outbox_rules.specs.rules.Calls as outbox
@@ -7,10 +7,9 @@ use Rattle.iscsi_outbox_rules.specs.rules.Words.{contains}
 use Rattle.iscsi_ffi_rules.specs.declared.refusal.Refusal.{Refusal}
 use Rattle.iscsi_history.specs.declared.event.Event.TheVariants.{Arrive, Done}
 use Rattle.iscsi_history.specs.rules.Trace.{live}
-use Rattle.iscsi_ffi_rules.specs.promises.Deeds.{side_after}
-use Rattle.iscsi_ffi_rules.specs.rules.Happening.{Told, happening, happens}
+use Rattle.iscsi_ffi_rules.specs.rules.Happening.{happening}
 use Rattle.iscsi_ffi_rules.specs.rules.Calls.{Arrives, Call, Cleared, Clears, Completes, Hears, Interface, Joins, Loses, Nexts, Puts, Stops, Writes}
-use Rattle.iscsi_ffi_rules.specs.rules.Run.{Answered, Refused, after_call, answers, done, heard_in, is_going, is_lost, refusal_of}
+use Rattle.iscsi_ffi_rules.specs.rules.Run.{after_call, heard_in, is_going, is_lost, refusal_of}
 use Rattle.iscsi_ffi_rules.specs.declared.action.Action.{Action}
 use Rattle.iscsi_ffi_rules.specs.rules.Clearing.{next_withheld, status_of}
 use Rattle.iscsi_ffi_law.specs.Done.{AreDoneFit, IsDoneFit}
@@ -25,13 +24,13 @@ use Rattle.iscsi_ffi_law.specs.Stands.{Stands}
 use Rattle.iscsi_ffi_law.proofs.AllCalls.{goes}
 use Rattle.iscsi_ffi_law.proofs.FitAll.{all_fit, of_call}
 use Rattle.iscsi_ffi_law.proofs.FitFacts.{limits}
-use Rattle.iscsi_ffi_law.proofs.FitEvents.{taken_leaves, taken_steps}
+use Rattle.iscsi_ffi_law.proofs.FitEvents.{taken_leaves}
 use Rattle.iscsi_ffi_law.proofs.FitHolds.{Holds}
 use Rattle.iscsi_ffi_law.proofs.FitLasts.{Lasts, lasts_begun, lasts_walk}
 use Rattle.iscsi_ffi_law.proofs.FitReached.{sound_reached}
 use Rattle.iscsi_ffi_law.proofs.FitRoom.{free, placed, room_to_tell, uses_few}
 use Rattle.iscsi_ffi_law.proofs.FitSized.{AreSized, sized_begun, sized_step}
-use Rattle.iscsi_ffi_law.proofs.FitWalks.{later_walk, no_fewer_then, on_call, on_withholding}
+use Rattle.iscsi_ffi_law.proofs.FitWalks.{on_call}
 use Rattle.iscsi_ffi_law.proofs.HeldNews.{told_free}
 use Rattle.iscsi_ffi_law.proofs.Members.{each_in, in_pairs}
 use Rattle.iscsi_ffi_law.proofs.Opened.{stands_begun}
@@ -59,15 +58,6 @@ done_asked i (suc m) s asked acts acts' h = by_next (done_asked i m) (next_withh
         let g = happening i s (Done c.ticket (status_of s c)) in
         (record { fit = d.fit; room = d.room; stale = d.stale; events = d.events; sent = d.sent; replies = d.replies; few = d.few; there = d.there; takes = d.takes; handed = d.handed }, further g.side asked (acts ++ g.actions) (acts' ++ (happening i (record s { asked = asked }) (Done c.ticket (status_of s c))).actions) k.1)
 
--- an event more, of no more than so many
-taken_early : (i : Interface) (r : Side) (cid : ℕ) (header : List ℕ) (cookie : ℕ) → refusal_of i r cid ≡ None → (after_call i r (Arrives cid header cookie)).told.side.both.event ≤ 2 ^ 30 → r.both.event + 1 ≤ 2 ^ 30
-taken_early i r cid header cookie is few =
-    let s : Side = heard_in i r cid header in
-    let w : Told = happening i (asking s cookie) (Arrive cid header) in
-    let same = ap (λ x. (elim x as (λ y. Answered) [ Some refusal ↦ answers r (Refused refusal) | None ↦ done (happens i (asking s cookie) (Arrive cid header)) ]).told.side.both.event) is in
-    let later = on_withholding i (λ k x. r.both.event + 1 ≤ x.both.event) (later_walk i (r.both.event + 1)) 0 (length (live w.side.both.trace)) w (omega arith) in
-    omega (arith, same, later, few)
-
 module _ (i : Interface) (opening : IsOpening i) where
   module _ (n : ℕ) (s : StepsSide) (r : Side) (st : Stands i s r) (z : AreSized i s.state) (lasts : Lasts i n r) (fit : IsSideFit i r) where
     h : Holds i n r
@@ -85,17 +75,16 @@ module _ (i : Interface) (opening : IsOpening i) where
             let pair = in_pairs (IsCommand st.names r) s.state.commands.items (filter (is_named st.names) (entered r.both.trace)) c (filter-in (is_named st.names) (entered r.both.trace) c there named) st.requests.commands in
             pair.2.freed told
 
-    meets_arrival : (cid : ℕ) (header : List ℕ) (cookie : ℕ) → (after_call i r (Arrives cid header cookie)).told.side.both.event ≤ 2 ^ 30 → IsCallFit i r (Arrives cid header cookie) → Left i s r (Arrives cid header cookie) → (x : Option Refusal) → refusal_of i r cid ≡ x → Meets i s r (Arrives cid header cookie)
-    meets_arrival cid header cookie few call left (Some why) is = inl (fit.leaves (outbox.Hears cid 0 0) refl, (why, is))
-    meets_arrival cid header cookie few call left None is =
+    meets_arrival : (cid : ℕ) (header : List ℕ) (cookie : ℕ) → IsCallFit i r (Arrives cid header cookie) → Left i s r (Arrives cid header cookie) → (x : Option Refusal) → refusal_of i r cid ≡ x → Meets i s r (Arrives cid header cookie)
+    meets_arrival cid header cookie call left (Some why) is = inl (fit.leaves (outbox.Hears cid 0 0) refl, (why, is))
+    meets_arrival cid header cookie call left None is =
         let k = call is in
-        let early = taken_early i r cid header cookie is few in
         ⊎_elim
         (λ e. let w = k.event in inr (inl (record {
           fit = record {
             before = k.before;
             heard = k.heard;
-            event = record { fit = w.fit; steps = taken_steps i opening n r cid header is h early w (taken_leaves i opening n r cid header is h early w lasts.replied lasts.freed told_is) e.steps; stale = w.stale; sent = w.sent; found = w.found; short = e.short; enabled = e.enabled; few = w.few; regular = w.regular; distinct = w.distinct; received = w.received; prompt = w.prompt; waits = w.waits };
+            event = record { fit = w.fit; steps = w.steps (taken_leaves i opening n r cid header is h w lasts.replied lasts.freed told_is); stale = w.stale; sent = w.sent; found = w.found; short = w.short; enabled = w.enabled; few = w.few; regular = w.regular; distinct = w.distinct; received = w.received; prompt = w.prompt; waits = w.waits };
           };
           taken = is;
           room = free i opening n s r st z h;
@@ -121,28 +110,27 @@ module _ (i : Interface) (opening : IsOpening i) where
     meets_loss cid left true false true known lost closed = inr (inl (record { leaves = fit.leaves (outbox.Loses cid) refl; orderly = fit.orderly; closed = closed; known = known; kept = lost }))
     meets_loss cid left true false false known lost closed = inr (inr (left known lost closed))
 
-    meets : (c : Call) → (after_call i r c).told.side.both.event ≤ 2 ^ 30 → IsCallFit i r c → Left i s r c → Meets i s r c
-    meets (Arrives cid header cookie) few call left = meets_arrival cid header cookie few call left (refusal_of i r cid) refl
-    meets (Completes ticket status) few call left = meets_completed ticket status call (is_going r ticket) refl
-    meets (Stops ticket) few call left = meets_stopped ticket call (is_going r ticket && contains r.marked ticket) refl
-    meets (Nexts cid) few call left = (fit.leaves (outbox.Nexts cid) refl, uses_few i opening n s r st z h, fit.sent)
-    meets (Puts p cookie) few call left = (fit.leaves (outbox.Puts p) refl, fit.orderly, free i opening n s r st z h)
-    meets (Writes cid) few call left = fit.leaves (outbox.Writes cid) refl
-    meets (Hears cid exp_stat_sn tag) few call left = fit.leaves (outbox.Hears cid exp_stat_sn tag) refl
-    meets (Joins cid stat_sn) few call left = fit.leaves (outbox.Joins cid stat_sn) refl
-    meets (Loses cid) few call left = meets_loss cid left (is_known cid i.outbox.session.conns) (is_lost r cid) (is_closed cid r.both.trace) refl refl refl
-    meets (Clears unit) few call left = record { fit = fit.fit; room = room_to_tell i opening n s r st z h }
-    meets (Cleared unit) few call left = fit.leaves (outbox.Clears unit) refl
+    meets : (c : Call) → IsCallFit i r c → Left i s r c → Meets i s r c
+    meets (Arrives cid header cookie) call left = meets_arrival cid header cookie call left (refusal_of i r cid) refl
+    meets (Completes ticket status) call left = meets_completed ticket status call (is_going r ticket) refl
+    meets (Stops ticket) call left = meets_stopped ticket call (is_going r ticket && contains r.marked ticket) refl
+    meets (Nexts cid) call left = (fit.leaves (outbox.Nexts cid) refl, uses_few i opening n s r st z h, fit.sent)
+    meets (Puts p cookie) call left = (fit.leaves (outbox.Puts p) refl, fit.orderly, free i opening n s r st z h)
+    meets (Writes cid) call left = fit.leaves (outbox.Writes cid) refl
+    meets (Hears cid exp_stat_sn tag) call left = fit.leaves (outbox.Hears cid exp_stat_sn tag) refl
+    meets (Joins cid stat_sn) call left = fit.leaves (outbox.Joins cid stat_sn) refl
+    meets (Loses cid) call left = meets_loss cid left (is_known cid i.outbox.session.conns) (is_lost r cid) (is_closed cid r.both.trace) refl refl refl
+    meets (Clears unit) call left = record { fit = fit.fit; room = room_to_tell i opening n s r st z h }
+    meets (Cleared unit) call left = fit.leaves (outbox.Clears unit) refl
 
-  alike_from : (n : ℕ) (s : StepsSide) (r : Side) (calls : List Call) → EachOf IsOfBytes calls → Stands i s r → AreSized i s.state → Lasts i n r → (side_after i r calls).both.event ≤ 2 ^ 30 → AreFitFrom i r calls → LeftFrom i s r calls → AreAlike i s r calls
-  alike_from n s r [] bytes st z h few fit left = tt
-  alike_from n s r (c ∷ cs) bytes st z h few fit left =
-      let later = no_fewer_then i (after_call i r c).told.side cs in
-      let g : GoesAlike i s r c = goes i s r c st (meets n s r st z h fit.0 c (omega (arith, few, later)) fit.1 left.0) in (
+  alike_from : (n : ℕ) (s : StepsSide) (r : Side) (calls : List Call) → EachOf IsOfBytes calls → Stands i s r → AreSized i s.state → Lasts i n r → AreFitFrom i r calls → LeftFrom i s r calls → AreAlike i s r calls
+  alike_from n s r [] bytes st z h fit left = tt
+  alike_from n s r (c ∷ cs) bytes st z h fit left =
+      let g : GoesAlike i s r c = goes i s r c st (meets n s r st z h fit.0 c fit.1 left.0) in (
         g.answer,
         g.tells,
-        alike_from (n + 1) (after (ended (called i c s).going)) (after_call i r c).told.side cs bytes.1 g.stands (sized_step i s c z) (on_call i (Lasts i) (lasts_walk i (limits i opening).distinct) n r c (of_call c bytes.0) h) few fit.2 left.1,
+        alike_from (n + 1) (after (ended (called i c s).going)) (after_call i r c).told.side cs bytes.1 g.stands (sized_step i s c z) (on_call i (Lasts i) (lasts_walk i (limits i opening).distinct) n r c (of_call c bytes.0) h) fit.2 left.1,
       )
 
 pub all_alike : (i : Interface) (calls : List Call) → IsOpening i → IsShort i calls → EachOf IsOfBytes calls → LeftFrom i (begun i) (opened i) calls → AreAlike i (begun i) (opened i) calls
-all_alike i calls opening short bytes left = alike_from i opening 0 (begun i) (opened i) calls bytes (stands_begun i) (sized_begun i) (lasts_begun i) short.few (all_fit i calls opening short bytes) left
+all_alike i calls opening short bytes left = alike_from i opening 0 (begun i) (opened i) calls bytes (stands_begun i) (sized_begun i) (lasts_begun i) (all_fit i calls opening short bytes) left

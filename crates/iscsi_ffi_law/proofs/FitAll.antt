@@ -6,7 +6,7 @@ use Rattle.iscsi_history.specs.rules.Trace.{is_closed}
 use Rattle.iscsi_outbox_rules.specs.rules.Calls as outbox
 use Rattle.iscsi_outbox_rules.specs.rules.Words.{contains}
 use Rattle.iscsi_ffi_rules.specs.declared.refusal.Refusal.TheVariants.{NotJoined, UnknownConnection}
-use Rattle.iscsi_ffi_rules.specs.promises.Deeds.{side_after}
+use Rattle.iscsi_ffi_rules.specs.promises.Deeds.{side_after, side_of}
 use Rattle.iscsi_ffi_rules.specs.rules.Calls.{Arrives, Call, Cleared, Clears, Completes, Hears, Interface, Joins, Loses, Nexts, Puts, Stops, Writes}
 use Rattle.iscsi_ffi_rules.specs.rules.Clearing.{TASK_ABORTED}
 use Rattle.iscsi_ffi_rules.specs.rules.Happening.{Told, happens, other, quiet}
@@ -38,7 +38,7 @@ module _ (i : Interface) (opening : IsOpening i) where
 
   -- ---- in a call
 
-  call_fit : (n : ℕ) (r : Side) (c : Call) → IsOfBytes c → Holds i n r → n + 2 < 2 ^ 63 → (after_call i r c).told.side.both.event ≤ 2 ^ 30 → (after_call i r c).told.side.both.event ≤ i.outbox.session.events → IsCallFit i r c
+  call_fit : (n : ℕ) (r : Side) (c : Call) → IsOfBytes c → Holds i n r → n + 2 < 2 ^ 63 → (after_call i r c).told.side.both.event ≤ 2 ^ 48 → (after_call i r c).told.side.both.event ≤ i.outbox.session.events → IsCallFit i r c
   call_fit n r (Arrives cid header cookie) bytes h few early left = λ is.
       let s : Side = heard_in i r cid header in
       let same = ap (λ x. event_after (elim x as (λ y. Answered) [ Some refusal ↦ answers r (Refused refusal) | None ↦ done (happens i (asking s cookie) (Arrive cid header)) ])) is in
@@ -69,7 +69,7 @@ module _ (i : Interface) (opening : IsOpening i) where
 
   -- ---- lists
 
-  fit_from : (n : ℕ) (r : Side) (calls : List Call) → EachOf IsOfBytes calls → Holds i n r → n + length calls < 2 ^ 62 → (side_after i r calls).both.event ≤ 2 ^ 30 → (side_after i r calls).both.event ≤ i.outbox.session.events → AreFitFrom i r calls
+  fit_from : (n : ℕ) (r : Side) (calls : List Call) → EachOf IsOfBytes calls → Holds i n r → n + length calls < 2 ^ 62 → (side_after i r calls).both.event ≤ 2 ^ 48 → (side_after i r calls).both.event ≤ i.outbox.session.events → AreFitFrom i r calls
   fit_from n r [] bytes h many few left = side_fit i opening n r h (omega (arith, many)) few
   fit_from n r (c ∷ cs) bytes h many few left =
       let r' : Side = (after_call i r c).told.side in
@@ -79,5 +79,9 @@ module _ (i : Interface) (opening : IsOpening i) where
         fit_from (n + 1) r' cs bytes.1 (on_call i (Holds i) (holds_walk i (limits i opening).distinct) n r c (of_call c bytes.0) h) (omega (arith, many)) few left,
       )
 
+-- the options allow no more events than that
+few_events : (i : Interface) → IsOpening i → (calls : List Call) → IsShort i calls → (side_of i calls).both.event ≤ 2 ^ 48
+few_events i opening calls short = let most = (limits i opening).events in let some = short.events in omega (arith, most, some)
+
 pub all_fit : (i : Interface) (calls : List Call) → IsOpening i → IsShort i calls → EachOf IsOfBytes calls → AreFitFrom i (opened i) calls
-all_fit i calls opening short bytes = fit_from i opening 0 (opened i) calls bytes (holds_begun i) (let m = short.many in omega (arith, m)) short.few short.events
+all_fit i calls opening short bytes = fit_from i opening 0 (opened i) calls bytes (holds_begun i) (let m = short.many in omega (arith, m)) (few_events i opening calls short) short.events

@@ -30,6 +30,7 @@ use Rattle.iscsi_ffi_law.proofs.Members.{Passing, any_in, each_in, in_any, two_c
 
 pub record AreLimits (o : Setting) : Type 0 where
   pub window : o.window ≤ 1024
+  pub events : o.events ≤ 2 ^ 48
   pub least : 1 ≤ o.window
   pub conns : length o.conns ≤ 64
   pub some : 1 ≤ length o.conns
@@ -41,12 +42,13 @@ limits i opening =
     let p = and_parts (are_sizes_valid o && is_within o.events (2 ^ 48) && is_within (length o.conns) 64) (are_distinct o.conns) opening.session in
     let q = and_parts (are_sizes_valid o && is_within o.events (2 ^ 48)) (is_within (length o.conns) 64) p.0 in
     let s = and_parts (are_sizes_valid o) (is_within o.events (2 ^ 48)) q.0 in
+    let y = and_parts (nat_le 1 o.events) (nat_le o.events (2 ^ 48)) s.1 in
     let t = and_parts (is_within o.window 1024 && is_within o.units 256 && is_within o.depth 1024) (is_within o.level 2) s.0 in
     let u = and_parts (is_within o.window 1024 && is_within o.units 256) (is_within o.depth 1024) t.0 in
     let v = and_parts (is_within o.window 1024) (is_within o.units 256) u.0 in
     let w = and_parts (nat_le 1 o.window) (nat_le o.window 1024) v.0 in
     let x = and_parts (nat_le 1 (length o.conns)) (nat_le (length o.conns) 64) q.1 in
-    record { window = leb-true o.window 1024 w.1; least = leb-true 1 o.window w.0; conns = leb-true (length o.conns) 64 x.1; some = leb-true 1 (length o.conns) x.0; distinct = p.1 }
+    record { window = leb-true o.window 1024 w.1; events = leb-true o.events (2 ^ 48) y.1; least = leb-true 1 o.window w.0; conns = leb-true (length o.conns) 64 x.1; some = leb-true 1 (length o.conns) x.0; distinct = p.1 }
 
 -- ---- where a command is
 

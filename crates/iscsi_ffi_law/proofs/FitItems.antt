@@ -31,15 +31,13 @@ use Rattle.iscsi_outbox_law.proofs.SoundRuns.{SoundItems}
 use Rattle.iscsi_ffi_rules.specs.rules.Calls.{Interface}
 use Rattle.iscsi_ffi_rules.specs.rules.Sides.{Side}
 use Rattle.iscsi_ffi_rules.proofs.Leavings.{has_ticket, none_with}
-use Rattle.iscsi_ffi_law.specs.Arrived.{AreStepsFit, IsFreshCommand, side_behind}
-use Rattle.iscsi_ffi_law.specs.Left.{AreStepsLeft}
+use Rattle.iscsi_ffi_law.specs.Arrived.{AreLeavingFit, AreStepsFit, IsFreshCommand, side_behind}
 use Rattle.iscsi_ffi_law.specs.Sides.{AreItemsFit}
 use Rattle.iscsi_ffi_law.proofs.FitArrivals.{AllAre, IsItemOf, Items, OfForm}
 use Rattle.iscsi_ffi_law.proofs.FitClosed.{AsIn, closed_item}
 use Rattle.iscsi_ffi_law.proofs.FitFacts.{takes_there}
 use Rattle.iscsi_ffi_law.proofs.FitFollows.{StaysCut, cut_close}
 use Rattle.iscsi_ffi_law.proofs.FitJoined.{IsOver, JoinsOn, SameLost, has_joined, joined_moved, joins_close, lost_close, over_same}
-use Rattle.iscsi_ffi_law.proofs.FitLeaving.{AreLeavingFit}
 use Rattle.iscsi_ffi_law.proofs.FitLinks.{moved_each, moved_item}
 use Rattle.iscsi_ffi_law.proofs.FitLives.{SameHomes, home_of_command, home_of_task, homes_item}
 use Rattle.iscsi_ffi_law.proofs.FitNumbers.{all_sends, item_sent}
@@ -47,6 +45,7 @@ use Rattle.iscsi_ffi_law.proofs.FitOnce.{AreTickets, entered_more, none_beyond, 
 use Rattle.iscsi_outbox_law.proofs.PairLemmas.{each-weaken}
 use Rattle.iscsi_ffi_law.proofs.FitParting.{closed_on}
 use Rattle.iscsi_ffi_law.proofs.FitPlaces.{AreHanded, handed_more, still_handed}
+use Rattle.iscsi_ffi_law.proofs.FitReady.{AreStepsReady}
 use Rattle.iscsi_ffi_law.proofs.FitSides.{Stays, stays_close}
 use Rattle.iscsi_ffi_law.proofs.Members.{any_counted, any_in, each_in, in_any}
 
@@ -212,9 +211,9 @@ module _ (i : Interface) where
     pub steps_fit : (items : List (List Mark)) (r : Side) (next : ℕ) → HaveForms i.outbox.session next (after_items items r.both.trace) → Sounds i.outbox.session (after_items items r.both.trace) → Items i.outbox.session now Q r.both.trace items
         → SoundItems i.outbox r.both.box (effects_each i.outbox.session r.both.trace items) → AreItemsFit i.outbox r.both.box (effects_each i.outbox.session r.both.trace items) → Mid r.both.trace r.both.box
         → ((c : ℕ) → joined c ≡ true → has_joined r.both.box.links c ≡ true) → ((c : ℕ) → closed c ≡ true → is_closed c r.both.trace ≡ true)
-        → r.both.box.sent + all_sends (effects_each i.outbox.session r.both.trace items) < 2 ^ 64 - 1 → AreTickets r.both.trace r.told → AreTickets r.both.trace r.marked → AreLeavingFit i r items → AreStepsLeft i r items → AreStepsFit i r items
-    steps_fit [] r next forms sounds of sound fits mid joins closes sent told marked leaves left = sound
-    steps_fit (item ∷ items) r next forms sounds of sound fits mid joins closes sent told marked leaves left =
+        → r.both.box.sent + all_sends (effects_each i.outbox.session r.both.trace items) < 2 ^ 64 - 1 → AreTickets r.both.trace r.told → AreTickets r.both.trace r.marked → AreStepsReady i r items → AreLeavingFit i r items → AreStepsFit i r items
+    steps_fit [] r next forms sounds of sound fits mid joins closes sent told marked ready leaves = sound
+    steps_fit (item ∷ items) r next forms sounds of sound fits mid joins closes sent told marked ready leaves =
         let t : Trace = r.both.trace in
         let b : Box = r.both.box in
         let es : List Effect = effects_of_item i.outbox.session t item in
@@ -229,15 +228,15 @@ module _ (i : Interface) where
             sends = λ conn reply is. record {
               takes = takes_reply t b item mid (sound_below items (item ∷ t) sounds).0 of.0 of.1 joins closes conn reply is;
               sent = omega (arith, sent);
-              replies = left.0.replies conn reply is;
+              replies = ready.0.replies conn reply is;
               handed = mid.handed;
             };
             enters = λ c is. fresh r item c below.0 behind.0 below.1 f.0 f.1 mid told marked behind.1 is;
-            waited = left.0.waited;
+            waited = ready.0.waited;
             leaves = leaves.0;
           },
           steps_fit items (side_behind i r item) next forms sounds of.2 sound.1.1 fits.1 (mid_item f.0 t b item f.1 mid) (λ c k. joined_moved c b.links (after_item i.outbox b es).links (moved_item i.outbox JoinsOn joins_close b es) (joins c k))
-              (λ c k. closed_on c (item ∷ []) t (closes c k)) (omega (arith, sent, more)) (still r.told told) (still r.marked marked) leaves.1 left.1,
+              (λ c k. closed_on c (item ∷ []) t (closes c k)) (omega (arith, sent, more)) (still r.told told) (still r.marked marked) ready.1 leaves.1,
         )
       where
         sound_below : (later : List (List Mark)) (u : Trace) → Sounds i.outbox.session (after_items later u) → Sounds i.outbox.session u

@@ -35,7 +35,7 @@ use Rattle.iscsi_ffi_rules.specs.rules.Calls.{Interface}
 use Rattle.iscsi_ffi_rules.specs.rules.Happening.{leaving}
 use Rattle.iscsi_ffi_rules.specs.rules.Needs.{admitted_by, is_held}
 use Rattle.iscsi_ffi_rules.specs.rules.Sides.{Side}
-use Rattle.iscsi_ffi_law.specs.Arrived.{IsLeavingFit, side_behind}
+use Rattle.iscsi_ffi_law.specs.Arrived.{AreLeavingFit, IsLeavingFit, side_behind}
 use Rattle.iscsi_ffi_law.specs.Sides.{AreItemsFit}
 use Rattle.iscsi_ffi_law.proofs.FitLives.{SameHomes, homes_item}
 use Rattle.iscsi_ffi_law.proofs.FitOnce.{AreTickets, entered_more, none_beyond}
@@ -162,10 +162,6 @@ pub record IsMid (r : Side) : Type 0 where
   pub told : AreTickets r.both.trace r.told
   -- what is live started where it was told to
   pub started : (k : ℕ) → is_among k (live r.both.trace) ≡ true → is_at k is_started_phase r.both.box.tasks ≡ contains r.told k
-
-abbrev pub AreLeavingFit : Interface → Side → List (List Mark) → Type 0
-AreLeavingFit i r [] = Unit {0}
-AreLeavingFit i r (item ∷ items) = EachOf (IsLeavingFit i r item) (filter_map leaving item) × AreLeavingFit i (side_behind i r item) items
 
 module _ (i : Interface) where
   abbrev o : Setting

@@ -1,5 +1,5 @@
 -- How far the numbers of a box go, in an item and in a call.
-use Rattle.std.proofs.Common.{◌≡◌, ℕ, ◌+◌, ◌^◌, ◌≤◌, ◌==◌, ◌&&◌, not, Bool, true, false, List, [], ◌∷◌, ◌++◌, filter, filter_map, length, Option, Some, None, refl, sym, subst, ◌∙◌, arith, length-append, ⊎_elim}
+use Rattle.std.proofs.Common.{◌≡◌, ℕ, ◌+◌, ◌≤◌, ◌==◌, ◌&&◌, not, Bool, true, false, List, [], ◌∷◌, ◌++◌, filter, filter_map, length, Option, Some, None, refl, ap, sym, subst, ◌∙◌, arith, length-append, ⊎_elim}
 use Rattle.std.specs.List.{list_any}
 use Rattle.std.proofs.lemmas.Bool.{cond_both}
 use Rattle.iscsi_wire.specs.Serial.{lift}
@@ -156,11 +156,8 @@ module _ (o : Opening) where
   pub event_sent : (b : Box) (effects : List Effect) (numbers : Numbers) → (after_event o b effects numbers).sent ≡ b.sent + all_sends (in_parts effects)
   event_sent b effects numbers = (gone_items b (in_parts effects)).sent_is
 
-  lifted : (e w : ℕ) → lift e w ≤ e + 2 ^ 32
-  lifted e w = omega arith
-
-  pub event_max : (b : Box) (effects : List Effect) (numbers : Numbers) → (after_event o b effects numbers).max ≤ b.max + 2 ^ 32
-  event_max b effects numbers = let g = gone_items b (in_parts effects) in let same = g.max_is in let up = lifted (after_items o b (in_parts effects)).max numbers.max in omega (arith, same, up)
+  pub event_lifts : (b : Box) (effects : List Effect) (numbers : Numbers) → (after_event o b effects numbers).max ≡ lift b.max numbers.max
+  event_lifts b effects numbers = ap (λ m. lift m numbers.max) (gone_items b (in_parts effects)).max_is
 
   -- ---- any other call
 

@@ -35,6 +35,7 @@ use Rattle.iscsi_ffi_law.specs.Done.{AllDone, AreDoneFit, IsDoneFit, IsRegular}
 use Rattle.iscsi_ffi_law.specs.Fit.{IsFit}
 use Rattle.iscsi_ffi_law.specs.Sides.{AreBytes, AreItemsFit, IsLossFit, IsOpening, IsSideFit, IsTakenFit, asking}
 use Rattle.iscsi_ffi_law.proofs.DoneShape.{done_effects, done_entry, entry_is, one_part}
+use Rattle.iscsi_ffi_law.proofs.FitEvents.{taken_enabled, taken_short, taken_steps}
 use Rattle.iscsi_ffi_law.proofs.FitFacts.{limits, takes_reply, takes_reply_at, there_live, ticket_is}
 use Rattle.iscsi_ffi_law.proofs.FitFollows.{together_event, live_there, tickets_up, units_there}
 use Rattle.iscsi_ffi_law.proofs.FitHolds.{Holds, arrival_read, arrival_room, holds_arrival, holds_done, holds_heard, holds_loss, loss_read}
@@ -49,6 +50,7 @@ use Rattle.iscsi_ffi_law.proofs.Turns.{Becomes, IsExecuted, IsIgnored, IsPostpon
 use Rattle.iscsi_ffi_law.proofs.FitPrompt.{prompt_arrival}
 use Rattle.iscsi_ffi_law.proofs.FitReached.{fits_event, fits_reached, sound_event, sound_reached}
 use Rattle.iscsi_ffi_law.proofs.FitReplies.{completes_more}
+use Rattle.iscsi_ffi_law.proofs.FitShown.{max_reached}
 use Rattle.iscsi_ffi_law.proofs.FitSides.{IsGood, event_sends, good_event, good_other}
 use Rattle.iscsi_ffi_law.proofs.FitWalks.{later_walk, on_withholding, withheld_there}
 
@@ -58,7 +60,7 @@ module _ (i : Interface) (opening : IsOpening i) where
 
   -- ---- boxes
 
-  fit_with : (n m : ℕ) (found left : Both) → IsGood i.outbox n found → IsGood i.outbox m left → n < 2 ^ 63 → m < 2 ^ 63 → found.event ≤ 2 ^ 30 → left.event ≤ 2 ^ 30 → IsFit i found.box left.box
+  fit_with : (n m : ℕ) (found left : Both) → IsGood i.outbox n found → IsGood i.outbox m left → n < 2 ^ 63 → m < 2 ^ 63 → found.event ≤ 2 ^ 48 → left.event ≤ 2 ^ 48 → IsFit i found.box left.box
   fit_with n m found left g h small few early late =
       let s = sound_reached i.outbox distinct found g.reached in
       let l = limits i opening in
@@ -72,7 +74,7 @@ module _ (i : Interface) (opening : IsOpening i) where
         few = each-weaken (λ (x : Link). length x.handed ≤ n) (λ (x : Link). length x.handed < 2 ^ 63) found.box.links (λ x le. omega (arith, le, small)) g.few;
         short = record {
           time = (let a = h.spent_is in let b = h.sent_is in omega (arith, a, b, few, late));
-          max = (let a = h.max_is in let f = opening.first in let w = l.window in omega (arith, a, f, w, late));
+          max = (let a = max_reached i.outbox distinct l.window left h.reached in let f = opening.first in let w = l.window in omega (arith, a, f, w, late));
           handed = each-weaken (λ (x : Link). length x.handed ≤ m) (λ (x : Link). length x.handed < 2 ^ 63) left.box.links (λ x le. omega (arith, le, few)) h.few;
         };
       }
@@ -82,7 +84,7 @@ module _ (i : Interface) (opening : IsOpening i) where
   regular : (n : ℕ) (r : Side) → Holds i n r → IsRegular i r
   regular n r h = record { ascending = tickets_up i.outbox r.both h.together; units = units_there i.outbox r.both h.together }
 
-  pub side_fit : (n : ℕ) (r : Side) → Holds i n r → n + 1 < 2 ^ 63 → r.both.event ≤ 2 ^ 30 → IsSideFit i r
+  pub side_fit : (n : ℕ) (r : Side) → Holds i n r → n + 1 < 2 ^ 63 → r.both.event ≤ 2 ^ 48 → IsSideFit i r
   side_fit n r h few early = record {
     fit = fit_with n n r.both r.both h.good h.good (omega (arith, few)) (omega (arith, few)) early early;
     leaves = λ c is. fit_with n (n + 1) r.both (after_step i.outbox r.both (Other c)) h.good (good_other i.outbox n r.both c is h.good) (omega (arith, few)) few early early;
@@ -97,7 +99,7 @@ module _ (i : Interface) (opening : IsOpening i) where
 
   -- ---- the end of a command
 
-  done_fit : (n : ℕ) (r : Side) (ticket status : ℕ) (d : Command) → command_of r.both.trace ticket ≡ Some d → Holds i n r → n + 1 < 2 ^ 63 → r.both.event + 1 ≤ 2 ^ 30 → r.both.event + 1 ≤ i.outbox.session.events → IsDoneFit i r ticket status
+  done_fit : (n : ℕ) (r : Side) (ticket status : ℕ) (d : Command) → command_of r.both.trace ticket ≡ Some d → Holds i n r → n + 1 < 2 ^ 63 → r.both.event + 1 ≤ 2 ^ 48 → r.both.event + 1 ≤ i.outbox.session.events → IsDoneFit i r ticket status
   done_fit n r ticket status d found h few early left =
       let e : Event = Done ticket status in
       let fitting = fits_event i.outbox distinct r.both e refl h.good.reached in
@@ -134,13 +136,13 @@ module _ (i : Interface) (opening : IsOpening i) where
           let fits = one_part_fits.0.replies in
           omega (arith, more, fits)
 
-  done_fits : (n m : ℕ) (w : Told) → Holds i n w.side → n + 1 < 2 ^ 63 → (withholding i m w).side.both.event ≤ 2 ^ 30 → (withholding i m w).side.both.event ≤ i.outbox.session.events → AreDoneFit i m w
+  done_fits : (n m : ℕ) (w : Told) → Holds i n w.side → n + 1 < 2 ^ 63 → (withholding i m w).side.both.event ≤ 2 ^ 48 → (withholding i m w).side.both.event ≤ i.outbox.session.events → AreDoneFit i m w
   done_fits n zero w h few early left = tt
   done_fits n (suc m) w h few early left = by_next (done_fits n m) (next_withheld w.side) refl early left
     where
-      by_next : ((x : Told) → Holds i n x.side → n + 1 < 2 ^ 63 → (withholding i m x).side.both.event ≤ 2 ^ 30 → (withholding i m x).side.both.event ≤ i.outbox.session.events → AreDoneFit i m x)
+      by_next : ((x : Told) → Holds i n x.side → n + 1 < 2 ^ 63 → (withholding i m x).side.both.event ≤ 2 ^ 48 → (withholding i m x).side.both.event ≤ i.outbox.session.events → AreDoneFit i m x)
           → (x : Option Command) → next_withheld w.side ≡ x
-          → (elim x as (λ y. Told) [ Some c ↦ let g = happening i w.side (Done c.ticket (status_of w.side c)) in withholding i m (record { side = g.side; actions = w.actions ++ g.actions }) | None ↦ w ]).side.both.event ≤ 2 ^ 30
+          → (elim x as (λ y. Told) [ Some c ↦ let g = happening i w.side (Done c.ticket (status_of w.side c)) in withholding i m (record { side = g.side; actions = w.actions ++ g.actions }) | None ↦ w ]).side.both.event ≤ 2 ^ 48
           → (elim x as (λ y. Told) [ Some c ↦ let g = happening i w.side (Done c.ticket (status_of w.side c)) in withholding i m (record { side = g.side; actions = w.actions ++ g.actions }) | None ↦ w ]).side.both.event ≤ i.outbox.session.events
           → elim x as (λ y. Type 0) [
             | Some c ↦ IsDoneFit i w.side c.ticket (status_of w.side c) × (let h = happening i w.side (Done c.ticket (status_of w.side c)) in AreDoneFit i m (record { side = h.side; actions = w.actions ++ h.actions }))
@@ -157,12 +159,12 @@ module _ (i : Interface) (opening : IsOpening i) where
           )
 
   -- so many complete behind an event
-  pub withheld_fit : (n : ℕ) (w : Told) → Holds i n w.side → n + 1 < 2 ^ 63 → (withholding i (length (live w.side.both.trace)) w).side.both.event ≤ 2 ^ 30 → (withholding i (length (live w.side.both.trace)) w).side.both.event ≤ i.outbox.session.events
+  pub withheld_fit : (n : ℕ) (w : Told) → Holds i n w.side → n + 1 < 2 ^ 63 → (withholding i (length (live w.side.both.trace)) w).side.both.event ≤ 2 ^ 48 → (withholding i (length (live w.side.both.trace)) w).side.both.event ≤ i.outbox.session.events
       → AreDoneFit i (length (live w.side.both.trace)) w
   withheld_fit n w h few early left = done_fits n (length (live w.side.both.trace)) w h few early left
 
   pub all_done : (n : ℕ) (r : Side) (ticket status : ℕ) (d : Command) → command_of r.both.trace ticket ≡ Some d → Holds i n r → n + 1 < 2 ^ 63
-      → (let w = happening i r (Done ticket status) in withholding i (length (live w.side.both.trace)) w).side.both.event ≤ 2 ^ 30 → (let w = happening i r (Done ticket status) in withholding i (length (live w.side.both.trace)) w).side.both.event ≤ i.outbox.session.events
+      → (let w = happening i r (Done ticket status) in withholding i (length (live w.side.both.trace)) w).side.both.event ≤ 2 ^ 48 → (let w = happening i r (Done ticket status) in withholding i (length (live w.side.both.trace)) w).side.both.event ≤ i.outbox.session.events
       → AllDone i r ticket status
   all_done n r ticket status d found h few early left =
       let w : Told = happening i r (Done ticket status) in
@@ -183,12 +185,12 @@ module _ (i : Interface) (opening : IsOpening i) where
         items_fit most (after_item i.outbox b item) items sound.1.1 fits.1 (omega (arith, more, le)) small,
       )
 
-  event_items_fit : (n : ℕ) (r : Side) (e : Event) → is_read_with_room i.outbox r.both (Happens e) ≡ true → IsGood i.outbox n r.both → n + 1 < 2 ^ 63 → r.both.event + 1 ≤ 2 ^ 30 → AreItemsFit i.outbox r.both.box (in_parts (entry_of i.outbox.session r.both.event r.both.trace e).effects)
+  event_items_fit : (n : ℕ) (r : Side) (e : Event) → is_read_with_room i.outbox r.both (Happens e) ≡ true → IsGood i.outbox n r.both → n + 1 < 2 ^ 63 → r.both.event + 1 ≤ 2 ^ 48 → AreItemsFit i.outbox r.both.box (in_parts (entry_of i.outbox.session r.both.event r.both.trace e).effects)
   event_items_fit n r e read h few early =
       let sends_few = event_sends i.outbox r.both.event r.both.trace e in
       let a = h.spent_is in
       let b = h.sent_is in
-      items_fit (n + 2 ^ 30) r.both.box (in_parts (entry_of i.outbox.session r.both.event r.both.trace e).effects) (sound_event i.outbox distinct r.both e read h.reached) (fits_event i.outbox distinct r.both e read h.reached)
+      items_fit (n + 2 ^ 48) r.both.box (in_parts (entry_of i.outbox.session r.both.event r.both.trace e).effects) (sound_event i.outbox distinct r.both e read h.reached) (fits_event i.outbox distinct r.both e read h.reached)
       (omega (arith, sends_few, a, b, early)) (omega (arith, few))
 
   sounds_below : (o : Setting) (items : List (List Mark)) (t : Trace) → Sounds o (after_items items t) → Sounds o t
@@ -220,7 +222,7 @@ module _ (i : Interface) (opening : IsOpening i) where
   refusal_known r cid is = (taken_in i r cid is).known
 
   pub taken_fit : (n : ℕ) (r : Side) (cid : ℕ) (header : List ℕ) (cookie : ℕ) → refusal_of i r cid ≡ None → AreBytes header → Holds i n r → n + 2 < 2 ^ 63
-      → (let w = happening i (asking (heard_in i r cid header) cookie) (Arrive cid header) in withholding i (length (live w.side.both.trace)) w).side.both.event ≤ 2 ^ 30
+      → (let w = happening i (asking (heard_in i r cid header) cookie) (Arrive cid header) in withholding i (length (live w.side.both.trace)) w).side.both.event ≤ 2 ^ 48
       → (let w = happening i (asking (heard_in i r cid header) cookie) (Arrive cid header) in withholding i (length (live w.side.both.trace)) w).side.both.event ≤ i.outbox.session.events
       → IsTakenFit i r cid header cookie
   taken_fit n r cid header cookie is bytes h few early left =
@@ -233,17 +235,21 @@ module _ (i : Interface) (opening : IsOpening i) where
       let together = together_event i.outbox s.both (Arrive cid header) (refusal_known r cid is) g.together in
       let many = same_count i.outbox after.box after.trace together.lives in
       let fits' = fits_reached i.outbox distinct after (good_event i.outbox (n + 1) s.both (Arrive cid header) read g.good).reached in
+      let items = event_items_fit (n + 1) s (Arrive cid header) read g.good (omega (arith, few)) (omega (arith, early, later)) in
       record {
         before = record { asked = h.asked; answers = h.answers; entered = h.earlier.entered_by; admitted = h.earlier.admitted; waiting = h.earlier.waits };
         heard = fit_with n (n + 1) r.both s.both h.good g.good (omega (arith, few)) (omega (arith, few)) (omega (arith, early, later)) (omega (arith, early, later));
         event = record {
           fit = fit_with (n + 1) (n + 1) s.both (after_step i.outbox s.both (Happens (Arrive cid header))) g.good (good_event i.outbox (n + 1) s.both (Arrive cid header) read g.good) (omega (arith, few)) (omega (arith, few)) (omega (arith, early, later)) (omega (arith, early, later));
-          items = event_items_fit (n + 1) s (Arrive cid header) read g.good (omega (arith, few)) (omega (arith, early, later));
+          items = items;
+          steps = taken_steps i opening n r cid header is h (omega (arith, early, later)) items;
           stale = (sound_reached i.outbox distinct s.both g.good.reached).1;
           sent = (let x = g.good.sent_is in omega (arith, x, early, later));
           replies = room_left (arrival_room i distinct n r cid header is h);
           handed = g.placed.handed;
           found = (let tasks = (fits_reached i.outbox distinct s.both g.good.reached).tasks in let many = same_count i.outbox s.both.box s.both.trace g.together.lives in omega (arith, tasks, many));
+          short = taken_short i opening n r cid header is h;
+          enabled = taken_enabled i opening n r cid header is h;
           few = (let tasks = fits'.tasks in omega (arith, tasks, many));
           regular = record { ascending = tickets_up i.outbox after together; units = units_there i.outbox after together };
           prompt = λ rest same. prompt_arrival i.outbox.session s.both.event s.both.trace (arrived i s cid header) g.turned (new_received s cid header rest same) (received_fit (n + 1) s cid header (refusal_known r cid is) (wired_bytes cid header bytes) g rest same).untaken rest same;
@@ -263,7 +269,7 @@ module _ (i : Interface) (opening : IsOpening i) where
   -- ---- a connection that is lost
 
   pub loss_fit : (n : ℕ) (r : Side) (cid : ℕ) → is_known cid i.outbox.session.conns ≡ true → is_lost r cid ≡ false → is_closed cid r.both.trace ≡ false → Holds i n r → n + 2 < 2 ^ 63
-      → (let w = happening i (other i r (outbox.Loses cid)) (Arrive cid (parting cid)) in withholding i (length (live w.side.both.trace)) w).side.both.event ≤ 2 ^ 30
+      → (let w = happening i (other i r (outbox.Loses cid)) (Arrive cid (parting cid)) in withholding i (length (live w.side.both.trace)) w).side.both.event ≤ 2 ^ 48
       → (let w = happening i (other i r (outbox.Loses cid)) (Arrive cid (parting cid)) in withholding i (length (live w.side.both.trace)) w).side.both.event ≤ i.outbox.session.events
       → IsLossFit i r cid
   loss_fit n r cid known kept unclosed h few early left =

@@ -19,7 +19,7 @@ use Rattle.iscsi_outbox_law.specs.Pairs.{EachOf}
 use Rattle.iscsi_ffi_law.specs.Arrived.{starts_late}
 use Rattle.iscsi_ffi_law.proofs.FitTurns.{IsTurned, first_immediate}
 
-none_at : (n : ℕ) (ws : List Arrival) → EachOf (λ (b : Arrival). n + 1 ≤ b.number) ws → filter (λ (b : Arrival). b.number == n) ws ≡ []
+pub none_at : (n : ℕ) (ws : List Arrival) → EachOf (λ (b : Arrival). n + 1 ≤ b.number) ws → filter (λ (b : Arrival). b.number == n) ws ≡ []
 none_at n [] h = refl
 none_at n (b ∷ ws) h =
     let le = h.0 in

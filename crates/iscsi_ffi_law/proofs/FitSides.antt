@@ -1,15 +1,13 @@
 -- What holds of a session and its outbox behind so many calls, each call keeps.
-use Rattle.std.proofs.Common.{◌≡◌, ℕ, ◌+◌, ◌*◌, ◌-◌, ◌^◌, ◌≤◌, ◌||◌, not, cond, Bool, true, false, List, [], ◌∷◌, map, length, count_by, filter_map, Option, Some, None, refl, ap, ◌∙◌, arith, filter, nat_lt, max, length-append}
+use Rattle.std.proofs.Common.{◌≡◌, ℕ, ◌+◌, ◌≤◌, cond, Bool, true, false, List, [], ◌∷◌, map, length, filter_map, Option, Some, None, refl, ap, ◌∙◌, arith, nat_lt, max, length-append}
 use Rattle.std.proofs.lemmas.Bool.{cond_both, false≢true}
-use Rattle.iscsi_wire.specs.Serial.{number_of_first}
 use Rattle.iscsi_wire.specs.declared.reply.Reply.{Reply}
 use Rattle.iscsi_history.specs.declared.effect.Effect.{Effect}
 use Rattle.iscsi_history.specs.declared.event.Event.{Event}
 use Rattle.iscsi_history.specs.promises.Order.{in_parts}
 use Rattle.iscsi_history.specs.rules.Agenda.{items_of}
 use Rattle.iscsi_history.specs.rules.Run.{entry_of}
-use Rattle.iscsi_history.specs.rules.Trace.{Arrival, Command, Trace, after_items, first_of, is_delivered, is_emptied, live, shown, waiting}
-use Rattle.iscsi_history.proofs.ReplyTurns.{admits_request}
+use Rattle.iscsi_history.specs.rules.Trace.{Trace, after_items, first_of}
 use Rattle.iscsi_history.proofs.CountLemmas.{count-cons, one}
 use Rattle.iscsi_outbox_rules.specs.rules.Boxes.{Link}
 use Rattle.iscsi_outbox_rules.specs.rules.Calls.{Call, Clears, Hears, Joins, Loses, Nexts, Opening, Puts, Stops, Takes, Writes}
@@ -19,20 +17,16 @@ use Rattle.iscsi_outbox_rules.specs.rules.Words.{is_open}
 use Rattle.iscsi_outbox_rules.specs.promises.Room.{Both, Happens, Other, after_step, begun, is_other, is_read_with_room}
 use Rattle.iscsi_outbox_rules.proofs.ClosedParts.{Parts, effects_each, event_parts}
 use Rattle.iscsi_outbox_rules.proofs.RoomSends.{Formed, Going, event_going, sending}
+use Rattle.iscsi_outbox_rules.proofs.RoomStored.{at_once}
 use Rattle.iscsi_outbox_law.specs.Pairs.{EachOf}
 use Rattle.iscsi_outbox_law.proofs.PairLemmas.{each-new, each-weaken}
 use Rattle.iscsi_outbox_law.proofs.PlaceLemmas.{conns_of}
 use Rattle.iscsi_outbox_law.proofs.SoundCalls.{TakesNone}
 use Rattle.iscsi_ffi_law.proofs.FitLinks.{IsCallRule, IsCloseRule, IsPlain, IsQueueRule, moved_call, moved_each, moved_event, moved_next, moved_view}
-use Rattle.iscsi_ffi_law.proofs.FitNumbers.{all_sends, call_max, call_sent, call_spent, event_max, event_sent, event_spent, one_sent, spent}
+use Rattle.iscsi_ffi_law.proofs.FitNumbers.{all_sends, call_sent, call_spent, event_sent, event_spent, one_sent, spent}
 use Rattle.iscsi_ffi_law.proofs.FitReached.{Reached, reached_begun, reached_step}
 
 -- ---- what the session has at once
-
-abbrev pub at_once : Trace → ℕ
-at_once t =
-    count_by (λ (a : Arrival). true) (waiting t) + count_by (λ (a : Arrival). true) (filter (λ (a : Arrival). not (is_delivered t a.number || is_emptied t a.number)) (shown admits_request t))
-    + count_by (λ (c : Command). true) (live t)
 
 -- what an event sends, with what there is at once then, is one more at the most
 module _ (o : Opening) where
@@ -67,14 +61,10 @@ module _ (o : Opening) where
 
 -- ---- behind so many calls
 
-abbrev pub first_max : Opening → ℕ
-first_max o = number_of_first o.session.first + o.session.window - 1
-
 pub record IsGood (o : Opening) (n : ℕ) (b : Both) : Type 0 where
   pub reached : Reached o b
   pub spent_is : spent b.box ≤ b.box.sent + n
   pub sent_is : b.box.sent + at_once b.trace ≤ b.event
-  pub max_is : b.box.max ≤ first_max o + 2 ^ 32 * b.event
   pub few : EachOf (λ (l : Link). length l.handed ≤ n) b.box.links
   pub conns : conns_of b.box.links ≡ map (λ (c : ℕ × ℕ). c.0) o.session.conns
 
@@ -109,7 +99,6 @@ module _ (o : Opening) where
     reached = reached_begun o;
     spent_is = omega arith;
     sent_is = omega arith;
-    max_is = omega arith;
     few = each-new (λ (l : Link). length l.handed ≤ 0) (λ (c : ℕ × ℕ). new_link c.0) o.session.conns (λ c. omega arith);
     conns = new_conns o.session.conns;
   }
@@ -125,12 +114,10 @@ module _ (o : Opening) where
       let goes = event_spent o b.box entry.effects entry.numbers in
       let more = event_sent o b.box entry.effects entry.numbers in
       let sends = event_sends o b.event b.trace e in
-      let up = event_max o b.box entry.effects entry.numbers in
       record {
         reached = reached_step o b (Happens e) read g.reached;
         spent_is = (let s = g.spent_is in omega (arith, goes, more, s));
         sent_is = (let s = g.sent_is in omega (arith, more, sends, s));
-        max_is = (let s = g.max_is in omega (arith, up, s));
         few = moved_each Stays (λ (l : Link). length l.handed ≤ n) (λ (l : Link). length l.handed ≤ n) b.box.links (after_step o b (Happens e)).box.links way (λ l m s le. (let same = ap length s.1 in omega (arith, same, le))) g.few;
         conns = moved_view Stays (λ (l : Link). l.conn) b.box.links (after_step o b (Happens e)).box.links way (λ l m s. s.0) ∙ g.conns;
       }
@@ -179,7 +166,6 @@ module _ (o : Opening) where
         reached = reached_step o b (Other c) other g.reached;
         spent_is = (let s = g.spent_is in omega (arith, goes, same, s));
         sent_is = (let s = g.sent_is in omega (arith, same, s));
-        max_is = (let s = g.max_is in let e = call_max o b.box c (none_taken c other) in omega (arith, e, s));
         few = kept.0;
         conns = kept.1;
       }
@@ -189,7 +175,6 @@ module _ (o : Opening) where
     reached = g.reached;
     spent_is = (let s = g.spent_is in omega (arith, s, le));
     sent_is = g.sent_is;
-    max_is = g.max_is;
     few = each-weaken (λ (l : Link). length l.handed ≤ n) (λ (l : Link). length l.handed ≤ m) b.box.links (λ l few. omega (arith, few, le)) g.few;
     conns = g.conns;
   }

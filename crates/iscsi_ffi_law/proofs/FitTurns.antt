@@ -1,5 +1,5 @@
--- Between the events of a session nothing is held below ExpCmdSN.
-use Rattle.std.proofs.Common.{eq-eqb, count_by, ◌≡◌, ℕ, zero, suc, ◌+◌, ◌-◌, ◌≤◌, ◌<◌, ◌==◌, ◌&&◌, ◌||◌, ⊎_elim, not, cond, Bool, true, false, List, [], ◌∷◌, ◌++◌, filter, filter_map, Option, Some, None, refl, ap, sym, ◌∙◌, subst, arith, nat_le, nat_lt}
+-- Between the events of a session nothing is held below ExpCmdSN, and each event receives one number at the most.
+use Rattle.std.proofs.Common.{eq-eqb, count_by, ◌≡◌, ℕ, zero, suc, ◌+◌, ◌-◌, ◌≤◌, ◌<◌, ◌==◌, ◌&&◌, ◌||◌, inl, inr, ⊎_elim, not, cond, Bool, true, false, List, [], ◌∷◌, ◌++◌, filter, filter_map, Option, Some, None, refl, ap, sym, ◌∙◌, subst, arith, nat_le, nat_lt}
 use Rattle.std.proofs.lemmas.Bool.{and_parts, cases_lt, ne_eqb}
 use Rattle.std.proofs.lemmas.Bool.Decides.{nat_tests}
 use Rattle.std.proofs.lemmas.List.{append-nil}
@@ -35,7 +35,7 @@ use Rattle.iscsi_history.proofs.FlowItems.{same_exp}
 use Rattle.iscsi_history.proofs.FormItems.{does_after, does_function, does_reply}
 use Rattle.iscsi_history.proofs.Forms.{AfterWaiting, AtArrival, AtTurn, begun}
 use Rattle.iscsi_history.proofs.HeldLemmas.{held-admits, held-delivered, held-number}
-use Rattle.iscsi_history.proofs.ReceivedItems.{function_receives_none, turn_receives_none}
+use Rattle.iscsi_history.proofs.ReceivedItems.{AtMostOne, function_receives_none, immediate_receives_one, turn_receives_none}
 use Rattle.iscsi_history.proofs.TraceLemmas.{after_items-append}
 use Rattle.iscsi_outbox_law.specs.Pairs.{EachOf}
 use Rattle.iscsi_outbox_law.proofs.PairLemmas.{each-filter}
@@ -175,12 +175,19 @@ module _ (o : Setting) where
   abbrev pub IsTurned : Trace → Type 0
   IsTurned t = Turned (exp_of o t + 1) (exp_of o t) t
 
-  turns_turned : (t : Trace) (item : List Mark) → Turned (exp_of o t) (exp_of o t) (item ∷ t) → IsTurned (after_items (with_turns o t item) t)
-  turns_turned t item h =
+  -- from a trace to the one that an event makes of it: so it is then, and ExpCmdSN is as the first item left it, which receives one number at the most
+  pub record GoesOn (t t' : Trace) : Type 0 where
+    pub turned : IsTurned t'
+    pub first : List Mark
+    pub receives : AtMostOne (filter_map number_received first)
+    pub exp : exp_of o t' ≡ exp_of o (first ∷ t)
+
+  turns_turned : (t : Trace) (item : List Mark) → AtMostOne (filter_map number_received item) → Turned (exp_of o t) (exp_of o t) (item ∷ t) → GoesOn t (after_items (with_turns o t item) t)
+  turns_turned t item receives h =
       let e : ℕ = exp_of o (item ∷ t) in
       let up = exp_item o item t in
       let x : Turning e (e + 1) e (after_items (with_turns o t item) t) = agenda_turned e (exp_of o t) (e - exp_of o t) (item ∷ t) (omega (arith, up)) (h, refl) in
-      subst (λ k. Turned (k + 1) k (after_items (with_turns o t item) t)) (sym x.1) x.0
+      record { turned = subst (λ k. Turned (k + 1) k (after_items (with_turns o t item) t)) (sym x.1) x.0; first = item; receives = receives; exp = x.1 }
 
   first_executing : (t : Trace) (item : List Mark) → IsExecuting item → ((conn : ℕ) → waiting_on conn (item ∷ t) ≤ MOST_WAITING) → EachOf (λ (b : Arrival). exp_of o t ≤ b.number) (waiting (item ∷ t)) → IsTurned t → Turned (exp_of o t) (exp_of o t) (item ∷ t)
   first_executing t item x four ahead h = record { kept = (x.kept, h.kept); ahead = ahead; four = four; turned = λ k below. still_unheld item t k (x.admits_none k) (h.turned k below) }
@@ -227,26 +234,30 @@ module _ (o : Setting) where
       by_tests false is x = first_does t a _ h (does_after o t AtArrival a)
 
   -- items by which nothing executes
-  quiet_turned : (t : Trace) (item : List Mark) → filter_map number_received item ≡ [] → IsExecuting item → waiting (item ∷ t) ≡ waiting t → IsTurned t → IsTurned (item ∷ t)
-  quiet_turned t item none x same h =
-      subst (λ k. Turned (k + 1) k (item ∷ t)) (sym (none_received item t none))
-      (record {
-        kept = (x.kept, h.kept);
-        ahead = subst (EachOf (λ (b : Arrival). exp_of o t + 1 ≤ b.number)) (sym same) h.ahead;
-        four = λ conn. (let most = h.four conn in let is = ap (count_by (λ (b : Arrival). connection_of b.request == conn)) same in omega (arith, most, is));
-        turned = λ k below. still_unheld item t k (x.admits_none k) (h.turned k below);
-      })
+  quiet_turned : (t : Trace) (item : List Mark) → filter_map number_received item ≡ [] → IsExecuting item → waiting (item ∷ t) ≡ waiting t → IsTurned t → GoesOn t (item ∷ t)
+  quiet_turned t item none x same h = record {
+    turned = subst (λ k. Turned (k + 1) k (item ∷ t)) (sym (none_received item t none))
+        (record {
+          kept = (x.kept, h.kept);
+          ahead = subst (EachOf (λ (b : Arrival). exp_of o t + 1 ≤ b.number)) (sym same) h.ahead;
+          four = λ conn. (let most = h.four conn in let is = ap (count_by (λ (b : Arrival). connection_of b.request == conn)) same in omega (arith, most, is));
+          turned = λ k below. still_unheld item t k (x.admits_none k) (h.turned k below);
+        });
+    first = item;
+    receives = inl none;
+    exp = refl;
+  }
 
-  ignored_turned : (t : Trace) (why : Why) → IsTurned t → IsTurned ((Ignores why ∷ []) ∷ t)
+  ignored_turned : (t : Trace) (why : Why) → IsTurned t → GoesOn t ((Ignores why ∷ []) ∷ t)
   ignored_turned t why h = quiet_turned t (Ignores why ∷ []) refl (record { kept = (tt, tt); admits_none = λ k. refl }) refl h
 
-  numbered_turned : (t : Trace) (a : Arrival) → is_immediate a.request ≡ false → IsTurned t → IsTurned (after_items (numbered o t a) t)
+  numbered_turned : (t : Trace) (a : Arrival) → is_immediate a.request ≡ false → IsTurned t → GoesOn t (after_items (numbered o t a) t)
   numbered_turned t a later h =
-      elim (nat_lt a.number (exp_of o t) || nat_lt (max_of o t) a.number) as (λ v. (nat_lt a.number (exp_of o t) || nat_lt (max_of o t) a.number) ≡ v → IsTurned (after_items (cond v (ignored Outside) (cond (is_received t a.number) (ignored Duplicate) (with_turns o t (Admits a ∷ [])))) t)) [
+      elim (nat_lt a.number (exp_of o t) || nat_lt (max_of o t) a.number) as (λ v. (nat_lt a.number (exp_of o t) || nat_lt (max_of o t) a.number) ≡ v → GoesOn t (after_items (cond v (ignored Outside) (cond (is_received t a.number) (ignored Duplicate) (with_turns o t (Admits a ∷ [])))) t)) [
         | true ↦ λ is. ignored_turned t Outside h
-        | false ↦ λ is. elim (is_received t a.number) as (λ v. IsTurned (after_items (cond v (ignored Duplicate) (with_turns o t (Admits a ∷ []))) t)) [
+        | false ↦ λ is. elim (is_received t a.number) as (λ v. GoesOn t (after_items (cond v (ignored Duplicate) (with_turns o t (Admits a ∷ []))) t)) [
           | true ↦ ignored_turned t Duplicate h
-          | false ↦ turns_turned t (Admits a ∷ []) (admitted (or_none (nat_lt a.number (exp_of o t)) (nat_lt (max_of o t) a.number) is))
+          | false ↦ turns_turned t (Admits a ∷ []) (inr (a.number, refl)) (admitted (or_none (nat_lt a.number (exp_of o t)) (nat_lt (max_of o t) a.number) is))
         ]
       ] refl
     where
@@ -256,29 +267,32 @@ module _ (o : Setting) where
           let there : exp_of o t ≤ a.number = grind (arith, nat_tests) in
           record { kept = ((later, tt), h.kept); ahead = less_ahead (exp_of o t) (waiting t) h.ahead; four = h.four; turned = λ k below. held-admits t a k (ne_eqb a.number k (λ same. omega (arith, there, below, same))) ∙ h.turned k below }
 
-  arrival_turned : (t : Trace) (a : Arrival) → IsTurned t → IsTurned (after_items (arrival o t a) t)
+  arrival_turned : (t : Trace) (a : Arrival) → IsTurned t → GoesOn t (after_items (arrival o t a) t)
   arrival_turned t a h =
-      elim (is_closed (connection_of a.request) t) as (λ v. IsTurned (after_items (cond v (ignored Closed) (arrival_open o t a)) t)) [
+      elim (is_closed (connection_of a.request) t) as (λ v. GoesOn t (after_items (cond v (ignored Closed) (arrival_open o t a)) t)) [
         | true ↦ ignored_turned t Closed h
         | false ↦ by_kind (kind_of a.request)
       ]
     where
-      by_kind : (k : Kind) → IsTurned (after_items (arrival_as o t a k) t)
+      by_kind : (k : Kind) → GoesOn t (after_items (arrival_as o t a k) t)
       by_kind PassedOver = ignored_turned t Data h
       by_kind Unknown = quiet_turned t (rejected a) refl (record { kept = (tt, tt); admits_none = λ k. refl }) refl h
       by_kind ExecutesKind =
-          elim (is_immediate a.request) as (λ v. is_immediate a.request ≡ v → IsTurned (after_items (cond v (with_turns o t (immediate_item o t a)) (numbered o t a)) t)) [
-            | true ↦ λ is. (let f = first_immediate t a h in turns_turned t (immediate_item o t a) (first_executing t (immediate_item o t a) f.executes f.four f.ahead h))
+          elim (is_immediate a.request) as (λ v. is_immediate a.request ≡ v → GoesOn t (after_items (cond v (with_turns o t (immediate_item o t a)) (numbered o t a)) t)) [
+            | true ↦ λ is. (let f = first_immediate t a h in turns_turned t (immediate_item o t a) (immediate_receives_one o t a) (first_executing t (immediate_item o t a) f.executes f.four f.ahead h))
             | false ↦ λ is. numbered_turned t a is h
           ] refl
 
-  pub event_turned : (now : ℕ) (t : Trace) (e : Event) → IsTurned t → IsTurned (after_event o now t e)
-  event_turned now t (Arrive conn header) h = arrival_turned t (arrival_of o now t (request_of conn header)) h
-  event_turned now t (Done ticket status) h = by_command (command_of t ticket)
+  pub event_goes : (now : ℕ) (t : Trace) (e : Event) → IsTurned t → GoesOn t (after_event o now t e)
+  event_goes now t (Arrive conn header) h = arrival_turned t (arrival_of o now t (request_of conn header)) h
+  event_goes now t (Done ticket status) h = by_command (command_of t ticket)
     where
-      by_command : (y : Option Command) → IsTurned (after_items (completion status y) t)
+      by_command : (y : Option Command) → GoesOn t (after_items (completion status y) t)
       by_command None = ignored_turned t Stale h
       by_command (Some c) = quiet_turned t (Leaves c ∷ reply_on c.arrival (Scsi (itt c.arrival.request) status (sense_of_status status))) refl (record { kept = (tt, (tt, tt)); admits_none = λ k. refl }) refl h
+
+  pub event_turned : (now : ℕ) (t : Trace) (e : Event) → IsTurned t → IsTurned (after_event o now t e)
+  event_turned now t e h = (event_goes now t e h).turned
 
   pub none_turned : IsTurned []
   none_turned = record { kept = tt; ahead = tt; four = λ conn. omega arith; turned = λ k below. refl }

@@ -141,6 +141,13 @@ mod FitPhases
 mod FitReplied
 mod FitLasts
 mod FitLeaving
+mod FitFirst
+mod FitCounts
+mod FitWaiting
+mod FitLimits
+mod FitOrder
+mod FitReady
+mod FitShown
 mod FitItems
 mod FitEvents
 mod FitAll

@@ -110,6 +110,11 @@ abbrev pub AreStepsFit : Interface → Side → List (List Mark) → Type 0
 AreStepsFit i r [] = IsSound i.outbox r.both.box
 AreStepsFit i r (item ∷ items) = IsStepFit i r item × AreStepsFit i (side_behind i r item) items
 
+-- what is known of the commands that leave, item by item
+abbrev pub AreLeavingFit : Interface → Side → List (List Mark) → Type 0
+AreLeavingFit i r [] = Unit {0}
+AreLeavingFit i r (item ∷ items) = EachOf (IsLeavingFit i r item) (filter_map leaving item) × AreLeavingFit i (side_behind i r item) items
+
 abbrev pub effects_then : Interface → Side → ℕ → List ℕ → List Effect
 effects_then i r cid header = (entry_of i.outbox.session r.both.event r.both.trace (Arrive cid header)).effects
 

@@ -1,5 +1,6 @@
 -- What holds of the rules' side, whatever calls come: where its options are valid, and the list isn't longer than words count.
 use Rattle.std.specs.Prelude.{◌≡◌, ◌<◌, ◌≤◌, ◌-◌, ◌^◌, ◌&&◌, ◌++◌, ℕ, true, false, List, [], ◌∷◌, length, None, if◌then◌else◌}
+use Rattle.std.specs.List.{filter_map}
 use Rattle.iscsi_history.specs.declared.effect.Effect.{Effect}
 use Rattle.iscsi_history.specs.declared.event.Event.TheVariants.{Arrive}
 use Rattle.iscsi_wire.specs.Fields.{connection_of}
@@ -11,7 +12,7 @@ use Rattle.iscsi_outbox_rules.specs.promises.Room.{is_other, places}
 use Rattle.iscsi_outbox_rules.specs.rules.Boxes.{Box, Handed, Link}
 use Rattle.iscsi_outbox_rules.specs.rules.Calls as outbox
 use Rattle.iscsi_outbox_rules.specs.rules.Calls.{Opening}
-use Rattle.iscsi_outbox_rules.specs.rules.Items.{after_item}
+use Rattle.iscsi_outbox_rules.specs.rules.Items.{after_item, ticket_enabled}
 use Rattle.iscsi_outbox_rules.specs.rules.Run.{after_call as after_box_call}
 use Rattle.iscsi_outbox_rules.specs.rules.Words.{contains, replies_waiting}
 use Rattle.iscsi_outbox_law.specs.Pairs.{EachOf}
@@ -22,7 +23,7 @@ use Rattle.iscsi_ffi_rules.specs.rules.Clearing.{TASK_ABORTED}
 use Rattle.iscsi_ffi_rules.specs.rules.Happening.{happening, other, stepped}
 use Rattle.iscsi_ffi_rules.specs.rules.Run.{after_call, heard_in, is_going, is_lost, parting, refusal_of, tag_heard, word_at}
 use Rattle.iscsi_ffi_rules.specs.rules.Sides.{Side}
-use Rattle.iscsi_ffi_law.specs.Arrived.{AreBefore, AreDistinct, IsItemFit, IsReceivable, arrive_call, arrived, effects_then, items_then, starts_late}
+use Rattle.iscsi_ffi_law.specs.Arrived.{AreBefore, AreDistinct, AreLeavingFit, AreStepsFit, IsItemFit, IsReceivable, arrive_call, arrived, effects_then, items_then, starts_late}
 use Rattle.iscsi_ffi_law.specs.Done.{AllDone, AreDoneFit, IsRegular}
 use Rattle.iscsi_ffi_law.specs.Fit.{IsFit, IsOrderly}
 use Rattle.iscsi_ffi_law.specs.Parts.{IsBefore}
@@ -34,10 +35,9 @@ pub record IsOpening (i : Interface) : Type 0 where
   pub own : i.outbox.own ≤ 1024
   pub unwritten : i.unwritten ≤ 1024
 
--- not too many calls come, and the session takes not too many events by them: no more than its options allow, and 2^30 at the most
+-- not too many calls come, and the session takes no more events by them than its options allow
 pub record IsShort (i : Interface) (calls : List Call) : Type 0 where
   pub many : length calls < 2 ^ 62
-  pub few : (side_of i calls).both.event ≤ 2 ^ 30
   pub events : (side_of i calls).both.event ≤ i.outbox.session.events
 
 -- a header is of bytes
@@ -75,11 +75,16 @@ AreItemsFit o b (item ∷ items) = IsItemFit o b item × AreItemsFit o (after_it
 pub record IsHeardFit (i : Interface) (r : Side) (cid : ℕ) (header : List ℕ) : Type 0 where
   pub fit : IsFit i r.both.box (after_box_call i.outbox r.both.box (arrive_call i r cid header))
   pub items : AreItemsFit i.outbox r.both.box (in_parts (effects_then i r cid header))
+  -- its items, but for what is known of the commands that leave
+  pub steps : AreLeavingFit i r (items_then i r cid header) → AreStepsFit i r (items_then i r cid header)
   pub stale : NoneIsFresh r.both.box
   pub sent : r.both.box.sent < 2 ^ 64 - 1
   pub replies : replies_waiting r.both.box < places i.outbox
   pub handed : EachOf (λ (l : Link). EachOf (λ (h : Handed). IsBefore r.both.box.sent h.out.sent) l.handed) r.both.box.links
   pub found : length (live r.both.trace) ≤ places i.outbox
+  -- it has no more items, enables no more commands, and leaves no more of them live than there are places for
+  pub short : length (items_then i r cid header) ≤ places i.outbox
+  pub enabled : length (filter_map ticket_enabled (effects_then i r cid header)) ≤ places i.outbox
   pub few : length (live (stepped i r (Arrive cid header)).both.trace) ≤ places i.outbox
   pub regular : IsRegular i (stepped i r (Arrive cid header))
   pub prompt : (rest : List (List Mark)) → items_then i r cid header ≡ (Admits (arrived i r cid header) ∷ []) ∷ rest → starts_late r.both.event rest ≡ false
