@@ -27,7 +27,7 @@ use Rattle.iscsi_ffi_rules.specs.rules.Calls.{Interface}
 use Rattle.iscsi_ffi_rules.specs.rules.Run.{heard_in, refusal_of, tag_heard, word_at}
 use Rattle.iscsi_ffi_rules.specs.rules.Sides.{Side}
 use Rattle.iscsi_ffi_law.specs.Arrived.{AreLeavingFit, AreStepsFit, arrived, effects_then, items_then}
-use Rattle.iscsi_ffi_law.specs.Sides.{AreItemsFit, IsHeardFit, IsOpening}
+use Rattle.iscsi_ffi_law.specs.Sides.{AreItemsFit, IsHeardFit, IsOpening, AreBytes}
 use Rattle.iscsi_ffi_law.proofs.FitArrivals.{event_items}
 use Rattle.iscsi_ffi_law.proofs.FitCounts.{event_enables, items_short}
 use Rattle.iscsi_ffi_law.proofs.FitFacts.{limits}
@@ -41,7 +41,7 @@ use Rattle.iscsi_ffi_law.proofs.FitLimits.{few_reached, stands_reached, trace_re
 use Rattle.iscsi_ffi_law.proofs.FitOrder.{AreNear, IsOld, near_event, waited_arrival}
 use Rattle.iscsi_ffi_law.proofs.FitReached.{sound_event, sound_reached}
 use Rattle.iscsi_ffi_law.proofs.FitReady.{AreStepsReady, steps_ready}
-use Rattle.iscsi_ffi_law.proofs.FitReceived.{IsWired}
+use Rattle.iscsi_ffi_law.proofs.FitReceived.{IsWired, wired, wired_bytes}
 use Rattle.iscsi_ffi_law.proofs.FitRefusals.{taken_in}
 use Rattle.iscsi_ffi_law.proofs.FitReplied.{AreReplied}
 use Rattle.iscsi_ffi_law.proofs.FitSides.{event_sends}
@@ -135,8 +135,8 @@ module _ (i : Interface) (opening : IsOpening i) (n : ℕ) (r : Side) (cid : ℕ
       let some = (limits i opening).some in
       omega (arith, many, few, some)
 
-  pub taken_steps : r.both.event + 1 ≤ 2 ^ 48 → AreItemsFit i.outbox s.both.box whole → AreLeavingFit i s (items_then i s cid header) → AreStepsFit i s (items_then i s cid header)
-  taken_steps early items leaves =
+  pub taken_steps : AreBytes header → r.both.event + 1 ≤ 2 ^ 48 → AreItemsFit i.outbox s.both.box whole → AreLeavingFit i s (items_then i s cid header) → AreStepsFit i s (items_then i s cid header)
+  taken_steps bytes early items leaves =
       let t = taken_in i r cid is in
       let joined = joined_other i.outbox r.both.box (outbox.Hears cid (word_at 28 header) (tag_heard header)) cid tt (joined_there i r cid t.joined) in
       let sends = event_sends i.outbox s.both.event s.both.trace e in
@@ -146,6 +146,7 @@ module _ (i : Interface) (opening : IsOpening i) (n : ℕ) (r : Side) (cid : ℕ
       (event_forms i.outbox.session s.both.event s.both.trace e g.together.forms)
       (event_sound i.outbox.session s.both.event s.both.trace e t.known g.together.sounds)
       (event_items i.outbox.session s.both.event (Q i s.both.event (has_joined s.both.box.links) (λ c. is_closed c s.both.trace)) s.both.trace e (inl joined) g.served.served)
+      (event_items i.outbox.session s.both.event IsWired s.both.trace e (wired s.both.event (exp_of i.outbox.session s.both.trace) cid header (wired_bytes cid header bytes)) g.wires)
       (by_parts (SoundItems i.outbox) (λ ps x. x.1.1) (sound_event i.outbox (limits i opening).distinct s.both e (arrival_read i (limits i opening).distinct n r cid header is h) g.good.reached))
       (by_parts (AreItemsFit i.outbox) (λ ps x. x.1) items)
       (record { closed = g.together.closed; homes = g.together.homes; cuts = g.together.cuts; over = g.served.over; handed = g.placed.handed })

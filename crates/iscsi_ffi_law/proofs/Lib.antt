@@ -76,11 +76,13 @@ mod LeavingRequests
 mod LeavingUses
 mod LeavingWalk
 mod LeavingHead
+mod Emptying
 mod LeavingItem
 mod TailLeaves
 mod StartsOver
 mod EventNews
 mod TailEnters
+mod Alone
 mod Turns
 mod ItemsGo
 mod StartsAfter
