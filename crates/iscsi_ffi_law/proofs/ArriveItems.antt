@@ -37,6 +37,7 @@ use Rattle.iscsi_ffi_law.specs.Stands.{AreRequests}
 use Rattle.iscsi_ffi_law.specs.Uses.{count_functions, count_held}
 use Rattle.iscsi_ffi_law.proofs.Admitting.{distinct_with, held_with, requests_with, slots_with, some_with}
 use Rattle.iscsi_ffi_law.proofs.Asked.{any_nothing, find_nothing}
+use Rattle.iscsi_ffi_law.proofs.Alone.{IsAlone}
 use Rattle.iscsi_ffi_law.proofs.Between.{IsBetween, arrival_headed, distinct_same, held_same}
 use Rattle.iscsi_ffi_law.proofs.DoneShape.{enables}
 use Rattle.iscsi_ffi_law.proofs.ItemsGo.{AllGo, all_due, executed_goes, first_sound, goes_then, led_due, none_more, side_after}
@@ -269,14 +270,14 @@ module _ (i : Interface) (names : List Name) (notes : List Note) (distinct : are
       = plain_goes i names notes s r (Some place) [] (Sends cid reply ∷ []) refl (goes_sent i names notes s r (Some place) [] k (Sends cid reply ∷ []) None cid r.both.event reply fit.0 distinct fit.1 (rejected_answering i names notes s r place [] k cid reply)) in
       goes_then i names notes s r (Some place) [] (Sends cid reply ∷ []) [] g (none_more i names notes distinct g.state (side_behind i r (Sends cid reply ∷ [])) g.ended g.between) refl
 
-  pub executed_go : (s : State) (r : Side) (place : ℕ) (k : IsBetween i names notes s r (Some place) []) (a : Arrival) (now : a.event ≡ r.both.event) (before : EachOf (λ (b : Arrival). b.event < r.both.event) (waiting r.both.trace)) (d : Deeds) (rest : List (List Mark)) → IsDone i.outbox.session r.both.trace AtArrival a d
+  pub executed_go : (s : State) (r : Side) (place : ℕ) (k : IsBetween i names notes s r (Some place) []) (a : Arrival) (now : a.event ≡ r.both.event) (before : EachOf (λ (b : Arrival). b.event < r.both.event) (waiting r.both.trace)) (d : Deeds) (rest : List (List Mark)) → IsDone i.outbox.session r.both.trace AtArrival a d → IsAlone (marks_done a d)
       → EachOn (IsDue i.outbox.session) ((Executes a ∷ marks_done a d) ∷ r.both.trace) rest → list_all (list_all is_plain) ((Executes a ∷ marks_done a d) ∷ rest) ≡ true → AreStepsFit i r ((Executes a ∷ marks_done a d) ∷ rest)
       → AllGo i names notes s r (Some place) [] ((Executes a ∷ marks_done a d) ∷ rest)
-  executed_go s r place k a now before d rest done due plain fit =
+  executed_go s r place k a now before d rest done alone due plain fit =
       let item : List Mark = Executes a ∷ marks_done a d in
       let parts = and_parts (list_all is_plain (Executes a ∷ marks_done a d)) (list_all (list_all is_plain) rest) plain in
       let g : ItemGoes i names notes s r (Some place) [] (Executes a ∷ marks_done a d)
-      = executed_goes i names notes distinct s r (Some place) [] k AtArrival a d parts.0 done fit.0 (first_sound i (side_behind i r item) rest fit.1) (arrival_headed i names notes s r place [] k a now before d.void d.entering d.reply) in
+      = executed_goes i names notes distinct s r (Some place) [] k AtArrival a d parts.0 done alone fit.0 (first_sound i (side_behind i r item) rest fit.1) (arrival_headed i names notes s r place [] k a now before d.void d.entering d.reply) in
       goes_then i names notes s r (Some place) [] (Executes a ∷ marks_done a d) rest g
       (all_due i names notes distinct rest g.state (side_behind i r item) g.ended g.between due parts.1 fit.1)
       (led_due i names notes distinct (item ∷ r.both.trace) rest due)

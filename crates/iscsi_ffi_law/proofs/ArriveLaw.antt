@@ -1,6 +1,8 @@
 -- A request arrives that has a place: both go on alike.
-use Rattle.std.proofs.Common.{◌≡◌, ℕ, ◌+◌, ◌<◌, not, cond, Bool, true, false, List, [], ◌∷◌, ◌++◌, length, map, filter, Option, Some, None, refl, ap, sym, subst, ◌∙◌, arith}
+use Rattle.std.proofs.Common.{◌≡◌, ℕ, ◌+◌, ◌<◌, not, cond, Bool, true, false, List, [], ◌∷◌, ◌++◌, length, map, filter, Option, Some, None, refl, ap, sym, subst, ◌∙◌, arith, length-set}
 use Rattle.std.specs.List.{list_all}
+use Rattle.iscsi_wire.specs.Fields.{cmd_sn}
+use Rattle.iscsi_requests.specs.Numbers.{index_of}
 use Rattle.std.proofs.lemmas.Bool.{and_from, eq-eqb}
 use Rattle.iscsi_wire.specs.Fields.{connection_of, header_of, is_immediate, request_of}
 use Rattle.iscsi_wire.specs.declared.reply.Reply.{Reply}
@@ -12,7 +14,7 @@ use Rattle.iscsi_history.specs.declared.event.Event.TheVariants.{Arrive}
 use Rattle.iscsi_history.specs.rules.Execution.{rejected}
 use Rattle.iscsi_history.specs.rules.Management.{MOST_WAITING, waiting_on}
 use Rattle.iscsi_history.specs.rules.Run.{effects_of, effects_of_item}
-use Rattle.iscsi_history.specs.rules.Trace.{Admits, Arrival, Command, Enters, Executes, Ignores, Leaves, Mark, Sends, Trace, Waits, entered, is_received}
+use Rattle.iscsi_history.specs.rules.Trace.{Admits, Arrival, Empties, Command, Enters, Executes, Ignores, Leaves, Mark, Sends, Trace, Waits, entered, is_received}
 use Rattle.iscsi_history.proofs.BoolLemmas.{and_parts}
 use Rattle.iscsi_history.proofs.Forms.{AfterWaiting, AtArrival, AtTurn, Deeds, IsDone, Start, if_some, marks_done, start_mark}
 use Rattle.iscsi_history.proofs.ElementLemmas.{filter-in}
@@ -29,6 +31,7 @@ use Rattle.iscsi_ffi_steps.specs.Steps.{Going, arriving, changed, done, happens,
 use Rattle.iscsi_ffi_law.specs.Arrived.{AreStepsFit, IsPlainArrival, arrive_call, arrived, is_plain, items_then, side_behind, starts_late}
 use Rattle.iscsi_ffi_law.specs.Names.{Name, Note}
 use Rattle.iscsi_ffi_law.specs.Parts.{IsCommand, IsLiveNamed, is_named}
+use Rattle.iscsi_ffi_law.proofs.Alone.{IsAlone}
 use Rattle.iscsi_ffi_law.proofs.ArriveItems.{arrived_unheld, executed_go, held_now, ignored_go, postponed_go, received_go, rejected_go}
 use Rattle.iscsi_ffi_law.proofs.ArriveOpens.{IsFoundAt}
 use Rattle.iscsi_ffi_law.proofs.Between.{IsBetween, pending_as}
@@ -61,24 +64,28 @@ due_alone i (item ∷ items) t due = and_from (admits_alone item) (list_all admi
     by_start AfterWaiting a ms = refl
 
 -- one command enters by each, if any does
-once_left : (cs : List Command) (conn : ℕ) (entering : Option Command) (reply : Option Reply) → enters_once (map Leaves cs ++ (if_some Enters entering ++ if_some (Sends conn) reply)) ≡ true
-once_left [] conn None None = refl
-once_left [] conn None (Some reply) = refl
-once_left [] conn (Some c) None = refl
-once_left [] conn (Some c) (Some reply) = refl
-once_left (d ∷ cs) conn entering reply = once_left cs conn entering reply
+once_emptied : (hs : List Arrival) (conn : ℕ) (entering : Option Command) (reply : Option Reply) → enters_once (map Empties hs ++ (if_some Enters entering ++ if_some (Sends conn) reply)) ≡ true
+once_emptied [] conn None None = refl
+once_emptied [] conn None (Some reply) = refl
+once_emptied [] conn (Some c) None = refl
+once_emptied [] conn (Some c) (Some reply) = refl
+once_emptied (b ∷ hs) conn entering reply = once_emptied hs conn entering reply
 
-once_marks : (a : Arrival) (void : Option ℕ) (cs : List Command) (entering : Option Command) (reply : Option Reply) → enters_once (open_marks a void cs entering reply) ≡ true
-once_marks a None cs entering reply = once_left cs (connection_of a.request) entering reply
-once_marks a (Some n) cs entering reply = once_left cs (connection_of a.request) entering reply
+once_left : (cs : List Command) (hs : List Arrival) (conn : ℕ) (entering : Option Command) (reply : Option Reply) → enters_once (map Leaves cs ++ (map Empties hs ++ (if_some Enters entering ++ if_some (Sends conn) reply))) ≡ true
+once_left [] hs conn entering reply = once_emptied hs conn entering reply
+once_left (d ∷ cs) hs conn entering reply = once_left cs hs conn entering reply
+
+once_marks : (a : Arrival) (void : Option ℕ) (cs : List Command) (hs : List Arrival) (entering : Option Command) (reply : Option Reply) → enters_once (open_marks a void cs hs entering reply) ≡ true
+once_marks a None cs hs entering reply = once_left cs hs (connection_of a.request) entering reply
+once_marks a (Some n) cs hs entering reply = once_left cs hs (connection_of a.request) entering reply
 
 item_once : (start : Start) (a : Arrival) (d : Deeds) → list_all is_plain (start_mark start a ∷ marks_done a d) ≡ true → enters_once (start_mark start a ∷ marks_done a d) ≡ true
 item_once start a d plain = by_start start plain
   where
     by_start : (x : Start) → list_all is_plain (start_mark x a ∷ marks_done a d) ≡ true → enters_once (start_mark x a ∷ marks_done a d) ≡ true
-    by_start AtTurn k = ap enters_once (deeds_plain a d k) ∙ once_marks a d.void d.leaving d.entering d.reply
-    by_start AtArrival k = ap enters_once (deeds_plain a d k) ∙ once_marks a d.void d.leaving d.entering d.reply
-    by_start AfterWaiting k = ap enters_once (deeds_plain a d k) ∙ once_marks a d.void d.leaving d.entering d.reply
+    by_start AtTurn k = ap enters_once (deeds_plain a d k) ∙ once_marks a d.void d.leaving d.emptied d.entering d.reply
+    by_start AtArrival k = ap enters_once (deeds_plain a d k) ∙ once_marks a d.void d.leaving d.emptied d.entering d.reply
+    by_start AfterWaiting k = ap enters_once (deeds_plain a d k) ∙ once_marks a d.void d.leaving d.emptied d.entering d.reply
 
 due_once : (i : Interface) (items : List (List Mark)) (t : Trace) → EachOn (IsDue i.outbox.session) t items → list_all (list_all is_plain) items ≡ true → list_all enters_once items ≡ true
 due_once i [] t due plain = refl
@@ -123,6 +130,7 @@ module _ (i : Interface) (names : List Name) (notes : List Note) (s : State) (r 
   -- commands before it
   begun_with : AreBegun i s r
   begun_with = record {
+    slots = f.slots.size_is;
     few =
         let lives = pairs_live names r s.commands.items (filter (is_named names) (entered r.both.trace)) f.requests.commands in
         let named = ap length (named_first names r.both.trace (entered r.both.trace) f.requests.live_named) in
@@ -179,11 +187,11 @@ module _ (i : Interface) (names : List Name) (notes : List Note) (s : State) (r 
       not_held (ap (λ ms. is_held_first request (effects_of i.outbox.session r.both.trace ms)) is) (ap (list_all admits_alone) is) (ap (starts_late r.both.event) is) (ap (list_all enters_once) is)
       (subst (AllGo i names notes s0 r (Some place) []) (sym is) (rejected_go i names notes f.fit.fit.distinct s0 r place first (connection_of a.request) (Reject 5 (header_of a.request)) (subst (AreStepsFit i r) is f.fit.steps)))
 
-  executes : (d : Deeds) (rest : List (List Mark)) → is_immediate a.request ≡ true → IsDone i.outbox.session r.both.trace AtArrival a d → items_then i r cid header ≡ (Executes a ∷ marks_done a d) ∷ rest → EachOn (IsDue i.outbox.session) ((Executes a ∷ marks_done a d) ∷ r.both.trace) rest → ArrivesTo
-  executes d rest immediate does is due =
+  executes : (d : Deeds) (rest : List (List Mark)) → is_immediate a.request ≡ true → IsDone i.outbox.session r.both.trace AtArrival a d → IsAlone (marks_done a d) → items_then i r cid header ≡ (Executes a ∷ marks_done a d) ∷ rest → EachOn (IsDue i.outbox.session) ((Executes a ∷ marks_done a d) ∷ r.both.trace) rest → ArrivesTo
+  executes d rest immediate does alone is due =
       not_held (ap (λ ms. is_held_first request (effects_of i.outbox.session r.both.trace ms)) is ∙ ap not immediate) (ap (list_all admits_alone) is ∙ due_alone i rest ((Executes a ∷ marks_done a d) ∷ r.both.trace) due) (ap (starts_late r.both.event) is ∙ ap not (eq-eqb r.both.event r.both.event refl)) (once_by ((Executes a ∷ marks_done a d) ∷ rest) is (by_item (subst (λ ms. list_all (list_all is_plain) ms ≡ true) is p.plain)))
       (subst (AllGo i names notes s0 r (Some place) []) (sym is)
-      (executed_go i names notes f.fit.fit.distinct s0 r place first a refl f.before.waiting d rest does due (subst (λ ms. list_all (list_all is_plain) ms ≡ true) is p.plain) (subst (AreStepsFit i r) is f.fit.steps)))
+      (executed_go i names notes f.fit.fit.distinct s0 r place first a refl f.before.waiting d rest does alone due (subst (λ ms. list_all (list_all is_plain) ms ≡ true) is p.plain) (subst (AreStepsFit i r) is f.fit.steps)))
     where
       by_item : list_all (list_all is_plain) ((Executes a ∷ marks_done a d) ∷ rest) ≡ true → list_all enters_once ((Executes a ∷ marks_done a d) ∷ rest) ≡ true
       by_item plain =
@@ -224,7 +232,7 @@ module _ (i : Interface) (names : List Name) (notes : List Note) (s : State) (r 
     holds =
         subst (λ v. GoesTo i (done (cond v (happens i None e (changed (hold request place) begins)) (happens i (Some place) e begins))) (rules.done (happens_there i r e)))
         (sym (ap (λ ms. is_held_first request (effects_of i.outbox.session r.both.trace ms)) is ∙ held_first))
-        (event_goes i names notes held_state r None e (event_of (ap (list_all admits_alone) is ∙ due_alone i rest ((Admits a ∷ []) ∷ r.both.trace) due) (ap (starts_late r.both.event) is) (once_by ((Admits a ∷ []) ∷ rest) is (due_once i rest ((Admits a ∷ []) ∷ r.both.trace) due plain_rest))) (record { few = begun_with.few; freed = begun_with.freed }) f.outbox
+        (event_goes i names notes held_state r None e (event_of (ap (list_all admits_alone) is ∙ due_alone i rest ((Admits a ∷ []) ∷ r.both.trace) due) (ap (starts_late r.both.event) is) (once_by ((Admits a ∷ []) ∷ rest) is (due_once i rest ((Admits a ∷ []) ∷ r.both.trace) due plain_rest))) (record { slots = length-set s.held.places (index_of (cmd_sn a.request) s.held) (Some place) ∙ f.slots.size_is; few = begun_with.few; freed = begun_with.freed }) f.outbox
         (subst (AllGo i names notes (record held_state { outbox = outbox_first i r e lead s.outbox }) r None []) (sym is)
         (received_go i names notes f.fit.fit.distinct s0 r place first a refl f.before.admitted f.before.waiting new (f.fit.received rest is) steps.0 (behind_first rest steps.1) rest due (f.fit.prompt rest is) plain_rest steps.1)) f.calm p.withheld)
 
@@ -243,5 +251,5 @@ module _ (i : Interface) (names : List Name) (notes : List Note) (s : State) (r 
       by_becomes (IsIgnored why is) = over why is
       by_becomes (IsRejected is) = rejects is
       by_becomes (IsReceived rest numbered new is due) = holds rest numbered new is due
-      by_becomes (IsExecuted d rest immediate does is due) = executes d rest immediate does is due
+      by_becomes (IsExecuted d rest immediate does alone is due) = executes d rest immediate does alone is due
       by_becomes (IsPostponed rest immediate few is due) = postponed rest immediate few is due

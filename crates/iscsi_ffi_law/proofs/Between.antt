@@ -1,5 +1,5 @@
 -- What holds between two items of an event, and what it comes to as the next one begins.
-use Rattle.std.proofs.Common.{◌≡◌, ℕ, ◌+◌, ◌<◌, ◌≤◌, ◌==◌, ◌&&◌, ◌||◌, ⊎_elim, not, cond, Bool, false, List, [], ◌∷◌, ◌++◌, length, count_by, filter_map, Option, Some, None, refl, ap, sym, subst, ◌∙◌, arith, ne_eqb, eq-eqb, nat_lt, le-ltb, lt-ltb}
+use Rattle.std.proofs.Common.{◌≡◌, ℕ, ◌+◌, ◌<◌, ◌≤◌, ◌==◌, ◌&&◌, ◌||◌, ⊎_elim, not, cond, Bool, false, List, [], ◌∷◌, ◌++◌, length, count_by, filter_map, Option, Some, None, is_some, refl, ap, sym, subst, ◌∙◌, arith, ne_eqb, eq-eqb, nat_lt, le-ltb, lt-ltb}
 use Rattle.std.specs.List.{list_any}
 use Rattle.std.proofs.lemmas.Bool.{cases_lt, false≢true}
 use Rattle.std.proofs.lemmas.List.{append-nil}
@@ -36,7 +36,7 @@ use Rattle.iscsi_ffi_law.proofs.Plain.{plain_item, plain_marks, start_effect, un
 use Rattle.iscsi_ffi_law.proofs.QuietItems.{IsUnheld, is_held_on}
 use Rattle.iscsi_ffi_law.proofs.Releases.{endings}
 use Rattle.iscsi_ffi_law.proofs.Releasing.{ending}
-use Rattle.iscsi_ffi_law.proofs.Slots.{IsTurnOf, at, count_then, distinct_then, in_place, index_within, long_then, held_in, held_then, named_then, noted_then, slots_same, slots_then}
+use Rattle.iscsi_ffi_law.proofs.Slots.{IsTurnOf, at, count_put, count_then, distinct_then, in_place, index_within, long_then, held_in, held_then, named_then, noted_then, slots_same, slots_then}
 use Rattle.iscsi_ffi_law.proofs.Walking.{walk_at, walk_in}
 
 -- as many uses have ended, counted in another way
@@ -93,6 +93,7 @@ pub record IsHeaded (i : Interface) (names : List Name) (notes : List Note) (s :
   pub slots : AreHeld (size_for i.outbox.session.window) s.commands.room names held (item ∷ r.both.trace)
   pub distinct : AreDistinct (item ∷ r.both.trace)
   pub fresh : endings xs place ≡ 0
+  pub fewer : count_by is_some held.places ≤ count_by is_some s.held.places
   pub over : count_by (is_place place) held.places + count_lists (λ (f : WaitingFunction). f.request == place) functions.waiting ≡ 0
   pub by : StopReason
   pub why : by ≡ reason_by a.request (Some place)
@@ -164,6 +165,7 @@ module _ (i : Interface) (names : List Name) (notes : List Note) (s : State) (r 
     slots = slots_then size s.commands.room names notes k.requests.apart s r.both.trace k.slots k.distinct k.sizes.slots a is item turn;
     distinct = distinct_then size s.commands.room names notes k.requests.apart s r.both.trace k.slots k.distinct k.sizes.slots a is item turn (waits_turn r.both.trace a void entering reply);
     fresh = ⊎_elim (λ some. absurd (let none = k.over it_stands.place (omega (arith, some)) in let no : ⊥ = omega (arith, none, one_there) in no)) (λ few. omega (arith, few)) (cases_lt 0 (endings xs it_stands.place));
+    fewer = (let put = count_put is_some s.held.places (index_of (cmd_sn a.request) s.held) None (index_within (cmd_sn a.request) s.held k.sizes.slots) in omega (arith, put));
     over =
         let here : one (it_stands.place == it_stands.place) ≡ 1 = ap one (eq-eqb it_stands.place it_stands.place refl) in
         omega (arith, here, counted it_stands.place, k.slots.once it_stands.place, none_waits);
@@ -220,6 +222,7 @@ module _ (i : Interface) (names : List Name) (notes : List Note) (s : State) (r 
     slots = slots_same (size_for i.outbox.session.window) s.commands.room names s.held r.both.trace (plain_item AtArrival a void entering reply ∷ r.both.trace) (held_same r.both.trace (plain_item AtArrival a void entering reply) u) k.slots;
     distinct = distinct_same r.both.trace (plain_item AtArrival a void entering reply) u (λ e. let same = ap (count_by (λ (x : Arrival). x.event == e)) waits in omega (arith, same)) k.distinct;
     fresh = ap (λ ys. endings ys place) (k.own_first place refl);
+    fewer = omega arith;
     over = k.own_unheld place refl;
     by = reason_by a.request (Some place);
     why = refl;

@@ -353,7 +353,7 @@ module _ (i : Interface) where
     arrival_fit a here before items (IsIgnored why is) = subst Fits (sym is) (then_due (Ignores why ∷ []) [] (record { form = Ignored why; is = refl; formed = tt }) (λ none. refl) tt (λ sound item_sound mid. tt))
     arrival_fit a here before items (IsRejected is) = subst Fits (sym is) (λ forms fits mid. (tt, tt))
     arrival_fit a here before items (IsReceived rest numbered new is due) = subst Fits (sym is) (then_due (Admits a ∷ []) rest (record { form = Received a; is = refl; formed = (here, new) }) (λ none. refl) due (λ sound item_sound mid. tt))
-    arrival_fit a here before items (IsExecuted d rest at_once done is due) =
+    arrival_fit a here before items (IsExecuted d rest at_once done alone is due) =
         subst Fits (sym is)
         (then_due (Executes a ∷ marks_done a d) rest (record { form = Executed AtArrival a d; is = refl; formed = (here, done) }) (executed_told AtArrival a (marks_done a d)) due
         (λ sound item_sound mid. all_fit r AtArrival a d r.both.event before here done later mid sound item_sound))

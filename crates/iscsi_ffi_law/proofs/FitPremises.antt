@@ -205,7 +205,7 @@ module _ (i : Interface) (opening : IsOpening i) where
       new_by (IsIgnored why is) = absurd (let z : (Ignores why ∷ []) ∷ [] ≡ (Admits (arrived i s cid header) ∷ []) ∷ rest = sym is ∙ same in cc)
       new_by (IsRejected is) = absurd (let z : rejected (arrived i s cid header) ∷ [] ≡ (Admits (arrived i s cid header) ∷ []) ∷ rest = sym is ∙ same in cc)
       new_by (IsReceived more later new is due) = new
-      new_by (IsExecuted d more now done is due) = absurd (let z : (Executes (arrived i s cid header) ∷ marks_done (arrived i s cid header) d) ∷ more ≡ (Admits (arrived i s cid header) ∷ []) ∷ rest = sym is ∙ same in cc)
+      new_by (IsExecuted d more now done alone is due) = absurd (let z : (Executes (arrived i s cid header) ∷ marks_done (arrived i s cid header) d) ∷ more ≡ (Admits (arrived i s cid header) ∷ []) ∷ rest = sym is ∙ same in cc)
       new_by (IsPostponed more now room is due) = absurd (let z : (Waits (arrived i s cid header) ∷ []) ∷ more ≡ (Admits (arrived i s cid header) ∷ []) ∷ rest = sym is ∙ same in cc)
 
   received_fit : (n : ℕ) (s : Side) (cid : ℕ) (header : List ℕ) → is_known cid i.outbox.session.conns ≡ true → cmd_sn (request_of cid header) < 2 ^ 32 → Holds i n s
@@ -242,14 +242,14 @@ module _ (i : Interface) (opening : IsOpening i) where
         event = record {
           fit = fit_with (n + 1) (n + 1) s.both (after_step i.outbox s.both (Happens (Arrive cid header))) g.good (good_event i.outbox (n + 1) s.both (Arrive cid header) read g.good) (omega (arith, few)) (omega (arith, few)) (omega (arith, early, later)) (omega (arith, early, later));
           items = items;
-          steps = taken_steps i opening n r cid header is h (omega (arith, early, later)) items;
+          steps = taken_steps i opening n r cid header is h bytes (omega (arith, early, later)) items;
           stale = (sound_reached i.outbox distinct s.both g.good.reached).1;
           sent = (let x = g.good.sent_is in omega (arith, x, early, later));
           replies = room_left (arrival_room i distinct n r cid header is h);
           handed = g.placed.handed;
+          found = (let tasks = (fits_reached i.outbox distinct s.both g.good.reached).tasks in let many = same_count i.outbox s.both.box s.both.trace g.together.lives in omega (arith, tasks, many));
           short = taken_short i opening n r cid header is h;
           enabled = taken_enabled i opening n r cid header is h;
-          found = (let tasks = (fits_reached i.outbox distinct s.both g.good.reached).tasks in let many = same_count i.outbox s.both.box s.both.trace g.together.lives in omega (arith, tasks, many));
           few = (let tasks = fits'.tasks in omega (arith, tasks, many));
           regular = record { ascending = tickets_up i.outbox after together; units = units_there i.outbox after together };
           prompt = λ rest same. prompt_arrival i.outbox.session s.both.event s.both.trace (arrived i s cid header) g.turned (new_received s cid header rest same) (received_fit (n + 1) s cid header (refusal_known r cid is) (wired_bytes cid header bytes) g rest same).untaken rest same;

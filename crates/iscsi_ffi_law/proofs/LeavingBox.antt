@@ -6,8 +6,9 @@ use Rattle.std.proofs.lemmas.List.{append-nil}
 use Rattle.iscsi_wire.specs.declared.reply.Reply.{Reply}
 use Rattle.iscsi_wire.specs.declared.request.Request.{Request}
 use Rattle.iscsi_wire.specs.Fields.{connection_of}
+use Rattle.iscsi_wire.specs.Serial.{wire}
 use Rattle.iscsi_history.specs.declared.effect.Effect.{Effect}
-use Rattle.iscsi_history.specs.declared.effect.Effect.TheVariants.{Deliver, Immediate, Leave, Void}
+use Rattle.iscsi_history.specs.declared.effect.Effect.TheVariants.{Deliver, Empty, Immediate, Leave, Void}
 use Rattle.iscsi_history.specs.rules.Trace.{Arrival, Command, first_of}
 use Rattle.iscsi_history.proofs.Forms.{AfterWaiting, AtArrival, AtTurn, Start}
 use Rattle.iscsi_history.proofs.ListLemmas.{list_any-map}
@@ -18,7 +19,7 @@ use Rattle.iscsi_outbox_rules.specs.rules.Items.{after_item, close, conns_closed
 use Rattle.iscsi_outbox_rules.specs.rules.Words.{contains, is_running_phase}
 use Rattle.iscsi_ffi_law.proofs.DonePhases.{running_enabled, runs_at, turned, turned_runs}
 use Rattle.iscsi_ffi_law.proofs.DoneShape.{enabled_tickets, enables, gives_none, shows_none, tickets_of}
-use Rattle.iscsi_ffi_law.proofs.Leaving.{leave_effects, left_effects}
+use Rattle.iscsi_ffi_law.proofs.Leaving.{empty_effects, leave_effects, left_effects}
 use Rattle.iscsi_ffi_law.proofs.Plain.{send_effects, start_effect, void_effects}
 use Rattle.iscsi_ffi_law.proofs.Quiet.{settled_tasks}
 use Rattle.iscsi_ffi_law.proofs.QuietBox.{sent_tasks}
@@ -45,13 +46,21 @@ module _ {A : Type 0} (f : Effect → Option A) (deliver : (r : Request) → f (
   past_head AtArrival q void rest = ap (λ x. cons_option x (filter_map f (void_effects void ++ rest))) (immediate q) ∙ past_void void rest
   past_head AfterWaiting q void rest = ap (λ x. cons_option x (filter_map f (void_effects void ++ rest))) (immediate q) ∙ past_void void rest
 
-  module _ (leaves : (k u : ℕ) → f (Leave k u) ≡ None) where
+  module _ (leaves : (k u : ℕ) → f (Leave k u) ≡ None) (empties : (n : ℕ) → f (Empty n) ≡ None) where
+    past_empties : (hs : List Arrival) (rest : List Effect) → filter_map f (empty_effects hs ++ rest) ≡ filter_map f rest
+    past_empties [] rest = refl
+    past_empties (b ∷ hs) rest = ap (λ x. cons_option x (filter_map f (empty_effects hs ++ rest))) (empties (wire b.number)) ∙ past_empties hs rest
+
     past_leaves : (cs : List Command) (rest : List Effect) → filter_map f (leave_effects cs ++ rest) ≡ filter_map f rest
     past_leaves [] rest = refl
     past_leaves (c ∷ cs) rest = ap (λ x. cons_option x (filter_map f (leave_effects cs ++ rest))) (leaves c.ticket c.unit) ∙ past_leaves cs rest
 
-    pub past_both : (start : Start) (q : Request) (void : Option ℕ) (cs : List Command) (rest : List Effect) → filter_map f (start_effect start q ∷ (void_effects void ++ (leave_effects cs ++ rest))) ≡ filter_map f rest
-    past_both start q void cs rest = past_head start q void (leave_effects cs ++ rest) ∙ past_leaves cs rest
+    pub past_both : (start : Start) (q : Request) (void : Option ℕ) (cs : List Command) (hs : List Arrival) (rest : List Effect) → filter_map f (start_effect start q ∷ (void_effects void ++ (leave_effects cs ++ (empty_effects hs ++ rest)))) ≡ filter_map f rest
+    past_both start q void cs hs rest = past_head start q void (leave_effects cs ++ (empty_effects hs ++ rest)) ∙ past_leaves cs (empty_effects hs ++ rest) ∙ past_empties hs rest
+
+empties_shown : (hs : List Arrival) (rest : List Effect) → tickets_left (empty_effects hs ++ rest) ≡ tickets_left rest
+empties_shown [] rest = refl
+empties_shown (b ∷ hs) rest = empties_shown hs rest
 
 leaves_shown : (cs : List Command) (rest : List Effect) → tickets_left (leave_effects cs ++ rest) ≡ tickets_of cs ++ tickets_left rest
 leaves_shown [] rest = refl
@@ -68,6 +77,10 @@ none_closed links AfterWaiting q (Some n) rest = refl
 none_closed_by : (links : List Link) (cs : List Command) (rest : List Effect) → flat_map (conns_closed links) (leave_effects cs ++ rest) ≡ flat_map (conns_closed links) rest
 none_closed_by links [] rest = refl
 none_closed_by links (c ∷ cs) rest = none_closed_by links cs rest
+
+none_closed_out : (links : List Link) (hs : List Arrival) (rest : List Effect) → flat_map (conns_closed links) (empty_effects hs ++ rest) ≡ flat_map (conns_closed links) rest
+none_closed_out links [] rest = refl
+none_closed_out links (b ∷ hs) rest = none_closed_out links hs rest
 
 executes_it : (start : Start) (q : Request) (rest : List Effect) → executing (start_effect start q ∷ rest) ≡ Some q
 executes_it AtTurn q rest = refl
@@ -95,17 +108,17 @@ module _ (conn sn : ℕ) (ns : List Command) where
   sent_last None = ap first_of (shows_none reply_sent ns (λ ticket unit. refl))
   sent_last (Some reply) = refl
 
-pub leaving_part : (sn : ℕ) (start : Start) (a : Arrival) (void : Option ℕ) (cs : List Command) (reply : Option Reply) (ns : List Command)
-    → IsLeavingPart (left_effects sn start a void cs reply ns) a.request cs ns (option_map (λ (x : Reply). (connection_of a.request, x)) reply)
-leaving_part sn start a void cs reply ns = record {
-  enabled = past_both ticket_enabled (λ r. refl) (λ r. refl) (λ n. refl) (λ k u. refl) start a.request void cs (send_effects (connection_of a.request) sn reply ++ enables ns) ∙ enabled_last (connection_of a.request) sn ns reply;
-  left = past_head ticket_left (λ r. refl) (λ r. refl) (λ n. refl) start a.request void (leave_effects cs ++ (send_effects (connection_of a.request) sn reply ++ enables ns))
-      ∙ leaves_shown cs (send_effects (connection_of a.request) sn reply ++ enables ns) ∙ ap (λ ks. tickets_of cs ++ ks) (left_last (connection_of a.request) sn ns reply) ∙ append-nil (tickets_of cs);
-  entering = past_both (task_entered a.request) (λ r. refl) (λ r. refl) (λ n. refl) (λ k u. refl) start a.request void cs (send_effects (connection_of a.request) sn reply ++ enables ns) ∙ entering_last (connection_of a.request) sn ns a.request reply;
-  closing = λ links. none_closed links start a.request void (leave_effects cs ++ (send_effects (connection_of a.request) sn reply ++ enables ns))
-      ∙ none_closed_by links cs (send_effects (connection_of a.request) sn reply ++ enables ns) ∙ closed_last (connection_of a.request) sn ns links reply;
-  executes = executes_it start a.request (void_effects void ++ (leave_effects cs ++ (send_effects (connection_of a.request) sn reply ++ enables ns)));
-  sends = ap first_of (past_both reply_sent (λ r. refl) (λ r. refl) (λ n. refl) (λ k u. refl) start a.request void cs (send_effects (connection_of a.request) sn reply ++ enables ns)) ∙ sent_last (connection_of a.request) sn ns reply;
+pub leaving_part : (sn : ℕ) (start : Start) (a : Arrival) (void : Option ℕ) (cs : List Command) (hs : List Arrival) (reply : Option Reply) (ns : List Command)
+    → IsLeavingPart (left_effects sn start a void cs hs reply ns) a.request cs ns (option_map (λ (x : Reply). (connection_of a.request, x)) reply)
+leaving_part sn start a void cs hs reply ns = record {
+  enabled = past_both ticket_enabled (λ r. refl) (λ r. refl) (λ n. refl) (λ k u. refl) (λ n. refl) start a.request void cs hs (send_effects (connection_of a.request) sn reply ++ enables ns) ∙ enabled_last (connection_of a.request) sn ns reply;
+  left = past_head ticket_left (λ r. refl) (λ r. refl) (λ n. refl) start a.request void (leave_effects cs ++ (empty_effects hs ++ (send_effects (connection_of a.request) sn reply ++ enables ns)))
+      ∙ leaves_shown cs (empty_effects hs ++ (send_effects (connection_of a.request) sn reply ++ enables ns)) ∙ ap (λ ks. tickets_of cs ++ ks) (empties_shown hs (send_effects (connection_of a.request) sn reply ++ enables ns) ∙ left_last (connection_of a.request) sn ns reply) ∙ append-nil (tickets_of cs);
+  entering = past_both (task_entered a.request) (λ r. refl) (λ r. refl) (λ n. refl) (λ k u. refl) (λ n. refl) start a.request void cs hs (send_effects (connection_of a.request) sn reply ++ enables ns) ∙ entering_last (connection_of a.request) sn ns a.request reply;
+  closing = λ links. none_closed links start a.request void (leave_effects cs ++ (empty_effects hs ++ (send_effects (connection_of a.request) sn reply ++ enables ns)))
+      ∙ none_closed_by links cs (empty_effects hs ++ (send_effects (connection_of a.request) sn reply ++ enables ns)) ∙ none_closed_out links hs (send_effects (connection_of a.request) sn reply ++ enables ns) ∙ closed_last (connection_of a.request) sn ns links reply;
+  executes = executes_it start a.request (void_effects void ++ (leave_effects cs ++ (empty_effects hs ++ (send_effects (connection_of a.request) sn reply ++ enables ns))));
+  sends = ap first_of (past_both reply_sent (λ r. refl) (λ r. refl) (λ n. refl) (λ k u. refl) (λ n. refl) start a.request void cs hs (send_effects (connection_of a.request) sn reply ++ enables ns)) ∙ sent_last (connection_of a.request) sn ns reply;
 }
 
 -- ---- the box

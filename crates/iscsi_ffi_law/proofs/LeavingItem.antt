@@ -1,5 +1,5 @@
 -- An item by which commands leave: what holds behind them, before its request is answered, or is over.
-use Rattle.std.proofs.Common.{◌≡◌, ℕ, ◌+◌, ◌≤◌, ◌==◌, ◌&&◌, ◌||◌, inl, inr, ⊎_elim, not, cond, Bool, true, false, List, [], ◌∷◌, ◌++◌, length, map, count_by, filter, filter_map, Option, Some, None, nat_lt, option_map, refl, ap, sym, subst, ◌∙◌, arith, length-append}
+use Rattle.std.proofs.Common.{◌≡◌, ℕ, ◌+◌, ◌≤◌, ◌==◌, ◌&&◌, ◌||◌, inl, inr, ⊎_elim, not, cond, Bool, true, false, List, [], ◌∷◌, ◌++◌, length, map, count_by, filter, filter_map, Option, Some, None, is_some, nat_lt, option_map, refl, ap, sym, subst, ◌∙◌, arith, length-append}
 use Rattle.std.specs.List.{list_any}
 use Rattle.std.proofs.lemmas.Bool.{cases_lt, eq-eqb, eqb-true, false≢true, ltb-false}
 use Rattle.std.proofs.lemmas.List.{append_assoc, length-map}
@@ -42,13 +42,14 @@ use Rattle.iscsi_ffi_law.specs.Names.{Name, Note, asked_of, place_named}
 use Rattle.iscsi_ffi_law.specs.Parts.{IsRequest}
 use Rattle.iscsi_ffi_law.specs.Stands.{AreRequests}
 use Rattle.iscsi_ffi_law.specs.Uses.{count_commands, count_lists, is_place, is_used}
-use Rattle.iscsi_ffi_law.proofs.Between.{IsBetween, IsHeaded}
+use Rattle.iscsi_ffi_law.proofs.Between.{IsBetween}
 use Rattle.iscsi_ffi_law.proofs.DonePhases.{runs_at}
 use Rattle.iscsi_ffi_law.proofs.DoneShape.{enables, tickets_of}
 use Rattle.iscsi_ffi_law.proofs.Kept.{count_nothing}
-use Rattle.iscsi_ffi_law.proofs.Leaving.{effects_left, enters_left, executed_left, leave_effects, leaving_left, left_effects, left_item, tickets_left_by}
+use Rattle.iscsi_ffi_law.proofs.Leaving.{effects_left, empty_effects, enters_left, executed_left, leave_effects, leaving_left, left_effects, left_item, tickets_left_by}
 use Rattle.iscsi_ffi_law.proofs.LeavingBox.{IsLeavingPart, leaves_item, leaves_runs, leaving_part, left_box}
 use Rattle.iscsi_ffi_law.proofs.LeavingCommands.{AreOnce, all_live, among_tickets, ended_by, entered_left, gone_by, live_ticket_left}
+use Rattle.iscsi_ffi_law.proofs.LeavingHead.{IsPastHead}
 use Rattle.iscsi_ffi_law.proofs.LeavingQueues.{all_left}
 use Rattle.iscsi_ffi_law.proofs.LeavingRequests.{AreLeaving, leavers, requests_left, silent}
 use Rattle.iscsi_ffi_law.proofs.LeavingWalk.{MayLeave, few_leave, leaves_walk}
@@ -62,7 +63,6 @@ use Rattle.iscsi_ffi_law.proofs.Releasing.{ending}
 use Rattle.iscsi_ffi_law.proofs.Sources.{cookie_named}
 use Rattle.iscsi_ffi_law.proofs.Stepping.{stands_then}
 use Rattle.iscsi_ffi_law.proofs.TailOver.{voids_past}
-use Rattle.iscsi_ffi_law.proofs.TailSends.{over_still}
 use Rattle.iscsi_ffi_law.proofs.Walking.{walk_at, walk_in}
 
 -- ---- lists
@@ -112,48 +112,48 @@ nothing_there n none = let few : n ≤ 0 = ltb-false 0 n none in omega (arith, f
 
 -- ---- the item
 
-module _ (i : Interface) (names : List Name) (notes : List Note) (s : State) (r : Side) (own : Option ℕ) (xs : List (Option ℕ)) (k : IsBetween i names notes s r own xs) (start : Start) (a : Arrival) (void : Option ℕ) (cs : List RulesCommand) (reply : Option Reply)
-    (fit : IsStepFit i r (left_item start a void cs reply)) (distinct : are_distinct i.outbox.session.conns ≡ true) (sound : IsSound i.outbox (side_behind i r (left_item start a void cs reply)).both.box)
-    (h : IsHeaded i names notes s r own xs (left_item start a void cs reply) start a) (each : (p : RulesCommand → Bool) → count_by p cs ≤ count_by p (live r.both.trace)) where
+module _ (i : Interface) (names : List Name) (notes : List Note) (s : State) (r : Side) (own : Option ℕ) (xs : List (Option ℕ)) (k : IsBetween i names notes s r own xs) (start : Start) (a : Arrival) (void : Option ℕ) (cs : List RulesCommand) (hs : List Arrival) (reply : Option Reply)
+    (fit : IsStepFit i r (left_item start a void cs hs reply)) (distinct : are_distinct i.outbox.session.conns ≡ true) (sound : IsSound i.outbox (side_behind i r (left_item start a void cs hs reply)).both.box)
+    (h : IsPastHead i names notes s r own xs (left_item start a void cs hs reply) start a hs) (each : (p : RulesCommand → Bool) → count_by p cs ≤ count_by p (live r.both.trace)) where
   abbrev pub item : List Mark
-  item = left_item start a void cs reply
+  item = left_item start a void cs hs reply
 
   abbrev pub sn : ℕ
   sn = stat_sn_of i.outbox.session r.both.trace (connection_of a.request)
 
   abbrev pub ns : List RulesCommand
-  ns = newly_enabled i.outbox.session r.both.trace (left_item start a void cs reply)
+  ns = newly_enabled i.outbox.session r.both.trace (left_item start a void cs hs reply)
 
   abbrev pub es : List Effect
-  es = left_effects sn start a void cs reply ns
+  es = left_effects sn start a void cs hs reply ns
 
-  pub effects_are : effects_by i r (left_item start a void cs reply) ≡ es
-  effects_are = effects_left i.outbox.session r.both.trace start a void cs reply
+  pub effects_are : effects_by i r (left_item start a void cs hs reply) ≡ es
+  effects_are = effects_left i.outbox.session r.both.trace start a void cs hs reply
 
   pub part : IsLeavingPart es a.request cs ns (option_map (λ (x : Reply). (connection_of a.request, x)) reply)
-  part = leaving_part sn start a void cs reply ns
+  part = leaving_part sn start a void cs hs reply ns
 
   abbrev pub dropped : Box
   dropped = left_box r.both.box a.request cs
 
-  pub box_is : after_item i.outbox r.both.box (effects_by i r (left_item start a void cs reply)) ≡ settle i.outbox (in_phase phase_enabled (tickets_of ns) (send i.outbox (Some (a.request)) [] [] [] (option_map (λ (x : Reply). (connection_of a.request, x)) reply) dropped))
+  pub box_is : after_item i.outbox r.both.box (effects_by i r (left_item start a void cs hs reply)) ≡ settle i.outbox (in_phase phase_enabled (tickets_of ns) (send i.outbox (Some (a.request)) [] [] [] (option_map (λ (x : Reply). (connection_of a.request, x)) reply) dropped))
   box_is = ap (after_item i.outbox r.both.box) effects_are ∙ leaves_item i.outbox r.both.box a.request cs ns (option_map (λ (x : Reply). (connection_of a.request, x)) reply) es part
 
   abbrev pub outbox' : OutboxState
-  outbox' = steps_after_item (effects_by i r (left_item start a void cs reply)) s.outbox
+  outbox' = steps_after_item (effects_by i r (left_item start a void cs hs reply)) s.outbox
 
   -- ---- those that leave
 
-  leaves_fit : (d : RulesCommand) → In d cs → IsLeavingFit i r (left_item start a void cs reply) d
-  leaves_fit d there = each_in (IsLeavingFit i r (left_item start a void cs reply)) cs d there (subst (EachOf (IsLeavingFit i r (left_item start a void cs reply))) (leaving_left start a void cs reply) fit.leaves)
+  leaves_fit : (d : RulesCommand) → In d cs → IsLeavingFit i r (left_item start a void cs hs reply) d
+  leaves_fit d there = each_in (IsLeavingFit i r (left_item start a void cs hs reply)) cs d there (subst (EachOf (IsLeavingFit i r (left_item start a void cs hs reply))) (leaving_left start a void cs hs reply) fit.leaves)
 
   once : AreOnce cs
   once n = let few = each (λ (d : RulesCommand). d.ticket == n) in let most = apart_once (live r.both.trace) (apart-filter (λ (c : RulesCommand). not (has (leaves_ticket c.ticket) r.both.trace)) (entered r.both.trace) k.requests.tickets) n in omega (arith, few, most)
 
-  pub those : AreLeaving names s r (left_item start a void cs reply) outbox' cs
+  pub those : AreLeaving names s r (left_item start a void cs hs reply) outbox' cs
   those = record {
-    none_enters = enters_left start a void cs reply;
-    left_by = λ n. tickets_left_by n start a void cs reply;
+    none_enters = enters_left start a void cs hs reply;
+    left_by = λ n. tickets_left_by n start a void cs hs reply;
     lives = all_live r.both.trace cs each;
     once = once;
     unanswered = λ d there. (leaves_fit d there).unanswered;
@@ -168,7 +168,7 @@ module _ (i : Interface) (names : List Name) (notes : List Note) (s : State) (r 
   -- ---- what is kept, as what waits of them is dropped
 
   abbrev pub ended' : List (Option ℕ)
-  ended' = xs ++ ended_by names r cs
+  ended' = (xs ++ ended_by names r cs) ++ h.taken
 
   abbrev pub pending' : ℕ → ℕ
   pending' q = one (h.place == q) + endings ended' q
@@ -179,9 +179,9 @@ module _ (i : Interface) (names : List Name) (notes : List Note) (s : State) (r 
   abbrev pub r2 : Side
   r2 = record r { both = record r.both { trace = item ∷ r.both.trace; box = dropped } }
 
-  pub requests2 : AreRequests names notes (λ q. one (h.place == q) + endings (xs ++ ended_by names r cs) q) (λ q. []) s2 r2
-  requests2 = requests_left names notes (λ q. ending own q + endings xs q) (λ q. []) s r k.requests item outbox' cs those dropped refl refl refl h.held h.functions (λ q. one (h.place == q) + endings (xs ++ ended_by names r cs) q)
-      (λ q. let used = h.uses q in omega (arith, used, endings_append xs (ended_by names r cs) q)) h.requests h.noted
+  pub requests2 : AreRequests names notes (λ q. one (h.place == q) + endings ((xs ++ ended_by names r cs) ++ h.taken) q) (λ q. []) s2 r2
+  requests2 = requests_left names notes (λ q. ending own q + endings xs q) (λ q. []) s r k.requests item outbox' cs those dropped refl refl refl h.held h.functions (λ q. one (h.place == q) + endings ((xs ++ ended_by names r cs) ++ h.taken) q)
+      (λ q. let used = h.uses q in omega (arith, used, endings_append xs (ended_by names r cs) q, endings_append (xs ++ ended_by names r cs) h.taken q)) h.requests h.noted
 
   pub queued2 : AllQueued names (item ∷ r.both.trace) r.answers (λ q. of_conn q s.replies.waiting) (λ q. length (of_conn q s.noted.handed)) dropped.links r.both.box.undue
   queued2 = all_left names r.both.trace (item ∷ r.both.trace) r.answers (tickets_of cs) (entered_left r.both.trace item cs those.none_enters those.left_by)
@@ -190,19 +190,23 @@ module _ (i : Interface) (names : List Name) (notes : List Note) (s : State) (r 
       (all_queued i names notes (λ q. ending own q + endings xs q) (λ q. []) s r k.requests k.outbox distinct fit.fit.sound)
 
   -- uses that have ended are of requests that aren't held
-  pub over2 : (q : ℕ) → 1 ≤ endings (xs ++ ended_by names r cs) q → count_by (is_place q) h.held.places + count_lists (λ (f : WaitingFunction). f.request == q) h.functions.waiting ≡ 0
-  over2 q some = ⊎_elim
-      (λ before. over_still i names notes s r own xs k item start a h q (omega (arith, before)))
-      (λ none.
-      let x = ended_in names r cs q (let none' = none in omega (arith, some, none', endings_append xs (ended_by names r cs) q)) in
-      let f : Named names x.0.arrival.event q = found_named names x.0.arrival.event q x.2 in
-      let fit' : IsLeavingFit i r item x.0 = leaves_fit x.0 x.1 in
-      let e : IsRequest (record s { held = h.held; functions = h.functions }) (item ∷ r.both.trace) f.name = each_in (IsRequest (record s { held = h.held; functions = h.functions }) (item ∷ r.both.trace)) names f.name f.there h.requests in
-      let unheld : count_by (is_place f.name.place) h.held.places ≡ 0 = nothing_there (count_by (is_place f.name.place) h.held.places) (sym e.held ∙ ap (λ n. is_held n (item ∷ r.both.trace)) f.event_is ∙ fit'.held) in
-      let gone : count_lists (λ (g : WaitingFunction). g.request == f.name.place) h.functions.waiting ≡ 0
-      = nothing_there (count_lists (λ (g : WaitingFunction). g.request == f.name.place) h.functions.waiting) (sym e.waiting ∙ ap (λ n. is_waiting n (item ∷ r.both.trace)) f.event_is ∙ fit'.waiting) in
-      subst (λ p. count_by (is_place p) h.held.places + count_lists (λ (g : WaitingFunction). g.request == p) h.functions.waiting ≡ 0) f.place_is (omega (arith, unheld, gone)))
-      (cases_lt 0 (endings xs q))
+  pub over2 : (q : ℕ) → 1 ≤ endings ((xs ++ ended_by names r cs) ++ h.taken) q → count_by (is_place q) h.held.places + count_lists (λ (f : WaitingFunction). f.request == q) h.functions.waiting ≡ 0
+  over2 q some = ⊎_elim (λ out. h.over_taken q (omega (arith, out)))
+      (λ none. by_others (let all = endings_append (xs ++ ended_by names r cs) h.taken q in omega (arith, none, some, all))) (cases_lt 0 (endings h.taken q))
+    where
+      by_others : 1 ≤ endings (xs ++ ended_by names r cs) q → count_by (is_place q) h.held.places + count_lists (λ (f : WaitingFunction). f.request == q) h.functions.waiting ≡ 0
+      by_others some' = ⊎_elim
+          (λ before. h.over_still q (omega (arith, before)))
+          (λ none.
+          let x = ended_in names r cs q (omega (arith, some', none, endings_append xs (ended_by names r cs) q)) in
+          let f : Named names x.0.arrival.event q = found_named names x.0.arrival.event q x.2 in
+          let fit' : IsLeavingFit i r item x.0 = leaves_fit x.0 x.1 in
+          let e : IsRequest (record s { held = h.held; functions = h.functions }) (item ∷ r.both.trace) f.name = each_in (IsRequest (record s { held = h.held; functions = h.functions }) (item ∷ r.both.trace)) names f.name f.there h.requests in
+          let unheld : count_by (is_place f.name.place) h.held.places ≡ 0 = nothing_there (count_by (is_place f.name.place) h.held.places) (sym e.held ∙ ap (λ n. is_held n (item ∷ r.both.trace)) f.event_is ∙ fit'.held) in
+          let gone : count_lists (λ (g : WaitingFunction). g.request == f.name.place) h.functions.waiting ≡ 0
+          = nothing_there (count_lists (λ (g : WaitingFunction). g.request == f.name.place) h.functions.waiting) (sym e.waiting ∙ ap (λ n. is_waiting n (item ∷ r.both.trace)) f.event_is ∙ fit'.waiting) in
+          subst (λ p. count_by (is_place p) h.held.places + count_lists (λ (g : WaitingFunction). g.request == p) h.functions.waiting ≡ 0) f.place_is (omega (arith, unheld, gone)))
+          (cases_lt 0 (endings xs q))
 
   -- ---- what stops
 
@@ -215,31 +219,36 @@ module _ (i : Interface) (names : List Name) (notes : List Note) (s : State) (r 
   reason_is : reason_of r.asked a ≡ h.by
   reason_is = ap (λ v. cond (opcode a.request == 6) (cond v LoggedOut Lost) Aborted) asked_there ∙ sym h.why
 
-  pub stops_are : stops_in r (left_item start a void cs reply) ≡ map (stop_there r h.by) (filter (is_started r) cs)
+  pub stops_are : stops_in r (left_item start a void cs hs reply) ≡ map (stop_there r h.by) (filter (is_started r) cs)
   stops_are =
-      ap (λ (x : Option Arrival). elim x as (λ (y : Option Arrival). List Action) [ Some b ↦ map (stop_there r (reason_of r.asked b)) (filter (is_started r) (filter_map leaving item)) | None ↦ [] ]) (executed_left start a void cs reply)
-      ∙ ap (λ ds. map (stop_there r (reason_of r.asked a)) (filter (is_started r) ds)) (leaving_left start a void cs reply)
+      ap (λ (x : Option Arrival). elim x as (λ (y : Option Arrival). List Action) [ Some b ↦ map (stop_there r (reason_of r.asked b)) (filter (is_started r) (filter_map leaving item)) | None ↦ [] ]) (executed_left start a void cs hs reply)
+      ∙ ap (λ ds. map (stop_there r (reason_of r.asked a)) (filter (is_started r) ds)) (leaving_left start a void cs hs reply)
       ∙ ap (λ (why : StopReason). map (stop_there r why) (filter (is_started r) cs)) reason_is
 
-  pub few2 : (length (xs ++ ended_by names r cs) + count_by is_live (map (gone_by cs) s.commands.items) ≤ length xs + count_by is_live s.commands.items)
-      × (length (stops_in r (left_item start a void cs reply)) + count_by is_going (map (gone_by cs) s.commands.items) ≤ count_by is_going s.commands.items)
+  pub few2 : (length ((xs ++ ended_by names r cs) ++ h.taken) + (count_by is_live (map (gone_by cs) s.commands.items) + count_by is_some h.held.places) ≤ length xs + (count_by is_live s.commands.items + count_by is_some s.held.places))
+      × (length (stops_in r (left_item start a void cs hs reply)) + count_by is_going (map (gone_by cs) s.commands.items) ≤ count_by is_going s.commands.items)
   few2 =
       let few = few_leave names r cs s.commands.items k.requests.numbered (leavers names notes (λ q. ending own q + endings xs q) (λ q. []) s r k.requests item outbox' cs those) once in
       let lives = few.0 in
       let going = few.1 in
       let stops = ap length stops_are in
       let mapped = length-map (filter (is_started r) cs) (stop_there r h.by) in
-      (omega (arith, lives, length-append xs (ended_by names r cs)), omega (arith, going, stops, mapped))
+      let fewer = h.fewer in
+      (omega (arith, lives, fewer, length-append xs (ended_by names r cs), length-append (xs ++ ended_by names r cs) h.taken), omega (arith, going, stops, mapped))
 
   -- ---- the walk up to there
 
   abbrev pub s1 : State
-  s1 = record s { held = h.held; functions = h.functions }
+  s1 = record s { held = h.found; functions = h.functions }
+
+  -- behind what leaves, and behind what is taken out
+  abbrev s_left : State
+  s_left = record s { held = h.found; functions = h.functions; commands = record s.commands { items = map (gone_by cs) s.commands.items } }
 
   abbrev pub s1' : State
   s1' = record s { held = h.held; functions = h.functions; commands = record s.commands { items = map (gone_by cs) s.commands.items } }
 
-  may : (acts : List Action) → length acts + length (stops_in r (left_item start a void cs reply)) ≤ s.room → MayLeave names r h.by s1 acts xs cs
+  may : (acts : List Action) → length acts + length (stops_in r (left_item start a void cs hs reply)) ≤ s.room → MayLeave names r h.by s1 acts xs cs
   may acts room = record {
     counted = k.requests.counted;
     numbered = k.requests.numbered;
@@ -263,15 +272,18 @@ module _ (i : Interface) (names : List Name) (notes : List Note) (s : State) (r 
   last = send_effects (connection_of a.request) sn reply ++ enables ns
 
   pub leaves_past : (o : OutboxState) → o.limits ≡ limits_of i.outbox → (acts : List Action) (first : Bool) → (first && is_late r.both.event item) ≡ false → length acts + length (stops_in r item) ≤ s.room → (rest : List Effect)
-      → on_effects first (effects_by i r (left_item start a void cs reply) ++ rest) (walk_at o s acts xs own r.both.box.sent)
-      ≡ on_effects false (last ++ rest) (walk_in o s1' (acts ++ stops_in r (left_item start a void cs reply)) (xs ++ ended_by names r cs) (Some (h.place)) None (Some (h.by)) r.both.box.sent)
+      → on_effects first (effects_by i r (left_item start a void cs hs reply) ++ rest) (walk_at o s acts xs own r.both.box.sent)
+      ≡ on_effects false (last ++ rest) (walk_in o s1' (acts ++ stops_in r (left_item start a void cs hs reply)) ((xs ++ ended_by names r cs) ++ h.taken) (Some (h.place)) None (Some (h.by)) r.both.box.sent)
   leaves_past o limits acts first late room rest =
       ap (λ fs. on_effects first (fs ++ rest) (walk_at o s acts xs own r.both.box.sent)) effects_are
-      ∙ ap (λ w. on_effects false ((void_effects void ++ (leave_effects cs ++ last)) ++ rest) w) (h.walk o limits acts first r.both.box.sent late)
-      ∙ ap (λ fs. on_effects false fs after_head) (append_assoc (void_effects void) (leave_effects cs ++ last) rest ∙ ap (λ fs. void_effects void ++ fs) (append_assoc (leave_effects cs) last rest))
-      ∙ voids_past void (leave_effects cs ++ (last ++ rest)) after_head
-      ∙ leaves_walk names r h.by o (Some (h.place)) None r.both.box.sent cs s1 acts xs (may acts room) (last ++ rest)
-      ∙ ap (λ as'. on_effects false (last ++ rest) (walk_in o s1' (acts ++ as') (xs ++ ended_by names r cs) (Some (h.place)) None (Some (h.by)) r.both.box.sent)) (sym stops_are)
+      ∙ ap (λ w. on_effects false ((void_effects void ++ (leave_effects cs ++ (empty_effects hs ++ last))) ++ rest) w) (h.walk o limits acts first r.both.box.sent late)
+      ∙ ap (λ fs. on_effects false fs after_head)
+      (append_assoc (void_effects void) (leave_effects cs ++ (empty_effects hs ++ last)) rest
+      ∙ ap (λ fs. void_effects void ++ fs) (append_assoc (leave_effects cs) (empty_effects hs ++ last) rest ∙ ap (λ fs. leave_effects cs ++ fs) (append_assoc (empty_effects hs) last rest)))
+      ∙ voids_past void (leave_effects cs ++ (empty_effects hs ++ (last ++ rest))) after_head
+      ∙ leaves_walk names r h.by o (Some (h.place)) None r.both.box.sent cs s1 acts xs (may acts room) (empty_effects hs ++ (last ++ rest))
+      ∙ ap (λ as'. on_effects false (empty_effects hs ++ (last ++ rest)) (walk_in o s_left (acts ++ as') (xs ++ ended_by names r cs) (Some (h.place)) None (Some (h.by)) r.both.box.sent)) (sym stops_are)
+      ∙ h.empties o (record s.commands { items = map (gone_by cs) s.commands.items }) (acts ++ stops_in r item) (xs ++ ended_by names r cs) (Some (h.place)) None (Some (h.by)) r.both.box.sent (last ++ rest)
     where
       after_head : Walk
       after_head = walk_in o s1 acts xs (Some (h.place)) None (Some (h.by)) r.both.box.sent

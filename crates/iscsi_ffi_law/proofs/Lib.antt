@@ -76,11 +76,13 @@ mod LeavingRequests
 mod LeavingUses
 mod LeavingWalk
 mod LeavingHead
+mod Emptying
 mod LeavingItem
 mod TailLeaves
 mod StartsOver
 mod EventNews
 mod TailEnters
+mod Alone
 mod Turns
 mod ItemsGo
 mod StartsAfter
@@ -137,6 +139,10 @@ mod FitTurns
 mod FitPrompt
 mod FitReceived
 mod FitOnce
+mod FitPhases
+mod FitReplied
+mod FitLasts
+mod FitLeaving
 mod FitFirst
 mod FitCounts
 mod FitWaiting
@@ -144,10 +150,6 @@ mod FitLimits
 mod FitOrder
 mod FitReady
 mod FitShown
-mod FitPhases
-mod FitReplied
-mod FitLasts
-mod FitLeaving
 mod FitItems
 mod FitEvents
 mod FitAll

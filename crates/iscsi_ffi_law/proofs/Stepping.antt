@@ -1,5 +1,5 @@
 -- From between two items of an event to between the next two: the outbox, and what is asked of all that is kept.
-use Rattle.std.proofs.Common.{◌≡◌, ℕ, ◌+◌, ◌<◌, ◌≤◌, ◌==◌, ◌&&◌, Bool, true, false, List, [], ◌++◌, length, count_by, Option, None, refl, ap, sym, subst, ◌∙◌, arith}
+use Rattle.std.proofs.Common.{◌≡◌, ℕ, ◌+◌, ◌<◌, ◌≤◌, ◌==◌, ◌&&◌, Bool, true, false, List, [], ◌++◌, length, count_by, Option, None, is_some, refl, ap, sym, subst, ◌∙◌, arith}
 use Rattle.std.specs.List.{filter_map, list_any, position}
 use Rattle.std.proofs.lemmas.List.{append-nil}
 use Rattle.iscsi_history.specs.declared.effect.Effect.{Effect}
@@ -22,7 +22,6 @@ use Rattle.iscsi_outbox_law.proofs.TakesItem.{item_stands}
 use Rattle.iscsi_outbox_law.proofs.TurningCount.{item_last, newest_item}
 use Rattle.iscsi_outbox_steps.specs.State.{Limits, State as OutboxState, limits_of, place_of}
 use Rattle.iscsi_outbox_steps.specs.Steps.{after_item as steps_after_item, is_running_ticket}
-use Rattle.iscsi_ffi_commands.specs.declared.command.Command.{Command}
 use Rattle.iscsi_ffi_commands.specs.Commands.{is_going, is_live}
 use Rattle.iscsi_ffi_rules.specs.declared.action.Action.{Action}
 use Rattle.iscsi_ffi_rules.specs.rules.Calls.{Interface}
@@ -82,10 +81,14 @@ calm_on b c h (Ignore why) k = tt
 pub all_calm_on : (b c : Box) → SameLinks b c → (es : List Effect) → EachOf (IsCalm b) es → EachOf (IsCalm c) es
 all_calm_on b c h es = each-weaken (IsCalm b) (IsCalm c) es (calm_on b c h)
 
--- what has ended was live, but for one request; what was told to stop was told to start
-pub record AreFewer (xs ended : List (Option ℕ)) (stops : ℕ) (before after : List Command) : Type 0 where
-  pub lives : length ended + count_by is_live after ≤ length xs + count_by is_live before + 1
-  pub going : stops + count_by is_going after ≤ count_by is_going before
+-- so many commands are live, or requests held
+abbrev pub count_kept : State → ℕ
+count_kept s = count_by is_live s.commands.items + count_by is_some s.held.places
+
+-- what has ended was live or held, but for one request; what was told to stop was told to start
+pub record AreFewer (xs ended : List (Option ℕ)) (stops : ℕ) (before after : State) : Type 0 where
+  pub lives : length ended + count_kept after ≤ length xs + count_kept before + 1
+  pub going : stops + count_by is_going after.commands.items ≤ count_by is_going before.commands.items
 
 -- what an item comes to by which no command leaves: the walk goes on, and the same holds behind it
 pub record GoesOn (i : Interface) (names : List Name) (notes : List Note) (s : State) (r : Side) (own : Option ℕ) (xs : List (Option ℕ)) (item : List Mark) : Type 0 where
@@ -94,7 +97,7 @@ pub record GoesOn (i : Interface) (names : List Name) (notes : List Note) (s : S
   pub between : IsBetween i names notes state (side_behind i r item) None ended
   pub outbox : state.outbox ≡ steps_after_item (effects_by i r item) s.outbox
   pub room : state.room ≡ s.room
-  pub few : AreFewer xs ended 0 s.commands.items state.commands.items
+  pub few : AreFewer xs ended 0 s state
   pub links : SameLinks r.both.box (side_behind i r item).both.box
   pub calm : EachOf (IsCalm (side_behind i r item).both.box) (effects_by i r item)
   pub walk : (o : OutboxState) → o.limits ≡ limits_of i.outbox → (acts : List Action) (first : Bool) → (first && is_late r.both.event item) ≡ false → (rest : List Effect) → is_led rest ≡ true
@@ -107,7 +110,7 @@ pub record ItemGoes (i : Interface) (names : List Name) (notes : List Note) (s :
   pub between : IsBetween i names notes state (side_behind i r item) None ended
   pub outbox : state.outbox ≡ steps_after_item (effects_by i r item) s.outbox
   pub room : state.room ≡ s.room
-  pub few : AreFewer xs ended (length (stops_in r item)) s.commands.items state.commands.items
+  pub few : AreFewer xs ended (length (stops_in r item)) s state
   pub links : SameLinks r.both.box (side_behind i r item).both.box
   pub calm : EachOf (IsCalm (side_behind i r item).both.box) (effects_by i r item)
   pub walk : (o : OutboxState) → o.limits ≡ limits_of i.outbox → (acts : List Action) (first : Bool) → (first && is_late r.both.event item) ≡ false → length acts + length (stops_in r item) ≤ s.room → (rest : List Effect) → is_led rest ≡ true
@@ -120,7 +123,7 @@ plain_goes i names notes s r own xs item none g = record {
   between = g.between;
   outbox = g.outbox;
   room = g.room;
-  few = subst (λ (as' : List Action). AreFewer xs g.ended (length as') s.commands.items g.state.commands.items) (sym (stops_none r item none)) g.few;
+  few = subst (λ (as' : List Action). AreFewer xs g.ended (length as') s g.state) (sym (stops_none r item none)) g.few;
   links = g.links;
   calm = g.calm;
   walk = λ o limits acts first late room rest led.

@@ -175,7 +175,7 @@ module _ (i : Interface) (names : List Name) (notes : List Note) (s : State) (r 
     between = between;
     outbox = refl;
     room = refl;
-    few = record { lives = (let long = length-append xs (Some (h.place) ∷ []) in omega (arith, long)); going = omega arith };
+    few = record { lives = (let long = length-append xs (Some (h.place) ∷ []) in let fewer = h.fewer in omega (arith, long, fewer)); going = omega arith };
     links = links_unmoved r.both.box (after_item i.outbox r.both.box (effects_by i r item)) box_same;
     calm = subst (EachOf (IsCalm (side_behind i r item).both.box)) (sym effects_are) (calm_plain i r item start a void None None [] (λ reply is. absurd (let no : ⊥ = cc in no)));
     walk = λ o limits acts first late rest led. walk o limits acts first late rest led;

@@ -1,5 +1,5 @@
 -- A request executes, and is answered: its use is that of the reply that waits.
-use Rattle.std.proofs.Common.{◌≡◌, ℕ, ◌+◌, ◌≤◌, ◌==◌, ◌&&◌, Bool, true, false, List, [], ◌∷◌, ◌++◌, length, count_by, Option, Some, None, refl, ap, sym, subst, ◌∙◌, arith, length-set}
+use Rattle.std.proofs.Common.{◌≡◌, ℕ, ◌+◌, ◌≤◌, ◌==◌, ◌&&◌, Bool, true, false, List, [], ◌∷◌, ◌++◌, length, count_by, Option, Some, None, is_some, refl, ap, sym, subst, ◌∙◌, arith, length-set}
 use Rattle.std.specs.List.{filter_map, list_any}
 use Rattle.std.proofs.lemmas.List.{append_assoc}
 use Rattle.iscsi_wire.specs.declared.reply.Reply.{Reply}
@@ -89,6 +89,7 @@ pub record IsAnswering (i : Interface) (names : List Name) (notes : List Note) (
   pub part : IsQuietPart effects x (Some (cid, reply))
   pub answers : answers_in r.both.event item ≡ event ∷ []
   pub long : length held.places ≡ length s.held.places
+  pub fewer : count_by is_some held.places ≤ count_by is_some s.held.places
   pub long_functions : length functions.waiting ≡ length s.functions.waiting
   pub functions_are : AreFunctions (cids i) names functions (waiting (item ∷ r.both.trace))
   pub named : place_named names event ≡ Some place
@@ -218,7 +219,7 @@ module _ (i : Interface) (names : List Name) (notes : List Note) (s : State) (r 
     between = between;
     outbox = refl;
     room = refl;
-    few = record { lives = omega arith; going = omega arith };
+    few = (let fewer = h.fewer in record { lives = omega (arith, fewer); going = omega arith });
     links = same_links;
     calm = subst (EachOf (IsCalm (side_behind i r item).both.box)) (sym h.effects_are) (h.calm (side_behind i r item).both.box (all_calm_on r.both.box (side_behind i r item).both.box same_links (Send cid h.sn reply ∷ []) (sends.takes, tt)).0);
     walk = λ o limits acts first late rest led. walk o limits acts first late rest led;
@@ -252,6 +253,7 @@ module _ (i : Interface) (names : List Name) (notes : List Note) (s : State) (r 
     part = quiet_plain number start a void (Some reply);
     answers = answers_plain r.both.event start a void None (Some reply);
     long = h.long;
+    fewer = h.fewer;
     long_functions = h.long_functions;
     functions_are = h.functions_are;
     named = h.named;
@@ -296,6 +298,7 @@ module _ (i : Interface) (names : List Name) (notes : List Note) (s : State) (r 
     part = record { enables = refl; left = refl; entries = refl; entering = λ x. refl; closing = λ links. refl; executes = refl; sends = refl };
     answers = refl;
     long = refl;
+    fewer = omega arith;
     long_functions = refl;
     functions_are = k.functions;
     named = k.own_named place refl;

@@ -150,6 +150,7 @@ module _ (i : Interface) (names : List Name) (notes : List Note) (s : State) (r 
     functions = rest;
     place = its.request;
     long = refl;
+    fewer = omega arith;
     long_functions = long_left (cids i) names notes s.functions (waiting r.both.trace) k.functions k.sizes.functions once a first place.0 place.1.1.within place.1.1.at place.1.1.apart;
     functions_are = subst (AreFunctions (cids i) names rest) (sym waits) (left_are (cids i) names notes s.functions (waiting r.both.trace) k.functions k.sizes.functions once a first place.0 place.1.1.within place.1.1.at place.1.1.apart);
     named = named;

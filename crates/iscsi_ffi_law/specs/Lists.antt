@@ -54,7 +54,7 @@ pub record HasRoom (i : Interface) (s : StepsSide) (r : Side) : Type 0 where
   pub fit : IsFit i r.both.box r.both.box
   pub room : length s.state.commands.items + 2 * length (cids i) ≤ s.state.room
 
--- a request is taken, by whose items no held request is taken out and nothing is closed; there is a place for it, one of those that there are
+-- a request is taken, by whose items nothing is closed; there is a place for it, one of those that there are
 pub record IsArrival (i : Interface) (s : StepsSide) (r : Side) (cid : ℕ) (header : List ℕ) : Type 0 where
   pub fit : IsArrivalFit i r cid header
   pub taken : refusal_of i r cid ≡ None
