@@ -3,6 +3,8 @@ use Rattle.std.proofs.Common.{◌≡◌, ◌∙◌, ℕ, ℤ, ◌<◌, ◌≤◌
 use Rattle.std.specs.List.{remove}
 use Rattle.std.proofs.lemmas.List.{length-map, get_or_past}
 use Rattle.iscsi_slots.specs.Slots.{times}
+use Rattle.iscsi_slots.proofs.SlotLemmas.{StandsAt}
+use Rattle.iscsi_slots.proofs.SortedLemmas.{remove_is}
 use Rattle.iscsi_tasks.specs.declared.task.Attr.{Attr}
 use Rattle.iscsi_tasks.specs.declared.task.Attr.TheVariants.{Simple, Ordered, Head}
 use Rattle.iscsi_tasks.specs.declared.member.Member.{Member}
@@ -20,7 +22,7 @@ use Rattle.iscsi_tasks.proofs.CoveredFromLemmas.{covered_from_left}
 use Rattle.iscsi_tasks.proofs.FrontLemmas.{ascending_none, ascending_left}
 use Rattle.iscsi_tasks.proofs.MarkedLemmas.{some_at}
 use Rattle.iscsi_tasks.proofs.MomentLemmas.{settled_after}
-use Rattle.iscsi_tasks.proofs.SearchLemmas.{remove_is, found, enabled_at}
+use Rattle.iscsi_tasks.proofs.SearchLemmas.{found, enabled_at}
 use Rattle.iscsi_tasks.proofs.StayingLemmas.{filter-shorter}
 
 pub marked_none_yet : IsMarked (record { heads = 0; ordered = 0; dormant = 0; new_from = 0; new_to = 0 }) [] []
@@ -112,15 +114,19 @@ module _ {l : Linked} (sound : IsInSlots l) (ticket slot : ℕ) (at : HasTicket 
   pub enabled_found : (one : Member) → ((k : ℕ) (d : Member) → k < length l.slots → get_or l.slots k 0 ≡ slot → one ≡ get_or l.shown.list k d) → one.enabled ≡ is_enabled_in ticket l.shown.list
   enabled_found one read = ap (λ (x : Member). x.enabled) (read at.place BLANK place_in at.there) ∙ enabled_at l.shown.list sound.order ticket at.place at.inside at.ticket_is BLANK
 
--- ---- the command with a ticket leaves
+-- ---- a command leaves
 
-module _ {depth room : ℕ} {number : ℤ} {ascends : Bool} {most : ℤ} {m : Marks} {slots : List ℕ} {list : List Member} (kept : IsKeptLinked depth room number ascends most m slots list) (ticket slot : ℕ) (at : HasTicket slots list ticket slot) where
-  -- what is left of the set
-  pub left_is : (now : List Member) → ((k : ℕ) → k < length slots → get_or slots k 0 ≡ slot → now ≡ after_moment (remove list k)) → now ≡ after_moment (without ticket list)
-  left_is now is = is at.place (let inside = at.inside in let long = kept.marked.long in omega (arith, inside, long)) at.there ∙ ap after_moment (remove_is list at.place BLANK kept.marked.counted.order at.inside ∙ ap (λ t. without t list) (at.ticket_is BLANK))
+module _ {depth room : ℕ} {number : ℤ} {ascends : Bool} {most : ℤ} {m : Marks} {slots : List ℕ} {list : List Member} (kept : IsKeptLinked depth room number ascends most m slots list) (one : Member) where
+  -- what is left of the set without the one that was read
+  pub left_is : {slot : ℕ} (at : StandsAt slot slots) → ((k : ℕ) (d : Member) → k < length slots → get_or slots k 0 ≡ slot → one ≡ get_or list k d) → after_moment (remove list at.place) ≡ after_moment (without one.task.ticket list)
+  left_is at read =
+      let inside = at.inside in let long = kept.marked.long in
+      ap after_moment (remove_is (λ (x : Member). x.task.ticket) list at.place BLANK kept.marked.counted.order (omega (arith, inside, long))
+      ∙ ap (λ (x : Member). without x.task.ticket list) (sym (read at.place BLANK inside at.there)))
 
-  pub kept_left : {after : Marks} {slots_after : List ℕ} {now : List Member} {room_after : ℕ} → IsMarked after slots_after now → now ≡ after_moment (without ticket list) → room_after ≡ room → IsKeptLinked depth room_after number ascends most after slots_after now
+  pub kept_left : {after : Marks} {slots_after : List ℕ} {now : List Member} {room_after : ℕ} → IsMarked after slots_after now → now ≡ after_moment (without one.task.ticket list) → room_after ≡ room → IsKeptLinked depth room_after number ascends most after slots_after now
   kept_left {now = now} marked is same =
+      let ticket : ℕ = one.task.ticket in
       let short = filter-shorter (λ (x : Member). not (x.task.ticket == ticket)) list in
       let long = ap length is in let mapped = length-map (without ticket list) (looked_at (without ticket list)) in
       kept_on kept marked (omega (arith, short, long, mapped)) same (subst IsSettled (sym is) (settled_after (without ticket list)))

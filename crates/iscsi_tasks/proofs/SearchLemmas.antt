@@ -1,14 +1,13 @@
 -- A command is found by its ticket, since tickets go up along the set.
-use Rattle.std.proofs.Common.{◌≡◌, ℕ, zero, suc, ◌<◌, ◌==◌, ◌&&◌, ◌≢◌, not, cond, Bool, true, false, List, [], ◌∷◌, length, map, filter, find, position, get_or, All, Some, None, option_map, slice_get, refl, ap, sym, ◌∙◌, arith, subst, ⊎_elim, ne_eqb, eq-eqb}
-use Rattle.std.specs.List.{list_any, remove, position_or_len}
+use Rattle.std.proofs.Common.{◌≡◌, ℕ, ◌<◌, ◌==◌, ◌&&◌, ◌≢◌, cond, Bool, true, false, List, [], ◌∷◌, length, map, find, position, get_or, All, Some, None, option_map, slice_get, refl, ap, sym, ◌∙◌, arith, subst, ⊎_elim, ne_eqb, eq-eqb}
+use Rattle.std.specs.List.{list_any, position_or_len}
 use Rattle.std.proofs.lemmas.Bool.{cases_eq, cases_lt, cases_Bool, and_from, and_left, and_right}
 use Rattle.std.proofs.lemmas.List.{get_or_default}
 use Rattle.std.proofs.lemmas.Option.{slice_get-get_or}
 use Rattle.std.proofs.lemmas.List.Folds.{find_at, list_any_at, list_any_none}
 use Rattle.std.proofs.lemmas.List.Elements.{All-head, All-tail}
 use Rattle.iscsi_tasks.specs.declared.member.Member.{Member}
-use Rattle.iscsi_tasks.specs.Sets.{InOrder, without, is_enabled_with, is_enabled_in, with_ticket}
-use Rattle.iscsi_tasks.proofs.GivingLemmas.{InOrder-head, InOrder-tail}
+use Rattle.iscsi_tasks.specs.Sets.{InOrder, is_enabled_with, is_enabled_in, with_ticket}
 use Rattle.iscsi_tasks.proofs.ListLemmas.{find-map}
 use Rattle.iscsi_tasks.proofs.PlaceLemmas.{place_is, no_place, position_of, position_none}
 
@@ -21,22 +20,6 @@ find_place p xs k d is within = find_at p xs ∙ ap (slice_get xs) is ∙ slice_
 pub find_nowhere : {X : Type 0} (p : X → Bool) (xs : List X) → All (λ x. p x ≡ false) xs → find p xs ≡ None
 find_nowhere p [] none = refl
 find_nowhere p (x ∷ xs) none = ap (λ b. cond b (Some x) (find p xs)) (All-head (λ y. p y ≡ false) x xs none) ∙ find_nowhere p xs (All-tail (λ y. p y ≡ false) x xs none)
-
-filter_all : {X : Type 0} (p : X → Bool) (xs : List X) → All (λ x. p x ≡ true) xs → filter p xs ≡ xs
-filter_all p [] all = refl
-filter_all p (x ∷ xs) all = ap (λ b. cond b (x ∷ filter p xs) (filter p xs)) (All-head (λ y. p y ≡ true) x xs all) ∙ ap (λ r. x ∷ r) (filter_all p xs (All-tail (λ y. p y ≡ true) x xs all))
-
--- the command at a place is the only one with its ticket
-pub remove_is : (list : List Member) (k : ℕ) (d : Member) → InOrder list → k < length list → remove list k ≡ without (get_or list k d).task.ticket list
-remove_is [] k d order within = absurd (omega arith)
-remove_is (m ∷ ms) zero d order within =
-    let stay : All (λ x. not (x.task.ticket == m.task.ticket) ≡ true) ms = λ j e l. ap not (ne_eqb _ _ (λ same. let up : m.task.ticket < (get_or ms j e).task.ticket = InOrder-head m ms order j e l in omega arith)) in
-    sym (ap (λ b. cond (not b) (m ∷ without m.task.ticket ms) (without m.task.ticket ms)) (eq-eqb m.task.ticket m.task.ticket refl) ∙ filter_all (λ x. not (x.task.ticket == m.task.ticket)) ms stay)
-remove_is (m ∷ ms) (suc k) d order within =
-    let t : ℕ = (get_or ms k d).task.ticket in
-    let up : m.task.ticket < t = InOrder-head m ms order k d (omega arith) in
-    ap (λ r. m ∷ r) (remove_is ms k d (InOrder-tail m ms order) (omega arith))
-    ∙ sym (ap (λ b. cond (not b) (m ∷ without t ms) (without t ms)) (ne_eqb m.task.ticket t (λ e. omega arith)))
 
 module _ (list : List Member) (order : InOrder list) (ticket k : ℕ) (within : k < length list) (here : (d : Member) → (get_or list k d).task.ticket ≡ ticket) where
   apart : (j : ℕ) (d : Member) → j < length list → j ≢ k → ((get_or list j d).task.ticket == ticket) ≡ false

@@ -98,6 +98,7 @@ impl LinkedTasks {
     }
 
     /// How many commands there are.
+    #[inline(always)]
     pub(crate) fn len(&self) -> usize
         ensures { result ≡ length self.now.shown.list }
     {
@@ -105,6 +106,7 @@ impl LinkedTasks {
     }
 
     /// The most commands that there may be.
+    #[inline(always)]
     pub(crate) fn depth(&self) -> u32
         ensures { result ≡ self.now.shown.depth }
     {
@@ -112,6 +114,7 @@ impl LinkedTasks {
     }
 
     /// How many commands the last call of `take_in` tested for being free.
+    #[inline(always)]
     pub(crate) fn looked(&self) -> u32
         ensures { result ≡ self.now.shown.looked }
     {
@@ -119,6 +122,7 @@ impl LinkedTasks {
     }
 
     /// The slot of the oldest command, and `ENDS` where there is none.
+    #[inline(always)]
     pub(crate) fn oldest(&self) -> u16
         ensures { result ≡ slice_index_or self.now.slots 0 0 }
     {
@@ -126,6 +130,7 @@ impl LinkedTasks {
     }
 
     /// The slot behind this one, and `ENDS` where it is the last one.
+    #[inline(always)]
     pub(crate) fn after(&self, slot: u16) -> u16
         requires { 1 ≤ times slot self.now.slots }
         ensures { (k : ℕ) → k < length self.now.slots → slice_index_or self.now.slots k 0 ≡ slot →
@@ -135,6 +140,7 @@ impl LinkedTasks {
     }
 
     /// The command in a slot.
+    #[inline(always)]
     pub(crate) fn at(&self, slot: u16) -> &Node
         requires { 1 ≤ times slot self.now.slots }
         ensures { (k : ℕ) (d : Member) → k < length self.now.slots → slice_index_or self.now.slots k 0 ≡ slot →
@@ -144,6 +150,7 @@ impl LinkedTasks {
     }
 
     /// The slot of the command with this ticket. It looks at the slot `guess` first, and then along the set.
+    #[inline(always)]
     pub(crate) fn slot_of(&self, ticket: u64, guess: u16) -> Option<u16>
         ensures { IsSlotOf self.now.slots self.now.shown.list ticket result }
     {
@@ -151,6 +158,7 @@ impl LinkedTasks {
     }
 
     /// Whether no command is enabled and wasn't given. False tells nothing.
+    #[inline(always)]
     pub(crate) fn is_none_new(&self) -> bool
         ensures { result ≡ true → All (λ m. is_new m ≡ false) self.now.shown.list }
     {
@@ -158,6 +166,7 @@ impl LinkedTasks {
     }
 
     /// Whether a command may be covered. False tells that none is. It looks at no command.
+    #[inline(always)]
     pub(crate) fn may_cover(&self, cover: &Cover) -> bool
         ensures { result ≡ false → All (λ t. is_covered cover.now t ≡ false) (tasks_in self.now.shown) }
     {
@@ -166,6 +175,7 @@ impl LinkedTasks {
 
     /// The command enters behind all others. Where it `gives`, its ticket is given at once if it is enabled. Where the
     /// set is full it comes back.
+    #[inline(always)]
     pub(crate) fn take_in(&mut self, task: Task, gives: bool) -> Result<Taken, Task>
         requires { IsNewest task.ticket self.old.shown }
         ensures ok { IfOk result (λ taken. (length self.old.shown.list < self.old.shown.depth)
@@ -192,6 +202,7 @@ impl LinkedTasks {
     }
 
     /// The command in this slot leaves, and what becomes free by that is enabled.
+    #[inline(always)]
     pub(crate) fn let_go(&mut self, slot: u16) -> Task
         requires { 1 ≤ times slot self.old.slots }
         ensures state { (k : ℕ) (d : Member) → k < length self.old.slots → slice_index_or self.old.slots k 0 ≡ slot →
@@ -226,6 +237,7 @@ impl LinkedTasks {
     }
 
     /// The oldest enabled ticket that no call gave before.
+    #[inline(always)]
     pub(crate) fn next_new(&mut self) -> Option<u64>
         ensures answer { result ≡ next_in self.old.shown.list }
         ensures state { self.new ≡ linked (given_by self.old.shown) self.old.slots }

@@ -1,36 +1,27 @@
-use Rattle.std.proofs.Common.{◌≡◌, ◌∷◌, ◌∙◌, ◌<◌, ◌≤◌, ℕ, List, Some, length, get_or, ap, sym, subst, arith}
+use Rattle.std.proofs.Common.{◌≡◌, ◌∷◌, ◌∙◌, ◌<◌, ◌≤◌, ℕ, List, Some, length, get_or, ap, sym, subst}
 use Rattle.std.specs.List.{remove}
 use Rattle.iscsi_slots.specs.Slots.{times}
-use Rattle.iscsi_slots.proofs.SlotLemmas.{stands}
+use Rattle.iscsi_slots.proofs.SlotLemmas.{StandsAt, stands}
 use Rattle.iscsi_tasks.specs.declared.task.Task.{Task}
 use Rattle.iscsi_tasks.specs.declared.member.Member.{Member}
 use Rattle.iscsi_tasks.specs.Sets.{Members, left_by, after_moment, without}
 use Rattle.iscsi_tasks.specs.Changes.{Left, StandsFor}
-use Rattle.iscsi_tasks.specs.Chains.{BLANK}
+use Rattle.iscsi_tasks.specs.Chains.{BLANK, member_of}
 use Rattle.iscsi_tasks.specs.Linked.{Linked, linked}
-use Rattle.iscsi_tasks.specs.Marked.{HasTicket}
 use Rattle.iscsi_tasks.proofs.HistoryLemmas.{StandsFor-left}
 use Rattle.iscsi_tasks.proofs.LinkedSetLemmas.{in_slots, kept_left, left_is}
 use Rattle.iscsi_tasks.proofs.linked_tasks.LinkedTasks.let_go.Goals as goal
 
--- the command in the slot
-there : (c : goal.After-let_go) → HasTicket c.self.inside.chain.slots c.self.inside.chain.members c.at.result.now.task.ticket c.args.slot
-there c =
-    let at = stands c.args.slot c.self.inside.chain.slots (subst (λ (l : Linked). 1 ≤ times c.args.slot l.slots) (sym c.self.view_is) c.requires) in
-    let l = at.inside in let long = c.self.invariant.marked.long in
-    record {
-      place = at.place;
-      inside = omega (arith, l, long);
-      there = at.there;
-      ticket_is = λ d. ap (λ (m : Member). m.task.ticket) (sym (c.at.ensures at.place d at.inside at.there));
-    }
+-- the place of the slot
+at : (c : goal.After-let_go) → StandsAt c.args.slot c.self.inside.chain.slots
+at c = stands c.args.slot c.self.inside.chain.slots (subst (λ (l : Linked). 1 ≤ times c.args.slot l.slots) (sym c.self.view_is) c.requires)
 
 -- the set after the moment is the set without the command
 after : (c : goal.After-let_go) → c.let_go.new.chain.members ≡ after_moment (without c.at.result.now.task.ticket c.self.inside.chain.members)
-after c = left_is c.self.invariant c.at.result.now.task.ticket c.args.slot (there c) c.let_go.new.chain.members c.let_go.ensures.members
+after c = c.let_go.ensures.members (at c).place (at c).inside (at c).there ∙ left_is c.self.invariant (member_of c.at.result.now) (at c) c.at.ensures
 
 pub invariant_of-self : goal.invariant_of-self
-invariant_of-self c = kept_left c.self.invariant c.at.result.now.task.ticket c.args.slot (there c) c.let_go.ensures.marked (after c) c.let_go.ensures.room
+invariant_of-self c = kept_left c.self.invariant (member_of c.at.result.now) c.let_go.ensures.marked (after c) c.let_go.ensures.room
 
 pub returns-clause-sound : goal.returns-clause-sound
 returns-clause-sound c = in_slots (invariant_of-self c)
