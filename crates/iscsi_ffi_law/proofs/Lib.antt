@@ -35,6 +35,7 @@ mod Putting
 mod Refusing
 mod Releases
 mod Dropping
+mod DroppedFunctions
 mod Core
 mod Clearing
 mod Marking

@@ -151,7 +151,7 @@ module _ (i : Interface) (names : List Name) (notes : List Note) (s : State) (r 
 
   replied : IsReplied names sL rL a.event there.place h.place box_then
   replied = subst (IsReplied names sL rL a.event there.place h.place) (sym (box_is i names notes s r own xs k start a void cs hs (Some reply) fit distinct sound h each))
-      (sends_reply i names sL rL k.requests.answers (queued2 i names notes s r own xs k start a void cs hs (Some reply) fit distinct sound h each) (tickets_of enabled) a.event there.place h.place cid within
+      (sends_reply i names sL rL k.requests.answers (queued2 i names notes s r own xs k start a void cs hs (Some reply) fit distinct sound h each) (tickets_of enabled) [] [] a.event there.place h.place cid within
       (same_there.conn ∙ reply_conn i.outbox s.outbox r.both.box k.outbox distinct cid sends.takes) (same_there.takes ∙ reply_takes i.outbox s.outbox r.both.box k.outbox distinct cid sends.takes)
       (any_map (is_taking cid) (without (contains tickets)) r.both.box.links (λ l. refl) ∙ sends.takes) long h.named (Some (a.request)) reply)
 

@@ -147,7 +147,7 @@ module _ (i : Interface) (names : List Name) (notes : List Note) (s : State) (r 
 
   replied : IsReplied names s1 r1 event there.place h.place (after_item i.outbox r.both.box (effects_by i r item))
   replied = subst (IsReplied names s1 r1 event there.place h.place) (sym (box_is ∙ ap (settle i.outbox) (sym (none_turned phase_enabled sent_box))))
-      (sends_reply i names s1 r1 requests1.answers (all_queued i names notes pending1 (λ q. []) s1 r1 requests1 k.outbox distinct fit.fit.sound) [] event there.place h.place cid there.within conn_is takes_it sends.takes long h.named x reply)
+      (sends_reply i names s1 r1 requests1.answers (all_queued i names notes pending1 (λ q. []) s1 r1 requests1 k.outbox distinct fit.fit.sound) [] [] [] event there.place h.place cid there.within conn_is takes_it sends.takes long h.named x reply)
 
   runs : (ticket : ℕ) → is_running (after_item i.outbox r.both.box (effects_by i r item)) ticket ≡ is_running r.both.box ticket
   runs ticket =
