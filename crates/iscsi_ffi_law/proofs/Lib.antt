@@ -36,6 +36,7 @@ mod Refusing
 mod Releases
 mod Dropping
 mod DroppedFunctions
+mod Sweeping
 mod Core
 mod Clearing
 mod Marking
