@@ -37,6 +37,7 @@ mod Releases
 mod Dropping
 mod DroppedFunctions
 mod Sweeping
+mod ClosingBox
 mod Core
 mod Clearing
 mod Marking
