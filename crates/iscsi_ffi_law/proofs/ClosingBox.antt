@@ -156,7 +156,6 @@ module _ (names : List Name) (t : Trace) (answers : List ℕ) (replies : ℕ →
       apart = subst LinksApart (sym (conns_map both_at links conn_cut)) all.apart;
     }
 
-
 -- ---- several
 
 all_as : (names : List Name) (t : Trace) (answers : List ℕ) (rs rs' : ℕ → List WaitingReply) (ns ns' : ℕ → ℕ) (links : List Link) (undue : List Answer) → ((q : ℕ) → rs q ≡ rs' q) → ((q : ℕ) → ns q ≡ ns' q) → AllQueued names t answers rs ns links undue → AllQueued names t answers rs' ns' links undue

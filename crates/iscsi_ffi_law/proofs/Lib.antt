@@ -37,6 +37,7 @@ mod Releases
 mod Dropping
 mod DroppedFunctions
 mod Sweeping
+mod CutNotes
 mod ClosingBox
 mod Core
 mod Clearing
