@@ -31,7 +31,7 @@ use Rattle.iscsi_outbox_law.proofs.TurningFresh.{event_fresh}
 use Rattle.iscsi_outbox_law.proofs.TurningLast.{tell_last}
 use Rattle.iscsi_outbox_steps.specs.State.{Limits, State as OutboxState}
 use Rattle.iscsi_outbox_steps.specs.Steps.{after_items as steps_after_items, is_running_ticket, taken}
-use Rattle.iscsi_requests.specs.Conns.{of_conn}
+use Rattle.iscsi_requests.specs.Conns.{of_conn, count_all}
 use Rattle.iscsi_ffi_commands.specs.declared.command.Command.{Command}
 use Rattle.iscsi_ffi_commands.specs.declared.command.Stage.{Stage}
 use Rattle.iscsi_ffi_commands.specs.declared.command.Stage.TheVariants.{Cleared, Entered, Marked, Over, Started}
@@ -152,6 +152,7 @@ pub record IsEventOf (i : Interface) (r : Side) (e : Event) : Type 0 where
 -- what is known of commands before it
 pub record AreBegun (i : Interface) (s : State) (r : Side) : Type 0 where
   pub slots : length s.held.places ≡ size_for i.outbox.session.window
+  pub waits : count_all s.functions.waiting ≤ 4 * length (cids i)
   pub few : count_by is_live s.commands.items ≤ places i.outbox
   -- those that were told to start were free
   pub freed : (c : RulesCommand) → In c (entered r.both.trace) → has (leaves_ticket c.ticket) r.both.trace ≡ false → contains r.told c.ticket ≡ true → was_free c r.both.trace ≡ true
@@ -291,7 +292,7 @@ module _ (i : Interface) (names : List Name) (notes : List Note) (s : State) (r 
   few_told : length (stops ++ resets) ≤ 2 * places i.outbox
   few_told = let long = length-append stops resets in omega (arith, few_reset, few_stopped, long)
 
-  -- so were those that end, or held, or are of an item each
+  -- so were those that end, or held, or waited, or are of an item each
   few_held : count_by is_some s.held.places ≤ places i.outbox
   few_held =
       let most = count_by-le-length is_some s.held.places in
@@ -301,8 +302,14 @@ module _ (i : Interface) (names : List Name) (notes : List Note) (s : State) (r 
       let long = length-map i.outbox.session.conns (λ (x : ℕ × ℕ). x.0) in
       omega (arith, most, size, few, conns, long)
 
-  pub few_ended : length go.ended ≤ 3 * places i.outbox
-  few_ended = let few = go.few in let short = fit.short in let lives = first.few in omega (arith, few, short, lives, few_held)
+  pub few_ended : length go.ended ≤ 4 * places i.outbox
+  few_ended =
+      let few = go.few in
+      let short = fit.short in
+      let lives = first.few in
+      let waits = first.waits in
+      let long = length-map i.outbox.session.conns (λ (x : ℕ × ℕ). x.0) in
+      omega (arith, few, short, lives, few_held, waits, long)
 
   pub news_are : (x : RulesCommand) → In x ns → In x (entered t') × (has (leaves_ticket x.ticket) t' ≡ false) × (was_free x t' ≡ true)
   news_are x at =

@@ -136,7 +136,7 @@ pub record AllGo (i : Interface) (names : List Name) (notes : List Note) (s : St
   pub between : IsBetween i names notes state (side_after i r items) None ended
   pub outbox : state.outbox ≡ steps_after_items (effects_each i.outbox.session r.both.trace items) s.outbox
   pub room : state.room ≡ s.room
-  -- what has ended was live or held, but for a request of each item; what was told to stop was told to start
+  -- what has ended was live or held, or waited, but for a request of each item; what was told to stop was told to start
   pub few : length ended + count_kept state ≤ length xs + count_kept s + length items
   pub stops : length (flat_map (stops_in r) items) + count_by is_going state.commands.items ≤ count_by is_going s.commands.items
   pub links : SameLinks r.both.box (side_after i r items).both.box

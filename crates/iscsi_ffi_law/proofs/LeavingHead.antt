@@ -36,6 +36,7 @@ use Rattle.iscsi_ffi_law.proofs.Releasing.{ending}
 use Rattle.iscsi_ffi_law.proofs.Slots.{slots_same}
 use Rattle.iscsi_ffi_law.proofs.TailSends.{over_still}
 use Rattle.iscsi_ffi_law.proofs.Walking.{walk_at, walk_in}
+use Rattle.iscsi_requests.specs.Conns.{count_all}
 
 module _ (t : Trace) (start : Start) (a : Arrival) (void : Option ℕ) (cs : List RulesCommand) (hs : List Arrival) (reply : Option Reply) where
   abbrev left : List Mark
@@ -146,7 +147,7 @@ pub record IsPastHead (i : Interface) (names : List Name) (notes : List Note) (s
   pub noted : EachOf (IsNote (record s { held = held; functions = functions }) r.both.box.links) notes
   pub slots : AreHeld (size_for i.outbox.session.window) s.commands.room names held (item ∷ r.both.trace)
   pub distinct : AreDistinct (item ∷ r.both.trace)
-  pub fewer : length taken + count_by is_some held.places ≤ count_by is_some s.held.places
+  pub fewer : length taken + (count_by is_some held.places + count_all functions.waiting) ≤ count_by is_some s.held.places + count_all s.functions.waiting
   pub over : count_by (is_place place) held.places + count_lists (λ (f : WaitingFunction). f.request == place) functions.waiting ≡ 0
   pub over_still : (p : ℕ) → 1 ≤ endings xs p → count_by (is_place p) held.places + count_lists (λ (f : WaitingFunction). f.request == p) functions.waiting ≡ 0
   pub over_taken : (p : ℕ) → 1 ≤ endings taken p → count_by (is_place p) held.places + count_lists (λ (f : WaitingFunction). f.request == p) functions.waiting ≡ 0

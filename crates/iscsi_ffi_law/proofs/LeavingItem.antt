@@ -24,7 +24,7 @@ use Rattle.iscsi_outbox_law.specs.Sound.{IsSound}
 use Rattle.iscsi_outbox_law.proofs.Stops.{stops_answered}
 use Rattle.iscsi_outbox_steps.specs.State.{State as OutboxState, limits_of}
 use Rattle.iscsi_outbox_steps.specs.Steps.{after_item as steps_after_item, is_running_ticket}
-use Rattle.iscsi_requests.specs.Conns.{of_conn}
+use Rattle.iscsi_requests.specs.Conns.{of_conn, count_all}
 use Rattle.iscsi_requests.specs.declared.functions.WaitingFunction.{WaitingFunction}
 use Rattle.iscsi_ffi_commands.specs.declared.command.Command.{Command}
 use Rattle.iscsi_ffi_commands.specs.Commands.{is_going, is_live}
@@ -225,7 +225,7 @@ module _ (i : Interface) (names : List Name) (notes : List Note) (s : State) (r 
       ∙ ap (λ ds. map (stop_there r (reason_of r.asked a)) (filter (is_started r) ds)) (leaving_left start a void cs hs reply)
       ∙ ap (λ (why : StopReason). map (stop_there r why) (filter (is_started r) cs)) reason_is
 
-  pub few2 : (length ((xs ++ ended_by names r cs) ++ h.taken) + (count_by is_live (map (gone_by cs) s.commands.items) + count_by is_some h.held.places) ≤ length xs + (count_by is_live s.commands.items + count_by is_some s.held.places))
+  pub few2 : (length ((xs ++ ended_by names r cs) ++ h.taken) + (count_by is_live (map (gone_by cs) s.commands.items) + (count_by is_some h.held.places + count_all h.functions.waiting)) ≤ length xs + (count_by is_live s.commands.items + (count_by is_some s.held.places + count_all s.functions.waiting)))
       × (length (stops_in r (left_item start a void cs hs reply)) + count_by is_going (map (gone_by cs) s.commands.items) ≤ count_by is_going s.commands.items)
   few2 =
       let few = few_leave names r cs s.commands.items k.requests.numbered (leavers names notes (λ q. ending own q + endings xs q) (λ q. []) s r k.requests item outbox' cs those) once in

@@ -35,6 +35,7 @@ use Rattle.iscsi_ffi_law.proofs.Between.{IsBetween}
 use Rattle.iscsi_ffi_law.proofs.Moved.{run_same}
 use Rattle.iscsi_ffi_law.proofs.QuietItems.{stops_none}
 use Rattle.iscsi_ffi_law.proofs.Walking.{is_led, walk_at}
+use Rattle.iscsi_requests.specs.Conns.{count_all}
 
 -- a reply goes out on a connection that takes it, and nothing is closed
 abbrev pub IsCalm : Box → Effect → Type 0
@@ -81,11 +82,11 @@ calm_on b c h (Ignore why) k = tt
 pub all_calm_on : (b c : Box) → SameLinks b c → (es : List Effect) → EachOf (IsCalm b) es → EachOf (IsCalm c) es
 all_calm_on b c h es = each-weaken (IsCalm b) (IsCalm c) es (calm_on b c h)
 
--- so many commands are live, or requests held
+-- so many commands are live, requests held, or functions waiting
 abbrev pub count_kept : State → ℕ
-count_kept s = count_by is_live s.commands.items + count_by is_some s.held.places
+count_kept s = count_by is_live s.commands.items + (count_by is_some s.held.places + count_all s.functions.waiting)
 
--- what has ended was live or held, but for one request; what was told to stop was told to start
+-- what has ended was live or held, or waited, but for one request; what was told to stop was told to start
 pub record AreFewer (xs ended : List (Option ℕ)) (stops : ℕ) (before after : State) : Type 0 where
   pub lives : length ended + count_kept after ≤ length xs + count_kept before + 1
   pub going : stops + count_by is_going after.commands.items ≤ count_by is_going before.commands.items

@@ -22,7 +22,7 @@ use Rattle.iscsi_outbox_law.specs.Commands.{link_in}
 use Rattle.iscsi_outbox_law.specs.Sound.{IsSound}
 use Rattle.iscsi_outbox_steps.specs.State.{State as OutboxState, limits_of, place_of}
 use Rattle.iscsi_outbox_steps.specs.Steps.{after_item as steps_after_item}
-use Rattle.iscsi_requests.specs.Conns.{of_conn}
+use Rattle.iscsi_requests.specs.Conns.{of_conn, count_all}
 use Rattle.iscsi_requests.specs.Replies.{pushed}
 use Rattle.iscsi_ffi_rules.specs.declared.action.Action.{Action}
 use Rattle.iscsi_ffi_rules.specs.rules.Calls.{Interface}
@@ -89,7 +89,7 @@ pub record IsAnswering (i : Interface) (names : List Name) (notes : List Note) (
   pub part : IsQuietPart effects x (Some (cid, reply))
   pub answers : answers_in r.both.event item ≡ event ∷ []
   pub long : length held.places ≡ length s.held.places
-  pub fewer : count_by is_some held.places ≤ count_by is_some s.held.places
+  pub fewer : count_by is_some held.places + count_all functions.waiting ≤ count_by is_some s.held.places + count_all s.functions.waiting
   pub long_functions : length functions.waiting ≡ length s.functions.waiting
   pub functions_are : AreFunctions (cids i) names functions (waiting (item ∷ r.both.trace))
   pub named : place_named names event ≡ Some place
