@@ -21,7 +21,7 @@ use Rattle.iscsi_outbox_rules.specs.rules.Boxes.{Box, Task}
 use Rattle.iscsi_outbox_rules.specs.rules.Items.{after_event, after_items as box_after_items, phase_told, ticket_enabled}
 use Rattle.iscsi_outbox_rules.specs.rules.Words.{contains}
 use Rattle.iscsi_outbox_rules.proofs.ClosedParts.{effects_each}
-use Rattle.iscsi_outbox_law.specs.Commands.{link_in}
+use Rattle.iscsi_outbox_law.specs.Commands.{link_in, is_under_way}
 use Rattle.iscsi_outbox_law.specs.Pairs.{EachOf}
 use Rattle.iscsi_outbox_law.specs.Sound.{IsSound, NoneIsFresh}
 use Rattle.iscsi_outbox_law.specs.Stands.{Stands as OutboxStands}
@@ -74,7 +74,9 @@ use Rattle.iscsi_ffi_law.proofs.Starting.{Starts, all_start}
 use Rattle.iscsi_ffi_law.proofs.StartsAfter.{starts_released}
 use Rattle.iscsi_ffi_law.proofs.StartsOver.{alive_start}
 use Rattle.iscsi_ffi_law.proofs.Stepping.{IsCalm}
-use Rattle.iscsi_ffi_law.proofs.Walking.{core_at, walk_at}
+use Rattle.iscsi_ffi_law.proofs.Walking.{core_at, walk_at, IsOutboxOf}
+use Rattle.iscsi_ffi_law.proofs.Finish.{as_many_links}
+use Rattle.iscsi_outbox_law.proofs.Standing.{as_many}
 
 -- ---- sizes
 
@@ -344,13 +346,16 @@ module _ (i : Interface) (names : List Name) (notes : List Note) (s : State) (r 
   abbrev walked_to : Doing
   walked_to = record { state = record go.state { outbox = s.outbox; cookies = K.cookies; commands = K.commands }; actions = stops; forgets = K.forgets }
 
+  outbox_found : IsOutboxOf i s.outbox
+  outbox_found = record { limits = k.sizes.limits; links = as_many (is_under_way i.outbox r.both.box.links) i.outbox s.outbox r.both.box k ∙ as_many_links i s r k }
+
   sent_is : s.outbox.sent ≡ r.both.box.sent
   sent_is = let e' = k.numbers.sent in let lt = fit.sent in omega (arith, e', lt)
 
   walked : (on_effects true effects (walk_from own (record { state = s; actions = []; forgets = [] }))).doing ≡ walked_to
   walked =
       ap (λ n. (on_effects true effects (walk_at s.outbox (record s { outbox = outbox_first i r e (parts i r e).lead s.outbox }) [] [] own n)).doing) sent_is
-      ∙ ap (λ (w : Walk). w.doing) (go.walk s.outbox k.sizes.limits [] true fit.prompt (let same = go.room in omega (arith, few_stopped, wide, same)))
+      ∙ ap (λ (w : Walk). w.doing) (go.walk s.outbox outbox_found [] true fit.prompt (let same = go.room in omega (arith, few_stopped, wide, same)))
 
   abbrev taken_in : Doing
   taken_in = record { state = record state2 { cookies = K.cookies; commands = K.commands }; actions = stops; forgets = K.forgets }

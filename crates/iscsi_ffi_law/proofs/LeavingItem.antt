@@ -22,7 +22,7 @@ use Rattle.iscsi_outbox_rules.specs.rules.Words.{contains}
 use Rattle.iscsi_outbox_law.specs.Pairs.{EachOf}
 use Rattle.iscsi_outbox_law.specs.Sound.{IsSound}
 use Rattle.iscsi_outbox_law.proofs.Stops.{stops_answered}
-use Rattle.iscsi_outbox_steps.specs.State.{State as OutboxState, limits_of}
+use Rattle.iscsi_outbox_steps.specs.State.{State as OutboxState}
 use Rattle.iscsi_outbox_steps.specs.Steps.{after_item as steps_after_item, is_running_ticket}
 use Rattle.iscsi_requests.specs.Conns.{of_conn, count_all}
 use Rattle.iscsi_requests.specs.declared.functions.WaitingFunction.{WaitingFunction}
@@ -63,7 +63,7 @@ use Rattle.iscsi_ffi_law.proofs.Releasing.{ending}
 use Rattle.iscsi_ffi_law.proofs.Sources.{cookie_named}
 use Rattle.iscsi_ffi_law.proofs.Stepping.{stands_then}
 use Rattle.iscsi_ffi_law.proofs.TailOver.{voids_past}
-use Rattle.iscsi_ffi_law.proofs.Walking.{walk_at, walk_in}
+use Rattle.iscsi_ffi_law.proofs.Walking.{walk_at, walk_in, IsOutboxOf}
 
 -- ---- lists
 
@@ -271,7 +271,7 @@ module _ (i : Interface) (names : List Name) (notes : List Note) (s : State) (r 
   abbrev pub last : List Effect
   last = send_effects (connection_of a.request) sn reply ++ enables ns
 
-  pub leaves_past : (o : OutboxState) → o.limits ≡ limits_of i.outbox → (acts : List Action) (first : Bool) → (first && is_late r.both.event item) ≡ false → length acts + length (stops_in r item) ≤ s.room → (rest : List Effect)
+  pub leaves_past : (o : OutboxState) → IsOutboxOf i o → (acts : List Action) (first : Bool) → (first && is_late r.both.event item) ≡ false → length acts + length (stops_in r item) ≤ s.room → (rest : List Effect)
       → on_effects first (effects_by i r (left_item start a void cs hs reply) ++ rest) (walk_at o s acts xs own r.both.box.sent)
       ≡ on_effects false (last ++ rest) (walk_in o s1' (acts ++ stops_in r (left_item start a void cs hs reply)) ((xs ++ ended_by names r cs) ++ h.taken) (Some (h.place)) None (Some (h.by)) r.both.box.sent)
   leaves_past o limits acts first late room rest =

@@ -316,7 +316,7 @@ module _ (i : Interface) (names : List Name) (notes : List Note) (distinct : are
     calm = subst (EachOf (IsCalm (side_behind i r item).both.box)) (sym effects_are) (tt, tt);
     walk = λ o limits acts first late rest led.
         ap (λ es. on_effects first (es ++ rest) (walk_at o s acts [] (Some place) r.both.box.sent)) effects_are
-        ∙ ap (λ z. on_effects false rest (wait_on (a.request) z (Some place) (end_item (walk_at o s acts [] (Some place) r.both.box.sent)))) (ap (λ (l : Limits). position (λ (c : ℕ). c == connection_of a.request) l.cids) (limits ∙ sym k.outbox.sizes.limits) ∙ at.1.0)
+        ∙ ap (λ z. on_effects false rest (wait_on (a.request) z (Some place) (end_item (walk_at o s acts [] (Some place) r.both.box.sent)))) (ap (λ (l : Limits). position (λ (c : ℕ). c == connection_of a.request) l.cids) (limits.limits ∙ sym k.outbox.sizes.limits) ∙ at.1.0)
         ∙ ap (λ v. on_effects false rest (cond v (walk_at o (record s { functions = functions' }) acts [] None r.both.box.sent) (end_item (walk_at o s acts [] (Some place) r.both.box.sent)))) has_room
         ∙ ap (λ (b : Box). on_effects false rest (walk_at o state' acts [] None b.sent)) (sym box_same);
   }

@@ -20,7 +20,7 @@ use Rattle.iscsi_outbox_rules.specs.rules.Run.{new_link}
 use Rattle.iscsi_outbox_rules.specs.rules.Words.{is_running}
 use Rattle.iscsi_outbox_law.specs.Commands.{link_in}
 use Rattle.iscsi_outbox_law.specs.Sound.{IsSound}
-use Rattle.iscsi_outbox_steps.specs.State.{State as OutboxState, limits_of, place_of}
+use Rattle.iscsi_outbox_steps.specs.State.{State as OutboxState, place_of}
 use Rattle.iscsi_outbox_steps.specs.Steps.{after_item as steps_after_item}
 use Rattle.iscsi_requests.specs.Conns.{of_conn, count_all}
 use Rattle.iscsi_requests.specs.Replies.{pushed}
@@ -63,7 +63,7 @@ use Rattle.iscsi_ffi_law.proofs.ReplyPlace.{conn_is as reply_conn, place_is as r
 use Rattle.iscsi_ffi_law.proofs.ReplyRequests.{IsReplied, requests_replied}
 use Rattle.iscsi_ffi_law.proofs.Stepping.{GoesOn, IsCalm, SameLinks, all_calm_on, last_then, places_same, runs_then, stands_then}
 use Rattle.iscsi_ffi_law.proofs.TailOver.{voids_past}
-use Rattle.iscsi_ffi_law.proofs.Walking.{is_led, led_end, sends_walk, walk_at, walk_in}
+use Rattle.iscsi_ffi_law.proofs.Walking.{is_led, led_end, sends_walk, walk_at, walk_in, IsOutboxOf}
 
 -- uses that have ended in an event are of requests that aren't held, also where the one that executes isn't any more
 pub over_still : (i : Interface) (names : List Name) (notes : List Note) (s : State) (r : Side) (own : Option ℕ) (xs : List (Option ℕ)) (k : IsBetween i names notes s r own xs) (item : List Mark) (start : Start) (a : Arrival) (h : IsHeaded i names notes s r own xs item start a)
@@ -101,7 +101,7 @@ pub record IsAnswering (i : Interface) (names : List Name) (notes : List Note) (
   pub over : (p : ℕ) → 1 ≤ endings xs p → count_by (is_place p) held.places + count_lists (λ (f : WaitingFunction). f.request == p) functions.waiting ≡ 0
   pub calm : (b : Box) → list_any (λ (l : Link). l.conn == cid && takes_more l) b.links ≡ true → EachOf (IsCalm b) effects
   pub of_it : ◌≡◌ {A = Option ℕ} (elim current [ Some q ↦ Some q | None ↦ own_then ]) (Some place)
-  pub walk : (o : OutboxState) → o.limits ≡ limits_of i.outbox → (acts : List Action) (first : Bool) → (first && is_late r.both.event item) ≡ false → (rest : List Effect) (sent : ℕ)
+  pub walk : (o : OutboxState) → IsOutboxOf i o → (acts : List Action) (first : Bool) → (first && is_late r.both.event item) ≡ false → (rest : List Effect) (sent : ℕ)
       → on_effects first (effects ++ rest) (walk_at o s acts xs own sent) ≡ on_effects false rest (on_effect false (Send cid sn reply) (walk_in o (record s { held = held; functions = functions }) acts xs current own_then by sent))
 
 module _ (i : Interface) (names : List Name) (notes : List Note) (s : State) (r : Side) (own : Option ℕ) (xs : List (Option ℕ)) (k : IsBetween i names notes s r own xs) (item : List Mark) (x : Option Request) (cid event : ℕ) (reply : Reply)
@@ -195,7 +195,7 @@ module _ (i : Interface) (names : List Name) (notes : List Note) (s : State) (r 
       (record { room = k.sizes.room; functions = h.long_functions ∙ k.sizes.functions; replies = k.sizes.replies; noted = k.sizes.noted; unwritten = k.sizes.unwritten; noted_room = k.sizes.noted_room; unwritten_room = k.sizes.unwritten_room; replies_room = k.sizes.replies_room; slots = (let l = h.long in let some = k.sizes.slots in omega (arith, l, some)); few = k.sizes.few })
       sends.sent sends.replies
 
-  walk : (o : OutboxState) → o.limits ≡ limits_of i.outbox → (acts : List Action) (first : Bool) → (first && is_late r.both.event item) ≡ false → (rest : List Effect) → is_led rest ≡ true
+  walk : (o : OutboxState) → IsOutboxOf i o → (acts : List Action) (first : Bool) → (first && is_late r.both.event item) ≡ false → (rest : List Effect) → is_led rest ≡ true
       → on_effects first (effects_by i r item ++ rest) (walk_at o s acts xs own r.both.box.sent) ≡ on_effects false rest (walk_at o state' acts xs None (side_behind i r item).both.box.sent)
   walk o limits acts first late rest led =
       ap (λ es. on_effects first (es ++ rest) (walk_at o s acts xs own r.both.box.sent)) h.effects_are
