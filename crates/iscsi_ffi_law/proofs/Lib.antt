@@ -39,6 +39,7 @@ mod DroppedFunctions
 mod Sweeping
 mod CutNotes
 mod ClosingBox
+mod ClosingFunctions
 mod Core
 mod Clearing
 mod Marking
