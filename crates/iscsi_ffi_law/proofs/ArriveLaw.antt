@@ -14,7 +14,7 @@ use Rattle.iscsi_history.specs.declared.event.Event.TheVariants.{Arrive}
 use Rattle.iscsi_history.specs.rules.Execution.{rejected}
 use Rattle.iscsi_history.specs.rules.Management.{MOST_WAITING, waiting_on}
 use Rattle.iscsi_history.specs.rules.Run.{effects_of, effects_of_item}
-use Rattle.iscsi_history.specs.rules.Trace.{Admits, Arrival, Empties, Command, Enters, Executes, Ignores, Leaves, Mark, Sends, Trace, Waits, entered, is_received}
+use Rattle.iscsi_history.specs.rules.Trace.{Admits, Arrival, Empties, Command, Enters, Executes, Ignores, Leaves, Mark, Sends, Trace, Waits, entered, is_received, waiting}
 use Rattle.iscsi_history.proofs.BoolLemmas.{and_parts}
 use Rattle.iscsi_history.proofs.Forms.{AfterWaiting, AtArrival, AtTurn, Deeds, IsDone, Start, if_some, marks_done, start_mark}
 use Rattle.iscsi_history.proofs.ElementLemmas.{filter-in}
@@ -48,6 +48,8 @@ use Rattle.iscsi_ffi_law.proofs.Members.{each_in, in_pairs}
 use Rattle.iscsi_ffi_law.proofs.Releases.{endings}
 use Rattle.iscsi_ffi_law.proofs.Releasing.{ending}
 use Rattle.iscsi_ffi_law.proofs.Turns.{Becomes, IsDue, IsExecuted, IsIgnored, IsPostponed, IsReceived, IsRejected, becomes}
+use Rattle.iscsi_ffi_law.proofs.Postponing.{few_functions}
+use Rattle.iscsi_ffi_rules.specs.rules.Run.{cids}
 
 -- behind the last item the box is sound
 last_sound : (i : Interface) (items : List (List Mark)) (r : Side) → AreStepsFit i r items → IsSound i.outbox (side_after i r items).both.box
@@ -131,6 +133,7 @@ module _ (i : Interface) (names : List Name) (notes : List Note) (s : State) (r 
   begun_with : AreBegun i s r
   begun_with = record {
     slots = f.slots.size_is;
+    waits = few_functions (cids i) names s.functions (waiting r.both.trace) f.functions f.sizes.functions f.fit.waits;
     few =
         let lives = pairs_live names r s.commands.items (filter (is_named names) (entered r.both.trace)) f.requests.commands in
         let named = ap length (named_first names r.both.trace (entered r.both.trace) f.requests.live_named) in
@@ -232,7 +235,7 @@ module _ (i : Interface) (names : List Name) (notes : List Note) (s : State) (r 
     holds =
         subst (λ v. GoesTo i (done (cond v (happens i None e (changed (hold request place) begins)) (happens i (Some place) e begins))) (rules.done (happens_there i r e)))
         (sym (ap (λ ms. is_held_first request (effects_of i.outbox.session r.both.trace ms)) is ∙ held_first))
-        (event_goes i names notes held_state r None e (event_of (ap (list_all admits_alone) is ∙ due_alone i rest ((Admits a ∷ []) ∷ r.both.trace) due) (ap (starts_late r.both.event) is) (once_by ((Admits a ∷ []) ∷ rest) is (due_once i rest ((Admits a ∷ []) ∷ r.both.trace) due plain_rest))) (record { slots = length-set s.held.places (index_of (cmd_sn a.request) s.held) (Some place) ∙ f.slots.size_is; few = begun_with.few; freed = begun_with.freed }) f.outbox
+        (event_goes i names notes held_state r None e (event_of (ap (list_all admits_alone) is ∙ due_alone i rest ((Admits a ∷ []) ∷ r.both.trace) due) (ap (starts_late r.both.event) is) (once_by ((Admits a ∷ []) ∷ rest) is (due_once i rest ((Admits a ∷ []) ∷ r.both.trace) due plain_rest))) (record { slots = length-set s.held.places (index_of (cmd_sn a.request) s.held) (Some place) ∙ f.slots.size_is; waits = begun_with.waits; few = begun_with.few; freed = begun_with.freed }) f.outbox
         (subst (AllGo i names notes (record held_state { outbox = outbox_first i r e lead s.outbox }) r None []) (sym is)
         (received_go i names notes f.fit.fit.distinct s0 r place first a refl f.before.admitted f.before.waiting new (f.fit.received rest is) steps.0 (behind_first rest steps.1) rest due (f.fit.prompt rest is) plain_rest steps.1)) f.calm p.withheld)
 

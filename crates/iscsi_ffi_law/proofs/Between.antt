@@ -12,7 +12,7 @@ use Rattle.iscsi_history.proofs.HeldLemmas.{held-delivered}
 use Rattle.iscsi_outbox_law.specs.Pairs.{EachOf}
 use Rattle.iscsi_outbox_law.specs.Stands.{Stands as OutboxStands}
 use Rattle.iscsi_outbox_law.proofs.PairLemmas.{each-weaken}
-use Rattle.iscsi_outbox_steps.specs.State.{State as OutboxState, limits_of}
+use Rattle.iscsi_outbox_steps.specs.State.{State as OutboxState}
 use Rattle.iscsi_requests.specs.Functions.{WaitingFunctions}
 use Rattle.iscsi_requests.specs.declared.functions.WaitingFunction.{WaitingFunction}
 use Rattle.iscsi_requests.specs.Numbers.{HeldNumbers, index_of, size_for}
@@ -37,7 +37,8 @@ use Rattle.iscsi_ffi_law.proofs.QuietItems.{IsUnheld, is_held_on}
 use Rattle.iscsi_ffi_law.proofs.Releases.{endings}
 use Rattle.iscsi_ffi_law.proofs.Releasing.{ending}
 use Rattle.iscsi_ffi_law.proofs.Slots.{IsTurnOf, at, count_put, count_then, distinct_then, in_place, index_within, long_then, held_in, held_then, named_then, noted_then, slots_same, slots_then}
-use Rattle.iscsi_ffi_law.proofs.Walking.{walk_at, walk_in}
+use Rattle.iscsi_ffi_law.proofs.Walking.{walk_at, walk_in, IsOutboxOf}
+use Rattle.iscsi_requests.specs.Conns.{count_all}
 
 -- as many uses have ended, counted in another way
 pub pending_as : (names : List Name) (notes : List Note) (pending pending' : ℕ → ℕ) (gone : ℕ → List (Option ℕ)) (s : State) (r : Side) → ((p : ℕ) → pending p ≡ pending' p) → AreRequests names notes pending gone s r → AreRequests names notes pending' gone s r
@@ -93,11 +94,11 @@ pub record IsHeaded (i : Interface) (names : List Name) (notes : List Note) (s :
   pub slots : AreHeld (size_for i.outbox.session.window) s.commands.room names held (item ∷ r.both.trace)
   pub distinct : AreDistinct (item ∷ r.both.trace)
   pub fresh : endings xs place ≡ 0
-  pub fewer : count_by is_some held.places ≤ count_by is_some s.held.places
+  pub fewer : count_by is_some held.places + count_all functions.waiting ≤ count_by is_some s.held.places + count_all s.functions.waiting
   pub over : count_by (is_place place) held.places + count_lists (λ (f : WaitingFunction). f.request == place) functions.waiting ≡ 0
   pub by : StopReason
   pub why : by ≡ reason_by a.request (Some place)
-  pub walk : (o : OutboxState) → o.limits ≡ limits_of i.outbox → (acts : List Action) (first : Bool) (sent : ℕ) → (first && is_late r.both.event item) ≡ false → on_effect first (start_effect start a.request) (walk_at o s acts xs own sent) ≡ walk_in o (record s { held = held; functions = functions }) acts xs (Some place) None (Some by) sent
+  pub walk : (o : OutboxState) → IsOutboxOf i o → (acts : List Action) (first : Bool) (sent : ℕ) → (first && is_late r.both.event item) ≡ false → on_effect first (start_effect start a.request) (walk_at o s acts xs own sent) ≡ walk_in o (record s { held = held; functions = functions }) acts xs (Some place) None (Some by) sent
 
 -- ---- its turn comes
 

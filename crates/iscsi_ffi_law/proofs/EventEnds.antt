@@ -21,7 +21,7 @@ use Rattle.iscsi_outbox_rules.specs.rules.Boxes.{Box, Task}
 use Rattle.iscsi_outbox_rules.specs.rules.Items.{after_event, after_items as box_after_items, phase_told, ticket_enabled}
 use Rattle.iscsi_outbox_rules.specs.rules.Words.{contains}
 use Rattle.iscsi_outbox_rules.proofs.ClosedParts.{effects_each}
-use Rattle.iscsi_outbox_law.specs.Commands.{link_in}
+use Rattle.iscsi_outbox_law.specs.Commands.{link_in, is_under_way}
 use Rattle.iscsi_outbox_law.specs.Pairs.{EachOf}
 use Rattle.iscsi_outbox_law.specs.Sound.{IsSound, NoneIsFresh}
 use Rattle.iscsi_outbox_law.specs.Stands.{Stands as OutboxStands}
@@ -31,7 +31,7 @@ use Rattle.iscsi_outbox_law.proofs.TurningFresh.{event_fresh}
 use Rattle.iscsi_outbox_law.proofs.TurningLast.{tell_last}
 use Rattle.iscsi_outbox_steps.specs.State.{Limits, State as OutboxState}
 use Rattle.iscsi_outbox_steps.specs.Steps.{after_items as steps_after_items, is_running_ticket, taken}
-use Rattle.iscsi_requests.specs.Conns.{of_conn}
+use Rattle.iscsi_requests.specs.Conns.{of_conn, count_all}
 use Rattle.iscsi_ffi_commands.specs.declared.command.Command.{Command}
 use Rattle.iscsi_ffi_commands.specs.declared.command.Stage.{Stage}
 use Rattle.iscsi_ffi_commands.specs.declared.command.Stage.TheVariants.{Cleared, Entered, Marked, Over, Started}
@@ -74,7 +74,9 @@ use Rattle.iscsi_ffi_law.proofs.Starting.{Starts, all_start}
 use Rattle.iscsi_ffi_law.proofs.StartsAfter.{starts_released}
 use Rattle.iscsi_ffi_law.proofs.StartsOver.{alive_start}
 use Rattle.iscsi_ffi_law.proofs.Stepping.{IsCalm}
-use Rattle.iscsi_ffi_law.proofs.Walking.{core_at, walk_at}
+use Rattle.iscsi_ffi_law.proofs.Walking.{core_at, walk_at, IsOutboxOf}
+use Rattle.iscsi_ffi_law.proofs.Finish.{as_many_links}
+use Rattle.iscsi_outbox_law.proofs.Standing.{as_many}
 
 -- ---- sizes
 
@@ -152,6 +154,7 @@ pub record IsEventOf (i : Interface) (r : Side) (e : Event) : Type 0 where
 -- what is known of commands before it
 pub record AreBegun (i : Interface) (s : State) (r : Side) : Type 0 where
   pub slots : length s.held.places ≡ size_for i.outbox.session.window
+  pub waits : count_all s.functions.waiting ≤ 4 * length (cids i)
   pub few : count_by is_live s.commands.items ≤ places i.outbox
   -- those that were told to start were free
   pub freed : (c : RulesCommand) → In c (entered r.both.trace) → has (leaves_ticket c.ticket) r.both.trace ≡ false → contains r.told c.ticket ≡ true → was_free c r.both.trace ≡ true
@@ -291,7 +294,7 @@ module _ (i : Interface) (names : List Name) (notes : List Note) (s : State) (r 
   few_told : length (stops ++ resets) ≤ 2 * places i.outbox
   few_told = let long = length-append stops resets in omega (arith, few_reset, few_stopped, long)
 
-  -- so were those that end, or held, or are of an item each
+  -- so were those that end, or held, or waited, or are of an item each
   few_held : count_by is_some s.held.places ≤ places i.outbox
   few_held =
       let most = count_by-le-length is_some s.held.places in
@@ -301,8 +304,14 @@ module _ (i : Interface) (names : List Name) (notes : List Note) (s : State) (r 
       let long = length-map i.outbox.session.conns (λ (x : ℕ × ℕ). x.0) in
       omega (arith, most, size, few, conns, long)
 
-  pub few_ended : length go.ended ≤ 3 * places i.outbox
-  few_ended = let few = go.few in let short = fit.short in let lives = first.few in omega (arith, few, short, lives, few_held)
+  pub few_ended : length go.ended ≤ 4 * places i.outbox
+  few_ended =
+      let few = go.few in
+      let short = fit.short in
+      let lives = first.few in
+      let waits = first.waits in
+      let long = length-map i.outbox.session.conns (λ (x : ℕ × ℕ). x.0) in
+      omega (arith, few, short, lives, few_held, waits, long)
 
   pub news_are : (x : RulesCommand) → In x ns → In x (entered t') × (has (leaves_ticket x.ticket) t' ≡ false) × (was_free x t' ≡ true)
   news_are x at =
@@ -337,13 +346,16 @@ module _ (i : Interface) (names : List Name) (notes : List Note) (s : State) (r 
   abbrev walked_to : Doing
   walked_to = record { state = record go.state { outbox = s.outbox; cookies = K.cookies; commands = K.commands }; actions = stops; forgets = K.forgets }
 
+  outbox_found : IsOutboxOf i s.outbox
+  outbox_found = record { limits = k.sizes.limits; links = as_many (is_under_way i.outbox r.both.box.links) i.outbox s.outbox r.both.box k ∙ as_many_links i s r k }
+
   sent_is : s.outbox.sent ≡ r.both.box.sent
   sent_is = let e' = k.numbers.sent in let lt = fit.sent in omega (arith, e', lt)
 
   walked : (on_effects true effects (walk_from own (record { state = s; actions = []; forgets = [] }))).doing ≡ walked_to
   walked =
       ap (λ n. (on_effects true effects (walk_at s.outbox (record s { outbox = outbox_first i r e (parts i r e).lead s.outbox }) [] [] own n)).doing) sent_is
-      ∙ ap (λ (w : Walk). w.doing) (go.walk s.outbox k.sizes.limits [] true fit.prompt (let same = go.room in omega (arith, few_stopped, wide, same)))
+      ∙ ap (λ (w : Walk). w.doing) (go.walk s.outbox outbox_found [] true fit.prompt (let same = go.room in omega (arith, few_stopped, wide, same)))
 
   abbrev taken_in : Doing
   taken_in = record { state = record state2 { cookies = K.cookies; commands = K.commands }; actions = stops; forgets = K.forgets }

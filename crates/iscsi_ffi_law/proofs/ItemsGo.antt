@@ -15,7 +15,7 @@ use Rattle.iscsi_outbox_rules.proofs.ClosedParts.{EachOn, effects_each}
 use Rattle.iscsi_outbox_law.specs.Pairs.{EachOf}
 use Rattle.iscsi_outbox_law.proofs.PairLemmas.{each-append}
 use Rattle.iscsi_outbox_law.specs.Sound.{IsSound}
-use Rattle.iscsi_outbox_steps.specs.State.{State as OutboxState, limits_of}
+use Rattle.iscsi_outbox_steps.specs.State.{State as OutboxState}
 use Rattle.iscsi_outbox_steps.specs.Steps.{after_items as steps_after_items}
 use Rattle.iscsi_ffi_commands.specs.Commands.{is_going}
 use Rattle.iscsi_ffi_rules.specs.declared.action.Action.{Action}
@@ -38,7 +38,7 @@ use Rattle.iscsi_ffi_law.proofs.TailOver.{goes_over}
 use Rattle.iscsi_ffi_law.proofs.TailSends.{executed_answering, goes_sent}
 use Rattle.iscsi_ffi_law.proofs.Turns.{IsDue, IsDueBy}
 use Rattle.iscsi_ffi_law.proofs.Waited.{waited_headed}
-use Rattle.iscsi_ffi_law.proofs.Walking.{is_led, walk_at}
+use Rattle.iscsi_ffi_law.proofs.Walking.{is_led, walk_at, IsOutboxOf}
 
 -- ---- what a request does by which nothing is closed
 
@@ -136,12 +136,12 @@ pub record AllGo (i : Interface) (names : List Name) (notes : List Note) (s : St
   pub between : IsBetween i names notes state (side_after i r items) None ended
   pub outbox : state.outbox ≡ steps_after_items (effects_each i.outbox.session r.both.trace items) s.outbox
   pub room : state.room ≡ s.room
-  -- what has ended was live or held, but for a request of each item; what was told to stop was told to start
+  -- what has ended was live or held, or waited, but for a request of each item; what was told to stop was told to start
   pub few : length ended + count_kept state ≤ length xs + count_kept s + length items
   pub stops : length (flat_map (stops_in r) items) + count_by is_going state.commands.items ≤ count_by is_going s.commands.items
   pub links : SameLinks r.both.box (side_after i r items).both.box
   pub calm : EachOf (IsCalm (side_after i r items).both.box) (effects_of i.outbox.session r.both.trace items)
-  pub walk : (o : OutboxState) → o.limits ≡ limits_of i.outbox → (acts : List Action) (first : Bool) → (first && starts_late r.both.event items) ≡ false → length acts + length (flat_map (stops_in r) items) ≤ s.room
+  pub walk : (o : OutboxState) → IsOutboxOf i o → (acts : List Action) (first : Bool) → (first && starts_late r.both.event items) ≡ false → length acts + length (flat_map (stops_in r) items) ≤ s.room
       → on_effects first (effects_of i.outbox.session r.both.trace items) (walk_at o s acts xs own r.both.box.sent) ≡ walk_at o state (acts ++ flat_map (stops_in r) items) ended None (side_after i r items).both.box.sent
 
 -- one, and these

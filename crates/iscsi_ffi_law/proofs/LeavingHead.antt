@@ -9,7 +9,7 @@ use Rattle.iscsi_history.proofs.ElementLemmas.{In}
 use Rattle.iscsi_history.proofs.Forms.{AfterWaiting, AtArrival, AtTurn, Start, start_mark}
 use Rattle.iscsi_outbox_law.specs.Pairs.{EachOf}
 use Rattle.iscsi_outbox_law.proofs.PairLemmas.{each-weaken}
-use Rattle.iscsi_outbox_steps.specs.State.{State as OutboxState, limits_of}
+use Rattle.iscsi_outbox_steps.specs.State.{State as OutboxState}
 use Rattle.iscsi_requests.specs.Functions.{WaitingFunctions}
 use Rattle.iscsi_requests.specs.Numbers.{HeldNumbers, size_for}
 use Rattle.iscsi_requests.specs.declared.functions.WaitingFunction.{WaitingFunction}
@@ -35,7 +35,8 @@ use Rattle.iscsi_ffi_law.proofs.Releases.{endings}
 use Rattle.iscsi_ffi_law.proofs.Releasing.{ending}
 use Rattle.iscsi_ffi_law.proofs.Slots.{slots_same}
 use Rattle.iscsi_ffi_law.proofs.TailSends.{over_still}
-use Rattle.iscsi_ffi_law.proofs.Walking.{walk_at, walk_in}
+use Rattle.iscsi_ffi_law.proofs.Walking.{walk_at, walk_in, IsOutboxOf}
+use Rattle.iscsi_requests.specs.Conns.{count_all}
 
 module _ (t : Trace) (start : Start) (a : Arrival) (void : Option ℕ) (cs : List RulesCommand) (hs : List Arrival) (reply : Option Reply) where
   abbrev left : List Mark
@@ -146,13 +147,13 @@ pub record IsPastHead (i : Interface) (names : List Name) (notes : List Note) (s
   pub noted : EachOf (IsNote (record s { held = held; functions = functions }) r.both.box.links) notes
   pub slots : AreHeld (size_for i.outbox.session.window) s.commands.room names held (item ∷ r.both.trace)
   pub distinct : AreDistinct (item ∷ r.both.trace)
-  pub fewer : length taken + count_by is_some held.places ≤ count_by is_some s.held.places
+  pub fewer : length taken + (count_by is_some held.places + count_all functions.waiting) ≤ count_by is_some s.held.places + count_all s.functions.waiting
   pub over : count_by (is_place place) held.places + count_lists (λ (f : WaitingFunction). f.request == place) functions.waiting ≡ 0
   pub over_still : (p : ℕ) → 1 ≤ endings xs p → count_by (is_place p) held.places + count_lists (λ (f : WaitingFunction). f.request == p) functions.waiting ≡ 0
   pub over_taken : (p : ℕ) → 1 ≤ endings taken p → count_by (is_place p) held.places + count_lists (λ (f : WaitingFunction). f.request == p) functions.waiting ≡ 0
   pub by : StopReason
   pub why : by ≡ reason_by a.request (Some place)
-  pub walk : (o : OutboxState) → o.limits ≡ limits_of i.outbox → (acts : List Action) (first : Bool) (sent : ℕ) → (first && is_late r.both.event item) ≡ false → on_effect first (start_effect start a.request) (walk_at o s acts xs own sent) ≡ walk_in o (record s { held = found; functions = functions }) acts xs (Some place) None (Some by) sent
+  pub walk : (o : OutboxState) → IsOutboxOf i o → (acts : List Action) (first : Bool) (sent : ℕ) → (first && is_late r.both.event item) ≡ false → on_effect first (start_effect start a.request) (walk_at o s acts xs own sent) ≡ walk_in o (record s { held = found; functions = functions }) acts xs (Some place) None (Some by) sent
   pub empties : (o : OutboxState) (v : Commands) (acts : List Action) (ys : List (Option ℕ)) (current own' : Option ℕ) (why' : Option StopReason) (sent : ℕ) (rest : List Effect)
       → on_effects false (empty_effects hs ++ rest) (walk_in o (record s { held = found; functions = functions; commands = v }) acts ys current own' why' sent) ≡ on_effects false rest (walk_in o (record s { held = held; functions = functions; commands = v }) acts (ys ++ taken) current own' why' sent)
 

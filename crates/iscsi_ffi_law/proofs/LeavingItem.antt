@@ -22,9 +22,9 @@ use Rattle.iscsi_outbox_rules.specs.rules.Words.{contains}
 use Rattle.iscsi_outbox_law.specs.Pairs.{EachOf}
 use Rattle.iscsi_outbox_law.specs.Sound.{IsSound}
 use Rattle.iscsi_outbox_law.proofs.Stops.{stops_answered}
-use Rattle.iscsi_outbox_steps.specs.State.{State as OutboxState, limits_of}
+use Rattle.iscsi_outbox_steps.specs.State.{State as OutboxState}
 use Rattle.iscsi_outbox_steps.specs.Steps.{after_item as steps_after_item, is_running_ticket}
-use Rattle.iscsi_requests.specs.Conns.{of_conn}
+use Rattle.iscsi_requests.specs.Conns.{of_conn, count_all}
 use Rattle.iscsi_requests.specs.declared.functions.WaitingFunction.{WaitingFunction}
 use Rattle.iscsi_ffi_commands.specs.declared.command.Command.{Command}
 use Rattle.iscsi_ffi_commands.specs.Commands.{is_going, is_live}
@@ -63,7 +63,7 @@ use Rattle.iscsi_ffi_law.proofs.Releasing.{ending}
 use Rattle.iscsi_ffi_law.proofs.Sources.{cookie_named}
 use Rattle.iscsi_ffi_law.proofs.Stepping.{stands_then}
 use Rattle.iscsi_ffi_law.proofs.TailOver.{voids_past}
-use Rattle.iscsi_ffi_law.proofs.Walking.{walk_at, walk_in}
+use Rattle.iscsi_ffi_law.proofs.Walking.{walk_at, walk_in, IsOutboxOf}
 
 -- ---- lists
 
@@ -225,7 +225,7 @@ module _ (i : Interface) (names : List Name) (notes : List Note) (s : State) (r 
       ∙ ap (λ ds. map (stop_there r (reason_of r.asked a)) (filter (is_started r) ds)) (leaving_left start a void cs hs reply)
       ∙ ap (λ (why : StopReason). map (stop_there r why) (filter (is_started r) cs)) reason_is
 
-  pub few2 : (length ((xs ++ ended_by names r cs) ++ h.taken) + (count_by is_live (map (gone_by cs) s.commands.items) + count_by is_some h.held.places) ≤ length xs + (count_by is_live s.commands.items + count_by is_some s.held.places))
+  pub few2 : (length ((xs ++ ended_by names r cs) ++ h.taken) + (count_by is_live (map (gone_by cs) s.commands.items) + (count_by is_some h.held.places + count_all h.functions.waiting)) ≤ length xs + (count_by is_live s.commands.items + (count_by is_some s.held.places + count_all s.functions.waiting)))
       × (length (stops_in r (left_item start a void cs hs reply)) + count_by is_going (map (gone_by cs) s.commands.items) ≤ count_by is_going s.commands.items)
   few2 =
       let few = few_leave names r cs s.commands.items k.requests.numbered (leavers names notes (λ q. ending own q + endings xs q) (λ q. []) s r k.requests item outbox' cs those) once in
@@ -271,7 +271,7 @@ module _ (i : Interface) (names : List Name) (notes : List Note) (s : State) (r 
   abbrev pub last : List Effect
   last = send_effects (connection_of a.request) sn reply ++ enables ns
 
-  pub leaves_past : (o : OutboxState) → o.limits ≡ limits_of i.outbox → (acts : List Action) (first : Bool) → (first && is_late r.both.event item) ≡ false → length acts + length (stops_in r item) ≤ s.room → (rest : List Effect)
+  pub leaves_past : (o : OutboxState) → IsOutboxOf i o → (acts : List Action) (first : Bool) → (first && is_late r.both.event item) ≡ false → length acts + length (stops_in r item) ≤ s.room → (rest : List Effect)
       → on_effects first (effects_by i r (left_item start a void cs hs reply) ++ rest) (walk_at o s acts xs own r.both.box.sent)
       ≡ on_effects false (last ++ rest) (walk_in o s1' (acts ++ stops_in r (left_item start a void cs hs reply)) ((xs ++ ended_by names r cs) ++ h.taken) (Some (h.place)) None (Some (h.by)) r.both.box.sent)
   leaves_past o limits acts first late room rest =

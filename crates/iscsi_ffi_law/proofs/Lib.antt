@@ -35,6 +35,11 @@ mod Putting
 mod Refusing
 mod Releases
 mod Dropping
+mod DroppedFunctions
+mod Sweeping
+mod CutNotes
+mod ClosingBox
+mod ClosingFunctions
 mod Core
 mod Clearing
 mod Marking

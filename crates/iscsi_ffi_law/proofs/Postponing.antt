@@ -1,5 +1,5 @@
 -- A function waits: it keeps its place behind those that wait on its connection.
-use Rattle.std.proofs.Common.{◌≡◌, ℕ, zero, suc, ◌+◌, ◌*◌, ◌<◌, ◌≤◌, ◌==◌, ◌||◌, ⊎_elim, cond, Bool, true, false, List, [], ◌∷◌, ◌++◌, length, count_by, filter, get_or, Some, None, nat_lt, refl, ap, sym, subst, ◌∙◌, arith, ne_eqb, eq-eqb, lt-ltb, length-set}
+use Rattle.std.proofs.Common.{◌≡◌, ℕ, zero, suc, ◌+◌, ◌*◌, ◌<◌, ◌≤◌, ◌==◌, ◌||◌, ⊎_elim, cond, Bool, true, false, List, [], ◌∷◌, ◌++◌, length, count_by, filter, get_or, Some, None, nat_lt, refl, ap, sym, subst, ◌∙◌, arith, ne_eqb, eq-eqb, lt-ltb, length-set, length-append}
 use Rattle.std.specs.List.{list_any, position}
 use Rattle.std.proofs.lemmas.Bool.{cases_eq, cases_lt, eqb-true}
 use Rattle.std.proofs.lemmas.List.{append-nil, get_or-set_other, get_or-set_same}
@@ -53,6 +53,7 @@ use Rattle.iscsi_ffi_law.proofs.Slots.{slots_same}
 use Rattle.iscsi_ffi_law.proofs.Stepping.{GoesOn, IsCalm, last_then, links_unmoved, runs_then, stands_then}
 use Rattle.iscsi_ffi_law.proofs.Waited.{IsCid, cid_known}
 use Rattle.iscsi_ffi_law.proofs.Walking.{walk_at}
+use Rattle.iscsi_ffi_law.proofs.FitSizes.{count_set}
 
 -- ---- one waits more
 
@@ -130,6 +131,18 @@ few_on ws each cid = ⊎_elim
     let x : Passing (λ (c : Arrival). connection_of c.request == cid) ws = counted_in (λ (c : Arrival). connection_of c.request == cid) ws (omega (arith, some)) in
     subst (λ m. count_by (λ (c : Arrival). connection_of c.request == m) ws ≤ 4) (eqb-true (connection_of x.x.request) cid x.passes) (each_in (λ (b : Arrival). count_by (λ (c : Arrival). connection_of c.request == connection_of b.request) ws ≤ MOST_WAITING) ws x.x x.there each))
     (λ none. omega (arith, none)) (cases_lt 0 (count_by (λ (c : Arrival). connection_of c.request == cid) ws))
+
+-- so no more than four of each wait
+pub few_functions : (cids : List ℕ) (names : List Name) (v : WaitingFunctions) (ws : List Arrival) → AreFunctions cids names v ws → length v.waiting ≡ length cids → EachOf (λ (b : Arrival). count_by (λ (c : Arrival). connection_of c.request == connection_of b.request) ws ≤ MOST_WAITING) ws
+    → count_all v.waiting ≤ 4 * length cids
+few_functions cids names v ws h long each =
+    let all = all_few v.waiting (λ q short.
+    let inside : q < length cids = omega (arith, short, long) in
+    let same = pairs-length (IsFunctionAt names) (of_conn q v.waiting) (filter (λ (b : Arrival). connection_of b.request == get_or cids q 0) ws) (h.each q inside) in
+    let counted = long_filter (λ (b : Arrival). connection_of b.request == get_or cids q 0) ws in
+    let few = few_on ws each (get_or cids q 0) in
+    omega (arith, same, counted, few)) in
+    omega (arith, all, long)
 
 or_none : (u : Bool) → (u || false) ≡ u
 or_none true = refl
@@ -298,12 +311,12 @@ module _ (i : Interface) (names : List Name) (notes : List Note) (distinct : are
     };
     outbox = refl;
     room = refl;
-    few = record { lives = omega arith; going = omega arith };
+    few = (let more = count_set s.functions.waiting at.0 (of_conn at.0 s.functions.waiting ++ record { number = cmd_sn a.request; request = place } ∷ []) in let long = length-append (of_conn at.0 s.functions.waiting) (record { number = cmd_sn a.request; request = place } ∷ []) in record { lives = omega (arith, more, long); going = omega arith });
     links = links_unmoved r.both.box (after_item i.outbox r.both.box (effects_by i r item)) box_same;
     calm = subst (EachOf (IsCalm (side_behind i r item).both.box)) (sym effects_are) (tt, tt);
     walk = λ o limits acts first late rest led.
         ap (λ es. on_effects first (es ++ rest) (walk_at o s acts [] (Some place) r.both.box.sent)) effects_are
-        ∙ ap (λ z. on_effects false rest (wait_on (a.request) z (Some place) (end_item (walk_at o s acts [] (Some place) r.both.box.sent)))) (ap (λ (l : Limits). position (λ (c : ℕ). c == connection_of a.request) l.cids) (limits ∙ sym k.outbox.sizes.limits) ∙ at.1.0)
+        ∙ ap (λ z. on_effects false rest (wait_on (a.request) z (Some place) (end_item (walk_at o s acts [] (Some place) r.both.box.sent)))) (ap (λ (l : Limits). position (λ (c : ℕ). c == connection_of a.request) l.cids) (limits.limits ∙ sym k.outbox.sizes.limits) ∙ at.1.0)
         ∙ ap (λ v. on_effects false rest (cond v (walk_at o (record s { functions = functions' }) acts [] None r.both.box.sent) (end_item (walk_at o s acts [] (Some place) r.both.box.sent)))) has_room
         ∙ ap (λ (b : Box). on_effects false rest (walk_at o state' acts [] None b.sent)) (sym box_same);
   }

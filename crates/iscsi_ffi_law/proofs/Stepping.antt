@@ -20,7 +20,7 @@ use Rattle.iscsi_outbox_law.specs.Sound.{IsSound}
 use Rattle.iscsi_outbox_law.specs.Stands.{Stands as OutboxStands}
 use Rattle.iscsi_outbox_law.proofs.TakesItem.{item_stands}
 use Rattle.iscsi_outbox_law.proofs.TurningCount.{item_last, newest_item}
-use Rattle.iscsi_outbox_steps.specs.State.{Limits, State as OutboxState, limits_of, place_of}
+use Rattle.iscsi_outbox_steps.specs.State.{Limits, State as OutboxState, place_of}
 use Rattle.iscsi_outbox_steps.specs.Steps.{after_item as steps_after_item, is_running_ticket}
 use Rattle.iscsi_ffi_commands.specs.Commands.{is_going, is_live}
 use Rattle.iscsi_ffi_rules.specs.declared.action.Action.{Action}
@@ -34,7 +34,8 @@ use Rattle.iscsi_ffi_law.specs.Names.{Name, Note}
 use Rattle.iscsi_ffi_law.proofs.Between.{IsBetween}
 use Rattle.iscsi_ffi_law.proofs.Moved.{run_same}
 use Rattle.iscsi_ffi_law.proofs.QuietItems.{stops_none}
-use Rattle.iscsi_ffi_law.proofs.Walking.{is_led, walk_at}
+use Rattle.iscsi_ffi_law.proofs.Walking.{is_led, walk_at, IsOutboxOf}
+use Rattle.iscsi_requests.specs.Conns.{count_all}
 
 -- a reply goes out on a connection that takes it, and nothing is closed
 abbrev pub IsCalm : Box → Effect → Type 0
@@ -81,11 +82,11 @@ calm_on b c h (Ignore why) k = tt
 pub all_calm_on : (b c : Box) → SameLinks b c → (es : List Effect) → EachOf (IsCalm b) es → EachOf (IsCalm c) es
 all_calm_on b c h es = each-weaken (IsCalm b) (IsCalm c) es (calm_on b c h)
 
--- so many commands are live, or requests held
+-- so many commands are live, requests held, or functions waiting
 abbrev pub count_kept : State → ℕ
-count_kept s = count_by is_live s.commands.items + count_by is_some s.held.places
+count_kept s = count_by is_live s.commands.items + (count_by is_some s.held.places + count_all s.functions.waiting)
 
--- what has ended was live or held, but for one request; what was told to stop was told to start
+-- what has ended was live or held, or waited, but for one request; what was told to stop was told to start
 pub record AreFewer (xs ended : List (Option ℕ)) (stops : ℕ) (before after : State) : Type 0 where
   pub lives : length ended + count_kept after ≤ length xs + count_kept before + 1
   pub going : stops + count_by is_going after.commands.items ≤ count_by is_going before.commands.items
@@ -100,7 +101,7 @@ pub record GoesOn (i : Interface) (names : List Name) (notes : List Note) (s : S
   pub few : AreFewer xs ended 0 s state
   pub links : SameLinks r.both.box (side_behind i r item).both.box
   pub calm : EachOf (IsCalm (side_behind i r item).both.box) (effects_by i r item)
-  pub walk : (o : OutboxState) → o.limits ≡ limits_of i.outbox → (acts : List Action) (first : Bool) → (first && is_late r.both.event item) ≡ false → (rest : List Effect) → is_led rest ≡ true
+  pub walk : (o : OutboxState) → IsOutboxOf i o → (acts : List Action) (first : Bool) → (first && is_late r.both.event item) ≡ false → (rest : List Effect) → is_led rest ≡ true
       → on_effects first (effects_by i r item ++ rest) (walk_at o s acts xs own r.both.box.sent) ≡ on_effects false rest (walk_at o state acts ended None (side_behind i r item).both.box.sent)
 
 -- .. and any item: with what it tells to stop
@@ -113,7 +114,7 @@ pub record ItemGoes (i : Interface) (names : List Name) (notes : List Note) (s :
   pub few : AreFewer xs ended (length (stops_in r item)) s state
   pub links : SameLinks r.both.box (side_behind i r item).both.box
   pub calm : EachOf (IsCalm (side_behind i r item).both.box) (effects_by i r item)
-  pub walk : (o : OutboxState) → o.limits ≡ limits_of i.outbox → (acts : List Action) (first : Bool) → (first && is_late r.both.event item) ≡ false → length acts + length (stops_in r item) ≤ s.room → (rest : List Effect) → is_led rest ≡ true
+  pub walk : (o : OutboxState) → IsOutboxOf i o → (acts : List Action) (first : Bool) → (first && is_late r.both.event item) ≡ false → length acts + length (stops_in r item) ≤ s.room → (rest : List Effect) → is_led rest ≡ true
       → on_effects first (effects_by i r item ++ rest) (walk_at o s acts xs own r.both.box.sent) ≡ on_effects false rest (walk_at o state (acts ++ stops_in r item) ended None (side_behind i r item).both.box.sent)
 
 pub plain_goes : (i : Interface) (names : List Name) (notes : List Note) (s : State) (r : Side) (own : Option ℕ) (xs : List (Option ℕ)) (item : List Mark) → filter_map leaving item ≡ [] → GoesOn i names notes s r own xs item → ItemGoes i names notes s r own xs item
@@ -152,5 +153,5 @@ module _ (i : Interface) (names : List Name) (notes : List Note) (s : State) (r 
   runs_then same = run_same i s r (steps_after_item (effects_by i r item) s.outbox) (after_item i.outbox r.both.box (effects_by i r item)) k.outbox fit.fit.sound stands_then sound distinct same
 
   -- a connection has the same place in the outbox that the event found
-  pub places_same : (o : OutboxState) → o.limits ≡ limits_of i.outbox → (cid : ℕ) → place_of o cid ≡ place_of s.outbox cid
-  places_same o limits cid = ap (λ (l : Limits). position (λ (c : ℕ). c == cid) l.cids) (limits ∙ sym k.outbox.sizes.limits)
+  pub places_same : (o : OutboxState) → IsOutboxOf i o → (cid : ℕ) → place_of o cid ≡ place_of s.outbox cid
+  places_same o limits cid = ap (λ (l : Limits). position (λ (c : ℕ). c == cid) l.cids) (limits.limits ∙ sym k.outbox.sizes.limits)

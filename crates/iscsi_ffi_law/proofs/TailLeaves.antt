@@ -22,7 +22,7 @@ use Rattle.iscsi_outbox_law.specs.Commands.{link_in}
 use Rattle.iscsi_outbox_law.specs.Pairs.{EachOf}
 use Rattle.iscsi_outbox_law.specs.Sound.{IsSound}
 use Rattle.iscsi_outbox_law.proofs.PairLemmas.{each-map}
-use Rattle.iscsi_outbox_steps.specs.State.{State as OutboxState, limits_of}
+use Rattle.iscsi_outbox_steps.specs.State.{State as OutboxState}
 use Rattle.iscsi_outbox_steps.specs.Steps.{after_item as steps_after_item}
 use Rattle.iscsi_requests.specs.Conns.{of_conn}
 use Rattle.iscsi_requests.specs.Replies.{pushed}
@@ -59,7 +59,7 @@ use Rattle.iscsi_ffi_law.proofs.Releasing.{ending}
 use Rattle.iscsi_ffi_law.proofs.ReplyPlace.{conn_is as reply_conn, place_is as reply_place, takes_it as reply_takes, there as reply_there}
 use Rattle.iscsi_ffi_law.proofs.ReplyRequests.{IsReplied, requests_replied}
 use Rattle.iscsi_ffi_law.proofs.Stepping.{IsCalm, ItemGoes, SameLinks, all_calm_on, last_then, places_same, stands_then}
-use Rattle.iscsi_ffi_law.proofs.Walking.{enables_past, ends_with_it, is_led, led_end, sends_walk, walk_at, walk_in}
+use Rattle.iscsi_ffi_law.proofs.Walking.{enables_past, ends_with_it, is_led, led_end, sends_walk, walk_at, walk_in, IsOutboxOf}
 
 -- ---- its effects
 
@@ -151,7 +151,7 @@ module _ (i : Interface) (names : List Name) (notes : List Note) (s : State) (r 
 
   replied : IsReplied names sL rL a.event there.place h.place box_then
   replied = subst (IsReplied names sL rL a.event there.place h.place) (sym (box_is i names notes s r own xs k start a void cs hs (Some reply) fit distinct sound h each))
-      (sends_reply i names sL rL k.requests.answers (queued2 i names notes s r own xs k start a void cs hs (Some reply) fit distinct sound h each) (tickets_of enabled) a.event there.place h.place cid within
+      (sends_reply i names sL rL k.requests.answers (queued2 i names notes s r own xs k start a void cs hs (Some reply) fit distinct sound h each) (tickets_of enabled) [] [] a.event there.place h.place cid within
       (same_there.conn ∙ reply_conn i.outbox s.outbox r.both.box k.outbox distinct cid sends.takes) (same_there.takes ∙ reply_takes i.outbox s.outbox r.both.box k.outbox distinct cid sends.takes)
       (any_map (is_taking cid) (without (contains tickets)) r.both.box.links (λ l. refl) ∙ sends.takes) long h.named (Some (a.request)) reply)
 
@@ -219,7 +219,7 @@ module _ (i : Interface) (names : List Name) (notes : List Note) (s : State) (r 
         record { conn = x.conn ∙ y.conn; takes = x.takes ∙ y.takes; left = x.left ∙ y.left };
   }
 
-  walk : (o : OutboxState) → o.limits ≡ limits_of i.outbox → (acts : List Action) (first : Bool) → (first && is_late r.both.event item) ≡ false → length acts + length (stops_in r item) ≤ s.room → (rest : List Effect) → is_led rest ≡ true
+  walk : (o : OutboxState) → IsOutboxOf i o → (acts : List Action) (first : Bool) → (first && is_late r.both.event item) ≡ false → length acts + length (stops_in r item) ≤ s.room → (rest : List Effect) → is_led rest ≡ true
       → on_effects first (effects_by i r item ++ rest) (walk_at o s acts xs own r.both.box.sent) ≡ on_effects false rest (walk_at o state' (acts ++ stops_in r item) ((xs ++ ended_by names r cs) ++ h.taken) None (side_behind i r item).both.box.sent)
   walk o limits acts first late room rest led =
       leaves_past i names notes s r own xs k start a void cs hs (Some reply) fit distinct sound h each o limits acts first late room rest
