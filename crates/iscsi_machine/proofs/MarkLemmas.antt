@@ -150,19 +150,26 @@ module _ (o : Setting) (now : ℕ) (w : Command → Bool) (s : State) (t : Trace
       ap (λ b. ((c.0 == closing) || b) && list_all (λ d. (d.0 == closing) || Machine.is_closed d.0 s) conns) (closed_same c.0)
       ∙ ap (λ b. ((c.0 == closing) || is_closed c.0 t) && b) (last_same closing conns)
 
-  end_same : (b : Arrival) → Machine.end_session o s b ≡ Logouts.end_session o t b
-  end_same b = ap (λ ms. ms ++ Logouts.parting b 0 ++ ClosesSession ∷ []) (taken_out_same (λ conn. true))
+  abbrev mine_ending : Arrival → List Mark
+  mine_ending b = Machine.taken_out o s (λ conn. true) ++ Logouts.parting b 0 ++ ClosesSession ∷ []
 
-  close_same : (b : Arrival) (closing : ℕ) → Machine.close_conn o s b closing ≡ Logouts.close_conn o t b closing
-  close_same b closing =
+  abbrev mine_closing : Arrival → ℕ → List Mark
+  mine_closing b closing =
+      Machine.taken_out o s (λ conn. conn == closing) ++ Logouts.parting b 0 ++ ClosesConn closing ∷ cond (list_all (λ c. (c.0 == closing) || Machine.is_closed c.0 s) o.conns) (ClosesSession ∷ []) []
+
+  ending_same : (b : Arrival) → mine_ending b ≡ Logouts.end_session o t b
+  ending_same b = ap (λ ms. ms ++ Logouts.parting b 0 ++ ClosesSession ∷ []) (taken_out_same (λ conn. true))
+
+  closing_same : (b : Arrival) (closing : ℕ) → mine_closing b closing ≡ Logouts.close_conn o t b closing
+  closing_same b closing =
       ap (λ ms. ms ++ Logouts.parting b 0 ++ ClosesConn closing ∷ cond (list_all (λ c. (c.0 == closing) || Machine.is_closed c.0 s) o.conns) (ClosesSession ∷ []) []) (taken_out_same (λ conn. conn == closing))
       ∙ ap (λ v. Logouts.taken_out o t (λ conn. conn == closing) ++ Logouts.parting b 0 ++ ClosesConn closing ∷ cond v (ClosesSession ∷ []) []) (last_same closing o.conns)
 
   logout_same : (b : Arrival) → Machine.logout_marks o s b ≡ Logouts.logout_marks o t b
   logout_same b =
-      ap (λ ms. chosen ms (Machine.is_closed (cid b.request) s) (Machine.close_conn o s b (cid b.request))) (end_same b)
-      ∙ ap (λ v. chosen (Logouts.end_session o t b) v (Machine.close_conn o s b (cid b.request))) (closed_same (cid b.request))
-      ∙ ap (chosen (Logouts.end_session o t b) (is_closed (cid b.request) t)) (close_same b (cid b.request))
+      ap (λ ms. chosen ms (Machine.is_closed (cid b.request) s) (mine_closing b (cid b.request))) (ending_same b)
+      ∙ ap (λ v. chosen (Logouts.end_session o t b) v (mine_closing b (cid b.request))) (closed_same (cid b.request))
+      ∙ ap (chosen (Logouts.end_session o t b) (is_closed (cid b.request) t)) (closing_same b (cid b.request))
     where
       chosen : List Mark → Bool → List Mark → List Mark
       chosen ends is_shut closes =

@@ -239,12 +239,12 @@ runs_alike o (e ∷ h) now s t a =
     let d' : Stage = Machine.after_event o e d in
     let t' : Trace = Rules.after_event o now t e in
     let on : Leads o now d t (Agenda.items_of o now t e) d' = event_leads o now e d t a in
-    let entry : Rules.entry_of o now t e ≡ record { numbers = Machine.numbers_of o d'.state; effects = d'.effects } =
+    let entry : Rules.entry_of o now t e ≡ record { numbers = record { exp = wire d'.state.exp; max = wire (Machine.max_of o d'.state) }; effects = d'.effects } =
     ap (λ n. let x : Entry = record { numbers = record { exp = wire n; max = wire (max_of o t') }; effects = Rules.effects_of o t (Agenda.items_of o now t e) } in x) (sym on.fits.numbers.exp)
     ∙ ap (λ n. let x : Entry = record { numbers = record { exp = wire d'.state.exp; max = wire n }; effects = Rules.effects_of o t (Agenda.items_of o now t e) } in x) (sym (max_same o now (λ c. was_free c t') d'.state t' on.fits))
-    ∙ ap (λ es. let x : Entry = record { numbers = Machine.numbers_of o d'.state; effects = es } in x) (sym on.told) in
+    ∙ ap (λ es. let x : Entry = record { numbers = record { exp = wire d'.state.exp; max = wire (Machine.max_of o d'.state) }; effects = es } in x) (sym on.told) in
     ap (λ x. x ∷ Rules.entries_from o (now + 1) t' h) entry
-    ∙ ap (λ xs. record { numbers = Machine.numbers_of o d'.state; effects = d'.effects } ∷ xs) (runs_alike o h (now + 1) (record d'.state { event = s.event + 1 }) t' (next_event o now d'.state t' s.event a.event on.fits))
+    ∙ ap (λ xs. record { numbers = record { exp = wire d'.state.exp; max = wire (Machine.max_of o d'.state) }; effects = d'.effects } ∷ xs) (runs_alike o h (now + 1) (record d'.state { event = s.event + 1 }) t' (next_event o now d'.state t' s.event a.event on.fits))
 
 start_fits : (o : Setting) → Fits o 0 (start o) []
 start_fits o = record {

@@ -9,7 +9,6 @@ use Rattle.iscsi_wire.specs.Fields.{request_of, connection_of, header_of, is_imm
 use Rattle.iscsi_tasks.specs.Rules.{is_free}
 use Rattle.iscsi_history.specs.declared.effect.Effect.{Effect}
 use Rattle.iscsi_history.specs.declared.effect.Effect.TheVariants.{Deliver, Immediate, Wait, Void, Empty, Enter, Enable, Leave, Send, CloseConn, CloseSession, Ignore}
-use Rattle.iscsi_history.specs.declared.effect.Numbers.{Numbers}
 use Rattle.iscsi_history.specs.declared.effect.Why.TheVariants.{Outside, Duplicate, Closed, Data, Stale}
 use Rattle.iscsi_history.specs.declared.entry.Entry.{Entry}
 use Rattle.iscsi_history.specs.declared.event.Event.{Event}
@@ -78,16 +77,12 @@ past e (n ∷ ns) = past (if n == e then e + 1 else e) ns
 abbrev pub receives : ℕ → State → State
 receives n s = let ns = inserted (λ k. k) n s.above in let e = past s.exp ns in record s { exp = e; above = filter (nat_lt e) ns }
 
--- the request at this number isn't held any more
-abbrev pub releases : ℕ → State → State
-releases n s = record s { held = filter (λ h. not (n == h.number)) s.held }
-
 abbrev pub after_mark : State → Mark → State
 after_mark s (Admits a) = record (receives a.number s) { held = inserted (λ h. h.number) a s.held }
-after_mark s (Delivers a) = releases a.number s
+after_mark s (Delivers a) = record s { held = filter (λ h. not (a.number == h.number)) s.held }
 after_mark s (Executes a) = record s { waiting = filter (λ b. not (b.event == a.event)) s.waiting }
 after_mark s (Voids n) = receives n s
-after_mark s (Empties a) = releases a.number s
+after_mark s (Empties a) = record s { held = filter (λ h. not (a.number == h.number)) s.held }
 after_mark s (Waits a) = record s { waiting = s.waiting ++ a ∷ [] }
 after_mark s (Leaves c) = record s { live = filter (λ m. not (c.ticket == m.command.ticket)) s.live }
 after_mark s (Enters c) = record s { live = s.live ++ record { command = c; enabled = false } ∷ []; entered = s.entered + 1 }
@@ -140,14 +135,13 @@ does o item d =
 
 -- ---- a NOP-Out, a Text Request or a SCSI Command
 
-abbrev pub place_named : Setting → State → Request → Option (ℕ × Bool)
-place_named o s r = option_map (λ unit. (unit, nat_le o.depth (length (live_in unit s)))) (unit_named o.units r)
-
-abbrev pub is_crowded : State → Request → Bool
-is_crowded s r = is_immediate r && nat_le MOST_IMMEDIATE (count_by (λ c. is_immediate c.arrival.request && connection_of c.arrival.request == connection_of r) (commands s))
-
+-- by whether its tag is in use, whether its connection has too many immediate commands, and its unit with whether that is full
 abbrev pub verdict_of : Setting → State → Request → Verdict
-verdict_of o s r = request_verdict r (list_any (λ c. itt c.arrival.request == itt r) (commands s)) (is_crowded s r) (place_named o s r)
+verdict_of o s r =
+    let is_used = list_any (λ c. itt c.arrival.request == itt r) (commands s) in
+    let crowd = count_by (λ c. is_immediate c.arrival.request && connection_of c.arrival.request == connection_of r) (commands s) in
+    let place = option_map (λ unit. (unit, nat_le o.depth (length (live_in unit s)))) (unit_named o.units r) in
+    request_verdict r is_used (is_immediate r && nat_le MOST_IMMEDIATE crowd) place
 
 abbrev pub marks_of : State → Arrival → Verdict → List Mark
 marks_of s a Nothing = []
@@ -204,20 +198,17 @@ taken_out o s of_these =
     map Leaves (filter (λ (c : Command). of_these (connection_of c.arrival.request)) (flat_map (λ unit. live_in unit s) (range_with_len 0 o.units)))
     ++ map Empties (filter (λ (a : Arrival). of_these (connection_of a.request)) s.held)
 
-abbrev pub end_session : Setting → State → Arrival → List Mark
-end_session o s a = taken_out o s (λ conn. true) ++ parting a 0 ++ ClosesSession ∷ []
-
--- with the last open connection the session is closed
-abbrev pub close_conn : Setting → State → Arrival → ℕ → List Mark
-close_conn o s a closing =
-    taken_out o s (λ conn. conn == closing) ++ parting a 0
-    ++ ClosesConn closing ∷ (if list_all (λ c. (c.0 == closing) || is_closed c.0 s) o.conns then ClosesSession ∷ [] else [])
-
+-- the session is closed, or a connection, and with the last open one the session
 abbrev pub logout_marks : Setting → State → Arrival → List Mark
 logout_marks o s a =
+    let closing = cid a.request in
+    let is_last = list_all (λ c. (c.0 == closing) || is_closed c.0 s) o.conns in
     if itt a.request == NO_TAG then reply_on a (Reject 9 (header_of a.request))
-    else (if function a.request == 0 then end_session o s a
-    else (if function a.request == 1 then (if is_known (cid a.request) o.conns && not (is_closed (cid a.request) s) then close_conn o s a (cid a.request) else parting a 1)
+    else (if function a.request == 0 then taken_out o s (λ conn. true) ++ parting a 0 ++ ClosesSession ∷ []
+    else (if function a.request == 1 then (
+    if is_known closing o.conns && not (is_closed closing s)
+    then taken_out o s (λ conn. conn == closing) ++ parting a 0 ++ ClosesConn closing ∷ (if is_last then ClosesSession ∷ [] else [])
+    else parting a 1)
     else (if function a.request == 2 then parting a 2
     else reply_on a (Reject 9 (header_of a.request)))))
 
@@ -299,15 +290,12 @@ after_event o (Done ticket status) d = completed o status (first_of (map (λ m. 
 
 -- ---- the run
 
-abbrev pub numbers_of : Setting → State → Numbers
-numbers_of o s = record { exp = wire s.exp; max = wire (max_of o s) }
-
 -- one entry for each event
 abbrev pub run_from : Setting → State → List Event → List Entry
 run_from o s [] = []
 run_from o s (e ∷ es) =
     let d = after_event o e (record { state = s; effects = [] }) in
-    record { numbers = numbers_of o d.state; effects = d.effects } ∷ run_from o (record d.state { event = s.event + 1 }) es
+    record { numbers = record { exp = wire d.state.exp; max = wire (max_of o d.state) }; effects = d.effects } ∷ run_from o (record d.state { event = s.event + 1 }) es
 
 abbrev pub machine_run : Setting → List Event → List Entry
 machine_run o h = run_from o (start o) h
