@@ -128,6 +128,7 @@ pub record Stage : Type 0 where
   pub state : State
   pub effects : List Effect
 
+-- an item: its marks, each reply with the StatSN that was next, and at its end what becomes enabled
 abbrev pub does : Setting → List Mark → Stage → Stage
 does o item d =
     let s = after_marks d.state item in
@@ -143,6 +144,7 @@ verdict_of o s r =
     let place = option_map (λ unit. (unit, nat_le o.depth (length (live_in unit s)))) (unit_named o.units r) in
     request_verdict r is_used (is_immediate r && nat_le MOST_IMMEDIATE crowd) place
 
+-- tickets go up by one
 abbrev pub marks_of : State → Arrival → Verdict → List Mark
 marks_of s a Nothing = []
 marks_of s a (Answer reply) = reply_on a reply
@@ -187,6 +189,7 @@ function_to o s a unit =
 abbrev pub function_marks : Setting → State → Arrival → List Mark
 function_marks o s a = elim (unit_named o.units a.request) [ Some unit ↦ function_to o s a unit | None ↦ [] ]
 
+-- a function at its turn, or at its arrival where it doesn't wait
 abbrev pub management_marks : Setting → State → Arrival → List Mark
 management_marks o s a = elim (refusal_of_function o a.request) [ Some reply ↦ reply_on a reply | None ↦ function_marks o s a ]
 
@@ -232,6 +235,7 @@ waiting_item o s a =
     else (if nat_le MOST_WAITING (count_by (λ b. connection_of b.request == connection_of a.request) s.waiting) then Executes a ∷ reply_on a (Reject 6 (header_of a.request))
     else Waits a ∷ []))
 
+-- an immediate request at its arrival
 abbrev pub immediate_item : Setting → State → Arrival → List Mark
 immediate_item o s a =
     if opcode a.request == 0x02 && may_wait a.request
@@ -265,12 +269,14 @@ with_turns o item d = let d' = does o item d in let e = d'.state.exp in function
 
 -- ---- arrivals and completions
 
+-- a numbered request: outside the window, received already, or held until its turn, which may come at once
 abbrev pub numbered : Setting → Arrival → Stage → Stage
 numbered o a d =
     if nat_lt a.number d.state.exp || nat_lt (max_of o d.state) a.number then does o (Ignores Outside ∷ []) d
     else (if contains d.state.above a.number then does o (Ignores Duplicate ∷ []) d
     else with_turns o (Admits a ∷ []) d)
 
+-- Data-Out and SNACK are passed over; what doesn't execute otherwise is rejected, and no number is looked at
 abbrev pub arrival_as : Setting → Arrival → Kind → Stage → Stage
 arrival_as o a PassedOver d = does o (Ignores Data ∷ []) d
 arrival_as o a Unknown d = does o (rejected a) d
